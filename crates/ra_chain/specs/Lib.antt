@@ -1,0 +1,2 @@
+pub mod Elaboration
+pub mod Occurrence

@@ -1,0 +1,64 @@
+-- The classes of flags.
+use Rattle.std.specs.Prelude.{Bool, true, false}
+use Rattle.ra_condition.specs.declared.flag.Flag.{Flag}
+use Rattle.ra_condition.specs.declared.flag.Flag.TheVariants.{Plain, PauseIf, ResetIf, AddSource, SubSource, AddHits, SubHits, AndNext, OrNext, Measured, MeasuredPercent, MeasuredIf, AddAddress, TriggerIf, ResetNextIf, Remember}
+
+-- the condition only hands a value on, and counts no hits
+abbrev pub hands_on : Flag → Bool
+hands_on AddSource = true
+hands_on SubSource = true
+hands_on AddAddress = true
+hands_on Remember = true
+hands_on _ = false
+
+-- the chain goes on with the condition after this one
+abbrev pub combines : Flag → Bool
+combines AddHits = true
+combines SubHits = true
+combines AndNext = true
+combines OrNext = true
+combines ResetNextIf = true
+combines flag = hands_on flag
+
+abbrev pub is_pause : Flag → Bool
+is_pause PauseIf = true
+is_pause _ = false
+
+abbrev pub is_reset : Flag → Bool
+is_reset ResetIf = true
+is_reset _ = false
+
+-- the condition offers a number
+abbrev pub is_measured : Flag → Bool
+is_measured Measured = true
+is_measured MeasuredPercent = true
+is_measured _ = false
+
+abbrev pub is_measured_if : Flag → Bool
+is_measured_if MeasuredIf = true
+is_measured_if _ = false
+
+abbrev pub is_trigger : Flag → Bool
+is_trigger TriggerIf = true
+is_trigger _ = false
+
+abbrev pub is_address : Flag → Bool
+is_address AddAddress = true
+is_address _ = false
+
+abbrev pub is_remember : Flag → Bool
+is_remember Remember = true
+is_remember _ = false
+
+-- what has to be valid in a primed group
+abbrev pub is_wanted : Flag → Bool
+is_wanted Plain = true
+is_wanted Measured = true
+is_wanted MeasuredPercent = true
+is_wanted MeasuredIf = true
+is_wanted _ = false
+
+-- what has to be valid in a valid group: the same, and the Trigger conditions
+abbrev pub is_required : Flag → Bool
+is_required TriggerIf = true
+is_required flag = is_wanted flag

@@ -1,0 +1,97 @@
+-- The equations of one condition, by looking back in its chain.
+use Rattle.std.specs.Prelude.{ℕ, zero, suc, ◌+◌, min, Bool, false, if◌then◌else◌, not, ◌&&◌, ◌||◌, ◌==◌, nat_lt, nat_le, Option, None, Some, List, slice_index, slice_index_or, pos, negsuc, ℤ, ◌+ℤ◌, ◌-ℤ◌}
+use Rattle.ra_condition.specs.declared.flag.Flag.{Flag}
+use Rattle.ra_condition.specs.declared.flag.Flag.TheVariants.{AddHits, SubHits, AndNext, OrNext, ResetNextIf}
+use Rattle.ra_condition.specs.declared.condition.Condition.{Condition}
+use Rattle.ra_condition.specs.Flags.{combines, hands_on}
+use Rattle.ra_condition.specs.Contents.{condition_at}
+use Rattle.ra_group.specs.declared.settled.Settled.{Settled}
+
+-- the conditions of a group with what a frame gives each: its comparison, its left value, its hits before
+pub record Frame : Type 0 where
+  pub conditions : List Condition
+  pub truths : List Bool
+  pub lefts : List ℕ
+  pub hits : List ℕ
+
+abbrev pub frame_of : List Condition → List Bool → List ℕ → List ℕ → Frame
+frame_of cs ts ls hs = record { conditions = cs; truths = ts; lefts = ls; hits = hs }
+
+-- 1: whether the condition is met, by the flag and the validity of the one before
+abbrev pub met_after : Flag → Bool → Bool → Bool
+met_after AndNext valid t = valid && t
+met_after OrNext valid t = valid || t
+met_after _ valid t = t
+
+abbrev pub met : Option Settled → Bool → Bool
+met None t = t
+met (Some prev) t = met_after prev.flag prev.valid t
+
+-- 2: whether a ResetNextIf reaches the condition
+abbrev pub reset_after : Flag → Bool → Bool → Bool
+reset_after ResetNextIf valid reset = valid
+reset_after AndNext valid reset = reset
+reset_after OrNext valid reset = reset
+reset_after _ valid reset = false
+
+abbrev pub reset_by : Option Settled → Bool
+reset_by None = false
+reset_by (Some prev) = reset_after prev.flag prev.valid prev.reset
+
+-- 3: the hits after the frame
+abbrev pub hits_after : Bool → Bool → ℕ → ℕ → ℕ
+hits_after reset m target h =
+    if reset then 0 else (if m && (target == 0 || nat_lt h target) then min (h + 1) 4294967295 else h)
+
+-- 4: whether the condition is valid by itself
+abbrev pub valid_alone : Bool → Bool → ℕ → ℕ → Bool
+valid_alone reset m target hit = not reset && (if target == 0 then m else nat_le target hit)
+
+-- 5: the hits that the chain adds
+abbrev pub add_after : Flag → ℤ → ℕ → ℤ
+add_after AddHits add hit = add +ℤ pos hit
+add_after SubHits add hit = add -ℤ pos hit
+add_after _ add hit = add
+
+abbrev pub add_by : Option Settled → ℤ
+add_by None = pos 0
+add_by (Some prev) = add_after prev.flag prev.add prev.hit
+
+-- 6: a whole number, at least 0 and at most 2^32 - 1
+abbrev pub clamped : ℤ → ℕ
+clamped (pos n) = min n 4294967295
+clamped (negsuc n) = 0
+
+-- 7: whether the target is reached
+abbrev pub reached : ℕ → ℕ → Bool
+reached target total = not (target == 0) && nat_le target total
+
+-- 8: whether the condition is valid
+abbrev pub valid_by : Flag → ℕ → ℕ → Bool → Bool
+valid_by flag target total alone =
+    if combines flag || target == 0 then alone else reached target total
+
+-- the equations 1 to 8 for one condition, from what stands before it in its chain
+abbrev pub settled : Condition → Bool → ℕ → Option Settled → Settled
+settled c t h prev =
+    let m = met prev t in
+    let reset = reset_by prev in
+    let hit = hits_after reset m c.target h in
+    let total = clamped (pos hit +ℤ add_by prev) in
+    record { flag = c.flag; reset = reset; hit = hit; add = add_by prev; total = total; valid = valid_by c.flag c.target total (valid_alone reset m c.target hit) }
+
+-- what the condition after this one sees before it: one that only hands a value on is passed over, and
+-- after the end of a chain there is nothing
+abbrev pub seen_after : Condition → Settled → Option Settled → Option Settled
+seen_after c here prev =
+    if hands_on c.flag then prev else (if combines c.flag then Some here else None)
+
+-- the nearest earlier condition of the chain of j that counts hits, if there is one
+abbrev pub prev_of : Frame → ℕ → Option Settled
+prev_of f zero = None
+prev_of f (suc i) =
+    seen_after (condition_at f.conditions i) (settled (condition_at f.conditions i) (slice_index_or f.truths i false) (slice_index f.hits i) (prev_of f i)) (prev_of f i)
+
+-- the condition at j by the equations
+abbrev pub settled_at : Frame → ℕ → Settled
+settled_at f j = settled (condition_at f.conditions j) (slice_index_or f.truths j false) (slice_index f.hits j) (prev_of f j)

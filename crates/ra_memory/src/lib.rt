@@ -1,0 +1,2 @@
+//! The image of a machine's memory.
+#![tactic(auto)]

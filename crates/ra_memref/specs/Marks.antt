@@ -1,0 +1,30 @@
+-- Which cells a table has to read at the next frame.
+use Rattle.std.specs.Prelude.{ℕ, ◌+◌, ◌-◌, ◌/◌, ◌==◌, Bool, not, ◌&&◌, ◌||◌, if◌then◌else◌, nat_lt, nat_le, List, [], ◌∷◌}
+use Rattle.std.specs.List.{list_any, range_with_len}
+use Rattle.ra_indirect.specs.Trees.{Cell}
+
+-- the page of a byte
+abbrev pub page_of : ℕ → ℕ
+page_of at = at / 16
+
+-- one of so many bytes from the place on stands on the page
+abbrev pub touches : ℕ → ℕ → ℕ → Bool
+touches at count page =
+    nat_lt 0 count && (nat_le (page_of at) page && nat_le page (page_of (at + count - 1)))
+
+-- a cell of this width at this place watches one of the pages that the bytes stand on
+abbrev pub is_watched : ℕ → ℕ → ℕ → ℕ → ℕ → Bool
+is_watched size place width at count =
+    list_any (λ k. nat_lt k size && touches at count (page_of k)) (range_with_len place width)
+
+-- the marks of the cells after a write was told
+abbrev pub marks_after : ℕ → List Cell → List ℕ → ℕ → ℕ → List Bool → List Bool
+marks_after size (c ∷ cells) (place ∷ places) at count (mark ∷ marks) =
+    (mark || is_watched size place c.width at count) ∷ marks_after size cells places at count marks
+marks_after size _ places at count marks = []
+
+-- how many cells are marked or moved
+abbrev pub reads_of : List Bool → List ℕ → List ℕ → ℕ
+reads_of (mark ∷ marks) (place ∷ places) (place' ∷ places') =
+    (if mark || not (place == place') then 1 else 0) + reads_of marks places places'
+reads_of _ places places' = 0

@@ -1,0 +1,3 @@
+pub mod Operators
+pub mod Same
+pub mod Views

@@ -1,0 +1,75 @@
+-- What a presence script contains.
+use Rattle.std.specs.Prelude.{ℕ, Option, None, Some, option_map, List, map}
+use Rattle.std.specs.List.{filter_map, flat_map}
+use Rattle.ra_condition.specs.Contents.{TriggerContents, trigger_contents, PartContents, value_contents}
+use Rattle.ra_value_format.specs.declared.format.Format.{Format}
+use Rattle.ra_richpresence.specs.declared.piece.Piece.{Piece}
+use Rattle.ra_richpresence.specs.declared.piece.Piece.TheVariants.{Text, Macro}
+use Rattle.ra_richpresence.specs.declared.line.Line.{Line}
+use Rattle.ra_richpresence.specs.declared.lookup.Keys.{Keys}
+use Rattle.ra_richpresence.specs.declared.lookup.Lookup.{Lookup}
+use Rattle.ra_richpresence.specs.declared.script.Script.{Script}
+
+-- bytes as they are, or the value of a macro under its name
+pub data PieceContents : Type 0 where
+  Bytes : List ℕ → PieceContents
+  Shows : List ℕ → List PartContents → PieceContents
+
+abbrev pub piece_contents : Piece → PieceContents
+piece_contents (Text text) = Bytes text.items
+piece_contents (Macro name value) = Shows name.items (value_contents value)
+
+-- a line with its test; the last line has none
+pub record LineContents : Type 0 where
+  pub test : Option TriggerContents
+  pub pieces : List PieceContents
+
+abbrev pub line_contents : Line → LineContents
+line_contents l = record {
+  test = option_map trigger_contents l.test;
+  pieces = map piece_contents l.pieces.items;
+}
+
+-- ranges of keys from a first to a last, and their text
+pub record KeysContents : Type 0 where
+  pub ranges : List (ℕ × ℕ)
+  pub text : List ℕ
+
+abbrev pub keys_contents : Keys → KeysContents
+keys_contents k = record { ranges = k.ranges.items; text = k.text.items }
+
+pub record LookupContents : Type 0 where
+  pub name : List ℕ
+  pub keys : List KeysContents
+  pub rest : Option (List ℕ)
+
+abbrev pub lookup_contents : Lookup → LookupContents
+lookup_contents l = record {
+  name = l.name.items;
+  keys = map keys_contents l.keys.items;
+  rest = option_map (λ text. text.items) l.rest;
+}
+
+pub record ScriptContents : Type 0 where
+  pub lookups : List LookupContents
+  pub formats : List (List ℕ × Format)
+  pub lines : List LineContents
+
+abbrev pub script_contents : Script → ScriptContents
+script_contents s = record {
+  lookups = map lookup_contents s.lookups.items;
+  formats = map (λ f. (f.0.items, f.1)) s.formats.items;
+  lines = map line_contents s.lines.items;
+}
+
+-- the value of a macro, if the piece is one
+abbrev pub value_in : PieceContents → Option (List PartContents)
+value_in (Bytes text) = None
+value_in (Shows name value) = Some value
+
+-- the values of a line's macros, and of a script's
+abbrev pub values_in_line : LineContents → List (List PartContents)
+values_in_line line = filter_map value_in line.pieces
+
+abbrev pub values_in_script : ScriptContents → List (List PartContents)
+values_in_script script = flat_map values_in_line script.lines

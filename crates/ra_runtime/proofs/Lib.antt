@@ -1,0 +1,4 @@
+pub mod ItemCuts
+pub mod WorkedFiles
+pub mod WorkedLines
+pub mod WorkedSets

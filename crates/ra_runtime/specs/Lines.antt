@@ -1,0 +1,49 @@
+-- The lines that items print at a frame. Nothing here sees another item.
+use Rattle.std.specs.Prelude.{ℕ, ◌==◌, ◌&&◌, ◌||◌, not, Bool, true, false, if◌then◌else◌, List, [], ◌∷◌, ◌++◌, codes, decimal, ℤ}
+use Rattle.std.specs.Fmt.{signed_decimal}
+use Rattle.std.specs.List.{join_with_byte}
+use Rattle.std.specs.Int.{w32, cast_unsigned}
+use Rattle.ra_value_format.specs.declared.format.Format.{Format}
+use Rattle.ra_value_format.specs.Formats.{formatted}
+use Rattle.ra_trigger.specs.States.{is_primed, is_triggered}
+use Rattle.ra_trigger.specs.Steps.{TriggerKept}
+use Rattle.ra_leaderboard.specs.Contents.{BoardContents}
+use Rattle.ra_leaderboard.specs.States.{became_started, became_cancelled, became_submitted}
+use Rattle.ra_leaderboard.specs.declared.state.BoardState.{BoardState}
+use Rattle.ra_leaderboard.specs.declared.state.BoardState.TheVariants.{Started}
+use Rattle.ra_runtime.specs.Boards.{BoardKept, tracked_number, value_number}
+
+-- words with a blank between each two, and a line feed
+abbrev pub line_of : List (List ℕ) → List ℕ
+line_of words = join_with_byte 32 words ++ 10 ∷ []
+
+abbrev pub line_if : Bool → List (List ℕ) → List ℕ
+line_if happened words = if happened then line_of words else []
+
+-- the lines of an achievement at a frame, by what is kept before and after it
+abbrev pub achievement_lines : (frame id : ℕ) → (before after : TriggerKept) → List ℕ
+achievement_lines frame id before after =
+    line_if (not (before.measured == after.measured)) (codes "measured" ∷ decimal frame ∷ decimal id ∷ decimal after.measured ∷ [])
+    ++ line_if (not (is_primed before.state) && is_primed after.state) (codes "primed" ∷ decimal frame ∷ decimal id ∷ [])
+    ++ line_if (is_primed before.state && not (is_primed after.state)) (codes "unprimed" ∷ decimal frame ∷ decimal id ∷ [])
+    ++ line_if (not (is_triggered before.state) && is_triggered after.state) (codes "unlock" ∷ decimal frame ∷ decimal id ∷ [])
+
+abbrev pub is_started : BoardState → Bool
+is_started Started = true
+is_started _ = false
+
+-- two signed numbers of 32 bits are the same
+abbrev pub same_number : ℤ → ℤ → Bool
+same_number v w = cast_unsigned w32 v == cast_unsigned w32 w
+
+-- the lines of a board at a frame; while it runs its tracked number is told where it just started or changed
+abbrev pub board_lines : (frame id : ℕ) → Format → BoardContents → (before after : BoardKept) → List ℕ
+board_lines frame id format b before after =
+    let started = became_started before.state after.state in
+    let tracked = tracked_number b after in
+    let changed = not (same_number (tracked_number b before) tracked) in
+    line_if started (codes "start" ∷ decimal frame ∷ decimal id ∷ [])
+    ++ line_if (is_started after.state && (started || changed)) (codes "track" ∷ decimal frame ∷ decimal id ∷ formatted format tracked ∷ [])
+    ++ line_if (became_cancelled before.state after.state) (codes "cancel" ∷ decimal frame ∷ decimal id ∷ [])
+    ++ line_if (became_submitted before.state after.state)
+    (codes "submit" ∷ decimal frame ∷ decimal id ∷ signed_decimal (value_number after) ∷ formatted format (value_number after) ∷ [])

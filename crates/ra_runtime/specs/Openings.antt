@@ -1,0 +1,91 @@
+-- Openings of a set: what stands before the first frame, and the opening after a history.
+use Rattle.std.specs.Prelude.{ℕ, ◌+◌, ◌-◌, ◌^◌, min, Option, None, Some, option_map, if◌then◌else◌, List, [], ◌∷◌, length, map, replicate, drop, zip, slice_index}
+use Rattle.ra_richpresence.specs.Contents.{ScriptContents}
+use Rattle.ra_set.specs.Contents.{ItemContents, Unlocks, Ranks, SetContents}
+use Rattle.ra_memory.specs.Image.{History}
+use Rattle.ra_indirect.specs.Trees.{Cell, Tracked, same_cell, same_tracked}
+use Rattle.ra_memref.specs.Values.{Start, cell_number, tracked_number}
+use Rattle.ra_trigger.specs.States.{state_byte, state_of}
+use Rattle.ra_trigger.specs.Steps.{TriggerKept}
+use Rattle.ra_progress.specs.declared.shape.ItemShape.{ItemShape}
+use Rattle.ra_progress.specs.declared.shape.ItemShape.TheVariants as shapes
+use Rattle.ra_progress.specs.declared.shape.PresenceShape.{PresenceShape}
+use Rattle.ra_progress.specs.Contents.{KeptItem, OfAchievement, OfBoard, KeptPresence, Opening, ShapeContents}
+use Rattle.ra_runtime.specs.Order.{set_cells, set_tracked, shape_of}
+use Rattle.ra_runtime.specs.Histories.{achievement_after}
+use Rattle.ra_runtime.specs.Boards.{board_after, opened_board, kept_board}
+use Rattle.ra_runtime.specs.Presence.{presence_after}
+
+-- the number beside a cell, of cells and numbers in the same order; 0 for a cell that is not among them
+abbrev pub number_beside : List Cell → List ℕ → Cell → ℕ
+number_beside [] numbers c = 0
+number_beside (d ∷ cells) numbers c =
+    if same_cell d c then slice_index numbers 0 else number_beside cells (drop 1 numbers) c
+
+abbrev pub prior_beside : List Tracked → List ℕ → Tracked → ℕ
+prior_beside [] numbers t = 0
+prior_beside (s ∷ tracked) numbers t =
+    if same_tracked s t then slice_index numbers 0 else prior_beside tracked (drop 1 numbers) t
+
+-- the numbers that an opening gives the cells and the tracked masks of a set
+abbrev pub start_of : SetContents → Opening → Start
+start_of set o = record {
+  number = number_beside (set_cells set) o.cells;
+  prior = prior_beside (set_tracked set) o.priors;
+}
+
+-- what an opening keeps for an achievement
+abbrev pub opened_achievement : KeptItem → TriggerKept
+opened_achievement (OfAchievement state measured hits) = record { state = state_of state; measured = measured; hits = hits }
+opened_achievement (OfBoard state hits numbers) = record { state = state_of state; measured = 0; hits = hits }
+
+abbrev pub kept_achievement : TriggerKept → KeptItem
+kept_achievement k = OfAchievement (state_byte k.state) k.measured k.hits
+
+-- an item after a history
+abbrev pub item_after : Start → History → ItemContents × KeptItem → KeptItem
+item_after start history (Unlocks id t, opened) =
+    kept_achievement (achievement_after start t (opened_achievement opened) history)
+item_after start history (Ranks id format b, opened) =
+    kept_board (board_after start b (opened_board b opened) history)
+
+-- the presence after a history
+abbrev pub optional_presence : Start → History → Option ScriptContents → Option KeptPresence → Option KeptPresence
+optional_presence start history (Some script) (Some opened) = Some (presence_after start script opened history)
+optional_presence start history _ _ = None
+
+-- a count of frames stops at the last number of 64 bits
+abbrev pub frames_after : ℕ → ℕ → ℕ
+frames_after count more = min (count + more) (2 ^ 64 - 1)
+
+-- the opening after a history
+abbrev pub snapshot : SetContents → Opening → History → Opening
+snapshot set o history =
+    let start = start_of set o in
+    record {
+      frames = frames_after o.frames (length history);
+      cells = map (λ c. cell_number start c history) (set_cells set);
+      priors = map (λ t. tracked_number start t history) (set_tracked set);
+      items = map (item_after start history) (zip set.items o.items);
+      presence = optional_presence start history set.script o.presence;
+    }
+
+-- nothing has happened: all waits, the last line is shown, and all numbers are 0
+abbrev pub plain_item : ItemShape → KeptItem
+plain_item (shapes.Achievement hits) = OfAchievement 0 0 (replicate hits 0)
+plain_item (shapes.Leaderboard hits parts) = OfBoard 0 (replicate hits 0) (replicate parts 0)
+
+abbrev pub plain_presence : PresenceShape → KeptPresence
+plain_presence shape = record { shown = shape.lines - 1; hits = replicate shape.hits 0; numbers = replicate shape.parts 0 }
+
+abbrev pub plain_of : ShapeContents → Opening
+plain_of shape = record {
+  frames = 0;
+  cells = replicate shape.cells 0;
+  priors = replicate shape.priors 0;
+  items = map plain_item shape.items;
+  presence = option_map plain_presence shape.presence;
+}
+
+abbrev pub plain_opening : SetContents → Opening
+plain_opening set = plain_of (shape_of set)

@@ -1,0 +1,73 @@
+-- The cells and tracked masks of a set in order of first occurrence, and the set's shape.
+use Rattle.std.specs.Prelude.{ℕ, ◌+◌, Option, None, Some, option_map, unwrap_or, List, [], ◌∷◌, ◌++◌, length, map, sum_by}
+use Rattle.std.specs.List.{flat_map}
+use Rattle.ra_condition.specs.Contents.{TriggerContents, trigger_hits, PartContents, value_hits}
+use Rattle.ra_richpresence.specs.Contents.{LineContents, ScriptContents, values_in_line, values_in_script}
+use Rattle.ra_set.specs.Contents.{ItemContents, Unlocks, Ranks, SetContents}
+use Rattle.ra_indirect.specs.Trees.{Tree, Cell, Tracked, same_cell, same_tracked, cells_in, tracked_in, firsts}
+use Rattle.ra_chain.specs.Occurrence.{trees_in_trigger, trees_in_value}
+use Rattle.ra_progress.specs.declared.shape.ItemShape.{ItemShape}
+use Rattle.ra_progress.specs.declared.shape.ItemShape.TheVariants as shapes
+use Rattle.ra_progress.specs.declared.shape.PresenceShape.{PresenceShape}
+use Rattle.ra_progress.specs.Contents.{ShapeContents}
+
+-- the parts of a value that may be missing
+abbrev pub optional_parts : Option (List PartContents) → List PartContents
+optional_parts value = unwrap_or value []
+
+-- the tests of a line, which are one or none
+abbrev pub tests_in : Option TriggerContents → List TriggerContents
+tests_in None = []
+tests_in (Some test) = test ∷ []
+
+-- a board's fields in the order start, cancel, submit, value, progress
+abbrev pub trees_in_item : ItemContents → List Tree
+trees_in_item (Unlocks id t) = trees_in_trigger t
+trees_in_item (Ranks id format b) =
+    trees_in_trigger b.start ++ trees_in_trigger b.cancel ++ trees_in_trigger b.submit
+    ++ trees_in_value b.value ++ trees_in_value (optional_parts b.progress)
+
+-- a line's test before its macros
+abbrev pub trees_in_line : LineContents → List Tree
+trees_in_line line =
+    flat_map trees_in_trigger (tests_in line.test) ++ flat_map trees_in_value (values_in_line line)
+
+abbrev pub lines_in : Option ScriptContents → List LineContents
+lines_in None = []
+lines_in (Some script) = script.lines
+
+-- items in set order, and then the presence script line by line
+abbrev pub trees_in_set : SetContents → List Tree
+trees_in_set set = flat_map trees_in_item set.items ++ flat_map trees_in_line (lines_in set.script)
+
+abbrev pub set_cells : SetContents → List Cell
+set_cells set = firsts same_cell (flat_map cells_in (trees_in_set set))
+
+abbrev pub set_tracked : SetContents → List Tracked
+set_tracked set = firsts same_tracked (flat_map tracked_in (trees_in_set set))
+
+abbrev pub item_shape : ItemContents → ItemShape
+item_shape (Unlocks id t) = shapes.Achievement (trigger_hits t)
+item_shape (Ranks id format b) =
+    shapes.Leaderboard
+    (trigger_hits b.start + trigger_hits b.cancel + trigger_hits b.submit + value_hits b.value + value_hits (optional_parts b.progress))
+    (length b.value + length (optional_parts b.progress))
+
+abbrev pub line_hits : LineContents → ℕ
+line_hits line = sum_by trigger_hits (tests_in line.test) + sum_by value_hits (values_in_line line)
+
+abbrev pub presence_shape : ScriptContents → PresenceShape
+presence_shape script = record {
+  lines = length script.lines;
+  hits = sum_by line_hits script.lines;
+  parts = sum_by length (values_in_script script);
+}
+
+abbrev pub shape_of : SetContents → ShapeContents
+shape_of set = record {
+  digest = set.digest;
+  cells = length (set_cells set);
+  priors = length (set_tracked set);
+  items = map item_shape set.items;
+  presence = option_map presence_shape set.script;
+}

@@ -1,0 +1,2 @@
+//! All items of a set over one table of memory references.
+#![tactic(auto)]

@@ -1,0 +1,19 @@
+-- Which files are sets. `Spells` is the grammar of set files: which file spells which contents.
+use Rattle.std.specs.Prelude.{◌≡◌, ℕ, ◌≤◌, ◌==◌, Bool, false, List, length}
+use Rattle.std.specs.List.{IsDistinct}
+use Rattle.md5.specs.Md5.{md5}
+use Rattle.ra_set.specs.Contents.{ItemContents, Unlocks, Ranks, SetContents}
+use Rattle.ra_set.specs.Limits.{IsWithinLimits}
+
+-- two items of one letter have one id
+abbrev pub repeats : ItemContents → ItemContents → Bool
+repeats (Unlocks id t) (Unlocks id' t') = id == id'
+repeats (Ranks id format b) (Ranks id' format' b') = id == id'
+repeats _ _ = false
+
+pub record IsSet (Spells : List ℕ → SetContents → Type 0) (file : List ℕ) (set : SetContents) : Type 0 where
+  pub size : length file ≤ 4194304
+  pub spelled : Spells file set
+  pub ids : IsDistinct repeats set.items
+  pub limits : IsWithinLimits set
+  pub digest : set.digest ≡ md5 file

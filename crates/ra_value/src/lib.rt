@@ -1,0 +1,2 @@
+//! Values over frames: a number for each part, of which the greatest counts.
+#![tactic(auto)]

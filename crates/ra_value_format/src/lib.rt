@@ -1,0 +1,6 @@
+//! The texts of numbers.
+#![tactic(auto)]
+
+mod format;
+
+pub use format::Format;
