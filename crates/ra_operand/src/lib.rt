@@ -4,9 +4,13 @@
 mod kind;
 mod op;
 mod operand;
+mod operators;
 mod size;
+mod views;
 
 pub use kind::Kind;
 pub use op::Op;
 pub use operand::Operand;
+pub use operators::{compare, compute};
 pub use size::Size;
+pub use views::{mask, transform, view, width};
