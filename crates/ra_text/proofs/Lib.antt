@@ -1,0 +1,4 @@
+pub mod Steps
+pub mod Readers
+pub mod Begins
+pub mod Choice

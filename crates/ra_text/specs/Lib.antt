@@ -1,0 +1,6 @@
+pub mod Form
+pub mod Place
+pub mod Table
+pub mod Chain
+pub mod Reading
+pub mod Number

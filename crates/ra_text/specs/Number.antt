@@ -1,0 +1,62 @@
+-- Numbers: docs/DEFINITIONS.md, "Numbers".
+use Rattle.std.specs.Prelude.{◌≡◌, ℕ, ◌+◌, ◌-◌, ◌*◌, ◌%◌, min, Bool, true, false, if◌then◌else◌, List, [], ◌∷◌, ◌++◌, Option, Some, codes}
+use Rattle.ra_text.specs.Form.{Form, Spell, One, ◌>>=◌, optional}
+use Rattle.ra_text.specs.Table.{lookup, bytes_for}
+
+-- the bytes one after the other, for the numbers from this one on
+abbrev pub counted_from : ℕ → List ℕ → List (ℕ × ℕ)
+counted_from n [] = []
+counted_from n (byte ∷ others) = (byte, n) ∷ counted_from (n + 1) others
+
+-- 0 to 9
+abbrev pub digits : List (ℕ × ℕ)
+digits = counted_from 0 (codes "0123456789")
+
+-- 0 to 9 and a to f, in either case
+abbrev pub hex_digits : List (ℕ × ℕ)
+hex_digits = digits ++ (counted_from 10 (codes "abcdef") ++ counted_from 10 (codes "ABCDEF"))
+
+-- digit {digit}, of a base, behind digits of the number so far
+abbrev pub Digits : (ℕ → Option ℕ) → ℕ → ℕ → Form ℕ ℕ
+Digits table base so_far [] n = n ≡ so_far
+Digits table base so_far (byte ∷ rest) n = (d : ℕ) × (table byte ≡ Some d) × Digits table base (so_far * base + d) rest n
+
+-- one or more digits
+abbrev pub numeral : (ℕ → Option ℕ) → ℕ → Form ℕ ℕ
+numeral table base = do
+  d ← One table
+  Digits table base d
+
+-- a number that is not negative is at most the greatest of 32 bits
+abbrev pub saturated : ℕ → ℕ
+saturated n = min n 4294967295
+
+-- dec
+abbrev pub decimal : Form ℕ ℕ
+decimal = do
+  n ← numeral (lookup digits) 10
+  Spell (saturated n)
+
+-- hexnum
+abbrev pub hexadecimal : Form ℕ ℕ
+hexadecimal = do
+  n ← numeral (lookup hex_digits) 16
+  Spell (saturated n)
+
+abbrev pub signs : List (ℕ × Bool)
+signs = bytes_for (codes "+") false ++ bytes_for (codes "-") true
+
+-- [+ | -]
+abbrev pub sign : Form ℕ Bool
+sign = optional (lookup signs) false
+
+-- a negative number is at least -2147483648, and is kept as two's complement of 32 bits
+abbrev pub with_sign : Bool → ℕ → ℕ
+with_sign negative n = if negative then (4294967296 - min n 2147483648) % 4294967296 else saturated n
+
+-- [+ | -] dec
+abbrev pub signed : Form ℕ ℕ
+signed = do
+  negative ← sign
+  n ← numeral (lookup digits) 10
+  Spell (with_sign negative n)
