@@ -1,4 +1,10 @@
-pub mod Steps
-pub mod Readers
 pub mod Begins
+pub mod Chains
 pub mod Choice
+pub mod Either
+pub mod Numbers
+pub mod Places
+pub mod Readers
+pub mod Steps
+pub mod Tables
+pub mod Saturation

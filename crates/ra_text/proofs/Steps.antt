@@ -1,5 +1,5 @@
 -- One reading: what it leaves, what it is of another form or of one symbol more, and where two readings cannot both go on.
-use Rattle.std.proofs.Common.{◌≡◌, ◌≤◌, List, [], ◌∷◌, ◌++◌, length, Ok, Err, refl, sym, ap, subst, arith, append_assoc, append-nil, length-append}
+use Rattle.std.proofs.Common.{◌≡◌, ◌∙◌, ◌≤◌, List, [], ◌∷◌, ◌++◌, length, Ok, Err, refl, sym, ap, subst, arith, append_assoc, append-nil, length-append}
 use Rattle.ra_text.specs.Form.{Form, Viable}
 use Rattle.ra_text.specs.Reading.{Outcome, rest_of, Reads}
 
@@ -32,6 +32,33 @@ reads-same a b into back r = record {
   halts = λ symbol rest e viable. r.halts symbol rest e (viable-same (r.front ++ symbol ∷ []) (λ more v h. (v, back ((r.front ++ symbol ∷ []) ++ more) v h)) viable);
   spelled = λ v rest e. into r.front v (r.spelled v rest e);
   only = λ v h. r.only v (back r.front v h);
+}
+
+-- the text is empty, or begins with the same symbol as the one that is read
+abbrev pub BeginsAs : {A : Type 0} → List A → List A → Type 0
+BeginsAs {A} text t = (c : A) (s : List A) → t ≡ c ∷ s → (rest : List A) × (text ≡ c ∷ rest)
+
+front-begins : {A : Type 0} (front rest : List A) → BeginsAs (front ++ rest) front
+front-begins [] rest c s e = absurd (cc e)
+front-begins (d ∷ front) rest c s e = let same : d ≡ c = cc e in (front ++ rest, ap (λ x. x ∷ (front ++ rest)) same)
+
+next-begins : {A : Type 0} (front : List A) (symbol : A) (rest more : List A) → BeginsAs (front ++ symbol ∷ rest) ((front ++ symbol ∷ []) ++ more)
+next-begins [] symbol rest more c s e = let same : symbol ≡ c = cc e in (rest, ap (λ x. x ∷ rest) same)
+next-begins (d ∷ front) symbol rest more c s e = let same : d ≡ c = cc e in (front ++ symbol ∷ rest, ap (λ x. x ∷ (front ++ symbol ∷ rest)) same)
+
+-- a reading of a form is one of a form that has more texts, where none of these begins as this text does
+pub reads-more : {A V : Type 0} (a b : Form A V) {text : List A} {outcome : Outcome A V} → ((t : List A) (v : V) → a t v → b t v) → ((t : List A) (v : V) → BeginsAs text t → b t v → a t v) → Reads a text outcome → Reads b text outcome
+reads-more a b {text} {outcome} into back r = record {
+  front = r.front;
+  parts = r.parts;
+  viable = viable-same r.front (λ more v h. (v, into (r.front ++ more) v h)) r.viable;
+  halts = λ symbol rest e viable. r.halts symbol rest e (viable-same (r.front ++ symbol ∷ []) (λ more v h. (
+    v,
+    back ((r.front ++ symbol ∷ []) ++ more) v
+        (subst (λ t. BeginsAs t ((r.front ++ symbol ∷ []) ++ more)) (sym (r.parts ∙ ap (λ t. r.front ++ t) e)) (next-begins r.front symbol rest more)) h,
+  )) viable);
+  spelled = λ v rest e. into r.front v (r.spelled v rest e);
+  only = λ v h. r.only v (back r.front v (subst (λ t. BeginsAs t r.front) (sym r.parts) (front-begins r.front (rest_of outcome))) h);
 }
 
 -- One symbol before a text that is read: the texts that begin with it are those of the other form.

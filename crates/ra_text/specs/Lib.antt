@@ -4,3 +4,5 @@ pub mod Table
 pub mod Chain
 pub mod Reading
 pub mod Number
+pub mod ReadingNumbers
+pub mod Moves

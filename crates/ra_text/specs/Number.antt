@@ -1,7 +1,10 @@
 -- Numbers: docs/DEFINITIONS.md, "Numbers".
 use Rattle.std.specs.Prelude.{◌≡◌, ℕ, ◌+◌, ◌-◌, ◌*◌, ◌%◌, min, Bool, true, false, if◌then◌else◌, List, [], ◌∷◌, ◌++◌, Option, Some, codes}
+use Rattle.ra_text.specs.declared.base.Base.{Base}
+use Rattle.ra_text.specs.declared.base.Base.TheVariants.{Ten, Sixteen}
 use Rattle.ra_text.specs.Form.{Form, Spell, One, ◌>>=◌, optional}
-use Rattle.ra_text.specs.Table.{lookup, bytes_for}
+use Rattle.ra_text.specs.Reading.{begins}
+use Rattle.ra_text.specs.Table.{lookup, bytes_for, is_in}
 
 -- the bytes one after the other, for the numbers from this one on
 abbrev pub counted_from : ℕ → List ℕ → List (ℕ × ℕ)
@@ -15,6 +18,16 @@ digits = counted_from 0 (codes "0123456789")
 -- 0 to 9 and a to f, in either case
 abbrev pub hex_digits : List (ℕ × ℕ)
 hex_digits = digits ++ (counted_from 10 (codes "abcdef") ++ counted_from 10 (codes "ABCDEF"))
+
+-- the number that a digit stands for
+abbrev pub digit_of : Base → ℕ → Option ℕ
+digit_of Ten = lookup digits
+digit_of Sixteen = lookup hex_digits
+
+-- how many digits there are
+abbrev pub base_of : Base → ℕ
+base_of Ten = 10
+base_of Sixteen = 16
 
 -- digit {digit}, of a base, behind digits of the number so far
 abbrev pub Digits : (ℕ → Option ℕ) → ℕ → ℕ → Form ℕ ℕ
@@ -60,3 +73,12 @@ signed = do
   negative ← sign
   n ← numeral (lookup digits) 10
   Spell (with_sign negative n)
+
+-- the text without one sign before it
+abbrev pub behind_sign : List ℕ → List ℕ
+behind_sign [] = []
+behind_sign (byte ∷ text) = if is_in (lookup signs) byte then text else byte ∷ text
+
+-- the text begins with a byte of the table
+abbrev pub BeginsIn : {V : Type 0} → (ℕ → Option V) → List ℕ → Type 0
+BeginsIn table text = begins (is_in table) text ≡ true

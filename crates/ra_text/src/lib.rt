@@ -1,6 +1,12 @@
-//! Numbers in text, and the two refusals that all parsers share.
+//! Numbers in text, the cursor that parsers read by, and the two refusals that all of them share.
 #![tactic(auto)]
 
+mod base;
+mod cursor;
+mod read_numbers;
 mod refusals;
 
+pub use base::Base;
+pub use cursor::{Cursor, Stop};
+pub use read_numbers::{read_decimal, read_hex, read_signed};
 pub use refusals::{OutOfMemory, Syntax};

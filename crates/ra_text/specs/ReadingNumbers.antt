@@ -1,0 +1,34 @@
+-- Reading numbers, from left to right.
+use Rattle.std.specs.Prelude.{ℕ, ◌+◌, ◌*◌, false, List, [], ◌∷◌, Option, Some, None, Ok}
+use Rattle.ra_text.specs.declared.base.Base.{Base}
+use Rattle.ra_text.specs.declared.base.Base.TheVariants.{Ten, Sixteen}
+use Rattle.ra_text.specs.Reading.{Outcome, ◌>>=◌, one_at, optional_at}
+use Rattle.ra_text.specs.Table.{lookup}
+use Rattle.ra_text.specs.Number.{digit_of, base_of, saturated, signs, with_sign}
+
+-- digits behind the number so far
+abbrev pub digits_at : (ℕ → Option ℕ) → ℕ → ℕ → List ℕ → Outcome ℕ ℕ
+digits_at table base so_far [] = Ok (so_far, [])
+digits_at table base so_far (byte ∷ rest) = elim (table byte) [ Some d ↦ digits_at table base (so_far * base + d) rest | None ↦ Ok (so_far, byte ∷ rest) ]
+
+unfoldable pub numeral_at : (ℕ → Option ℕ) → ℕ → List ℕ → Outcome ℕ ℕ
+numeral_at table base text = do
+  d ← one_at table text
+  digits_at table base d.0 d.1
+
+unfoldable pub saturated_at : Base → List ℕ → Outcome ℕ ℕ
+saturated_at base text = do
+  n ← numeral_at (digit_of base) (base_of base) text
+  Ok (saturated n.0, n.1)
+
+abbrev pub decimal_at : List ℕ → Outcome ℕ ℕ
+decimal_at = saturated_at Ten
+
+abbrev pub hexadecimal_at : List ℕ → Outcome ℕ ℕ
+hexadecimal_at = saturated_at Sixteen
+
+unfoldable pub signed_at : List ℕ → Outcome ℕ ℕ
+signed_at text = do
+  negative ← optional_at (lookup signs) false text
+  n ← decimal_at negative.1
+  Ok (with_sign negative.0 n.0, n.1)

@@ -1,0 +1,144 @@
+//! A text that is read from left to right.
+
+ghost use Rattle.std.specs.Prelude.{◌≡◌, ◌-◌, ◌≤◌, [], ◌∷◌, false, length, drop};
+ghost use Rattle.ra_text.specs.Number.{digit_of, signs, with_sign};
+ghost use Rattle.ra_text.specs.Reading.{one_at, optional_at};
+ghost use Rattle.ra_text.specs.ReadingNumbers.{decimal_at, hexadecimal_at, saturated_at, signed_at};
+ghost use Rattle.ra_text.specs.Table.{lookup, only};
+
+use crate::base::Base;
+
+/// What is left of a text that is read.
+#[derive(Clone, Copy)]
+pub struct Cursor<'a> {
+    pub rest: &'a [u8],
+}
+
+/// No text of the grammar goes on with what is next. The cursor stands before it.
+#[derive(Clone, Copy, Debug, PartialEq, Eq)]
+pub struct Stop;
+
+impl<'a> Cursor<'a> {
+    ghost use Rattle.ra_text.specs.Moves.{Moves, SumsDigits};
+
+    /// The text from a place on.
+    pub fn new(text: &'a [u8], at: usize) -> Self
+        requires { at ≤ length text.now }
+        ensures { result.rest.now ≡ drop at text.now }
+    {
+        let (_, rest) = text.split_at(at);
+        Cursor { rest }
+    }
+
+    /// Where the cursor stands in the text that it reads.
+    pub fn place(&self, text: &[u8]) -> usize
+        requires { length self.now.rest.now ≤ length text.now }
+        ensures { result ≡ length text.now - length self.now.rest.now }
+    {
+        text.len() - self.rest.len()
+    }
+
+    /// Reads this byte.
+    pub fn byte(&mut self, wanted: u8) -> Result<(), Stop>
+        ensures { Moves result self.new.rest.now (one_at (only (wanted ∷ [])) self.old.rest.now) }
+    {
+        match self.rest {
+            [byte, after @ ..] if *byte == wanted => {
+                self.rest = after;
+                Ok(())
+            }
+            _ => Err(Stop),
+        }
+    }
+
+    /// Reads decimal digits, as many as stand there: docs/DEFINITIONS.md, "Numbers".
+    pub fn decimal(&mut self) -> Result<u32, Stop>
+        ensures { Moves result self.new.rest.now (decimal_at self.old.rest.now) }
+    {
+        self.numeral(Base::Ten)
+    }
+
+    /// Reads hexadecimal digits, as many as stand there: docs/DEFINITIONS.md, "Numbers".
+    pub fn hexadecimal(&mut self) -> Result<u32, Stop>
+        ensures { Moves result self.new.rest.now (hexadecimal_at self.old.rest.now) }
+    {
+        self.numeral(Base::Sixteen)
+    }
+
+    // One or more digits, saturated.
+    #[tactic(auto, unfolding(crate::specs::ReadingNumbers::saturated_at, crate::specs::ReadingNumbers::numeral_at))]
+    fn numeral(&mut self, base: Base) -> Result<u32, Stop>
+        ensures { Moves result self.new.rest.now (saturated_at base self.old.rest.now) }
+    {
+        let first = self.digit(base)?;
+        Ok(self.digits_behind(base, first))
+    }
+
+    // One digit.
+    fn digit(&mut self, base: Base) -> Result<u32, Stop>
+        ensures { Moves result self.new.rest.now (one_at (digit_of base) self.old.rest.now) }
+    {
+        if let [byte, after @ ..] = self.rest {
+            if let Some(digit) = base.digit(*byte) {
+                self.rest = after;
+                return Ok(digit);
+            }
+        }
+        Err(Stop)
+    }
+
+    // The number of a first digit and as many more as stand there, saturated.
+    fn digits_behind(&mut self, base: Base, first: u32) -> u32
+        ensures { SumsDigits base first self.old.rest.now result self.new.rest.now }
+    {
+        let mut number = first;
+        while let [byte, after @ ..] = self.rest {
+            let Some(digit) = base.digit(*byte) else {
+                break;
+            };
+            number = number.saturating_mul(base.count()).saturating_add(digit);
+            self.rest = after;
+        }
+        number
+    }
+
+    /// Reads one optional sign and digits: docs/DEFINITIONS.md, "Numbers".
+    ///
+    /// A negative number is kept as two's complement of 32 bits.
+    #[tactic(auto, unfolding(crate::specs::ReadingNumbers::signed_at))]
+    pub fn signed(&mut self) -> Result<u32, Stop>
+        ensures { Moves result self.new.rest.now (signed_at self.old.rest.now) }
+    {
+        let negative = self.sign();
+        let number = self.decimal()?;
+        Ok(with_sign(negative, number))
+    }
+
+    // One optional sign: whether it is a minus.
+    fn sign(&mut self) -> bool
+        ensures { optional_at (lookup signs) false self.old.rest.now ≡ Ok (result, self.new.rest.now) }
+    {
+        match self.rest {
+            [b'+', after @ ..] => {
+                self.rest = after;
+                false
+            }
+            [b'-', after @ ..] => {
+                self.rest = after;
+                true
+            }
+            _ => false,
+        }
+    }
+}
+
+// A number with its sign, kept as two's complement of 32 bits.
+fn with_sign(negative: bool, number: u32) -> u32
+    ensures { result ≡ with_sign negative number }
+{
+    if negative {
+        number.min(0x8000_0000).wrapping_neg()
+    } else {
+        number
+    }
+}
