@@ -1,3 +1,5 @@
+pub mod Grammar
 pub mod Operators
+pub mod Reading
 pub mod Same
 pub mod Views

@@ -5,12 +5,15 @@ mod kind;
 mod op;
 mod operand;
 mod operators;
+mod reading;
 mod size;
+mod tables;
 mod views;
 
 pub use kind::Kind;
 pub use op::Op;
 pub use operand::Operand;
 pub use operators::{compare, compute};
+pub use reading::take_operand;
 pub use size::Size;
 pub use views::{mask, transform, view, width};

@@ -1,10 +1,10 @@
 //! A text that is read from left to right.
 
-ghost use Rattle.std.specs.Prelude.{◌≡◌, ◌-◌, ◌≤◌, [], ◌∷◌, false, length, drop};
+ghost use Rattle.std.specs.Prelude.{◌≡◌, ◌-◌, ◌<◌, ◌≤◌, [], ◌∷◌, false, length, drop};
 ghost use Rattle.ra_text.specs.Number.{digit_of, signs, with_sign};
-ghost use Rattle.ra_text.specs.Reading.{one_at, optional_at};
+ghost use Rattle.ra_text.specs.Reading.{begins, literal_at, one_at, optional_at};
 ghost use Rattle.ra_text.specs.ReadingNumbers.{decimal_at, hexadecimal_at, saturated_at, signed_at};
-ghost use Rattle.ra_text.specs.Table.{lookup, only};
+ghost use Rattle.ra_text.specs.Table.{is_in, lookup, only, only_letters};
 
 use crate::base::Base;
 
@@ -49,6 +49,63 @@ impl<'a> Cursor<'a> {
             }
             _ => Err(Stop),
         }
+    }
+
+    /// Whether this byte is next.
+    pub fn is_at(&self, wanted: u8) -> bool
+        ensures { result ≡ begins (is_in (only (wanted ∷ []))) self.now.rest.now }
+    {
+        match self.rest {
+            [byte, ..] => *byte == wanted,
+            [] => false,
+        }
+    }
+
+    /// Whether this letter, given in upper case, is next in either case.
+    pub fn is_at_letter(&self, upper: u8) -> bool
+        requires { upper < 128 }
+        ensures { result ≡ begins (is_in (only_letters (upper ∷ []))) self.now.rest.now }
+    {
+        match self.rest {
+            [byte, ..] => is_letter(*byte, upper),
+            [] => false,
+        }
+    }
+
+    /// Reads this letter, given in upper case, in either case.
+    pub fn letter(&mut self, upper: u8) -> Result<(), Stop>
+        requires { upper < 128 }
+        ensures { Moves result self.new.rest.now (one_at (only_letters (upper ∷ [])) self.old.rest.now) }
+    {
+        match self.rest {
+            [byte, after @ ..] if is_letter(*byte, upper) => {
+                self.rest = after;
+                Ok(())
+            }
+            _ => Err(Stop),
+        }
+    }
+
+    /// Reads this letter, given in upper case, in either case, if it is next.
+    pub fn optional_letter(&mut self, upper: u8)
+        requires { upper < 128 }
+        ensures { optional_at (only_letters (upper ∷ [])) tt self.old.rest.now ≡ Ok (tt, self.new.rest.now) }
+    {
+        if let [byte, after @ ..] = self.rest {
+            if is_letter(*byte, upper) {
+                self.rest = after;
+            }
+        }
+    }
+
+    /// Reads these bytes.
+    pub fn literal(&mut self, wanted: &[u8]) -> Result<(), Stop>
+        ensures { Moves result self.new.rest.now (literal_at wanted.now self.old.rest.now) }
+    {
+        for byte in wanted {
+            self.byte(*byte)?;
+        }
+        Ok(())
     }
 
     /// Reads decimal digits, as many as stand there: docs/DEFINITIONS.md, "Numbers".
@@ -130,6 +187,14 @@ impl<'a> Cursor<'a> {
             _ => false,
         }
     }
+}
+
+// The letter is this one, given in upper case, in either case.
+fn is_letter(byte: u8, upper: u8) -> bool
+    requires { upper < 128 }
+    ensures { result ≡ is_in (only_letters (upper ∷ [])) byte }
+{
+    byte == upper || byte == upper + 32
 }
 
 // A number with its sign, kept as two's complement of 32 bits.

@@ -1,0 +1,54 @@
+-- Reading operands from left to right: the step between the code and the grammar. No public clause of a parser cites it.
+use Rattle.std.specs.Prelude.{ℕ, ◌==◌, Bool, false, if◌then◌else◌, List, [], ◌∷◌, Ok, Err, codes}
+use Rattle.ra_operand.specs.declared.kind.Kind.TheVariants.{Mem}
+use Rattle.ra_operand.specs.declared.operand.Operand.{Operand}
+use Rattle.ra_operand.specs.declared.operand.Operand.TheVariants.{Cell, Const, Recall}
+use Rattle.ra_operand.specs.declared.size.Size.TheVariants.{Two}
+use Rattle.ra_operand.specs.Grammar.{kinds, sizes}
+use Rattle.ra_text.specs.Reading.{Outcome, ◌>>=◌, one_at, optional_at, literal_at, choice_at, begins}
+use Rattle.ra_text.specs.ReadingNumbers.{hexadecimal_at, signed_at}
+use Rattle.ra_text.specs.Table.{lookup, is_in, only, only_letters}
+
+unfoldable pub memory_at : List ℕ → Outcome ℕ Operand
+memory_at text = do
+  kind ← optional_at (lookup kinds) Mem text
+  zero ← one_at (only (codes "0")) kind.1
+  x ← one_at (only_letters (codes "X")) zero.1
+  size ← optional_at (lookup sizes) Two x.1
+  address ← hexadecimal_at size.1
+  Ok (Cell kind.0 size.0 address.0, address.1)
+
+unfoldable pub hex_constant_at : List ℕ → Outcome ℕ Operand
+hex_constant_at text = do
+  h ← one_at (only_letters (codes "H")) text
+  n ← hexadecimal_at h.1
+  Ok (Const n.0, n.1)
+
+unfoldable pub decimal_constant_at : List ℕ → Outcome ℕ Operand
+decimal_constant_at text = do
+  n ← signed_at text
+  Ok (Const n.0, n.1)
+
+unfoldable pub unsigned_at : List ℕ → Outcome ℕ Operand
+unsigned_at = choice_at (begins (is_in (only_letters (codes "H")))) hex_constant_at decimal_constant_at
+
+unfoldable pub constant_at : List ℕ → Outcome ℕ Operand
+constant_at text = do
+  v ← optional_at (only_letters (codes "V")) tt text
+  unsigned_at v.1
+
+unfoldable pub recall_at : List ℕ → Outcome ℕ Operand
+recall_at text = do
+  word ← literal_at (codes "{recall}") text
+  Ok (Recall, word.1)
+
+-- a prefix, or the front of `0x`: a 0 before another byte is a constant
+abbrev pub begins_memory : List ℕ → Bool
+begins_memory [] = false
+begins_memory (byte ∷ rest) = if byte == 48 then begins (is_in (only_letters (codes "X"))) rest else is_in (lookup kinds) byte
+
+unfoldable pub cell_or_constant_at : List ℕ → Outcome ℕ Operand
+cell_or_constant_at = choice_at begins_memory memory_at constant_at
+
+unfoldable pub operand_at : List ℕ → Outcome ℕ Operand
+operand_at = choice_at (begins (is_in (only (codes "{")))) recall_at cell_or_constant_at
