@@ -1,12 +1,12 @@
 -- The grammar of operands: docs/DEFINITIONS.md, "Operands".
-use Rattle.std.specs.Prelude.{ℕ, List, [], ◌∷◌, ◌++◌, codes}
+use Rattle.std.specs.Prelude.{ℕ, List, ◌++◌, codes}
 use Rattle.ra_operand.specs.declared.kind.Kind.{Kind}
 use Rattle.ra_operand.specs.declared.kind.Kind.TheVariants.{Mem, Delta, Prior, Bcd, Inverted}
 use Rattle.ra_operand.specs.declared.operand.Operand.{Operand}
 use Rattle.ra_operand.specs.declared.operand.Operand.TheVariants.{Cell, Const, Recall}
 use Rattle.ra_operand.specs.declared.size.Size.{Size}
 use Rattle.ra_operand.specs.declared.size.Size.TheVariants.{Bit0, Bit1, Bit2, Bit3, Bit4, Bit5, Bit6, Bit7, Low, High, Byte, Two, Three, Four, Count, TwoBig, ThreeBig, FourBig}
-use Rattle.ra_text.specs.Form.{Form, Spell, One, Literal, Then, ◌>>=◌, ◌or◌, optional}
+use Rattle.ra_text.specs.Form.{Form, Spell, One, Literal, ◌>>=◌, ◌or◌, optional}
 use Rattle.ra_text.specs.Number.{hexadecimal, signed}
 use Rattle.ra_text.specs.Table.{lookup, letters, bytes_for, only, only_letters}
 

@@ -1,5 +1,5 @@
 -- Reading operands from left to right: the step between the code and the grammar. No public clause of a parser cites it.
-use Rattle.std.specs.Prelude.{ℕ, ◌==◌, Bool, false, if◌then◌else◌, List, [], ◌∷◌, Ok, Err, codes}
+use Rattle.std.specs.Prelude.{ℕ, ◌==◌, Bool, false, if◌then◌else◌, List, [], ◌∷◌, Ok, codes}
 use Rattle.ra_operand.specs.declared.kind.Kind.TheVariants.{Mem}
 use Rattle.ra_operand.specs.declared.operand.Operand.{Operand}
 use Rattle.ra_operand.specs.declared.operand.Operand.TheVariants.{Cell, Const, Recall}

@@ -18,7 +18,11 @@ use ra_text::{Cursor, Stop};
 pub fn take_operand(cursor: &mut Cursor<'_>) -> Result<Operand, Stop>
     ensures { Moves result cursor.new.rest.now (operand_at cursor.old.rest.now) }
 {
-    if cursor.is_at(b'{') { take_recall(cursor) } else { take_cell_or_constant(cursor) }
+    if cursor.is_at(b'{') {
+        take_recall(cursor)
+    } else {
+        take_cell_or_constant(cursor)
+    }
 }
 
 // `{recall}`
@@ -35,7 +39,11 @@ fn take_recall(cursor: &mut Cursor<'_>) -> Result<Operand, Stop>
 fn take_cell_or_constant(cursor: &mut Cursor<'_>) -> Result<Operand, Stop>
     ensures { Moves result cursor.new.rest.now (cell_or_constant_at cursor.old.rest.now) }
 {
-    if is_memory(cursor.rest) { take_memory(cursor) } else { take_constant(cursor) }
+    if is_memory(cursor.rest) {
+        take_memory(cursor)
+    } else {
+        take_constant(cursor)
+    }
 }
 
 // Whether memory begins here: with a prefix, or with `0x`.
@@ -107,7 +115,11 @@ fn take_constant(cursor: &mut Cursor<'_>) -> Result<Operand, Stop>
 fn take_unsigned(cursor: &mut Cursor<'_>) -> Result<Operand, Stop>
     ensures { Moves result cursor.new.rest.now (unsigned_at cursor.old.rest.now) }
 {
-    if cursor.is_at_letter(b'H') { take_hex_constant(cursor) } else { take_decimal_constant(cursor) }
+    if cursor.is_at_letter(b'H') {
+        take_hex_constant(cursor)
+    } else {
+        take_decimal_constant(cursor)
+    }
 }
 
 // h hexnum

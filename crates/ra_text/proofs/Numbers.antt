@@ -145,6 +145,10 @@ reads-hexadecimal = reads-of hexadecimal hexadecimal_at (In (keys_of hex_digits)
 pub reads-signed : (text : List ℕ) → Reads signed text (signed_at text)
 reads-signed = reads-of signed signed_at (In (keys_of digits)) reader-signed
 
+-- digits end before another byte
+pub digits-stop : (table : ℕ → Option ℕ) (base n c : ℕ) (s : List ℕ) → table c ≡ None → digits_at table base n (c ∷ s) ≡ Ok (n, c ∷ s)
+digits-stop table base n c s none = rw (none, digits_at)
+
 -- digits are read to their end, whatever it is
 digits-ok : (table : ℕ → Option ℕ) (base so_far : ℕ) (text : List ℕ) → is_ok (digits_at table base so_far text) ≡ true
 digits-ok table base so_far [] = refl

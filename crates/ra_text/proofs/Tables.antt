@@ -1,5 +1,5 @@
 -- Tables of bytes, and sets of bytes as lists, whose side conditions compute.
-use Rattle.std.proofs.Common.{◌≡◌, ℕ, Bool, true, false, if◌then◌else◌, ◌==◌, not, List, [], ◌∷◌, Option, Some, None, Ok, Err, refl, sym, ap, ◌∙◌, subst, eqb-true, append-nil}
+use Rattle.std.proofs.Common.{◌≡◌, ℕ, Bool, true, false, if◌then◌else◌, ◌==◌, not, List, [], ◌∷◌, ◌++◌, Option, Some, None, Ok, Err, refl, sym, ap, ◌∙◌, subst, eqb-true, append-nil}
 use Rattle.ra_text.specs.Form.{Form, One, Viable}
 use Rattle.ra_text.specs.Reading.{Outcome, Reads}
 use Rattle.ra_text.specs.Table.{lookup, is_in}
@@ -63,6 +63,14 @@ apart-passes (key ∷ keys) others all = cases (apart-passes keys others) (has o
 
 pub in_apart : (keys others : List ℕ) → are_apart keys others ≡ true → (c : ℕ) → In keys c → In others c → ⊥
 in_apart keys others all c here there = let n : not (has others c) ≡ true = passes (λ c. not (has others c)) keys (apart-passes keys others all) c here in cc (n, there)
+
+-- a byte of a list that is not its last one is one of the others
+pub in_front : (keys : List ℕ) (last c : ℕ) → (c == last) ≡ false → In (keys ++ last ∷ []) c → In keys c
+in_front [] last c other here = let no_key : (if c == last then true else false) ≡ false = ap (λ b. if b then true else false) other in cc (here, no_key)
+in_front (key ∷ keys) last c other here = cases (in_front keys last c other) (c == key) here where
+  cases : (has (keys ++ last ∷ []) c ≡ true → has keys c ≡ true) → (same : Bool) → (if same then true else has (keys ++ last ∷ []) c) ≡ true → (if same then true else has keys c) ≡ true
+  cases next true here = refl
+  cases next false here = next here
 
 -- a byte that the table has is one of its keys
 pub listed_in : {V : Type 0} (table : List (ℕ × V)) (c : ℕ) → IsListed (lookup table) c → In (keys_of table) c

@@ -20,10 +20,18 @@ bytes_for (byte ∷ others) v = (byte, v) ∷ bytes_for others v
 abbrev pub is_in : {V : Type 0} → (ℕ → Option V) → ℕ → Bool
 is_in table byte = elim (table byte) [ Some v ↦ true | None ↦ false ]
 
--- these bytes alone, without a value
-abbrev pub only : List ℕ → ℕ → Option (Unit {0})
-only wanted = lookup (bytes_for wanted tt)
+-- these bytes, without a value
+abbrev pub marks : List ℕ → List (ℕ × Unit {0})
+marks wanted = bytes_for wanted tt
 
 -- these letters in either case, without a value
+abbrev pub letter_marks : List ℕ → List (ℕ × Unit {0})
+letter_marks wanted = letters wanted tt
+
+-- one of these bytes
+abbrev pub only : List ℕ → ℕ → Option (Unit {0})
+only wanted = lookup (marks wanted)
+
+-- one of these letters in either case
 abbrev pub only_letters : List ℕ → ℕ → Option (Unit {0})
-only_letters wanted = lookup (letters wanted tt)
+only_letters wanted = lookup (letter_marks wanted)
