@@ -1,3 +1,5 @@
+pub mod Canonical
+pub mod Fitting
 pub mod Grammar
 pub mod Operators
 pub mod Reading

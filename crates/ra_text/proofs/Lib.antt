@@ -8,3 +8,4 @@ pub mod Readers
 pub mod Steps
 pub mod Tables
 pub mod Saturation
+pub mod Numerals
