@@ -1,4 +1,4 @@
--- Numbers: docs/DEFINITIONS.md, "Numbers".
+-- Numbers: docs/DEFINITIONS.md, "Numbers in text".
 use Rattle.std.specs.Prelude.{◌≡◌, ℕ, ◌+◌, ◌-◌, ◌*◌, ◌%◌, min, Bool, true, false, if◌then◌else◌, List, [], ◌∷◌, ◌++◌, Option, Some, codes}
 use Rattle.ra_text.specs.declared.base.Base.{Base}
 use Rattle.ra_text.specs.declared.base.Base.TheVariants.{Ten, Sixteen}

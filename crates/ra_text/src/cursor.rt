@@ -108,14 +108,14 @@ impl<'a> Cursor<'a> {
         Ok(())
     }
 
-    /// Reads decimal digits, as many as stand there: docs/DEFINITIONS.md, "Numbers".
+    /// Reads decimal digits, as many as stand there: docs/DEFINITIONS.md, "Numbers in text".
     pub fn decimal(&mut self) -> Result<u32, Stop>
         ensures { Moves result self.new.rest.now (decimal_at self.old.rest.now) }
     {
         self.numeral(Base::Ten)
     }
 
-    /// Reads hexadecimal digits, as many as stand there: docs/DEFINITIONS.md, "Numbers".
+    /// Reads hexadecimal digits, as many as stand there: docs/DEFINITIONS.md, "Numbers in text".
     pub fn hexadecimal(&mut self) -> Result<u32, Stop>
         ensures { Moves result self.new.rest.now (hexadecimal_at self.old.rest.now) }
     {
@@ -159,7 +159,7 @@ impl<'a> Cursor<'a> {
         number
     }
 
-    /// Reads one optional sign and digits: docs/DEFINITIONS.md, "Numbers".
+    /// Reads one optional sign and digits: docs/DEFINITIONS.md, "Numbers in text".
     ///
     /// A negative number is kept as two's complement of 32 bits.
     #[tactic(auto, unfolding(crate::specs::ReadingNumbers::signed_at))]

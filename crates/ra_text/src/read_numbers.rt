@@ -1,4 +1,4 @@
-//! Numbers at a place of a text: docs/DEFINITIONS.md, "Numbers".
+//! Numbers at a place of a text: docs/DEFINITIONS.md, "Numbers in text".
 
 ghost use Rattle.std.specs.Prelude.{◌↔◌, ◌≤◌, IfSome, IsSome, Some, drop, length};
 ghost use Rattle.ra_text.specs.Number.{BeginsIn, behind_sign, decimal, digits, hex_digits, hexadecimal, signed};

@@ -24,15 +24,3 @@ pub struct Syntax {
     /// The first bad place: docs/DEFINITIONS.md, "First bad place".
     pub at: usize,
 }
-
-impl From<AllocError> for OutOfMemory {
-    fn from(_: AllocError) -> Self {
-        OutOfMemory
-    }
-}
-
-impl<T: Drop> From<AllocFailed<T>> for OutOfMemory {
-    fn from(_: AllocFailed<T>) -> Self {
-        OutOfMemory
-    }
-}
