@@ -9,3 +9,4 @@ pub mod Steps
 pub mod Tables
 pub mod Saturation
 pub mod Numerals
+pub mod Loops

@@ -1,6 +1,6 @@
 //! A text that is read from left to right.
 
-ghost use Rattle.std.specs.Prelude.{◌≡◌, ◌-◌, ◌<◌, ◌≤◌, [], ◌∷◌, false, length, drop};
+ghost use Rattle.std.specs.Prelude.{◌≡◌, ◌-◌, ◌<◌, ◌≤◌, [], ◌∷◌, false, IsFalse, IsTrue, length, drop};
 ghost use Rattle.ra_text.specs.Number.{digit_of, signs, with_sign};
 ghost use Rattle.ra_text.specs.Reading.{begins, literal_at, one_at, optional_at};
 ghost use Rattle.ra_text.specs.ReadingNumbers.{decimal_at, hexadecimal_at, saturated_at, signed_at};
@@ -49,6 +49,21 @@ impl<'a> Cursor<'a> {
             }
             _ => Err(Stop),
         }
+    }
+
+    /// Goes past this byte if it is next, and says whether it was.
+    pub fn skip(&mut self, wanted: u8) -> bool
+        ensures passed { IsTrue result → self.old.rest.now ≡ wanted ∷ self.new.rest.now }
+        ensures stayed { IsFalse result → self.new.rest.now ≡ self.old.rest.now }
+        ensures is_next { result ≡ begins (is_in (only (wanted ∷ []))) self.old.rest.now }
+    {
+        if let [byte, after @ ..] = self.rest {
+            if *byte == wanted {
+                self.rest = after;
+                return true;
+            }
+        }
+        false
     }
 
     /// Whether this byte is next.
