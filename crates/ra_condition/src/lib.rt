@@ -1,11 +1,16 @@
 //! Conditions, groups, triggers and values: what their texts spell.
 #![tactic(auto)]
 
+mod comparison;
 mod condition;
 mod flag;
 mod group;
 mod part;
 mod refused;
+mod setting;
+mod tables;
+mod tail;
+mod tails;
 mod trigger_text;
 mod value_text;
 
@@ -14,5 +19,7 @@ pub use flag::Flag;
 pub use group::Group;
 pub use part::{Part, Term};
 pub use refused::Refused;
+pub use setting::Setting;
+pub use tail::Tail;
 pub use trigger_text::TriggerText;
 pub use value_text::ValueText;
