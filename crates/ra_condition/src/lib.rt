@@ -3,6 +3,7 @@
 
 mod comparison;
 mod condition;
+mod conditions;
 mod flag;
 mod group;
 mod part;

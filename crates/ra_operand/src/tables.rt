@@ -20,7 +20,7 @@ pub fn begins_operand(byte: u8) -> bool
     }
 }
 
-// The kind of a prefix.
+/// The kind of a prefix, in either case.
 pub fn kind_of(byte: u8) -> Option<Kind>
     ensures { result ≡ lookup kinds byte }
 {
@@ -33,7 +33,7 @@ pub fn kind_of(byte: u8) -> Option<Kind>
     }
 }
 
-// The size of a letter, or of the blank.
+/// The size of a letter, in either case, or of the blank.
 pub fn size_of(byte: u8) -> Option<Size>
     ensures { result ≡ lookup sizes byte }
 {
