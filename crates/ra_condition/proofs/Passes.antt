@@ -1,5 +1,5 @@
 -- The places that pass a test, in order, and what is said of the two parts that a test makes of a list.
-use Rattle.std.proofs.Common.{◌≡◌, ℕ, zero, suc, ◌+◌, ◌<◌, ◌≤◌, Bool, true, false, not, ◌&&◌, ◌||◌, cond, eqb, List, [], ◌∷◌, ◌++◌, length, get_or, take, refl, sym, ap, ◌∙◌, subst, inl, inr, arith, append-nil, zero-add}
+use Rattle.std.proofs.Common.{◌≡◌, ℕ, zero, suc, ◌+◌, ◌<◌, ◌≤◌, Bool, true, false, not, ◌&&◌, ◌||◌, cond, eqb, List, [], ◌∷◌, ◌++◌, length, get_or, take, refl, sym, ap, ◌∙◌, subst, inl, inr, arith, append-nil, zero-add, length-append}
 use Rattle.std.specs.List.{filter, range_with_len, list_any, list_all}
 use Rattle.std.proofs.lemmas.List.{get_or_append_left, get_or_push, take-append-le, take_at, length_push}
 use Rattle.std.proofs.lemmas.List.Elements.{filter-append}
@@ -64,6 +64,24 @@ stands q (suc m) k l =
     let e = chosen_more q m in
     let l' : k < length (chosen q m ++ cond (q m) (m ∷ []) []) = omega (arith, ap length e) in
     subst (λ (xs : List ℕ). StandsAt q (suc m) xs k) (sym e) (stands_more q m k (stands q m) (q m) refl l')
+
+-- more numbers have no fewer places that pass
+pub length-chosen_more : (q : ℕ → Bool) (m : ℕ) → length (chosen q (suc m)) ≡ length (chosen q m) + cond (q m) 1 0
+length-chosen_more q m = ap length (chosen_more q m) ∙ length-append (chosen q m) (cond (q m) (m ∷ []) []) ∙ ap (λ n. length (chosen q m) + n) (one_or_none (q m))
+  where
+    one_or_none : (b : Bool) → length (cond b (m ∷ []) []) ≡ cond b 1 0
+    one_or_none true = refl
+    one_or_none false = refl
+
+pub chosen_rises : (q : ℕ → Bool) (m n : ℕ) → length (chosen q m) ≤ length (chosen q (m + n))
+chosen_rises q m zero = let e : m ≡ m + 0 = omega arith in let P : ℕ → Type 0 = λ k. length (chosen q m) ≤ length (chosen q k) in subst P e (omega arith)
+chosen_rises q m (suc n) =
+    let e : suc (m + n) ≡ m + suc n = omega arith in
+    let P : ℕ → Type 0 = λ k. length (chosen q m) ≤ length (chosen q k) in
+    let below = chosen_rises q m n in
+    let more = length-chosen_more q (m + n) in
+    let l : length (chosen q m) ≤ length (chosen q (suc (m + n))) = omega (arith, below, more) in
+    subst P e l
 
 -- none of the places below m is i, where m is i or below it
 pub chosen_fresh : (q : ℕ → Bool) (m i : ℕ) → m ≤ i → list_any (λ x. eqb x i) (chosen q m) ≡ false

@@ -1,1 +1,8 @@
+mod BoundsLemmas
+mod Carried
+mod PassLemmas
+mod PausesLemmas
+mod TallyLemmas
+mod TurnLemmas
+mod Turns
 pub mod Vectors

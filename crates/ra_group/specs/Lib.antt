@@ -1,2 +1,4 @@
+pub mod Bounds
 pub mod Equations
 pub mod Outcome
+pub mod Tallies

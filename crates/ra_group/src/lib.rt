@@ -1,9 +1,13 @@
 //! One group at one frame: hits, and what the group says.
 #![tactic(auto)]
 
+mod equations;
 mod form;
 mod outcome;
+mod pass;
 mod settled;
+mod tally;
 
 pub use form::Form;
 pub use outcome::Outcome;
+pub use pass::step;
