@@ -1,13 +1,12 @@
 -- The hits that a chain adds stay within as many times 2 ^ 32 as places were visited.
-use Rattle.std.proofs.Common.{◌≡◌, ℕ, zero, suc, ◌+◌, ◌*◌, ◌^◌, ◌<◌, ◌≤◌, min, Bool, true, false, cond, Option, None, Some, List, slice_index, slice_index_or, ℤ, pos, ◌+ℤ◌, ◌-ℤ◌, ◌≤ℤ◌, refl, arith}
+use Rattle.std.proofs.Common.{◌≡◌, ℕ, zero, suc, ◌+◌, ◌*◌, ◌^◌, ◌<◌, ◌≤◌, Bool, true, false, cond, Option, None, Some, slice_index, slice_index_or, ℤ, pos, ◌+ℤ◌, ◌≤ℤ◌, arith}
 use Rattle.std.proofs.lemmas.Int.{ints}
 use Rattle.ra_condition.specs.declared.flag.Flag.{Flag}
 use Rattle.ra_condition.specs.declared.flag.Flag.TheVariants.{Plain, PauseIf, ResetIf, AddSource, SubSource, AddHits, SubHits, AndNext, OrNext, Measured, MeasuredPercent, MeasuredIf, AddAddress, TriggerIf, ResetNextIf, Remember}
-use Rattle.ra_condition.specs.declared.condition.Condition.{Condition}
 use Rattle.ra_condition.specs.Flags.{combines, hands_on}
 use Rattle.ra_condition.specs.Contents.{condition_at}
 use Rattle.ra_group.specs.declared.settled.Settled.{Settled}
-use Rattle.ra_group.specs.Equations.{Frame, settled, seen_after, prev_of, hits_after, add_after, add_by, met, reset_by}
+use Rattle.ra_group.specs.Equations.{Frame, prev_of, hits_after, add_after, add_by, met, reset_by}
 use Rattle.ra_group.specs.Bounds.{AddWithin}
 use Rattle.ra_group.proofs.Carried.{settled_after}
 

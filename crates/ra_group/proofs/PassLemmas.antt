@@ -1,22 +1,21 @@
 -- How far the pass is: what it carries, tallies and writes after some places.
-use Rattle.std.proofs.Common.{◌≡◌, ◌≢◌, ℕ, zero, suc, ◌+◌, ◌<◌, ◌≤◌, Bool, true, false, not, ◌&&◌, ◌||◌, cond, eqb, Option, None, Some, List, [], ◌∷◌, ◌++◌, length, get_or, set, map, slice_index, slice_index_or, refl, sym, ap, ◌∙◌, subst, inl, inr, arith, get_or-set_same, get_or-set_other}
-use Rattle.std.specs.List.{list_any, range_with_len}
+use Rattle.std.proofs.Common.{◌≡◌, ◌≢◌, ℕ, Bool, true, false, not, ◌&&◌, ◌||◌, cond, eqb, Option, None, Some, List, [], ◌∷◌, ◌++◌, length, get_or, slice_index, slice_index_or, refl, sym, ap, ◌∙◌, inl, inr}
+use Rattle.std.specs.List.{list_any}
 use Rattle.std.proofs.lemmas.List.Folds.{list_any-append}
 use Rattle.std.proofs.lemmas.List.FromFn.{fill_by_all}
 use Rattle.std.proofs.lemmas.Bool.{cases_eq, cond-true, cond-false, eq-eqb, ne_eqb}
-use Rattle.ra_condition.specs.declared.condition.Condition.{Condition}
 use Rattle.ra_condition.specs.Flags.{combines, hands_on, is_pause}
 use Rattle.ra_condition.specs.Contents.{condition_at, flag_at}
 use Rattle.ra_condition.specs.Chains.{in_pause_chain, places, pass_order}
 use Rattle.ra_group.specs.declared.form.Form.{Form}
 use Rattle.ra_group.specs.declared.settled.Settled.{Settled}
 use Rattle.ra_group.specs.declared.tally.Tally.{Tally}
-use Rattle.ra_group.specs.Equations.{Frame, settled, settled_at, prev_of, seen_after}
+use Rattle.ra_group.specs.Equations.{Frame, settled, settled_at}
 use Rattle.ra_group.specs.Outcome.{some_valid, outcome_of, next_hit, next_hits}
 use Rattle.ra_group.specs.Tallies.{noted, no_tally, outcome_by}
-use Rattle.ra_group.proofs.Carried.{carry, carried, carried-push, settled_after, seen_after_handed, seen_after_counted}
+use Rattle.ra_group.proofs.Carried.{carried, carried-push, settled_after, seen_after_handed, seen_after_counted}
 use Rattle.ra_group.proofs.TallyLemmas.{tally_of, tally_of-push, tally_of-parts, outcome_by-tally_of, noted_handed}
-use Rattle.ra_group.proofs.Turns.{Turn, LateTurn, visited}
+use Rattle.ra_group.proofs.Turns.{Turn, visited}
 
 -- the hits after these places: the next ones there, the old ones elsewhere
 pub record AreWritten (f : Frame) (js : List ℕ) (hits : List ℕ) : Type 0 where

@@ -6,7 +6,7 @@ use Rattle.ra_condition.specs.declared.flag.Flag.{Flag}
 use Rattle.ra_condition.specs.declared.flag.Flag.TheVariants.{AddSource, SubSource, AddAddress, Remember, Plain, PauseIf, ResetIf, AddHits, SubHits, AndNext, OrNext, Measured, MeasuredPercent, MeasuredIf, TriggerIf, ResetNextIf}
 use Rattle.ra_condition.specs.declared.condition.Condition.{Condition}
 use Rattle.ra_condition.specs.Flags.{hands_on, is_pause, is_reset, is_measured, is_measured_if, is_wanted, is_required}
-use Rattle.ra_condition.specs.Contents.{condition_at, flag_at}
+use Rattle.ra_condition.specs.Contents.{condition_at}
 use Rattle.ra_condition.specs.Chains.{places}
 use Rattle.ra_condition.proofs.Passes.{any_parts, all_parts}
 use Rattle.ra_group.specs.declared.form.Form.{Form}
@@ -14,7 +14,7 @@ use Rattle.ra_group.specs.declared.settled.Settled.{Settled}
 use Rattle.ra_group.specs.declared.tally.Tally.{Tally}
 use Rattle.ra_group.specs.Equations.{Frame, settled_at}
 use Rattle.ra_group.specs.Outcome.{some_valid, all_valid, from_total, larger, offer, greatest, outcome_of}
-use Rattle.ra_group.specs.Tallies.{noted, no_tally, outcome_by, offered}
+use Rattle.ra_group.specs.Tallies.{noted, outcome_by}
 
 -- what the conditions at the places say together, by the words of the outcome
 abbrev pub tally_of : Form → Frame → List ℕ → Tally

@@ -13,8 +13,6 @@ use Rattle.ra_group.specs.Equations.{Frame, settled, settled_at}
 use Rattle.ra_group.specs.Outcome.{some_valid, next_hit}
 use Rattle.ra_group.specs.Tallies.{noted}
 use Rattle.ra_group.specs.Bounds.{AddWithin}
-use Rattle.ra_group.proofs.Carried.{carried}
-use Rattle.ra_group.proofs.TallyLemmas.{tally_of}
 use Rattle.ra_group.proofs.BoundsLemmas.{AddWithin-prev_of}
 use Rattle.ra_group.proofs.Turns.{Turn, LateTurn, turn_early, turn_late}
 use Rattle.ra_group.proofs.PassLemmas.{HasPassed, passed_handed, passed_counted, settled-turn, old_hits, next_hit_early, next_hit_late}

@@ -1,5 +1,5 @@
 -- What is known when the pass comes to a place: what it carries, and which places it has visited.
-use Rattle.std.proofs.Common.{◌≡◌, ℕ, ◌+◌, ◌-◌, ◌<◌, ◌≤◌, Bool, true, false, not, ◌&&◌, ◌||◌, cond, eqb, Option, None, List, [], ◌∷◌, ◌++◌, length, get_or, take, drop, fold, refl, sym, ap, ◌∙◌, subst, inl, inr, arith, length-append}
+use Rattle.std.proofs.Common.{◌≡◌, ℕ, ◌+◌, ◌-◌, ◌<◌, ◌≤◌, Bool, true, false, not, ◌&&◌, ◌||◌, cond, eqb, None, List, [], ◌∷◌, ◌++◌, length, get_or, take, fold, refl, sym, ap, ◌∙◌, subst, arith, length-append}
 use Rattle.std.specs.List.{filter, range_with_len, list_any}
 use Rattle.std.proofs.lemmas.Grind.{fold-append}
 use Rattle.std.proofs.lemmas.List.{get_or_append_left, get_or-append_right, take-append-le}
@@ -7,14 +7,12 @@ use Rattle.std.proofs.Math.Seq.{take-append-add}
 use Rattle.std.proofs.lemmas.List.Folds.{list_any-append, list_any_at}
 use Rattle.std.proofs.lemmas.List.FromFn.{length-range_with_len, get_or-range_with_len}
 use Rattle.std.proofs.lemmas.Bool.{cond-true, cond-false, not-true, true≢false, eq-eqb}
-use Rattle.ra_condition.specs.declared.condition.Condition.{Condition}
 use Rattle.ra_condition.specs.Flags.{is_pause}
-use Rattle.ra_condition.specs.Contents.{condition_at, flag_at}
+use Rattle.ra_condition.specs.Contents.{flag_at}
 use Rattle.ra_condition.specs.Chains.{in_pause_chain, places, pass_order}
-use Rattle.ra_condition.proofs.Passes.{chosen, stands, StandsAt, chosen_fresh, filter_fresh, any_parts}
+use Rattle.ra_condition.proofs.Passes.{chosen, stands, chosen_fresh, filter_fresh, any_parts}
 use Rattle.ra_condition.proofs.OrderLemmas.{pausing, others}
 use Rattle.ra_condition.proofs.ChainLemmas.{pause_keeps, other_keeps, in_pause_chain_past, in_pause_chain-pause}
-use Rattle.ra_group.specs.declared.settled.Settled.{Settled}
 use Rattle.ra_group.specs.Equations.{Frame, settled_at, prev_of}
 use Rattle.ra_group.specs.Outcome.{some_valid}
 use Rattle.ra_group.proofs.Carried.{carry, carried, carried-chosen}

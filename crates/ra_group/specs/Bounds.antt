@@ -1,5 +1,5 @@
 -- How far the hits that a chain adds or takes away may go.
-use Rattle.std.specs.Prelude.{ℕ, ℤ, pos, ◌+ℤ◌, ◌≤ℤ◌, Option, None, Some}
+use Rattle.std.specs.Prelude.{ℕ, pos, ◌+ℤ◌, ◌≤ℤ◌, Option, None, Some}
 use Rattle.ra_group.specs.declared.settled.Settled.{Settled}
 
 -- what was added up to here lies so far from 0 at most

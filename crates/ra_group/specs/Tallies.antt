@@ -1,5 +1,5 @@
 -- What the conditions visited so far say together, and the outcome that it comes to.
-use Rattle.std.specs.Prelude.{ℕ, Bool, true, false, if◌then◌else◌, not, ◌&&◌, ◌||◌, Option, None, Some}
+use Rattle.std.specs.Prelude.{ℕ, true, false, if◌then◌else◌, not, ◌&&◌, ◌||◌, Option, None, Some}
 use Rattle.ra_condition.specs.declared.condition.Condition.{Condition}
 use Rattle.ra_condition.specs.Flags.{is_pause, is_reset, is_measured, is_measured_if, is_wanted, is_required}
 use Rattle.ra_group.specs.declared.form.Form.{Form}

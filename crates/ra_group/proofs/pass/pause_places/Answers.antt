@@ -1,4 +1,4 @@
-use Rattle.std.proofs.Common.{◌≡◌, ℕ, ◌+◌, get_or, length, sym, ap, ◌∙◌, subst, arith}
+use Rattle.std.proofs.Common.{ℕ, ◌+◌, sym, ◌∙◌, subst, arith}
 use Rattle.ra_condition.proofs.OrderLemmas.{place_below}
 use Rattle.ra_group.proofs.PausesLemmas.{EndsPauses, pauses_here, pauses_there, pauses_all, pauses_none}
 use Rattle.ra_group.proofs.pass.pause_places.Goals as goal

@@ -1,4 +1,4 @@
-use Rattle.std.proofs.Common.{◌≡◌, ℕ, ◌^◌, ◌<◌, take, get_or}
+use Rattle.std.proofs.Common.{ℕ, ◌^◌, ◌<◌, take, get_or}
 use Rattle.ra_group.specs.Equations.{frame_of}
 use Rattle.ra_group.proofs.PassLemmas.{HasPassed}
 use Rattle.ra_group.proofs.pass.step.Given as goal
