@@ -1,8 +1,10 @@
 //! The order in which a group's conditions pass, and their trees as nodes of a pool.
 #![tactic(auto)]
 
+mod laws;
 mod order;
 mod plan;
 
+pub use laws::pass_order_holds;
 pub use order::order_of;
 pub use plan::GroupPlan;

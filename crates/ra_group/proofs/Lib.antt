@@ -1,5 +1,6 @@
 mod BoundsLemmas
 mod Carried
+mod LawLemmas
 mod PassLemmas
 mod PausesLemmas
 mod TallyLemmas

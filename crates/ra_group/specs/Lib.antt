@@ -1,4 +1,5 @@
 pub mod Bounds
 pub mod Equations
+pub mod Laws
 pub mod Outcome
 pub mod Tallies

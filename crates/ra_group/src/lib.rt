@@ -3,11 +3,13 @@
 
 mod equations;
 mod form;
+mod laws;
 mod outcome;
 mod pass;
 mod settled;
 mod tally;
 
 pub use form::Form;
+pub use laws::equations_hold;
 pub use outcome::Outcome;
 pub use pass::step;
