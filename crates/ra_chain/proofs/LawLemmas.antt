@@ -48,8 +48,8 @@ end_from_pauses cs (suc left) j e h = by_combining (λ after. end_from_pauses cs
           from = omega (arith, after.from);
           within = after.within;
           chained = λ k g l. elim (cases_eq k j) [
-            inl here ↦ ap (λ n. combines (flag_at cs n)) here ∙ d
-          | inr other ↦ after.chained k (omega arith) l
+            | inl here ↦ ap (λ n. combines (flag_at cs n)) here ∙ d
+            | inr other ↦ after.chained k (omega arith) l
           ];
           pauses = after.pauses;
         }
@@ -71,13 +71,13 @@ pub chosen_at : (q : ℕ → Bool) (m i : ℕ) → q i ≡ true → i < m → Is
 chosen_at q zero i h l = absurd (omega arith)
 chosen_at q (suc m) i h l =
     elim (cases_eq i m) [
-      inl here ↦ subst (λ (n : ℕ). IsChosenAt q (suc n) i) here (chosen_here q i h)
-    | inr other ↦
-        let before = chosen_at q m i h (omega arith) in
-        record {
-          within = omega (arith, before.within, length-chosen_more q m);
-          at = ap (λ xs. get_or xs (length (chosen q i)) 0) (chosen_more q m) ∙ get_or_append_left (chosen q m) (cond (q m) (m ∷ []) []) 0 (length (chosen q i)) before.within ∙ before.at;
-        }
+      | inl here ↦ subst (λ (n : ℕ). IsChosenAt q (suc n) i) here (chosen_here q i h)
+      | inr other ↦
+          let before = chosen_at q m i h (omega arith) in
+          record {
+            within = omega (arith, before.within, length-chosen_more q m);
+            at = ap (λ xs. get_or xs (length (chosen q i)) 0) (chosen_more q m) ∙ get_or_append_left (chosen q m) (cond (q m) (m ∷ []) []) 0 (length (chosen q i)) before.within ∙ before.at;
+          }
     ]
 
 -- two conditions of the pause chains stand in text order, and so do two others

@@ -16,5 +16,4 @@ pub fn pass_order_holds()
     ensures text_order { (cs : List Condition) (i j : ℕ) → AreChained cs i j → StandsBefore (pass_order cs) i j }
     ensures pauses_first { (cs : List Condition) (i j : ℕ) → i < length cs → j < length cs
         → in_pause_chain cs i ≡ true → in_pause_chain cs j ≡ false → StandsBefore (pass_order cs) i j }
-{
-}
+{}

@@ -4,6 +4,8 @@
 mod laws;
 mod order;
 mod plan;
+#[cfg(test)]
+mod tests;
 
 pub use laws::pass_order_holds;
 pub use order::order_of;

@@ -32,18 +32,18 @@ module _ (f : Frame) where
   prev_of-is zero i p = absurd (omega (arith, p.earlier))
   prev_of-is (suc m) i p =
       elim (cases_eq m i) [
-        inl here ↦
-          let counts : hands_on (flag_at f.conditions m) ≡ false = ap (λ k. hands_on (flag_at f.conditions k)) here ∙ p.counts in
-          seen_counted m counts (p.chained m (omega (arith, here)) (omega arith)) ∙ ap (λ k. Some (settled_at f k)) here
-      | inr other ↦
-          let further : i < m = omega (arith, p.earlier) in
-          let before : IsPrev f.conditions m i = record {
-            earlier = further;
-            chained = λ k g l. p.chained k g (omega arith);
-            counts = p.counts;
-            nearest = λ k g l. p.nearest k g (omega arith);
-          } in
-          seen_handed m (p.nearest m further (omega arith)) ∙ prev_of-is m i before
+        | inl here ↦
+            let counts : hands_on (flag_at f.conditions m) ≡ false = ap (λ k. hands_on (flag_at f.conditions k)) here ∙ p.counts in
+            seen_counted m counts (p.chained m (omega (arith, here)) (omega arith)) ∙ ap (λ k. Some (settled_at f k)) here
+        | inr other ↦
+            let further : i < m = omega (arith, p.earlier) in
+            let before : IsPrev f.conditions m i = record {
+              earlier = further;
+              chained = λ k g l. p.chained k g (omega arith);
+              counts = p.counts;
+              nearest = λ k g l. p.nearest k g (omega arith);
+            } in
+            seen_handed m (p.nearest m further (omega arith)) ∙ prev_of-is m i before
       ]
 
   -- and without one it sees nothing
@@ -55,13 +55,13 @@ module _ (f : Frame) where
       one_more i p h = record {
         earlier = omega (arith, p.earlier);
         chained = λ k g l. elim (cases_eq k m) [
-          inl here ↦ combines_from_hands_on f.conditions k (ap (λ n. hands_on (flag_at f.conditions n)) here ∙ h)
-        | inr other ↦ p.chained k g (omega arith)
+          | inl here ↦ combines_from_hands_on f.conditions k (ap (λ n. hands_on (flag_at f.conditions n)) here ∙ h)
+          | inr other ↦ p.chained k g (omega arith)
         ];
         counts = p.counts;
         nearest = λ k g l. elim (cases_eq k m) [
-          inl here ↦ ap (λ n. hands_on (flag_at f.conditions n)) here ∙ h
-        | inr other ↦ p.nearest k g (omega arith)
+          | inl here ↦ ap (λ n. hands_on (flag_at f.conditions n)) here ∙ h
+          | inr other ↦ p.nearest k g (omega arith)
         ];
       }
 

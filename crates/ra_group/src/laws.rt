@@ -15,5 +15,4 @@ pub fn equations_hold()
     ensures after { (f : Frame) (j i : ℕ) → IsPrev f.conditions j i → HasEquationsAfter f j i }
     ensures first { (f : Frame) (j : ℕ) → ((i : ℕ) → ¬ (IsPrev f.conditions j i)) → HasEquationsFirst f j }
     ensures own { (f : Frame) (j : ℕ) → HasOwnEquations f j }
-{
-}
+{}

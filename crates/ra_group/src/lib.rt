@@ -8,6 +8,8 @@ mod outcome;
 mod pass;
 mod settled;
 mod tally;
+#[cfg(test)]
+mod tests;
 
 pub use form::Form;
 pub use laws::equations_hold;

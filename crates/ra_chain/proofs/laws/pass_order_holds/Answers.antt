@@ -11,8 +11,8 @@ use Rattle.ra_chain.proofs.laws.pass_order_holds.Goals as goal
 chain_end : (cs : List Condition) (j : ℕ) → in_pause_chain cs j ≡ true → EndsInPause cs j
 chain_end cs j h =
     elim (cases_lt (length cs) j) [
-      inl past ↦ absurd (true≢false (sym h ∙ in_pause_chain_past cs j (omega arith)))
-    | inr within ↦ end_from_pauses cs (length cs - j) j (omega arith) h
+      | inl past ↦ absurd (true≢false (sym h ∙ in_pause_chain_past cs j (omega arith)))
+      | inr within ↦ end_from_pauses cs (length cs - j) j (omega arith) h
     ]
 
 pub returns : goal.returns
