@@ -6,4 +6,5 @@ mod PausesLemmas
 mod TallyLemmas
 mod TurnLemmas
 mod Turns
+mod WordLemmas
 pub mod Vectors

@@ -3,3 +3,4 @@ pub mod Equations
 pub mod Laws
 pub mod Outcome
 pub mod Tallies
+pub mod Words

@@ -10,8 +10,10 @@ mod settled;
 mod tally;
 #[cfg(test)]
 mod tests;
+mod words;
 
 pub use form::Form;
 pub use laws::equations_hold;
 pub use outcome::Outcome;
 pub use pass::step;
+pub use words::put_words;
