@@ -107,8 +107,8 @@ fn offered(form: Form, condition: &Condition, settled: &Settled, left: u32) -> O
     }
 }
 
-// The larger number of those that are there.
-fn larger(a: Option<u32>, b: Option<u32>) -> Option<u32>
+/// The larger of two numbers, of those that are there.
+pub fn larger(a: Option<u32>, b: Option<u32>) -> Option<u32>
     ensures { result ≡ larger a b }
 {
     match (a, b) {
