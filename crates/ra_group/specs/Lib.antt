@@ -1,2 +1,7 @@
+pub mod Along
+pub mod Bounds
 pub mod Equations
+pub mod Laws
 pub mod Outcome
+pub mod Tallies
+pub mod Words

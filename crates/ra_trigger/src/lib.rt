@@ -2,7 +2,12 @@
 #![tactic(auto)]
 
 mod change;
+mod gathered;
 mod state;
+mod together;
+mod trigger;
+mod verdict;
 
 pub use change::Change;
 pub use state::State;
+pub use trigger::Trigger;
