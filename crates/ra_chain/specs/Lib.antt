@@ -1,2 +1,3 @@
 pub mod Elaboration
 pub mod Occurrence
+pub mod Laws

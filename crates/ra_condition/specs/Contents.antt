@@ -1,6 +1,8 @@
 -- What groups, triggers and values contain, without where it lies in memory. Other definitions speak of these.
 use Rattle.std.specs.Prelude.{ℕ, List, [], ◌∷◌, length, map, sum_by, slice_index_or}
-use Rattle.ra_operand.specs.declared.operand.Operand.TheVariants.{Const}
+use Rattle.ra_operand.specs.declared.kind.Kind.TheVariants.{Mem}
+use Rattle.ra_operand.specs.declared.size.Size.TheVariants.{Bit0}
+use Rattle.ra_operand.specs.declared.operand.Operand.TheVariants.{Cell}
 use Rattle.ra_operand.specs.declared.op.Op.TheVariants.{Bare}
 use Rattle.ra_condition.specs.declared.flag.Flag.{Flag}
 use Rattle.ra_condition.specs.declared.flag.Flag.TheVariants.{Plain}
@@ -12,9 +14,9 @@ use Rattle.ra_condition.specs.declared.part.Part.{Part}
 use Rattle.ra_condition.specs.declared.part.Part.TheVariants.{Terms, Conditions}
 use Rattle.ra_condition.specs.declared.value_text.ValueText.{ValueText}
 
--- no clause looks past the end of a group
+-- what stands past the end of a group, where no clause looks: each field's first value
 abbrev pub no_condition : Condition
-no_condition = record { flag = Plain; left = Const 0; op = Bare; right = Const 0; target = 0 }
+no_condition = record { flag = Plain; left = Cell Mem Bit0 0; op = Bare; right = Cell Mem Bit0 0; target = 0 }
 
 abbrev pub condition_at : List Condition → ℕ → Condition
 condition_at cs j = slice_index_or cs j no_condition

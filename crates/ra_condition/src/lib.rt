@@ -1,6 +1,7 @@
 //! Conditions, groups, triggers and values: what their texts spell.
 #![tactic(auto)]
 
+mod classes;
 mod condition;
 mod flag;
 mod group;

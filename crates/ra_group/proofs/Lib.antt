@@ -1,1 +1,10 @@
+mod BoundsLemmas
+mod Carried
+mod LawLemmas
+mod PassLemmas
+mod PausesLemmas
+mod TallyLemmas
+mod TurnLemmas
+mod Turns
+mod WordLemmas
 pub mod Vectors

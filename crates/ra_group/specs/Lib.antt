@@ -1,2 +1,6 @@
+pub mod Bounds
 pub mod Equations
+pub mod Laws
 pub mod Outcome
+pub mod Tallies
+pub mod Words

@@ -1,9 +1,19 @@
 //! One group at one frame: hits, and what the group says.
 #![tactic(auto)]
 
+mod equations;
 mod form;
+mod laws;
 mod outcome;
+mod pass;
 mod settled;
+mod tally;
+#[cfg(test)]
+mod tests;
+mod words;
 
 pub use form::Form;
+pub use laws::equations_hold;
 pub use outcome::Outcome;
+pub use pass::step;
+pub use words::put_words;

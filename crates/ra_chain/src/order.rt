@@ -1,0 +1,55 @@
+//! The order in which the conditions of a group pass.
+
+ghost use Rattle.std.specs.Prelude.{◌≡◌, ◌++◌, ◌^◌, ◌<◌, length, map, filter, false, slice_index_or, IfOk, OnOk};
+ghost use Rattle.std.specs.List.{range_with_len};
+ghost use Rattle.std.specs.Bool.{beq};
+ghost use Rattle.ra_condition.specs.Contents.{group_contents};
+ghost use Rattle.ra_condition.specs.Chains.{in_pause_chain, places, pass_order};
+
+use ra_condition::{Condition, Group};
+use ra_text::OutOfMemory;
+use std::alloc::Global;
+
+/// The pass order of a group, as places in its text: docs/DEFINITIONS.md, "Chains and pass order".
+pub fn order_of(alloc: Global, group: &Group) -> Result<Vec<u32>, OutOfMemory>
+    requires { length (group_contents group.now) < 2 ^ 32 }
+    ensures { IfOk result (λ order. order.items ≡ pass_order (group_contents group.now)) }
+{
+    let pausing = pausing_of(alloc, &group.conditions)?;
+    let mut order = Vec::new(alloc);
+    push_places(&mut order, &pausing, true)?;
+    push_places(&mut order, &pausing, false)?;
+    Ok(order)
+}
+
+// Whether each condition stands in a pause chain. A chain is known by its last condition.
+fn pausing_of(alloc: Global, conditions: &[Condition]) -> Result<Vec<bool>, OutOfMemory>
+    ensures { IfOk result (λ marks.
+        marks.items ≡ map (in_pause_chain conditions.now) (places conditions.now)) }
+{
+    let mut marks = vec![in alloc; false; conditions.len()]?;
+    let mut pauses = false;
+    for place in (0..conditions.len()).rev() {
+        let flag = conditions[place].flag;
+        if !flag.combines() {
+            pauses = flag.is_pause();
+        }
+        marks[place] = pauses;
+    }
+    Ok(marks)
+}
+
+// Adds the places that are marked so, in text order.
+fn push_places(order: &mut Vec<u32>, marks: &[bool], marked: bool) -> Result<(), OutOfMemory>
+    requires { length marks.now < 2 ^ 32 }
+    ensures { OnOk result (order.new.items
+        ≡ order.old.items
+        ++ filter (λ j. beq (slice_index_or marks.now j false) marked) (range_with_len 0 (length marks.now))) }
+{
+    for (place, mark) in marks.iter().enumerate() {
+        if *mark == marked {
+            order.push(place as u32)?;
+        }
+    }
+    Ok(())
+}

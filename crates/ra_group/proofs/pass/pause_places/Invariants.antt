@@ -1,0 +1,6 @@
+use Rattle.ra_group.proofs.PausesLemmas.{EndsPauses}
+use Rattle.ra_group.proofs.pass.pause_places.Given as goal
+
+-- the last PauseIf so far
+abbrev pub invariant-loop-turn : goal.invariant-loop-turn
+invariant-loop-turn l = EndsPauses l.conditions l.order l.turn l.pauses

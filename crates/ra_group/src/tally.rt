@@ -1,0 +1,129 @@
+//! What the conditions visited so far say together.
+
+ghost use Rattle.std.specs.Prelude.{◌≡◌};
+ghost use Rattle.ra_group.specs.Outcome.{from_total, number_of, larger, option_if};
+ghost use Rattle.ra_group.specs.Tallies.{noted, no_tally, outcome_by, offered};
+
+use crate::form::Form;
+use crate::outcome::Outcome;
+use crate::settled::Settled;
+use ra_condition::Condition;
+use ra_operand::Op;
+
+/// What the conditions visited so far say together.
+#[derive(Drop)]
+pub struct Tally {
+    pub paused: bool,
+    pub reset: bool,
+    pub valid: bool,
+    pub primed: bool,
+    pub counting: bool,
+    pub greatest: Option<u32>,
+    pub from_hits: bool,
+}
+
+impl Tally {
+    /// Before the first condition.
+    pub fn new() -> Self
+        ensures { result ≡ no_tally }
+    {
+        Tally {
+            paused: false,
+            reset: false,
+            valid: true,
+            primed: true,
+            counting: true,
+            greatest: None,
+            from_hits: false,
+        }
+    }
+
+    /// Takes one condition more.
+    pub fn note(&mut self, form: Form, condition: &Condition, settled: &Settled, left: u32)
+        ensures { self.new ≡ noted form condition.now settled.now left self.old }
+    {
+        let flag = condition.flag;
+        let valid = settled.valid;
+        self.paused |= flag.is_pause() & valid;
+        self.reset |= flag.is_reset() & valid;
+        self.valid &= !flag.is_required() | valid;
+        self.primed &= !flag.is_wanted() | valid;
+        self.counting &= !flag.is_measured_if() | valid;
+        self.greatest = larger(self.greatest, offered(form, condition, settled, left));
+        self.from_hits |= flag.is_measured() & is_from_total(form, condition);
+    }
+
+    /// The outcome of the group, once all conditions are noted.
+    pub fn outcome(&self) -> Outcome
+        ensures { result ≡ outcome_by self.now }
+    {
+        let counts = !self.paused && !self.reset;
+        Outcome {
+            paused: self.paused,
+            valid: counts && self.valid,
+            primed: counts && self.primed,
+            reset: !self.paused && self.reset,
+            measured: if self.paused {
+                None
+            } else {
+                counted(self.counting, self.greatest)
+            },
+            from_hits: self.from_hits,
+        }
+    }
+}
+
+// Whether a measured condition takes its number from its total.
+fn is_from_total(form: Form, condition: &Condition) -> bool
+    ensures { result ≡ from_total form condition.now }
+{
+    match form {
+        Form::InTrigger => condition.target != 0,
+        Form::InValue => !matches!(condition.op, Op::Bare),
+    }
+}
+
+// The number of a measured condition.
+fn number(form: Form, condition: &Condition, total: u32, left: u32) -> u32
+    ensures { result ≡ number_of form condition.now total left }
+{
+    if !is_from_total(form, condition) {
+        left
+    } else if condition.target == 0 {
+        total
+    } else {
+        total.min(condition.target)
+    }
+}
+
+// The number that the condition offers, if it is measured.
+fn offered(form: Form, condition: &Condition, settled: &Settled, left: u32) -> Option<u32>
+    ensures { result ≡ offered form condition.now settled.now left }
+{
+    if condition.flag.is_measured() {
+        Some(number(form, condition, settled.total, left))
+    } else {
+        None
+    }
+}
+
+// The larger number of those that are there.
+fn larger(a: Option<u32>, b: Option<u32>) -> Option<u32>
+    ensures { result ≡ larger a b }
+{
+    match (a, b) {
+        (Some(a), Some(b)) => Some(a.max(b)),
+        (Some(a), None) => Some(a),
+        (None, b) => b,
+    }
+}
+
+// The greatest number, or 0 where a MeasuredIf is not valid.
+fn counted(counting: bool, greatest: Option<u32>) -> Option<u32>
+    ensures { result ≡ option_if counting greatest }
+{
+    match greatest {
+        Some(number) => Some(if counting { number } else { 0 }),
+        None => None,
+    }
+}
