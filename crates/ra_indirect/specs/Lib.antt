@@ -1,2 +1,3 @@
+pub mod Interned
 pub mod Pools
 pub mod Trees

@@ -2,5 +2,9 @@
 #![tactic(auto)]
 
 mod node;
+mod pool;
+#[cfg(test)]
+mod tests;
 
 pub use node::Node;
+pub use pool::Pool;

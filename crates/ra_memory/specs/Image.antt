@@ -1,5 +1,5 @@
 -- Images, and the history of a run. An image is a list of bytes.
-use Rattle.std.specs.Prelude.{ℕ, zero, suc, ◌+◌, ◌*◌, ◌<◌, List, ◌++◌, length, take, drop, slice_index}
+use Rattle.std.specs.Prelude.{◌≡◌, ◌⊎◌, ℕ, zero, suc, ◌+◌, ◌*◌, ◌<◌, List, ◌++◌, length, take, drop, slice_index}
 use Rattle.std.specs.List.{AllByRecursion}
 
 -- the images of the frames that lie behind, the newest first, so that `image ∷ history` is the history
@@ -11,6 +11,10 @@ History = List (List ℕ)
 abbrev pub raw : ℕ → List ℕ → ℕ → ℕ
 raw zero image at = 0
 raw (suc width) image at = slice_index image at + 256 * raw width image (suc at)
+
+-- how many bytes are read at a time
+abbrev pub IsReadWidth : ℕ → Type 0
+IsReadWidth width = (width ≡ 1) ⊎ ((width ≡ 2) ⊎ (width ≡ 4))
 
 -- an image after a write that fits
 abbrev pub written : List ℕ → ℕ → List ℕ → List ℕ

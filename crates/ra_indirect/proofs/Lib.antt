@@ -1,0 +1,4 @@
+pub mod Positions
+pub mod PoolLemmas
+pub mod Spelling
+pub mod SpelledLemmas

@@ -1,0 +1,83 @@
+-- A pool that grows by a node stays a pool.
+use Rattle.std.proofs.Common.{arith, ◌≡◌, ◌≢◌, ap, sym, subst, ◌∙◌, refl, ℕ, zero, suc, ◌+◌, ◌<◌, ◌≤◌, length, take, List, [], ◌∷◌, ◌++◌, inl, inr, ◌⊎◌, slice_get, Some, get_or, length-append}
+use Rattle.std.proofs.lemmas.Bool.{cases_lt}
+use Rattle.std.proofs.lemmas.List.{get_or_append_left, take-append-le}
+use Rattle.std.proofs.lemmas.List.Elements.{Contains-get_or}
+use Rattle.std.proofs.Math.Seq.{get_or-append_seam, take-append_seam}
+use Rattle.std.specs.List.{Contains}
+use Rattle.ra_indirect.specs.declared.node.Node.{Node}
+use Rattle.ra_indirect.specs.declared.node.Node.TheVariants.{Const, Cell as CellNode, View, Arith}
+use Rattle.ra_indirect.specs.Pools.{MayFollow, node_at, IsValued, IsCellOf}
+use Rattle.ra_indirect.specs.Interned.{IsPool, Interns}
+
+-- a number below one more is below, or it is the last
+pub below_or_last : (k n : ℕ) → k < n + 1 → (k < n) ⊎ (k ≡ n)
+below_or_last k n within = elim (cases_lt k n) [ inl below ↦ inl below | inr above ↦ inr (omega arith) ]
+
+-- the nodes of numbers below the length are the same in both lists
+abbrev pub SameBelow : ℕ → List Node → List Node → Type 0
+SameBelow n nodes nodes' = (k : ℕ) → k < n → node_at nodes' k ≡ node_at nodes k
+
+-- what a node may name, it may name after more nodes
+pub MayFollow-more : (nodes nodes' : List Node) (node : Node) → length nodes ≤ length nodes' → SameBelow (length nodes) nodes nodes' → MayFollow nodes node → MayFollow nodes' node
+MayFollow-more nodes nodes' (Const n) longer same may = tt
+MayFollow-more nodes nodes' (CellNode pointer offset width) longer same may =
+    (omega (arith, may.0), subst IsValued (sym (same pointer may.0)) may.1, may.2)
+MayFollow-more nodes nodes' (View kind size c) longer same may =
+    (omega (arith, may.0), subst (IsCellOf _) (sym (same c may.0)) may.1)
+MayFollow-more nodes nodes' (Arith op left right) longer same may =
+    (omega (arith, may.0), subst IsValued (sym (same left may.0)) may.1, omega (arith, may.2), subst IsValued (sym (same right may.2)) may.3, may.4)
+
+pub node_at-append : (nodes more : List Node) (k : ℕ) → k < length nodes → node_at (nodes ++ more) k ≡ node_at nodes k
+node_at-append nodes more k below = get_or_append_left nodes more (Const 0) k below
+
+pub MayFollow-append : (nodes more : List Node) (node : Node) → MayFollow nodes node → MayFollow (nodes ++ more) node
+MayFollow-append nodes more node may =
+    MayFollow-more nodes (nodes ++ more) node (omega (arith, length-append nodes more)) (node_at-append nodes more) may
+
+module _ (nodes : List Node) (node : Node) (pool : IsPool nodes) (may : MayFollow nodes node) (absent : Contains nodes node → ⊥) where
+  named_by : (k : ℕ) → (k < length nodes) ⊎ (k ≡ length nodes) → MayFollow (take k (nodes ++ node ∷ [])) (node_at (nodes ++ node ∷ []) k)
+  named_by k (inl below) =
+      subst (λ ns. MayFollow ns (node_at (nodes ++ node ∷ []) k)) (sym (take-append-le k nodes (node ∷ []) (omega arith)))
+      (subst (MayFollow (take k nodes)) (sym (node_at-append nodes (node ∷ []) k below)) (pool.named k below))
+  named_by k (inr last) =
+      subst (λ n. MayFollow (take n (nodes ++ node ∷ [])) (node_at (nodes ++ node ∷ []) n)) (sym last)
+      (subst (λ ns. MayFollow ns (node_at (nodes ++ node ∷ []) (length nodes))) (sym (take-append_seam nodes (node ∷ [])))
+      (subst (MayFollow nodes) (sym (get_or-append_seam nodes node [] (Const 0))) may))
+
+  once_by : (i k : ℕ) → i < k → (k < length nodes) ⊎ (k ≡ length nodes) → node_at (nodes ++ node ∷ []) i ≢ node_at (nodes ++ node ∷ []) k
+  once_by i k less (inl below) same =
+      pool.once i k less below
+      (sym (node_at-append nodes (node ∷ []) i (omega arith)) ∙ same ∙ node_at-append nodes (node ∷ []) k below)
+  once_by i k less (inr last) same =
+      absent
+      (subst (Contains nodes)
+      (sym (node_at-append nodes (node ∷ []) i (omega arith)) ∙ same ∙ ap (node_at (nodes ++ node ∷ [])) last ∙ get_or-append_seam nodes node [] (Const 0))
+      (Contains-get_or nodes i (Const 0) (omega arith)))
+
+  pub IsPool-push : IsPool (nodes ++ node ∷ [])
+  IsPool-push = record {
+    named = λ k within. named_by k (below_or_last k (length nodes) (omega (arith, within, length-append nodes (node ∷ []))));
+    once = λ i k less within. once_by i k less (below_or_last k (length nodes) (omega (arith, within, length-append nodes (node ∷ []))));
+  }
+
+-- what an insert does to a list of nodes: nothing, or a new node goes last
+abbrev pub Inserted : List Node → List Node → Node → ℕ → Type 0
+Inserted old new node place =
+    (new ≡ old) ⊎ ((Contains old node → ⊥) × (place ≡ length old) × (new ≡ old ++ node ∷ []))
+
+pub Interns-inserted : (old new : List Node) (node : Node) (place : ℕ) → slice_get new place ≡ Some node → Inserted old new node place → Interns old new node place
+Interns-inserted old new node place here (inl same) =
+    inl (record { stands = subst (λ ns. slice_get ns place ≡ Some node) same here; same = same })
+Interns-inserted old new node place here (inr new_one) =
+    inr (record { absent = new_one.0; last = new_one.1; grown = new_one.2 })
+
+pub IsPool-inserted : (old new : List Node) (node : Node) (place : ℕ) → IsPool old → MayFollow old node → Inserted old new node place → IsPool new
+IsPool-inserted old new node place pool may (inl same) = subst IsPool (sym same) pool
+IsPool-inserted old new node place pool may (inr new_one) =
+    subst IsPool (sym new_one.2) (IsPool-push old node pool may new_one.0)
+
+pub length-inserted : (old new : List Node) (node : Node) (place : ℕ) → Inserted old new node place → length new ≤ length old + 1
+length-inserted old new node place (inl same) = omega (arith, ap length same)
+length-inserted old new node place (inr new_one) =
+    omega (arith, ap length new_one.2, length-append old (node ∷ []))

@@ -1,0 +1,76 @@
+ghost use Rattle.std.specs.Prelude.{◌≡◌, ◌==◌, ◌<◌, ◌≤◌, ◌^◌, [], length, slice_get, Some, IfOk, OnErr};
+
+use crate::node::Node;
+use indexmap::IndexSet;
+use ra_text::OutOfMemory;
+use std::alloc::Global;
+use std::marker::Model;
+
+/// Nodes that each name earlier ones, and none of them twice:
+/// docs/DEFINITIONS.md, "Trees, cells and tracked masks".
+#[derive(Drop)]
+pub struct Pool {
+    nodes: IndexSet<Node>,
+}
+
+impl Model for Pool {
+    ghost use Rattle.std.specs.Prelude.{List, ◌≤◌, ◌^◌, length};
+    ghost use Rattle.ra_indirect.specs.declared.node.Node.{Node};
+    ghost use Rattle.ra_indirect.specs.Interned.{IsPool};
+
+    ghost Value = { List Node };
+
+    ghost view = { λ p. p.nodes.keys };
+
+    ghost invariant = { λ p. IsPool p.nodes.keys × (length p.nodes.keys ≤ 2 ^ 31) };
+}
+
+impl Pool {
+    ghost use Rattle.ra_indirect.specs.Pools.{MayFollow};
+    ghost use Rattle.ra_indirect.specs.Interned.{IsPool, Interns, IsAlone};
+
+    /// A pool without nodes. It takes no memory yet.
+    pub fn new(alloc: Global) -> Pool
+        ensures { result ≡ [] }
+    {
+        Pool {
+            nodes: IndexSet::new(alloc),
+        }
+    }
+
+    /// How many nodes there are.
+    pub fn len(&self) -> u32
+        ensures len { result ≡ length self.now }
+        ensures most { result ≤ 2 ^ 31 }
+        ensures pool { IsPool self.now }
+    {
+        self.nodes.len() as u32
+    }
+
+    /// Whether there are no nodes.
+    pub fn is_empty(&self) -> bool
+        ensures { result ≡ (length self.now == 0) }
+    {
+        self.nodes.is_empty()
+    }
+
+    /// The node of a number. No other node spells the same tree or cell.
+    pub fn node(&self, number: u32) -> Node
+        requires { number < length self.now }
+        ensures node { slice_get self.now number ≡ Some result }
+        ensures alone { IsAlone self.now number }
+    {
+        self.nodes.as_slice()[number as usize]
+    }
+
+    /// The number of the node, which goes last where it is new.
+    pub fn intern(&mut self, node: Node) -> Result<u32, OutOfMemory>
+        requires follows { MayFollow self.old node }
+        requires room { length self.old < 2 ^ 31 }
+        ensures ok { IfOk result (Interns self.old self.new node) }
+        ensures err { OnErr result (self.new ≡ self.old) }
+    {
+        let (place, _) = self.nodes.insert_full(node)?;
+        Ok(place as u32)
+    }
+}

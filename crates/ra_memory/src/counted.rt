@@ -1,0 +1,23 @@
+use crate::image::Image;
+use crate::memory::Memory;
+use crate::steps::Steps;
+use std::sync::ledger::Ledger;
+
+/// A memory whose reads are steps: docs/DEFINITIONS.md, "Images and histories".
+#[derive(Drop)]
+pub struct Counted<'a, L: Ledger> {
+    pub memory: &'a Memory,
+    pub steps: &'a mut Steps<L>,
+}
+
+impl<'a, L: Ledger> Image for Counted<'a, L> {
+    ghost bytes = { λ c. c.memory.now };
+
+    ghost reads = { λ c. c.steps.now };
+
+    ghost counter = { λ c. c.steps.ghost_name };
+
+    fn read(&mut self, at: u32, width: u8) -> u32 {
+        self.memory.read(at, width, self.steps)
+    }
+}
