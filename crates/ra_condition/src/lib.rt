@@ -4,8 +4,11 @@
 mod comparison;
 mod condition;
 mod conditions;
+mod fault;
 mod flag;
 mod group;
+mod groups;
+mod parse;
 mod part;
 mod refused;
 mod setting;
@@ -16,8 +19,11 @@ mod trigger_text;
 mod value_text;
 
 pub use condition::Condition;
+pub use fault::Fault;
 pub use flag::Flag;
 pub use group::Group;
+pub use groups::take_trigger;
+pub use parse::{one_trigger, parse_trigger, read_trigger};
 pub use part::{Part, Term};
 pub use refused::Refused;
 pub use setting::Setting;

@@ -53,7 +53,10 @@ pub fn operator_of(byte: u8) -> Option<Op>
 pub fn is_handed_on(flag: Flag) -> bool
     ensures { result ≡ hands_on flag }
 {
-    matches!(flag, Flag::AddSource | Flag::SubSource | Flag::AddAddress | Flag::Remember)
+    matches!(
+        flag,
+        Flag::AddSource | Flag::SubSource | Flag::AddAddress | Flag::Remember
+    )
 }
 
 // Whether a condition of the flag may stand without an operator, though it hands no value on.

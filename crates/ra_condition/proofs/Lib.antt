@@ -1,0 +1,4 @@
+pub mod TailReaders
+pub mod ConditionReaders
+pub mod GroupReaders
+pub mod Faults
