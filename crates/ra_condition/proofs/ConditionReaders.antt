@@ -123,7 +123,7 @@ no-colon (c ∷ rest) e = decided (only (codes ":") c) e where
   decided (Some v) e = absurd (cc e)
   decided None e = refl
 
-flagged-needs_colon : (setting : Setting) (c : ℕ) (rest : List ℕ) → In flag_keys c → begins (is_in (only (codes ":"))) rest ≡ false → flagged_at setting (c ∷ rest) ≡ Err rest
+pub flagged-needs_colon : (setting : Setting) (c : ℕ) (rest : List ℕ) → In flag_keys c → begins (is_in (only (codes ":"))) rest ≡ false → flagged_at setting (c ∷ rest) ≡ Err rest
 unfolding flagged_at
 flagged-needs_colon setting c rest here absent =
     let flag : (v : Flag) × (one_at (lookup flags) (c ∷ rest) ≡ Ok (v, rest)) = one-listed flags c rest here in
@@ -135,7 +135,7 @@ colon-first : (rest : List ℕ) → begins (is_in (only (codes ":"))) rest ≡ t
 colon-first [] e = absurd (cc e)
 colon-first (c ∷ rest) e = (rest, ap (λ x. x ∷ rest) (each-in (λ x. x ≡ 58) (codes ":") (refl, tt) c (is_in-in (marks (codes ":")) c e)))
 
-operand-no_colon : (c : ℕ) (rest : List ℕ) → In (keys_of kinds) c → begins (is_in (only (codes ":"))) rest ≡ true → operand_at (c ∷ rest) ≡ Err rest
+pub operand-no_colon : (c : ℕ) (rest : List ℕ) → In (keys_of kinds) c → begins (is_in (only (codes ":"))) rest ≡ true → operand_at (c ∷ rest) ≡ Err rest
 unfolding operand_at cell_or_constant_at memory_at
 operand-no_colon c rest here colon = let s : (s : List ℕ) × (rest ≡ 58 ∷ s) = colon-first rest colon in
     rw s.1 (each-in (λ c. operand_at (c ∷ 58 ∷ s.0) ≡ Err (58 ∷ s.0)) (keys_of kinds) (refl, (refl, (refl, (refl, (refl, (refl, (refl, tt))))))) c here)

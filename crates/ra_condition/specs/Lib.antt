@@ -5,3 +5,5 @@ pub mod Flags
 pub mod Grammar
 pub mod Reading
 pub mod Refusals
+pub mod ReadingValues
+pub mod Values
