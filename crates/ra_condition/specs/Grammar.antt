@@ -2,7 +2,6 @@
 use Rattle.std.specs.Prelude.{ℕ, Bool, true, false, List, [], ◌∷◌, ◌++◌, codes}
 use Rattle.ra_operand.specs.declared.op.Op.{Op}
 use Rattle.ra_operand.specs.declared.op.Op.TheVariants.{Bare, Eq, Ne, Lt, Le, Gt, Ge, Mul, Div, And, Xor, Rem, Add, Sub}
-use Rattle.ra_operand.specs.declared.operand.Operand.{Operand}
 use Rattle.ra_operand.specs.declared.operand.Operand.TheVariants.{Const}
 use Rattle.ra_operand.specs.Grammar.{operand}
 use Rattle.ra_condition.specs.declared.condition.Condition.{Condition}
@@ -14,7 +13,7 @@ use Rattle.ra_condition.specs.declared.tail.Tail.{Tail}
 use Rattle.ra_condition.specs.Contents.{TriggerContents}
 use Rattle.ra_condition.specs.Flags.{hands_on, is_measured}
 use Rattle.ra_text.specs.Chain.{joined}
-use Rattle.ra_text.specs.Form.{Form, Spell, One, Then, ◌>>=◌, ◌or◌, optional}
+use Rattle.ra_text.specs.Form.{Form, Spell, One, ◌>>=◌, ◌or◌, optional}
 use Rattle.ra_text.specs.Number.{decimal}
 use Rattle.ra_text.specs.Table.{lookup, letters, bytes_for, only, only_letters}
 

@@ -48,7 +48,11 @@ fn take_less(cursor: &mut Cursor<'_>) -> Result<Op, Stop>
     ensures { Moves result cursor.new.rest.now (less_at cursor.old.rest.now) }
 {
     cursor.byte(b'<')?;
-    if cursor.skip(b'=') { Ok(Op::Le) } else { Ok(Op::Lt) }
+    if cursor.skip(b'=') {
+        Ok(Op::Le)
+    } else {
+        Ok(Op::Lt)
+    }
 }
 
 // ">" | ">="
@@ -57,5 +61,9 @@ fn take_greater(cursor: &mut Cursor<'_>) -> Result<Op, Stop>
     ensures { Moves result cursor.new.rest.now (greater_at cursor.old.rest.now) }
 {
     cursor.byte(b'>')?;
-    if cursor.skip(b'=') { Ok(Op::Ge) } else { Ok(Op::Gt) }
+    if cursor.skip(b'=') {
+        Ok(Op::Ge)
+    } else {
+        Ok(Op::Gt)
+    }
 }

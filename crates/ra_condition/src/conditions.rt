@@ -20,7 +20,11 @@ use ra_text::{Cursor, Stop};
 pub fn take_condition(cursor: &mut Cursor<'_>, setting: Setting) -> Result<Condition, Stop>
     ensures { Moves result cursor.new.rest.now (condition_at setting cursor.old.rest.now) }
 {
-    if is_flag(cursor.rest) { take_flagged(cursor, setting) } else { take_unflagged(cursor, setting, Flag::Plain) }
+    if is_flag(cursor.rest) {
+        take_flagged(cursor, setting)
+    } else {
+        take_unflagged(cursor, setting, Flag::Plain)
+    }
 }
 
 // flag ":" and what stands behind it
@@ -40,7 +44,13 @@ fn take_unflagged(cursor: &mut Cursor<'_>, setting: Setting, flag: Flag) -> Resu
 {
     let left = take_operand(cursor)?;
     let tail = take_tail(cursor, is_handed_on(flag), may_stand_bare(setting, flag))?;
-    Ok(Condition { flag, left, op: tail.op, right: tail.right, target: tail.target })
+    Ok(Condition {
+        flag,
+        left,
+        op: tail.op,
+        right: tail.right,
+        target: tail.target,
+    })
 }
 
 // The letter of a flag.
@@ -63,7 +73,8 @@ pub fn is_flag(text: &[u8]) -> bool
     match text {
         [] => false,
         [byte, after @ ..] => {
-            flag_of(*byte).is_some() && (Cursor { rest: after }.is_at(b':') || kind_of(*byte).is_none())
+            flag_of(*byte).is_some()
+                && (Cursor { rest: after }.is_at(b':') || kind_of(*byte).is_none())
         }
     }
 }

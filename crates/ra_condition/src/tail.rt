@@ -17,6 +17,10 @@ impl Tail {
     pub fn nothing() -> Tail
         ensures { result ≡ bare }
     {
-        Tail { op: Op::Bare, right: Operand::Const(0), target: 0 }
+        Tail {
+            op: Op::Bare,
+            right: Operand::Const(0),
+            target: 0,
+        }
     }
 }

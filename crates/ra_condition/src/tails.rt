@@ -45,7 +45,11 @@ fn take_modified(cursor: &mut Cursor<'_>) -> Result<Tail, Stop>
 fn take_compared_or_bare(cursor: &mut Cursor<'_>) -> Result<Tail, Stop>
     ensures { Moves result cursor.new.rest.now (compared_or_bare_at cursor.old.rest.now) }
 {
-    if is_comparison(cursor.rest) { take_compared(cursor) } else { Ok(Tail::nothing()) }
+    if is_comparison(cursor.rest) {
+        take_compared(cursor)
+    } else {
+        Ok(Tail::nothing())
+    }
 }
 
 // cmp operand [target]
@@ -76,7 +80,11 @@ fn take_computed(cursor: &mut Cursor<'_>) -> Result<Tail, Stop>
     let op = take_operator(cursor)?;
     let right = take_operand(cursor)?;
     take_target(cursor)?;
-    Ok(Tail { op, right, target: 0 })
+    Ok(Tail {
+        op,
+        right,
+        target: 0,
+    })
 }
 
 // arith
