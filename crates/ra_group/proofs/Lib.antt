@@ -1,3 +1,4 @@
+pub mod AlongLemmas
 mod BoundsLemmas
 mod Carried
 mod LawLemmas
