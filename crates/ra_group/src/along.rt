@@ -4,11 +4,10 @@ ghost use Rattle.ra_condition.specs.Chains.{pass_order};
 ghost use Rattle.ra_group.specs.Outcome.{outcome_of, next_hits};
 ghost use Rattle.ra_group.specs.Along.{frame_at, with_part};
 
-use ra_condition::Group;
-
 use crate::form::Form;
 use crate::outcome::Outcome;
 use crate::pass::step;
+use ra_condition::Group;
 
 /// Steps a group as `step` does, where the slices run over several groups and the entries of this
 /// one start at `start`.
@@ -32,7 +31,7 @@ pub fn step_at(
         ≡ outcome_of form (frame_at (group_contents group.now) truths.now lefts.now hits.old start) }
     ensures next { hits.new
         ≡ with_part hits.old start
-            (next_hits (frame_at (group_contents group.now) truths.now lefts.now hits.old start)) }
+        (next_hits (frame_at (group_contents group.now) truths.now lefts.now hits.old start)) }
 {
     let end = start + group.conditions.len();
     step(

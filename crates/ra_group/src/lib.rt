@@ -18,5 +18,5 @@ pub use form::Form;
 pub use laws::equations_hold;
 pub use outcome::Outcome;
 pub use pass::step;
-pub use tally::larger;
+pub use tally::{counts_hits, larger};
 pub use words::put_words;

@@ -1,13 +1,15 @@
 //! What the conditions visited so far say together.
 
 ghost use Rattle.std.specs.Prelude.{◌≡◌};
+ghost use Rattle.ra_condition.specs.Contents.{group_contents};
+ghost use Rattle.ra_group.specs.Counting.{counts_hits};
 ghost use Rattle.ra_group.specs.Outcome.{from_total, number_of, larger, option_if};
 ghost use Rattle.ra_group.specs.Tallies.{noted, no_tally, outcome_by, offered};
 
 use crate::form::Form;
 use crate::outcome::Outcome;
 use crate::settled::Settled;
-use ra_condition::Condition;
+use ra_condition::{Condition, Group};
 use ra_operand::Op;
 
 /// What the conditions visited so far say together.
@@ -71,6 +73,14 @@ impl Tally {
             from_hits: self.from_hits,
         }
     }
+}
+
+/// Whether some measured number of the group comes from hits, whatever the frame.
+pub fn counts_hits(group: &Group, form: Form) -> bool
+    ensures { result ≡ counts_hits form (group_contents group.now) }
+{
+    group.conditions.iter().any(|condition| condition.flag.is_measured()
+        && is_from_total(form, condition))
 }
 
 // Whether a measured condition takes its number from its total.

@@ -1,2 +1,3 @@
 mod GatherLemmas
 mod GroupsLemmas
+mod OrdersLemmas

@@ -4,6 +4,8 @@
 mod change;
 mod gathered;
 mod state;
+#[cfg(test)]
+mod tests;
 mod together;
 mod trigger;
 mod verdict;

@@ -11,7 +11,7 @@ ghost use Rattle.ra_trigger.specs.Gathering.{verdict_of};
 use crate::gathered::Gathered;
 use crate::verdict::Verdict;
 use ra_condition::{Group, TriggerText};
-use ra_group::{Form, step};
+use ra_group::{Form, step_at};
 
 /// Steps all groups, the core first, and says what they say together. The slices run over the
 /// conditions of all groups.
@@ -32,28 +32,13 @@ pub fn step_groups(
     ensures next { hits.new
         ≡ (together (trigger_contents text.now) truths.now lefts.now hits.old).hits }
 {
-    let mut start = text.core.conditions.len();
-    let core = step(
-        &text.core,
-        Form::InTrigger,
-        &orders[..start],
-        &truths[..start],
-        &lefts[..start],
-        &mut hits[..start],
-    );
+    let core = step_at(&text.core, Form::InTrigger, 0, orders, truths, lefts, hits);
     let mut gathered = Gathered::new(core, has_trigger(&text.core));
+    let mut start = text.core.conditions.len();
     for alt in &text.alts {
-        let end = start + alt.conditions.len();
-        let outcome = step(
-            alt,
-            Form::InTrigger,
-            &orders[start..end],
-            &truths[start..end],
-            &lefts[start..end],
-            &mut hits[start..end],
-        );
+        let outcome = step_at(alt, Form::InTrigger, start, orders, truths, lefts, hits);
         gathered.add(&outcome, has_trigger(alt));
-        start = end;
+        start += alt.conditions.len();
     }
     gathered.verdict()
 }

@@ -64,6 +64,7 @@ impl Trigger {
         requires hits { length self.old.hits ≡ trigger_hits (trigger_contents text.now) }
 
         ensures kept { self.new ≡ step (trigger_contents text.now) truths.now lefts.now self.old }
+        ensures count { length self.new.hits ≡ length self.old.hits }
         ensures change { result ≡ change_between self.old self.new }
     {
         let before = self.state;
@@ -95,5 +96,68 @@ impl Trigger {
                 Some(self.measured)
             },
         }
+    }
+
+    /// Steps a trigger without states by a frame, and says whether it is true.
+    ///
+    /// The slices are those of `step`. State and measured number stay.
+    pub fn truth(
+        &mut self,
+        text: &TriggerText,
+        orders: &[u32],
+        truths: &[bool],
+        lefts: &[u32],
+    ) -> bool
+        requires orders { orders.now ≡ orders_of (trigger_contents text.now) }
+        requires truths { length truths.now ≡ trigger_hits (trigger_contents text.now) }
+        requires lefts { length lefts.now ≡ trigger_hits (trigger_contents text.now) }
+        requires hits { length self.old.hits ≡ trigger_hits (trigger_contents text.now) }
+
+        ensures truth { result ≡ truth (trigger_contents text.now) truths.now lefts.now self.old.hits }
+        ensures kept { self.new ≡ record self.old {
+          hits = hits_after_truth (trigger_contents text.now) truths.now lefts.now self.old.hits;
+        } }
+        ensures count { length self.new.hits ≡ length self.old.hits }
+    {
+        let now = step_groups(text, orders, truths, lefts, &mut self.hits);
+        if now.reset {
+            self.hits.fill(0);
+        }
+        now.valid
+    }
+
+    pub fn state(&self) -> State
+        ensures { result ≡ self.now.state }
+    {
+        self.state
+    }
+
+    /// The measured number.
+    pub fn measured(&self) -> u32
+        ensures { result ≡ self.now.measured }
+    {
+        self.measured
+    }
+
+    /// The hits of the conditions of all groups, the core first.
+    pub fn hits(&self) -> &[u32]
+        ensures { result.now ≡ self.now.hits }
+    {
+        &self.hits
+    }
+
+    /// Takes back what a progress file keeps: `hits` has four little-endian bytes for each
+    /// condition.
+    pub fn put_back(&mut self, state: State, measured: u32, hits: &[u8])
+        requires { length hits.now ≡ 4 * length self.old.hits }
+        ensures { self.new ≡ record {
+          state = state;
+          measured = measured;
+          hits = words_at hits.now 0 (length self.old.hits);
+        } }
+    {
+        self.state = state;
+        self.measured = measured;
+        put_words(&mut self.hits, hits);
     }
 }
