@@ -1,2 +1,12 @@
 //! The memory reference table: each cell is read once a frame, and delta and prior are kept.
+//!
+//! A table holds no image. Its caller does, and tells it which bytes were written.
 #![tactic(auto)]
+
+mod layout;
+mod numbers;
+mod pass;
+mod table;
+mod words;
+
+pub use table::Table;
