@@ -1,24 +1,22 @@
 -- The cells and the tracked masks of a pool, node by node.
-use Rattle.std.proofs.Common.{◌≡◌, Bool, true, false, ℕ, zero, suc, ◌+◌, ◌-◌, ◌<◌, ◌≤◌, List, [], ◌∷◌, ◌++◌, length, take, drop, get_or, refl, ap, sym, subst, ◌∙◌, arith, length-append, slice_get, Some, inl, inr}
+use Rattle.std.proofs.Common.{◌≡◌, Bool, true, false, ℕ, zero, suc, ◌+◌, ◌<◌, ◌≤◌, List, [], ◌∷◌, ◌++◌, length, take, drop, get_or, refl, ap, sym, ◌∙◌, arith, length-append}
 use Rattle.std.specs.List.{flat_map}
-use Rattle.std.proofs.lemmas.List.{append-nil, take-append-drop, take-append-le, length-take, length-take-le, get_or_append_left}
+use Rattle.std.proofs.lemmas.List.{append-nil}
 use Rattle.std.proofs.lemmas.List.Concat.{flat_map-append, get_or-flat_map}
-use Rattle.std.proofs.Math.Seq.{take-suc, take-length, get_or-append_seam}
+use Rattle.std.proofs.Math.Seq.{take-suc, take-length}
 use Rattle.std.proofs.lemmas.Bool.{false≢true}
-use Rattle.std.proofs.lemmas.Option.{get_or_from_slice_get}
 use Rattle.ra_operand.specs.declared.size.Size.{Size}
 use Rattle.ra_operand.specs.declared.kind.Kind.{Kind}
 use Rattle.ra_operand.specs.declared.kind.Kind.TheVariants.{Mem, Delta, Prior, Bcd, Inverted}
 use Rattle.ra_operand.specs.Views.{width_of, mask_of}
 use Rattle.ra_indirect.specs.declared.node.Node.{Node}
-use Rattle.ra_indirect.specs.Trees.{Tree, constant, Cell, cell_of, Tracked, same_tracked, firsts}
-use Rattle.ra_indirect.specs.Pools.{Spelled, IsTree, IsCell, spelled_at, spelled_by, cell_in, tracked_at, view_in, cells_of, tracked_of, node_at}
-use Rattle.ra_indirect.specs.Interned.{Interns}
+use Rattle.ra_indirect.specs.Trees.{constant, Cell, cell_of, Tracked, same_tracked, firsts}
+use Rattle.ra_indirect.specs.Pools.{Spelled, IsTree, IsCell, spelled_at, spelled_by, cell_in, tracked_at, view_in, cells_of, tracked_of}
 use Rattle.ra_indirect.proofs.Spelling.{length-spelled_by}
 use Rattle.ra_indirect.proofs.FirstsLemmas.{firsts-append}
-use Rattle.ra_indirect.proofs.SpelledLemmas.{GivesCell, GivesTree}
+use Rattle.ra_indirect.proofs.SpelledLemmas.{GivesCell}
 use Rattle.ra_memref.specs.Table.{no_cell}
-use Rattle.ra_memref.specs.Layout.{cells_before, tracked_before, cell_there, tracked_there}
+use Rattle.ra_memref.specs.Layout.{cells_before, tracked_before, cell_there}
 
 -- a list's front of m stands at the front of its front of n
 pub take_front : {X : Type 0} (xs : List X) (m n : ℕ) → m ≤ n → take n xs ≡ take m xs ++ drop m (take n xs)

@@ -1,5 +1,5 @@
 -- What a layout has when so many nodes have taken their slots.
-use Rattle.std.proofs.Common.{◌≡◌, ℕ, zero, suc, ◌+◌, ◌<◌, ◌≤◌, List, [], ◌∷◌, ◌++◌, length, map, take, get_or, refl, ap, sym, subst, ◌∙◌, ◌⊎◌, inl, inr, arith, length-append, slice_get, Some}
+use Rattle.std.proofs.Common.{◌≡◌, ℕ, suc, ◌+◌, ◌<◌, ◌≤◌, List, [], ◌∷◌, ◌++◌, length, map, take, get_or, refl, ap, sym, subst, ◌∙◌, ◌⊎◌, inl, inr, arith, length-append, slice_get, Some}
 use Rattle.std.specs.List.{flat_map, Contains}
 use Rattle.std.specs.Option.{option_map}
 use Rattle.std.proofs.lemmas.List.{map-append, length-map, get_or-map, get_or_append_left}
@@ -7,7 +7,6 @@ use Rattle.std.proofs.lemmas.List.Elements.{Contains-get_or, Contains-push_cases
 use Rattle.std.proofs.lemmas.Option.{slice_get-map}
 use Rattle.std.proofs.Math.Seq.{get_or-append_seam}
 use Rattle.ra_operand.specs.declared.size.Size.{Size}
-use Rattle.ra_operand.specs.declared.kind.Kind.{Kind}
 use Rattle.ra_operand.specs.declared.kind.Kind.TheVariants.{Mem, Delta, Prior, Bcd, Inverted}
 use Rattle.ra_operand.specs.Views.{width_of, mask_of}
 use Rattle.ra_indirect.specs.declared.node.Node.{Node}

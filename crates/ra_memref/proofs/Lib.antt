@@ -4,7 +4,9 @@ pub mod Latest
 pub mod LaidLemmas
 pub mod LayoutLemmas
 pub mod MarkLemmas
+pub mod PassEnds
 pub mod PassLemmas
+pub mod Passed
 pub mod PriorLemmas
 pub mod TableLemmas
 pub mod Vectors

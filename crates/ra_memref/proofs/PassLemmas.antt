@@ -1,82 +1,31 @@
--- A pass over the nodes of a pool, in order: what stands when so many are done.
-use Rattle.std.proofs.Common.{◌≡◌, ◌≢◌, ℕ, zero, suc, ◌+◌, ◌<◌, ◌≤◌, List, [], ◌∷◌, ◌++◌, length, take, map, get_or, set, refl, ap, ap₂, sym, subst, ◌∙◌, ◌⊎◌, inl, inr, arith, bit_and, Some, slice_get, length-append, IsTrue}
-use Rattle.std.proofs.lemmas.List.{get_or-map, length-map, length-take, get_or-set_same, get_or-set_other}
-use Rattle.std.proofs.Math.ListN.{length-set}
+-- A pass over the nodes of a pool, in order: one node more takes up the frame.
+use Rattle.std.proofs.Common.{◌≡◌, ℕ, suc, ◌+◌, ◌<◌, ◌≤◌, List, [], ◌∷◌, length, take, map, get_or, set, refl, ap, ap₂, sym, subst, ◌∙◌, ◌⊎◌, inl, inr, arith, length-append}
+use Rattle.std.proofs.lemmas.List.{get_or-map, length-take, get_or-set_same, get_or-set_other}
 use Rattle.std.proofs.lemmas.Bool.{cases_eq}
-use Rattle.std.proofs.lemmas.Grind.{same_number_lists}
 use Rattle.std.proofs.lemmas.Option.{get_or_from_slice_get, slice_get_within}
 use Rattle.std.proofs.Math.Seq.{get_or-append_seam}
 use Rattle.ra_operand.specs.declared.size.Size.{Size}
 use Rattle.ra_operand.specs.declared.kind.Kind.{Kind}
 use Rattle.ra_operand.specs.declared.kind.Kind.TheVariants.{Mem, Delta, Prior, Bcd, Inverted}
-use Rattle.ra_operand.specs.declared.op.Op.{Op}
 use Rattle.ra_operand.specs.Views.{width_of, mask_of, view_of, transformed}
 use Rattle.ra_operand.specs.Operators.{computed}
 use Rattle.ra_memory.specs.Image.{History, raw}
 use Rattle.ra_indirect.specs.declared.node.Node.{Node}
 use Rattle.ra_indirect.specs.declared.node.Node.TheVariants.{Const, Cell as CellNode, View, Arith}
-use Rattle.ra_indirect.specs.Trees.{Tree, constant, Cell, cell_of, Tracked}
-use Rattle.ra_indirect.specs.Pools.{Spelled, IsTree, IsCell, tree_in, view_in, cell_in, tracked_at, spelled_at, spelled_with, spelled_by, node_at, MayFollow, IsValued, IsCellOf, cells_of, tracked_of}
+use Rattle.ra_indirect.specs.Trees.{Cell, Tracked}
+use Rattle.ra_indirect.specs.Pools.{Spelled, tree_in, cell_in, tracked_at, spelled_at, spelled_with, spelled_by, node_at, MayFollow, IsValued, IsCellOf, cells_of, tracked_of}
 use Rattle.ra_indirect.specs.Interned.{Interns, IsPool}
 use Rattle.ra_indirect.proofs.Spelling.{spelled_of, length-spelled_by}
-use Rattle.ra_indirect.proofs.SpelledLemmas.{GivesCell, GivesTree, may_follow, names_below, NamesBelow, tree_at_valued, cell_at_cell}
+use Rattle.ra_indirect.proofs.SpelledLemmas.{may_follow, names_below, NamesBelow, tree_at_valued, cell_at_cell}
 use Rattle.ra_memref.specs.declared.numbers.Numbers.{Numbers}
-use Rattle.ra_memref.specs.Values.{Start, before, looked_at, moved_by, masked_by, value_of, cell_number, cell_place, tracked_number}
-use Rattle.ra_memref.specs.Table.{AreKept, no_cell, spelled_value}
+use Rattle.ra_memref.specs.Values.{Start, looked_at, moved_by, masked_by, value_of, cell_number, cell_place, tracked_number}
+use Rattle.ra_memref.specs.Table.{no_cell, spelled_value}
 use Rattle.ra_memref.specs.Layout.{cells_before, tracked_before, cell_there, tracked_there, HasSlot, IsLaid}
-use Rattle.ra_memref.specs.Pass.{prior_after, value_at, earlier_at, place_in, number_in, prior_in, looked_in, value_after, cells_after, earlier_after, places_after, priors_after, reads_at, IsWithin, IsSizedFor, TakesFrame}
-use Rattle.ra_memref.proofs.Halfway.{IsDone, IsHalfway, done_none, halfway_none, done_all, halfway_all, done_more, halfway_more, halfway_again}
-use Rattle.ra_memref.proofs.LaidLemmas.{cells_one, cells_same, tracked_same, cells_grow, tracked_grow, tracked_front, cell_stands, cells_all, tracked_all, cell_of_there, none_tracked, is_cell_there}
+use Rattle.ra_memref.specs.Pass.{prior_after, place_in, number_in, prior_in, looked_in, value_after, reads_at, IsWithin, IsSizedFor}
+use Rattle.ra_memref.proofs.Halfway.{IsDone, IsHalfway, done_more, halfway_more, halfway_again}
+use Rattle.ra_memref.proofs.LaidLemmas.{cells_one, cells_same, tracked_same, cells_grow, tracked_grow, tracked_front, cell_stands, cells_all, tracked_all, none_tracked, is_cell_there}
 use Rattle.ra_memref.proofs.PriorLemmas.{tracked_number-more, prior_after-again}
-
--- the numbers of the cells and of the tracked masks after a history, and the cells' places
-abbrev pub numbers_after : List Node → Start → History → List ℕ
-numbers_after nodes start history = map (λ c. cell_number start c history) (cells_of nodes)
-
-abbrev pub kept_priors : List Node → Start → History → List ℕ
-kept_priors nodes start history = map (λ t. tracked_number start t history) (tracked_of nodes)
-
-abbrev pub places_at : List Node → Start → History → List ℕ
-places_at nodes start history = map (λ c. cell_place start c history) (cells_of nodes)
-
--- how many cells and tracked masks the nodes below k have
-abbrev pub cell_count : List Node → ℕ → ℕ
-cell_count nodes k = length (cells_before (spelled_by nodes) k)
-
-abbrev pub tracked_count : List Node → ℕ → ℕ
-tracked_count nodes k = length (tracked_before (spelled_by nodes) k)
-
--- the nodes below k have taken up the frame
-pub record IsPassed (nodes : List Node) (start : Start) (history : History) (image : List ℕ) (k : ℕ) (numbers : Numbers) : Type 0 where
-  pub cells : IsHalfway (numbers_after nodes start history) (numbers_after nodes start (image ∷ history)) (cell_count nodes k) numbers.cells.items
-  pub earlier : IsDone (numbers_after nodes start history) (cell_count nodes k) numbers.earlier.items
-  pub places : IsDone (places_at nodes start (image ∷ history)) (cell_count nodes k) numbers.places.items
-  pub priors : IsHalfway (kept_priors nodes start history) (kept_priors nodes start (image ∷ history)) (tracked_count nodes k) numbers.priors.items
-  pub values : (n : ℕ) → n < k → get_or numbers.values.items n 0 ≡ spelled_value start (image ∷ history) (spelled_at (spelled_by nodes) n)
-
--- the node of number k has taken up the frame
-pub record TakesNode (node : Node) (slots image : List ℕ) (k : ℕ) (old new : Numbers) : Type 0 where
-  pub values : new.values.items ≡ set old.values.items k (value_after node old image slots k)
-  pub cells : new.cells.items ≡ cells_after node old image (get_or slots k 0)
-  pub earlier : new.earlier.items ≡ earlier_after node old (get_or slots k 0)
-  pub places : new.places.items ≡ places_after node old (get_or slots k 0)
-  pub priors : new.priors.items ≡ priors_after node old slots k
-
--- what a tree and what a cell gives
-value_of_tree : (start : Start) (history : History) (a : Spelled) → GivesTree a → spelled_value start history a ≡ value_of start (tree_in a) history
-value_of_tree start history (IsTree x) gives = refl
-value_of_tree start history (IsCell c) gives = absurd gives
-
-number_of_cell : (start : Start) (history : History) (width : ℕ) (a : Spelled) → GivesCell width a → spelled_value start history a ≡ cell_number start (cell_there a) history
-number_of_cell start history width (IsTree x) gives = absurd gives
-number_of_cell start history width (IsCell c) gives = refl
-
--- the value of a view, by its cell
-view_value : (start : Start) (image : List ℕ) (history : History) (kind : Kind) (size : Size) (a : Spelled) → GivesCell (width_of size) a → spelled_value start (image ∷ history) (IsTree (view_in kind size a)) ≡ transformed kind size (view_of size (looked_at kind (cell_number start (cell_there a)) (masked_by (mask_of size) (cell_number start (cell_there a))) (start.prior (record { cell = cell_there a; mask = mask_of size })) (image ∷ history)))
-view_value start image history kind size (IsTree x) gives = absurd gives
-view_value start image history kind size (IsCell c) gives =
-    ap (λ d. transformed kind size (view_of size (looked_at kind (cell_number start d) (masked_by (mask_of size) (cell_number start d)) (start.prior (record { cell = d; mask = mask_of size })) (image ∷ history))))
-    (cell_of_there size (IsCell c) gives)
+use Rattle.ra_memref.proofs.Passed.{numbers_after, kept_priors, places_at, cell_count, tracked_count, IsPassed, TakesNode, value_of_tree, number_of_cell, view_value}
 
 module _ (nodes : List Node) (pool : IsPool nodes) (slots : List ℕ) (laid : IsLaid nodes slots) where
   abbrev spelled : List Spelled
@@ -393,73 +342,3 @@ module _ (nodes : List Node) (pool : IsPool nodes) (slots : List ℕ) (laid : Is
               let value = value_is node below may has ∙ ap (spelled_value start here) (sym is) in
               passed_by node (sym same) is below may has takes
               (λ n early. values_by (value_after node old image slots k) takes.values value n early (either n k))
-
--- the lists keep their lengths
-pub sized_more : (nodes : List Node) (node : Node) (slots image : List ℕ) (k : ℕ) (old new : Numbers) → IsSizedFor nodes old → TakesNode node slots image k old new → IsSizedFor nodes new
-sized_more nodes node slots image k old new sized takes = record {
-  cells = ap length takes.cells ∙ cells_length node ∙ sized.cells;
-  earlier = ap length takes.earlier ∙ earlier_length node ∙ sized.earlier;
-  places = ap length takes.places ∙ places_length node ∙ sized.places;
-  priors = ap length takes.priors ∙ priors_length node ∙ sized.priors;
-  values = ap length takes.values ∙ length-set old.values.items k (value_after node old image slots k) ∙ sized.values;
-}
-  where
-    cells_length : (node : Node) → length (cells_after node old image (get_or slots k 0)) ≡ length old.cells.items
-    cells_length (Const n) = refl
-    cells_length (CellNode pointer offset width) = length-set old.cells.items (get_or slots k 0) (number_in old image pointer offset width)
-    cells_length (View kind size c) = refl
-    cells_length (Arith op left right) = refl
-
-    earlier_length : (node : Node) → length (earlier_after node old (get_or slots k 0)) ≡ length old.earlier.items
-    earlier_length (Const n) = refl
-    earlier_length (CellNode pointer offset width) = length-set old.earlier.items (get_or slots k 0) (get_or old.cells.items (get_or slots k 0) 0)
-    earlier_length (View kind size c) = refl
-    earlier_length (Arith op left right) = refl
-
-    places_length : (node : Node) → length (places_after node old (get_or slots k 0)) ≡ length old.places.items
-    places_length (Const n) = refl
-    places_length (CellNode pointer offset width) = length-set old.places.items (get_or slots k 0) (place_in old pointer offset)
-    places_length (View kind size c) = refl
-    places_length (Arith op left right) = refl
-
-    priors_length : (node : Node) → length (priors_after node old slots k) ≡ length old.priors.items
-    priors_length (Const n) = refl
-    priors_length (CellNode pointer offset width) = refl
-    priors_length (View Prior size c) = length-set old.priors.items (get_or slots k 0) (prior_in old (mask_of size) (get_or slots k 0) (get_or slots c 0) c)
-    priors_length (View Mem size c) = refl
-    priors_length (View Delta size c) = refl
-    priors_length (View Bcd size c) = refl
-    priors_length (View Inverted size c) = refl
-    priors_length (Arith op left right) = refl
-
--- no node is done at the start
-pub passed_none : (nodes : List Node) (start : Start) (history : History) (image : List ℕ) (numbers : Numbers) → AreKept start history nodes numbers.cells.items numbers.priors.items → IsPassed nodes start history image 0 numbers
-passed_none nodes start history image numbers kept = record {
-  cells = subst (IsHalfway (numbers_after nodes start history) (numbers_after nodes start (image ∷ history)) 0) (sym kept.numbers) (halfway_none (numbers_after nodes start history) (numbers_after nodes start (image ∷ history)));
-  earlier = done_none (numbers_after nodes start history) numbers.earlier.items;
-  places = done_none (places_at nodes start (image ∷ history)) numbers.places.items;
-  priors = subst (IsHalfway (kept_priors nodes start history) (kept_priors nodes start (image ∷ history)) 0) (sym kept.priors_too) (halfway_none (kept_priors nodes start history) (kept_priors nodes start (image ∷ history)));
-  values = λ n below. absurd (omega arith);
-}
-
-module _ (nodes : List Node) (start : Start) (history : History) (image : List ℕ) (numbers : Numbers) (sized : IsSizedFor nodes numbers) (passed : IsPassed nodes start history image (length nodes) numbers) where
-  -- all nodes are done at the end
-  pub kept_all : AreKept start (image ∷ history) nodes numbers.cells.items numbers.priors.items
-  kept_all =
-      let cells : length (numbers_after nodes start (image ∷ history)) ≡ length (cells_of nodes) = length-map (cells_of nodes) (λ c. cell_number start c (image ∷ history)) in
-      let priors : length (kept_priors nodes start (image ∷ history)) ≡ length (tracked_of nodes) = length-map (tracked_of nodes) (λ t. tracked_number start t (image ∷ history)) in
-      record {
-        numbers = halfway_all (numbers_after nodes start history) (numbers_after nodes start (image ∷ history)) numbers.cells.items (omega (arith, cells, sized.cells)) (subst (λ j. IsHalfway (numbers_after nodes start history) (numbers_after nodes start (image ∷ history)) j numbers.cells.items) (ap length (cells_all nodes) ∙ sym cells) passed.cells);
-        priors_too = halfway_all (kept_priors nodes start history) (kept_priors nodes start (image ∷ history)) numbers.priors.items (omega (arith, priors, sized.priors)) (subst (λ j. IsHalfway (kept_priors nodes start history) (kept_priors nodes start (image ∷ history)) j numbers.priors.items) (ap length (tracked_all nodes) ∙ sym priors) passed.priors);
-      }
-
-  pub values_all : numbers.values.items ≡ map (spelled_value start (image ∷ history)) (spelled_by nodes)
-  values_all =
-      let all : length (map (spelled_value start (image ∷ history)) (spelled_by nodes)) ≡ length nodes = length-map (spelled_by nodes) (spelled_value start (image ∷ history)) ∙ length-spelled_by nodes in
-      same_number_lists numbers.values.items (map (spelled_value start (image ∷ history)) (spelled_by nodes)) (omega (arith, all, sized.values))
-      (λ n below. passed.values n (omega (arith, sized.values)) ∙ sym (get_or-map (spelled_value start (image ∷ history)) (spelled_by nodes) n (IsTree (constant 0)) 0 (omega (arith, sized.values, length-spelled_by nodes))))
-
-  pub places_all : numbers.places.items ≡ map (λ c. cell_place start c (image ∷ history)) (cells_of nodes)
-  places_all =
-      let places : length (places_at nodes start (image ∷ history)) ≡ length (cells_of nodes) = length-map (cells_of nodes) (λ c. cell_place start c (image ∷ history)) in
-      done_all (places_at nodes start (image ∷ history)) numbers.places.items (omega (arith, places, sized.places)) (subst (λ j. IsDone (places_at nodes start (image ∷ history)) j numbers.places.items) (ap length (cells_all nodes) ∙ sym places) passed.places)

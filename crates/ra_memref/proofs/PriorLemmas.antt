@@ -1,5 +1,5 @@
 -- A prior after one frame more, from the prior and the two numbers of its cell.
-use Rattle.std.proofs.Common.{◌≡◌, ℕ, ◌==◌, Bool, true, false, not, if◌then◌else◌, cond, Option, Some, [], ◌∷◌, refl, ap, ◌∙◌, bit_and, List}
+use Rattle.std.proofs.Common.{◌≡◌, ℕ, ◌==◌, Bool, true, false, not, if◌then◌else◌, cond, Option, Some, ◌∷◌, refl, bit_and, List}
 use Rattle.ra_memory.specs.Image.{History}
 use Rattle.ra_indirect.specs.Trees.{Tracked}
 use Rattle.ra_memref.specs.Values.{Start, latest, changes, before_change, prior_of, cell_number, tracked_number, masked_by}

@@ -1,8 +1,8 @@
 -- A table of which each cell is marked: a write that is told changes nothing.
-use Rattle.std.proofs.Common.{◌≡◌, ℕ, List, length, true, refl, sym}
+use Rattle.std.proofs.Common.{ℕ, length, refl, sym}
 use Rattle.ra_indirect.specs.Pools.{cells_of}
 use Rattle.ra_memref.specs.declared.table.Table.TheInside.{Inside}
-use Rattle.ra_memref.specs.Table.{TableSeen, IsTold}
+use Rattle.ra_memref.specs.Table.{IsTold}
 use Rattle.ra_memref.specs.Seen.{table_seen, IsTable}
 use Rattle.ra_memref.proofs.MarkLemmas.{marks_after-all, never_unmarked}
 

@@ -1,11 +1,11 @@
 -- Where a table keeps the number of each cell and of each tracked mask.
-use Rattle.std.specs.Prelude.{◌≡◌, ℕ, suc, ◌+◌, ◌<◌, List, [], ◌∷◌, ◌++◌, length, take, slice_index}
+use Rattle.std.specs.Prelude.{◌≡◌, ℕ, suc, ◌<◌, List, [], ◌∷◌, ◌++◌, length, take, slice_index}
 use Rattle.std.specs.List.{flat_map}
 use Rattle.ra_operand.specs.declared.size.Size.{Size}
 use Rattle.ra_operand.specs.declared.kind.Kind.TheVariants.{Prior}
 use Rattle.ra_operand.specs.Views.{mask_of}
 use Rattle.ra_indirect.specs.declared.node.Node.{Node}
-use Rattle.ra_indirect.specs.declared.node.Node.TheVariants.{Const, Cell as CellNode, View, Arith}
+use Rattle.ra_indirect.specs.declared.node.Node.TheVariants.{Cell as CellNode, View}
 use Rattle.ra_indirect.specs.Trees.{Cell, Tracked, same_tracked, firsts}
 use Rattle.ra_indirect.specs.Pools.{Spelled, IsTree, IsCell, spelled_at, spelled_by, cell_in, tracked_at, node_at}
 use Rattle.ra_indirect.specs.Interned.{Interns}

@@ -1,5 +1,5 @@
 -- What a table is seen as, by its fields, and what its fields always have.
-use Rattle.std.specs.Prelude.{◌≡◌, ℕ, ◌^◌, ◌<◌, true, length, replicate}
+use Rattle.std.specs.Prelude.{◌^◌, ◌<◌, true, length, replicate}
 use Rattle.ra_indirect.specs.Pools.{cells_of}
 use Rattle.ra_indirect.specs.Interned.{IsPool}
 use Rattle.ra_memref.specs.declared.table.Table.TheInside.{Inside}

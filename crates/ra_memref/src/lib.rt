@@ -3,10 +3,12 @@
 //! A table holds no image. Its caller does, and tells it which bytes were written.
 #![tactic(auto)]
 
+mod laws;
 mod layout;
 mod numbers;
 mod pass;
 mod table;
 mod words;
 
+pub use laws::looking_back_holds;
 pub use table::Table;

@@ -1,10 +1,11 @@
-use Rattle.std.proofs.Common.{◌≡◌, ℕ, suc, ◌+◌, ap, sym, subst, ◌∙◌, refl, arith, length}
+use Rattle.std.proofs.Common.{◌≡◌, suc, ◌+◌, ap, subst, ◌∙◌, refl, arith, length}
 use Rattle.ra_memory.specs.Image.{History}
 use Rattle.ra_indirect.specs.Pools.{node_at}
 use Rattle.ra_memref.specs.Values.{Start}
 use Rattle.ra_memref.specs.Table.{AreKept}
-use Rattle.ra_memref.specs.Pass.{reads_at}
-use Rattle.ra_memref.proofs.PassLemmas.{IsPassed, TakesNode, cell_count, node_within, passed_none, passed_more, sized_more, reads_more, kept_all, values_all, places_all}
+use Rattle.ra_memref.proofs.Passed.{IsPassed, TakesNode, cell_count}
+use Rattle.ra_memref.proofs.PassEnds.{sized_more, kept_all, values_all, places_all}
+use Rattle.ra_memref.proofs.PassLemmas.{node_within, passed_more, reads_more}
 use Rattle.ra_memref.proofs.LaidLemmas.{cells_all}
 use Rattle.ra_memref.proofs.numbers.Numbers.take_frame.Goals as goal
 

@@ -3,7 +3,7 @@ use Rattle.ra_memory.specs.Image.{History}
 use Rattle.ra_memref.specs.Values.{Start}
 use Rattle.ra_memref.specs.Table.{AreKept}
 use Rattle.ra_memref.specs.Pass.{IsSizedFor}
-use Rattle.ra_memref.proofs.PassLemmas.{IsPassed, cell_count}
+use Rattle.ra_memref.proofs.Passed.{IsPassed, cell_count}
 use Rattle.ra_memref.proofs.numbers.Numbers.take_frame.Given as goal
 
 abbrev pub invariant-loop-number : goal.invariant-loop-number
