@@ -61,23 +61,12 @@ module _ (nodes : List Node) (node : Node) (pool : IsPool nodes) (may : MayFollo
     once = λ i k less within. once_by i k less (below_or_last k (length nodes) (omega (arith, within, length-append nodes (node ∷ []))));
   }
 
--- what an insert does to a list of nodes: nothing, or a new node goes last
-abbrev pub Inserted : List Node → List Node → Node → ℕ → Type 0
-Inserted old new node place =
-    (new ≡ old) ⊎ ((Contains old node → ⊥) × (place ≡ length old) × (new ≡ old ++ node ∷ []))
+pub IsPool-interned : (old new : List Node) (node : Node) (place : ℕ) → IsPool old → MayFollow old node → Interns old new node place → IsPool new
+IsPool-interned old new node place pool may (inl found) = subst IsPool (sym found.same) pool
+IsPool-interned old new node place pool may (inr fresh) =
+    subst IsPool (sym fresh.grown) (IsPool-push old node pool may fresh.absent)
 
-pub Interns-inserted : (old new : List Node) (node : Node) (place : ℕ) → slice_get new place ≡ Some node → Inserted old new node place → Interns old new node place
-Interns-inserted old new node place here (inl same) =
-    inl (record { stands = subst (λ ns. slice_get ns place ≡ Some node) same here; same = same })
-Interns-inserted old new node place here (inr new_one) =
-    inr (record { absent = new_one.0; last = new_one.1; grown = new_one.2 })
-
-pub IsPool-inserted : (old new : List Node) (node : Node) (place : ℕ) → IsPool old → MayFollow old node → Inserted old new node place → IsPool new
-IsPool-inserted old new node place pool may (inl same) = subst IsPool (sym same) pool
-IsPool-inserted old new node place pool may (inr new_one) =
-    subst IsPool (sym new_one.2) (IsPool-push old node pool may new_one.0)
-
-pub length-inserted : (old new : List Node) (node : Node) (place : ℕ) → Inserted old new node place → length new ≤ length old + 1
-length-inserted old new node place (inl same) = omega (arith, ap length same)
-length-inserted old new node place (inr new_one) =
-    omega (arith, ap length new_one.2, length-append old (node ∷ []))
+pub length-interned : {A : Type 0} (old new : List A) (item : A) (place : ℕ) → Interns old new item place → length new ≤ length old + 1
+length-interned old new item place (inl found) = omega (arith, ap length found.same)
+length-interned old new item place (inr fresh) =
+    omega (arith, ap length fresh.grown, length-append old (item ∷ []))

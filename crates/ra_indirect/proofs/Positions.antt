@@ -1,7 +1,8 @@
 -- Where a key stands in a set that keeps the order of insertion.
-use Rattle.std.proofs.Common.{arith, ◌≡◌, ap, sym, ◌∙◌, refl, ℕ, zero, suc, ◌+◌, ◌<◌, length, Bool, true, false, cond, not, List, [], ◌∷◌, ◌++◌, inl, inr, ◌⊎◌}
+use Rattle.std.proofs.Common.{arith, ◌≡◌, ap, sym, ◌∙◌, refl, ℕ, zero, suc, ◌+◌, ◌<◌, length, Bool, true, false, cond, not, List, [], ◌∷◌, ◌++◌, inl, inr, ◌⊎◌, subst, slice_get, Some}
 use Rattle.std.specs.List.{list_any, Contains, slice_index_or, position_or_len}
 use Rattle.indexmap.specs.IndexSet.{insert_key}
+use Rattle.ra_indirect.specs.Interned.{Interns}
 
 or_any : {X : Type 0} (test : X → Bool) (x : X) (xs : List X) (b : Bool) → test x ≡ b → list_any test xs ≡ true → list_any test (x ∷ xs) ≡ true
 or_any test x xs true passes any = rw passes refl
@@ -33,10 +34,13 @@ module _ {T : Type 0} (eq : T → T → Bool) (same : (x y : T) → eq x y ≡ t
       let found = any_at (eq k) k (itself k) old has.0 has.1 has.2 in
       absurd (cc)
 
-  -- the keys after an insert are the old ones, or a new key goes last
-  pub inserted : (old new : List T) (k : T) (i : ℕ) → new ≡ insert_key eq old k → i ≡ position_or_len (eq k) old → (new ≡ old) ⊎ ((Contains old k → ⊥) × (i ≡ length old) × (new ≡ old ++ k ∷ []))
-  inserted old new k i is place = by (list_any (eq k) old) refl
+  -- an insert finds the key, or the key is new and goes last
+  pub Interns-inserted : (old new : List T) (k : T) (i : ℕ) → new ≡ insert_key eq old k → i ≡ position_or_len (eq k) old → slice_get new i ≡ Some k → Interns old new k i
+  Interns-inserted old new k i is place here = by (list_any (eq k) old) refl
     where
-      by : (b : Bool) → list_any (eq k) old ≡ b → (new ≡ old) ⊎ ((Contains old k → ⊥) × (i ≡ length old) × (new ≡ old ++ k ∷ []))
-      by true any = inl (is ∙ rw any refl)
-      by false none = inr (absent_from old k none, place ∙ none_before (eq k) old none, is ∙ rw none refl)
+      by : (b : Bool) → list_any (eq k) old ≡ b → Interns old new k i
+      by true any =
+          let stays : new ≡ old = is ∙ rw any refl in
+          inl (record { stands = subst (λ ks. slice_get ks i ≡ Some k) stays here; same = stays })
+      by false none =
+          inr (record { absent = absent_from old k none; last = place ∙ none_before (eq k) old none; grown = is ∙ rw none refl })

@@ -8,20 +8,20 @@ pub record IsPool (nodes : List Node) : Type 0 where
   pub named : (k : ℕ) → k < length nodes → MayFollow (take k nodes) (node_at nodes k)
   pub once : (i k : ℕ) → i < k → k < length nodes → node_at nodes i ≢ node_at nodes k
 
--- the node stood at the place
-pub record IsFound (old new : List Node) (node : Node) (place : ℕ) : Type 0 where
-  pub stands : slice_get old place ≡ Some node
+-- the item stood at the place
+pub record IsFound {A : Type 0} (old new : List A) (item : A) (place : ℕ) : Type 0 where
+  pub stands : slice_get old place ≡ Some item
   pub same : new ≡ old
 
--- the node is new, and goes last
-pub record IsAdded (old new : List Node) (node : Node) (place : ℕ) : Type 0 where
-  pub absent : ¬ Contains old node
+-- the item is new, and goes last
+pub record IsAdded {A : Type 0} (old new : List A) (item : A) (place : ℕ) : Type 0 where
+  pub absent : ¬ Contains old item
   pub last : place ≡ length old
-  pub grown : new ≡ old ++ node ∷ []
+  pub grown : new ≡ old ++ item ∷ []
 
--- the node stands at the place, once
-abbrev pub Interns : List Node → List Node → Node → ℕ → Type 0
-Interns old new node place = IsFound old new node place ⊎ IsAdded old new node place
+-- the item stands at the place, where it stood, or last where it is new
+abbrev pub Interns : {A : Type 0} → List A → List A → A → ℕ → Type 0
+Interns old new item place = IsFound old new item place ⊎ IsAdded old new item place
 
 -- no other node of the pool spells what this one spells
 abbrev pub IsAlone : List Node → ℕ → Type 0

@@ -1,3 +1,13 @@
 pub mod Cuts
+pub mod Halfway
 pub mod Latest
+pub mod LaidLemmas
+pub mod LayoutLemmas
+pub mod MarkLemmas
+pub mod PassEnds
+pub mod PassLemmas
+pub mod Passed
+pub mod PriorLemmas
+pub mod TableLemmas
 pub mod Vectors
+pub mod WordLemmas

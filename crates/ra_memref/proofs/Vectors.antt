@@ -1,9 +1,9 @@
 -- Pools and marks, computed from the definitions.
-use Rattle.std.proofs.Common.{◌≡◌, ℕ, true, false, List, [], ◌∷◌, refl}
+use Rattle.std.proofs.Common.{◌≡◌, true, false, List, [], ◌∷◌, refl}
 use Rattle.ra_operand.specs.declared.kind.Kind.TheVariants.{Mem, Delta, Prior}
 use Rattle.ra_operand.specs.declared.size.Size.TheVariants.{Byte, Bit0, Count, Four}
 use Rattle.ra_indirect.specs.declared.node.Node.{Node}
-use Rattle.ra_indirect.specs.declared.node.Node.TheVariants.{Const, Cell as CellNode, View, Arith}
+use Rattle.ra_indirect.specs.declared.node.Node.TheVariants.{Const, Cell as CellNode, View}
 use Rattle.ra_indirect.specs.Trees.{constant, view}
 use Rattle.ra_indirect.specs.Pools.{spelled_by, IsTree, IsCell, cells_of, tracked_of}
 use Rattle.ra_memref.specs.Marks.{marks_after, reads_of}

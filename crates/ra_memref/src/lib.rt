@@ -1,2 +1,14 @@
 //! The memory reference table: each cell is read once a frame, and delta and prior are kept.
+//!
+//! A table holds no image. Its caller does, and tells it which bytes were written.
 #![tactic(auto)]
+
+mod laws;
+mod layout;
+mod numbers;
+mod pass;
+mod table;
+mod words;
+
+pub use laws::looking_back_holds;
+pub use table::Table;

@@ -2,8 +2,9 @@ use Rattle.std.proofs.Common.{◌≡◌, ℕ, ◌^◌, ◌<◌, ap, arith, rules
 use Rattle.ra_indirect.specs.declared.node.Node.{Node}
 use Rattle.ra_indirect.specs.contracts.node.NodePartialEq.TheImpl.{ghosts}
 use Rattle.ra_indirect.specs.Pools.{MayFollow}
-use Rattle.ra_indirect.proofs.Positions.{inserted}
-use Rattle.ra_indirect.proofs.PoolLemmas.{Inserted, IsPool-inserted, Interns-inserted, length-inserted}
+use Rattle.ra_indirect.specs.Interned.{Interns}
+use Rattle.ra_indirect.proofs.Positions.{Interns-inserted}
+use Rattle.ra_indirect.proofs.PoolLemmas.{IsPool-interned, length-interned}
 use Rattle.ra_indirect.proofs.pool.Pool.intern.Goals as goal
 
 same : (a b : Node) → ghosts.eq a b ≡ true → a ≡ b
@@ -15,16 +16,18 @@ itself a = search rules
 pub invariant_of-self-2 : goal.invariant_of-self-2
 invariant_of-self-2 c =
     let e = c.in_ok-place.ensures in
-    let inserts : Inserted c.self.inside.nodes.keys c.insert_full.new.self.keys c.args.node c.in_ok-place.place = inserted ghosts.eq same itself _ _ _ _ e.keys e.index in
+    let here = e.stored.1 ∙ ap Some (sym (same _ _ e.stored.2)) in
+    let inserts : Interns c.self.inside.nodes.keys c.insert_full.new.self.keys c.args.node c.in_ok-place.place = Interns-inserted ghosts.eq same itself _ _ _ _ e.keys e.index here in
     let room : length c.self.inside.nodes.keys < 2 ^ 31 = subst (λ ns. length ns < 2 ^ 31) (sym c.self.view_is) c.requires.room in
-    let grown = length-inserted _ _ _ _ inserts in (
-      IsPool-inserted _ _ _ _ c.self.invariant.0 (subst (λ ns. MayFollow ns c.args.node) (sym c.self.view_is) c.requires.follows) inserts,
-      omega arith,
+    let grown = length-interned _ _ _ _ inserts in
+    (
+    IsPool-interned _ _ _ _ c.self.invariant.0 (subst (λ ns. MayFollow ns c.args.node) (sym c.self.view_is) c.requires.follows) inserts,
+    omega arith
     )
 
 pub returns-clause-ok : goal.returns-clause-ok
 returns-clause-ok c =
     let e = c.in_ok-place.ensures in
-    let inserts : Inserted c.self.inside.nodes.keys c.insert_full.new.self.keys c.args.node c.in_ok-place.place = inserted ghosts.eq same itself _ _ _ _ e.keys e.index in
     let here = e.stored.1 ∙ ap Some (sym (same _ _ e.stored.2)) in
-    Interns-inserted _ _ _ _ here (subst (λ ns. Inserted ns c.insert_full.new.self.keys c.args.node c.in_ok-place.place) c.self.view_is inserts)
+    let inserts : Interns c.self.inside.nodes.keys c.insert_full.new.self.keys c.args.node c.in_ok-place.place = Interns-inserted ghosts.eq same itself _ _ _ _ e.keys e.index here in
+    subst (λ ns. Interns ns c.insert_full.new.self.keys c.args.node c.in_ok-place.place) c.self.view_is inserts

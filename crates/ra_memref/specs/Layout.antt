@@ -1,0 +1,49 @@
+-- Where a table keeps the number of each cell and of each tracked mask.
+use Rattle.std.specs.Prelude.{◌≡◌, ℕ, suc, ◌<◌, List, [], ◌∷◌, ◌++◌, length, take, slice_index}
+use Rattle.std.specs.List.{flat_map}
+use Rattle.ra_operand.specs.declared.size.Size.{Size}
+use Rattle.ra_operand.specs.declared.kind.Kind.TheVariants.{Prior}
+use Rattle.ra_operand.specs.Views.{mask_of}
+use Rattle.ra_indirect.specs.declared.node.Node.{Node}
+use Rattle.ra_indirect.specs.declared.node.Node.TheVariants.{Cell as CellNode, View}
+use Rattle.ra_indirect.specs.Trees.{Cell, Tracked, same_tracked, firsts}
+use Rattle.ra_indirect.specs.Pools.{Spelled, IsTree, IsCell, spelled_at, spelled_by, cell_in, tracked_at, node_at}
+use Rattle.ra_indirect.specs.Interned.{Interns}
+use Rattle.ra_memref.specs.declared.layout.TrackedMask.{TrackedMask}
+use Rattle.ra_memref.specs.Table.{no_cell}
+
+-- the cells and the tracked masks of so many nodes, in order of first occurrence
+abbrev pub cells_before : List Spelled → ℕ → List Cell
+cells_before spelled n = flat_map cell_in (take n spelled)
+
+abbrev pub tracked_before : List Spelled → ℕ → List Tracked
+tracked_before spelled n = firsts same_tracked (flat_map tracked_at (take n spelled))
+
+-- the cell that a node spells, if it is one
+abbrev pub cell_there : Spelled → Cell
+cell_there (IsCell c) = c
+cell_there (IsTree tree) = no_cell
+
+-- the mask that a prior view of a size tracks, of the cell that a node spells
+abbrev pub tracked_there : List Spelled → Size → ℕ → Tracked
+tracked_there spelled size c = record { cell = cell_there (spelled_at spelled c); mask = mask_of size }
+
+-- the slot of a node: a cell has the next one, and a prior view that of the mask that it tracks
+abbrev pub HasSlot : List Spelled → ℕ → Node → ℕ → Type 0
+HasSlot spelled n (CellNode pointer offset width) slot = slot ≡ length (cells_before spelled n)
+HasSlot spelled n (View Prior size c) slot =
+    Interns (tracked_before spelled n) (tracked_before spelled (suc n)) (tracked_there spelled size c) slot
+HasSlot spelled n _ slot = Unit {0}
+
+-- each node of the pool has its slot
+pub record IsLaid (nodes : List Node) (slots : List ℕ) : Type 0 where
+  pub as_many : length slots ≡ length nodes
+  pub each : (n : ℕ) → n < length nodes → HasSlot (spelled_by nodes) n (node_at nodes n) (slice_index slots n)
+
+-- a node takes a slot: a cell puts its address last, and a prior view interns its mask
+abbrev pub TakesSlot : Node → (places places' : List ℕ) → (masks masks' : List TrackedMask) → ℕ → Type 0
+TakesSlot (CellNode pointer offset width) places places' masks masks' slot =
+    (slot ≡ length places) × (places' ≡ places ++ offset ∷ []) × (masks' ≡ masks)
+TakesSlot (View Prior size c) places places' masks masks' slot =
+    (places' ≡ places) × Interns masks masks' (record { cell = c; mask = mask_of size }) slot
+TakesSlot _ places places' masks masks' slot = (places' ≡ places) × (masks' ≡ masks)
