@@ -1,2 +1,8 @@
 //! Values over frames: a number for each part, of which the greatest counts.
 #![tactic(auto)]
+
+mod greatest;
+mod parts;
+mod value;
+
+pub use value::Value;
