@@ -3,6 +3,8 @@
 
 mod greatest;
 mod parts;
+#[cfg(test)]
+mod tests;
 mod value;
 
 pub use value::Value;
