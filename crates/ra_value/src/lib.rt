@@ -1,2 +1,10 @@
 //! Values over frames: a number for each part, of which the greatest counts.
 #![tactic(auto)]
+
+mod greatest;
+mod parts;
+#[cfg(test)]
+mod tests;
+mod value;
+
+pub use value::Value;

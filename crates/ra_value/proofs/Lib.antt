@@ -1,0 +1,5 @@
+mod CountedLemmas
+mod GreatestLemmas
+mod OrdersLemmas
+mod PartsLemmas
+mod TurnLemmas
