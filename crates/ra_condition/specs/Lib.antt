@@ -1,3 +1,9 @@
 pub mod Chains
 pub mod Contents
+pub mod Fault
 pub mod Flags
+pub mod Grammar
+pub mod Reading
+pub mod Refusals
+pub mod ReadingValues
+pub mod Values

@@ -2,18 +2,36 @@
 #![tactic(auto)]
 
 mod classes;
+mod comparison;
 mod condition;
+mod conditions;
+mod fault;
 mod flag;
 mod group;
+mod groups;
+mod parse;
+mod parse_values;
 mod part;
 mod refused;
+mod setting;
+mod tables;
+mod tail;
+mod tails;
 mod trigger_text;
 mod value_text;
+mod values;
 
 pub use condition::Condition;
+pub use fault::Fault;
 pub use flag::Flag;
 pub use group::Group;
+pub use groups::take_trigger;
+pub use parse::{one_trigger, parse_trigger, read_trigger};
+pub use parse_values::{one_value, parse_value, read_value};
 pub use part::{Part, Term};
 pub use refused::Refused;
+pub use setting::Setting;
+pub use tail::Tail;
 pub use trigger_text::TriggerText;
 pub use value_text::ValueText;
+pub use values::take_value;

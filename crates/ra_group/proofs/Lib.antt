@@ -1,5 +1,7 @@
+pub mod AlongLemmas
 mod BoundsLemmas
 mod Carried
+pub mod CountingLemmas
 mod LawLemmas
 mod PassLemmas
 mod PausesLemmas

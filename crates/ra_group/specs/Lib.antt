@@ -1,4 +1,6 @@
+pub mod Along
 pub mod Bounds
+pub mod Counting
 pub mod Equations
 pub mod Laws
 pub mod Outcome

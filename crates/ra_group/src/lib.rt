@@ -1,6 +1,7 @@
 //! One group at one frame: hits, and what the group says.
 #![tactic(auto)]
 
+mod along;
 mod equations;
 mod form;
 mod laws;
@@ -12,8 +13,10 @@ mod tally;
 mod tests;
 mod words;
 
+pub use along::step_at;
 pub use form::Form;
 pub use laws::equations_hold;
 pub use outcome::Outcome;
 pub use pass::step;
+pub use tally::{counts_hits, larger};
 pub use words::put_words;

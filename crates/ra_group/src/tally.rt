@@ -1,13 +1,15 @@
 //! What the conditions visited so far say together.
 
 ghost use Rattle.std.specs.Prelude.{◌≡◌};
+ghost use Rattle.ra_condition.specs.Contents.{group_contents};
+ghost use Rattle.ra_group.specs.Counting.{counts_hits};
 ghost use Rattle.ra_group.specs.Outcome.{from_total, number_of, larger, option_if};
 ghost use Rattle.ra_group.specs.Tallies.{noted, no_tally, outcome_by, offered};
 
 use crate::form::Form;
 use crate::outcome::Outcome;
 use crate::settled::Settled;
-use ra_condition::Condition;
+use ra_condition::{Condition, Group};
 use ra_operand::Op;
 
 /// What the conditions visited so far say together.
@@ -73,6 +75,14 @@ impl Tally {
     }
 }
 
+/// Whether some measured number of the group comes from hits, whatever the frame.
+pub fn counts_hits(group: &Group, form: Form) -> bool
+    ensures { result ≡ counts_hits form (group_contents group.now) }
+{
+    group.conditions.iter().any(|condition| condition.flag.is_measured()
+        && is_from_total(form, condition))
+}
+
 // Whether a measured condition takes its number from its total.
 fn is_from_total(form: Form, condition: &Condition) -> bool
     ensures { result ≡ from_total form condition.now }
@@ -107,8 +117,8 @@ fn offered(form: Form, condition: &Condition, settled: &Settled, left: u32) -> O
     }
 }
 
-// The larger number of those that are there.
-fn larger(a: Option<u32>, b: Option<u32>) -> Option<u32>
+/// The larger of two numbers, of those that are there.
+pub fn larger(a: Option<u32>, b: Option<u32>) -> Option<u32>
     ensures { result ≡ larger a b }
 {
     match (a, b) {

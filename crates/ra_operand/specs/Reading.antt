@@ -52,3 +52,7 @@ cell_or_constant_at = choice_at begins_memory memory_at constant_at
 
 unfoldable pub operand_at : List ℕ → Outcome ℕ Operand
 operand_at = choice_at (begins (is_in (only (codes "{")))) recall_at cell_or_constant_at
+
+-- the bytes that operands begin with
+abbrev pub operand_starts : List ℕ
+operand_starts = codes "{~+-0123456789dDpPbBvVhH"

@@ -20,4 +20,5 @@ pub use parse::{one_operand, parse_operand};
 pub use print::{print_operand, write_operand};
 pub use reading::take_operand;
 pub use size::Size;
+pub use tables::{begins_operand, kind_of};
 pub use views::{mask, transform, view, width};

@@ -1,13 +1,26 @@
-//! The letters of kinds and sizes, in either case: docs/DEFINITIONS.md, "Operands".
+//! The bytes that begin operands, kinds and sizes: docs/DEFINITIONS.md, "Operands".
 
 ghost use Rattle.std.specs.Prelude.{◌≡◌};
 ghost use Rattle.ra_operand.specs.Grammar.{kinds, sizes};
-ghost use Rattle.ra_text.specs.Table.{lookup};
+ghost use Rattle.ra_operand.specs.Reading.{operand_starts};
+ghost use Rattle.ra_text.specs.Table.{is_in, lookup, only};
 
 use crate::kind::Kind;
 use crate::size::Size;
 
-// The kind of a prefix.
+/// Whether an operand may begin with the byte.
+pub fn begins_operand(byte: u8) -> bool
+    ensures { result ≡ is_in (only operand_starts) byte }
+{
+    match byte {
+        b'{' | b'~' | b'+' | b'-' | b'0'..=b'9' => true,
+        b'd' | b'D' | b'p' | b'P' | b'b' | b'B' => true,
+        b'v' | b'V' | b'h' | b'H' => true,
+        _ => false,
+    }
+}
+
+/// The kind of a prefix, in either case.
 pub fn kind_of(byte: u8) -> Option<Kind>
     ensures { result ≡ lookup kinds byte }
 {
@@ -20,7 +33,7 @@ pub fn kind_of(byte: u8) -> Option<Kind>
     }
 }
 
-// The size of a letter, or of the blank.
+/// The size of a letter, in either case, or of the blank.
 pub fn size_of(byte: u8) -> Option<Size>
     ensures { result ≡ lookup sizes byte }
 {

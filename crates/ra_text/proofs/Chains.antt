@@ -5,7 +5,7 @@ use Rattle.ra_text.specs.Chain.{Chain, joined}
 use Rattle.ra_text.specs.Reading.{Outcome, Reads, ◌>>=◌, ends_at, chain_at, joined_at}
 use Rattle.ra_text.proofs.Steps.{reads-more, reads-step, reads-none}
 use Rattle.ra_text.proofs.Readers.{Reader, reader-then, then-begins}
-use Rattle.ra_text.proofs.Begins.{IsListed}
+use Rattle.ra_text.proofs.Begins.{Firsts, IsListed}
 use Rattle.ra_text.proofs.Either.{reader-map}
 
 module _ {A T S V : Type 0} (separator : S → A → Option T) (item : S → T → Form A V) (item_at : S → T → List A → Outcome A V) (step : S → V → S) (done : S → Bool) (goes_on item_on : A → Type 0)
@@ -170,3 +170,10 @@ reader-joined {A} {T} {V} separator item item_at goes_on item_on ri apart on_ite
         | inl e ↦ absurd (let p : c ∷ s ≡ [] = e.1 ∙ h.of_next.empty in cc p)
         | inr e ↦ apart c (others-first separator item h.v c e.0 (subst (λ t. others separator item t h.v) e.1 h.of_first)) on
       ]
+
+-- a chain of items begins with a separator
+pub firsts-chain : {A T S V : Type 0} (separator : S → A → Option T) (item : S → T → Form A V) (step : S → V → S) (done : S → Bool) (s : S) → Firsts (Chain separator item step done s) (IsListed (separator s))
+firsts-chain separator item step done s = record { first = λ c t vs h. begins-chain c t vs h } where
+  begins-chain : (c : _) (t : List _) (vs : List _) → Chain separator item step done s (c ∷ t) vs → IsListed (separator s) c
+  begins-chain c t [] h = absurd (cc (h.0))
+  begins-chain c t (v ∷ vs) h = let same : c ≡ h.symbol = cc (h.parts) in (h.tag, ap (separator s) same ∙ h.separated)

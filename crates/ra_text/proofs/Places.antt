@@ -1,6 +1,7 @@
 -- From a reading to what calls say of places.
-use Rattle.std.proofs.Common.{◌≡◌, ℕ, ◌+◌, ◌-◌, ◌<◌, ◌≤◌, List, [], ◌∷◌, ◌++◌, length, take, drop, Option, Some, None, Ok, Err, refl, sym, ap, ◌∙◌, subst, arith, append-nil, length-append, length-drop, take_at, take-append-drop, append_assoc}
+use Rattle.std.proofs.Common.{take_all, le_refl, inl, inr, ◌≡◌, ℕ, ◌+◌, ◌-◌, ◌<◌, ◌≤◌, List, [], ◌∷◌, ◌++◌, length, take, drop, Option, Some, None, Ok, Err, refl, sym, ap, ◌∙◌, subst, arith, append-nil, length-append, length-drop, take_at, take-append-drop, append_assoc}
 use Rattle.std.proofs.lemmas.List.{nil_from_length}
+use Rattle.std.proofs.lemmas.Bool.{cases_lt}
 use Rattle.ra_text.specs.Form.{Form, Viable}
 use Rattle.ra_text.specs.Place.{IsBadPlace, ReadsTo, EndsAt, IsOutside, OneSpelling}
 use Rattle.ra_text.specs.Reading.{Outcome, rest_of, Reads}
@@ -114,3 +115,28 @@ module _ {V : Type 0} (form : Form ℕ V) (at_of : List ℕ → Outcome ℕ V) (
 
   pub whole_fails : (rest : List ℕ) → at_of text ≡ Err rest → (place : ℕ) → place ≡ length text - length rest → IsOutside form text place
   whole_fails rest e place is = whole-outside (Err rest) (read-all (Err rest) e) (λ w ok. absurd (cc ok)) place is
+
+-- What a call that reads a whole text needs, from what reading from its start answers.
+module _ {V : Type 0} (form : Form ℕ V) (text : List ℕ) (n : ℕ) where
+  from_start : (v : Option V) → EndsAt form text 0 n v → ReadsTo form text n v
+  from_start v h = let same : n - 0 ≡ n = omega arith in subst (λ m. ReadsTo form text m v) same h.reads
+
+  all_of : length text ≤ n → take n text ≡ text
+  all_of le = take_all n text le
+
+  no_longer : (v : Option V) → ReadsTo form text n v → n < length text → (w : V) → form text w → ⊥
+  no_longer v r less w h = r.place.longest (length text) less (le_refl (length text)) (subst (λ t. Viable form t) (sym (take_all (length text) text (le_refl (length text)))) (viable-whole text w h))
+
+  pub whole_of : (v : V) → EndsAt form text 0 n (Some v) → length text ≤ n → form text v
+  whole_of v h le = subst (λ t. form t v) (all_of le) ((from_start (Some v) h).spelled v refl)
+
+  pub outside_behind : (v : V) → EndsAt form text 0 n (Some v) → n < length text → IsOutside form text n
+  outside_behind v h less = record { place = (from_start (Some v) h).place; outside = no_longer (Some v) (from_start (Some v) h) less }
+
+  pub outside_of : EndsAt form text 0 n None → IsOutside form text n
+  outside_of h = record { place = (from_start None h).place; outside = outside (from_start None h) } where
+    outside : ReadsTo form text n None → (w : V) → form text w → ⊥
+    outside r w h = elim (cases_lt n (length text)) [
+      | inl less ↦ no_longer None r less w h
+      | inr ge ↦ let none : None ≡ Some w = r.only w (subst (λ t. form t w) (sym (all_of ge)) h) in cc none
+    ]

@@ -64,6 +64,18 @@ apart-passes (key ∷ keys) others all = cases (apart-passes keys others) (has o
 pub in_apart : (keys others : List ℕ) → are_apart keys others ≡ true → (c : ℕ) → In keys c → In others c → ⊥
 in_apart keys others all c here there = let n : not (has others c) ≡ true = passes (λ c. not (has others c)) keys (apart-passes keys others all) c here in cc (n, there)
 
+-- what holds of each byte of a list
+abbrev pub OfEach : (ℕ → Type 0) → List ℕ → Type 0
+OfEach P [] = Unit {0}
+OfEach P (key ∷ keys) = P key × OfEach P keys
+
+pub each-in : (P : ℕ → Type 0) (keys : List ℕ) → OfEach P keys → (c : ℕ) → In keys c → P c
+each-in P [] all c here = absurd (cc here)
+each-in P (key ∷ keys) all c here = cases (each-in P keys all.1 c) (c == key) refl here where
+  cases : (has keys c ≡ true → P c) → (same : Bool) → (c == key) ≡ same → (if same then true else has keys c) ≡ true → P c
+  cases next true is here = subst P (sym (eqb-true c key is)) all.0
+  cases next false is here = next here
+
 -- a byte of a list that is not its last one is one of the others
 pub in_front : (keys : List ℕ) (last c : ℕ) → (c == last) ≡ false → In (keys ++ last ∷ []) c → In keys c
 in_front [] last c other here = let no_key : (if c == last then true else false) ≡ false = ap (λ b. if b then true else false) other in cc (here, no_key)

@@ -1,5 +1,5 @@
 -- How a method of a cursor follows the reading of a form.
-use Rattle.std.specs.Prelude.{◌≡◌, ℕ, List, Result, Ok, Err}
+use Rattle.std.specs.Prelude.{◌≡◌, ℕ, List, ◌∷◌, Option, Some, Result, Ok, Err}
 use Rattle.ra_text.specs.declared.base.Base.{Base}
 use Rattle.ra_text.specs.declared.cursor.Stop.{Stop}
 use Rattle.ra_text.specs.Number.{digit_of, base_of, saturated}
@@ -16,3 +16,10 @@ pub record SumsDigits (base : Base) (first : ℕ) (old : List ℕ) (number : ℕ
   pub all : ℕ
   pub read : digits_at (digit_of base) (base_of base) first old ≡ Ok (all, new)
   pub is : number ≡ saturated all
+
+-- one byte that the table has stands before the rest
+pub record PassesOne {V : Type 0} (table : ℕ → Option V) (old new : List ℕ) : Type 0 where
+  pub byte : ℕ
+  pub v : V
+  pub is : old ≡ byte ∷ new
+  pub listed : table byte ≡ Some v

@@ -19,7 +19,7 @@ pub struct Cursor<'a> {
 pub struct Stop;
 
 impl<'a> Cursor<'a> {
-    ghost use Rattle.ra_text.specs.Moves.{Moves, SumsDigits};
+    ghost use Rattle.ra_text.specs.Moves.{Moves, PassesOne, SumsDigits};
 
     /// The text from a place on.
     pub fn new(text: &'a [u8], at: usize) -> Self
@@ -59,6 +59,22 @@ impl<'a> Cursor<'a> {
     {
         if let [byte, after @ ..] = self.rest {
             if *byte == wanted {
+                self.rest = after;
+                return true;
+            }
+        }
+        false
+    }
+
+    /// Goes past this letter, given in upper case, if it is next in either case, and says whether it was.
+    pub fn skip_letter(&mut self, upper: u8) -> bool
+        requires { upper < 128 }
+        ensures passed { IsTrue result → PassesOne (only_letters (upper ∷ [])) self.old.rest.now self.new.rest.now }
+        ensures stayed { IsFalse result → self.new.rest.now ≡ self.old.rest.now }
+        ensures is_next { result ≡ begins (is_in (only_letters (upper ∷ []))) self.old.rest.now }
+    {
+        if let [byte, after @ ..] = self.rest {
+            if is_letter(*byte, upper) {
                 self.rest = after;
                 return true;
             }

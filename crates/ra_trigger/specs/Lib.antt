@@ -1,2 +1,4 @@
+pub mod Gathering
+pub mod Kept
 pub mod States
 pub mod Steps

@@ -2,7 +2,14 @@
 #![tactic(auto)]
 
 mod change;
+mod gathered;
 mod state;
+#[cfg(test)]
+mod tests;
+mod together;
+mod trigger;
+mod verdict;
 
 pub use change::Change;
 pub use state::State;
+pub use trigger::Trigger;

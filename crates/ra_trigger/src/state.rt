@@ -1,3 +1,5 @@
+use crate::verdict::Verdict;
+
 /// The state of an achievement: docs/DEFINITIONS.md, "Achievement states".
 #[derive(Clone, Copy, Debug, PartialEq, Eq)]
 pub enum State {
@@ -6,4 +8,37 @@ pub enum State {
     Paused,
     Primed,
     Triggered,
+}
+
+impl State {
+    ghost use Rattle.std.specs.Prelude.{◌≡◌};
+    ghost use Rattle.ra_trigger.specs.States.{state_after, is_cleared};
+
+    /// The state after a frame.
+    pub(crate) fn after(self, now: &Verdict) -> Self
+        ensures { result ≡ state_after self now.now.reset now.now.valid now.now.paused now.now.primed }
+    {
+        match self {
+            State::Triggered => State::Triggered,
+            _ if now.reset => {
+                if now.paused {
+                    State::Paused
+                } else {
+                    State::Active
+                }
+            }
+            State::Waiting if now.valid => State::Waiting,
+            _ if now.valid => State::Triggered,
+            _ if now.paused => State::Paused,
+            _ if now.primed => State::Primed,
+            _ => State::Active,
+        }
+    }
+
+    /// Whether the frame clears the hits: a reset, or a valid trigger that still waits.
+    pub(crate) fn is_cleared(self, now: &Verdict) -> bool
+        ensures { result ≡ is_cleared self now.now.reset now.now.valid }
+    {
+        now.reset || matches!(self, State::Waiting) && now.valid
+    }
 }

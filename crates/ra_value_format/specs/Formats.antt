@@ -1,5 +1,5 @@
 -- The text of a number in each format.
-use Rattle.std.specs.Prelude.{ℕ, ◌-◌, ◌*◌, ◌/◌, ◌%◌, ◌^◌, if◌then◌else◌, nat_lt, List, [], ◌∷◌, ◌++◌, length, replicate, Option, Some, None, codes, bytes_eq, decimal, ℤ, pos, negsuc, ◌*ℤ◌, suc}
+use Rattle.std.specs.Prelude.{ℕ, ◌≤◌, ◌-◌, ◌*◌, ◌/◌, ◌%◌, ◌^◌, if◌then◌else◌, nat_lt, List, [], ◌∷◌, ◌++◌, length, replicate, Option, Some, None, codes, bytes_eq, decimal, ℤ, pos, negsuc, ◌*ℤ◌, suc}
 use Rattle.std.specs.Fmt.{signed_decimal}
 use Rattle.std.specs.Int.{w32, cast_unsigned}
 use Rattle.ra_value_format.specs.declared.format.Format.{Format}
@@ -32,6 +32,7 @@ minutes_text n = decimal (n / 60) ++ 104 ∷ with_zeros 2 (n % 60)
 abbrev pub decimals_text : ℕ → ℕ → List ℕ
 decimals_text digits n = decimal (n / 10 ^ digits) ++ 46 ∷ with_zeros digits (n % 10 ^ digits)
 
+-- the same of a signed number, after its sign where it is negative
 abbrev pub fixed_text : ℕ → ℤ → List ℕ
 fixed_text digits (pos n) = decimals_text digits n
 fixed_text digits (negsuc n) = 45 ∷ decimals_text digits (suc n)
@@ -52,25 +53,42 @@ formatted Thousands v = signed_decimal (v *ℤ pos 1000)
 formatted (Fixed digits) v = fixed_text digits v
 formatted (Float zeros) v = signed_decimal v ++ 46 ∷ replicate zeros 48
 
--- the format of a name; any name that is not here is that of Value
+-- the names of zeros after the point
+abbrev pub float_names : List (List ℕ × Format)
+float_names =
+    (codes "FLOAT1", Float 1) ∷ (codes "FLOAT2", Float 2) ∷ (codes "FLOAT3", Float 3)
+    ∷ (codes "FLOAT4", Float 4) ∷ (codes "FLOAT5", Float 5) ∷ (codes "FLOAT6", Float 6) ∷ []
+
+-- the names that move the point, and those
+abbrev pub scaled_names : List (List ℕ × Format)
+scaled_names =
+    (codes "TENS", Tens) ∷ (codes "HUNDREDS", Hundreds) ∷ (codes "THOUSANDS", Thousands)
+    ∷ (codes "FIXED1", Fixed 1) ∷ (codes "FIXED2", Fixed 2) ∷ (codes "FIXED3", Fixed 3) ∷ float_names
+
+-- the formats by name; any name that is not here is that of Value
 abbrev pub format_names : List (List ℕ × Format)
 format_names =
     (codes "SCORE", Score) ∷ (codes "POINTS", Score) ∷ (codes "OTHER", Score) ∷ (codes "UNSIGNED", Unsigned)
     ∷ (codes "FRAMES", Frames) ∷ (codes "TIME", Frames) ∷ (codes "MILLISECS", Hundredths)
     ∷ (codes "SECS", Secs) ∷ (codes "TIMESECS", Secs) ∷ (codes "MINUTES", Minutes) ∷ (codes "SECS_AS_MINS", SecsAsMins)
-    ∷ (codes "TENS", Tens) ∷ (codes "HUNDREDS", Hundreds) ∷ (codes "THOUSANDS", Thousands)
-    ∷ (codes "FIXED1", Fixed 1) ∷ (codes "FIXED2", Fixed 2) ∷ (codes "FIXED3", Fixed 3)
-    ∷ (codes "FLOAT1", Float 1) ∷ (codes "FLOAT2", Float 2) ∷ (codes "FLOAT3", Float 3)
-    ∷ (codes "FLOAT4", Float 4) ∷ (codes "FLOAT5", Float 5) ∷ (codes "FLOAT6", Float 6) ∷ []
+    ∷ scaled_names
 
 -- the entry under a name, if there is one
 abbrev pub entry_of : {A : Type 0} → List ℕ → List (List ℕ × A) → Option A
 entry_of name [] = None
 entry_of name (entry ∷ entries) = if bytes_eq entry.0 name then Some entry.1 else entry_of name entries
 
+-- a format, Value where there is none
 abbrev pub named_format : Option Format → Format
 named_format None = Value
 named_format (Some format) = format
 
+-- the format of a name
 abbrev pub format_of_name : List ℕ → Format
 format_of_name name = named_format (entry_of name format_names)
+
+-- the digits of a format are those that a name can give
+abbrev pub HasDigits : Format → Type 0
+HasDigits (Fixed digits) = (1 ≤ digits) × (digits ≤ 3)
+HasDigits (Float zeros) = (1 ≤ zeros) × (zeros ≤ 6)
+HasDigits _ = Unit {0}

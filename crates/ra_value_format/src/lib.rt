@@ -1,6 +1,11 @@
-//! The texts of numbers.
+//! The texts of numbers: how a leaderboard or a display line writes a value.
 #![tactic(auto)]
 
 mod format;
+#[cfg(test)]
+mod tests;
+mod texts;
+mod write;
 
 pub use format::Format;
+pub use write::format_value;

@@ -1,0 +1,26 @@
+ghost use Rattle.std.specs.Prelude.{◌≡◌};
+
+use ra_operand::{Op, Operand};
+
+/// What stands behind the left operand of a condition, and is kept.
+#[derive(Clone, Copy, Debug, PartialEq, Eq)]
+pub struct Tail {
+    pub op: Op,
+    pub right: Operand,
+    pub target: u32,
+}
+
+impl Tail {
+    ghost use Rattle.ra_condition.specs.Grammar.{bare};
+
+    // Nothing, or what is ignored.
+    pub fn nothing() -> Tail
+        ensures { result ≡ bare }
+    {
+        Tail {
+            op: Op::Bare,
+            right: Operand::Const(0),
+            target: 0,
+        }
+    }
+}

@@ -1,0 +1,28 @@
+-- Parts of lists that run over several groups.
+use Rattle.std.proofs.Common.{◌≡◌, ℕ, zero, suc, ◌+◌, ◌<◌, List, [], ◌∷◌, ◌++◌, length, get_or, take, drop, not, filter, sum_by, refl, sym, ap, ◌∙◌, arith, length-append}
+use Rattle.std.specs.List.{flat_map}
+use Rattle.std.proofs.lemmas.List.{drop-drop, take_at, drop_at}
+use Rattle.std.proofs.lemmas.List.Sums.{sum_by-cons}
+use Rattle.std.proofs.lemmas.List.Filters.{length-filter_both}
+use Rattle.std.proofs.lemmas.List.FromFn.{length-range_with_len}
+use Rattle.ra_condition.specs.declared.condition.Condition.{Condition}
+use Rattle.ra_condition.specs.Chains.{in_pause_chain, places, pass_order}
+
+-- the part that the k-th entry gives, of a list of the parts of all
+pub flat_map-part : {X : Type 0} (f : X → List ℕ) (size : X → ℕ) → ((x : X) → length (f x) ≡ size x) → (xs : List X) (k : ℕ) (d : X) → k < length xs → take (size (get_or xs k d)) (drop (sum_by size (take k xs)) (flat_map f xs)) ≡ f (get_or xs k d)
+flat_map-part f size long [] k d l = absurd (omega arith)
+flat_map-part f size long (x ∷ xs) zero d l = take_at (f x) (flat_map f xs) (size x) (long x)
+flat_map-part f size long (x ∷ xs) (suc k) d l =
+    ap (λ n. take (size (get_or xs k d)) (drop n (f x ++ flat_map f xs))) (sum_by-cons size x (take k xs))
+    ∙ ap (take (size (get_or xs k d))) (sym (drop-drop (sum_by size (take k xs)) (size x) (f x ++ flat_map f xs)) ∙ ap (drop (sum_by size (take k xs))) (drop_at (f x) (flat_map f xs) (size x) (long x)))
+    ∙ flat_map-part f size long xs k d (omega arith)
+
+pub length-flat_map : {X : Type 0} (f : X → List ℕ) (size : X → ℕ) → ((x : X) → length (f x) ≡ size x) → (xs : List X) → length (flat_map f xs) ≡ sum_by size xs
+length-flat_map f size long [] = refl
+length-flat_map f size long (x ∷ xs) =
+    length-append (f x) (flat_map f xs) ∙ ap (λ n. n + length (flat_map f xs)) (long x) ∙ ap (λ n. size x + n) (length-flat_map f size long xs) ∙ sym (sum_by-cons size x xs)
+
+-- the pass order has each condition once
+pub length-pass_order : (cs : List Condition) → length (pass_order cs) ≡ length cs
+length-pass_order cs =
+    omega (arith, length-append (filter (in_pause_chain cs) (places cs)) (filter (λ j. not (in_pause_chain cs j)) (places cs)), length-filter_both (in_pause_chain cs) (λ j. not (in_pause_chain cs j)) (λ j. refl) (places cs), length-range_with_len 0 (length cs))

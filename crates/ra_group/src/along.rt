@@ -1,0 +1,45 @@
+ghost use Rattle.std.specs.Prelude.{◌≡◌, ◌+◌, ◌≤◌, length, take, drop};
+ghost use Rattle.ra_condition.specs.Contents.{group_contents};
+ghost use Rattle.ra_condition.specs.Chains.{pass_order};
+ghost use Rattle.ra_group.specs.Outcome.{outcome_of, next_hits};
+ghost use Rattle.ra_group.specs.Along.{frame_at, with_part};
+
+use crate::form::Form;
+use crate::outcome::Outcome;
+use crate::pass::step;
+use ra_condition::Group;
+
+/// Steps a group as `step` does, where the slices run over several groups and the entries of this
+/// one start at `start`.
+pub fn step_at(
+    group: &Group,
+    form: Form,
+    start: usize,
+    orders: &[u32],
+    truths: &[bool],
+    lefts: &[u32],
+    hits: &mut [u32],
+) -> Outcome
+    requires order { take (length (group_contents group.now)) (drop start orders.now)
+        ≡ pass_order (group_contents group.now) }
+    requires within { start + length (group_contents group.now) ≤ length hits.old }
+    requires orders { length orders.now ≡ length hits.old }
+    requires truths { length truths.now ≡ length hits.old }
+    requires lefts { length lefts.now ≡ length hits.old }
+
+    ensures outcome { result
+        ≡ outcome_of form (frame_at (group_contents group.now) truths.now lefts.now hits.old start) }
+    ensures next { hits.new
+        ≡ with_part hits.old start
+        (next_hits (frame_at (group_contents group.now) truths.now lefts.now hits.old start)) }
+{
+    let end = start + group.conditions.len();
+    step(
+        group,
+        form,
+        &orders[start..end],
+        &truths[start..end],
+        &lefts[start..end],
+        &mut hits[start..end],
+    )
+}

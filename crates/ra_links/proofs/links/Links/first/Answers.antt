@@ -1,0 +1,6 @@
+use Rattle.ra_links.proofs.Calls.{answers_first}
+use Rattle.ra_links.proofs.links.Links.first.Goals as goal
+
+pub returns : goal.returns
+returns c =
+    answers_first c.self.inside.firsts.items c.self.inside.holders.items c.self.inside.befores.items c.self.inside.afters.items c.self.invariant c.args.self.now c.self.view_is c.args.list c.index.result.now c.some.result c.requires c.index.ensures c.some.ensures

@@ -1,0 +1,10 @@
+//! Lists that are linked through their own nodes by index.
+//!
+//! Each node keeps its list and its neighbours, each list its first node: every call but `new` takes constant time.
+#![tactic(auto)]
+
+mod links;
+#[cfg(test)]
+mod tests;
+
+pub use links::Links;

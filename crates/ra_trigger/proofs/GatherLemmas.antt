@@ -1,0 +1,69 @@
+-- What the core and the alts so far say together, alt by alt.
+use Rattle.std.proofs.Common.{◌≡◌, ℕ, max, Bool, true, false, not, ◌&&◌, ◌||◌, Option, None, Some, List, [], ◌∷◌, ◌++◌, refl, sym, ap, ◌∙◌, arith}
+use Rattle.std.specs.List.{list_any, list_all}
+use Rattle.std.proofs.lemmas.List.Folds.{list_any-append, list_all-append}
+use Rattle.ra_group.specs.declared.outcome.Outcome.{Outcome}
+use Rattle.ra_group.specs.Outcome.{larger}
+use Rattle.ra_trigger.specs.declared.gathered.Gathered.{Gathered}
+use Rattle.ra_trigger.specs.Steps.{core_and_some, core_or_all, greatest_of}
+use Rattle.ra_trigger.specs.Gathering.{are_there, gathered_of, added}
+
+or_false : (b : Bool) → (b || false) ≡ b
+or_false true = refl
+or_false false = refl
+
+and_true : (b : Bool) → (b && true) ≡ b
+and_true true = refl
+and_true false = refl
+
+any_push : (p : Outcome → Bool) (os : List Outcome) (o : Outcome) → list_any p (os ++ o ∷ []) ≡ (list_any p os || p o)
+any_push p os o = list_any-append p os (o ∷ []) ∙ ap (λ b. list_any p os || b) (or_false (p o))
+
+all_push : (p : Outcome → Bool) (os : List Outcome) (o : Outcome) → list_all p (os ++ o ∷ []) ≡ (list_all p os && p o)
+all_push p os o = list_all-append p os (o ∷ []) ∙ ap (λ b. list_all p os && b) (and_true (p o))
+
+there_push : (os : List Outcome) (o : Outcome) → are_there (os ++ o ∷ []) ≡ true
+there_push [] o = refl
+there_push (p ∷ os) o = refl
+
+larger_none : (a : Option ℕ) → larger a None ≡ a
+larger_none None = refl
+larger_none (Some a) = refl
+
+larger_assoc : (a b c : Option ℕ) → larger (larger a b) c ≡ larger a (larger b c)
+larger_assoc None b c = refl
+larger_assoc (Some a) None c = refl
+larger_assoc (Some a) (Some b) None = refl
+larger_assoc (Some a) (Some b) (Some c) = let e : max (max a b) c ≡ max a (max b c) = omega arith in ap Some e
+
+greatest_push : (os : List Outcome) (o : Outcome) → greatest_of (os ++ o ∷ []) ≡ larger (greatest_of os) o.measured
+greatest_push [] o = larger_none o.measured
+greatest_push (p ∷ os) o = ap (larger p.measured) (greatest_push os o) ∙ sym (larger_assoc p.measured (greatest_of os) o.measured)
+
+abbrev gathering : Outcome → (reset from_hits : Bool) → Option ℕ → (triggers alts some_valid some_primed all_paused : Bool) → Gathered
+gathering core reset from_hits measured triggers alts some_valid some_primed all_paused = record { core = core; reset = reset; from_hits = from_hits; measured = measured; triggers = triggers; alts = alts; some_valid = some_valid; some_primed = some_primed; all_paused = all_paused }
+
+same_gathering : {core : Outcome} {a b c d e g h a' b' c' d' e' g' h' : Bool} {m m' : Option ℕ} → a ≡ a' → b ≡ b' → m ≡ m' → c ≡ c' → d ≡ d' → e ≡ e' → g ≡ g' → h ≡ h' → gathering core a b m c d e g h ≡ gathering core a' b' m' c' d' e' g' h'
+same_gathering p q r s t u v w = cc
+
+-- one alt more
+pub gathered_of-push : (core : Outcome) (os : List Outcome) (o : Outcome) (triggers triggers' more : Bool) → triggers' ≡ (triggers || more) → gathered_of core (os ++ o ∷ []) triggers' ≡ added o more (gathered_of core os triggers)
+gathered_of-push core os o triggers triggers' more is =
+    same_gathering
+    (any_push (λ p. p.reset) (core ∷ os) o)
+    (any_push (λ p. p.from_hits) (core ∷ os) o)
+    (greatest_push (core ∷ os) o)
+    is
+    (there_push os o)
+    (any_push (λ p. p.valid) os o)
+    (any_push (λ p. p.primed) os o)
+    (all_push (λ p. p.paused) os o)
+
+-- the core has it, and some alt where there are alts
+pub core_and_some-gathered : (has : Outcome → Bool) (core : Outcome) (os : List Outcome) → core_and_some has (core ∷ os) ≡ (has core && (not (are_there os) || list_any has os))
+core_and_some-gathered has core [] = sym (and_true (has core))
+core_and_some-gathered has core (o ∷ os) = refl
+
+pub core_or_all-gathered : (has : Outcome → Bool) (core : Outcome) (os : List Outcome) → core_or_all has (core ∷ os) ≡ (has core || (are_there os && list_all has os))
+core_or_all-gathered has core [] = sym (or_false (has core))
+core_or_all-gathered has core (o ∷ os) = refl

@@ -1,0 +1,20 @@
+-- What a trigger keeps, as its calls leave it.
+use Rattle.std.specs.Prelude.{ℕ, ◌==◌, if◌then◌else◌, None, Some, List, replicate}
+use Rattle.std.specs.List.{flat_map}
+use Rattle.ra_condition.specs.Chains.{pass_order}
+use Rattle.ra_condition.specs.Contents.{TriggerContents, groups_of, trigger_hits}
+use Rattle.ra_trigger.specs.declared.state.State.TheVariants.{Waiting}
+use Rattle.ra_trigger.specs.declared.change.Change.{Change}
+use Rattle.ra_trigger.specs.Steps.{TriggerKept}
+
+-- nothing is kept yet
+abbrev pub no_trigger : TriggerContents → TriggerKept
+no_trigger t = record { state = Waiting; measured = 0; hits = replicate (trigger_hits t) 0 }
+
+-- the pass order of each group, one group after the other
+abbrev pub orders_of : TriggerContents → List ℕ
+orders_of t = flat_map pass_order (groups_of t)
+
+-- what a frame changed
+abbrev pub change_between : TriggerKept → TriggerKept → Change
+change_between old new = record { before = old.state; after = new.state; measured = if new.measured == old.measured then None else Some new.measured }

@@ -1,0 +1,54 @@
+//! All groups of a trigger at a frame.
+
+ghost use Rattle.std.specs.Prelude.{◌≡◌, length};
+ghost use Rattle.std.specs.List.{list_any};
+ghost use Rattle.ra_condition.specs.Flags.{is_trigger};
+ghost use Rattle.ra_condition.specs.Contents.{group_contents, trigger_contents, trigger_hits};
+ghost use Rattle.ra_trigger.specs.Kept.{orders_of};
+ghost use Rattle.ra_trigger.specs.Steps.{together};
+ghost use Rattle.ra_trigger.specs.Gathering.{verdict_of};
+
+use crate::gathered::Gathered;
+use crate::verdict::Verdict;
+use ra_condition::{Group, TriggerText};
+use ra_group::{Form, step_at};
+
+/// Steps all groups, the core first, and says what they say together. The slices run over the
+/// conditions of all groups.
+pub fn step_groups(
+    text: &TriggerText,
+    orders: &[u32],
+    truths: &[bool],
+    lefts: &[u32],
+    hits: &mut [u32],
+) -> Verdict
+    requires orders { orders.now ≡ orders_of (trigger_contents text.now) }
+    requires truths { length truths.now ≡ trigger_hits (trigger_contents text.now) }
+    requires lefts { length lefts.now ≡ trigger_hits (trigger_contents text.now) }
+    requires hits { length hits.old ≡ trigger_hits (trigger_contents text.now) }
+
+    ensures verdict { result
+        ≡ verdict_of (together (trigger_contents text.now) truths.now lefts.now hits.old) }
+    ensures next { hits.new
+        ≡ (together (trigger_contents text.now) truths.now lefts.now hits.old).hits }
+{
+    let core = step_at(&text.core, Form::InTrigger, 0, orders, truths, lefts, hits);
+    let mut gathered = Gathered::new(core, has_trigger(&text.core));
+    let mut start = text.core.conditions.len();
+    for alt in &text.alts {
+        let outcome = step_at(alt, Form::InTrigger, start, orders, truths, lefts, hits);
+        gathered.add(&outcome, has_trigger(alt));
+        start += alt.conditions.len();
+    }
+    gathered.verdict()
+}
+
+// Whether some condition of the group is a Trigger.
+fn has_trigger(group: &Group) -> bool
+    ensures { result ≡ list_any (λ c. is_trigger c.flag) (group_contents group.now) }
+{
+    group
+        .conditions
+        .iter()
+        .any(|condition| condition.flag.is_trigger())
+}
