@@ -58,10 +58,9 @@ module _ {A : Type 0} (same : A → A → Bool) where
   firsts-append xs (y ∷ ys) =
       let one = keeps_by (firsts same xs) (firsts same (xs ++ y ∷ [])) y (has_same xs y) (firsts-push xs y) in
       let rest = firsts-append (xs ++ y ∷ []) ys in
-      let same_list : (xs ++ y ∷ []) ++ ys ≡ xs ++ y ∷ ys = append_assoc xs (y ∷ []) ys in
-      (
-      omega (arith, one.0, rest.0, ap (λ zs. length (firsts same zs)) same_list),
-      λ i d below. sym (ap (λ zs. get_or (firsts same zs) i d) same_list) ∙ rest.1 i d (omega (arith, one.0)) ∙ one.1 i d below
+      let same_list : (xs ++ y ∷ []) ++ ys ≡ xs ++ y ∷ ys = append_assoc xs (y ∷ []) ys in (
+        omega (arith, one.0, rest.0, ap (λ zs. length (firsts same zs)) same_list),
+        λ i d below. sym (ap (λ zs. get_or (firsts same zs) i d) same_list) ∙ rest.1 i d (omega (arith, one.0)) ∙ one.1 i d below,
       )
 
   any_get : (test : A → Bool) (y : A) → test y ≡ true → (xs : List A) (i : ℕ) → slice_get xs i ≡ Some y → list_any test xs ≡ true

@@ -1,3 +1,4 @@
+pub mod AgreeLemmas
 pub mod Cuts
 pub mod Halfway
 pub mod Latest

@@ -8,6 +8,8 @@ mod layout;
 mod numbers;
 mod pass;
 mod table;
+#[cfg(test)]
+mod tests;
 mod words;
 
 pub use laws::looking_back_holds;

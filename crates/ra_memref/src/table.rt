@@ -122,7 +122,7 @@ impl Table {
 }
 
 // The nodes of a pool, in order.
-fn nodes_of(alloc: Global, pool: &Pool) -> Result<Vec<Node>, OutOfMemory>
+pub(crate) fn nodes_of(alloc: Global, pool: &Pool) -> Result<Vec<Node>, OutOfMemory>
     ensures nodes { IfOk result (λ nodes. nodes.items ≡ pool.now) }
     ensures pool { IsPool pool.now }
 {

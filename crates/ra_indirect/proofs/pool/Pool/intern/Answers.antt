@@ -19,10 +19,9 @@ invariant_of-self-2 c =
     let here = e.stored.1 ∙ ap Some (sym (same _ _ e.stored.2)) in
     let inserts : Interns c.self.inside.nodes.keys c.insert_full.new.self.keys c.args.node c.in_ok-place.place = Interns-inserted ghosts.eq same itself _ _ _ _ e.keys e.index here in
     let room : length c.self.inside.nodes.keys < 2 ^ 31 = subst (λ ns. length ns < 2 ^ 31) (sym c.self.view_is) c.requires.room in
-    let grown = length-interned _ _ _ _ inserts in
-    (
-    IsPool-interned _ _ _ _ c.self.invariant.0 (subst (λ ns. MayFollow ns c.args.node) (sym c.self.view_is) c.requires.follows) inserts,
-    omega arith
+    let grown = length-interned _ _ _ _ inserts in (
+      IsPool-interned _ _ _ _ c.self.invariant.0 (subst (λ ns. MayFollow ns c.args.node) (sym c.self.view_is) c.requires.follows) inserts,
+      omega arith,
     )
 
 pub returns-clause-ok : goal.returns-clause-ok

@@ -1,0 +1,195 @@
+//! Tables over frames, from the rules.
+
+ghost use Rattle.std.specs.Prelude.{◌≡◌, ◌<◌, length, IsTrue};
+ghost use Rattle.ra_indirect.specs.Pools.{MayFollow, IsValued, IsCellOf, node_at};
+
+mod machine;
+
+use crate::tests::machine::Machine;
+use ra_indirect::{Node, Pool};
+use ra_operand::{Kind, Op, Size, width};
+use std::alloc::Global;
+use std::marker::Brand;
+use std::sync::ledger::Blank;
+use std::test::Fail;
+
+fn is_valued(pool: &Pool, number: u32) -> bool
+    ensures within { IsTrue result → number < length pool.now }
+    ensures valued { IsTrue result → IsValued (node_at pool.now number) }
+{
+    if number >= pool.len() {
+        return false;
+    }
+    match pool.node(number) {
+        Node::Cell { .. } => false,
+        Node::Const(_) | Node::View { .. } | Node::Arith { .. } => true,
+    }
+}
+
+fn is_cell_of(pool: &Pool, number: u32, wanted: u8) -> bool
+    ensures within { IsTrue result → number < length pool.now }
+    ensures cell { IsTrue result → IsCellOf wanted (node_at pool.now number) }
+{
+    if number >= pool.len() {
+        return false;
+    }
+    match pool.node(number) {
+        Node::Cell { width, .. } => width == wanted,
+        Node::Const(_) | Node::View { .. } | Node::Arith { .. } => false,
+    }
+}
+
+// A node that may follow, of those that the tables have.
+fn may_follow(pool: &Pool, node: Node) -> bool
+    ensures { IsTrue result → MayFollow pool.now node }
+{
+    match node {
+        Node::Const(_) => true,
+        Node::Cell { pointer, width, .. } => {
+            (width == 1 || width == 2 || width == 4) && is_valued(pool, pointer)
+        }
+        Node::View { size, cell, .. } => is_cell_of(pool, cell, width(size)),
+        Node::Arith { op, left, right } => match op {
+            Op::Add => is_valued(pool, left) && is_valued(pool, right),
+            _ => false,
+        },
+    }
+}
+
+// A machine over these nodes, of 64 bytes.
+fn machine_of(alloc: Global, nodes: &[Node]) -> Result<Machine, Fail> {
+    let mut pool = Pool::new(alloc);
+    for node in nodes {
+        if pool.len() > 99 || !may_follow(&pool, *node) {
+            return Err(Fail::from("no pool"));
+        }
+        pool.intern(*node)?;
+    }
+    if pool.len() > 99 {
+        return Err(Fail::from("no pool"));
+    }
+    let machine = Machine::new(alloc, pool)?;
+    Ok(machine)
+}
+
+fn byte_cell(pointer: u32, offset: u32) -> Node {
+    Node::Cell {
+        pointer,
+        offset,
+        width: 1,
+    }
+}
+
+fn word_cell(pointer: u32, offset: u32) -> Node {
+    Node::Cell {
+        pointer,
+        offset,
+        width: 4,
+    }
+}
+
+fn view(kind: Kind, size: Size, cell: u32) -> Node {
+    Node::View { kind, size, cell }
+}
+
+#[test]
+fn each_mask_has_a_prior_of_its_own(rt: HostRuntime) -> Result<(), Fail> {
+    let mut machine = machine_of(
+        rt.alloc(),
+        &[
+            Node::Const(0),
+            byte_cell(0, 0x10),
+            view(Kind::Prior, Size::Bit0, 1),
+            view(Kind::Prior, Size::Bit1, 1),
+            view(Kind::Prior, Size::Byte, 1),
+            view(Kind::Prior, Size::Count, 1),
+            view(Kind::Prior, Size::Bit0, 1),
+        ],
+    )?;
+    for (byte, priors, values) in [
+        (1, [0, 0, 0], [0, 0, 0, 0, 0, 0]),
+        (3, [0, 0, 1], [0, 0, 0, 0, 1, 1]),
+        (2, [1, 0, 3], [0, 0, 1, 0, 3, 2]),
+        (2, [1, 0, 3], [0, 0, 1, 0, 3, 2]),
+    ] {
+        machine.write(0x10, &[byte]);
+        let found = machine.frame::<Brand>(rt.alloc(), Blank::new(1))?;
+        assert_eq!(rt; machine.cells(), [u32::from(byte)].as_slice(), "at {byte}");
+        assert_eq!(rt; machine.priors(), priors.as_slice(), "at {byte}");
+        assert_eq!(rt; found.as_slice(), values.as_slice(), "at {byte}");
+    }
+    Ok(())
+}
+
+#[test]
+fn a_delta_is_what_the_old_pointer_gave(rt: HostRuntime) -> Result<(), Fail> {
+    let mut machine = machine_of(
+        rt.alloc(),
+        &[
+            Node::Const(0),
+            word_cell(0, 0x10),
+            view(Kind::Mem, Size::Four, 1),
+            byte_cell(2, 4),
+            view(Kind::Delta, Size::Byte, 3),
+        ],
+    )?;
+    machine.write(0x24, &[7]);
+    machine.write(0x34, &[9]);
+    for (pointer, cells, values) in [
+        (0x20, [0x20, 7], [0, 0, 0x20, 0, 0]),
+        (0x30, [0x30, 9], [0, 0, 0x30, 0, 7]),
+        (0x30, [0x30, 9], [0, 0, 0x30, 0, 9]),
+    ] {
+        machine.write(0x10, &[pointer]);
+        let found = machine.frame::<Brand>(rt.alloc(), Blank::new(1))?;
+        assert_eq!(rt; machine.cells(), cells.as_slice(), "at {pointer}");
+        assert_eq!(rt; found.as_slice(), values.as_slice(), "at {pointer}");
+    }
+    Ok(())
+}
+
+#[test]
+fn a_pointer_wraps_and_the_end_is_zeros(rt: HostRuntime) -> Result<(), Fail> {
+    let mut machine = machine_of(
+        rt.alloc(),
+        &[
+            Node::Const(0),
+            word_cell(0, 0),
+            view(Kind::Mem, Size::Four, 1),
+            byte_cell(2, 0x10),
+            view(Kind::Mem, Size::Byte, 3),
+            word_cell(0, 0x3e),
+            view(Kind::Mem, Size::FourBig, 5),
+        ],
+    )?;
+    machine.write(0, &[0xf8, 0xff, 0xff, 0xff]);
+    machine.write(8, &[7]);
+    machine.write(0x3e, &[1, 2]);
+    let found = machine.frame::<Brand>(rt.alloc(), Blank::new(1))?;
+    assert_eq!(rt; machine.cells(), [0xffff_fff8, 7, 513].as_slice());
+    let values = [0, 0, 0xffff_fff8, 0, 7, 0, 0x0102_0000];
+    assert_eq!(rt; found.as_slice(), values.as_slice());
+    Ok(())
+}
+
+#[test]
+fn kept_numbers_are_put_back(rt: HostRuntime) -> Result<(), Fail> {
+    let mut machine = machine_of(
+        rt.alloc(),
+        &[
+            Node::Const(0),
+            byte_cell(0, 0x10),
+            view(Kind::Delta, Size::Byte, 1),
+            view(Kind::Prior, Size::Bit0, 1),
+        ],
+    )?;
+    let bytes = [0xff, 0xff, 0xff, 0xff, 0x78, 0x56, 0x34, 0x12];
+    assert!(rt; machine.put_back(&bytes));
+    assert!(rt; !machine.put_back(&bytes[1..]));
+    assert_eq!(rt; machine.cells(), [0xffff_ffff].as_slice());
+    assert_eq!(rt; machine.priors(), [0x1234_5678].as_slice());
+    let found = machine.frame::<Brand>(rt.alloc(), Blank::new(1))?;
+    assert_eq!(rt; machine.priors(), [1].as_slice());
+    assert_eq!(rt; found.as_slice(), [0, 0, 255, 1].as_slice());
+    Ok(())
+}
