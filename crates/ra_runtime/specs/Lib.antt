@@ -3,6 +3,7 @@ pub mod Histories
 pub mod Lines
 pub mod Openings
 pub mod Order
+pub mod Plans
 pub mod Play
 pub mod Presence
 pub mod Runtime

@@ -2,5 +2,6 @@
 #![tactic(auto)]
 
 mod laws;
+mod plans;
 
 pub use laws::histories_may_be_cut;
