@@ -29,7 +29,7 @@ frames_along-push (g ∷ gs) cs truths lefts hits =
     (frames_along-push gs cs (drop (length g) truths) (drop (length g) lefts) (drop (length g) hits) ∙ ap (λ f. rest ++ f ∷ []) place)
 
 -- a hit for each condition of the groups
-length-hits_along : (gs : List (List Condition)) (truths : List Bool) (lefts hits : List ℕ) → length (flat_map next_hits (frames_along gs truths lefts hits)) ≡ sum_by length gs
+pub length-hits_along : (gs : List (List Condition)) (truths : List Bool) (lefts hits : List ℕ) → length (flat_map next_hits (frames_along gs truths lefts hits)) ≡ sum_by length gs
 length-hits_along [] truths lefts hits = refl
 length-hits_along (g ∷ gs) truths lefts hits =
     let first = frame_of g (take (length g) truths) (take (length g) lefts) (take (length g) hits) in
