@@ -3,6 +3,7 @@ mod BoundsLemmas
 mod Carried
 pub mod CountingLemmas
 mod LawLemmas
+mod OutcomeLemmas
 mod PassLemmas
 mod PausesLemmas
 mod TallyLemmas

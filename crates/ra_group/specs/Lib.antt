@@ -4,5 +4,6 @@ pub mod Counting
 pub mod Equations
 pub mod Laws
 pub mod Outcome
+pub mod OutcomeLaws
 pub mod Tallies
 pub mod Words
