@@ -1,14 +1,14 @@
 -- The outcome of a group, from its conditions and back.
-use Rattle.std.proofs.Common.{◌≡◌, ℕ, zero, suc, ◌+◌, ◌<◌, ◌≤◌, max, Bool, true, false, not, ◌&&◌, ◌||◌, cond, ◌⊎◌, ◌↔◌, Option, None, Some, List, [], ◌∷◌, length, get_or, slice_index, refl, sym, ap, ◌∙◌, subst, inl, inr, arith}
+use Rattle.std.proofs.Common.{◌≡◌, ℕ, zero, suc, ◌+◌, ◌<◌, ◌≤◌, max, Bool, true, false, not, ◌&&◌, ◌||◌, cond, ◌⊎◌, ◌↔◌, Option, None, Some, length, refl, sym, ap, ◌∙◌, inl, inr, arith}
 use Rattle.std.specs.List.{list_any, list_all, range_with_len}
-use Rattle.std.proofs.lemmas.Bool.{and_parts, and_from, or_cases, or_left, or_right, or_parts, true≢false, false≢true, not-true, not_from_false, cases_eq, cases_lt}
+use Rattle.std.proofs.lemmas.Bool.{and_parts, and_from, or_cases, or_left, or_right, true≢false, false≢true, not-true, not_from_false, cases_eq, cases_lt}
 use Rattle.ra_condition.specs.declared.flag.Flag.{Flag}
 use Rattle.ra_condition.specs.Flags.{is_pause, is_reset, is_measured, is_measured_if, is_wanted, is_required}
-use Rattle.ra_condition.specs.Contents.{condition_at, flag_at}
+use Rattle.ra_condition.specs.Contents.{flag_at}
 use Rattle.ra_condition.specs.Chains.{places}
 use Rattle.ra_group.specs.declared.form.Form.{Form}
 use Rattle.ra_group.specs.Equations.{Frame, settled_at}
-use Rattle.ra_group.specs.Outcome.{some_valid, all_valid, offer, larger, greatest, option_if, outcome_of}
+use Rattle.ra_group.specs.Outcome.{some_valid, all_valid, larger, greatest, option_if, outcome_of}
 use Rattle.ra_group.specs.OutcomeLaws.{SomeValid, EachValid, NoneMeasured, IsGreatestNumber, number_at}
 
 -- a number of a range passes
@@ -204,13 +204,14 @@ module _ (form : Form) (f : Frame) where
   )
 
   holds_is : (class : Flag → Bool) → (((not (outcome_of form f).paused && not (outcome_of form f).reset) && all_valid class f (places f.conditions)) ≡ true) ↔ (((outcome_of form f).paused ≡ false) × ((outcome_of form f).reset ≡ false) × EachValid class f)
-  holds_is class =
-      (λ h. let parts = and_parts (not (outcome_of form f).paused && not (outcome_of form f).reset) (all_valid class f (places f.conditions)) h in
+  holds_is class = (
+    λ h. let parts = and_parts (not (outcome_of form f).paused && not (outcome_of form f).reset) (all_valid class f (places f.conditions)) h in
         let open_parts = and_parts (not (outcome_of form f).paused) (not (outcome_of form f).reset) parts.0 in
         (not-true (outcome_of form f).paused open_parts.0, not-true (outcome_of form f).reset open_parts.1, (all_valid-EachValid class f).0 parts.1),
-      λ p. and_from (not (outcome_of form f).paused && not (outcome_of form f).reset) (all_valid class f (places f.conditions))
+    λ p. and_from (not (outcome_of form f).paused && not (outcome_of form f).reset) (all_valid class f (places f.conditions))
         (and_from (not (outcome_of form f).paused) (not (outcome_of form f).reset) (not_from_false (outcome_of form f).paused p.0) (not_from_false (outcome_of form f).reset p.1))
-        ((all_valid-EachValid class f).1 p.2))
+        ((all_valid-EachValid class f).1 p.2),
+  )
 
   pub valid_is : ((outcome_of form f).valid ≡ true) ↔ (((outcome_of form f).paused ≡ false) × ((outcome_of form f).reset ≡ false) × EachValid is_required f)
   valid_is = holds_is is_required

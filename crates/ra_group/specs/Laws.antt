@@ -1,9 +1,9 @@
 -- The equations read condition by condition, with the condition before found by the text alone.
-use Rattle.std.specs.Prelude.{◌≡◌, ℕ, ◌<◌, ◌≤◌, Bool, true, false, not, ◌==◌, List, slice_index, slice_index_or, pos, ◌+ℤ◌}
+use Rattle.std.specs.Prelude.{◌≡◌, ℕ, ◌<◌, ◌≤◌, Bool, true, false, ◌==◌, List, slice_index, slice_index_or, pos, ◌+ℤ◌}
 use Rattle.ra_condition.specs.declared.condition.Condition.{Condition}
 use Rattle.ra_condition.specs.Flags.{combines, hands_on}
 use Rattle.ra_condition.specs.Contents.{condition_at, flag_at}
-use Rattle.ra_group.specs.Equations.{Frame, met, met_after, reset_after, add_after, hits_after, valid_alone, clamped, reached, valid_by, prev_of, settled_at}
+use Rattle.ra_group.specs.Equations.{Frame, met, met_after, reset_after, add_after, hits_after, valid_alone, clamped, reached, prev_of, settled_at}
 
 -- the nearest earlier condition of the chain of j that counts hits is i
 pub record IsPrev (cs : List Condition) (j i : ℕ) : Type 0 where

@@ -1,12 +1,12 @@
 -- What a frame does to an achievement, state by state.
-use Rattle.std.proofs.Common.{◌≡◌, ◌≢◌, ℕ, Bool, true, false, ◌&&◌, ◌||◌, cond, unwrap_or, List, [], ◌∷◌, length, map, take, drop, replicate, sum_by, refl, sym, ap, ◌∙◌, subst}
-use Rattle.std.specs.List.{flat_map, list_any}
+use Rattle.std.proofs.Common.{◌≡◌, ◌≢◌, ℕ, Bool, true, false, ◌&&◌, ◌||◌, cond, unwrap_or, List, [], ◌∷◌, length, map, take, drop, replicate, refl, sym, ap, ◌∙◌, subst}
+use Rattle.std.specs.List.{list_any}
 use Rattle.std.proofs.lemmas.Bool.{cond-true, cond-false}
 use Rattle.ra_condition.specs.declared.condition.Condition.{Condition}
-use Rattle.ra_condition.specs.Contents.{TriggerContents, groups_of, trigger_hits}
+use Rattle.ra_condition.specs.Contents.{TriggerContents, groups_of}
 use Rattle.ra_group.specs.declared.form.Form.TheVariants.{InTrigger}
 use Rattle.ra_group.specs.Equations.{frame_of}
-use Rattle.ra_group.specs.Outcome.{outcome_of, next_hits}
+use Rattle.ra_group.specs.Outcome.{outcome_of}
 use Rattle.ra_group.specs.Counting.{counts_hits}
 use Rattle.ra_group.proofs.CountingLemmas.{outcome_of-from_hits}
 use Rattle.ra_trigger.specs.declared.state.State.{State}

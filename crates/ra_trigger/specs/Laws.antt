@@ -1,8 +1,8 @@
 -- What a frame does to an achievement, in the words of its states.
-use Rattle.std.specs.Prelude.{◌≡◌, ℕ, Bool, true, false, if◌then◌else◌, List, replicate}
+use Rattle.std.specs.Prelude.{◌≡◌, ℕ, Bool, true, if◌then◌else◌, List, replicate}
 use Rattle.ra_condition.specs.Contents.{TriggerContents, trigger_hits}
 use Rattle.ra_trigger.specs.declared.state.State.{State}
-use Rattle.ra_trigger.specs.declared.state.State.TheVariants.{Waiting, Active, Paused}
+use Rattle.ra_trigger.specs.declared.state.State.TheVariants.{Active, Paused}
 use Rattle.ra_trigger.specs.Steps.{TriggerKept, Together, together, step}
 
 -- a frame of an achievement: what its groups say together, and what is kept after it

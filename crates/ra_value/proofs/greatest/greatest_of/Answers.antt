@@ -1,4 +1,4 @@
-use Rattle.std.proofs.Common.{◌≡◌, sym, ◌∙◌, arith}
+use Rattle.std.proofs.Common.{sym, ◌∙◌, arith}
 use Rattle.ra_value.proofs.GreatestLemmas.{greatest_first, greatest_taken, greatest_kept}
 use Rattle.ra_value.proofs.greatest.greatest_of.Goals as goal
 use Rattle.ra_value.proofs.greatest.greatest_of.Goals.{then-place-eq0, then-place-eq0-via-then-place-eq0, then-place-eq0-via-else-place-eq0+then-is_less, else-place-eq0+else-is_less}

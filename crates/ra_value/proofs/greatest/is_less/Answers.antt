@@ -1,4 +1,4 @@
-use Rattle.std.proofs.Common.{◌≡◌, arith}
+use Rattle.std.proofs.Common.{arith}
 use Rattle.ra_value.proofs.GreatestLemmas.{signed_order-cast}
 use Rattle.ra_value.proofs.greatest.is_less.Goals as goal
 
