@@ -2,6 +2,7 @@ pub mod AlongLemmas
 mod BoundsLemmas
 mod Carried
 pub mod CountingLemmas
+pub mod HandedLemmas
 mod LawLemmas
 mod OutcomeLemmas
 mod PassLemmas

@@ -2,6 +2,7 @@ pub mod Along
 pub mod Bounds
 pub mod Counting
 pub mod Equations
+pub mod Handed
 pub mod Laws
 pub mod Outcome
 pub mod OutcomeLaws

@@ -1,12 +1,14 @@
 //! Laws on the definitions, for whoever reads them.
 
-ghost use Rattle.std.specs.Prelude.{◌≡◌, ◌↔◌, ◌⊎◌, ℕ, None, Some, true, false};
+ghost use Rattle.std.specs.Prelude.{◌≡◌, ◌↔◌, ◌⊎◌, ℕ, Bool, List, None, Some, true, false};
+ghost use Rattle.ra_condition.specs.declared.condition.Condition.{Condition};
 ghost use Rattle.ra_condition.specs.Flags.{is_pause, is_reset, is_measured_if, is_wanted, is_required};
 ghost use Rattle.ra_group.specs.declared.form.Form.{Form};
-ghost use Rattle.ra_group.specs.Equations.{Frame, prev_of, settled_at};
-ghost use Rattle.ra_group.specs.Outcome.{outcome_of};
+ghost use Rattle.ra_group.specs.Equations.{Frame, frame_of, prev_of, settled_at};
+ghost use Rattle.ra_group.specs.Outcome.{outcome_of, next_hits};
 ghost use Rattle.ra_group.specs.Counting.{counts_hits};
 ghost use Rattle.ra_group.specs.OutcomeLaws.{SomeValid, EachValid, NoneMeasured, IsGreatestNumber};
+ghost use Rattle.ra_group.specs.Handed.{AgreeWhereCounted};
 ghost use Rattle.ra_group.specs.Laws.{IsPrev, HasEquationsAfter, HasEquationsFirst, HasOwnEquations};
 
 /// The equations hold of each condition and the one before it: docs/DEFINITIONS.md, "Equations of a
@@ -43,4 +45,17 @@ pub fn outcome_holds()
         → ¬ (EachValid is_measured_if f) → n ≡ 0 }
     ensures from_hits { (form : Form) (f : Frame)
         → (outcome_of form f).from_hits ≡ counts_hits form f.conditions }
+{}
+
+/// The comparisons of conditions that only hand a value on do not matter: docs/DEFINITIONS.md,
+/// "Equations of a condition".
+///
+/// A law: it does nothing.
+pub fn handed_on_holds()
+    ensures outcome { (form : Form) (cs : List Condition) (truths truths' : List Bool) (lefts hits : List ℕ)
+        → AgreeWhereCounted cs truths truths'
+        → outcome_of form (frame_of cs truths lefts hits) ≡ outcome_of form (frame_of cs truths' lefts hits) }
+    ensures next { (cs : List Condition) (truths truths' : List Bool) (lefts hits : List ℕ)
+        → AgreeWhereCounted cs truths truths'
+        → next_hits (frame_of cs truths lefts hits) ≡ next_hits (frame_of cs truths' lefts hits) }
 {}
