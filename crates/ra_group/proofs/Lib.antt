@@ -10,5 +10,5 @@ mod PausesLemmas
 mod TallyLemmas
 mod TurnLemmas
 mod Turns
-mod WordLemmas
+pub mod WordLemmas
 pub mod Vectors
