@@ -1,2 +1,4 @@
 mod LawLemmas
 mod Marks
+pub mod OrderPlaces
+pub mod ValueLemmas
