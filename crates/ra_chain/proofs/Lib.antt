@@ -1,4 +1,5 @@
 mod LawLemmas
 mod Marks
 pub mod OrderPlaces
+pub mod PlantLemmas
 pub mod ValueLemmas

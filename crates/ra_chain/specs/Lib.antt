@@ -1,3 +1,4 @@
 pub mod Elaboration
-pub mod Occurrence
 pub mod Laws
+pub mod Occurrence
+pub mod Planting

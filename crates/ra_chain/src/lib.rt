@@ -2,6 +2,7 @@
 #![tactic(auto)]
 
 mod laws;
+mod nodes;
 mod order;
 mod plan;
 #[cfg(test)]

@@ -12,7 +12,7 @@ use Rattle.ra_indirect.specs.declared.node.Node.TheVariants.{Const, Cell as Cell
 use Rattle.ra_indirect.specs.Trees.{Tree, constant, Cell, Tracked, same_cell, same_tracked, firsts}
 use Rattle.ra_indirect.specs.Pools.{Spelled, IsTree, IsCell, spelled_at, spelled_with, spelled_by, cell_in, tracked_at, cells_of, tracked_of, MayFollow, node_at}
 use Rattle.ra_indirect.specs.Interned.{IsPool, Interns}
-use Rattle.ra_indirect.specs.Growing.{grown, IsFront}
+use Rattle.ra_indirect.specs.Growing.{grown, IsFront, GainsNode}
 use Rattle.ra_indirect.proofs.SameLemmas.{cell_is, cell_itself, tracked_is, tracked_itself}
 use Rattle.ra_indirect.proofs.FirstsLemmas.{has_same, firsts-push, has_same-firsts, any_get, along}
 use Rattle.ra_indirect.proofs.Spelling.{spelled_by-push, spelled_by-append, spelled_of, length-spelled_by}
@@ -115,14 +115,6 @@ module _ (nodes : List Node) where
 
     pub cells_of-fresh : cells_of (nodes ++ node ∷ []) ≡ grown same_cell (cells_of nodes) (cell_in (spelled_with spelled node))
     cells_of-fresh = cells_of-push node ∙ grows_by (spelled_with spelled node) refl
-
--- what a pool gains by a node
-pub record GainsNode (old new : List Node) (node : Node) (place : ℕ) : Type 0 where
-  pub front : IsFront old new
-  pub within : place < length new
-  pub spells : spelled_at (spelled_by new) place ≡ spelled_with (spelled_by old) node
-  pub cells : cells_of new ≡ grown same_cell (cells_of old) (cell_in (spelled_with (spelled_by old) node))
-  pub tracked : tracked_of new ≡ grown same_tracked (tracked_of old) (tracked_at (spelled_with (spelled_by old) node))
 
 pub gains : (old new : List Node) (node : Node) (place : ℕ) → IsPool old → IsPool new → Interns old new node place → GainsNode old new node place
 gains old new node place pool after (inl found) =
