@@ -18,7 +18,8 @@ use Rattle.ra_indirect.specs.Growing.{grown, IsFront, GrowsBy, AddsAtMost, Gains
 use Rattle.ra_indirect.proofs.Spelling.{length-spelled_by, spelled_by-append, spelled_of}
 use Rattle.ra_indirect.proofs.GrowingLemmas.{grown-append, cells_of-push}
 use Rattle.ra_indirect.proofs.ClosedLemmas.{closed}
-use Rattle.ra_indirect.proofs.SpelledLemmas.{cell_inside}
+use Rattle.ra_indirect.proofs.SpelledLemmas.{cell_inside, GivesTree, with_valued}
+use Rattle.ra_indirect.proofs.PoolLemmas.{node_at-append}
 use Rattle.ra_operand.specs.declared.op.Op.TheVariants.{Sub}
 use Rattle.ra_chain.specs.Elaboration.{subtracted}
 use Rattle.ra_chain.specs.Planting.{Names, SpellsSum, Plants, IsKept, cells_at, views_at}
@@ -204,3 +205,18 @@ plants_after old mid new trees tree n first second = record {
   grows = grows_through old mid new [] trees first second.grows;
   spells = second.spells;
 }
+
+tree_there : (a : Spelled) → GivesTree a → a ≡ IsTree (tree_in a)
+tree_there (IsTree x) gives = refl
+tree_there (IsCell c) gives = absurd gives
+
+-- a node with a value may be named
+pub gains_named : (old new : List Node) (node : Node) (place : ℕ) → IsPool new → GainsNode old new node place → IsValued node → Names new place
+gains_named old new node place pool gains valued =
+    spells_named new place _ pool
+    (spells_from new place _ gains.within (gains.spells ∙ tree_there (spelled_with (spelled_by old) node) (with_valued (spelled_by old) node valued)))
+
+pub names_more : (old new : List Node) (n : ℕ) → IsFront old new → Names old n → Names new n
+names_more old new n front names =
+    subst (λ ns. Names ns n) (sym front.whole)
+    (omega (arith, names.0, length-append old front.more), subst IsValued (sym (node_at-append old front.more n names.0)) names.1)

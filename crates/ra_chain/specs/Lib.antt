@@ -2,3 +2,4 @@ pub mod Elaboration
 pub mod Laws
 pub mod Occurrence
 pub mod Planting
+pub mod Sides

@@ -3,7 +3,7 @@
 ghost use Rattle.std.specs.Prelude.{◌≡◌, ℕ, ◌+◌, ◌<◌, ◌≤◌, ◌^◌, Option, [], ◌∷◌, length, IsTrue, IfOk};
 ghost use Rattle.ra_operand.specs.Operators.{is_arithmetic};
 ghost use Rattle.ra_indirect.specs.Trees.{Tree, constant, join, view};
-ghost use Rattle.ra_indirect.specs.Pools.{MayFollow, Spells};
+ghost use Rattle.ra_indirect.specs.Pools.{MayFollow, IsValued, Spells};
 ghost use Rattle.ra_indirect.specs.Interned.{IsPool};
 ghost use Rattle.ra_indirect.specs.Growing.{GainsNode};
 ghost use Rattle.ra_chain.specs.Elaboration.{operand_tree, added, subtracted, sum_after};
@@ -20,6 +20,7 @@ fn node_of(pool: &mut Pool, node: Node) -> Result<u32, OutOfMemory>
     requires follows { MayFollow pool.old node }
     requires room { length pool.old < 2 ^ 31 }
     ensures ok { IfOk result (GainsNode pool.old pool.new node) }
+    ensures named { IfOk result (λ n. IsValued node → Names pool.new n) }
     ensures kept { IsKept pool.old pool.new 1 (cells_at node) (views_at node) }
 {
     let number = pool.intern(node)?;
@@ -31,6 +32,7 @@ fn constant_node(pool: &mut Pool, value: u32) -> Result<u32, OutOfMemory>
     requires pool { IsPool pool.old }
     requires room { length pool.old < 2 ^ 31 }
     ensures ok { IfOk result (Plants pool.old pool.new (constant value ∷ []) (constant value)) }
+    ensures named { IfOk result (Names pool.new) }
     ensures kept { IsKept pool.old pool.new 1 0 0 }
 {
     let number = node_of(pool, Node::Const(value))?;
@@ -69,6 +71,7 @@ fn view_node(
     requires named { Names pool.old pointer }
     ensures ok { IfOk result (λ n. (p : Tree) → Spells pool.old pointer p
         → Plants pool.old pool.new (view kind size p address ∷ []) (view kind size p address) n) }
+    ensures named { IfOk result (Names pool.new) }
     ensures kept { IsKept pool.old pool.new 2 1 1 }
 {
     let cell = Node::Cell {
@@ -94,6 +97,7 @@ pub fn operand_node(
     requires recalled { NamesSome pool.old recalled }
     ensures ok { IfOk result (λ n. (p r : Tree) → SpellsOrZero pool.old pointer p → SpellsOrZero pool.old recalled r
         → Plants pool.old pool.new (operand_tree operand p r ∷ []) (operand_tree operand p r) n) }
+    ensures named { IfOk result (Names pool.new) }
     ensures kept { IsKept pool.old pool.new 3 1 1 }
 {
     match operand {
@@ -193,6 +197,7 @@ pub fn joined_node(pool: &mut Pool, op: Op, left: u32, right: u32) -> Result<u32
     requires right { Names pool.old right }
     ensures ok { IfOk result (λ n. (s t : Tree) → Spells pool.old left s → Spells pool.old right t
         → Plants pool.old pool.new [] (join op s t) n) }
+    ensures named { IfOk result (Names pool.new) }
     ensures kept { IsKept pool.old pool.new 1 0 0 }
 {
     let joined = node_of(pool, Node::Arith { op, left, right })?;
