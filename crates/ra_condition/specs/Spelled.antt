@@ -34,6 +34,7 @@ pub record IsCondition (setting : Setting) (c : Condition) : Type 0 where
 abbrev pub IsTriggerGroup : List Condition → Type 0
 IsTriggerGroup = All (IsCondition InTrigger)
 
+-- any groups of any conditions
 pub record IsTrigger (t : TriggerContents) : Type 0 where
   pub core : IsTriggerGroup t.core
   pub alts : All IsTriggerGroup t.alts
@@ -59,10 +60,12 @@ abbrev pub FitsFactor : Option Operand → Type 0
 FitsFactor (Some factor) = Fits32 factor
 FitsFactor None = Unit {0}
 
+-- a term
 pub record IsTerm (t : Term) : Type 0 where
   pub operand : Fits32 t.operand
   pub factor : FitsFactor t.factor
 
+-- at least one term, or a group of a value
 abbrev pub IsPart : PartContents → Type 0
 IsPart (Legacy terms) = (0 < length terms) × All IsTerm terms
 IsPart (Grouped conditions) = IsValueGroup conditions

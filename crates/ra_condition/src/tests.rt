@@ -98,35 +98,32 @@ fn triggers_print_what_they_keep(rt: HostRuntime) -> Result<(), Fail> {
 
 #[test]
 fn flags_are_read_in_either_case(rt: HostRuntime) -> Result<(), Fail> {
-    for (text, flag) in [
-        ("P:0=0", Flag::PauseIf),
-        ("r:0=0", Flag::ResetIf),
-        ("R:0=0", Flag::ResetIf),
-        ("a:0=0", Flag::AddSource),
-        ("B:0=0", Flag::SubSource),
-        ("b:0=0", Flag::SubSource),
-        ("c:0=0", Flag::AddHits),
-        ("D:0=0", Flag::SubHits),
-        ("d:0=0", Flag::SubHits),
-        ("n:0=0", Flag::AndNext),
-        ("O:0=0", Flag::OrNext),
-        ("m:0=0", Flag::Measured),
-        ("g:0=0", Flag::MeasuredPercent),
-        ("Q:0=0", Flag::MeasuredIf),
-        ("i:0=0", Flag::AddAddress),
-        ("T:0=0", Flag::TriggerIf),
-        ("z:0=0", Flag::ResetNextIf),
-        ("k:0=0", Flag::Remember),
-        ("p:0=0", Flag::PauseIf),
-        ("0=0", Flag::Plain),
+    for (upper, lower, flag) in [
+        ("P:0=0", "p:0=0", Flag::PauseIf),
+        ("R:0=0", "r:0=0", Flag::ResetIf),
+        ("A:0=0", "a:0=0", Flag::AddSource),
+        ("B:0=0", "b:0=0", Flag::SubSource),
+        ("C:0=0", "c:0=0", Flag::AddHits),
+        ("D:0=0", "d:0=0", Flag::SubHits),
+        ("N:0=0", "n:0=0", Flag::AndNext),
+        ("O:0=0", "o:0=0", Flag::OrNext),
+        ("M:0=0", "m:0=0", Flag::Measured),
+        ("G:0=0", "g:0=0", Flag::MeasuredPercent),
+        ("Q:0=0", "q:0=0", Flag::MeasuredIf),
+        ("I:0=0", "i:0=0", Flag::AddAddress),
+        ("T:0=0", "t:0=0", Flag::TriggerIf),
+        ("Z:0=0", "z:0=0", Flag::ResetNextIf),
+        ("K:0=0", "k:0=0", Flag::Remember),
     ] {
-        let trigger = parse_trigger(rt.alloc(), text.as_bytes()).map_err(|_| "refused")?;
-        let first = trigger
-            .core
-            .conditions
-            .first()
-            .map(|condition| condition.flag);
-        assert_eq!(rt; first, Some(flag), "at {text}");
+        for text in [upper, lower] {
+            let trigger = parse_trigger(rt.alloc(), text.as_bytes()).map_err(|_| "refused")?;
+            let first = trigger
+                .core
+                .conditions
+                .first()
+                .map(|condition| condition.flag);
+            assert_eq!(rt; first, Some(flag), "at {text}");
+        }
     }
     Ok(())
 }
