@@ -42,8 +42,8 @@ pub words_at-part : (bytes : List ℕ) (at size count : ℕ) → 4 * count ≤ s
 words_at-part bytes at size count within =
     map_same_below (λ k. word_at (take size (drop at bytes)) (0 + 4 * k)) (λ k. word_at bytes (at + 4 * k)) 0 count
     (λ k above below.
-      let z : 0 + 4 * k ≡ 4 * k = omega arith in
-      ap (word_at (take size (drop at bytes))) z ∙ word_at-part bytes at size (4 * k) (omega arith))
+    let z : 0 + 4 * k ≡ 4 * k = omega arith in
+    ap (word_at (take size (drop at bytes))) z ∙ word_at-part bytes at size (4 * k) (omega arith))
 
 pub length-words_at : (bytes : List ℕ) (at count : ℕ) → length (words_at bytes at count) ≡ count
 length-words_at bytes at count = length-map-range_with_len (λ k. word_at bytes (at + 4 * k)) 0 count

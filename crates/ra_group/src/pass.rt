@@ -49,6 +49,7 @@ pub fn step(
             continue;
         }
         let settled = Settled::of(condition, truths[place], hits[place], before);
+        // Past the pause chains it is known whether the group is paused, and then its hits stay.
         let frozen = tally.paused && turn >= pauses;
         tally.note(form, condition, &settled, lefts[place]);
         if !frozen {

@@ -1,3 +1,4 @@
+pub mod CountLemmas
 mod GatherLemmas
 mod GroupsLemmas
 mod LawLemmas

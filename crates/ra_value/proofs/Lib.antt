@@ -1,3 +1,4 @@
+pub mod CountLemmas
 mod CountedLemmas
 mod GreatestLemmas
 mod LawLemmas
