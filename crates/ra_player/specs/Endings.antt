@@ -11,6 +11,7 @@ use Rattle.ra_trace.specs.declared.error.Why.{Why}
 use Rattle.ra_trace.specs.declared.error.Why.TheVariants.{Header, Kind, Cut, PastMemory, Slot, EmptySlot}
 use Rattle.ra_trace.specs.Cutting.{Stop, Reached, RefusedAt, PastLimit}
 
+-- how a job ends
 pub data Ending : Type 0 where
   Done : Ending
   NoMemory : Ending
@@ -27,6 +28,7 @@ pub data Ending : Type 0 where
   LaterSet : Ending
   LaterTrace : Ending
 
+-- the status of each ending
 abbrev pub status_of : Ending → ℕ
 status_of Done = 0
 status_of NoMemory = 1
@@ -45,9 +47,11 @@ status_of LaterTrace = 7
 abbrev pub hex_digit : ℕ → ℕ
 hex_digit n = if nat_lt n 10 then n + 48 else n + 87
 
+-- each byte in two digits
 abbrev pub hex : List ℕ → List ℕ
 hex bytes = flat_map (λ b. hex_digit (b / 16) ∷ hex_digit (b % 16) ∷ []) bytes
 
+-- the word of each limit
 abbrev pub word_of_limit : Which → List ℕ
 word_of_limit Bytes = codes "bytes"
 word_of_limit Items = codes "items"
@@ -55,6 +59,7 @@ word_of_limit Conditions = codes "conditions"
 word_of_limit Macros = codes "macros"
 word_of_limit Lookup = codes "lookup"
 
+-- the most that each limit allows
 abbrev pub most_of : Which → ℕ
 most_of Bytes = 4194304
 most_of Items = 16384
@@ -62,12 +67,14 @@ most_of Conditions = 65536
 most_of Macros = 256
 most_of Lookup = 1024
 
+-- why a set is refused, in words
 abbrev pub set_words : SetRefused → List ℕ
 set_words (Syntax at) = codes "syntax at " ++ decimal at
 set_words (DuplicateId id line) = codes "id " ++ decimal id ++ codes " again on line " ++ decimal line
 set_words (Limit which found) = word_of_limit which ++ codes " " ++ decimal found ++ codes " over " ++ decimal (most_of which)
 set_words Memory = []
 
+-- why progress bytes are refused, in words; the digest is that of the set
 abbrev pub progress_words : List ℕ → ProgressRefused → List ℕ
 progress_words digest (WrongLength wanted found) = codes "length " ++ decimal found ++ codes " wanted " ++ decimal wanted
 progress_words digest (WrongMark found) = codes "mark " ++ hex found ++ codes " wanted 52415047"
@@ -76,6 +83,7 @@ progress_words digest (WrongSum kept found) = codes "sum " ++ hex kept ++ codes 
 progress_words digest (OtherSet found) = codes "set " ++ hex found ++ codes " wanted " ++ hex digest
 progress_words digest (BadState at found) = codes "state " ++ decimal found ++ codes " at " ++ decimal at
 
+-- why a trace is refused, in a word
 abbrev pub trace_word : Why → List ℕ
 trace_word Header = codes "header"
 trace_word Kind = codes "kind"
@@ -84,6 +92,7 @@ trace_word PastMemory = codes "memory"
 trace_word Slot = codes "slot"
 trace_word EmptySlot = codes "empty"
 
+-- how the program is called
 abbrev pub usage : List ℕ
 usage = codes "usage: ra_player run SET TRACE [--restore FILE] [--save FILE] | check SET | make N"
 

@@ -17,6 +17,7 @@ use Rattle.ra_runtime.specs.Openings.{snapshot, plain_opening}
 use Rattle.ra_runtime.specs.Play.{Moment, moved, printed, first_moment, behind_end}
 use Rattle.ra_player.specs.Endings.{Ending, Done, BadSet, BadProgress, ending_of, hex}
 
+-- what a job says where nothing fails
 pub record Expected : Type 0 where
   -- what each record prints, in order
   pub pieces : List (List ℕ)
@@ -28,10 +29,11 @@ pub record Expected : Type 0 where
 abbrev pub prints_nothing : Ending → Expected
 prints_nothing ending = record { pieces = []; ending = ending; saved = [] }
 
--- the most bytes that a run takes of a trace, and of a set
+-- the most bytes that a run takes of a trace
 abbrev pub trace_limit : ℕ
 trace_limit = 2 ^ 24
 
+-- the most bytes of a set
 abbrev pub set_limit : ℕ
 set_limit = 4194304
 
@@ -60,12 +62,13 @@ pub data RunSays (Accepts : List ℕ → SetContents → Type 0) (Refuses : List
   -- every opening and history that the file keeps
   goes_on : (set : SetContents) (o : Opening) (behind : History) → Accepts set_file set → IsOpening (shape_of set) o → AreImages behind → RunSays Accepts Refuses set_file trace_file (Some (progress_bytes set.digest (snapshot set o behind))) (played set o behind trace_file)
 
--- the counts of a set's items
+-- how many achievements a set has
 abbrev pub achievements_in : List ItemContents → ℕ
 achievements_in [] = 0
 achievements_in (Unlocks id t ∷ items) = achievements_in items + 1
 achievements_in (Ranks id format b ∷ items) = achievements_in items
 
+-- how many leaderboards a set has
 abbrev pub boards_in : List ItemContents → ℕ
 boards_in [] = 0
 boards_in (Unlocks id t ∷ items) = boards_in items

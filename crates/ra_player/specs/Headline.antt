@@ -21,13 +21,15 @@ pub record Outside : Type 0 where
 abbrev pub outside_of : (content : List ℕ → Option (List ℕ)) → (read_faults put_faults : List ℕ → ℕ) → (text : Option (List ℕ)) → (faults : ℕ) → Outside
 outside_of content read_faults put_faults text faults = record { content = content; read_faults = read_faults; put_faults = put_faults; text = text; faults = faults }
 
--- a read of one of these names failed, or a put, or a write
+-- a read of one of these names failed in the call
 abbrev pub ReadsRose : List (List ℕ) → Outside → Outside → Type 0
 ReadsRose names old new = Any (λ name. Rose (old.read_faults name) (new.read_faults name)) names
 
+-- a put of one of these names failed in the call
 abbrev pub PutsRose : List (List ℕ) → Outside → Outside → Type 0
 PutsRose names old new = Any (λ name. Rose (old.put_faults name) (new.put_faults name)) names
 
+-- a write failed in the call
 abbrev pub SinkRose : Outside → Outside → Type 0
 SinkRose old new = Rose old.faults new.faults
 

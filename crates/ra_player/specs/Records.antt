@@ -32,6 +32,7 @@ plays_entry Framed = true
 plays_entry Ended = true
 plays_entry _ = false
 
+-- the records end in an end record
 abbrev pub reaches_end : Stop → Bool
 reaches_end (Reached at) = true
 reaches_end _ = false

@@ -15,10 +15,12 @@ use Rattle.ra_indirect.specs.Trees.{Tree, constant}
 use Rattle.ra_memref.specs.Values.{Start, value_of}
 use Rattle.ra_chain.specs.Elaboration.{operand_tree}
 
+-- the operand looks at the number of this frame
 abbrev pub is_mem : Kind → Bool
 is_mem Mem = true
 is_mem _ = false
 
+-- the operand views 8 bits
 abbrev pub is_byte : Size → Bool
 is_byte Byte = true
 is_byte _ = false
@@ -33,6 +35,7 @@ is_simple_operand Recall = false
 abbrev pub is_simple : Condition → Bool
 is_simple c = not (hands_on c.flag) && (not (is_arithmetic c.op) && (is_simple_operand c.left && is_simple_operand c.right))
 
+-- all conditions of the groups are simple
 abbrev pub are_simple : List (List Condition) → Bool
 are_simple groups = list_all (λ cs. list_all is_simple cs) groups
 
@@ -40,10 +43,11 @@ are_simple groups = list_all (λ cs. list_all is_simple cs) groups
 abbrev pub plain_tree : Operand → Tree
 plain_tree operand = operand_tree operand (constant 0) (constant 0)
 
--- the left value of a simple condition at the last frame of a history, and whether its comparison holds there
+-- the left value of a simple condition at the last frame of a history
 abbrev pub left_in : Start → History → Condition → ℕ
 left_in start history c = value_of start (plain_tree c.left) history
 
+-- whether its comparison holds there
 abbrev pub truth_in : Start → History → Condition → Bool
 truth_in start history c =
     compared c.op (left_in start history c) (value_of start (plain_tree c.right) history)

@@ -213,6 +213,19 @@ fn a_failing_write_leaves_a_front(rt: HostRuntime) -> Result<(), Fail> {
     Ok(())
 }
 
+// A frame with no lines writes nothing, so that a first write that would fail is never made.
+#[test]
+fn nothing_is_written_where_nothing_is_printed(rt: HostRuntime) -> Result<(), Fail> {
+    let run = words(rt.alloc(), &["run", "S", "T"])?;
+    let mut files = MemFiles::new(rt.alloc()).ok().ok_or("memory")?;
+    files.add("S", b"A 1 0xH0010=6\n").ok().ok_or("memory")?;
+    files.add("T", FIVES).ok().ok_or("memory")?;
+    let mut out = MemSink::new(rt.alloc(), 1, [1].to_vec(rt.alloc())?);
+    assert_eq!(rt; play(rt.alloc(), run.as_slice(), &mut files, &mut out), 0);
+    assert_eq!(rt; out.taken(), b"".as_slice());
+    Ok(())
+}
+
 #[test]
 fn plays_real_files(rt: HostRuntime) -> Result<(), Fail> {
     let mut files = RealFiles::new(&rt);
