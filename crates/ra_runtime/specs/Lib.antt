@@ -6,4 +6,6 @@ pub mod Order
 pub mod Plans
 pub mod Play
 pub mod Presence
+pub mod Readings
+pub mod Runs
 pub mod Runtime
