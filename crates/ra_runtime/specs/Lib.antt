@@ -1,5 +1,7 @@
+pub mod BoardRuns
 pub mod Boards
 pub mod Histories
+pub mod ItemRuns
 pub mod Lines
 pub mod Openings
 pub mod Order
@@ -7,5 +9,6 @@ pub mod Plans
 pub mod Play
 pub mod Presence
 pub mod Readings
+pub mod RunLines
 pub mod Runs
 pub mod Runtime

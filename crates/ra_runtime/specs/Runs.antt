@@ -8,10 +8,11 @@ use Rattle.ra_indirect.specs.Pools.{spelled_by}
 use Rattle.ra_chain.specs.declared.plan.GroupPlan.{GroupPlan}
 use Rattle.ra_memref.specs.Values.{Start}
 use Rattle.ra_memref.specs.Table.{TableSeen, spelled_value}
-use Rattle.ra_trigger.specs.Kept.{change_between}
+use Rattle.ra_trigger.specs.Kept.{no_trigger, change_between}
 use Rattle.ra_trigger.specs.Steps.{step as trigger_step, truth, hits_after_truth}
-use Rattle.ra_value.specs.Steps.{ValueKept}
+use Rattle.ra_value.specs.Steps.{ValueKept, no_value}
 use Rattle.ra_leaderboard.specs.declared.state.BoardState.{BoardState}
+use Rattle.ra_runtime.specs.declared.plans.ValuePlan.{ValuePlan}
 use Rattle.ra_runtime.specs.declared.laid.Laid.{Laid}
 use Rattle.ra_runtime.specs.declared.test_run.TestRun.{TestRun}
 use Rattle.ra_runtime.specs.declared.achievement_run.AchievementRun.{AchievementRun}
@@ -60,6 +61,11 @@ pub record IsTestRun (nodes : List Node) (t : TriggerContents) (run : TestRun) :
   pub laid : IsLaid nodes (groups_of t) run.laid
   pub hits : length run.trigger.hits ≡ trigger_hits t
 
+-- a trigger of which nothing is kept yet
+pub record IsNewTest (t : TriggerContents) (plan : GroupPlan) (run : TestRun) : Type 0 where
+  pub laid : IsRoomFor (groups_of t) plan run.laid
+  pub trigger : run.trigger ≡ no_trigger t
+
 -- one frame of a trigger without states
 pub record StepsTest (table : TableSeen) (t : TriggerContents) (old new : TestRun) (result : Bool) : Type 0 where
   pub truth_is : (start : Start) (history : History) → HasValues table start history → result ≡ truth t (truths_at start history (groups_of t)) (lefts_at start history (groups_of t)) old.trigger.hits
@@ -69,6 +75,11 @@ pub record StepsTest (table : TableSeen) (t : TriggerContents) (old new : TestRu
 pub record IsAchievementRun (nodes : List Node) (t : TriggerContents) (run : AchievementRun) : Type 0 where
   pub laid : IsLaid nodes (groups_of t) run.laid
   pub hits : length run.trigger.hits ≡ trigger_hits t
+
+-- an achievement that waits
+pub record IsNewAchievement (t : TriggerContents) (plan : GroupPlan) (run : AchievementRun) : Type 0 where
+  pub laid : IsRoomFor (groups_of t) plan run.laid
+  pub trigger : run.trigger ≡ no_trigger t
 
 -- one frame of an achievement, and the record of it
 pub record StepsAchievement (table : TableSeen) (t : TriggerContents) (old new : AchievementRun) : Type 0 where
@@ -82,6 +93,13 @@ pub record IsValueRun (nodes : List Node) (parts : List PartContents) (run : Val
   pub sums : length run.sums.items ≡ length parts
   pub hits : length run.value.hits ≡ value_hits parts
   pub numbers : length run.value.numbers ≡ length parts
+
+-- a value with all numbers 0
+pub record IsNewValue (parts : List PartContents) (plan : ValuePlan) (run : ValueRun) : Type 0 where
+  pub laid : IsRoomFor (map counted_in parts) plan.groups run.laid
+  pub nodes : run.nodes ≡ plan.sums
+  pub sums : length run.sums.items ≡ length parts
+  pub value : run.value ≡ no_value parts
 
 -- what its conditions and its legacy parts read is taken up; all else stays
 pub record IsRead (values : List ℕ) (old new : ValueRun) : Type 0 where

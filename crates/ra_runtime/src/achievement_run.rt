@@ -1,7 +1,6 @@
 ghost use Rattle.std.specs.Prelude.{◌≡◌, true, None, IfOk};
-ghost use Rattle.ra_condition.specs.Contents.{trigger_contents, groups_of};
-ghost use Rattle.ra_trigger.specs.Kept.{no_trigger};
-ghost use Rattle.ra_runtime.specs.Runs.{IsAchievementRun, StepsAchievement, IsRoomFor};
+ghost use Rattle.ra_condition.specs.Contents.{trigger_contents};
+ghost use Rattle.ra_runtime.specs.Runs.{IsAchievementRun, StepsAchievement, IsNewAchievement};
 
 use crate::laid::{Laid, trigger_ops};
 use ra_chain::GroupPlan;
@@ -26,8 +25,7 @@ impl AchievementRun {
         text: &TriggerText,
         plan: GroupPlan,
     ) -> Result<Self, OutOfMemory>
-        ensures laid { IfOk result (λ run. IsRoomFor (groups_of (trigger_contents text.now)) plan run.laid) }
-        ensures trigger { IfOk result (λ run. run.trigger ≡ no_trigger (trigger_contents text.now)) }
+        ensures { IfOk result (IsNewAchievement (trigger_contents text.now) plan) }
     {
         let ops = trigger_ops(alloc, text)?;
         let laid = Laid::new(alloc, plan, ops)?;

@@ -2,6 +2,8 @@
 #![tactic(auto)]
 
 mod achievement_run;
+mod board_run;
+mod item_run;
 mod laid;
 mod laws;
 mod plans;

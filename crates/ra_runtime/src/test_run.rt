@@ -1,8 +1,6 @@
 ghost use Rattle.std.specs.Prelude.{◌≡◌, true, IfOk};
-ghost use Rattle.ra_condition.specs.Contents.{trigger_contents, groups_of};
-ghost use Rattle.ra_trigger.specs.Kept.{no_trigger};
-ghost use Rattle.ra_runtime.specs.Readings.{ops_of};
-ghost use Rattle.ra_runtime.specs.Runs.{IsTestRun, StepsTest, IsRoomFor};
+ghost use Rattle.ra_condition.specs.Contents.{trigger_contents};
+ghost use Rattle.ra_runtime.specs.Runs.{IsTestRun, StepsTest, IsNewTest};
 
 use crate::laid::{Laid, trigger_ops};
 use ra_chain::GroupPlan;
@@ -26,8 +24,7 @@ impl TestRun {
         text: &TriggerText,
         plan: GroupPlan,
     ) -> Result<Self, OutOfMemory>
-        ensures laid { IfOk result (λ run. IsRoomFor (groups_of (trigger_contents text.now)) plan run.laid) }
-        ensures trigger { IfOk result (λ run. run.trigger ≡ no_trigger (trigger_contents text.now)) }
+        ensures { IfOk result (IsNewTest (trigger_contents text.now) plan) }
     {
         let ops = trigger_ops(alloc, text)?;
         let laid = Laid::new(alloc, plan, ops)?;

@@ -1,8 +1,7 @@
 ghost use Rattle.std.specs.Prelude.{◌≡◌, true, IfOk, length, map};
 ghost use Rattle.ra_condition.specs.Contents.{value_contents, counted_in};
-ghost use Rattle.ra_value.specs.Steps.{no_value};
 ghost use Rattle.ra_runtime.specs.Readings.{AreValuedSums};
-ghost use Rattle.ra_runtime.specs.Runs.{IsValueRun, StepsValue, FollowsValue, IsRoomFor, MayFill, IsRead};
+ghost use Rattle.ra_runtime.specs.Runs.{IsValueRun, StepsValue, FollowsValue, IsNewValue, MayFill, IsRead};
 
 use crate::laid::{Laid, value_ops};
 use crate::plans::ValuePlan;
@@ -26,10 +25,7 @@ pub(crate) struct ValueRun {
 impl ValueRun {
     // A value with all numbers 0.
     pub(crate) fn new(alloc: Global, text: &ValueText, plan: ValuePlan) -> Result<Self, OutOfMemory>
-        ensures laid { IfOk result (λ run. IsRoomFor (map counted_in (value_contents text.now)) plan.groups run.laid) }
-        ensures nodes { IfOk result (λ run. run.nodes ≡ plan.sums) }
-        ensures sums { IfOk result (λ run. length run.sums.items ≡ length (value_contents text.now)) }
-        ensures value { IfOk result (λ run. run.value ≡ no_value (value_contents text.now)) }
+        ensures { IfOk result (IsNewValue (value_contents text.now) plan) }
     {
         let ops = value_ops(alloc, text)?;
         let laid = Laid::new(alloc, plan.groups, ops)?;
