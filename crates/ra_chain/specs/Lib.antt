@@ -1,3 +1,5 @@
 pub mod Elaboration
-pub mod Occurrence
 pub mod Laws
+pub mod Occurrence
+pub mod Planting
+pub mod Sides

@@ -48,19 +48,19 @@ unequal_or_ordered_at = choice_at (begins (is_in (only (codes "!")))) unequal_at
 unfoldable pub comparison_at : List ℕ → Outcome ℕ Op
 comparison_at = choice_at (begins (is_in (only (codes "=")))) equal_at unequal_or_ordered_at
 
+-- a number between two bytes
+unfoldable pub between_at : (opening closing : ℕ) → List ℕ → Outcome ℕ ℕ
+between_at opening closing text = do
+  o ← one_at (only (opening ∷ [])) text
+  n ← decimal_at o.1
+  c ← one_at (only (closing ∷ [])) n.1
+  Ok (n.0, c.1)
+
 unfoldable pub dotted_at : List ℕ → Outcome ℕ ℕ
-dotted_at text = do
-  point ← one_at (only (codes ".")) text
-  n ← decimal_at point.1
-  closing ← one_at (only (codes ".")) n.1
-  Ok (n.0, closing.1)
+dotted_at = between_at 46 46
 
 unfoldable pub bracketed_at : List ℕ → Outcome ℕ ℕ
-bracketed_at text = do
-  bracket ← one_at (only (codes "(")) text
-  n ← decimal_at bracket.1
-  closing ← one_at (only (codes ")")) n.1
-  Ok (n.0, closing.1)
+bracketed_at = between_at 40 41
 
 unfoldable pub bracketed_or_none_at : List ℕ → Outcome ℕ ℕ
 bracketed_or_none_at = choice_at (begins (is_in (only (codes "(")))) bracketed_at (λ text. Ok (0, text))

@@ -1,4 +1,4 @@
--- What texts spell: the structure of the triggers and values that some text spells.
+-- The structure of the triggers and values that some text spells: docs/DEFINITIONS.md, "What texts spell".
 use Rattle.std.specs.Prelude.{◌≡◌, ◌^◌, ◌<◌, Bool, true, false, not, ◌||◌, List, [], ◌∷◌, length, Option, Some, None, All}
 use Rattle.ra_operand.specs.declared.op.Op.{Op}
 use Rattle.ra_operand.specs.declared.operand.Operand.{Operand}

@@ -63,7 +63,8 @@ module _ {A : Type 0} (same : A → A → Bool) where
         λ i d below. sym (ap (λ zs. get_or (firsts same zs) i d) same_list) ∙ rest.1 i d (omega (arith, one.0)) ∙ one.1 i d below,
       )
 
-  any_get : (test : A → Bool) (y : A) → test y ≡ true → (xs : List A) (i : ℕ) → slice_get xs i ≡ Some y → list_any test xs ≡ true
+  -- an element that passes a test is found by it
+  pub any_get : (test : A → Bool) (y : A) → test y ≡ true → (xs : List A) (i : ℕ) → slice_get xs i ≡ Some y → list_any test xs ≡ true
   any_get test y passes [] i here = cc
   any_get test y passes (x ∷ xs) zero here =
       let same_one : x ≡ y = cc in
@@ -71,7 +72,7 @@ module _ {A : Type 0} (same : A → A → Bool) where
   any_get test y passes (x ∷ xs) (suc i) here = or_right (test x) (list_any test xs) (any_get test y passes xs i here)
 
   module _ (equal : (x y : A) → same x y ≡ true → x ≡ y) (itself : (x : A) → same x x ≡ true) where
-    along : (x z y : A) → same x z ≡ true → same z y ≡ true → same x y ≡ true
+    pub along : (x z y : A) → same x z ≡ true → same z y ≡ true → same x y ≡ true
     along x z y xz zy = subst (λ w. same x w ≡ true) (equal z y zy) xz
 
     -- one that stands among the firsts adds nothing, and a new one goes last

@@ -1,6 +1,8 @@
+pub mod ClosedLemmas
 pub mod FirstsLemmas
-pub mod Positions
+pub mod GrowingLemmas
 pub mod PoolLemmas
+pub mod Positions
 pub mod SameLemmas
-pub mod Spelling
 pub mod SpelledLemmas
+pub mod Spelling

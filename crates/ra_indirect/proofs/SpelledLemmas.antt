@@ -61,7 +61,7 @@ no_constant : (k : Kind) (s : Size) (a : Spelled) (n : ℕ) → GivesCell (width
 no_constant k s (IsTree x) n is same = absurd is
 no_constant k s (IsCell c) n is same = cc
 
-no_join : (k : Kind) (s : Size) (a : Spelled) (op : Op) (x y : Tree) → GivesCell (width_of s) a → join op x y ≡ view_in k s a → ⊥
+pub no_join : (k : Kind) (s : Size) (a : Spelled) (op : Op) (x y : Tree) → GivesCell (width_of s) a → join op x y ≡ view_in k s a → ⊥
 no_join k s (IsTree t) op x y is same = absurd is
 no_join k s (IsCell c) op x y is same = cc
 
@@ -78,10 +78,10 @@ names_below n nodes (CellNode pointer offset width) few may = omega (arith, may.
 names_below n nodes (View kind size c) few may = omega (arith, may.0)
 names_below n nodes (Arith op left right) few may = (omega (arith, may.0), omega (arith, may.2))
 
-tree_inside : (x y : Tree) → IsTree x ≡ IsTree y → x ≡ y
+pub tree_inside : (x y : Tree) → IsTree x ≡ IsTree y → x ≡ y
 tree_inside x y same = cc
 
-cell_inside : (c d : Cell) → IsCell c ≡ IsCell d → c ≡ d
+pub cell_inside : (c d : Cell) → IsCell c ≡ IsCell d → c ≡ d
 cell_inside c d same = cc
 
 module _ (nodes : List Node) (pool : IsPool nodes) where

@@ -1,3 +1,4 @@
+pub mod Growing
 pub mod Interned
 pub mod Pools
 pub mod Trees

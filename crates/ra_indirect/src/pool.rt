@@ -69,6 +69,7 @@ impl Pool {
         requires room { length self.old < 2 ^ 31 }
         ensures ok { IfOk result (Interns self.old self.new node) }
         ensures err { OnErr result (self.new ≡ self.old) }
+        ensures pool { IsPool self.new }
     {
         let (place, _) = self.nodes.insert_full(node)?;
         Ok(place as u32)

@@ -43,6 +43,7 @@ impl Board {
         BoardChange { before, after }
     }
 
+    /// The state of the attempt.
     pub fn state(&self) -> BoardState
         ensures { result ≡ self.now }
     {

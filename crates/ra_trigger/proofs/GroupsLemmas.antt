@@ -2,7 +2,6 @@
 use Rattle.std.proofs.Common.{◌≡◌, ℕ, ◌+◌, Bool, true, false, not, ◌&&◌, ◌||◌, Option, List, [], ◌∷◌, ◌++◌, length, take, drop, map, sum_by, refl, sym, ap, ◌∙◌, arith, append_assoc, length-append}
 use Rattle.std.specs.List.{flat_map, list_any}
 use Rattle.std.proofs.lemmas.List.{drop-drop, take_at, drop_at, append-nil, map_push, drop_all}
-use Rattle.std.proofs.lemmas.List.FromFn.{length-map-range_with_len}
 use Rattle.std.proofs.lemmas.List.Folds.{list_any-append}
 use Rattle.std.proofs.lemmas.List.Sums.{sum_by-cons, sum_by-append}
 use Rattle.std.proofs.lemmas.Grind.{flat_map-append}
@@ -10,7 +9,7 @@ use Rattle.ra_condition.specs.declared.condition.Condition.{Condition}
 use Rattle.ra_condition.specs.Flags.{is_trigger}
 use Rattle.ra_group.specs.declared.form.Form.TheVariants.{InTrigger}
 use Rattle.ra_group.specs.Equations.{Frame, frame_of}
-use Rattle.ra_group.specs.Outcome.{outcome_of, next_hit, next_hits}
+use Rattle.ra_group.specs.Outcome.{outcome_of, next_hits}
 use Rattle.ra_group.proofs.AlongLemmas.{frame_at-drop, length-next_hits}
 use Rattle.ra_group.specs.Along.{frame_at, with_part}
 use Rattle.ra_trigger.specs.declared.gathered.Gathered.{Gathered}
@@ -29,7 +28,7 @@ frames_along-push (g ∷ gs) cs truths lefts hits =
     (frames_along-push gs cs (drop (length g) truths) (drop (length g) lefts) (drop (length g) hits) ∙ ap (λ f. rest ++ f ∷ []) place)
 
 -- a hit for each condition of the groups
-length-hits_along : (gs : List (List Condition)) (truths : List Bool) (lefts hits : List ℕ) → length (flat_map next_hits (frames_along gs truths lefts hits)) ≡ sum_by length gs
+pub length-hits_along : (gs : List (List Condition)) (truths : List Bool) (lefts hits : List ℕ) → length (flat_map next_hits (frames_along gs truths lefts hits)) ≡ sum_by length gs
 length-hits_along [] truths lefts hits = refl
 length-hits_along (g ∷ gs) truths lefts hits =
     let first = frame_of g (take (length g) truths) (take (length g) lefts) (take (length g) hits) in

@@ -1,3 +1,4 @@
 mod GatherLemmas
 mod GroupsLemmas
+mod LawLemmas
 mod OrdersLemmas

@@ -1,5 +1,6 @@
 mod CountedLemmas
 mod GreatestLemmas
+mod LawLemmas
 mod OrdersLemmas
 mod PartsLemmas
 mod TurnLemmas

@@ -48,7 +48,7 @@ length-part_hits : (part : PartContents) (truths : List Bool) (lefts hits : List
 length-part_hits (Legacy terms) truths lefts hits at sum old = refl
 length-part_hits (Grouped cs) truths lefts hits at sum old = length-next_hits (frame_at cs truths lefts hits at)
 
-length-hits_of : (parts : List PartContents) (truths : List Bool) (lefts hits sums numbers : List ℕ) → length (flat_map (λ s. s.hits) (part_steps parts truths lefts hits sums numbers)) ≡ value_hits parts
+pub length-hits_of : (parts : List PartContents) (truths : List Bool) (lefts hits sums numbers : List ℕ) → length (flat_map (λ s. s.hits) (part_steps parts truths lefts hits sums numbers)) ≡ value_hits parts
 length-hits_of [] truths lefts hits sums numbers = refl
 length-hits_of (p ∷ parts) truths lefts hits sums numbers =
     let n = length (counted_in p) in

@@ -2,9 +2,11 @@
 #![tactic(auto)]
 
 mod greatest;
+mod laws;
 mod parts;
 #[cfg(test)]
 mod tests;
 mod value;
 
+pub use laws::value_holds;
 pub use value::Value;

@@ -1,19 +1,16 @@
-use Rattle.std.proofs.Common.{ℕ, ◌^◌, ◌<◌, get_or, ◌∙◌, arith}
-use Rattle.ra_value.proofs.GreatestLemmas.{turn_first, turn_greater, turn_same}
+use Rattle.std.proofs.Common.{sym, ◌∙◌, arith}
+use Rattle.ra_value.proofs.GreatestLemmas.{greatest_first, greatest_taken, greatest_kept}
 use Rattle.ra_value.proofs.greatest.greatest_of.Goals as goal
-use Rattle.ra_value.proofs.greatest.greatest_of.Goals.{then-place-eq0, then-place-eq0-via-then-place-eq0, then-place-eq0-via-else-place-eq0+then-greatest-number, else-place-eq0+else-greatest-number}
+use Rattle.ra_value.proofs.greatest.greatest_of.Goals.{then-place-eq0, then-place-eq0-via-then-place-eq0, then-place-eq0-via-else-place-eq0+then-is_less, else-place-eq0+else-is_less}
 
 pub loop-place-preserved : goal.loop-place-preserved
 loop-place-preserved c =
     let ns = c.args.numbers.now in
     let place = c.loop-place.place in
-    let small : (k : ℕ) → get_or ns k 0 < 2 ^ 32 = λ k. let fits = c.type_inv.numbers k in omega arith in
-    let number = c.cast_signed-number.result in
-    let is = c.cast_signed-number.ensures in
     elim c.if-place-eq0.branch [
       | then-place-eq0 w ↦ elim w.then-place-eq0.branch [
-        | then-place-eq0-via-then-place-eq0 w' ↦ w.greatest-is ∙ turn_first ns place small (omega arith) _ number c.loop-place.invariant is w'.if-place-eq0.true
-        | then-place-eq0-via-else-place-eq0+then-greatest-number w' ↦ w.greatest-is ∙ turn_greater ns place small (omega arith) _ number c.loop-place.invariant is w'.if-place-eq0.false w'.if-greatest-number.true
+        | then-place-eq0-via-then-place-eq0 w' ↦ w.greatest-is ∙ greatest_first ns place (omega arith) w'.if-place-eq0.true
+        | then-place-eq0-via-else-place-eq0+then-is_less w' ↦ w.greatest-is ∙ greatest_taken ns place (omega arith) w'.if-place-eq0.false c.loop-place.greatest c.loop-place.invariant (sym w'.is_less.ensures ∙ w'.if-is_less.true)
       ]
-      | else-place-eq0+else-greatest-number w ↦ w.greatest-is ∙ turn_same ns place small (omega arith) _ number c.loop-place.invariant is w.if-place-eq0.false w.if-greatest-number.false
+      | else-place-eq0+else-is_less w ↦ w.greatest-is ∙ greatest_kept ns place (omega arith) w.if-place-eq0.false c.loop-place.greatest c.loop-place.invariant (sym w.is_less.ensures ∙ w.if-is_less.false)
     ]

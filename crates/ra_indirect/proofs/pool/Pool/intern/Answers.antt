@@ -30,3 +30,10 @@ returns-clause-ok c =
     let here = e.stored.1 ∙ ap Some (sym (same _ _ e.stored.2)) in
     let inserts : Interns c.self.inside.nodes.keys c.insert_full.new.self.keys c.args.node c.in_ok-place.place = Interns-inserted ghosts.eq same itself _ _ _ _ e.keys e.index here in
     subst (λ ns. Interns ns c.insert_full.new.self.keys c.args.node c.in_ok-place.place) c.self.view_is inserts
+
+pub returns-clause-pool : goal.returns-clause-pool
+returns-clause-pool c =
+    let e = c.in_ok-place.ensures in
+    let here = e.stored.1 ∙ ap Some (sym (same _ _ e.stored.2)) in
+    let inserts : Interns c.self.inside.nodes.keys c.insert_full.new.self.keys c.args.node c.in_ok-place.place = Interns-inserted ghosts.eq same itself _ _ _ _ e.keys e.index here in
+    IsPool-interned _ _ _ _ c.self.invariant.0 (subst (λ ns. MayFollow ns c.args.node) (sym c.self.view_is) c.requires.follows) inserts
