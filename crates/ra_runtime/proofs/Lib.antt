@@ -4,6 +4,8 @@ pub mod Alike
 pub mod Covered
 pub mod Fitting
 pub mod ItemCuts
+pub mod ItemLemmas
+pub mod LaidLemmas
 pub mod Law
 pub mod Members
 pub mod OpeningFits

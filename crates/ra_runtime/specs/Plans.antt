@@ -2,7 +2,7 @@
 use Rattle.std.specs.Prelude.{◌≡◌, ℕ, Option, None, Some, List, [], ◌∷◌, map}
 use Rattle.std.specs.List.{flat_map}
 use Rattle.ra_condition.specs.declared.condition.Condition.{Condition}
-use Rattle.ra_condition.specs.Contents.{TriggerContents, groups_of, PartContents, Legacy, Grouped, counted_in}
+use Rattle.ra_condition.specs.Contents.{groups_of, PartContents, Legacy, Grouped, counted_in}
 use Rattle.ra_condition.specs.Chains.{pass_order}
 use Rattle.ra_indirect.specs.declared.node.Node.{Node}
 use Rattle.ra_indirect.specs.Trees.{Tree}
