@@ -3,4 +3,6 @@ mod Marks
 pub mod OrderPlaces
 pub mod PlantLemmas
 pub mod SideLemmas
+pub mod TakeLemmas
 pub mod ValueLemmas
+pub mod WalkLemmas

@@ -1,3 +1,4 @@
+pub mod Elaborates
 pub mod Elaboration
 pub mod Laws
 pub mod Occurrence
