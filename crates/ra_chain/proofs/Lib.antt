@@ -4,5 +4,6 @@ pub mod OrderPlaces
 pub mod PlantLemmas
 pub mod SideLemmas
 pub mod TakeLemmas
+pub mod TermLemmas
 pub mod ValueLemmas
 pub mod WalkLemmas

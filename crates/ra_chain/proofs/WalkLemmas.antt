@@ -88,12 +88,12 @@ module _ (cs : List Condition) (first : List Node) (k : ℕ) (passed : Passed) (
   pub running_known : IsKnownBefore cs (turn_at cs k) passed nodes
   running_known = record {
     value = λ i next carried. (
-      let before = came_before cs k i within (sym next) (omega (arith, order_below cs k within)) (carried_combines (flag_at cs i) carried) in
-      subst (λ t. Spells nodes (get_or passed.lefts.items i 0) t) (hands_left cs i (carried_hands (flag_at cs i) carried))
-      (subst (λ n. Spells nodes (get_or passed.lefts.items n 0) (left_of cs n)) before.at (running.lefts before.turn before.earlier)));
+        let before = came_before cs k i within (sym next) (omega (arith, order_below cs k within)) (carried_combines (flag_at cs i) carried) in
+        subst (λ t. Spells nodes (get_or passed.lefts.items i 0) t) (hands_left cs i (carried_hands (flag_at cs i) carried))
+        (subst (λ n. Spells nodes (get_or passed.lefts.items n 0) (left_of cs n)) before.at (running.lefts before.turn before.earlier)));
     sum = λ i next carried. (
-      let before = came_before cs k i within (sym next) (omega (arith, order_below cs k within)) (carried_combines (flag_at cs i) carried) in
-      subst (λ n. SpellsSum nodes (get_or passed.sums.items n None) (sum_of cs (values_of cs) n)) before.at (running.sums before.turn before.earlier));
+        let before = came_before cs k i within (sym next) (omega (arith, order_below cs k within)) (carried_combines (flag_at cs i) carried) in
+        subst (λ n. SpellsSum nodes (get_or passed.sums.items n None) (sum_of cs (values_of cs) n)) before.at (running.sums before.turn before.earlier));
     recalled = subst (λ is. SpellsOrZero nodes passed.recalled (last_remembered cs (values_of cs) (constant 0) is)) (sym (before_turn cs k within)) running.recalled;
   }
 

@@ -4,3 +4,4 @@ pub mod Laws
 pub mod Occurrence
 pub mod Planting
 pub mod Sides
+pub mod Terms

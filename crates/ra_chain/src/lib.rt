@@ -6,6 +6,7 @@ mod nodes;
 mod order;
 mod plan;
 mod sides;
+mod terms;
 #[cfg(test)]
 mod tests;
 mod trees;
@@ -13,4 +14,5 @@ mod trees;
 pub use laws::pass_order_holds;
 pub use order::order_of;
 pub use plan::GroupPlan;
+pub use terms::elaborate_terms;
 pub use trees::elaborate;

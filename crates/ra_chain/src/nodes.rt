@@ -27,8 +27,8 @@ fn node_of(pool: &mut Pool, node: Node) -> Result<u32, OutOfMemory>
     Ok(number)
 }
 
-// A constant.
-fn constant_node(pool: &mut Pool, value: u32) -> Result<u32, OutOfMemory>
+/// A constant.
+pub fn constant_node(pool: &mut Pool, value: u32) -> Result<u32, OutOfMemory>
     requires pool { IsPool pool.old }
     requires room { length pool.old < 2 ^ 31 }
     ensures ok { IfOk result (Plants pool.old pool.new (constant value ∷ []) (constant value)) }
