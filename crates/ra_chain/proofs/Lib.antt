@@ -3,4 +3,7 @@ mod Marks
 pub mod OrderPlaces
 pub mod PlantLemmas
 pub mod SideLemmas
+pub mod TakeLemmas
+pub mod TermLemmas
 pub mod ValueLemmas
+pub mod WalkLemmas

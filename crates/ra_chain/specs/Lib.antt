@@ -1,5 +1,7 @@
+pub mod Elaborates
 pub mod Elaboration
 pub mod Laws
 pub mod Occurrence
 pub mod Planting
 pub mod Sides
+pub mod Terms

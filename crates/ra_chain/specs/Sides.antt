@@ -1,5 +1,5 @@
 -- The trees of a condition, from its sum, its left operand and its right one.
-use Rattle.std.specs.Prelude.{◌≡◌, ℕ, true, suc, if◌then◌else◌, Option, None, Some, List, [], ◌∷◌, ◌++◌, slice_index, slice_index_or, IsTrue, ◌⊎◌}
+use Rattle.std.specs.Prelude.{◌≡◌, ℕ, true, suc, if◌then◌else◌, Option, None, Some, List, [], ◌∷◌, ◌++◌, length, slice_index, slice_index_or, IsTrue, ◌⊎◌}
 use Rattle.ra_operand.specs.declared.op.Op.{Op}
 use Rattle.ra_operand.specs.Operators.{is_arithmetic, is_bare}
 use Rattle.ra_condition.specs.declared.condition.Condition.{Condition}
@@ -9,7 +9,7 @@ use Rattle.ra_indirect.specs.declared.node.Node.{Node}
 use Rattle.ra_indirect.specs.Trees.{Tree}
 use Rattle.ra_indirect.specs.Pools.{Spells}
 use Rattle.ra_indirect.specs.Growing.{GrowsBy}
-use Rattle.ra_chain.specs.declared.elaborate.Passed.{Passed}
+use Rattle.ra_chain.specs.declared.trees.Passed.{Passed}
 use Rattle.ra_chain.specs.Elaboration.{tree_at, added, joined, handed_on, pointer_of, recall_of, sum_of, values_of, left_of, right_of}
 use Rattle.ra_chain.specs.Planting.{SpellsOrZero, SpellsSum, IsCarried}
 
@@ -40,6 +40,12 @@ pub record PlantsSides (base new : List Node) (left right : Tree) (first second 
   pub grows : GrowsBy base new (left ∷ right ∷ [])
   pub left_too : Spells new first left
   pub right_too : Spells new second right
+
+-- there is an entry for each condition
+pub record IsSized (passed : Passed) (count : ℕ) : Type 0 where
+  pub lefts_too : length passed.lefts.items ≡ count
+  pub rights_too : length passed.rights.items ≡ count
+  pub sums_too : length passed.sums.items ≡ count
 
 -- what is known of the condition before a place, and of the value last remembered
 pub record IsKnownBefore (cs : List Condition) (j : ℕ) (passed : Passed) (nodes : List Node) : Type 0 where

@@ -1,15 +1,18 @@
 //! The order in which a group's conditions pass, and their trees as nodes of a pool.
 #![tactic(auto)]
 
-mod elaborate;
 mod laws;
 mod nodes;
 mod order;
 mod plan;
 mod sides;
+mod terms;
 #[cfg(test)]
 mod tests;
+mod trees;
 
 pub use laws::pass_order_holds;
 pub use order::order_of;
 pub use plan::GroupPlan;
+pub use terms::elaborate_terms;
+pub use trees::elaborate;

@@ -27,8 +27,8 @@ fn node_of(pool: &mut Pool, node: Node) -> Result<u32, OutOfMemory>
     Ok(number)
 }
 
-// A constant.
-fn constant_node(pool: &mut Pool, value: u32) -> Result<u32, OutOfMemory>
+/// A constant.
+pub fn constant_node(pool: &mut Pool, value: u32) -> Result<u32, OutOfMemory>
     requires pool { IsPool pool.old }
     requires room { length pool.old < 2 ^ 31 }
     ensures ok { IfOk result (Plants pool.old pool.new (constant value ∷ []) (constant value)) }
@@ -168,7 +168,7 @@ pub fn sum_node(
 ) -> Result<Option<u32>, OutOfMemory>
     requires pool { IsPool pool.old }
     requires room { length pool.old + 2 ≤ 2 ^ 31 }
-    requires sum { NamesSome pool.old sum }
+    requires sum { IsCarried flag → NamesSome pool.old sum }
     requires value { IsCarried flag → Names pool.old value }
     ensures ok { IfOk result (λ n. (v : Tree) (s : Option Tree) → (IsCarried flag → Spells pool.old value v)
         → (IsCarried flag → SpellsSum pool.old sum s) → PlantsSum pool.old pool.new (sum_after flag v s) n) }
