@@ -1,9 +1,9 @@
 -- The pass order keeps chains together, and puts the pause chains first.
 use Rattle.std.proofs.Common.{◌≡◌, ℕ, zero, suc, ◌+◌, ◌-◌, ◌<◌, ◌≤◌, Bool, true, false, not, cond, List, [], ◌∷◌, ◌++◌, length, get_or, refl, sym, ap, ◌∙◌, subst, inl, inr, arith, length-append}
 use Rattle.std.proofs.lemmas.List.{get_or_append_left, get_or-append-add, get_or_push}
-use Rattle.std.proofs.lemmas.Bool.{cases_eq, cases_lt, true≢false}
+use Rattle.std.proofs.lemmas.Bool.{cases_eq, true≢false}
 use Rattle.ra_condition.specs.declared.condition.Condition.{Condition}
-use Rattle.ra_condition.specs.Flags.{combines, is_pause}
+use Rattle.ra_condition.specs.Flags.{combines}
 use Rattle.ra_condition.specs.Contents.{flag_at}
 use Rattle.ra_condition.specs.Chains.{in_pause_chain, pass_order}
 use Rattle.ra_condition.proofs.Passes.{chosen, chosen_more, length-chosen_more}
