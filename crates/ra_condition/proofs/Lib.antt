@@ -6,3 +6,6 @@ pub mod OrderLemmas
 pub mod Passes
 pub mod TailReaders
 pub mod ValueReaders
+pub mod Written
+pub mod Structure
+pub mod Spelling

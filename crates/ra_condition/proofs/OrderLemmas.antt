@@ -1,12 +1,12 @@
 -- The pass order of a group, by the turns of the pass.
-use Rattle.std.proofs.Common.{◌≡◌, ℕ, zero, suc, ◌+◌, ◌-◌, ◌<◌, ◌≤◌, Bool, true, false, not, cond, ◌⊎◌, List, [], ◌∷◌, ◌++◌, length, get_or, refl, sym, ap, ◌∙◌, subst, inl, inr, arith, length-append}
+use Rattle.std.proofs.Common.{◌≡◌, ℕ, suc, ◌+◌, ◌-◌, ◌<◌, ◌≤◌, Bool, true, false, not, cond, ◌⊎◌, List, length, get_or, refl, sym, ap, ◌∙◌, subst, inl, inr, arith, length-append}
 use Rattle.std.proofs.lemmas.List.{get_or_append_left, get_or-append_right, length-take-le}
 use Rattle.std.proofs.lemmas.Bool.{cases_lt, cases_order, true≢false, not-true}
 use Rattle.ra_condition.specs.declared.condition.Condition.{Condition}
 use Rattle.ra_condition.specs.Flags.{combines, is_pause}
 use Rattle.ra_condition.specs.Contents.{flag_at}
 use Rattle.ra_condition.specs.Chains.{in_pause_chain, pass_order}
-use Rattle.ra_condition.proofs.Passes.{chosen, stands, StandsAt, length-chosen_more, chosen_rises}
+use Rattle.ra_condition.proofs.Passes.{chosen, stands, length-chosen_more, chosen_rises}
 use Rattle.ra_condition.proofs.ChainLemmas.{in_pause_chain-combines, in_pause_chain-last, in_pause_chain-pause, in_pause_chain_past}
 
 -- the places of the pause chains, and the others

@@ -7,7 +7,7 @@ use Rattle.ra_operand.specs.Grammar.{operand}
 use Rattle.ra_operand.specs.Reading.{operand_at, memory_at, constant_at, unsigned_at, decimal_constant_at, cell_or_constant_at}
 use Rattle.ra_operand.proofs.Operands.{operand_rest, operand_keys, reader-operand, begins-operand}
 use Rattle.ra_condition.specs.Grammar.{equal, unequal, less, greater, comparison, operators, dotted, bracketed, target, bare, compared, ignored, computed, tail_of}
-use Rattle.ra_condition.specs.Reading.{equal_at, unequal_at, less_at, greater_at, less_or_greater_at, unequal_or_ordered_at, comparison_at, dotted_at, bracketed_at, bracketed_or_none_at, target_at, compared_at, ignored_at, computed_at, computed_or_bare_at, modified_at, compared_or_bare_at, tail_at}
+use Rattle.ra_condition.specs.Reading.{equal_at, unequal_at, less_at, greater_at, less_or_greater_at, unequal_or_ordered_at, comparison_at, between_at, dotted_at, bracketed_at, bracketed_or_none_at, target_at, compared_at, ignored_at, computed_at, computed_or_bare_at, modified_at, compared_or_bare_at, tail_at}
 use Rattle.ra_text.specs.Form.{Form, Spell, One, Then, Viable, ◌or◌, optional}
 use Rattle.ra_text.specs.Number.{digits, decimal}
 use Rattle.ra_text.specs.Reading.{◌>>=◌, one_at, optional_at}
@@ -134,11 +134,11 @@ reader-between opening closing a b apart goes_on = reader-behind (One (only (ope
     (λ c on here. on)
 
 reader-dotted : Reader dotted dotted_at (In target_keys)
-unfolding dotted_at
+unfolding dotted_at between_at
 reader-dotted = reader-between 46 46 refl refl (in_apart (keys_of digits) (codes ".") refl) (In target_keys)
 
 reader-bracketed : Reader bracketed bracketed_at (In target_keys)
-unfolding bracketed_at
+unfolding bracketed_at between_at
 reader-bracketed = reader-between 40 41 refl refl (in_apart (keys_of digits) (codes ")") refl) (In target_keys)
 
 begins-dotted : Begins dotted (In (codes "."))
@@ -148,11 +148,11 @@ begins-bracketed : Begins bracketed (In (codes "("))
 begins-bracketed = begins-then (One (only (codes "("))) (λ o. Then decimal (λ n. Then (One (only (codes ")"))) (λ c. Spell n))) (In (codes "(")) (begins-byte (marks (codes "(")))
 
 opens-dotted : (c : ℕ) → In (codes ".") c → Viable dotted (c ∷ [])
-unfolding dotted_at saturated_at numeral_at
+unfolding dotted_at between_at saturated_at numeral_at
 opens-dotted = opens-whole dotted dotted_at (reads-of dotted dotted_at (In target_keys) reader-dotted) (codes ".") (λ c. codes "0.") refl
 
 opens-bracketed : (c : ℕ) → In (codes "(") c → Viable bracketed (c ∷ [])
-unfolding bracketed_at saturated_at numeral_at
+unfolding bracketed_at between_at saturated_at numeral_at
 opens-bracketed = opens-whole bracketed bracketed_at (reads-of bracketed bracketed_at (In target_keys) reader-bracketed) (codes "(") (λ c. codes "0)") refl
 
 reader-bracketed_or_none : Reader (bracketed or Spell 0) bracketed_or_none_at (In target_keys)

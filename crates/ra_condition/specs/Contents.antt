@@ -18,9 +18,11 @@ use Rattle.ra_condition.specs.declared.value_text.ValueText.{ValueText}
 abbrev pub no_condition : Condition
 no_condition = record { flag = Plain; left = Cell Mem Bit0 0; op = Bare; right = Cell Mem Bit0 0; target = 0 }
 
+-- the condition at a place of a group
 abbrev pub condition_at : List Condition → ℕ → Condition
 condition_at cs j = slice_index_or cs j no_condition
 
+-- its flag
 abbrev pub flag_at : List Condition → ℕ → Flag
 flag_at cs j = (condition_at cs j).flag
 
@@ -33,6 +35,7 @@ pub record TriggerContents : Type 0 where
   pub core : List Condition
   pub alts : List (List Condition)
 
+-- a trigger is its core and its alts
 abbrev pub trigger_contents : TriggerText → TriggerContents
 trigger_contents t = record { core = group_contents t.core; alts = map group_contents t.alts.items }
 
@@ -45,6 +48,7 @@ pub data PartContents : Type 0 where
   Legacy : List Term → PartContents
   Grouped : List Condition → PartContents
 
+-- a part is its terms, or its conditions
 abbrev pub part_contents : Part → PartContents
 part_contents (Terms terms) = Legacy terms.items
 part_contents (Conditions g) = Grouped (group_contents g)
@@ -62,5 +66,6 @@ counted_in (Grouped cs) = cs
 abbrev pub trigger_hits : TriggerContents → ℕ
 trigger_hits t = sum_by length (groups_of t)
 
+-- how many hits are kept for a value
 abbrev pub value_hits : List PartContents → ℕ
 value_hits parts = sum_by (λ part. length (counted_in part)) parts

@@ -20,10 +20,12 @@ combines OrNext = true
 combines ResetNextIf = true
 combines flag = hands_on flag
 
+-- the condition pauses its group
 abbrev pub is_pause : Flag → Bool
 is_pause PauseIf = true
 is_pause _ = false
 
+-- the condition resets its group
 abbrev pub is_reset : Flag → Bool
 is_reset ResetIf = true
 is_reset _ = false
@@ -34,18 +36,22 @@ is_measured Measured = true
 is_measured MeasuredPercent = true
 is_measured _ = false
 
+-- the number of the group counts only where the condition is valid
 abbrev pub is_measured_if : Flag → Bool
 is_measured_if MeasuredIf = true
 is_measured_if _ = false
 
+-- the condition is left out of what primes
 abbrev pub is_trigger : Flag → Bool
 is_trigger TriggerIf = true
 is_trigger _ = false
 
+-- the condition moves the cells of the next one
 abbrev pub is_address : Flag → Bool
 is_address AddAddress = true
 is_address _ = false
 
+-- the condition gives the value of later `{recall}`
 abbrev pub is_remember : Flag → Bool
 is_remember Remember = true
 is_remember _ = false

@@ -1,9 +1,11 @@
+pub mod Canonical
 pub mod Chains
 pub mod Contents
 pub mod Fault
 pub mod Flags
 pub mod Grammar
 pub mod Reading
-pub mod Refusals
 pub mod ReadingValues
+pub mod Refusals
+pub mod Spelled
 pub mod Values

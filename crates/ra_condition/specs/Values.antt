@@ -23,6 +23,7 @@ measured_conditions = do
   others ← Chain (λ so_far. only (codes "_")) (λ so_far tag. condition InValue) measured_by (λ so_far. so_far) (is_measured first.flag)
   Spell (first ∷ others)
 
+-- a part of conditions, whose measured number counts
 abbrev pub condition_part : Form ℕ PartContents
 condition_part = do
   cs ← measured_conditions
@@ -48,6 +49,7 @@ term_part = do
   ts ← joined (only (codes "_")) term
   Spell (Legacy ts)
 
+-- a part of conditions, or of terms
 abbrev pub part : Form ℕ PartContents
 part = condition_part or term_part
 

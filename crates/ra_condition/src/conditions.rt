@@ -10,7 +10,7 @@ ghost use Rattle.ra_text.specs.Table.{lookup};
 use crate::condition::Condition;
 use crate::flag::Flag;
 use crate::setting::Setting;
-use crate::tables::{flag_of, is_handed_on, may_stand_bare};
+use crate::tables::{flag_of, may_stand_bare};
 use crate::tails::take_tail;
 use ra_operand::{begins_operand, kind_of, take_operand};
 use ra_text::{Cursor, Stop};
@@ -43,7 +43,7 @@ fn take_unflagged(cursor: &mut Cursor<'_>, setting: Setting, flag: Flag) -> Resu
     ensures { Moves result cursor.new.rest.now (unflagged_at setting flag cursor.old.rest.now) }
 {
     let left = take_operand(cursor)?;
-    let tail = take_tail(cursor, is_handed_on(flag), may_stand_bare(setting, flag))?;
+    let tail = take_tail(cursor, flag.hands_on(), may_stand_bare(setting, flag))?;
     Ok(Condition {
         flag,
         left,

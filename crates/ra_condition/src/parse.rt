@@ -4,7 +4,8 @@ ghost use Rattle.std.specs.Prelude.{◌≤◌, IfErr, IfOk, None, Some, length};
 ghost use Rattle.ra_condition.specs.Contents.{trigger_contents};
 ghost use Rattle.ra_condition.specs.Grammar.{trigger};
 ghost use Rattle.ra_condition.specs.Refusals.{IfSyntax};
-ghost use Rattle.ra_text.specs.Place.{EndsAt, IsOutside, OneSpelling};
+ghost use Rattle.ra_condition.specs.Spelled.{IsTrigger};
+ghost use Rattle.ra_text.specs.Place.{EndsAt, IsOutside};
 
 use crate::fault::Fault;
 use crate::groups::take_trigger;
@@ -18,6 +19,7 @@ use std::alloc::Global;
 /// `Syntax` carries the first bad place, and comes exactly where the text is outside the grammar.
 pub fn parse_trigger(alloc: Global, text: &[u8]) -> Result<TriggerText, Refused>
     ensures ok { IfOk result (λ t. trigger text.now (trigger_contents t)) }
+    ensures structure { IfOk result (λ t. IsTrigger (trigger_contents t)) }
     ensures err { IfErr result (λ e. IfSyntax e (λ place. IsOutside trigger text.now place)) }
 {
     let (trigger, at) = read_trigger(alloc, text, 0)?;
@@ -35,6 +37,7 @@ pub fn parse_trigger(alloc: Global, text: &[u8]) -> Result<TriggerText, Refused>
 pub fn read_trigger(alloc: Global, text: &[u8], at: usize) -> Result<(TriggerText, usize), Refused>
     requires { at ≤ length text.now }
     ensures ok { IfOk result (λ x. EndsAt trigger text.now at x.1 (Some (trigger_contents x.0))) }
+    ensures structure { IfOk result (λ x. IsTrigger (trigger_contents x.0)) }
     ensures err { IfErr result
         (λ e. IfSyntax e (λ place. EndsAt trigger text.now at place None)) }
 {
@@ -47,8 +50,3 @@ pub fn read_trigger(alloc: Global, text: &[u8], at: usize) -> Result<(TriggerTex
         Err(Fault::Memory) => Err(Refused::Memory),
     }
 }
-
-/// A text spells at most one trigger.
-pub fn one_trigger()
-    ensures { OneSpelling trigger }
-{}

@@ -4,7 +4,8 @@ ghost use Rattle.std.specs.Prelude.{◌≤◌, IfErr, IfOk, None, Some, length};
 ghost use Rattle.ra_condition.specs.Contents.{value_contents};
 ghost use Rattle.ra_condition.specs.Values.{value};
 ghost use Rattle.ra_condition.specs.Refusals.{IfSyntax};
-ghost use Rattle.ra_text.specs.Place.{EndsAt, IsOutside, OneSpelling};
+ghost use Rattle.ra_condition.specs.Spelled.{IsValue};
+ghost use Rattle.ra_text.specs.Place.{EndsAt, IsOutside};
 
 use crate::fault::Fault;
 use crate::refused::Refused;
@@ -18,6 +19,7 @@ use std::alloc::Global;
 /// `Syntax` carries the first bad place, and comes exactly where the text is outside the grammar.
 pub fn parse_value(alloc: Global, text: &[u8]) -> Result<ValueText, Refused>
     ensures ok { IfOk result (λ t. value text.now (value_contents t)) }
+    ensures structure { IfOk result (λ t. IsValue (value_contents t)) }
     ensures err { IfErr result (λ e. IfSyntax e (λ place. IsOutside value text.now place)) }
 {
     let (value, at) = read_value(alloc, text, 0)?;
@@ -35,6 +37,7 @@ pub fn parse_value(alloc: Global, text: &[u8]) -> Result<ValueText, Refused>
 pub fn read_value(alloc: Global, text: &[u8], at: usize) -> Result<(ValueText, usize), Refused>
     requires { at ≤ length text.now }
     ensures ok { IfOk result (λ x. EndsAt value text.now at x.1 (Some (value_contents x.0))) }
+    ensures structure { IfOk result (λ x. IsValue (value_contents x.0)) }
     ensures err { IfErr result
         (λ e. IfSyntax e (λ place. EndsAt value text.now at place None)) }
 {
@@ -47,8 +50,3 @@ pub fn read_value(alloc: Global, text: &[u8], at: usize) -> Result<(ValueText, u
         Err(Fault::Memory) => Err(Refused::Memory),
     }
 }
-
-/// A text spells at most one value.
-pub fn one_value()
-    ensures { OneSpelling value }
-{}

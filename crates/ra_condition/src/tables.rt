@@ -2,7 +2,6 @@
 
 ghost use Rattle.std.specs.Prelude.{◌≡◌};
 ghost use Rattle.ra_condition.specs.Grammar.{flags, operators, stands_bare};
-ghost use Rattle.ra_condition.specs.Flags.{hands_on, is_measured};
 ghost use Rattle.ra_text.specs.Table.{lookup};
 
 use crate::flag::Flag;
@@ -49,29 +48,12 @@ pub fn operator_of(byte: u8) -> Option<Op>
     }
 }
 
-// Whether a condition of the flag hands a value on.
-pub fn is_handed_on(flag: Flag) -> bool
-    ensures { result ≡ hands_on flag }
-{
-    matches!(
-        flag,
-        Flag::AddSource | Flag::SubSource | Flag::AddAddress | Flag::Remember
-    )
-}
-
-// Whether a condition of the flag offers a number.
-pub fn is_measured(flag: Flag) -> bool
-    ensures { result ≡ is_measured flag }
-{
-    matches!(flag, Flag::Measured | Flag::MeasuredPercent)
-}
-
 // Whether a condition of the flag may stand without an operator, though it hands no value on.
 pub fn may_stand_bare(setting: Setting, flag: Flag) -> bool
     ensures { result ≡ stands_bare setting flag }
 {
     match setting {
         Setting::InTrigger => false,
-        Setting::InValue => is_measured(flag),
+        Setting::InValue => flag.is_measured(),
     }
 }

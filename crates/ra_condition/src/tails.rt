@@ -1,7 +1,7 @@
 //! Targets, and what stands behind a left operand: docs/DEFINITIONS.md, "Conditions".
 
 ghost use Rattle.std.specs.Prelude.{◌≡◌};
-ghost use Rattle.ra_condition.specs.Reading.{begins_comparison, bracketed_at, compared_at, compared_or_bare_at, computed_at, dotted_at, ignored_at, modified_at, tail_at, target_at};
+ghost use Rattle.ra_condition.specs.Reading.{begins_comparison, between_at, compared_at, compared_or_bare_at, computed_at, ignored_at, modified_at, tail_at, target_at};
 ghost use Rattle.ra_text.specs.Moves.{Moves};
 ghost use Rattle.ra_text.specs.Reading.{begins, one_at};
 ghost use Rattle.ra_text.specs.Table.{is_in, lookup};
@@ -121,37 +121,26 @@ fn is_operator(text: &[u8]) -> bool
 }
 
 // [target], where none is 0
-#[tactic(auto, unfolding(crate::specs::Reading::target_at, crate::specs::Reading::bracketed_or_none_at))]
+#[tactic(auto, unfolding(crate::specs::Reading::target_at, crate::specs::Reading::bracketed_or_none_at, crate::specs::Reading::dotted_at, crate::specs::Reading::bracketed_at))]
 fn take_target(cursor: &mut Cursor<'_>) -> Result<u32, Stop>
     ensures { Moves result cursor.new.rest.now (target_at cursor.old.rest.now) }
 {
     if cursor.is_at(b'.') {
-        take_dotted(cursor)
+        take_between(cursor, b'.', b'.')
     } else if cursor.is_at(b'(') {
-        take_bracketed(cursor)
+        take_between(cursor, b'(', b')')
     } else {
         Ok(0)
     }
 }
 
-// "." dec "."
-#[tactic(auto, unfolding(crate::specs::Reading::dotted_at))]
-fn take_dotted(cursor: &mut Cursor<'_>) -> Result<u32, Stop>
-    ensures { Moves result cursor.new.rest.now (dotted_at cursor.old.rest.now) }
+// A number between two bytes.
+#[tactic(auto, unfolding(crate::specs::Reading::between_at))]
+fn take_between(cursor: &mut Cursor<'_>, opening: u8, closing: u8) -> Result<u32, Stop>
+    ensures { Moves result cursor.new.rest.now (between_at opening closing cursor.old.rest.now) }
 {
-    cursor.byte(b'.')?;
+    cursor.byte(opening)?;
     let target = cursor.decimal()?;
-    cursor.byte(b'.')?;
-    Ok(target)
-}
-
-// "(" dec ")"
-#[tactic(auto, unfolding(crate::specs::Reading::bracketed_at))]
-fn take_bracketed(cursor: &mut Cursor<'_>) -> Result<u32, Stop>
-    ensures { Moves result cursor.new.rest.now (bracketed_at cursor.old.rest.now) }
-{
-    cursor.byte(b'(')?;
-    let target = cursor.decimal()?;
-    cursor.byte(b')')?;
+    cursor.byte(closing)?;
     Ok(target)
 }

@@ -10,7 +10,6 @@ use crate::fault::Fault;
 use crate::group::Group;
 use crate::part::{Part, Term};
 use crate::setting::Setting;
-use crate::tables::is_measured;
 use crate::value_text::ValueText;
 use ra_operand::{Operand, take_operand};
 use ra_text::{Cursor, Stop};
@@ -47,12 +46,12 @@ fn take_measured_conditions(alloc: Global, cursor: &mut Cursor<'_>) -> Result<Gr
     ensures { GivesUnlessFull group_contents result cursor.new.rest.now (measured_conditions_at cursor.old.rest.now) }
 {
     let first = take_flagged(cursor, Setting::InValue)?;
-    let mut measured = is_measured(first.flag);
+    let mut measured = first.flag.is_measured();
     let mut conditions = Vec::new(alloc);
     conditions.push(first)?;
     'others: while cursor.skip(b'_') {
         let next = take_condition(cursor, Setting::InValue)?;
-        measured = measured || is_measured(next.flag);
+        measured = measured || next.flag.is_measured();
         conditions.push(next)?;
     }
     if measured {

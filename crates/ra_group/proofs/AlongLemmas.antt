@@ -1,12 +1,26 @@
 -- Parts of lists that run over several groups.
-use Rattle.std.proofs.Common.{◌≡◌, ℕ, zero, suc, ◌+◌, ◌<◌, List, [], ◌∷◌, ◌++◌, length, get_or, take, drop, not, filter, sum_by, refl, sym, ap, ◌∙◌, arith, length-append}
+use Rattle.std.proofs.Common.{◌≡◌, ℕ, zero, suc, ◌+◌, ◌<◌, Bool, List, [], ◌∷◌, ◌++◌, length, get_or, take, drop, not, filter, sum_by, refl, sym, ap, ◌∙◌, arith, length-append}
 use Rattle.std.specs.List.{flat_map}
 use Rattle.std.proofs.lemmas.List.{drop-drop, take_at, drop_at}
 use Rattle.std.proofs.lemmas.List.Sums.{sum_by-cons}
 use Rattle.std.proofs.lemmas.List.Filters.{length-filter_both}
-use Rattle.std.proofs.lemmas.List.FromFn.{length-range_with_len}
+use Rattle.std.proofs.lemmas.List.FromFn.{length-range_with_len, length-map-range_with_len}
 use Rattle.ra_condition.specs.declared.condition.Condition.{Condition}
 use Rattle.ra_condition.specs.Chains.{in_pause_chain, places, pass_order}
+use Rattle.ra_group.specs.Equations.{Frame, frame_of}
+use Rattle.ra_group.specs.Outcome.{next_hit, next_hits}
+use Rattle.ra_group.specs.Along.{frame_at}
+
+-- the frame of a group after others
+pub frame_at-drop : (cs : List Condition) (truths : List Bool) (lefts hits : List ℕ) (n at : ℕ) → frame_at cs (drop n truths) (drop n lefts) (drop n hits) at ≡ frame_at cs truths lefts hits (n + at)
+frame_at-drop cs truths lefts hits n at =
+    ap (λ ts. frame_of cs (take (length cs) ts) (take (length cs) (drop at (drop n lefts))) (take (length cs) (drop at (drop n hits)))) (drop-drop at n truths)
+    ∙ ap (λ ls. frame_of cs (take (length cs) (drop (n + at) truths)) (take (length cs) ls) (take (length cs) (drop at (drop n hits)))) (drop-drop at n lefts)
+    ∙ ap (λ hs. frame_of cs (take (length cs) (drop (n + at) truths)) (take (length cs) (drop (n + at) lefts)) (take (length cs) hs)) (drop-drop at n hits)
+
+-- a hit for each condition
+pub length-next_hits : (f : Frame) → length (next_hits f) ≡ length f.conditions
+length-next_hits f = length-map-range_with_len (next_hit f) 0 (length f.conditions)
 
 -- the part that the k-th entry gives, of a list of the parts of all
 pub flat_map-part : {X : Type 0} (f : X → List ℕ) (size : X → ℕ) → ((x : X) → length (f x) ≡ size x) → (xs : List X) (k : ℕ) (d : X) → k < length xs → take (size (get_or xs k d)) (drop (sum_by size (take k xs)) (flat_map f xs)) ≡ f (get_or xs k d)

@@ -1,7 +1,6 @@
 -- Whether a group's numbers come from hits is the same at every frame.
-use Rattle.std.proofs.Common.{◌≡◌, ℕ, zero, suc, ◌+◌, Bool, ◌||◌, ◌&&◌, List, [], ◌∷◌, length, get_or, refl, sym, ap, ◌∙◌, arith}
+use Rattle.std.proofs.Common.{◌≡◌, ℕ, zero, suc, ◌+◌, Bool, ◌||◌, ◌&&◌, List, [], ◌∷◌, length, get_or, refl, ap, ◌∙◌, arith}
 use Rattle.std.specs.List.{list_any, range_with_len}
-use Rattle.ra_condition.specs.declared.condition.Condition.{Condition}
 use Rattle.ra_condition.specs.Flags.{is_measured}
 use Rattle.ra_condition.specs.Contents.{no_condition}
 use Rattle.ra_group.specs.declared.form.Form.{Form}

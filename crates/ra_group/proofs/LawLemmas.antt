@@ -1,12 +1,11 @@
 -- The equations of a condition, from the condition before it by the text.
-use Rattle.std.proofs.Common.{◌≡◌, ℕ, zero, suc, ◌<◌, ◌≤◌, Bool, true, false, cond, ◌||◌, eqb, Option, None, Some, List, refl, sym, ap, ◌∙◌, subst, inl, inr, arith}
-use Rattle.std.proofs.lemmas.Bool.{cases_eq, cond-true, cond-false, true≢false}
+use Rattle.std.proofs.Common.{◌≡◌, ℕ, zero, suc, ◌<◌, Bool, true, false, cond, ◌||◌, eqb, None, Some, List, refl, sym, ap, ◌∙◌, inl, inr, arith}
+use Rattle.std.proofs.lemmas.Bool.{cases_eq, cond-true, true≢false}
 use Rattle.ra_condition.specs.declared.condition.Condition.{Condition}
 use Rattle.ra_condition.specs.Flags.{combines, hands_on}
 use Rattle.ra_condition.specs.Contents.{condition_at, flag_at}
 use Rattle.ra_condition.proofs.ChainLemmas.{hands_on_from_combines}
-use Rattle.ra_group.specs.declared.settled.Settled.{Settled}
-use Rattle.ra_group.specs.Equations.{Frame, met, reset_by, add_by, settled_at, prev_of, reached}
+use Rattle.ra_group.specs.Equations.{Frame, met, reset_by, add_by, settled_at, prev_of}
 use Rattle.ra_group.specs.Laws.{IsPrev, HasEquationsAfter, HasEquationsFirst, HasOwnEquations, truth_at, target_at, valid_alone_at, reached_at}
 use Rattle.ra_group.proofs.Carried.{settled_after, seen_after_last, seen_after_handed, seen_after_counted}
 

@@ -2,11 +2,13 @@ pub mod AlongLemmas
 mod BoundsLemmas
 mod Carried
 pub mod CountingLemmas
+pub mod HandedLemmas
 mod LawLemmas
+mod OutcomeLemmas
 mod PassLemmas
 mod PausesLemmas
 mod TallyLemmas
 mod TurnLemmas
 mod Turns
-mod WordLemmas
+pub mod WordLemmas
 pub mod Vectors

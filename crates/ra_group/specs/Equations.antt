@@ -14,6 +14,7 @@ pub record Frame : Type 0 where
   pub lefts : List ℕ
   pub hits : List ℕ
 
+-- a frame, by its lists
 abbrev pub frame_of : List Condition → List Bool → List ℕ → List ℕ → Frame
 frame_of cs ts ls hs = record { conditions = cs; truths = ts; lefts = ls; hits = hs }
 
@@ -23,6 +24,7 @@ met_after AndNext valid t = valid && t
 met_after OrNext valid t = valid || t
 met_after _ valid t = t
 
+-- the same by what stands before the condition
 abbrev pub met : Option Settled → Bool → Bool
 met None t = t
 met (Some prev) t = met_after prev.flag prev.valid t
@@ -34,6 +36,7 @@ reset_after AndNext valid reset = reset
 reset_after OrNext valid reset = reset
 reset_after _ valid reset = false
 
+-- the same by what stands before the condition
 abbrev pub reset_by : Option Settled → Bool
 reset_by None = false
 reset_by (Some prev) = reset_after prev.flag prev.valid prev.reset
@@ -53,6 +56,7 @@ add_after AddHits add hit = add +ℤ pos hit
 add_after SubHits add hit = add -ℤ pos hit
 add_after _ add hit = add
 
+-- the same by what stands before the condition
 abbrev pub add_by : Option Settled → ℤ
 add_by None = pos 0
 add_by (Some prev) = add_after prev.flag prev.add prev.hit

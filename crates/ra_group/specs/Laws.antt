@@ -1,9 +1,9 @@
 -- The equations read condition by condition, with the condition before found by the text alone.
-use Rattle.std.specs.Prelude.{◌≡◌, ℕ, ◌<◌, ◌≤◌, Bool, true, false, not, ◌==◌, List, slice_index, slice_index_or, pos, ◌+ℤ◌}
+use Rattle.std.specs.Prelude.{◌≡◌, ℕ, ◌<◌, ◌≤◌, Bool, true, false, ◌==◌, List, slice_index, slice_index_or, pos, ◌+ℤ◌}
 use Rattle.ra_condition.specs.declared.condition.Condition.{Condition}
 use Rattle.ra_condition.specs.Flags.{combines, hands_on}
 use Rattle.ra_condition.specs.Contents.{condition_at, flag_at}
-use Rattle.ra_group.specs.Equations.{Frame, met, met_after, reset_after, add_after, hits_after, valid_alone, clamped, reached, valid_by, prev_of, settled_at}
+use Rattle.ra_group.specs.Equations.{Frame, met, met_after, reset_after, add_after, hits_after, valid_alone, clamped, reached, prev_of, settled_at}
 
 -- the nearest earlier condition of the chain of j that counts hits is i
 pub record IsPrev (cs : List Condition) (j i : ℕ) : Type 0 where
@@ -12,23 +12,27 @@ pub record IsPrev (cs : List Condition) (j i : ℕ) : Type 0 where
   pub counts : hands_on (flag_at cs i) ≡ false
   pub nearest : (k : ℕ) → i < k → k < j → hands_on (flag_at cs k) ≡ true
 
--- the comparison, the target and the hits before the frame of the condition at j
+-- the comparison of the condition at j
 abbrev pub truth_at : Frame → ℕ → Bool
 truth_at f j = slice_index_or f.truths j false
 
+-- the hit target of the condition at j
 abbrev pub target_at : Frame → ℕ → ℕ
 target_at f j = (condition_at f.conditions j).target
 
+-- the hits of the condition at j before the frame
 abbrev pub hits_at : Frame → ℕ → ℕ
 hits_at f j = slice_index f.hits j
 
--- whether the condition at j is met, and whether it is valid by itself
+-- whether the condition at j is met
 abbrev pub met_at : Frame → ℕ → Bool
 met_at f j = met (prev_of f j) (truth_at f j)
 
+-- whether the condition at j is valid by itself
 abbrev pub valid_alone_at : Frame → ℕ → Bool
 valid_alone_at f j = valid_alone (settled_at f j).reset (met_at f j) (target_at f j) (settled_at f j).hit
 
+-- whether the target of the condition at j is reached
 abbrev pub reached_at : Frame → ℕ → Bool
 reached_at f j = reached (target_at f j) (settled_at f j).total
 

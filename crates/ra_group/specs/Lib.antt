@@ -2,7 +2,9 @@ pub mod Along
 pub mod Bounds
 pub mod Counting
 pub mod Equations
+pub mod Handed
 pub mod Laws
 pub mod Outcome
+pub mod OutcomeLaws
 pub mod Tallies
 pub mod Words

@@ -30,6 +30,7 @@ abbrev pub number_of : Form → Condition → ℕ → ℕ → ℕ
 number_of form c total left =
     if from_total form c then (if c.target == 0 then total else min total c.target) else left
 
+-- the larger of two numbers, of those that are there
 abbrev pub larger : Option ℕ → Option ℕ → Option ℕ
 larger None b = b
 larger (Some a) None = Some a
@@ -45,11 +46,13 @@ abbrev pub greatest : Form → Frame → List ℕ → Option ℕ
 greatest form f [] = None
 greatest form f (j ∷ js) = larger (offer form f j) (greatest form f js)
 
+-- the number where the test holds, and else 0 in its place
 abbrev pub option_if : Bool → Option ℕ → Option ℕ
 option_if true o = o
 option_if false None = None
 option_if false (Some n) = Some 0
 
+-- what the group says at the frame
 abbrev pub outcome_of : Form → Frame → Outcome
 outcome_of form f =
     let js = places f.conditions in
@@ -70,5 +73,6 @@ next_hit f j =
     if not (hands_on (condition_at f.conditions j).flag) && (not (some_valid is_pause f (places f.conditions)) || in_pause_chain f.conditions j)
     then (settled_at f j).hit else slice_index f.hits j
 
+-- the hits of all conditions after the frame
 abbrev pub next_hits : Frame → List ℕ
 next_hits f = map (next_hit f) (places f.conditions)

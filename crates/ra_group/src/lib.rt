@@ -15,7 +15,7 @@ mod words;
 
 pub use along::step_at;
 pub use form::Form;
-pub use laws::equations_hold;
+pub use laws::{equations_hold, handed_on_holds, outcome_holds};
 pub use outcome::Outcome;
 pub use pass::step;
 pub use tally::{counts_hits, larger};

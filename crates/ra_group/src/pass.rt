@@ -1,10 +1,11 @@
 //! The pass over a group, in pass order, with running values.
 
-ghost use Rattle.std.specs.Prelude.{◌≡◌, length, filter};
+ghost use Rattle.std.specs.Prelude.{◌≡◌, ◌↔◌, ◌⊎◌, None, true, length, filter};
 ghost use Rattle.ra_condition.specs.Contents.{group_contents};
 ghost use Rattle.ra_condition.specs.Chains.{in_pause_chain, places, pass_order};
 ghost use Rattle.ra_group.specs.Equations.{frame_of};
 ghost use Rattle.ra_group.specs.Outcome.{outcome_of, next_hits};
+ghost use Rattle.ra_group.specs.OutcomeLaws.{NoneMeasured};
 
 use crate::form::Form;
 use crate::outcome::Outcome;
@@ -34,6 +35,8 @@ pub fn step(
         ≡ outcome_of form (frame_of (group_contents group.now) truths.now lefts.now hits.old) }
     ensures next { hits.new
         ≡ next_hits (frame_of (group_contents group.now) truths.now lefts.now hits.old) }
+    ensures unmeasured { (result.measured ≡ None) ↔ ((result.paused ≡ true)
+        ⊎ NoneMeasured (frame_of (group_contents group.now) truths.now lefts.now hits.old)) }
 {
     let conditions = group.conditions.as_slice();
     let pauses = pause_places(conditions, order);
@@ -46,6 +49,7 @@ pub fn step(
             continue;
         }
         let settled = Settled::of(condition, truths[place], hits[place], before);
+        // Past the pause chains it is known whether the group is paused, and then its hits stay.
         let frozen = tally.paused && turn >= pauses;
         tally.note(form, condition, &settled, lefts[place]);
         if !frozen {

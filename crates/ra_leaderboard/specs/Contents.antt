@@ -3,6 +3,7 @@ use Rattle.std.specs.Prelude.{Option, option_map, List}
 use Rattle.ra_condition.specs.Contents.{TriggerContents, trigger_contents, PartContents, value_contents}
 use Rattle.ra_leaderboard.specs.declared.board_text.BoardText.{BoardText}
 
+-- three triggers, the value that is submitted, and the value that is tracked if it is another
 pub record BoardContents : Type 0 where
   pub start : TriggerContents
   pub cancel : TriggerContents
@@ -10,6 +11,7 @@ pub record BoardContents : Type 0 where
   pub value : List PartContents
   pub progress : Option (List PartContents)
 
+-- the contents of a board
 abbrev pub board_contents : BoardText → BoardContents
 board_contents b = record {
   start = trigger_contents b.start;

@@ -37,15 +37,17 @@ abbrev pub begins : BoardState → BoardState → Bool
 begins Active new = is_running new
 begins _ new = false
 
--- the state became started, cancelled or submitted
+-- the state became started
 abbrev pub became_started : BoardState → BoardState → Bool
 became_started Active Started = true
 became_started _ _ = false
 
+-- the state became cancelled
 abbrev pub became_cancelled : BoardState → BoardState → Bool
 became_cancelled Started Cancelled = true
 became_cancelled _ _ = false
 
+-- the state became submitted
 abbrev pub became_submitted : BoardState → BoardState → Bool
 became_submitted Active Submitted = true
 became_submitted Started Submitted = true

@@ -9,10 +9,10 @@ use Rattle.ra_operand.specs.declared.size.Size.{Size}
 use Rattle.ra_operand.specs.declared.size.Size.TheVariants.{Bit0, Bit1, Bit2, Bit3, Bit4, Bit5, Bit6, Bit7, Low, High, Byte, Two, Three, Four, Count, TwoBig, ThreeBig, FourBig}
 use Rattle.ra_operand.specs.Canonical.{prefix_of, letter_of, address_text, operand_text}
 use Rattle.ra_operand.specs.Fitting.{Fits32}
-use Rattle.ra_operand.specs.Grammar.{kinds, sizes, memory, operand}
-use Rattle.ra_text.specs.Form.{optional}
+use Rattle.ra_operand.specs.Grammar.{kinds, sizes, memory, hex_constant, decimal_constant, operand}
+use Rattle.ra_text.specs.Form.{◌or◌, optional}
 use Rattle.ra_text.specs.Table.{lookup}
-use Rattle.ra_text.proofs.Numerals.{hexadecimal-spelled, signed-spelled}
+use Rattle.ra_text.proofs.Numerals.{hexadecimal-spelled, signed-spelled, hexadecimal-fits, signed-fits}
 
 -- what `{:04x}` writes of a number
 pub four-digits : (shortest : List ℕ) → padded_integral (format_spec 32 0 4 4 (2 ^ 64 - 1)) false [] shortest ≡ replicate (4 - length shortest) 48 ++ shortest
@@ -106,3 +106,14 @@ operand-spelled (Const n) small = inr (inr (record {
   of_next = inr (record { front = decimal n; behind = []; v = n; parts = sym (append-nil (decimal n)); of_first = signed-spelled n small; of_next = record { empty = refl; is = refl } });
 }))
 operand-spelled Recall small = inl (record { front = codes "{recall}"; behind = []; v = tt; parts = refl; of_first = record { is = refl }; of_next = record { empty = refl; is = refl } })
+
+-- ---- the operands that texts spell
+
+-- the number of an operand that a text spells is one of 32 bits
+pub operand-fits : (t : List ℕ) (o : Operand) → operand t o → Fits32 o
+operand-fits t o (inl h) = subst Fits32 (sym h.of_next.is) tt
+operand-fits t o (inr (inl h)) = subst Fits32 (sym h.of_next.of_next.of_next.of_next.of_next.is) (hexadecimal-fits h.of_next.of_next.of_next.of_next.front h.of_next.of_next.of_next.of_next.v h.of_next.of_next.of_next.of_next.of_first)
+operand-fits t o (inr (inr h)) = constant-fits h.behind o h.of_next where
+  constant-fits : (t : List ℕ) (o : Operand) → (hex_constant or decimal_constant) t o → Fits32 o
+  constant-fits t o (inl h) = subst Fits32 (sym h.of_next.of_next.is) (hexadecimal-fits h.of_next.front h.of_next.v h.of_next.of_first)
+  constant-fits t o (inr h) = subst Fits32 (sym h.of_next.is) (signed-fits h.front h.v h.of_first)

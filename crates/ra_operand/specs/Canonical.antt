@@ -41,6 +41,7 @@ letter_of FourBig = codes "G"
 abbrev pub address_text : ℕ → List ℕ
 address_text address = let shortest = digits 16 false address in replicate (4 - length shortest) 48 ++ shortest
 
+-- an operand: prefix, `0x`, letter and address, or a constant without sign, or the word
 abbrev pub operand_text : Operand → List ℕ
 operand_text (Cell kind size address) = prefix_of kind ++ (codes "0x" ++ (letter_of size ++ address_text address))
 operand_text (Const n) = decimal n

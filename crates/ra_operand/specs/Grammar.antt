@@ -50,10 +50,12 @@ constant = do
   v ← optional (only_letters (codes "V")) tt
   hex_constant or decimal_constant
 
+-- these eight bytes
 abbrev pub recall : Form ℕ Operand
 recall = do
   word ← Literal (codes "{recall}")
   Spell Recall
 
+-- memory | const | {recall}
 abbrev pub operand : Form ℕ Operand
 operand = recall or (memory or constant)

@@ -3,10 +3,12 @@ use Rattle.std.specs.Prelude.{ℕ, ◌+◌, ◌-◌, ◌*◌, ◌/◌, ◌%◌, 
 use Rattle.ra_operand.specs.declared.op.Op.{Op}
 use Rattle.ra_operand.specs.declared.op.Op.TheVariants.{Bare, Eq, Ne, Lt, Le, Gt, Ge, Mul, Div, And, Xor, Rem, Add, Sub}
 
+-- there is no operator
 abbrev pub is_bare : Op → Bool
 is_bare Bare = true
 is_bare _ = false
 
+-- one of the seven arithmetic operators
 abbrev pub is_arithmetic : Op → Bool
 is_arithmetic Mul = true
 is_arithmetic Div = true

@@ -53,11 +53,14 @@ number_of_op Rem = 11
 number_of_op Add = 12
 number_of_op Sub = 13
 
+-- the two sizes are one
 abbrev pub same_size : Size → Size → Bool
 same_size a b = number_of_size a == number_of_size b
 
+-- the two kinds are one
 abbrev pub same_kind : Kind → Kind → Bool
 same_kind a b = number_of_kind a == number_of_kind b
 
+-- the two operators are one
 abbrev pub same_op : Op → Op → Bool
 same_op a b = number_of_op a == number_of_op b

@@ -10,6 +10,8 @@ mod print;
 mod reading;
 mod size;
 mod tables;
+#[cfg(test)]
+mod tests;
 mod views;
 
 pub use kind::Kind;

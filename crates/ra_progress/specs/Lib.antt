@@ -1,3 +1,4 @@
 pub mod Contents
+pub mod Laws
 pub mod Reading
 pub mod Spelling

@@ -1,4 +1,15 @@
+pub mod Again
+pub mod Agreeing
+pub mod Alike
+pub mod Covered
+pub mod Fitting
 pub mod ItemCuts
+pub mod ItemLemmas
+pub mod LaidLemmas
+pub mod Law
+pub mod Members
+pub mod OpeningFits
+pub mod PresenceCuts
 pub mod WorkedFiles
 pub mod WorkedLines
 pub mod WorkedSets

@@ -1,8 +1,14 @@
+pub mod BoardRuns
 pub mod Boards
 pub mod Histories
+pub mod ItemRuns
 pub mod Lines
 pub mod Openings
 pub mod Order
+pub mod Plans
 pub mod Play
 pub mod Presence
+pub mod Readings
+pub mod RunLines
+pub mod Runs
 pub mod Runtime

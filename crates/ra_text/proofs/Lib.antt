@@ -10,3 +10,4 @@ pub mod Tables
 pub mod Saturation
 pub mod Numerals
 pub mod Loops
+pub mod Items

@@ -1,5 +1,5 @@
 -- The digits that are printed of a number spell it.
-use Rattle.std.proofs.Common.{◌≡◌, ◌∙◌, inl, inr, ℕ, zero, suc, ◌+◌, ◌*◌, ◌<◌, ◌≤◌, Bool, true, false, if◌then◌else◌, ◌==◌, nat_lt, List, [], ◌∷◌, ◌++◌, replicate, Option, Some, None, refl, sym, ap, subst, arith, eq-eqb, eqb-true, lt-ltb, le-ltb, lit<, lit≤, length-append, append-nil, lt_of_lt_of_le}
+use Rattle.std.proofs.Common.{◌≡◌, ◌∙◌, ◌^◌, ◌-◌, inl, inr, ℕ, zero, suc, ◌+◌, ◌*◌, ◌<◌, ◌≤◌, Bool, true, false, if◌then◌else◌, ◌==◌, nat_lt, List, [], ◌∷◌, ◌++◌, replicate, Option, Some, None, refl, sym, ap, subst, arith, eq-eqb, eqb-true, lt-ltb, le-ltb, lit<, mod-lt, min, lit≤, length-append, append-nil, lt_of_lt_of_le}
 use Rattle.std.proofs.lemmas.Bool.{cases_lt}
 use Rattle.std.specs.Char.{digit_value}
 use Rattle.std.specs.Str.Parse.{IsNumeral, AllDigits, digits_value, digits_value_after}
@@ -112,3 +112,21 @@ hexadecimal-spelled zeros n small =
     made (numeral (digit_of Sixteen) 16) saturated (replicate zeros 48 ++ digits 16 false n) n n
     (subst (λ m. numeral (digit_of Sixteen) 16 (replicate zeros 48 ++ digits 16 false n) m) (zeros-value Sixteen zeros (digits 16 false n) ∙ d.1) (numeral-spelled Sixteen (replicate zeros 48 ++ digits 16 false n) (zeros-numeral Sixteen zeros (digits 16 false n) d.0)))
     (omega arith)
+
+-- ---- the numbers that texts spell are of 32 bits
+
+saturated-fits : (n : ℕ) → saturated n < 2 ^ 32
+saturated-fits n = omega arith
+
+pub decimal-fits : (t : List ℕ) (n : ℕ) → spec.decimal t n → n < 2 ^ 32
+decimal-fits t n h = subst (λ x. x < 2 ^ 32) (sym h.of_next.is) (saturated-fits h.v)
+
+pub hexadecimal-fits : (t : List ℕ) (n : ℕ) → hexadecimal t n → n < 2 ^ 32
+hexadecimal-fits t n h = subst (λ x. x < 2 ^ 32) (sym h.of_next.is) (saturated-fits h.v)
+
+with_sign-fits : (negative : Bool) (n : ℕ) → spec.with_sign negative n < 2 ^ 32
+with_sign-fits true n = mod-lt (4294967296 - min n 2147483648) (lit< tt)
+with_sign-fits false n = saturated-fits n
+
+pub signed-fits : (t : List ℕ) (n : ℕ) → signed t n → n < 2 ^ 32
+signed-fits t n h = subst (λ x. x < 2 ^ 32) (sym h.of_next.of_next.is) (with_sign-fits h.v h.of_next.v)

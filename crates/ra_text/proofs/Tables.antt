@@ -76,6 +76,34 @@ each-in P (key ∷ keys) all c here = cases (each-in P keys all.1 c) (c == key) 
   cases next true is here = subst P (sym (eqb-true c key is)) all.0
   cases next false is here = next here
 
+-- what holds of each value of a table
+abbrev pub OfEachValue : {V : Type 0} → (V → Type 0) → List (ℕ × V) → Type 0
+OfEachValue P [] = Unit {0}
+OfEachValue P (entry ∷ table) = P entry.1 × OfEachValue P table
+
+pub each-listed : {V : Type 0} (P : V → Type 0) (table : List (ℕ × V)) → OfEachValue P table → (c : ℕ) (v : V) → lookup table c ≡ Some v → P v
+each-listed P [] all c v e = absurd (cc e)
+each-listed {V} P (entry ∷ table) all c v e = cases (each-listed P table all.1 c v) (c == entry.0) e where
+  cases : (lookup table c ≡ Some v → P v) → (same : Bool) → (if same then Some entry.1 else lookup table c) ≡ Some v → P v
+  cases next true e = let same : entry.1 ≡ v = cc e in subst P same all.0
+  cases next false e = next e
+
+-- each value of a table passes the test
+abbrev pub all_values : {V : Type 0} → (V → Bool) → List (ℕ × V) → Bool
+all_values test [] = true
+all_values test (entry ∷ table) = if test entry.1 then all_values test table else false
+
+passed-first : (b rest : Bool) → (if b then rest else false) ≡ true → (b ≡ true) × (rest ≡ true)
+passed-first true rest all = (refl, all)
+passed-first false rest all = absurd (cc all)
+
+each-passes : {V : Type 0} (test : V → Bool) (table : List (ℕ × V)) → all_values test table ≡ true → OfEachValue (λ v. test v ≡ true) table
+each-passes test [] all = tt
+each-passes test (entry ∷ table) all = let both : (test entry.1 ≡ true) × (all_values test table ≡ true) = passed-first (test entry.1) (all_values test table) all in (both.0, each-passes test table both.1)
+
+pub value-passes : {V : Type 0} (test : V → Bool) (table : List (ℕ × V)) → all_values test table ≡ true → (c : ℕ) (v : V) → lookup table c ≡ Some v → test v ≡ true
+value-passes test table all c v e = each-listed (λ v. test v ≡ true) table (each-passes test table all) c v e
+
 -- a byte of a list that is not its last one is one of the others
 pub in_front : (keys : List ℕ) (last c : ℕ) → (c == last) ≡ false → In (keys ++ last ∷ []) c → In keys c
 in_front [] last c other here = let no_key : (if c == last then true else false) ≡ false = ap (λ b. if b then true else false) other in cc (here, no_key)

@@ -56,6 +56,7 @@ hexadecimal = do
   n ← numeral (lookup hex_digits) 16
   Spell (saturated n)
 
+-- the two signs, and whether each is a minus
 abbrev pub signs : List (ℕ × Bool)
 signs = bytes_for (codes "+") false ++ bytes_for (codes "-") true
 

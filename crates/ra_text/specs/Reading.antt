@@ -30,6 +30,7 @@ abbrev pub taken : {A V : Type 0} → Option V → A → List A → Outcome A V
 taken (Some v) symbol rest = Ok (v, rest)
 taken None symbol rest = Err (symbol ∷ rest)
 
+-- one symbol of the table
 abbrev pub one_at : {A V : Type 0} → (A → Option V) → List A → Outcome A V
 one_at table [] = Err []
 one_at table (symbol ∷ rest) = taken (table symbol) symbol rest
@@ -39,10 +40,12 @@ abbrev pub taken_or : {A V : Type 0} → V → Option V → A → List A → Out
 taken_or none (Some v) symbol rest = Ok (v, rest)
 taken_or none None symbol rest = Ok (none, symbol ∷ rest)
 
+-- one symbol of the table, or nothing
 abbrev pub optional_at : {A V : Type 0} → (A → Option V) → V → List A → Outcome A V
 optional_at table none [] = Ok (none, [])
 optional_at table none (symbol ∷ rest) = taken_or none (table symbol) symbol rest
 
+-- these bytes, one after the other
 abbrev pub literal_at : List ℕ → List ℕ → Outcome ℕ (Unit {0})
 literal_at [] bytes = Ok (tt, bytes)
 literal_at (byte ∷ literal) [] = Err []
@@ -71,6 +74,7 @@ chain_at separator item_at step done (suc most) s (symbol ∷ rest) = elim (sepa
   | None ↦ ends_at (done s) (symbol ∷ rest)
 ]
 
+-- a first item, and the others, each behind a separator
 abbrev pub joined_at : {A T V : Type 0} → (A → Option T) → (List A → Outcome A V) → List A → Outcome A (List V)
 joined_at separator item_at text =
     item_at text >>= λ first. chain_at {S = Unit {0}} (λ s. separator) (λ s tag. item_at) (λ s v. s) (λ s. true) (length first.1) tt first.1 >>= λ others. Ok (first.0 ∷ others.0, others.1)

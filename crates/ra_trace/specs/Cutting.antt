@@ -115,9 +115,9 @@ no_slots = replicate 16 false
 abbrev pub trace_of : List ℕ → Trace
 trace_of bytes = trace_with no_slots bytes
 
--- a stop for want of bytes, where the reader has taken as many as it may
+-- A record that is cut, where the reader has taken as many bytes as it may. A header can always be told, since a
+-- reader takes at least nine bytes.
 abbrev pub stop_within : Bool → Stop → Stop
-stop_within full (RefusedAt at Header) = if full then PastLimit else RefusedAt at Header
 stop_within full (RefusedAt at Cut) = if full then PastLimit else RefusedAt at Cut
 stop_within full stop = stop
 

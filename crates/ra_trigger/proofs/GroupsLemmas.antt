@@ -2,7 +2,6 @@
 use Rattle.std.proofs.Common.{◌≡◌, ℕ, ◌+◌, Bool, true, false, not, ◌&&◌, ◌||◌, Option, List, [], ◌∷◌, ◌++◌, length, take, drop, map, sum_by, refl, sym, ap, ◌∙◌, arith, append_assoc, length-append}
 use Rattle.std.specs.List.{flat_map, list_any}
 use Rattle.std.proofs.lemmas.List.{drop-drop, take_at, drop_at, append-nil, map_push, drop_all}
-use Rattle.std.proofs.lemmas.List.FromFn.{length-map-range_with_len}
 use Rattle.std.proofs.lemmas.List.Folds.{list_any-append}
 use Rattle.std.proofs.lemmas.List.Sums.{sum_by-cons, sum_by-append}
 use Rattle.std.proofs.lemmas.Grind.{flat_map-append}
@@ -10,20 +9,14 @@ use Rattle.ra_condition.specs.declared.condition.Condition.{Condition}
 use Rattle.ra_condition.specs.Flags.{is_trigger}
 use Rattle.ra_group.specs.declared.form.Form.TheVariants.{InTrigger}
 use Rattle.ra_group.specs.Equations.{Frame, frame_of}
-use Rattle.ra_group.specs.Outcome.{outcome_of, next_hit, next_hits}
+use Rattle.ra_group.specs.Outcome.{outcome_of, next_hits}
+use Rattle.ra_group.proofs.AlongLemmas.{frame_at-drop, length-next_hits}
 use Rattle.ra_group.specs.Along.{frame_at, with_part}
 use Rattle.ra_trigger.specs.declared.gathered.Gathered.{Gathered}
 use Rattle.ra_trigger.specs.declared.verdict.Verdict.{Verdict}
 use Rattle.ra_trigger.specs.Steps.{frames_along, has_trigger, together}
 use Rattle.ra_trigger.specs.Gathering.{gathered_of, added, verdict_by, verdict_of}
 use Rattle.ra_trigger.proofs.GatherLemmas.{gathered_of-push, core_and_some-gathered, core_or_all-gathered}
-
--- the frame of a group after others
-frame_at-drop : (cs : List Condition) (truths : List Bool) (lefts hits : List ℕ) (n at : ℕ) → frame_at cs (drop n truths) (drop n lefts) (drop n hits) at ≡ frame_at cs truths lefts hits (n + at)
-frame_at-drop cs truths lefts hits n at =
-    ap (λ ts. frame_of cs (take (length cs) ts) (take (length cs) (drop at (drop n lefts))) (take (length cs) (drop at (drop n hits)))) (drop-drop at n truths)
-    ∙ ap (λ ls. frame_of cs (take (length cs) (drop (n + at) truths)) (take (length cs) ls) (take (length cs) (drop at (drop n hits)))) (drop-drop at n lefts)
-    ∙ ap (λ hs. frame_of cs (take (length cs) (drop (n + at) truths)) (take (length cs) (drop (n + at) lefts)) (take (length cs) hs)) (drop-drop at n hits)
 
 -- one group more
 frames_along-push : (gs : List (List Condition)) (cs : List Condition) (truths : List Bool) (lefts hits : List ℕ) → frames_along (gs ++ cs ∷ []) truths lefts hits ≡ frames_along gs truths lefts hits ++ frame_at cs truths lefts hits (sum_by length gs) ∷ []
@@ -34,11 +27,8 @@ frames_along-push (g ∷ gs) cs truths lefts hits =
     ap (λ fs. frame_of g (take (length g) truths) (take (length g) lefts) (take (length g) hits) ∷ fs)
     (frames_along-push gs cs (drop (length g) truths) (drop (length g) lefts) (drop (length g) hits) ∙ ap (λ f. rest ++ f ∷ []) place)
 
--- a hit for each condition
-length-next_hits : (f : Frame) → length (next_hits f) ≡ length f.conditions
-length-next_hits f = length-map-range_with_len (next_hit f) 0 (length f.conditions)
-
-length-hits_along : (gs : List (List Condition)) (truths : List Bool) (lefts hits : List ℕ) → length (flat_map next_hits (frames_along gs truths lefts hits)) ≡ sum_by length gs
+-- a hit for each condition of the groups
+pub length-hits_along : (gs : List (List Condition)) (truths : List Bool) (lefts hits : List ℕ) → length (flat_map next_hits (frames_along gs truths lefts hits)) ≡ sum_by length gs
 length-hits_along [] truths lefts hits = refl
 length-hits_along (g ∷ gs) truths lefts hits =
     let first = frame_of g (take (length g) truths) (take (length g) lefts) (take (length g) hits) in

@@ -1,3 +1,5 @@
+pub mod CountLemmas
 mod GatherLemmas
 mod GroupsLemmas
+mod LawLemmas
 mod OrdersLemmas

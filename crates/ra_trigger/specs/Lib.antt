@@ -1,4 +1,5 @@
 pub mod Gathering
 pub mod Kept
+pub mod Laws
 pub mod States
 pub mod Steps

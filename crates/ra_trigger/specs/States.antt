@@ -16,14 +16,17 @@ abbrev pub state_of : ℕ → State
 state_of byte =
     if byte == 0 then Waiting else if byte == 1 then Active else if byte == 2 then Paused else if byte == 3 then Primed else Triggered
 
+-- the state is waiting
 abbrev pub is_waiting : State → Bool
 is_waiting Waiting = true
 is_waiting _ = false
 
+-- the state is primed
 abbrev pub is_primed : State → Bool
 is_primed Primed = true
 is_primed _ = false
 
+-- the state is triggered
 abbrev pub is_triggered : State → Bool
 is_triggered Triggered = true
 is_triggered _ = false

@@ -49,6 +49,7 @@ pub record Together : Type 0 where
   pub measured : Option ℕ
   pub hits : List ℕ
 
+-- what the groups say together, of their frames
 abbrev pub together : TriggerContents → List Bool → (lefts hits : List ℕ) → Together
 together t truths lefts hits =
     let frames = frames_along (groups_of t) truths lefts hits in
@@ -90,10 +91,11 @@ abbrev pub step : TriggerContents → List Bool → List ℕ → TriggerKept →
 step t truths lefts old =
     if is_triggered old.state then old else kept_after old (together t truths lefts old.hits)
 
--- the truth of a trigger without states at a frame, and its hits after it
+-- the truth of a trigger without states at a frame
 abbrev pub truth : TriggerContents → List Bool → (lefts hits : List ℕ) → Bool
 truth t truths lefts hits = (together t truths lefts hits).valid
 
+-- the hits of such a trigger after the frame
 abbrev pub hits_after_truth : TriggerContents → List Bool → (lefts hits : List ℕ) → List ℕ
 hits_after_truth t truths lefts hits =
     let now = together t truths lefts hits in

@@ -3,6 +3,7 @@
 
 mod change;
 mod gathered;
+mod laws;
 mod state;
 #[cfg(test)]
 mod tests;
@@ -11,5 +12,6 @@ mod trigger;
 mod verdict;
 
 pub use change::Change;
+pub use laws::achievement_holds;
 pub use state::State;
 pub use trigger::Trigger;

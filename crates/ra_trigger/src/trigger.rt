@@ -126,6 +126,7 @@ impl Trigger {
         now.valid
     }
 
+    /// The state as an achievement.
     pub fn state(&self) -> State
         ensures { result ≡ self.now.state }
     {

@@ -61,14 +61,16 @@ signed_place n = (n + 2 ^ 31) % 2 ^ 32
 abbrev pub signed_max : ℕ → ℕ → ℕ
 signed_max m n = if nat_lt (signed_place m) (signed_place n) then n else m
 
--- the greatest kept number, and it as a signed number
+-- the greatest of a number and others
 abbrev pub greatest_from : ℕ → List ℕ → ℕ
 greatest_from best [] = best
 greatest_from best (n ∷ ns) = greatest_from (signed_max best n) ns
 
+-- the greatest of the numbers, and 0 of none
 abbrev pub greatest : List ℕ → ℕ
 greatest [] = 0
 greatest (n ∷ ns) = greatest_from n ns
 
+-- the same as a signed number
 abbrev pub signed_greatest : List ℕ → ℤ
 signed_greatest numbers = cast_signed w32 (greatest numbers)

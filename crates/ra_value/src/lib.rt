@@ -1,2 +1,12 @@
 //! Values over frames: a number for each part, of which the greatest counts.
 #![tactic(auto)]
+
+mod greatest;
+mod laws;
+mod parts;
+#[cfg(test)]
+mod tests;
+mod value;
+
+pub use laws::value_holds;
+pub use value::Value;

@@ -3,6 +3,7 @@ use Rattle.ra_condition.specs.Contents.{trigger_contents}
 use Rattle.ra_condition.specs.Grammar.{trigger}
 use Rattle.ra_condition.specs.Reading.{trigger_at}
 use Rattle.ra_condition.proofs.GroupReaders.{reads-trigger}
+use Rattle.ra_condition.proofs.Structure.{trigger-structure}
 use Rattle.ra_text.proofs.Places.{rest_fits, ends_ok, ends_err}
 use Rattle.ra_condition.proofs.parse.read_trigger.Goals as goal
 
@@ -19,3 +20,7 @@ returns-in-Ok-clause-ok c = ends_ok trigger trigger_at reads-trigger c.args.text
 pub returns-in-Err-Stop-clause-err : goal.returns-in-Err-Stop-clause-err
 returns-in-Err-Stop-clause-err c = let e = rw c.in-Err-Stop.field-0-is at c.in-Err-Stop.ensures in
     ends_err trigger trigger_at reads-trigger c.args.text.now c.args.at c.new-cursor.result.rest.now c.new-cursor.ensures c.requires c.take_trigger.new.cursor.rest.now e c.place-in-Err-Stop.result c.place-in-Err-Stop.ensures
+
+pub returns-in-Ok-clause-structure : goal.returns-in-Ok-clause-structure
+returns-in-Ok-clause-structure c = let r = reads-trigger c.new-cursor.result.rest.now in
+    trigger-structure r.front (trigger_contents c.in-Ok.trigger) (r.spelled (trigger_contents c.in-Ok.trigger) c.take_trigger.new.cursor.rest.now c.in-Ok.ensures)

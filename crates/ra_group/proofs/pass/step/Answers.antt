@@ -1,4 +1,4 @@
-use Rattle.std.proofs.Common.{◌≡◌, ℕ, Bool, true, false, ◌&&◌, cond, leb, List, get_or, set, length, sym, ap, ◌∙◌, subst, arith}
+use Rattle.std.proofs.Common.{◌≡◌, ℕ, Bool, true, false, ◌&&◌, ◌↔◌, ◌⊎◌, None, cond, leb, List, get_or, set, length, sym, ap, ◌∙◌, subst, arith}
 use Rattle.std.proofs.lemmas.List.{take_all}
 use Rattle.std.proofs.lemmas.Bool.{cond-true, cond-false}
 use Rattle.ra_condition.specs.declared.condition.Condition.{Condition}
@@ -6,7 +6,10 @@ use Rattle.ra_condition.specs.Contents.{group_contents}
 use Rattle.ra_condition.specs.Chains.{pass_order}
 use Rattle.ra_condition.proofs.OrderLemmas.{pausing, place_below}
 use Rattle.ra_group.specs.Equations.{Frame, frame_of}
+use Rattle.ra_group.specs.declared.outcome.Outcome.{Outcome}
 use Rattle.ra_group.specs.Outcome.{outcome_of, next_hits}
+use Rattle.ra_group.specs.OutcomeLaws.{NoneMeasured}
+use Rattle.ra_group.proofs.OutcomeLemmas.{unmeasured}
 use Rattle.ra_group.proofs.PassLemmas.{HasPassed, passed_outcome, passed_hits}
 use Rattle.ra_group.proofs.TurnLemmas.{turn_handed, turn_bound, turn_counted}
 use Rattle.ra_group.proofs.pass.step.Goals as goal
@@ -83,6 +86,11 @@ returns-clause-outcome c =
     let passed = subst (λ (js : List ℕ). HasPassed c.args.form (f c.as_slice-conditions.result.now) js c.loop-turn.before c.loop-turn.tally c.loop-turn.hits) all c.loop-turn.invariant.passed in
     c.outcome.ensures ∙ passed_outcome c.args.form (f c.as_slice-conditions.result.now) c.loop-turn.before c.loop-turn.tally c.loop-turn.hits passed
     ∙ ap (λ cs. outcome_of c.args.form (f cs)) contents
+
+pub returns-clause-unmeasured : goal.returns-clause-unmeasured
+returns-clause-unmeasured c =
+    let f = frame_of (group_contents c.args.group.now) c.args.truths.now c.args.lefts.now c.args.hits.now in
+    subst (λ (o : Outcome). (o.measured ≡ None) ↔ ((o.paused ≡ true) ⊎ NoneMeasured f)) (sym (returns-clause-outcome c)) (unmeasured c.args.form f)
 
 pub returns-clause-next : goal.returns-clause-next
 returns-clause-next c =

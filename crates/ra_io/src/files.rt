@@ -1,0 +1,67 @@
+//! Files by name, and how a call on them fails.
+
+ghost use Rattle.std.specs.Prelude.{◌≡◌, ℕ, ◌+◌, ◌^◌, ◌≤◌, Option, List, length, Some, IfOk, OnOk, OnErr, IfSome, IsErrOf};
+ghost use Rattle.ra_io.specs.Causes.{Rose, NoneFell};
+ghost use Rattle.ra_io.specs.Files.{ReadsAt, SameContent, SameBut};
+
+/// A read failed.
+#[derive(Clone, Copy, Debug, PartialEq, Eq)]
+pub struct Failed;
+
+/// A put failed, or there was no memory for it.
+#[derive(Clone, Copy, Debug, PartialEq, Eq)]
+pub enum PutFailed {
+    Failed,
+    Memory,
+}
+
+/// Files by name: docs/DEFINITIONS.md, "Files and sinks".
+///
+/// A name that the content does not have counts as an empty file.
+pub trait Files {
+    /// The bytes under a name, where the files tell them.
+    ghost content: { Self → List ℕ → Option (List ℕ) };
+
+    /// How often reads of a name have failed.
+    ghost read_faults: { Self → List ℕ → ℕ };
+
+    /// How often puts of a name have failed.
+    ghost put_faults: { Self → List ℕ → ℕ };
+
+    /// Reads bytes at a place, counted from 0, into the front of the buffer, and says how many.
+    ///
+    /// With room in the buffer, none come only at the end of the file or past it. `Failed` comes
+    /// only where a fault of this name was counted. What stands in the buffer behind the bytes
+    /// that were read is left open, and so is all of it after an error.
+    fn read_at(&mut self, name: &str, at: u64, buf: &mut [u8]) -> Result<usize, Failed>
+        requires { at + length buf.old ≤ 2 ^ 41 }
+
+        // What was read.
+        ensures bound { IfOk result (λ n. n ≤ length buf.new) }
+        ensures bytes { IfOk result (λ n. IfSome (content self.old name.now) (λ bytes. ReadsAt bytes at n buf.new)) }
+
+        // What a fault shows.
+        ensures failed { OnErr result (Rose (read_faults self.old name.now) (read_faults self.new name.now)) }
+
+        // What stays.
+        ensures same { SameContent (content self.old) (content self.new) }
+        ensures reads { NoneFell (read_faults self.old) (read_faults self.new) }
+        ensures puts { NoneFell (put_faults self.old) (put_faults self.new) };
+
+    /// Replaces the whole content of one name.
+    ///
+    /// `Failed` comes only where a fault of this name was counted, and then the name may hold
+    /// anything.
+    fn put(&mut self, name: &str, bytes: &[u8]) -> Result<(), PutFailed>
+        // What was put.
+        ensures ok { OnOk result (IfSome (content self.old name.now) (λ _. content self.new name.now ≡ Some bytes.now)) }
+        ensures others { SameBut name.now (content self.old) (content self.new) }
+
+        // What a fault shows, and that want of memory leaves everything.
+        ensures failed { IsErrOf result PutFailed.Failed → Rose (put_faults self.old name.now) (put_faults self.new name.now) }
+        ensures memory { IsErrOf result PutFailed.Memory → SameContent (content self.old) (content self.new) }
+
+        // What stays.
+        ensures reads { NoneFell (read_faults self.old) (read_faults self.new) }
+        ensures puts { NoneFell (put_faults self.old) (put_faults self.new) };
+}

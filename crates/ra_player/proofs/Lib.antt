@@ -1,0 +1,11 @@
+pub mod Whole
+pub mod Pieces
+pub mod Parts
+pub mod RecordLemmas
+pub mod SimpleLemmas
+pub mod SetLineLemmas
+pub mod SessionLemmas
+pub mod PlayLemmas
+pub mod RunLemmas
+pub mod EndLemmas
+pub mod AnswerLemmas

@@ -1,0 +1,98 @@
+-- What a job prints, how it ends and what it saves, where nothing fails.
+use Rattle.std.specs.Prelude.{◌≡◌, ℕ, ◌+◌, ◌^◌, ◌==◌, Option, None, Some, List, [], ◌∷◌, ◌++◌, length, take, codes, decimal, count_by, bytes_eq}
+use Rattle.std.specs.List.{join_with_byte, slice_split, concat}
+use Rattle.md5.specs.Md5.{md5}
+use Rattle.ra_set.specs.declared.refused.SetRefused.{SetRefused}
+use Rattle.ra_set.specs.Contents.{SetContents, ItemContents, Unlocks, Ranks}
+use Rattle.ra_set.specs.Limits.{set_conditions}
+use Rattle.ra_memory.specs.Image.{History, AreImages}
+use Rattle.ra_progress.specs.Contents.{Opening, IsOpening}
+use Rattle.ra_progress.specs.Spelling.{progress_bytes}
+use Rattle.ra_progress.specs.Reading.{length_of, refusal}
+use Rattle.ra_trace.specs.Entries.{Entry}
+use Rattle.ra_trace.specs.Cutting.{no_slots, trace_within}
+use Rattle.ra_trace.specs.Workload.{made_set, made_trace}
+use Rattle.ra_runtime.specs.Order.{set_cells, set_tracked, shape_of}
+use Rattle.ra_runtime.specs.Openings.{snapshot, plain_opening}
+use Rattle.ra_runtime.specs.Play.{Moment, moved, printed, first_moment, behind_end}
+use Rattle.ra_player.specs.Endings.{Ending, Done, BadSet, BadProgress, ending_of, hex}
+
+-- what a job says where nothing fails
+pub record Expected : Type 0 where
+  -- what each record prints, in order
+  pub pieces : List (List ℕ)
+  pub ending : Ending
+  -- the progress file at the end record
+  pub saved : List ℕ
+
+-- a job that ends before it prints
+abbrev pub prints_nothing : Ending → Expected
+prints_nothing ending = record { pieces = []; ending = ending; saved = [] }
+
+-- the most bytes that a run takes of a trace
+abbrev pub trace_limit : ℕ
+trace_limit = 2 ^ 24
+
+-- the most bytes of a set
+abbrev pub set_limit : ℕ
+set_limit = 4194304
+
+-- what each record prints
+abbrev pub pieces_from : SetContents → Opening → Moment → List Entry → List (List ℕ)
+pieces_from set o m [] = []
+pieces_from set o m (entry ∷ entries) =
+    printed set o entry (moved entry m) ∷ pieces_from set o (moved entry m) entries
+
+-- a run of a set over a trace file, where an opening and some frames lie before the first record
+abbrev pub played : SetContents → Opening → History → List ℕ → Expected
+played set o behind bytes =
+    let trace = trace_within trace_limit no_slots bytes in
+    record {
+      pieces = pieces_from set o (first_moment trace.size behind) trace.entries;
+      ending = ending_of trace.stop;
+      saved = progress_bytes set.digest (snapshot set o (behind_end behind trace.size trace.entries));
+    }
+
+-- `Accepts` says that a file is a set, and `Refuses` why it is none.
+-- What a run over these bytes of SET, TRACE and the FILE of `--restore` says.
+pub data RunSays (Accepts : List ℕ → SetContents → Type 0) (Refuses : List ℕ → SetRefused → Type 0) (set_file trace_file : List ℕ) : Option (List ℕ) → Expected → Type 0 where
+  refuses_set : {restore : Option (List ℕ)} (why : SetRefused) → Refuses (take (set_limit + 1) set_file) why → RunSays Accepts Refuses set_file trace_file restore (prints_nothing (BadSet why))
+  refuses_file : (set : SetContents) (file : List ℕ) → Accepts set_file set → (why : _) → refusal (shape_of set) (take (length_of (shape_of set) + 1) file) ≡ Some why → RunSays Accepts Refuses set_file trace_file (Some file) (prints_nothing (BadProgress set.digest why))
+  begins : (set : SetContents) → Accepts set_file set → RunSays Accepts Refuses set_file trace_file None (played set (plain_opening set) [] trace_file)
+  -- every opening and history that the file keeps
+  goes_on : (set : SetContents) (o : Opening) (behind : History) → Accepts set_file set → IsOpening (shape_of set) o → AreImages behind → RunSays Accepts Refuses set_file trace_file (Some (progress_bytes set.digest (snapshot set o behind))) (played set o behind trace_file)
+
+-- how many achievements a set has
+abbrev pub achievements_in : List ItemContents → ℕ
+achievements_in [] = 0
+achievements_in (Unlocks id t ∷ items) = achievements_in items + 1
+achievements_in (Ranks id format b ∷ items) = achievements_in items
+
+-- how many leaderboards a set has
+abbrev pub boards_in : List ItemContents → ℕ
+boards_in [] = 0
+boards_in (Unlocks id t ∷ items) = boards_in items
+boards_in (Ranks id format b ∷ items) = boards_in items + 1
+
+-- the line of `check`
+abbrev pub check_line : SetContents → List ℕ
+check_line set =
+    join_with_byte 32 (codes "achievements" ∷ decimal (achievements_in set.items) ∷ codes "leaderboards" ∷ decimal (boards_in set.items)
+    ∷ codes "conditions" ∷ decimal (set_conditions set) ∷ codes "cells" ∷ decimal (length (set_cells set))
+    ∷ codes "priors" ∷ decimal (length (set_tracked set)) ∷ codes "md5" ∷ hex set.digest ∷ []) ++ 10 ∷ []
+
+-- What `check` over these bytes says.
+pub data CheckSays (Accepts : List ℕ → SetContents → Type 0) (Refuses : List ℕ → SetRefused → Type 0) (set_file : List ℕ) : Expected → Type 0 where
+  refuses_set : (why : SetRefused) → Refuses (take (set_limit + 1) set_file) why → CheckSays Accepts Refuses set_file (prints_nothing (BadSet why))
+  counts : (set : SetContents) → Accepts set_file set → CheckSays Accepts Refuses set_file (record { pieces = check_line set ∷ []; ending = Done; saved = [] })
+
+-- the line of `make`: the lines of a text, those of unlocks, and its digest
+abbrev pub make_line : ℕ → List ℕ → List ℕ
+make_line number text =
+    join_with_byte 32 (codes "made" ∷ decimal number ∷ codes "lines" ∷ decimal (count_by (λ c. c == 10) text)
+    ∷ codes "unlocks" ∷ decimal (count_by (λ line. bytes_eq (take 7 line) (codes "unlock ")) (slice_split (λ c. c == 10) text))
+    ∷ codes "md5" ∷ hex (md5 text) ∷ []) ++ 10 ∷ []
+
+-- What `make` of a number says.
+pub data MakeSays (Accepts : List ℕ → SetContents → Type 0) (number : ℕ) : Expected → Type 0 where
+  made : (set : SetContents) → Accepts (made_set number) set → MakeSays Accepts number (record { pieces = make_line number (concat (played set (plain_opening set) [] (made_trace number)).pieces) ∷ []; ending = Done; saved = [] })

@@ -1,0 +1,17 @@
+pub mod Reading
+pub mod Writing
+pub mod Records
+pub mod Session
+pub mod Playing
+pub mod TracePieces
+pub mod Simple
+pub mod Lines
+pub mod Words
+pub mod Endings
+pub mod Expected
+pub mod SetLine
+pub mod Stage
+pub mod Headline
+pub mod Statuses
+pub mod Running
+pub mod Closing

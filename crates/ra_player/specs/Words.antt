@@ -1,0 +1,35 @@
+-- The job of the words: docs/DEFINITIONS.md, "Jobs".
+use Rattle.std.specs.Prelude.{ℕ, ◌&&◌, Bool, false, not, ◌==◌, if◌then◌else◌, Option, None, Some, List, [], ◌∷◌, codes, bytes_eq}
+
+-- what the words ask for: to play a trace, to count a set, or to make and play a workload
+pub data Job : Type 0 where
+  Run : (set trace : List ℕ) → (restore save : Option (List ℕ)) → Job
+  Check : (set : List ℕ) → Job
+  Make : (number : ℕ) → Job
+
+-- a word that names a file: not empty, and it does not begin with `-`
+abbrev pub is_name : List ℕ → Bool
+is_name [] = false
+is_name (c ∷ cs) = not (c == 45)
+
+-- so far the only job is `run` with a set and a trace
+abbrev pub job_of : List (List ℕ) → Option Job
+job_of (word ∷ set ∷ trace ∷ []) =
+    if bytes_eq word (codes "run") && (is_name set && is_name trace) then Some (Run set trace None None) else None
+job_of _ = None
+
+-- the file of an option that may be missing
+abbrev pub file_in : Option (List ℕ) → List (List ℕ)
+file_in None = []
+file_in (Some name) = name ∷ []
+
+-- the files that a job reads
+abbrev pub reads_of : Job → List (List ℕ)
+reads_of (Run set trace restore save) = set ∷ trace ∷ file_in restore
+reads_of (Check set) = set ∷ []
+reads_of (Make number) = []
+
+-- the file that a job puts
+abbrev pub puts_of : Job → List (List ℕ)
+puts_of (Run set trace restore save) = file_in save
+puts_of _ = []

@@ -1,0 +1,33 @@
+//! The top call: does what the words say, over any files and any output.
+
+ghost use Rattle.std.specs.Prelude.{map, string_bytes};
+ghost use Rattle.ra_io.specs.Files.{SameContent};
+ghost use Rattle.ra_player.specs.Headline.{outside_of};
+ghost use Rattle.ra_player.specs.Statuses.{Answers};
+
+use crate::closing::{finish, last_line};
+use crate::job::job;
+use crate::run::run_job;
+use ra_io::{Files, Sink};
+use std::alloc::Global;
+
+const USAGE: &str =
+    "usage: ra_player run SET TRACE [--restore FILE] [--save FILE] | check SET | make N\n";
+
+/// Does what the words after the program's name say, and answers the status:
+/// docs/DEFINITIONS.md, "Statuses".
+///
+/// What was printed, and why, is said by the status. No file is changed.
+pub fn play<F: Files, K: Sink>(alloc: Global, words: &[String], files: &mut F, out: &mut K) -> u8
+    ensures answers { Answers (map string_bytes words.now)
+        (outside_of (F.content files.old) (F.read_faults files.old) (F.put_faults files.old) (K.text out.old) (K.faults out.old))
+        (outside_of (F.content files.new) (F.read_faults files.new) (F.put_faults files.new) (K.text out.new) (K.faults out.new))
+        result }
+    ensures content { SameContent (F.content files.old) (F.content files.new) }
+{
+    let Some((set, trace)) = job(words) else {
+        return last_line(2, USAGE, out);
+    };
+    let ending = run_job(alloc, set, trace, files, out);
+    finish(ending, out)
+}

@@ -1,0 +1,5 @@
+pub mod Again
+pub mod Bytes
+pub mod ComesBack
+pub mod Fields
+pub mod Stands

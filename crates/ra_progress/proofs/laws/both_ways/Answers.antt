@@ -1,0 +1,9 @@
+use Rattle.ra_progress.proofs.Again.{again}
+use Rattle.ra_progress.proofs.ComesBack.{comes_back}
+use Rattle.ra_progress.proofs.laws.both_ways.Goals as goal
+
+pub returns-clause-from_openings : goal.returns-clause-from_openings
+returns-clause-from_openings c = λ shape o is_shape fits. comes_back shape o is_shape fits
+
+pub returns-clause-from_bytes : goal.returns-clause-from_bytes
+returns-clause-from_bytes c = λ shape bytes fit ok. again bytes fit shape ok

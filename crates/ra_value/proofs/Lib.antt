@@ -1,0 +1,7 @@
+pub mod CountLemmas
+mod CountedLemmas
+mod GreatestLemmas
+mod LawLemmas
+mod OrdersLemmas
+mod PartsLemmas
+mod TurnLemmas
