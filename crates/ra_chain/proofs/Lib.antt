@@ -1,3 +1,4 @@
+pub mod JoinLemmas
 mod LawLemmas
 mod Marks
 pub mod OrderPlaces

@@ -1,15 +1,14 @@
 -- Each condition stands once in the pass order, and after the one before it in its chain.
-use Rattle.std.proofs.Common.{◌≡◌, ◌≢◌, ℕ, zero, suc, ◌+◌, ◌-◌, ◌<◌, ◌≤◌, ◌==◌, Bool, true, false, not, List, [], ◌∷◌, ◌++◌, length, take, get_or, refl, sym, ap, ◌∙◌, ◌⊎◌, inl, inr, arith, length-append}
+use Rattle.std.proofs.Common.{◌≡◌, ◌≢◌, ℕ, zero, suc, ◌+◌, ◌-◌, ◌<◌, ◌≤◌, ◌==◌, Bool, true, false, not, List, [], ◌∷◌, length, take, get_or, refl, sym, ap, ◌∙◌, ◌⊎◌, inl, inr, arith, length-append}
 use Rattle.std.specs.List.{position_or_len, before_first}
 use Rattle.std.proofs.lemmas.List.{get_or_append_left, get_or-append_right, get_or-append-add, get_or-take, length-take-le}
-use Rattle.std.proofs.lemmas.Bool.{cases_lt, true≢false, false≢true, eq-eqb, ne_eqb, cases_order}
+use Rattle.std.proofs.lemmas.Bool.{cases_lt, true≢false, eq-eqb, ne_eqb, cases_order}
 use Rattle.ra_condition.specs.declared.condition.Condition.{Condition}
 use Rattle.ra_condition.specs.Flags.{combines}
 use Rattle.ra_condition.specs.Contents.{flag_at}
 use Rattle.ra_condition.specs.Chains.{in_pause_chain, pass_order}
 use Rattle.ra_condition.proofs.Passes.{chosen, stands}
 use Rattle.ra_condition.proofs.OrderLemmas.{pausing, others, order_early, order_late}
-use Rattle.ra_chain.specs.Laws.{StandsBefore}
 use Rattle.ra_chain.proofs.LawLemmas.{before_chained, chosen_at}
 
 -- the place of a turn

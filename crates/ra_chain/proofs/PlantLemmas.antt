@@ -1,5 +1,5 @@
 -- How a pool grows by one node and by several calls.
-use Rattle.std.proofs.Common.{◌≡◌, ℕ, zero, suc, ◌+◌, ◌<◌, ◌≤◌, List, [], ◌∷◌, ◌++◌, length, slice_get, Option, None, Some, refl, ap, ap₂, subst, sym, ◌∙◌, ◌⊎◌, inl, inr, arith, append_assoc, length-append, get_or, filter}
+use Rattle.std.proofs.Common.{◌≡◌, ℕ, ◌+◌, ◌<◌, ◌≤◌, List, [], ◌∷◌, ◌++◌, length, Option, None, Some, refl, ap, ap₂, subst, sym, ◌∙◌, inl, inr, arith, append_assoc, length-append, filter}
 use Rattle.std.specs.List.{flat_map}
 use Rattle.std.proofs.lemmas.List.{append-nil}
 use Rattle.std.proofs.lemmas.List.Elements.{filter-append}
@@ -14,7 +14,7 @@ use Rattle.ra_indirect.specs.declared.node.Node.TheVariants.{Const, Cell as Cell
 use Rattle.ra_indirect.specs.Trees.{Tree, constant, join, view, Cell, cell_of, same_cell, same_tracked, cells_in, tracked_in, tracked_by}
 use Rattle.ra_indirect.specs.Pools.{Spelled, IsTree, IsCell, IsCellOf, tree_in, spelled_at, spelled_with, spelled_by, Spells, IsValued, node_at, cells_of, tracked_of, cell_in, tracked_at, view_in}
 use Rattle.ra_indirect.specs.Interned.{IsPool, Interns}
-use Rattle.ra_indirect.specs.Growing.{grown, IsFront, GrowsBy, AddsAtMost, GainsNode, is_view}
+use Rattle.ra_indirect.specs.Growing.{grown, IsFront, GrowsBy, GainsNode, is_view}
 use Rattle.ra_indirect.proofs.Spelling.{length-spelled_by, spelled_by-append, spelled_of}
 use Rattle.ra_indirect.proofs.GrowingLemmas.{grown-append, cells_of-push}
 use Rattle.ra_indirect.proofs.ClosedLemmas.{closed}

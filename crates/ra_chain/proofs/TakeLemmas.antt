@@ -1,33 +1,20 @@
 -- One condition of a pass: what its calls leave in the pool.
-use Rattle.std.proofs.Common.{◌≡◌, ◌≢◌, ℕ, zero, suc, ◌+◌, ◌*◌, ◌<◌, ◌≤◌, Bool, true, false, not, if◌then◌else◌, cond, Option, None, Some, List, [], ◌∷◌, ◌++◌, length, take, filter, get_or, refl, ap, ap₂, subst, sym, ◌∙◌, ◌⊎◌, inl, inr, arith, IsTrue, length-append}
-use Rattle.std.specs.List.{flat_map, before_first, range_with_len}
-use Rattle.std.proofs.lemmas.List.{append-nil}
-use Rattle.std.proofs.lemmas.List.Concat.{flat_map-append}
-use Rattle.std.proofs.lemmas.List.Filters.{length-filter_both}
-use Rattle.std.proofs.lemmas.List.FromFn.{length-range_with_len}
-use Rattle.std.proofs.lemmas.Bool.{false≢true, cases_eq}
-use Rattle.std.proofs.Math.Seq.{take-suc, take-length}
+use Rattle.std.proofs.Common.{◌≡◌, ℕ, suc, ◌<◌, if◌then◌else◌, Option, None, Some, List, [], ◌∷◌, length, get_or, ap, subst, sym}
 use Rattle.ra_condition.specs.declared.flag.Flag.{Flag}
-use Rattle.ra_condition.specs.declared.flag.Flag.TheVariants.{AddSource, SubSource, AddAddress, Remember}
 use Rattle.ra_condition.specs.declared.condition.Condition.{Condition}
-use Rattle.ra_condition.specs.Flags.{hands_on, combines, is_remember}
+use Rattle.ra_condition.specs.Flags.{hands_on}
 use Rattle.ra_condition.specs.Contents.{condition_at, flag_at}
-use Rattle.ra_condition.specs.Chains.{in_pause_chain, places, pass_order}
-use Rattle.ra_condition.proofs.OrderLemmas.{order_below}
 use Rattle.ra_indirect.specs.declared.node.Node.{Node}
-use Rattle.ra_indirect.specs.Trees.{Tree, constant}
+use Rattle.ra_indirect.specs.Trees.{Tree}
 use Rattle.ra_indirect.specs.Pools.{Spells}
 use Rattle.ra_indirect.specs.Interned.{IsPool}
 use Rattle.ra_indirect.specs.Growing.{IsFront, GrowsBy}
 use Rattle.ra_chain.specs.declared.trees.Passed.{Passed}
-use Rattle.ra_chain.specs.Elaboration.{tree_at, operand_tree, pointer_of, last_remembered, recall_of, sum_after, sum_of, left_operand, right_operand, added, values_of, left_of, right_of}
-use Rattle.ra_chain.specs.Occurrence.{trees_in_group}
-use Rattle.ra_chain.specs.Planting.{Names, Plants, PlantsSum, NamesSome, SpellsOrZero, SpellsSum, IsKept, IsCarried}
-use Rattle.ra_chain.specs.Sides.{PlantsSides, sum_trees, GrewByLeft, left_side, right_side, IsSized, IsKnownBefore, TakesCondition}
-use Rattle.ra_chain.specs.Elaborates.{trees_along, SpellsEach}
-use Rattle.ra_chain.proofs.OrderPlaces.{turn_at, turns_differ, came_before, before_turn, turn_of}
+use Rattle.ra_chain.specs.Elaboration.{tree_at, operand_tree, pointer_of, recall_of, sum_after, sum_of, left_operand, right_operand, added, values_of, left_of, right_of}
+use Rattle.ra_chain.specs.Planting.{Names, Plants, PlantsSum, NamesSome, SpellsOrZero, SpellsSum, IsCarried}
+use Rattle.ra_chain.specs.Sides.{PlantsSides, sum_trees, GrewByLeft, left_side, right_side, IsKnownBefore}
 use Rattle.ra_chain.proofs.ValueLemmas.{values_by_rules}
-use Rattle.ra_chain.proofs.PlantLemmas.{spells_named, spells_more, names_more, grows_none, grows_again, grows_through, kept_none, kept_through}
+use Rattle.ra_chain.proofs.PlantLemmas.{spells_named, names_more, grows_none, grows_again, grows_through}
 use Rattle.ra_chain.proofs.SideLemmas.{sum_more, or_zero_more}
 
 -- what spells may be named

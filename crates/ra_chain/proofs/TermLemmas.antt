@@ -1,5 +1,5 @@
 -- The sum of legacy terms, a term more.
-use Rattle.std.proofs.Common.{◌≡◌, ℕ, suc, ◌+◌, ◌<◌, Option, None, Some, List, [], ◌∷◌, ◌++◌, length, take, get_or, refl, ap, subst, sym, ◌∙◌, arith}
+use Rattle.std.proofs.Common.{◌≡◌, ℕ, ◌+◌, ◌<◌, Option, None, Some, List, [], ◌∷◌, ◌++◌, length, take, get_or, refl, ap, subst, sym, ◌∙◌}
 use Rattle.std.proofs.lemmas.List.{take_more}
 use Rattle.ra_operand.specs.declared.op.Op.TheVariants.{Add}
 use Rattle.ra_condition.specs.declared.part.Term.{Term}
@@ -7,11 +7,11 @@ use Rattle.ra_indirect.specs.declared.node.Node.{Node}
 use Rattle.ra_indirect.specs.Trees.{Tree, constant, join}
 use Rattle.ra_indirect.specs.Interned.{IsPool}
 use Rattle.ra_chain.specs.Elaboration.{term_tree, terms_tree, summed_from, added}
-use Rattle.ra_chain.specs.Planting.{SpellsSum, Plants}
+use Rattle.ra_chain.specs.Planting.{Plants}
 use Rattle.ra_chain.specs.Sides.{sum_trees}
 use Rattle.ra_chain.specs.Terms.{terms_sum, PlantsTerms}
-use Rattle.ra_chain.proofs.PlantLemmas.{grows_none, grows_through, grows_as}
-use Rattle.ra_chain.proofs.SideLemmas.{grows_added, sum_more}
+use Rattle.ra_chain.proofs.PlantLemmas.{grows_none, grows_through}
+use Rattle.ra_chain.proofs.SideLemmas.{grows_added}
 
 summed_more : (sum : Tree) (ts : List Term) (t : Term) → Some (summed_from sum (ts ++ t ∷ [])) ≡ Some (added (Some (summed_from sum ts)) (term_tree t))
 summed_more sum [] t = refl

@@ -1,22 +1,21 @@
 -- The values that conditions hand on: the rules have one solution.
-use Rattle.std.proofs.Common.{◌≡◌, ◌≢◌, ℕ, zero, suc, ◌+◌, ◌<◌, ◌≤◌, ◌==◌, Bool, true, false, if◌then◌else◌, Option, None, Some, List, [], ◌∷◌, ◌++◌, length, take, drop, replicate, get_or, set, refl, ap, ap₂, sym, subst, ◌∙◌, ◌⊎◌, inl, inr, arith, length-append, length-take, length-drop}
+use Rattle.std.proofs.Common.{◌≡◌, ◌≢◌, ℕ, zero, suc, ◌+◌, ◌<◌, ◌≤◌, ◌==◌, Bool, true, false, if◌then◌else◌, Option, List, [], ◌∷◌, ◌++◌, length, take, drop, replicate, get_or, set, refl, ap, ap₂, sym, subst, ◌∙◌, ◌⊎◌, inl, inr, arith, length-take, length-drop}
 use Rattle.std.specs.List.{before_first}
-use Rattle.std.proofs.lemmas.List.{get_or-set_same, get_or-set_other, get_or-take, get_or-drop, length-take-le, take-append-drop, same_lists, get_or_default, length-replicate}
+use Rattle.std.proofs.lemmas.List.{get_or-set_same, get_or-set_other, get_or-take, get_or-drop, take-append-drop, same_lists, get_or_default, length-replicate}
 use Rattle.std.proofs.lemmas.Bool.{false≢true, cases_lt}
 use Rattle.std.proofs.Math.ListN.{length-set}
-use Rattle.std.proofs.Math.Seq.{take-suc, take-length}
+use Rattle.std.proofs.Math.Seq.{take-suc}
 use Rattle.ra_operand.specs.declared.operand.Operand.{Operand}
-use Rattle.ra_operand.specs.declared.operand.Operand.TheVariants.{Cell, Const, Recall}
 use Rattle.ra_condition.specs.declared.flag.Flag.{Flag}
-use Rattle.ra_condition.specs.declared.flag.Flag.TheVariants.{AddSource, SubSource, AddAddress, Remember}
+use Rattle.ra_condition.specs.declared.flag.Flag.TheVariants.{AddSource, SubSource, AddAddress}
 use Rattle.ra_condition.specs.declared.condition.Condition.{Condition}
 use Rattle.ra_condition.specs.Flags.{combines, is_address, is_remember}
 use Rattle.ra_condition.specs.Contents.{condition_at, flag_at}
 use Rattle.ra_condition.specs.Chains.{pass_order}
 use Rattle.ra_condition.proofs.OrderLemmas.{order_below}
 use Rattle.ra_indirect.specs.Trees.{Tree, constant}
-use Rattle.ra_chain.specs.Elaboration.{tree_at, operand_tree, pointer_of, last_remembered, recall_of, sum_after, sum_of, left_operand, right_operand, joined, handed_on, value_by_rules, values_along, values_of, AreValues}
-use Rattle.ra_chain.proofs.OrderPlaces.{turn_at, turns_differ, CameBefore, came_before, before_turn, turn_of}
+use Rattle.ra_chain.specs.Elaboration.{tree_at, operand_tree, pointer_of, last_remembered, recall_of, sum_after, sum_of, joined, handed_on, value_by_rules, values_along, values_of, AreValues}
+use Rattle.ra_chain.proofs.OrderPlaces.{turn_at, turns_differ, came_before, before_turn, turn_of}
 
 -- the flags whose value the sum of the next condition takes or passes
 abbrev pub carries : Flag → Bool

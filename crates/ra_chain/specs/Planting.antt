@@ -1,9 +1,9 @@
 -- What the calls of an elaboration leave in a pool.
-use Rattle.std.specs.Prelude.{◌≡◌, ℕ, ◌<◌, true, Option, None, Some, List, [], ◌∷◌, length}
+use Rattle.std.specs.Prelude.{◌≡◌, ℕ, ◌<◌, Option, None, Some, List, [], length}
 use Rattle.ra_condition.specs.declared.flag.Flag.{Flag}
 use Rattle.ra_condition.specs.declared.flag.Flag.TheVariants.{AddSource, SubSource, AddAddress}
 use Rattle.ra_indirect.specs.declared.node.Node.{Node}
-use Rattle.ra_indirect.specs.declared.node.Node.TheVariants.{Const, Cell as CellNode, View, Arith}
+use Rattle.ra_indirect.specs.declared.node.Node.TheVariants.{Cell as CellNode, View}
 use Rattle.ra_indirect.specs.Trees.{Tree, constant}
 use Rattle.ra_indirect.specs.Pools.{Spells, IsValued, node_at}
 use Rattle.ra_indirect.specs.Interned.{IsPool}

@@ -1,16 +1,15 @@
 -- The trees of a condition, from its sum, its left operand and its right one.
-use Rattle.std.specs.Prelude.{◌≡◌, ℕ, true, suc, if◌then◌else◌, Option, None, Some, List, [], ◌∷◌, ◌++◌, length, slice_index, slice_index_or, IsTrue, ◌⊎◌}
-use Rattle.ra_operand.specs.declared.op.Op.{Op}
+use Rattle.std.specs.Prelude.{◌≡◌, ℕ, suc, if◌then◌else◌, Option, None, Some, List, [], ◌∷◌, ◌++◌, length, slice_index, slice_index_or, IsTrue, ◌⊎◌}
 use Rattle.ra_operand.specs.Operators.{is_arithmetic, is_bare}
 use Rattle.ra_condition.specs.declared.condition.Condition.{Condition}
 use Rattle.ra_condition.specs.Flags.{hands_on, is_remember}
-use Rattle.ra_condition.specs.Contents.{condition_at, flag_at}
+use Rattle.ra_condition.specs.Contents.{flag_at}
 use Rattle.ra_indirect.specs.declared.node.Node.{Node}
 use Rattle.ra_indirect.specs.Trees.{Tree}
 use Rattle.ra_indirect.specs.Pools.{Spells}
 use Rattle.ra_indirect.specs.Growing.{GrowsBy}
 use Rattle.ra_chain.specs.declared.trees.Passed.{Passed}
-use Rattle.ra_chain.specs.Elaboration.{tree_at, added, joined, handed_on, pointer_of, recall_of, sum_of, values_of, left_of, right_of}
+use Rattle.ra_chain.specs.Elaboration.{tree_at, added, joined, handed_on, recall_of, sum_of, values_of, left_of, right_of}
 use Rattle.ra_chain.specs.Planting.{SpellsOrZero, SpellsSum, IsCarried}
 
 -- a condition that hands a value on has arithmetic or no operator

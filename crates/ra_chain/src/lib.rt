@@ -9,10 +9,14 @@ mod sides;
 mod terms;
 #[cfg(test)]
 mod tests;
+#[cfg(test)]
+mod tree_tests;
 mod trees;
+mod values_law;
 
 pub use laws::pass_order_holds;
 pub use order::order_of;
 pub use plan::GroupPlan;
 pub use terms::elaborate_terms;
 pub use trees::elaborate;
+pub use values_law::group_values_hold;

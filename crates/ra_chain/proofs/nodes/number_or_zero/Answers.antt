@@ -1,6 +1,6 @@
-use Rattle.std.proofs.Common.{subst, sym}
+use Rattle.std.proofs.Common.{subst}
 use Rattle.ra_indirect.specs.Trees.{constant}
-use Rattle.ra_chain.specs.Planting.{SpellsOrZero, Plants, NamesSome}
+use Rattle.ra_chain.specs.Planting.{SpellsOrZero}
 use Rattle.ra_chain.proofs.PlantLemmas.{grows_none, spells_named}
 use Rattle.ra_chain.proofs.nodes.number_or_zero.Goals as goal
 

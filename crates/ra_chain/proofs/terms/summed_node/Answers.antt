@@ -1,5 +1,4 @@
 use Rattle.std.proofs.Common.{◌+◌, ◌*◌, arith, take}
-use Rattle.ra_chain.specs.Elaboration.{term_tree}
 use Rattle.ra_chain.specs.Terms.{terms_sum}
 use Rattle.ra_chain.proofs.PlantLemmas.{kept_through}
 use Rattle.ra_chain.proofs.SideLemmas.{sum_more}

@@ -1,4 +1,4 @@
-use Rattle.std.proofs.Common.{◌≡◌, ℕ, suc, ◌+◌, ◌*◌, ◌<◌, ◌≤◌, length, get_or, arith, ap, subst, sym, ◌∙◌}
+use Rattle.std.proofs.Common.{◌≡◌, suc, ◌+◌, ◌*◌, ◌<◌, ◌≤◌, length, get_or, arith, ap, subst, sym}
 use Rattle.ra_condition.specs.Chains.{pass_order}
 use Rattle.ra_condition.proofs.OrderLemmas.{order_below}
 use Rattle.ra_chain.specs.Planting.{IsKept}

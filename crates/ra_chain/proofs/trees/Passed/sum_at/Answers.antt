@@ -1,4 +1,4 @@
-use Rattle.std.proofs.Common.{◌≡◌, ◌-◌, suc, get_or, arith, ap, None}
+use Rattle.std.proofs.Common.{◌≡◌, ◌-◌, suc, arith, ap, None}
 use Rattle.std.proofs.lemmas.List.{get_or_default, get_or_read}
 use Rattle.ra_chain.proofs.TakeLemmas.{named_value, named_carried_sum, sum_taken}
 use Rattle.ra_chain.proofs.trees.Passed.sum_at.Goals as goal

@@ -1,4 +1,4 @@
-use Rattle.std.proofs.Common.{◌≡◌, ℕ, if◌then◌else◌, get_or, set, ap, ap₂, subst, sym, ◌∙◌, arith, get_or-set_same, get_or-set_other, None, Some}
+use Rattle.std.proofs.Common.{if◌then◌else◌, get_or, set, ap, ap₂, subst, sym, ◌∙◌, arith, get_or-set_same, get_or-set_other, None, Some}
 use Rattle.std.proofs.lemmas.List.{get_or_default}
 use Rattle.ra_condition.specs.Flags.{is_remember}
 use Rattle.ra_condition.specs.Contents.{no_condition}
