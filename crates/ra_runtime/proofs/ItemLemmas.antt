@@ -45,11 +45,11 @@ change_written frame id old new =
 pub achievement_item : (table : TableSeen) (id : ℕ) (t : TriggerContents) (old new : AchievementRun) → StepsAchievement table t old new → StepsItem table (Unlocks id t) (Achievement old) (Achievement new)
 achievement_item table id t old new steps = record {
   kept = λ start image has.
-    ap kept_achievement (steps.kept start (image ∷ []) has ∙ ap (λ k. achievement_after start t k (image ∷ [])) (sym (achievement_again old.trigger)));
+      ap kept_achievement (steps.kept start (image ∷ []) has ∙ ap (λ k. achievement_after start t k (image ∷ [])) (sym (achievement_again old.trigger)));
   lines = λ start image frame has.
-    ap (change_lines frame id) steps.change
-    ∙ change_written frame id old.trigger new.trigger
-    ∙ ap₂ (achievement_lines frame id) (sym (achievement_again old.trigger)) (steps.kept start (image ∷ []) has ∙ ap (λ k. achievement_after start t k (image ∷ [])) (sym (achievement_again old.trigger)));
+      ap (change_lines frame id) steps.change
+      ∙ change_written frame id old.trigger new.trigger
+      ∙ ap₂ (achievement_lines frame id) (sym (achievement_again old.trigger)) (steps.kept start (image ∷ []) has ∙ ap (λ k. achievement_after start t k (image ∷ [])) (sym (achievement_again old.trigger)));
 }
 
 optional_fits : (nodes : List Node) (parts : Option (List PartContents)) (run : Option ValueRun) → IsOptionalRun nodes parts run → ValueFits (optional_parts parts) (optional_kept run)
@@ -99,6 +99,6 @@ board_item nodes table id format b old new is is_too steps =
     record {
       kept = λ start image has. ap kept_board (steps.kept start image has ∙ ap (λ k. board_after start b k (image ∷ [])) again);
       lines = λ start image frame has.
-        board_written nodes table frame id format b old new is is_too steps
-        ∙ ap₂ (board_lines frame id format b) again (steps.kept start image has ∙ ap (λ k. board_after start b k (image ∷ [])) again);
+          board_written nodes table frame id format b old new is is_too steps
+          ∙ ap₂ (board_lines frame id format b) again (steps.kept start image has ∙ ap (λ k. board_after start b k (image ∷ [])) again);
     }

@@ -6,6 +6,7 @@ pub mod Fitting
 pub mod ItemCuts
 pub mod ItemLemmas
 pub mod LaidLemmas
+pub mod LineLemmas
 pub mod Law
 pub mod Members
 pub mod OpeningFits

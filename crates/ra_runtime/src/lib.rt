@@ -10,5 +10,6 @@ mod plans;
 mod reading;
 mod test_run;
 mod value_run;
+mod written;
 
 pub use laws::histories_may_be_cut;
