@@ -1,6 +1,5 @@
 -- One frame of an item by its run is one frame of it by the definitions.
 use Rattle.std.proofs.Common.{◌≡◌, ℕ, ℤ, ◌&&◌, ◌||◌, ◌==◌, Bool, true, false, not, if◌then◌else◌, Option, None, Some, List, [], ◌∷◌, ◌++◌, codes, decimal, refl, sym, ◌∙◌, ap, ap₂, arith}
-use Rattle.std.proofs.lemmas.Bool.{eqb-true}
 use Rattle.ra_condition.specs.Contents.{TriggerContents, PartContents}
 use Rattle.ra_indirect.specs.declared.node.Node.{Node}
 use Rattle.ra_memref.specs.Table.{TableSeen}
@@ -18,12 +17,12 @@ use Rattle.ra_runtime.specs.declared.value_run.ValueRun.{ValueRun}
 use Rattle.ra_runtime.specs.declared.achievement_run.AchievementRun.{AchievementRun}
 use Rattle.ra_runtime.specs.declared.board_run.BoardRun.{BoardRun}
 use Rattle.ra_runtime.specs.declared.item_run.ItemRun.TheVariants.{Achievement, Leaderboard}
-use Rattle.ra_runtime.specs.Boards.{BoardKept, tracked_kept, tracked_number, board_after, kept_board, opened_board}
-use Rattle.ra_runtime.specs.Lines.{line_of, line_if, is_started, same_number, achievement_lines, board_lines}
+use Rattle.ra_runtime.specs.Boards.{BoardKept, tracked_kept, tracked_number, board_after, kept_board}
+use Rattle.ra_runtime.specs.Lines.{line_if, is_started, same_number, achievement_lines, board_lines}
 use Rattle.ra_runtime.specs.Openings.{kept_achievement}
 use Rattle.ra_runtime.specs.Histories.{achievement_after}
 use Rattle.ra_runtime.specs.Order.{optional_parts}
-use Rattle.ra_runtime.specs.Runs.{StepsAchievement, IsValueRun}
+use Rattle.ra_runtime.specs.Runs.{StepsAchievement}
 use Rattle.ra_runtime.specs.BoardRuns.{IsOptionalRun, IsBoardRun, StepsBoard, board_kept, optional_kept, tracked_kept_by, tracked_by}
 use Rattle.ra_runtime.specs.RunLines.{measured_line, change_lines, board_run_lines}
 use Rattle.ra_runtime.specs.ItemRuns.{StepsItem}

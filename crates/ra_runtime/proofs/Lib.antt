@@ -1,8 +1,10 @@
 pub mod Again
 pub mod Agreeing
 pub mod Alike
+pub mod Beside
 pub mod Covered
 pub mod Fitting
+pub mod FrameLemmas
 pub mod ItemCuts
 pub mod ItemLemmas
 pub mod LaidLemmas
@@ -11,6 +13,7 @@ pub mod Law
 pub mod Members
 pub mod OpeningFits
 pub mod PresenceCuts
+pub mod RunsLemmas
 pub mod WorkedFiles
 pub mod WorkedLines
 pub mod WorkedSets

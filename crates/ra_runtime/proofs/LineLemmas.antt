@@ -1,5 +1,5 @@
 -- The words of lines, put at the end of a text.
-use Rattle.std.proofs.Common.{◌≡◌, ℕ, Bool, List, [], ◌∷◌, ◌++◌, codes, append_assoc}
+use Rattle.std.proofs.Common.{◌≡◌, ℕ, List, [], ◌∷◌, ◌++◌, codes, append_assoc}
 use Rattle.ra_runtime.specs.Lines.{line_of}
 
 pub track_words : (frame id text : List ℕ) → (codes "track " ++ (frame ++ 32 ∷ (id ++ 32 ∷ []))) ++ (text ++ 10 ∷ []) ≡ line_of (codes "track" ∷ frame ∷ id ∷ text ∷ [])

@@ -1,4 +1,4 @@
-use Rattle.std.proofs.Common.{◌≡◌, ◌∷◌, [], ◌++◌, ◌∙◌, ◌&&◌, ◌||◌, not, rules, codes, decimal, w32, ℤ, of_z, to_z}
+use Rattle.std.proofs.Common.{◌≡◌, ◌∷◌, [], ◌++◌, ◌∙◌, ◌&&◌, ◌||◌, not, rules, codes, decimal, w32, of_z, to_z}
 use Rattle.std.proofs.lemmas.Int.{to_z-of_z}
 use Rattle.std.proofs.lemmas.Result.{on_ok_weaker}
 use Rattle.ra_leaderboard.specs.States.{became_started, became_cancelled, became_submitted}

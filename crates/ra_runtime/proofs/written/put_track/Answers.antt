@@ -1,4 +1,4 @@
-use Rattle.std.proofs.Common.{◌≡◌, ◌∷◌, [], ◌++◌, ◌∙◌, ap, decimal, w32}
+use Rattle.std.proofs.Common.{◌∷◌, [], ◌++◌, ◌∙◌, ap, decimal, w32}
 use Rattle.std.proofs.lemmas.Int.{to_z-of_z}
 use Rattle.ra_value_format.specs.Formats.{formatted}
 use Rattle.ra_runtime.proofs.LineLemmas.{track_words}

@@ -1,4 +1,4 @@
-use Rattle.std.proofs.Common.{◌≡◌, sym, ◌∙◌, ap, rules, arith, List, ℕ, [], ◌∷◌}
+use Rattle.std.proofs.Common.{sym, ◌∙◌, rules, [], ◌∷◌}
 use Rattle.std.proofs.Common.{w32}
 use Rattle.std.proofs.lemmas.Int.{to_z-of_z}
 use Rattle.ra_memory.specs.Image.{History}
