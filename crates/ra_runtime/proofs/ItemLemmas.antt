@@ -1,6 +1,5 @@
 -- One frame of an item by its run is one frame of it by the definitions.
 use Rattle.std.proofs.Common.{◌≡◌, ℕ, ℤ, ◌&&◌, ◌||◌, ◌==◌, Bool, true, false, not, if◌then◌else◌, Option, None, Some, List, [], ◌∷◌, ◌++◌, codes, decimal, refl, sym, ◌∙◌, ap, ap₂, arith}
-use Rattle.std.proofs.lemmas.Bool.{eqb-true}
 use Rattle.ra_condition.specs.Contents.{TriggerContents, PartContents}
 use Rattle.ra_indirect.specs.declared.node.Node.{Node}
 use Rattle.ra_memref.specs.Table.{TableSeen}
@@ -18,12 +17,12 @@ use Rattle.ra_runtime.specs.declared.value_run.ValueRun.{ValueRun}
 use Rattle.ra_runtime.specs.declared.achievement_run.AchievementRun.{AchievementRun}
 use Rattle.ra_runtime.specs.declared.board_run.BoardRun.{BoardRun}
 use Rattle.ra_runtime.specs.declared.item_run.ItemRun.TheVariants.{Achievement, Leaderboard}
-use Rattle.ra_runtime.specs.Boards.{BoardKept, tracked_kept, tracked_number, board_after, kept_board, opened_board}
-use Rattle.ra_runtime.specs.Lines.{line_of, line_if, is_started, same_number, achievement_lines, board_lines}
+use Rattle.ra_runtime.specs.Boards.{BoardKept, tracked_kept, tracked_number, board_after, kept_board}
+use Rattle.ra_runtime.specs.Lines.{line_if, is_started, same_number, achievement_lines, board_lines}
 use Rattle.ra_runtime.specs.Openings.{kept_achievement}
 use Rattle.ra_runtime.specs.Histories.{achievement_after}
 use Rattle.ra_runtime.specs.Order.{optional_parts}
-use Rattle.ra_runtime.specs.Runs.{StepsAchievement, IsValueRun}
+use Rattle.ra_runtime.specs.Runs.{StepsAchievement}
 use Rattle.ra_runtime.specs.BoardRuns.{IsOptionalRun, IsBoardRun, StepsBoard, board_kept, optional_kept, tracked_kept_by, tracked_by}
 use Rattle.ra_runtime.specs.RunLines.{measured_line, change_lines, board_run_lines}
 use Rattle.ra_runtime.specs.ItemRuns.{StepsItem}
@@ -45,11 +44,11 @@ change_written frame id old new =
 pub achievement_item : (table : TableSeen) (id : ℕ) (t : TriggerContents) (old new : AchievementRun) → StepsAchievement table t old new → StepsItem table (Unlocks id t) (Achievement old) (Achievement new)
 achievement_item table id t old new steps = record {
   kept = λ start image has.
-    ap kept_achievement (steps.kept start (image ∷ []) has ∙ ap (λ k. achievement_after start t k (image ∷ [])) (sym (achievement_again old.trigger)));
+      ap kept_achievement (steps.kept start (image ∷ []) has ∙ ap (λ k. achievement_after start t k (image ∷ [])) (sym (achievement_again old.trigger)));
   lines = λ start image frame has.
-    ap (change_lines frame id) steps.change
-    ∙ change_written frame id old.trigger new.trigger
-    ∙ ap₂ (achievement_lines frame id) (sym (achievement_again old.trigger)) (steps.kept start (image ∷ []) has ∙ ap (λ k. achievement_after start t k (image ∷ [])) (sym (achievement_again old.trigger)));
+      ap (change_lines frame id) steps.change
+      ∙ change_written frame id old.trigger new.trigger
+      ∙ ap₂ (achievement_lines frame id) (sym (achievement_again old.trigger)) (steps.kept start (image ∷ []) has ∙ ap (λ k. achievement_after start t k (image ∷ [])) (sym (achievement_again old.trigger)));
 }
 
 optional_fits : (nodes : List Node) (parts : Option (List PartContents)) (run : Option ValueRun) → IsOptionalRun nodes parts run → ValueFits (optional_parts parts) (optional_kept run)
@@ -99,6 +98,6 @@ board_item nodes table id format b old new is is_too steps =
     record {
       kept = λ start image has. ap kept_board (steps.kept start image has ∙ ap (λ k. board_after start b k (image ∷ [])) again);
       lines = λ start image frame has.
-        board_written nodes table frame id format b old new is is_too steps
-        ∙ ap₂ (board_lines frame id format b) again (steps.kept start image has ∙ ap (λ k. board_after start b k (image ∷ [])) again);
+          board_written nodes table frame id format b old new is is_too steps
+          ∙ ap₂ (board_lines frame id format b) again (steps.kept start image has ∙ ap (λ k. board_after start b k (image ∷ [])) again);
     }

@@ -1,7 +1,6 @@
 -- How leaderboards are kept and stepped.
 use Rattle.std.specs.Prelude.{◌≡◌, ℕ, Option, None, Some, List, [], ◌∷◌, ℤ}
 use Rattle.ra_condition.specs.Contents.{PartContents}
-use Rattle.ra_memory.specs.Image.{History}
 use Rattle.ra_indirect.specs.declared.node.Node.{Node}
 use Rattle.ra_memref.specs.Values.{Start}
 use Rattle.ra_memref.specs.Table.{TableSeen}
@@ -12,7 +11,7 @@ use Rattle.ra_runtime.specs.declared.plans.ValuePlan.{ValuePlan}
 use Rattle.ra_runtime.specs.declared.plans.BoardPlan.{BoardPlan}
 use Rattle.ra_runtime.specs.declared.value_run.ValueRun.{ValueRun}
 use Rattle.ra_runtime.specs.declared.board_run.BoardRun.{BoardRun}
-use Rattle.ra_runtime.specs.Boards.{BoardKept, board_after, tracked_number}
+use Rattle.ra_runtime.specs.Boards.{BoardKept, board_after}
 use Rattle.ra_runtime.specs.Runs.{HasValues, IsTestRun, IsNewTest, IsValueRun, IsNewValue}
 
 -- a value that may be missing, with its plan

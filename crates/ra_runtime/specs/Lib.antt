@@ -1,3 +1,4 @@
+pub mod AllRuns
 pub mod BoardRuns
 pub mod Boards
 pub mod Histories
@@ -12,3 +13,4 @@ pub mod Readings
 pub mod RunLines
 pub mod Runs
 pub mod Runtime
+pub mod Seen

@@ -1,8 +1,8 @@
 -- The lines of an item by the record of its last frame.
-use Rattle.std.specs.Prelude.{ℕ, ◌&&◌, ◌||◌, not, Option, None, Some, List, [], ◌∷◌, ◌++◌, codes, decimal}
+use Rattle.std.specs.Prelude.{ℕ, ℤ, Bool, ◌&&◌, ◌||◌, not, Option, None, Some, List, [], ◌∷◌, ◌++◌, codes, decimal}
 use Rattle.std.specs.Fmt.{signed_decimal}
 use Rattle.ra_value_format.specs.declared.format.Format.{Format}
-use Rattle.ra_value_format.specs.Formats.{formatted}
+use Rattle.ra_value_format.specs.Formats.{formatted, HasDigits}
 use Rattle.ra_trigger.specs.declared.change.Change.{Change}
 use Rattle.ra_trigger.specs.States.{is_primed, is_triggered}
 use Rattle.ra_value.specs.Steps.{signed_greatest}
@@ -27,6 +27,20 @@ change_lines frame id change =
     ++ line_if (is_primed change.before && not (is_primed change.after)) (codes "unprimed" ∷ decimal frame ∷ decimal id ∷ [])
     ++ line_if (not (is_triggered change.before) && is_triggered change.after) (codes "unlock" ∷ decimal frame ∷ decimal id ∷ [])
 
+-- the line of a tracked number, and that of a submitted value
+abbrev pub track_line : Bool → (frame id : ℕ) → Format → ℤ → List ℕ
+track_line told frame id format tracked =
+    line_if told (codes "track" ∷ decimal frame ∷ decimal id ∷ formatted format tracked ∷ [])
+
+abbrev pub submit_line : Bool → (frame id : ℕ) → Format → ℤ → List ℕ
+submit_line told frame id format value =
+    line_if told (codes "submit" ∷ decimal frame ∷ decimal id ∷ signed_decimal value ∷ formatted format value ∷ [])
+
+-- the format of a board has digits
+abbrev pub HasItemDigits : ItemContents → Type 0
+HasItemDigits (Unlocks id t) = Unit {0}
+HasItemDigits (Ranks id format b) = HasDigits format
+
 -- the lines of a board
 abbrev pub board_run_lines : (frame id : ℕ) → Format → BoardRun → List ℕ
 board_run_lines frame id format run =
@@ -35,10 +49,9 @@ board_run_lines frame id format run =
     let changed = not (same_number run.tracked_before tracked) in
     let value = signed_greatest run.value.value.numbers in
     line_if started (codes "start" ∷ decimal frame ∷ decimal id ∷ [])
-    ++ line_if (is_started run.change.after && (started || changed)) (codes "track" ∷ decimal frame ∷ decimal id ∷ formatted format tracked ∷ [])
+    ++ track_line (is_started run.change.after && (started || changed)) frame id format tracked
     ++ line_if (became_cancelled run.change.before run.change.after) (codes "cancel" ∷ decimal frame ∷ decimal id ∷ [])
-    ++ line_if (became_submitted run.change.before run.change.after)
-    (codes "submit" ∷ decimal frame ∷ decimal id ∷ signed_decimal value ∷ formatted format value ∷ [])
+    ++ submit_line (became_submitted run.change.before run.change.after) frame id format value
 
 -- the lines of an item
 abbrev pub run_lines : (frame : ℕ) → ItemContents → ItemRun → List ℕ

@@ -8,7 +8,11 @@ mod laid;
 mod laws;
 mod plans;
 mod reading;
+mod runs;
+mod runtime;
 mod test_run;
 mod value_run;
+mod written;
 
 pub use laws::histories_may_be_cut;
+pub use runtime::Runtime;

@@ -1,0 +1,92 @@
+-- One frame of all items, from what is kept, is one frame of the set by the definitions.
+use Rattle.std.proofs.Common.{◌≡◌, ℕ, ◌<◌, ◌^◌, None, List, [], ◌∷◌, ◌++◌, length, map, zip, refl, sym, ◌∙◌, ap, ap₂, subst, arith}
+use Rattle.std.specs.List.{flat_map}
+use Rattle.ra_indirect.specs.Trees.{cells_in, tracked_in, same_cell, same_tracked}
+use Rattle.ra_indirect.specs.Pools.{cells_of, tracked_of, spelled_by}
+use Rattle.ra_memref.specs.Values.{Start, cell_number, tracked_number}
+use Rattle.ra_memref.specs.Table.{TableSeen, AreKept, Samples, spelled_value}
+use Rattle.ra_set.specs.Contents.{ItemContents, SetContents}
+use Rattle.ra_progress.specs.Contents.{Opening}
+use Rattle.ra_runtime.specs.declared.item_run.ItemRun.{ItemRun}
+use Rattle.ra_runtime.specs.Order.{trees_in_set, set_cells, set_tracked}
+use Rattle.ra_runtime.specs.Openings.{start_of, snapshot, item_after, number_beside, prior_beside, frames_after, optional_presence}
+use Rattle.ra_runtime.specs.Play.{item_lines, lines}
+use Rattle.ra_runtime.specs.Runs.{HasValues}
+use Rattle.ra_runtime.specs.ItemRuns.{kept_run}
+use Rattle.ra_runtime.specs.AllRuns.{AreStepped, all_lines, opening_by, IsOver}
+use Rattle.std.proofs.lemmas.List.{length-map}
+use Rattle.ra_runtime.specs.Runtime.{RuntimeSeen, TakesFrame}
+use Rattle.ra_runtime.proofs.Law.{cuts_anywhere}
+use Rattle.ra_runtime.proofs.Beside.{apart_firsts, numbers_beside, priors_beside}
+
+module _ (table : TableSeen) (start : Start) (image : List ℕ) (has : HasValues table start (image ∷ [])) where
+  stepped_kept : (items : List ItemContents) (olds news : List ItemRun) → AreStepped table items olds news → map kept_run news ≡ map (item_after start (image ∷ [])) (zip items (map kept_run olds))
+  stepped_kept [] [] [] are = refl
+  stepped_kept [] [] (new ∷ news) are = absurd are
+  stepped_kept [] (old ∷ olds) news are = absurd are
+  stepped_kept (item ∷ items) [] news are = absurd are
+  stepped_kept (item ∷ items) (old ∷ olds) [] are = absurd are
+  stepped_kept (item ∷ items) (old ∷ olds) (new ∷ news) are =
+      ap₂ (λ x xs. x ∷ xs) (are.0.kept start image has) (stepped_kept items olds news are.1)
+
+  stepped_lines : (frame : ℕ) (items : List ItemContents) (olds news : List ItemRun) → AreStepped table items olds news → all_lines frame items news ≡ flat_map (item_lines start frame image []) (zip items (map kept_run olds))
+  stepped_lines frame [] [] [] are = refl
+  stepped_lines frame [] [] (new ∷ news) are = absurd are
+  stepped_lines frame [] (old ∷ olds) news are = absurd are
+  stepped_lines frame (item ∷ items) [] news are = absurd are
+  stepped_lines frame (item ∷ items) (old ∷ olds) [] are = absurd are
+  stepped_lines frame (item ∷ items) (old ∷ olds) (new ∷ news) are =
+      ap₂ (λ x xs. x ++ xs) (are.0.lines start image frame has) (stepped_lines frame items olds news are.1)
+
+module _ (set : SetContents) (no_script : set.script ≡ None) (count : ℕ) (old new : TableSeen) (image : List ℕ) (olds news : List ItemRun) (over : IsOver set old) (samples : Samples old new image) (stepped : AreStepped new set.items olds news) where
+  abbrev kept : Opening
+  kept = opening_by count old olds
+
+  abbrev start : Start
+  start = start_of set kept
+
+  are_kept : AreKept start [] old.nodes old.cells old.priors
+  are_kept = record {
+    numbers = subst (λ cs. old.cells ≡ map (number_beside (set_cells set) old.cells) cs) (sym over.cells) (sym (numbers_beside (set_cells set) old.cells (apart_firsts same_cell (flat_map cells_in (trees_in_set set))) over.cells_many));
+    priors_too = subst (λ ts. old.priors ≡ map (prior_beside (set_tracked set) old.priors) ts) (sym over.tracked) (sym (priors_beside (set_tracked set) old.priors (apart_firsts same_tracked (flat_map tracked_in (trees_in_set set))) over.priors_many));
+  }
+
+  has_values : HasValues new start (image ∷ [])
+  has_values =
+      samples.values start [] are_kept ∙ ap (λ ns. map (spelled_value start (image ∷ [])) (spelled_by ns)) (sym samples.pool.0)
+
+  pub frame_kept : opening_by (frames_after count 1) new news ≡ snapshot set kept (image ∷ [])
+  frame_kept =
+      let after : AreKept start (image ∷ []) old.nodes new.cells new.priors = samples.kept start [] are_kept in
+      let cells : new.cells ≡ map (λ c. cell_number start c (image ∷ [])) (set_cells set) = after.numbers ∙ ap (map (λ c. cell_number start c (image ∷ []))) over.cells in
+      let priors : new.priors ≡ map (λ t. tracked_number start t (image ∷ [])) (set_tracked set) = after.priors_too ∙ ap (map (λ t. tracked_number start t (image ∷ []))) over.tracked in
+      let items = stepped_kept new start image has_values set.items olds news stepped in
+      let presence : None ≡ optional_presence start (image ∷ []) set.script None = rw no_script refl in
+      (λ i. record { frames = frames_after count 1; cells = cells i; priors = priors i; items = items i; presence = presence i })
+
+  pub frame_lines : count < 2 ^ 64 → all_lines count set.items news ≡ lines set kept (image ∷ [])
+  frame_lines small =
+      let same : frames_after count 0 ≡ count = omega arith in
+      stepped_lines new start image has_values count set.items olds news stepped
+      ∙ ap (λ n. flat_map (item_lines start n image []) (zip set.items (map kept_run olds))) (sym same)
+
+  pub over_after : IsOver set new
+  over_after =
+      let after : AreKept start (image ∷ []) old.nodes new.cells new.priors = samples.kept start [] are_kept in
+      record {
+        cells = ap cells_of samples.pool.0 ∙ over.cells;
+        tracked = ap tracked_of samples.pool.0 ∙ over.tracked;
+        cells_many = ap length after.numbers ∙ length-map (cells_of old.nodes) (λ c. cell_number start c (image ∷ [])) ∙ ap length over.cells;
+        priors_many = ap length after.priors_too ∙ length-map (tracked_of old.nodes) (λ t. tracked_number start t (image ∷ [])) ∙ ap length over.tracked;
+      }
+
+-- what holds of one frame from the kept opening holds of every opening and history that it stands for
+pub takes_frame : (old new : RuntimeSeen) → new.set ≡ old.set → new.image ≡ old.image → new.kept ≡ snapshot old.set old.kept (old.image ∷ []) → new.lines ≡ lines old.set old.kept (old.image ∷ []) → TakesFrame old new
+takes_frame old new set image kept printed = record {
+  set = set;
+  image = image;
+  kept = λ o history opening images is.
+      kept ∙ ap (λ k. snapshot old.set k (old.image ∷ [])) is ∙ sym ((cuts_anywhere old.set).kept o history (old.image ∷ []) opening);
+  lines = λ o history opening images is.
+      printed ∙ ap (λ k. lines old.set k (old.image ∷ [])) is ∙ sym ((cuts_anywhere old.set).prints o history (old.image ∷ []) opening (λ e. let bad : old.image ∷ [] ≡ [] = e in cc));
+}

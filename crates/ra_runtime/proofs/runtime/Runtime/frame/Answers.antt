@@ -1,0 +1,46 @@
+use Rattle.std.proofs.Common.{◌≡◌, ◌∙◌, ◌<◌, ◌^◌, ap, sym, subst, refl, length, map, List, true, arith}
+use Rattle.std.proofs.lemmas.List.{length-map, with_items_is}
+use Rattle.ra_set.specs.Contents.{item_contents, set_contents}
+use Rattle.ra_runtime.specs.AllRuns.{AreItemRuns, AreStepped, all_lines, opening_by}
+use Rattle.std.specs.Vec.{with_items}
+use Rattle.ra_runtime.specs.declared.item_run.ItemRun.{ItemRun}
+use Rattle.ra_runtime.specs.Seen.{runtime_seen}
+use Rattle.ra_runtime.proofs.RunsLemmas.{length_runs}
+use Rattle.ra_runtime.proofs.FrameLemmas.{frame_kept, frame_lines, over_after, takes_frame}
+use Rattle.ra_runtime.proofs.runtime.Runtime.frame.Goals as goal
+
+pub step_runs-requires-clause-as_many : goal.step_runs-requires-clause-as_many
+step_runs-requires-clause-as_many g c =
+    let items = c.self.inside.set.items.items in
+    let runs = c.self.inside.runs.items in
+    let table = c.self.inside.table in
+    let many = length_runs table.nodes (map item_contents items) runs c.self.invariant.runs ∙ length-map items item_contents in
+    ap length c.deref_mut.ensures.value ∙ many ∙ ap length (sym c.deref.ensures.value)
+
+pub invariant_of-self : goal.invariant_of-self
+invariant_of-self g c =
+    let set = set_contents c.self.inside.set in
+    let same : (with_items c.self.inside.runs c.step_runs.new.runs).items ≡ c.step_runs.new.runs = with_items_is c.self.inside.runs c.step_runs.new.runs (c.step_runs.auto.runs ∙ c.deref_mut.ensures.len) in
+    let stepped : AreStepped c.sample.new.self set.items c.self.inside.runs.items c.step_runs.new.runs = rw (c.deref.ensures.value, c.deref_mut.ensures.value) at c.step_runs.ensures.stepped in
+    let runs : AreItemRuns c.sample.new.self.nodes set.items c.step_runs.new.runs = rw c.deref.ensures.value at c.step_runs.ensures.runs in
+    record {
+      no_script = c.self.invariant.no_script;
+      over = over_after set c.self.invariant.no_script c.self.inside.count c.self.inside.table c.sample.new.self c.self.inside.memory c.self.inside.runs.items c.step_runs.new.runs c.self.invariant.over c.sample.ensures.taken stepped;
+      runs = subst (λ (rs : List ItemRun). AreItemRuns c.sample.new.self.nodes set.items rs) (sym same) runs;
+      digits = c.self.invariant.digits;
+      size = c.sample.ensures.taken.pool.1 ∙ c.self.invariant.size;
+      agrees = c.sample.ensures.taken.agrees;
+    }
+
+pub returns : goal.returns
+returns g c =
+    let set = set_contents c.self.inside.set in
+    let count = c.self.inside.count in
+    let olds = c.self.inside.runs.items in
+    let news = c.step_runs.new.runs in
+    let small : count < 2 ^ 64 = omega arith in
+    let same : (with_items c.self.inside.runs news).items ≡ news = with_items_is c.self.inside.runs news (c.step_runs.auto.runs ∙ c.deref_mut.ensures.len) in
+    let stepped : AreStepped c.sample.new.self set.items olds news = rw (c.deref.ensures.value, c.deref_mut.ensures.value) at c.step_runs.ensures.stepped in
+    rw (← c.self.view_is) (takes_frame (runtime_seen c.self.inside) (runtime_seen (record { set = c.self.inside.set; memory = c.self.inside.memory; table = c.sample.new.self; runs = with_items c.self.inside.runs news; count = c.saturating_add-self-inside.result; frame = count; framed = true })) refl refl
+    ((λ i. opening_by (c.saturating_add-self-inside.ensures i) c.sample.new.self (same i)) ∙ frame_kept set c.self.invariant.no_script count c.self.inside.table c.sample.new.self c.self.inside.memory olds news c.self.invariant.over c.sample.ensures.taken stepped)
+    (ap (all_lines count set.items) same ∙ frame_lines set c.self.invariant.no_script count c.self.inside.table c.sample.new.self c.self.inside.memory olds news c.self.invariant.over c.sample.ensures.taken stepped small))

@@ -1,0 +1,41 @@
+use Rattle.std.proofs.Common.{◌≡◌, ◌∙◌, ◌+◌, ◌≤◌, ap, sym, subst, refl, length, List, arith, Ok, Err, Result}
+use Rattle.std.specs.Result.{OnOk, IsErr}
+use Rattle.ra_indirect.specs.declared.node.Node.{Node}
+use Rattle.ra_indirect.specs.Pools.{cells_of, tracked_of}
+use Rattle.ra_memory.specs.Image.{written}
+use Rattle.ra_memref.specs.Table.{TableSeen, DifferWithin}
+use Rattle.ra_memref.proofs.AgreeLemmas.{DifferWithin-written}
+use Rattle.ra_set.specs.Contents.{set_contents}
+use Rattle.ra_runtime.specs.Runtime.{RuntimeSeen}
+use Rattle.ra_runtime.specs.AllRuns.{AreItemRuns}
+use Rattle.ra_runtime.proofs.runtime.Runtime.write.Goals as goal
+
+holds_by : {T E P : Type 0} (r : Result T E) → OnOk r P → (IsErr r → ⊥) → P
+holds_by (Ok x) h fine = h
+holds_by (Err e) h fine = absurd (fine refl)
+
+pub invariant_of-self : goal.invariant_of-self
+invariant_of-self c =
+    let set = set_contents c.self.inside.set in
+    let at = c.args.at in
+    let bytes = c.args.bytes.now in
+    let image = c.self.inside.memory in
+    let inv = c.self.invariant in
+    let told = c.write-2.ensures in
+    let same = ap (λ (s : RuntimeSeen). length s.image) c.self.view_is in
+    let fits : at + length bytes ≤ length image = omega (arith, same, c.requires) in
+    let now : c.write.new.self ≡ written image at bytes = holds_by c.write.result c.write.ensures.ok (λ e. let more = c.write.ensures.refused.0 e in absurd (omega (arith, more, fits))) in
+    let differ : DifferWithin at (length bytes) image c.write.new.self = subst (λ m. DifferWithin at (length bytes) image m) (sym now) (DifferWithin-written image bytes at fits) in
+    record {
+      no_script = inv.no_script;
+      over = record {
+        cells = ap (λ (t : TableSeen). cells_of t.nodes) told.rest ∙ inv.over.cells;
+        tracked = ap (λ (t : TableSeen). tracked_of t.nodes) told.rest ∙ inv.over.tracked;
+        cells_many = ap (λ (t : TableSeen). length t.cells) told.rest ∙ inv.over.cells_many;
+        priors_many = ap (λ (t : TableSeen). length t.priors) told.rest ∙ inv.over.priors_many;
+      };
+      runs = subst (λ (ns : List Node). AreItemRuns ns set.items c.self.inside.runs.items) (sym (ap (λ (t : TableSeen). t.nodes) told.rest)) inv.runs;
+      digits = inv.digits;
+      size = ap (λ (t : TableSeen). t.size) told.rest ∙ inv.size ∙ sym differ.size;
+      agrees = told.agrees image c.write.new.self (sym inv.size) differ inv.agrees;
+    }

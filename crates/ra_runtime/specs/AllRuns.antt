@@ -1,0 +1,44 @@
+-- All items of a set: how they are kept and stepped, and their lines.
+use Rattle.std.specs.Prelude.{◌≡◌, ℕ, None, List, [], ◌∷◌, ◌++◌, length, map}
+use Rattle.ra_indirect.specs.Pools.{cells_of, tracked_of}
+use Rattle.ra_progress.specs.Contents.{Opening}
+use Rattle.ra_runtime.specs.Order.{set_cells, set_tracked}
+use Rattle.ra_indirect.specs.declared.node.Node.{Node}
+use Rattle.ra_memref.specs.Table.{TableSeen}
+use Rattle.ra_set.specs.Contents.{ItemContents, SetContents}
+use Rattle.ra_runtime.specs.declared.item_run.ItemRun.{ItemRun}
+use Rattle.ra_runtime.specs.ItemRuns.{IsItemRun, StepsItem, kept_run}
+use Rattle.ra_runtime.specs.RunLines.{run_lines, HasItemDigits}
+
+-- each item with its plans
+abbrev pub AreItemRuns : List Node → List ItemContents → List ItemRun → Type 0
+AreItemRuns nodes [] [] = Unit {0}
+AreItemRuns nodes (item ∷ items) (run ∷ runs) = IsItemRun nodes item run × AreItemRuns nodes items runs
+AreItemRuns nodes _ _ = ⊥
+
+-- one frame of each item
+abbrev pub AreStepped : TableSeen → List ItemContents → (old new : List ItemRun) → Type 0
+AreStepped table [] [] [] = Unit {0}
+AreStepped table (item ∷ items) (old ∷ olds) (new ∷ news) = StepsItem table item old new × AreStepped table items olds news
+AreStepped table _ _ _ = ⊥
+
+-- the lines of all items, in set order
+abbrev pub all_lines : (frame : ℕ) → List ItemContents → List ItemRun → List ℕ
+all_lines frame (item ∷ items) (run ∷ runs) = run_lines frame item run ++ all_lines frame items runs
+all_lines frame _ _ = []
+
+-- the format of each board has digits
+abbrev pub HaveDigits : List ItemContents → Type 0
+HaveDigits [] = Unit {0}
+HaveDigits (item ∷ items) = HasItemDigits item × HaveDigits items
+
+-- what is kept, from a count, a table and the items
+abbrev pub opening_by : ℕ → TableSeen → List ItemRun → Opening
+opening_by count table runs = record { frames = count; cells = table.cells; priors = table.priors; items = map kept_run runs; presence = None }
+
+-- the table is over the cells and tracked masks of the set
+pub record IsOver (set : SetContents) (table : TableSeen) : Type 0 where
+  pub cells : cells_of table.nodes ≡ set_cells set
+  pub tracked : tracked_of table.nodes ≡ set_tracked set
+  pub cells_many : length table.cells ≡ length (set_cells set)
+  pub priors_many : length table.priors ≡ length (set_tracked set)

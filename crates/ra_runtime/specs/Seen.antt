@@ -1,0 +1,26 @@
+-- What a runtime is seen as, by its fields, and what its fields always have.
+use Rattle.std.specs.Prelude.{◌≡◌, None, [], length, if◌then◌else◌}
+use Rattle.ra_memref.specs.Table.{Agrees}
+use Rattle.ra_set.specs.Contents.{set_contents}
+use Rattle.ra_runtime.specs.declared.runtime.Runtime.TheInside.{Inside}
+use Rattle.ra_runtime.specs.Runtime.{RuntimeSeen}
+use Rattle.ra_runtime.specs.AllRuns.{AreItemRuns, HaveDigits, IsOver, all_lines, opening_by}
+
+abbrev pub runtime_seen : Inside → RuntimeSeen
+runtime_seen t = record {
+  set = set_contents t.set;
+  image = t.memory;
+  kept = opening_by t.count t.table t.runs.items;
+  lines = if t.framed then all_lines t.frame (set_contents t.set).items t.runs.items else [];
+  marked = t.table.marked;
+  places = t.table.places;
+}
+
+-- the table is over the set's cells and the memory, and there is a run for each item
+pub record IsRuntime (t : Inside) : Type 0 where
+  pub no_script : (set_contents t.set).script ≡ None
+  pub over : IsOver (set_contents t.set) t.table
+  pub runs : AreItemRuns t.table.nodes (set_contents t.set).items t.runs.items
+  pub digits : HaveDigits (set_contents t.set).items
+  pub size : t.table.size ≡ length t.memory
+  pub agrees : Agrees t.table t.memory
