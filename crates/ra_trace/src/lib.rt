@@ -1,8 +1,10 @@
-//! Trace files: the records of a run.
+//! Trace files: the records of a run, read in whatever pieces the file gives them, and written.
 #![tactic(auto)]
 
 mod error;
 mod record;
+mod writer;
 
 pub use error::{TraceError, Why};
 pub use record::Record;
+pub use writer::Writer;
