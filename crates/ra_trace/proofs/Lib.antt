@@ -1,1 +1,4 @@
 pub mod FirstLine
+pub mod Longer
+pub mod Looking
+pub mod Pieces

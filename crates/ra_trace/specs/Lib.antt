@@ -1,4 +1,5 @@
 pub mod Cutting
+pub mod Ending
 pub mod Entries
 pub mod Reading
 pub mod Workload

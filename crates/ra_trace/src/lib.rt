@@ -2,9 +2,13 @@
 #![tactic(auto)]
 
 mod error;
+mod filling;
+mod front;
+mod reader;
 mod record;
 mod writer;
 
 pub use error::{TraceError, Why};
+pub use reader::Reader;
 pub use record::Record;
 pub use writer::Writer;
