@@ -1,5 +1,5 @@
 -- What a refusal and a record say of more bytes behind.
-use Rattle.std.proofs.Common.{◌≡◌, ℕ, ◌+◌, ◌-◌, ◌<◌, ◌≤◌, ◌==◌, nat_lt, inl, inr, slice_index, length-append, Bool, true, false, if◌then◌else◌, lt-ltb, le-ltb, ap, sym, subst, refl, ◌∙◌, arith, Option, None, Some, List, [], ◌∷◌, ◌++◌, length, take, drop}
+use Rattle.std.proofs.Common.{◌≡◌, ℕ, ◌+◌, ◌-◌, ◌≤◌, ◌==◌, nat_lt, inl, inr, slice_index, length-append, Bool, true, false, if◌then◌else◌, lt-ltb, le-ltb, ap, sym, subst, refl, ◌∙◌, arith, Option, None, Some, List, [], ◌∷◌, ◌++◌, length, take, drop}
 use Rattle.std.specs.Bool.{⊤}
 use Rattle.std.proofs.lemmas.Bool.{cases_lt}
 use Rattle.std.proofs.lemmas.List.{take-append-le, drop-append-le, length-drop}
@@ -33,8 +33,8 @@ write_is_long size rest whole = elim (cases_lt (length rest) 6) [
   | inr long ↦ elim (cases_lt (length rest) (6 + count_in rest)) [
     | inl short ↦ absurd (whole (rw (le-ltb (length rest) 6 long, lt-ltb (length rest) (6 + count_in rest) short) refl))
     | inr enough ↦ record { fields = long; bytes = enough }
-    ]
   ]
+]
 
 -- the fields of a write stand in its first bytes
 place_stays : (rest more : List ℕ) → 6 ≤ length rest → place_in (rest ++ more) ≡ place_in rest

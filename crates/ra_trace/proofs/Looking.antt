@@ -1,13 +1,14 @@
 -- What a reader knows of its next record.
-use Rattle.std.proofs.Common.{◌≡◌, ℕ, ◌+◌, ◌-◌, ◌≤◌, min, true, replicate, ap, sym, subst, refl, ◌∙◌, arith, Option, None, Some, List, ◌++◌, length, take, drop}
+use Rattle.std.proofs.Common.{◌≡◌, ℕ, ◌+◌, ◌-◌, ◌≤◌, min, true, replicate, ap, sym, subst, refl, ◌∙◌, arith, if◌then◌else◌, Option, None, Some, is_some, IfSome, List, ◌++◌, length, take, drop}
 use Rattle.std.proofs.Math.Seq.{take-add}
 use Rattle.std.specs.List.{between}
 use Rattle.std.proofs.lemmas.Slice.{between_is}
 use Rattle.std.proofs.lemmas.List.{length-take, length-take-le, drop-append-le, take_all, take-take}
 use Rattle.ra_trace.specs.declared.error.Why.{Why}
-use Rattle.ra_trace.specs.declared.error.Why.TheVariants.{Cut}
-use Rattle.ra_trace.specs.Cutting.{refusal, front}
-use Rattle.ra_trace.specs.Reading.{ReaderSeen, IsInside, Holds, Filled, Knows, SameReader, seen_from}
+use Rattle.ra_trace.specs.declared.error.Why.TheVariants.{Header, Cut}
+use Rattle.ra_trace.specs.Entries.{entry_bytes}
+use Rattle.ra_trace.specs.Cutting.{RefusedAt, header_size, refusal, front}
+use Rattle.ra_trace.specs.Reading.{ReaderSeen, IsInside, IsWhole, Found, Holds, Filled, Knows, seen_from, header_stop}
 use Rattle.ra_trace.proofs.Longer.{refusal_stays, front_stays}
 
 -- a reader by its fields
@@ -47,7 +48,7 @@ knows_short content size why name buffer held sized last next inside here whole 
     let full = replicate 16 true in
     let not_cut : refusal size full (drop next (take held buffer)) ≡ Some Cut → ⊥ = λ cut. whole (here ∙ cut) in
     let on : (bytes : List ℕ) → Holds (reader_of name buffer held sized last next) bytes → seen_from (length buffer) next bytes ≡ drop next (take held buffer) ++ take (length buffer - held) (drop held bytes)
-      = λ bytes holds. seen_on (length buffer) held next bytes inside.within holds.within inside.behind ∙ ap (λ front. drop next front ++ take (length buffer - held) (drop held bytes)) (sym (held_front name buffer bytes held sized last next inside.within holds)) in
+    = λ bytes holds. seen_on (length buffer) held next bytes inside.within holds.within inside.behind ∙ ap (λ front. drop next front ++ take (length buffer - held) (drop held bytes)) (sym (held_front name buffer bytes held sized last next inside.within holds)) in
     record {
       same = record { name = refl; limit = refl };
       sized = refl;
@@ -61,7 +62,7 @@ knows_short content size why name buffer held sized last next inside here whole 
     }
 
 -- what was read up to a limit is the front of the file
-all_read : (limit now : ℕ) (new bytes : List ℕ) → now ≤ length new → now ≤ limit → take now new ≡ take limit bytes → (now ≤ length bytes) × (take now new ≡ take now bytes)
+pub all_read : (limit now : ℕ) (new bytes : List ℕ) → now ≤ length new → now ≤ limit → take now new ≡ take limit bytes → (now ≤ length bytes) × (take now new ≡ take now bytes)
 all_read limit now new bytes within below all =
     let long : length (take limit bytes) ≡ now = ap length (sym all) ∙ length-take-le now new within in
     let least : length (take limit bytes) ≡ min limit (length bytes) = length-take limit bytes in
@@ -76,7 +77,7 @@ pub knows_filled : (first content : Option (List ℕ)) (size : ℕ) (why : Optio
     → Knows first size why (reader_of name old held sized last next) (reader_of name new now sized last next)
 knows_filled first content size why name old new held now sized last next inside within filled same here =
     let all : (bytes : List ℕ) → first ≡ Some bytes → Holds (reader_of name old held sized last next) bytes → take now new ≡ take (length old) bytes
-      = λ bytes told holds. filled.front bytes (same ∙ told) (held_front name old bytes held sized last next inside.within holds) in
+    = λ bytes told holds. filled.front bytes (same ∙ told) (held_front name old bytes held sized last next inside.within holds) in
     record {
       same = record { name = refl; limit = filled.long };
       sized = refl;
@@ -94,3 +95,55 @@ knows_filled first content size why name old new held now sized last next inside
 -- the bytes that are held from a place on
 pub between_seen : (size : ℕ) (buffer shown : List ℕ) (next held : ℕ) → shown ≡ buffer → refusal size (replicate 16 true) (between next held shown) ≡ refusal size (replicate 16 true) (drop next (take held buffer))
 between_seen size buffer shown next held same = rw (same, between_is buffer next held) refl
+
+-- the whole record at the front of what is held
+pub whole_seen : (buffer shown : List ℕ) (next held : ℕ) → shown ≡ buffer → IsWhole (drop next (take held buffer)) → IsWhole (between next held shown)
+whole_seen buffer shown next held same whole = rw (same, between_is buffer next held) whole
+
+pub whole_by : (size : ℕ) (why : Option Why) (bytes : List ℕ) → why ≡ refusal size (replicate 16 true) bytes → why ≡ None → IsWhole bytes
+whole_by size why bytes here none = record { size = size; good = sym here ∙ none }
+
+-- the record that stands next, where nothing is refused
+pub found_by : (content : Option (List ℕ)) (size : ℕ) (why : Option Why) (old : ReaderSeen) (name buffer : List ℕ) (held : ℕ) (sized : Option ℕ) (last next : ℕ) (shown : List ℕ) (count : ℕ)
+    → Knows content size why old (reader_of name buffer held sized last next) → why ≡ None → ((known : ℕ) → old.size ≡ Some known → size ≡ known)
+    → shown ≡ buffer → count ≡ length (entry_bytes (front (between next held shown)))
+    → Found content next old (reader_of name buffer held sized next (next + count))
+found_by content size why old name buffer held sized last next shown count knows none is_size same long =
+    let seen = drop next (take held buffer) in
+    let place : drop old.next (take held buffer) ≡ seen = ap (λ k. drop k (take held buffer)) (sym knows.next) in
+    let front_seen : front (between next held shown) ≡ front seen = rw (same, between_is buffer next held) refl in
+    record {
+      here = knows.next;
+      whole = whole_by size why seen (knows.here ∙ ap (refusal size (replicate 16 true)) place) none;
+      moved = record {
+        same = record { name = knows.same.name; limit = knows.same.limit };
+        sized = knows.sized;
+        last = knows.next;
+        next = rw (long, front_seen, knows.next) refl;
+      };
+      holds = λ bytes told holds.
+          let now = knows.holds bytes told holds in
+          record { within = now.within; behind = now.behind; held = now.held };
+      stands = λ bytes known told holds is_known.
+          let good : refusal size (replicate 16 true) (seen_from old.limit old.next bytes) ≡ None = knows.told bytes told holds ∙ none in
+          record {
+            good = rw (sym (is_size known is_known), good) refl;
+            is = ap front (sym place) ∙ knows.entry bytes told holds none;
+          };
+    }
+
+pub if_some : {T : Type 0} (o : Option T) (P : T → Type 0) → ((x : T) → o ≡ Some x → P x) → IfSome o P
+if_some None P h = tt
+if_some (Some x) P h = h x refl
+
+-- a bad header is told by what may be seen of the file
+pub header_refused : (limit : ℕ) (bytes seen : List ℕ) → seen ≡ take limit bytes → header_size seen ≡ None → header_stop limit bytes ≡ Some (RefusedAt 0 Header)
+header_refused limit bytes seen same none =
+    let good : header_size (take limit bytes) ≡ None = ap header_size (sym same) ∙ none in
+    ap (λ size. if is_some size then None else Some (RefusedAt 0 Header)) good
+
+-- what is read first is the front of the file
+pub first_filled : (first content : Option (List ℕ)) (held : ℕ) (old new : List ℕ) (n limit : ℕ) → held ≡ 0 → content ≡ first → length old ≡ limit → Filled content held old n new
+    → (bytes : List ℕ) → first ≡ Some bytes → take n new ≡ take limit bytes
+first_filled first content held old new n limit none same long filled bytes told =
+    filled.front bytes (same ∙ told) (rw none refl) ∙ ap (λ k. take k bytes) long

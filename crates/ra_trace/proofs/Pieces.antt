@@ -1,5 +1,5 @@
 -- A buffer that is filled piece by piece.
-use Rattle.std.proofs.Common.{arith, ◌≡◌, ◌≤◌, ap, sym, refl, subst, ◌∙◌, ℕ, ◌+◌, ◌-◌, Option, Some, IfSome, List, ◌++◌, length, take, drop}
+use Rattle.std.proofs.Common.{arith, ◌≡◌, ◌≤◌, ap, sym, refl, subst, ◌∙◌, ℕ, ◌+◌, Option, Some, IfSome, List, ◌++◌, length, take, drop}
 use Rattle.std.proofs.Math.Seq.{take-add, take-append-add}
 use Rattle.std.proofs.lemmas.List.{take-take, length-take-le}
 use Rattle.std.proofs.lemmas.Slice.{take-put_mid}

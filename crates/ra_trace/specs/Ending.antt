@@ -6,14 +6,14 @@ use Rattle.ra_trace.specs.declared.error.TraceError.{TraceError}
 use Rattle.ra_trace.specs.declared.record.Record.{Record}
 use Rattle.ra_trace.specs.contracts.reader.Reader.{the_row}
 use Rattle.ra_trace.specs.Entries.{entry_of}
-use Rattle.ra_trace.specs.Reading.{ReaderSeen, Holds, SameReader, IsBehindRecord}
+use Rattle.ra_trace.specs.Reading.{ReaderSeen, Holds, StaysBefore, IsBehindRecord}
 
--- A record moves the reader behind it, and it goes on to hold bytes of the file; an error leaves the last place.
+-- A record moves the reader behind it, and it goes on to hold bytes of the file; an error leaves the size and the place.
 pub record Ends (content : Option (List ℕ)) (result : Result Record TraceError) (old new : ReaderSeen) : Type 0 where
-  pub same : SameReader old new
+  pub sized : new.size ≡ old.size
   pub moved : IfOk result (λ found. IsBehindRecord (entry_of found) old new)
   pub holds : IfOk result (λ found. (bytes : List ℕ) → content ≡ Some bytes → Holds old bytes → Holds new bytes)
-  pub last : OnErr result (new.last ≡ old.last)
+  pub stays : OnErr result (StaysBefore old new)
 
 abbrev pub EndsAs : Option (List ℕ) → MutBor ReaderSeen → Result Record TraceError → Fml
 EndsAs content reader result = Rests the_row reader (Ends content result reader.now)

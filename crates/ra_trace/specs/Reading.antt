@@ -85,6 +85,12 @@ pub record SameReader (old new : ReaderSeen) : Type 0 where
   pub name : new.name ≡ old.name
   pub limit : new.limit ≡ old.limit
 
+-- An error leaves the memory size and the last place.
+pub record StaysBefore (old new : ReaderSeen) : Type 0 where
+  pub same : SameReader old new
+  pub sized : new.size ≡ old.size
+  pub last : new.last ≡ old.last
+
 -- the reader behind a header
 pub record IsBehindHeader (size : ℕ) (old new : ReaderSeen) : Type 0 where
   pub same : SameReader old new
@@ -95,7 +101,7 @@ pub record IsBehindHeader (size : ℕ) (old new : ReaderSeen) : Type 0 where
 -- the reader behind one record more
 pub record IsBehindRecord (entry : Entry) (old new : ReaderSeen) : Type 0 where
   pub same : SameReader old new
-  pub size : new.size ≡ old.size
+  pub sized : new.size ≡ old.size
   pub last : new.last ≡ old.next
   pub next : new.next ≡ old.next + length (entry_bytes entry)
 

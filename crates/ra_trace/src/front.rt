@@ -22,11 +22,7 @@ pub fn read_header(bytes: &[u8]) -> Option<u32>
         return None;
     };
     let size = u32::from_le_bytes([*a, *b, *c, *d]);
-    if size <= SIZE_LIMIT {
-        Some(size)
-    } else {
-        None
-    }
+    if size <= SIZE_LIMIT { Some(size) } else { None }
 }
 
 // Why no write stands behind its first byte.

@@ -6,6 +6,8 @@ mod filling;
 mod front;
 mod reader;
 mod record;
+#[cfg(test)]
+mod tests;
 mod writer;
 
 pub use error::{TraceError, Why};

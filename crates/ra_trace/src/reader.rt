@@ -34,13 +34,13 @@ impl Model for Reader {
     ghost Value = { ReaderSeen };
 
     ghost view = { λ r. record {
-        name = r.name.bytes.items;
-        limit = length r.buffer.items;
-        size = r.size;
-        last = r.last;
-        next = r.next;
-        taken = r.held;
-        held = take r.held r.buffer.items;
+      name = r.name.bytes.items;
+      limit = length r.buffer.items;
+      size = r.size;
+      last = r.last;
+      next = r.next;
+      taken = r.held;
+      held = take r.held r.buffer.items;
     } };
 
     ghost invariant = { λ r. IsInside (length r.buffer.items) r.held r.next };
@@ -53,7 +53,7 @@ impl Reader {
     ghost use Rattle.ra_io.specs.Files.{SameContent};
     ghost use Rattle.ra_trace.specs.Entries.{entry_of};
     ghost use Rattle.ra_trace.specs.Cutting.{header_size};
-    ghost use Rattle.ra_trace.specs.Reading.{Holds, Knows, Found, Stands, SameReader, IsBehindHeader, opened, most_bytes, header_stop, next_stop, IsStop, ByFault};
+    ghost use Rattle.ra_trace.specs.Reading.{Holds, Knows, Found, Stands, StaysBefore, IsBehindHeader, opened, most_bytes, header_stop, next_stop, IsStop, ByFault};
     ghost use Rattle.ra_trace.specs.Ending.{EndsAs};
 
     /// A reader of the file of this name that takes no more bytes than the limit. It holds none yet.
@@ -64,7 +64,14 @@ impl Reader {
     {
         let name = String::from_str(alloc, name)?;
         let buffer = vec![in alloc; 0u8; limit as usize]?;
-        Ok(Reader { name, buffer, held: 0, size: None, last: 0, next: 0 })
+        Ok(Reader {
+            name,
+            buffer,
+            held: 0,
+            size: None,
+            last: 0,
+            next: 0,
+        })
     }
 
     /// The memory size. The first call on a reader.
@@ -81,7 +88,10 @@ impl Reader {
     {
         self.held = fill(&self.name, &mut self.buffer, self.held, files)?;
         let Some(size) = read_header(&self.buffer[..self.held]) else {
-            return Err(TraceError::Refused { at: 0, why: Why::Header });
+            return Err(TraceError::Refused {
+                at: 0,
+                why: Why::Header,
+            });
         };
         self.size = Some(size);
         self.next = HEADER_LENGTH;
@@ -92,7 +102,7 @@ impl Reader {
     fn look<F: Files>(&mut self, size: u32, files: &mut F) -> Result<Option<Why>, TraceError>
         ensures knows { IfOk result (λ why. Knows (F.content files.old self.old.name) size why self.old self.new) }
         ensures only { IfErr result (λ why. why ≡ TraceError.Read) }
-        ensures last { OnErr result (SameReader self.old self.new × (self.new.last ≡ self.old.last)) }
+        ensures last { OnErr result (StaysBefore self.old self.new) }
         ensures fault { OnErr result (Rose (F.read_faults files.old self.old.name) (F.read_faults files.new self.old.name)) }
         ensures same { SameContent (F.content files.old) (F.content files.new) }
         ensures reads { NoneFell (F.read_faults files.old) (F.read_faults files.new) }
@@ -112,7 +122,7 @@ impl Reader {
         requires { IsSome self.old.size }
         ensures found { IfOk result (λ at. Found (F.content files.old self.old.name) at self.old self.new) }
         ensures err { IfErr result (λ why. IfSome (F.content files.old self.old.name) (λ bytes. Holds self.old bytes → IfSome self.old.size (λ size. IsStop why (next_stop self.old.limit size self.old.next bytes)))) }
-        ensures last { OnErr result (SameReader self.old self.new × (self.new.last ≡ self.old.last)) }
+        ensures last { OnErr result (StaysBefore self.old self.new) }
         ensures fault { IfErr result (λ why. ByFault why (F.read_faults files.old self.old.name) (F.read_faults files.new self.old.name)) }
         ensures same { SameContent (F.content files.old) (F.content files.new) }
         ensures reads { NoneFell (F.read_faults files.old) (F.read_faults files.new) }

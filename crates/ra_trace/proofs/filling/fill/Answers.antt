@@ -1,4 +1,4 @@
-use Rattle.std.proofs.Common.{arith, ◌∙◌, sym, rules, length}
+use Rattle.std.proofs.Common.{arith, ◌∙◌}
 use Rattle.std.proofs.lemmas.Grind.{common_steps}
 use Rattle.ra_trace.proofs.Pieces.{front_filled, reads_front}
 use Rattle.ra_trace.proofs.filling.fill.Goals as goal
