@@ -1,1 +1,5 @@
 pub mod FirstLine
+pub mod Lending
+pub mod Longer
+pub mod Looking
+pub mod Pieces

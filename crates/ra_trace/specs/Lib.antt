@@ -1,3 +1,6 @@
 pub mod Cutting
+pub mod Ending
 pub mod Entries
+pub mod Reading
 pub mod Workload
+pub mod Writing

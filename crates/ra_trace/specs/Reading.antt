@@ -1,0 +1,133 @@
+-- What a reader of a trace is seen as, and what stands next in a file: docs/DEFINITIONS.md, "Reading a trace".
+use Rattle.std.specs.Prelude.{◌≡◌, ℕ, ◌+◌, ◌-◌, ◌^◌, ◌≤◌, ⊤, true, if◌then◌else◌, nat_le, Option, option_map, is_some, None, Some, List, [], length, take, drop, replicate}
+use Rattle.ra_io.specs.Causes.{Rose}
+use Rattle.ra_trace.specs.declared.error.Why.{Why}
+use Rattle.ra_trace.specs.declared.error.Why.TheVariants.{Header, Cut}
+use Rattle.ra_trace.specs.declared.error.TraceError.{TraceError}
+use Rattle.ra_trace.specs.declared.error.TraceError.TheVariants as errors
+use Rattle.ra_trace.specs.Entries.{Entry, entry_bytes}
+use Rattle.ra_trace.specs.Cutting.{Stop, RefusedAt, PastLimit, header_size, refusal, front, stop_within}
+
+pub record ReaderSeen : Type 0 where
+  pub name : List ℕ
+  pub limit : ℕ
+  -- the memory size, once the header was read
+  pub size : Option ℕ
+  -- where the last record starts, and the next one
+  pub last : ℕ
+  pub next : ℕ
+  -- the place up to which it has read, and the bytes that it holds, which end there
+  pub taken : ℕ
+  pub held : List ℕ
+
+-- the most bytes that a reader takes
+abbrev pub most_bytes : ℕ
+most_bytes = 2 ^ 24
+
+-- a reader that has read nothing
+abbrev pub opened : List ℕ → ℕ → ReaderSeen
+opened name limit = record { name = name; limit = limit; size = None; last = 0; next = 0; taken = 0; held = [] }
+
+-- What a reader keeps at all times: it holds no more than its buffer has room for, and what it answered was read.
+pub record IsInside (room held next : ℕ) : Type 0 where
+  pub limit : room ≤ most_bytes
+  pub within : held ≤ room
+  pub behind : next ≤ held
+
+-- The bytes that the reader holds are those of the file at their places.
+pub record Holds (reader : ReaderSeen) (bytes : List ℕ) : Type 0 where
+  pub within : reader.taken ≤ length bytes
+  pub behind : length reader.held ≤ reader.taken
+  pub held : reader.held ≡ take (length reader.held) (drop (reader.taken - length reader.held) bytes)
+
+-- The buffer holds n bytes of the file from its front, where its first bytes were so before, and n is less than
+-- its length only where the file ends there.
+pub record Filled (content : Option (List ℕ)) (held : ℕ) (old : List ℕ) (n : ℕ) (new : List ℕ) : Type 0 where
+  pub long : length new ≡ length old
+  pub front : (bytes : List ℕ) → content ≡ Some bytes → take held old ≡ take held bytes → take n new ≡ take (length old) bytes
+
+-- what a reader with this limit may see of a file from a place on
+abbrev pub seen_from : ℕ → ℕ → List ℕ → List ℕ
+seen_from limit at bytes = drop at (take limit bytes)
+
+-- why no header stands at the front; with a limit of nine bytes or more it is never the limit
+abbrev pub header_stop : ℕ → List ℕ → Option Stop
+header_stop limit bytes = if is_some (header_size (take limit bytes)) then None else Some (RefusedAt 0 Header)
+
+-- why no record stands at a place, every slot taken as filled
+abbrev pub next_stop : (limit size at : ℕ) → List ℕ → Option Stop
+next_stop limit size at bytes =
+    option_map (λ why. stop_within (nat_le limit (length bytes)) (RefusedAt at why)) (refusal size (replicate 16 true) (seen_from limit at bytes))
+
+-- A record stands at the front of these bytes, over a memory of some size.
+pub record IsWhole (bytes : List ℕ) : Type 0 where
+  pub size : ℕ
+  pub good : refusal size (replicate 16 true) bytes ≡ None
+
+-- the record that stands at a place
+abbrev pub next_entry : (limit at : ℕ) → List ℕ → Entry
+next_entry limit at bytes = front (seen_from limit at bytes)
+
+-- what a reader answers for a stop; a failed read is told by no stop
+abbrev pub IsStop : TraceError → Option Stop → Type 0
+IsStop (errors.Refused at why) stop = stop ≡ Some (RefusedAt at why)
+IsStop errors.TooLong stop = stop ≡ Some PastLimit
+IsStop errors.Read stop = ⊤
+
+-- a failed read is answered only where a fault was counted
+abbrev pub ByFault : TraceError → ℕ → ℕ → Type 0
+ByFault errors.Read before now = Rose before now
+ByFault (errors.Refused at why) before now = ⊤
+ByFault errors.TooLong before now = ⊤
+
+-- Name and limit stay.
+pub record SameReader (old new : ReaderSeen) : Type 0 where
+  pub name : new.name ≡ old.name
+  pub limit : new.limit ≡ old.limit
+
+-- An error leaves the memory size and the last place.
+pub record StaysBefore (old new : ReaderSeen) : Type 0 where
+  pub same : SameReader old new
+  pub sized : new.size ≡ old.size
+  pub last : new.last ≡ old.last
+
+-- the reader behind a header
+pub record IsBehindHeader (size : ℕ) (old new : ReaderSeen) : Type 0 where
+  pub same : SameReader old new
+  pub sized : new.size ≡ Some size
+  pub last : new.last ≡ 0
+  pub next : new.next ≡ 9
+
+-- the reader behind one record more
+pub record IsBehindRecord (entry : Entry) (old new : ReaderSeen) : Type 0 where
+  pub same : SameReader old new
+  pub sized : new.size ≡ old.size
+  pub last : new.last ≡ old.next
+  pub next : new.next ≡ old.next + length (entry_bytes entry)
+
+-- What stands at a place of a file that a reader may see is whole and is this record.
+pub record Stands (limit size at : ℕ) (entry : Entry) (bytes : List ℕ) : Type 0 where
+  pub good : next_stop limit size at bytes ≡ None
+  pub is : entry ≡ next_entry limit at bytes
+
+-- What a reader knows of its next record once it has read as far as it must: why none stands there, if so, and
+-- that the file shows the same. A record is cut only where all that may be seen of the file is held.
+pub record Knows (content : Option (List ℕ)) (size : ℕ) (why : Option Why) (old new : ReaderSeen) : Type 0 where
+  pub same : SameReader old new
+  pub sized : new.size ≡ old.size
+  pub last : new.last ≡ old.last
+  pub next : new.next ≡ old.next
+  pub here : why ≡ refusal size (replicate 16 true) (drop old.next new.held)
+  pub holds : (bytes : List ℕ) → content ≡ Some bytes → Holds old bytes → Holds new bytes
+  pub told : (bytes : List ℕ) → content ≡ Some bytes → Holds old bytes → refusal size (replicate 16 true) (seen_from old.limit old.next bytes) ≡ why
+  pub entry : (bytes : List ℕ) → content ≡ Some bytes → Holds old bytes → why ≡ None → front (drop old.next new.held) ≡ next_entry old.limit old.next bytes
+  pub cut : (bytes : List ℕ) → content ≡ Some bytes → Holds old bytes → why ≡ Some Cut → new.held ≡ take old.limit bytes
+
+-- What `next_record` does before it lends the record: it moves behind it, and holds its bytes.
+pub record Found (content : Option (List ℕ)) (at : ℕ) (old new : ReaderSeen) : Type 0 where
+  pub here : at ≡ old.next
+  pub whole : IsWhole (drop at new.held)
+  pub moved : IsBehindRecord (front (drop at new.held)) old new
+  pub holds : (bytes : List ℕ) → content ≡ Some bytes → Holds old bytes → Holds new bytes
+  pub stands : (bytes : List ℕ) (size : ℕ) → content ≡ Some bytes → Holds old bytes → old.size ≡ Some size
+      → Stands old.limit size old.next (front (drop at new.held)) bytes

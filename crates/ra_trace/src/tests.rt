@@ -1,0 +1,276 @@
+//! Worked traces, and what refuses their neighbours.
+
+ghost use Rattle.std.specs.Prelude.{◌^◌, ◌≤◌};
+
+use crate::{Reader, Record, TraceError, Why, Writer};
+use ra_io::{Failed, Files, PutFailed, SureFiles};
+use std::test::Fail;
+
+// A memory of 32 bytes: F, W 10=05, F, F, W 10=00, F, W 10=05, F, E.
+const WORKED: [u8; 39] = [
+    0x52, 0x41, 0x54, 0x52, 1, 0x20, 0, 0, 0, b'F', b'W', 0x10, 0, 0, 0, 1, 0, 5, b'F', b'F', b'W',
+    0x10, 0, 0, 0, 1, 0, 0, b'F', b'W', 0x10, 0, 0, 0, 1, 0, 5, b'F', b'E',
+];
+
+#[test]
+fn the_worked_trace_is_written(rt: HostRuntime) -> Result<(), Fail> {
+    let mut writer = Writer::new(rt.alloc(), 32)?;
+    writer.frame()?;
+    writer.write(0x10, &[5])?;
+    writer.frame()?;
+    writer.frame()?;
+    writer.write(0x10, &[0])?;
+    writer.frame()?;
+    writer.write(0x10, &[5])?;
+    writer.frame()?;
+    let bytes = writer.finish()?;
+    assert_eq!(rt; bytes.as_slice(), WORKED.as_slice());
+    Ok(())
+}
+
+#[test]
+fn each_kind_of_record_is_written(rt: HostRuntime) -> Result<(), Fail> {
+    let mut writer = Writer::new(rt.alloc(), 16)?;
+    writer.save(15)?;
+    writer.restore(0)?;
+    writer.show()?;
+    writer.write(16, &[])?;
+    let bytes = writer.finish()?;
+    let wanted = b"RATR\x01\x10\0\0\0S\x0fR\0PW\x10\0\0\0\0\0E";
+    assert_eq!(rt; bytes.as_slice(), wanted.as_slice());
+    Ok(())
+}
+
+#[test]
+fn a_write_of_most_bytes(rt: HostRuntime) -> Result<(), Fail> {
+    let data = vec![in rt.alloc(); 7u8; 65535]?;
+    let mut writer = Writer::new(rt.alloc(), 65535)?;
+    writer.write(0, &data)?;
+    let bytes = writer.finish()?;
+    assert_eq!(rt; bytes.len(), 9 + 7 + 65535 + 1);
+    let mut files = SureFiles::new(rt.alloc())?;
+    files.add("t", &bytes)?;
+    let mut reader = Reader::open(rt.alloc(), "t", 65552)?;
+    let Ok(size) = reader.header(&mut files) else {
+        return Err("a header")?;
+    };
+    assert_eq!(rt; size, 65535);
+    assert_eq!(rt;
+        reader.next_record(&mut files),
+        Ok(Record::Write {
+            at: 0,
+            bytes: &data
+        })
+    );
+    assert_eq!(rt; reader.next_record(&mut files), Ok(Record::End));
+    assert_eq!(rt; reader.place(), 65551);
+    Ok(())
+}
+
+// Files that give one byte a read.
+#[derive(Drop)]
+struct SlowFiles {
+    files: SureFiles,
+}
+
+impl Files for SlowFiles {
+    ghost use Rattle.std.specs.Prelude.{Some};
+    ghost use Rattle.ra_io.specs.Held.{bytes_under};
+    ghost use Rattle.ra_io.specs.SureFiles.{names_of};
+
+    ghost content = { λ s name. Some (bytes_under (names_of s.files) name) };
+
+    ghost read_faults = { λ _ _. 0 };
+
+    ghost put_faults = { λ _ _. 0 };
+
+    fn read_at(&mut self, name: &str, at: u64, buf: &mut [u8]) -> Result<usize, Failed> {
+        let most = buf.len().min(1);
+        self.files.read_at(name, at, &mut buf[..most])
+    }
+
+    fn put(&mut self, name: &str, bytes: &[u8]) -> Result<(), PutFailed> {
+        self.files.put(name, bytes)
+    }
+}
+
+#[test]
+fn the_worked_trace_is_read_byte_by_byte(rt: HostRuntime) -> Result<(), Fail> {
+    let mut files = SlowFiles {
+        files: SureFiles::new(rt.alloc())?,
+    };
+    files.files.add("t", &WORKED)?;
+    let mut reader = Reader::open(rt.alloc(), "t", 39)?;
+    let Ok(size) = reader.header(&mut files) else {
+        return Err("a header")?;
+    };
+    assert_eq!(rt; size, 32);
+    assert_eq!(rt; reader.place(), 0);
+    let records: [(Record, u64); 9] = [
+        (Record::Frame, 9),
+        (
+            Record::Write {
+                at: 16,
+                bytes: &[5],
+            },
+            10,
+        ),
+        (Record::Frame, 18),
+        (Record::Frame, 19),
+        (
+            Record::Write {
+                at: 16,
+                bytes: &[0],
+            },
+            20,
+        ),
+        (Record::Frame, 28),
+        (
+            Record::Write {
+                at: 16,
+                bytes: &[5],
+            },
+            29,
+        ),
+        (Record::Frame, 37),
+        (Record::End, 38),
+    ];
+    for (record, place) in records {
+        assert_eq!(rt; reader.next_record(&mut files), Ok(record));
+        assert_eq!(rt; reader.place(), place);
+    }
+    Ok(())
+}
+
+// The first answer of a file within a limit that is no record, behind this many frames.
+fn stops(rt: &HostRuntime, bytes: &[u8], limit: u64, frames: u32) -> Result<TraceError, Fail>
+    requires least { 9 ≤ limit }
+    requires most { limit ≤ 2 ^ 24 }
+{
+    let mut files = SureFiles::new(rt.alloc())?;
+    files.add("t", bytes)?;
+    let mut reader = Reader::open(rt.alloc(), "t", limit)?;
+    if let Err(why) = reader.header(&mut files) {
+        return Ok(why);
+    }
+    for _ in 0..frames {
+        if reader.next_record(&mut files) != Ok(Record::Frame) {
+            return Err("no frame")?;
+        }
+    }
+    let Err(why) = reader.next_record(&mut files) else {
+        return Err("a record")?;
+    };
+    Ok(why)
+}
+
+#[test]
+fn refusals_with_their_places(rt: HostRuntime) -> Result<(), Fail> {
+    let rows: [(&[u8], u64, u32, TraceError); 13] = [
+        (
+            b"RATR\x01\x10\0\0\0F",
+            99,
+            1,
+            TraceError::Refused {
+                at: 10,
+                why: Why::Cut,
+            },
+        ),
+        (
+            b"RATR\x01\x10\0\0\0W\x0f\0\0\0\x02\0\x01\x02",
+            99,
+            0,
+            TraceError::Refused {
+                at: 9,
+                why: Why::PastMemory,
+            },
+        ),
+        (
+            b"RATR\x01\x10\0\0\0\0",
+            99,
+            0,
+            TraceError::Refused {
+                at: 9,
+                why: Why::Kind,
+            },
+        ),
+        (
+            b"RATR\x01\x10\0\0\0S\x10",
+            99,
+            0,
+            TraceError::Refused {
+                at: 9,
+                why: Why::Slot,
+            },
+        ),
+        (
+            b"RATR\x01\x10\0\0\0R\x10",
+            99,
+            0,
+            TraceError::Refused {
+                at: 9,
+                why: Why::Slot,
+            },
+        ),
+        (
+            b"RATR",
+            99,
+            0,
+            TraceError::Refused {
+                at: 0,
+                why: Why::Header,
+            },
+        ),
+        (
+            b"RATR\x01\x10\0\0",
+            99,
+            0,
+            TraceError::Refused {
+                at: 0,
+                why: Why::Header,
+            },
+        ),
+        (
+            b"RATR\x02\x10\0\0\0F",
+            9,
+            0,
+            TraceError::Refused {
+                at: 0,
+                why: Why::Header,
+            },
+        ),
+        (
+            b"RATR\x01\x01\0\0\x08F",
+            99,
+            0,
+            TraceError::Refused {
+                at: 0,
+                why: Why::Header,
+            },
+        ),
+        (
+            b"RATR\x01\x10\0\0\0W\xff\0\0\0\x02\0\x01",
+            99,
+            0,
+            TraceError::Refused {
+                at: 9,
+                why: Why::Cut,
+            },
+        ),
+        (b"RATR\x01\x10\0\0\0F", 10, 1, TraceError::TooLong),
+        (
+            b"RATR\x01\x10\0\0\0F",
+            11,
+            1,
+            TraceError::Refused {
+                at: 10,
+                why: Why::Cut,
+            },
+        ),
+        (b"RATR\x01\x10\0\0\0FFE", 10, 1, TraceError::TooLong),
+    ];
+    for (bytes, limit, frames, answer) in rows {
+        assert_eq!(rt; stops(&rt, bytes, limit, frames)?, answer, "{bytes:?}");
+    }
+    Ok(())
+}
