@@ -11,6 +11,7 @@ pub mod LaidLemmas
 pub mod LineLemmas
 pub mod Law
 pub mod Members
+pub mod NewLemmas
 pub mod OpeningFits
 pub mod PresenceCuts
 pub mod RunsLemmas

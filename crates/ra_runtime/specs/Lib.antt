@@ -4,6 +4,7 @@ pub mod Boards
 pub mod Histories
 pub mod ItemRuns
 pub mod Lines
+pub mod NewRuns
 pub mod Openings
 pub mod Order
 pub mod Plans
