@@ -63,9 +63,11 @@ abbrev pub sum_of : List Condition → List Tree → ℕ → Option Tree
 sum_of cs values zero = None
 sum_of cs values (suc i) = sum_after (flag_at cs i) (tree_at values i) (sum_of cs values i)
 
+-- the tree of the left operand of a condition
 abbrev pub left_operand : List Condition → List Tree → ℕ → Tree
 left_operand cs values j = operand_tree (condition_at cs j).left (pointer_of cs values j) (recall_of cs values j)
 
+-- the tree of the right operand of a condition
 abbrev pub right_operand : List Condition → List Tree → ℕ → Tree
 right_operand cs values j = operand_tree (condition_at cs j).right (pointer_of cs values j) (recall_of cs values j)
 
@@ -82,6 +84,7 @@ handed_on AddAddress sum value = value
 handed_on Remember sum value = added sum value
 handed_on _ sum value = constant 0
 
+-- the tree that a condition hands on or compares, by the values of the conditions before it
 abbrev pub value_by_rules : List Condition → List Tree → ℕ → Tree
 value_by_rules cs values j =
     handed_on (flag_at cs j) (sum_of cs values j)
@@ -92,6 +95,7 @@ abbrev pub values_along : List Condition → List Tree → List ℕ → List Tre
 values_along cs values [] = values
 values_along cs values (j ∷ js) = values_along cs (slice_set values j (value_by_rules cs values j)) js
 
+-- the tree of each condition of a group
 abbrev pub values_of : List Condition → List Tree
 values_of cs = values_along cs (replicate (length cs) (constant 0)) (pass_order cs)
 
@@ -106,14 +110,17 @@ left_of cs j =
     let values = values_of cs in
     if hands_on (flag_at cs j) then tree_at values j else added (sum_of cs values j) (left_operand cs values j)
 
+-- the right side of the comparison of a condition
 abbrev pub right_of : List Condition → ℕ → Tree
 right_of cs j =
     let values = values_of cs in
     if hands_on (flag_at cs j) then tree_at values j else right_operand cs values j
 
+-- the left sides of a group, in the order of its conditions
 abbrev pub lefts_of : List Condition → List Tree
 lefts_of cs = map (left_of cs) (places cs)
 
+-- the right sides of a group, in the order of its conditions
 abbrev pub rights_of : List Condition → List Tree
 rights_of cs = map (right_of cs) (places cs)
 

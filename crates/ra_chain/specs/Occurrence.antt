@@ -15,6 +15,7 @@ trees_in_group cs = flat_map (λ j. left_of cs j ∷ right_of cs j ∷ []) (pass
 abbrev pub trees_in_trigger : TriggerContents → List Tree
 trees_in_trigger t = flat_map trees_in_group (groups_of t)
 
+-- the trees of a part of a value, in the order in which they occur
 abbrev pub trees_in_part : PartContents → List Tree
 trees_in_part (Legacy terms) = terms_tree terms ∷ []
 trees_in_part (Grouped cs) = trees_in_group cs

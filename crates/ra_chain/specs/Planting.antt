@@ -50,6 +50,7 @@ abbrev pub cells_at : Node → ℕ
 cells_at (CellNode pointer offset width) = 1
 cells_at _ = 0
 
+-- how many views a node is
 abbrev pub views_at : Node → ℕ
 views_at (View kind size c) = 1
 views_at _ = 0

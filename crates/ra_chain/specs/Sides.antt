@@ -21,6 +21,7 @@ abbrev pub left_side : Condition → Option Tree → (left right : Tree) → Tre
 left_side c sum left right =
     if hands_on c.flag then handed_on c.flag sum (joined c.op left right) else added sum left
 
+-- the right side of a comparison: the value itself where the condition hands it on
 abbrev pub right_side : Condition → Option Tree → (left right : Tree) → Tree
 right_side c sum left right = if hands_on c.flag then handed_on c.flag sum (joined c.op left right) else right
 

@@ -84,17 +84,6 @@ fn nodes_are_numbered_in_pass_order(rt: HostRuntime) -> Result<(), Fail> {
             [2, 2, 5],
             8,
         ),
-        (
-            [
-                with(Flag::SubSource, byte(1), Op::Bare, none),
-                with(Flag::AddSource, byte(2), Op::Mul, five),
-                with(Flag::Plain, byte(3), Op::Eq, five),
-            ],
-            [0, 1, 2],
-            [2, 7, 11],
-            [2, 7, 6],
-            12,
-        ),
     ] {
         let conditions = conditions.to_vec(rt.alloc())?;
         let (plan, len) = elaborated(rt.alloc(), conditions)?;
@@ -103,6 +92,22 @@ fn nodes_are_numbered_in_pass_order(rt: HostRuntime) -> Result<(), Fail> {
         assert_eq!(rt; plan.rights.as_slice(), rights.as_slice());
         assert_eq!(rt; len, nodes);
     }
+    Ok(())
+}
+
+#[test]
+fn sums_are_numbered_where_they_are_used(rt: HostRuntime) -> Result<(), Fail> {
+    let five = Operand::Const(5);
+    let conditions = [
+        with(Flag::SubSource, byte(1), Op::Bare, Operand::Const(0)),
+        with(Flag::AddSource, byte(2), Op::Mul, five),
+        with(Flag::Plain, byte(3), Op::Eq, five),
+    ];
+    let (plan, len) = elaborated(rt.alloc(), conditions.to_vec(rt.alloc())?)?;
+    assert_eq!(rt; plan.order.as_slice(), [0, 1, 2].as_slice());
+    assert_eq!(rt; plan.lefts.as_slice(), [2, 7, 11].as_slice());
+    assert_eq!(rt; plan.rights.as_slice(), [2, 7, 6].as_slice());
+    assert_eq!(rt; len, 12);
     Ok(())
 }
 

@@ -32,6 +32,7 @@ pub record GainsNode (old new : List Node) (node : Node) (place : ℕ) : Type 0 
   pub cells : cells_of new ≡ grown same_cell (cells_of old) (cell_in (spelled_with (spelled_by old) node))
   pub tracked : tracked_of new ≡ grown same_tracked (tracked_of old) (tracked_at (spelled_with (spelled_by old) node))
 
+-- whether a node is a view of a cell
 abbrev pub is_view : Node → Bool
 is_view (View kind size c) = true
 is_view _ = false

@@ -24,6 +24,7 @@ abbrev pub view_in : Kind → Size → Spelled → Tree
 view_in kind size (IsCell c) = view kind size c.pointer c.address
 view_in kind size (IsTree tree) = constant 0
 
+-- what the node of this number spells; the constant 0 where there is none
 abbrev pub spelled_at : List Spelled → ℕ → Spelled
 spelled_at spelled n = slice_index_or spelled n (IsTree (constant 0))
 
@@ -54,6 +55,7 @@ abbrev pub IsCellOf : ℕ → Node → Type 0
 IsCellOf width (CellNode pointer offset w) = w ≡ width
 IsCellOf width node = ⊥
 
+-- a node has a number unless it is a cell, which its views read
 abbrev pub IsValued : Node → Type 0
 IsValued (CellNode pointer offset w) = ⊥
 IsValued node = Unit {0}
@@ -78,12 +80,15 @@ abbrev pub cell_in : Spelled → List Cell
 cell_in (IsCell c) = c ∷ []
 cell_in (IsTree tree) = []
 
+-- the cells that the nodes of a pool spell, in their order
 abbrev pub cells_of : List Node → List Cell
 cells_of nodes = flat_map cell_in (spelled_by nodes)
 
+-- the mask that a node keeps a prior of, if it is such a view
 abbrev pub tracked_at : Spelled → List Tracked
 tracked_at (IsTree (view kind size pointer address)) = tracked_by kind size (cell_of size pointer address)
 tracked_at _ = []
 
+-- the masks with a prior in a pool, each once, in the order of the nodes
 abbrev pub tracked_of : List Node → List Tracked
 tracked_of nodes = firsts same_tracked (flat_map tracked_at (spelled_by nodes))

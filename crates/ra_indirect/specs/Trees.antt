@@ -13,6 +13,7 @@ pub data Tree : Type 0 where
   join : Op → (left right : Tree) → Tree
   view : Kind → Size → (pointer : Tree) → (address : ℕ) → Tree
 
+-- a cell: the tree of its pointer, its address from there, and its width in bytes
 pub record Cell : Type 0 where
   pub pointer : Tree
   pub address : ℕ

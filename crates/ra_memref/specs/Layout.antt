@@ -16,6 +16,7 @@ use Rattle.ra_memref.specs.Table.{no_cell}
 abbrev pub cells_before : List Spelled → ℕ → List Cell
 cells_before spelled n = flat_map cell_in (take n spelled)
 
+-- the masks with a prior among the nodes before this one
 abbrev pub tracked_before : List Spelled → ℕ → List Tracked
 tracked_before spelled n = firsts same_tracked (flat_map tracked_at (take n spelled))
 

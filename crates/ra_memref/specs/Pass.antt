@@ -21,6 +21,7 @@ prior_after mask before now prior =
 abbrev pub value_at : Numbers → ℕ → ℕ
 value_at numbers n = slice_index numbers.values.items n
 
+-- the number of the frame before in this slot
 abbrev pub earlier_at : Numbers → ℕ → ℕ
 earlier_at numbers slot = slice_index numbers.earlier.items slot
 
@@ -28,6 +29,7 @@ earlier_at numbers slot = slice_index numbers.earlier.items slot
 abbrev pub place_in : Numbers → (pointer offset : ℕ) → ℕ
 place_in numbers pointer offset = moved_by offset (value_at numbers pointer)
 
+-- the number of a cell in this image, by the numbers found so far
 abbrev pub number_in : Numbers → List ℕ → (pointer offset width : ℕ) → ℕ
 number_in numbers image pointer offset width = raw width image (place_in numbers pointer offset)
 
@@ -58,11 +60,13 @@ cells_after (CellNode pointer offset width) numbers image slot =
     slice_set numbers.cells.items slot (number_in numbers image pointer offset width)
 cells_after _ numbers image slot = numbers.cells.items
 
+-- the numbers of the frame before, once a node is taken
 abbrev pub earlier_after : Node → Numbers → ℕ → List ℕ
 earlier_after (CellNode pointer offset width) numbers slot =
     slice_set numbers.earlier.items slot (slice_index numbers.cells.items slot)
 earlier_after _ numbers slot = numbers.earlier.items
 
+-- the places of the cells, once a node is taken
 abbrev pub places_after : Node → Numbers → ℕ → List ℕ
 places_after (CellNode pointer offset width) numbers slot =
     slice_set numbers.places.items slot (place_in numbers pointer offset)

@@ -7,6 +7,7 @@ use Rattle.ra_indirect.specs.Pools.{Spelled, IsTree, IsCell, spelled_by, cells_o
 use Rattle.ra_memref.specs.Values.{Start, value_of, cell_number, cell_place, tracked_number}
 use Rattle.ra_memref.specs.Marks.{marks_after, reads_of}
 
+-- what a caller sees of a table: its nodes, the size of the memory, and what it keeps
 pub record TableSeen : Type 0 where
   pub nodes : List Node
   pub size : ℕ

@@ -71,6 +71,7 @@ value_of start (view kind size pointer address) history =
 abbrev pub cell_number : Start → Cell → History → ℕ
 cell_number start c history = number_of (start.number c) (value_of start c.pointer) c.address c.width history
 
+-- where a cell lies after a history
 abbrev pub cell_place : Start → Cell → History → ℕ
 cell_place start c history = moved_by c.address (value_of start c.pointer history)
 

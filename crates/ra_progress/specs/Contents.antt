@@ -10,6 +10,7 @@ use Rattle.ra_progress.specs.declared.snapshot.ItemKept.TheVariants as kept
 use Rattle.ra_progress.specs.declared.snapshot.PresenceKept.{PresenceKept}
 use Rattle.ra_progress.specs.declared.snapshot.Snapshot.{Snapshot}
 
+-- the shape of a set: its digest, and how many numbers of each kind its progress has
 pub record ShapeContents : Type 0 where
   pub digest : List ℕ
   pub cells : ℕ
@@ -17,6 +18,7 @@ pub record ShapeContents : Type 0 where
   pub items : List ItemShape
   pub presence : Option PresenceShape
 
+-- the contents of a shape
 abbrev pub shape_contents : Shape → ShapeContents
 shape_contents s = record {
   digest = s.digest;
@@ -31,6 +33,7 @@ pub data KeptItem : Type 0 where
   OfAchievement : (state measured : ℕ) → (hits : List ℕ) → KeptItem
   OfBoard : (state : ℕ) → (hits numbers : List ℕ) → KeptItem
 
+-- the contents of a kept item
 abbrev pub kept_item : ItemKept → KeptItem
 kept_item (kept.Achievement state measured hits) = OfAchievement state measured hits.items
 kept_item (kept.Leaderboard state hits numbers) = OfBoard state hits.items numbers.items
@@ -41,9 +44,11 @@ pub record KeptPresence : Type 0 where
   pub hits : List ℕ
   pub numbers : List ℕ
 
+-- the contents of a kept presence
 abbrev pub kept_presence : PresenceKept → KeptPresence
 kept_presence p = record { shown = p.shown; hits = p.hits.items; numbers = p.kept.items }
 
+-- what a progress file keeps: frames, cells and priors, items, and presence
 pub record Opening : Type 0 where
   pub frames : ℕ
   pub cells : List ℕ
@@ -51,6 +56,7 @@ pub record Opening : Type 0 where
   pub items : List KeptItem
   pub presence : Option KeptPresence
 
+-- the contents of a snapshot
 abbrev pub snapshot_contents : Snapshot → Opening
 snapshot_contents s = record {
   frames = s.frames;
@@ -71,11 +77,13 @@ ItemFits (shapes.Achievement count) (OfAchievement state measured hits) = (state
 ItemFits (shapes.Leaderboard count parts) (OfBoard state hits numbers) = (state ≤ 4) × AreWords count hits × AreWords parts numbers
 ItemFits _ _ = ⊥
 
+-- items one beside the other have the shapes of a set
 abbrev pub ItemsFit : List ItemShape → List KeptItem → Type 0
 ItemsFit [] [] = Unit {0}
 ItemsFit (shape ∷ shapes) (item ∷ items) = ItemFits shape item × ItemsFit shapes items
 ItemsFit _ _ = ⊥
 
+-- a presence has the shape of a script, and neither is there without the other
 abbrev pub PresenceFits : Option PresenceShape → Option KeptPresence → Type 0
 PresenceFits None None = Unit {0}
 PresenceFits (Some shape) (Some p) = (p.shown < shape.lines) × AreWords shape.hits p.hits × AreWords shape.parts p.numbers

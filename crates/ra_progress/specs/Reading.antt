@@ -15,16 +15,20 @@ use Rattle.ra_progress.specs.Spelling.{mark}
 abbrev pub word_at : List ℕ → ℕ → ℕ
 word_at bytes at = from_le_bytes w32 (take 4 (drop at bytes))
 
+-- so many words from a place on
 abbrev pub words_at : List ℕ → ℕ → ℕ → List ℕ
 words_at bytes at count = map (λ k. word_at bytes (at + 4 * k)) (range_with_len 0 count)
 
+-- the frame count of a file
 abbrev pub frames_at : List ℕ → ℕ
 frames_at bytes = from_le_bytes w64 (take 8 (drop 21 bytes))
 
+-- the bytes that an item of this shape takes
 abbrev pub item_length : ItemShape → ℕ
 item_length (shapes.Achievement hits) = 5 + 4 * hits
 item_length (shapes.Leaderboard hits parts) = 1 + 4 * (hits + parts)
 
+-- the bytes that a presence of this shape takes
 abbrev pub presence_length : Option PresenceShape → ℕ
 presence_length None = 0
 presence_length (Some p) = 4 + 4 * (p.hits + p.parts)
@@ -33,9 +37,11 @@ presence_length (Some p) = 4 + 4 * (p.hits + p.parts)
 abbrev pub item_at : ShapeContents → ℕ → ℕ
 item_at shape i = 29 + 4 * (shape.cells + shape.priors) + sum_by item_length (take i shape.items)
 
+-- where the presence begins
 abbrev pub presence_at : ShapeContents → ℕ
 presence_at shape = item_at shape (length shape.items)
 
+-- the length of a file of this shape
 abbrev pub length_of : ShapeContents → ℕ
 length_of shape = presence_at shape + presence_length shape.presence + 16
 
@@ -43,9 +49,11 @@ length_of shape = presence_at shape + presence_length shape.presence + 16
 abbrev pub sum_in : List ℕ → List ℕ
 sum_in bytes = drop (length bytes - 16) bytes
 
+-- the bytes that the closing sum is of
 abbrev pub summed_in : List ℕ → List ℕ
 summed_in bytes = take (length bytes - 16) bytes
 
+-- the digest of the set that a file is of
 abbrev pub digest_in : List ℕ → List ℕ
 digest_in bytes = take 16 (drop 5 bytes)
 
@@ -61,6 +69,7 @@ states_from bytes at [] = []
 states_from bytes at (shape ∷ shapes) =
     record { at = at; found = slice_index bytes at; bound = 5 } ∷ states_from bytes (at + item_length shape) shapes
 
+-- the line shown, which is below the count of lines
 abbrev pub shown_field : List ℕ → ℕ → Option PresenceShape → List Bounded
 shown_field bytes at None = []
 shown_field bytes at (Some p) = record { at = at; found = word_at bytes at; bound = p.lines } ∷ []
@@ -84,6 +93,7 @@ abbrev pub bad_state : Option Bounded → Option ProgressRefused
 bad_state None = None
 bad_state (Some field) = Some (BadState field.at field.found)
 
+-- why a file is no progress of this shape: the first rule that it breaks
 abbrev pub refusal : ShapeContents → List ℕ → Option ProgressRefused
 refusal shape bytes =
     if not (length bytes == length_of shape) then Some (WrongLength (length_of shape) (length bytes))
@@ -93,17 +103,20 @@ refusal shape bytes =
     else if not (bytes_eq (digest_in bytes) shape.digest) then Some (OtherSet (digest_in bytes))
     else bad_state (find (λ field. not (nat_lt field.found field.bound)) (states_in shape bytes))
 
+-- the item that the bytes at a place say
 abbrev pub said_item : List ℕ → ℕ → ItemShape → KeptItem
 said_item bytes at (shapes.Achievement hits) =
     OfAchievement (slice_index bytes at) (word_at bytes (at + 1)) (words_at bytes (at + 5) hits)
 said_item bytes at (shapes.Leaderboard hits parts) =
     OfBoard (slice_index bytes at) (words_at bytes (at + 1) hits) (words_at bytes (at + 1 + 4 * hits) parts)
 
+-- the items that the bytes from a place on say
 abbrev pub said_items : List ℕ → ℕ → List ItemShape → List KeptItem
 said_items bytes at [] = []
 said_items bytes at (shape ∷ shapes) =
     said_item bytes at shape ∷ said_items bytes (at + item_length shape) shapes
 
+-- the presence that the bytes at a place say
 abbrev pub said_presence : List ℕ → ℕ → PresenceShape → KeptPresence
 said_presence bytes at p = record {
   shown = word_at bytes at;

@@ -9,14 +9,17 @@ use Rattle.ra_progress.specs.Contents.{KeptItem, OfAchievement, OfBoard, KeptPre
 abbrev pub words : List ℕ → List ℕ
 words numbers = flat_map (to_le_bytes w32) numbers
 
+-- the bytes of an item
 abbrev pub item_bytes : KeptItem → List ℕ
 item_bytes (OfAchievement state measured hits) = state ∷ words (measured ∷ hits)
 item_bytes (OfBoard state hits numbers) = state ∷ (words hits ++ words numbers)
 
+-- the bytes of a presence, none where the set has no script
 abbrev pub presence_bytes : Option KeptPresence → List ℕ
 presence_bytes None = []
 presence_bytes (Some p) = words (p.shown ∷ p.hits) ++ words p.numbers
 
+-- the first four bytes of each progress file
 abbrev pub mark : List ℕ
 mark = codes "RAPG"
 

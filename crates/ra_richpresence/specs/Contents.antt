@@ -15,6 +15,7 @@ pub data PieceContents : Type 0 where
   Bytes : List ℕ → PieceContents
   Shows : List ℕ → List PartContents → PieceContents
 
+-- the contents of a piece of a line
 abbrev pub piece_contents : Piece → PieceContents
 piece_contents (Text text) = Bytes text.items
 piece_contents (Macro name value) = Shows name.items (value_contents value)
@@ -24,6 +25,7 @@ pub record LineContents : Type 0 where
   pub test : Option TriggerContents
   pub pieces : List PieceContents
 
+-- the contents of a line of the display
 abbrev pub line_contents : Line → LineContents
 line_contents l = record {
   test = option_map trigger_contents l.test;
@@ -35,14 +37,17 @@ pub record KeysContents : Type 0 where
   pub ranges : List (ℕ × ℕ)
   pub text : List ℕ
 
+-- the contents of a line of a lookup
 abbrev pub keys_contents : Keys → KeysContents
 keys_contents k = record { ranges = k.ranges.items; text = k.text.items }
 
+-- a lookup: its name, its keys with their texts, and the text of all other numbers
 pub record LookupContents : Type 0 where
   pub name : List ℕ
   pub keys : List KeysContents
   pub rest : Option (List ℕ)
 
+-- the contents of a lookup
 abbrev pub lookup_contents : Lookup → LookupContents
 lookup_contents l = record {
   name = l.name.items;
@@ -50,11 +55,13 @@ lookup_contents l = record {
   rest = option_map (λ text. text.items) l.rest;
 }
 
+-- a script: its lookups, its formats by name, and the lines of its display
 pub record ScriptContents : Type 0 where
   pub lookups : List LookupContents
   pub formats : List (List ℕ × Format)
   pub lines : List LineContents
 
+-- the contents of a script
 abbrev pub script_contents : Script → ScriptContents
 script_contents s = record {
   lookups = map lookup_contents s.lookups.items;
@@ -71,5 +78,6 @@ value_in (Shows name value) = Some value
 abbrev pub values_in_line : LineContents → List (List PartContents)
 values_in_line line = filter_map value_in line.pieces
 
+-- the values of all macros of a script, in text order
 abbrev pub values_in_script : ScriptContents → List (List PartContents)
 values_in_script script = flat_map values_in_line script.lines

@@ -16,6 +16,7 @@ abbrev pub other_text : Option (List ℕ) → List ℕ
 other_text None = []
 other_text (Some text) = text
 
+-- the text of the first keys that hold a number, or the text of all others
 abbrev pub looked_up : List KeysContents → Option (List ℕ) → ℕ → List ℕ
 looked_up [] rest n = other_text rest
 looked_up (k ∷ ks) rest n = if holds k.ranges n then k.text else looked_up ks rest n
@@ -40,10 +41,12 @@ by_format name (Some format) builtin v = formatted format v
 by_format name None (Some format) v = formatted format v
 by_format name None None v = codes "[Unknown macro]" ++ name
 
+-- the text of a macro, by the lookup of its name if there is one, else by a format
 abbrev pub by_lookup : ScriptContents → List ℕ → Option LookupContents → ℤ → List ℕ
 by_lookup script name (Some l) v = looked_up l.keys l.rest (cast_unsigned w32 v)
 by_lookup script name None v = by_format name (entry_of name script.formats) (entry_of name builtin_macros) v
 
+-- the text of a macro of this name for a value
 abbrev pub macro_text : ScriptContents → List ℕ → ℤ → List ℕ
 macro_text script name v = by_lookup script name (lookup_of name script.lookups) v
 
@@ -58,6 +61,7 @@ pieces_text script (Bytes text ∷ pieces) vs = text ++ pieces_text script piece
 pieces_text script (Shows name value ∷ pieces) vs =
     macro_text script name (first_or_zero vs) ++ pieces_text script pieces (drop 1 vs)
 
+-- a line without test and text
 abbrev pub no_line : LineContents
 no_line = record { test = None; pieces = [] }
 

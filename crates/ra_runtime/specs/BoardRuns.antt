@@ -20,6 +20,7 @@ IsOptionalRun nodes None None = Unit {0}
 IsOptionalRun nodes (Some parts) (Some run) = IsValueRun nodes parts run
 IsOptionalRun nodes _ _ = ⊥
 
+-- a new run of a value that may be missing: there is one exactly where there is a value
 abbrev pub IsNewOptional : Option (List PartContents) → Option ValuePlan → Option ValueRun → Type 0
 IsNewOptional None None None = Unit {0}
 IsNewOptional (Some parts) (Some plan) (Some run) = IsNewValue parts plan run
@@ -36,6 +37,7 @@ abbrev pub optional_kept : Option ValueRun → ValueKept
 optional_kept None = record { hits = []; numbers = [] }
 optional_kept (Some run) = run.value
 
+-- what a run of a board keeps
 abbrev pub board_kept : BoardRun → BoardKept
 board_kept run = record {
   state = run.board;
@@ -51,6 +53,7 @@ abbrev pub tracked_kept_by : Option ValueRun → ValueKept → ValueKept
 tracked_kept_by None value = value
 tracked_kept_by (Some run) value = run.value
 
+-- the value of a board that its lines print
 abbrev pub tracked_by : BoardRun → ℤ
 tracked_by run = signed_greatest (tracked_kept_by run.progress run.value.value).numbers
 

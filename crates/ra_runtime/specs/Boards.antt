@@ -56,10 +56,12 @@ board_after start b opened history = record {
 abbrev pub value_number : BoardKept → ℤ
 value_number kept = signed_greatest kept.value.numbers
 
+-- what is kept of the value that an attempt tracks: its progress, if it has one
 abbrev pub tracked_kept : Option (List PartContents) → BoardKept → ValueKept
 tracked_kept None kept = kept.value
 tracked_kept (Some parts) kept = kept.progress
 
+-- the number that an attempt tracks
 abbrev pub tracked_number : BoardContents → BoardKept → ℤ
 tracked_number b kept = signed_greatest (tracked_kept b.progress kept).numbers
 

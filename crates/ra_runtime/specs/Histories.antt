@@ -15,6 +15,7 @@ use Rattle.ra_value.specs.Steps.{ValueKept, step as value_step}
 abbrev pub left_at : Start → History → List Condition → ℕ → ℕ
 left_at start history cs j = value_of start (left_of cs j) history
 
+-- whether the comparison of a condition holds after a history
 abbrev pub truth_at : Start → History → List Condition → ℕ → Bool
 truth_at start history cs j =
     compared (condition_at cs j).op (left_at start history cs j) (value_of start (right_of cs j) history)
@@ -23,6 +24,7 @@ truth_at start history cs j =
 abbrev pub lefts_at : Start → History → List (List Condition) → List ℕ
 lefts_at start history groups = flat_map (λ cs. map (left_at start history cs) (places cs)) groups
 
+-- the truths of the conditions of groups after a history
 abbrev pub truths_at : Start → History → List (List Condition) → List Bool
 truths_at start history groups = flat_map (λ cs. map (truth_at start history cs) (places cs)) groups
 

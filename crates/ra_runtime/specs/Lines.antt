@@ -17,6 +17,7 @@ use Rattle.ra_runtime.specs.Boards.{BoardKept, tracked_number, value_number}
 abbrev pub line_of : List (List ℕ) → List ℕ
 line_of words = join_with_byte 32 words ++ 10 ∷ []
 
+-- a line of these words where something happened
 abbrev pub line_if : Bool → List (List ℕ) → List ℕ
 line_if happened words = if happened then line_of words else []
 
@@ -28,6 +29,7 @@ achievement_lines frame id before after =
     ++ line_if (is_primed before.state && not (is_primed after.state)) (codes "unprimed" ∷ decimal frame ∷ decimal id ∷ [])
     ++ line_if (not (is_triggered before.state) && is_triggered after.state) (codes "unlock" ∷ decimal frame ∷ decimal id ∷ [])
 
+-- whether an attempt runs
 abbrev pub is_started : BoardState → Bool
 is_started Started = true
 is_started _ = false

@@ -22,6 +22,7 @@ number_beside [] numbers c = 0
 number_beside (d ∷ cells) numbers c =
     if same_cell d c then slice_index numbers 0 else number_beside cells (drop 1 numbers) c
 
+-- the prior that an opening keeps for a mask
 abbrev pub prior_beside : List Tracked → List ℕ → Tracked → ℕ
 prior_beside [] numbers t = 0
 prior_beside (s ∷ tracked) numbers t =
@@ -39,6 +40,7 @@ abbrev pub opened_achievement : KeptItem → TriggerKept
 opened_achievement (OfAchievement state measured hits) = record { state = state_of state; measured = measured; hits = hits }
 opened_achievement (OfBoard state hits numbers) = record { state = state_of state; measured = 0; hits = hits }
 
+-- an achievement as a progress file keeps it
 abbrev pub kept_achievement : TriggerKept → KeptItem
 kept_achievement k = OfAchievement (state_byte k.state) k.measured k.hits
 
@@ -75,9 +77,11 @@ abbrev pub plain_item : ItemShape → KeptItem
 plain_item (shapes.Achievement hits) = OfAchievement 0 0 (replicate hits 0)
 plain_item (shapes.Leaderboard hits parts) = OfBoard 0 (replicate hits 0) (replicate parts 0)
 
+-- the presence of a set that was never played: the last line, and all numbers 0
 abbrev pub plain_presence : PresenceShape → KeptPresence
 plain_presence shape = record { shown = shape.lines - 1; hits = replicate shape.hits 0; numbers = replicate shape.parts 0 }
 
+-- the opening of a shape that was never played
 abbrev pub plain_of : ShapeContents → Opening
 plain_of shape = record {
   frames = 0;
@@ -87,5 +91,6 @@ plain_of shape = record {
   presence = option_map plain_presence shape.presence;
 }
 
+-- the opening of a set that was never played
 abbrev pub plain_opening : SetContents → Opening
 plain_opening set = plain_of (shape_of set)

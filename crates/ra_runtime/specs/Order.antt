@@ -32,6 +32,7 @@ abbrev pub trees_in_line : LineContents → List Tree
 trees_in_line line =
     flat_map trees_in_trigger (tests_in line.test) ++ flat_map trees_in_value (values_in_line line)
 
+-- the lines of a script that may be missing
 abbrev pub lines_in : Option ScriptContents → List LineContents
 lines_in None = []
 lines_in (Some script) = script.lines
@@ -40,12 +41,15 @@ lines_in (Some script) = script.lines
 abbrev pub trees_in_set : SetContents → List Tree
 trees_in_set set = flat_map trees_in_item set.items ++ flat_map trees_in_line (lines_in set.script)
 
+-- the cells of a set, each once, in the order in which they occur
 abbrev pub set_cells : SetContents → List Cell
 set_cells set = firsts same_cell (flat_map cells_in (trees_in_set set))
 
+-- the masks of a set with a prior, each once, in the order in which they occur
 abbrev pub set_tracked : SetContents → List Tracked
 set_tracked set = firsts same_tracked (flat_map tracked_in (trees_in_set set))
 
+-- how many hits and numbers an item keeps
 abbrev pub item_shape : ItemContents → ItemShape
 item_shape (Unlocks id t) = shapes.Achievement (trigger_hits t)
 item_shape (Ranks id format b) =
@@ -53,9 +57,11 @@ item_shape (Ranks id format b) =
     (trigger_hits b.start + trigger_hits b.cancel + trigger_hits b.submit + value_hits b.value + value_hits (optional_parts b.progress))
     (length b.value + length (optional_parts b.progress))
 
+-- how many hits a line of a script keeps
 abbrev pub line_hits : LineContents → ℕ
 line_hits line = sum_by trigger_hits (tests_in line.test) + sum_by value_hits (values_in_line line)
 
+-- how many lines, hits and numbers a script keeps
 abbrev pub presence_shape : ScriptContents → PresenceShape
 presence_shape script = record {
   lines = length script.lines;
@@ -63,6 +69,7 @@ presence_shape script = record {
   parts = sum_by length (values_in_script script);
 }
 
+-- the shape of the progress of a set
 abbrev pub shape_of : SetContents → ShapeContents
 shape_of set = record {
   digest = set.digest;

@@ -34,6 +34,7 @@ shown_by start count history (Some script) (Some opened) =
     line_of (codes "presence" ∷ decimal count ∷ presence_text start script opened history ∷ [])
 shown_by start count history _ _ = []
 
+-- the line that is shown after a history
 abbrev pub shown : SetContents → Opening → History → List ℕ
 shown set o history = shown_by (start_of set o) (frames_after o.frames (length history)) history set.script o.presence
 

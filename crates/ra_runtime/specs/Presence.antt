@@ -21,6 +21,7 @@ abbrev pub line_test_hits : Start → Option TriggerContents → List ℕ → Hi
 line_test_hits start None opened history = opened
 line_test_hits start (Some t) opened history = test_hits start t opened history
 
+-- whether the test of a line holds after a history; a line with no test always holds
 abbrev pub line_truth : Start → Option TriggerContents → List ℕ → History → Bool
 line_truth start None opened history = true
 line_truth start (Some t) opened history = test_truth start t opened history
@@ -51,6 +52,7 @@ cut_values (v ∷ vs) hits numbers =
     record { hits = take (value_hits v) hits; numbers = take (length v) numbers }
     ∷ cut_values vs (drop (value_hits v) hits) (drop (length v) numbers)
 
+-- hits and numbers of a progress file, cut by the lines of a script
 abbrev pub cut_lines : List LineContents → (hits numbers : List ℕ) → List LineKept
 cut_lines [] hits numbers = []
 cut_lines (line ∷ lines) hits numbers =
@@ -58,9 +60,11 @@ cut_lines (line ∷ lines) hits numbers =
     record { test = take count hits; values = cut_values (values_in_line line) (drop count hits) numbers }
     ∷ cut_lines lines (drop (line_hits line) hits) (drop (sum_by length (values_in_line line)) numbers)
 
+-- the hits that a line keeps, its test first
 abbrev pub hits_in : LineKept → List ℕ
 hits_in line = line.test ++ flat_map (λ v. v.hits) line.values
 
+-- the numbers that a line keeps
 abbrev pub numbers_in : LineKept → List ℕ
 numbers_in line = flat_map (λ v. v.numbers) line.values
 

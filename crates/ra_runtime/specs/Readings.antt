@@ -11,6 +11,7 @@ use Rattle.ra_indirect.specs.Pools.{IsValued, node_at}
 abbrev pub ops_in : List Condition → List Op
 ops_in cs = map (λ c. c.op) cs
 
+-- the comparisons of groups, in the order of their conditions
 abbrev pub ops_of : List (List Condition) → List Op
 ops_of groups = flat_map ops_in groups
 
@@ -38,5 +39,6 @@ abbrev pub IsValuedSum : List Node → Option ℕ → Type 0
 IsValuedSum nodes None = Unit {0}
 IsValuedSum nodes (Some n) = (n < length nodes) × IsValued (node_at nodes n)
 
+-- each of these sums is the number of a node with a value, or there is none
 abbrev pub AreValuedSums : List Node → List (Option ℕ) → Type 0
 AreValuedSums nodes ns = (k : ℕ) → k < length ns → IsValuedSum nodes (slice_index_or ns k None)

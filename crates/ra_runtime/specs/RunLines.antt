@@ -32,6 +32,7 @@ abbrev pub track_line : Bool → (frame id : ℕ) → Format → ℤ → List �
 track_line told frame id format tracked =
     line_if told (codes "track" ∷ decimal frame ∷ decimal id ∷ formatted format tracked ∷ [])
 
+-- the line of a submit, if there was one: frame, id, value, and the value as it is shown
 abbrev pub submit_line : Bool → (frame id : ℕ) → Format → ℤ → List ℕ
 submit_line told frame id format value =
     line_if told (codes "submit" ∷ decimal frame ∷ decimal id ∷ signed_decimal value ∷ formatted format value ∷ [])

@@ -10,6 +10,7 @@ use Rattle.ra_runtime.specs.Order.{set_cells, shape_of}
 use Rattle.ra_runtime.specs.Openings.{start_of, snapshot, plain_opening}
 use Rattle.ra_runtime.specs.Play.{lines, shown}
 
+-- what a caller sees of a runtime: its set, the image, and what it keeps and prints
 pub record RuntimeSeen : Type 0 where
   pub set : SetContents
   pub image : List ℕ

@@ -6,6 +6,7 @@ use Rattle.ra_runtime.specs.declared.runtime.Runtime.TheInside.{Inside}
 use Rattle.ra_runtime.specs.Runtime.{RuntimeSeen}
 use Rattle.ra_runtime.specs.AllRuns.{AreItemRuns, HaveDigits, IsOver, all_lines, opening_by}
 
+-- what a caller sees of the inside of a runtime
 abbrev pub runtime_seen : Inside → RuntimeSeen
 runtime_seen t = record {
   set = set_contents t.set;

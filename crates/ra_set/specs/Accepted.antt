@@ -11,6 +11,7 @@ repeats (Unlocks id t) (Unlocks id' t') = id == id'
 repeats (Ranks id format b) (Ranks id' format' b') = id == id'
 repeats _ _ = false
 
+-- a file spells a set that is accepted: no id stands twice, and each limit is kept
 pub record IsSet (Spells : List ℕ → SetContents → Type 0) (file : List ℕ) (set : SetContents) : Type 0 where
   pub size : length file ≤ 4194304
   pub spelled : Spells file set

@@ -8,10 +8,12 @@ use Rattle.ra_set.specs.declared.item.Item.{Item}
 use Rattle.ra_set.specs.declared.item.Item.TheVariants.{Achievement, Leaderboard}
 use Rattle.ra_set.specs.declared.set.Set.{Set}
 
+-- an item of a set: an achievement, or a leaderboard with the format of its values
 pub data ItemContents : Type 0 where
   Unlocks : (id : ℕ) → TriggerContents → ItemContents
   Ranks : (id : ℕ) → Format → BoardContents → ItemContents
 
+-- the contents of an item
 abbrev pub item_contents : Item → ItemContents
 item_contents (Achievement id text) = Unlocks id (trigger_contents text)
 item_contents (Leaderboard id format text) = Ranks id format (board_contents text)
@@ -22,6 +24,7 @@ pub record SetContents : Type 0 where
   pub script : Option ScriptContents
   pub digest : List ℕ
 
+-- the contents of a set
 abbrev pub set_contents : Set → SetContents
 set_contents s = record {
   items = map item_contents s.items.items;

@@ -10,25 +10,31 @@ abbrev pub part_conditions : PartContents → ℕ
 part_conditions (Legacy terms) = length terms
 part_conditions (Grouped cs) = length cs
 
+-- the conditions of a value
 abbrev pub value_conditions : List PartContents → ℕ
 value_conditions parts = sum_by part_conditions parts
 
+-- the conditions of a value that may be missing
 abbrev pub optional_value : Option (List PartContents) → ℕ
 optional_value None = 0
 optional_value (Some parts) = value_conditions parts
 
+-- the conditions of an item
 abbrev pub item_conditions : ItemContents → ℕ
 item_conditions (Unlocks id t) = trigger_hits t
 item_conditions (Ranks id format b) =
     trigger_hits b.start + trigger_hits b.cancel + trigger_hits b.submit + value_conditions b.value + optional_value b.progress
 
+-- the conditions of a trigger that may be missing
 abbrev pub optional_trigger : Option TriggerContents → ℕ
 optional_trigger None = 0
 optional_trigger (Some t) = trigger_hits t
 
+-- the conditions of a line of a script
 abbrev pub line_conditions : LineContents → ℕ
 line_conditions line = optional_trigger line.test + sum_by value_conditions (values_in_line line)
 
+-- the conditions of a script, if there is one
 abbrev pub script_conditions : Option ScriptContents → ℕ
 script_conditions None = 0
 script_conditions (Some script) = sum_by line_conditions script.lines
@@ -50,6 +56,7 @@ pub record ScriptFits (script : ScriptContents) : Type 0 where
   pub macros : AllByRecursion (λ line. length (values_in_line line) ≤ 256) script.lines
   pub texts : AllByRecursion (λ n. n ≤ 1024) (flat_map text_lengths script.lookups)
 
+-- a script keeps its limits, if there is one
 abbrev pub OptionalScriptFits : Option ScriptContents → Type 0
 OptionalScriptFits None = Unit {0}
 OptionalScriptFits (Some script) = ScriptFits script

@@ -30,11 +30,12 @@ pub record Then {A V W : Type 0} (first : Form A V) (next : V → Form A W) (tex
   pub of_next : next v behind w
 
 infixl 10 ◌>>=◌
+-- a text of the first form, and behind it one of the form that its value gives
 abbrev pub ◌>>=◌ : {A V W : Type 0} → Form A V → (V → Form A W) → Form A W
 first >>= next = Then first next
 
--- a text of either form
 infixl 5 ◌or◌
+-- a text of either form
 abbrev pub ◌or◌ : {A V : Type 0} → Form A V → Form A V → Form A V
 ◌or◌ a b text v = a text v ⊎ b text v
 

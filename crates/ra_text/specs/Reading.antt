@@ -21,6 +21,7 @@ pub record Reads {A V : Type 0} (form : Form A V) (text : List A) (outcome : Out
   pub only : (v : V) → form front v → outcome ≡ Ok (v, rest_of outcome)
 
 infixl 10 ◌>>=◌
+-- what stands behind a value is read on, and a refusal stays
 abbrev pub ◌>>=◌ : {A V W : Type 0} → Outcome A V → (V × List A → Outcome A W) → Outcome A W
 (Ok x) >>= f = f x
 (Err rest) >>= f = Err rest

@@ -11,6 +11,7 @@ pub data Stop : Type 0 where
   RefusedAt : (at : ℕ) → (why : Why) → Stop
   PastLimit : Stop
 
+-- a trace that is cut: the size of the memory, the records, and why they end
 pub record Trace : Type 0 where
   pub size : ℕ
   pub entries : List Entry
@@ -27,6 +28,7 @@ header_size bytes =
 abbrev pub place_in : List ℕ → ℕ
 place_in rest = from_le_bytes w32 (take 4 rest)
 
+-- how many bytes a write record says that it writes
 abbrev pub count_in : List ℕ → ℕ
 count_in rest = from_le_bytes w16 (take 2 (drop 4 rest))
 
@@ -38,15 +40,18 @@ write_refusal size rest =
     else if nat_lt size (place_in rest + count_in rest) then Some PastMemory
     else None
 
+-- why no save record stands here, behind its mark
 abbrev pub save_refusal : List ℕ → Option Why
 save_refusal [] = Some Cut
 save_refusal (slot ∷ rest) = if nat_lt 15 slot then Some Slot else None
 
+-- why no restore record stands here, behind its mark, by the slots that are filled
 abbrev pub restore_refusal : List Bool → List ℕ → Option Why
 restore_refusal filled [] = Some Cut
 restore_refusal filled (slot ∷ rest) =
     if nat_lt 15 slot then Some Slot else if slice_index_or filled slot false then None else Some EmptySlot
 
+-- why no record stands at the front of these bytes, by their mark
 abbrev pub refusal : ℕ → List Bool → List ℕ → Option Why
 refusal size filled [] = Some Cut
 refusal size filled (mark ∷ rest) =
@@ -79,6 +84,7 @@ pub record Pieces : Type 0 where
   pub entries : List Entry
   pub stop : Stop
 
+-- a record in front of what is cut behind it
 abbrev pub with_entry : Entry → Pieces → Pieces
 with_entry entry cut = record { entries = entry ∷ cut.entries; stop = cut.stop }
 
@@ -89,6 +95,7 @@ cut_behind next entry filled at bytes =
     let count = length (entry_bytes entry) in
     with_entry entry (next (filled_after entry filled) (at + count) (drop count bytes))
 
+-- what is cut from here: the refusal, or the record and what stands behind it
 abbrev pub cut_unless : (List Bool → ℕ → List ℕ → Pieces) → Option Why → List Bool → ℕ → List ℕ → Pieces
 cut_unless next (Some why) filled at bytes = record { entries = []; stop = RefusedAt at why }
 cut_unless next None filled at bytes = cut_behind next (front bytes) filled at bytes
@@ -105,6 +112,7 @@ trace_behind filled (Some size) bytes =
     let records = cut (suc (length bytes)) size filled 9 (drop 9 bytes) in
     record { size = size; entries = records.entries; stop = records.stop }
 
+-- the trace of a file, where these slots are filled
 abbrev pub trace_with : List Bool → List ℕ → Trace
 trace_with filled bytes = trace_behind filled (header_size bytes) bytes
 
@@ -112,6 +120,7 @@ trace_with filled bytes = trace_behind filled (header_size bytes) bytes
 abbrev pub no_slots : List Bool
 no_slots = replicate 16 false
 
+-- the trace of a file, where no slot is filled before its first record
 abbrev pub trace_of : List ℕ → Trace
 trace_of bytes = trace_with no_slots bytes
 

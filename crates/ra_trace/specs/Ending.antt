@@ -15,5 +15,6 @@ pub record Ends (content : Option (List ℕ)) (result : Result Record TraceError
   pub holds : IfOk result (λ found. (bytes : List ℕ) → content ≡ Some bytes → Holds old bytes → Holds new bytes)
   pub stays : OnErr result (StaysBefore old new)
 
+-- a record is answered as the file ends, whatever its reads did before
 abbrev pub EndsAs : Option (List ℕ) → MutBor ReaderSeen → Result Record TraceError → Fml
 EndsAs content reader result = Rests the_row reader (Ends content result reader.now)

@@ -5,6 +5,7 @@ use Rattle.std.specs.Int.{w16, w32, to_le_bytes}
 use Rattle.ra_trace.specs.declared.record.Record.{Record}
 use Rattle.ra_trace.specs.declared.record.Record.TheVariants.{Write, Frame, Save, Restore, Show, End}
 
+-- a record of a trace
 pub data Entry : Type 0 where
   Written : (at : ℕ) → (bytes : List ℕ) → Entry
   Framed : Entry
@@ -31,6 +32,7 @@ entry_bytes (Restored slot) = 82 ∷ slot ∷ []
 entry_bytes Shown = 80 ∷ []
 entry_bytes Ended = 69 ∷ []
 
+-- the header of a trace: its mark, the version, and the size of the memory
 abbrev pub header_bytes : ℕ → List ℕ
 header_bytes size = codes "RATR" ++ 1 ∷ to_le_bytes w32 size
 

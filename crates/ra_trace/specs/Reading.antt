@@ -8,6 +8,7 @@ use Rattle.ra_trace.specs.declared.error.TraceError.TheVariants as errors
 use Rattle.ra_trace.specs.Entries.{Entry, entry_bytes}
 use Rattle.ra_trace.specs.Cutting.{Stop, RefusedAt, PastLimit, header_size, refusal, front, stop_within}
 
+-- what a caller sees of a reader: the name of its file, its limit, and how far it is
 pub record ReaderSeen : Type 0 where
   pub name : List ℕ
   pub limit : ℕ

@@ -6,6 +6,7 @@ use Rattle.ra_trace.specs.Entries.{Entry, Written, Framed, Saved, Restored, Show
 abbrev pub drawn : ℕ → ℕ
 drawn x = (x * 1664525 + 1013904223) % 2 ^ 32
 
+-- the number that a draw gives: its high half
 abbrev pub given : ℕ → ℕ
 given x = x / 65536
 
@@ -14,6 +15,7 @@ abbrev pub drawn_times : ℕ → ℕ → ℕ
 drawn_times zero x = x
 drawn_times (suc n) x = drawn_times n (drawn x)
 
+-- a lower-case hexadecimal digit
 abbrev pub hex_digit : ℕ → ℕ
 hex_digit n = if nat_lt n 10 then n + 48 else n + 87
 
@@ -34,6 +36,7 @@ achievement_lines (suc more) id x =
     achievement_line id (given (drawn x)) (given (drawn_times 2 x)) (given (drawn_times 3 x)) (given (drawn_times 4 x))
     ++ achievement_lines more (id + 1) (drawn_times 4 x)
 
+-- the set file of a workload
 abbrev pub made_set : ℕ → List ℕ
 made_set number =
     achievement_lines 256 1 number
@@ -55,8 +58,10 @@ abbrev pub frames : ℕ → ℕ → ℕ → List Entry
 frames zero f x = Ended ∷ []
 frames (suc more) f x = writes 8 x (Framed ∷ after_frame f (frames more (f + 1) (drawn_times 16 x)))
 
+-- the records of a workload
 abbrev pub made_entries : ℕ → List Entry
 made_entries number = frames 4096 0 ((number + 1) % 2 ^ 32)
 
+-- the trace file of a workload
 abbrev pub made_trace : ℕ → List ℕ
 made_trace number = trace_bytes 65536 (made_entries number)
