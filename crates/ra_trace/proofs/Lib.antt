@@ -1,5 +1,12 @@
+pub mod CutBack
 pub mod FirstLine
+pub mod HexDigits
 pub mod Lending
 pub mod Longer
 pub mod Looking
+pub mod MadeTrace
 pub mod Pieces
+pub mod Lying
+pub mod SetLines
+pub mod TraceRecords
+pub mod Writes

@@ -8,8 +8,9 @@ use Rattle.ra_trace.specs.declared.error.Why.{Why}
 use Rattle.ra_trace.specs.declared.error.Why.TheVariants.{Header, Cut}
 use Rattle.ra_trace.specs.Entries.{entry_bytes}
 use Rattle.ra_trace.specs.Cutting.{RefusedAt, header_size, refusal, front}
-use Rattle.ra_trace.specs.Reading.{ReaderSeen, IsInside, IsWhole, Found, Holds, Filled, Knows, seen_from, header_stop}
+use Rattle.ra_trace.specs.Reading.{ReaderSeen, IsInside, IsWhole, Found, Holds, ReadsOn, Knows, opened, seen_from, header_stop}
 use Rattle.ra_trace.proofs.Longer.{refusal_stays, front_stays}
+use Rattle.ra_trace.proofs.Lying.{front_lies}
 
 -- a reader by its fields
 abbrev pub reader_of : (name buffer : List ℕ) (held : ℕ) (size : Option ℕ) (last next : ℕ) → ReaderSeen
@@ -71,30 +72,28 @@ all_read limit now new bytes within below all =
     (omega (arith, long, least), all ∙ sym whole ∙ same)
 
 -- all that may be seen was read
-pub knows_filled : (first content : Option (List ℕ)) (size : ℕ) (why : Option Why) (name old new : List ℕ) (held now : ℕ) (sized : Option ℕ) (last next : ℕ)
-    → IsInside (length old) held next → now ≤ length new → Filled content held old now new → content ≡ first
-    → why ≡ refusal size (replicate 16 true) (drop next (take now new))
-    → Knows first size why (reader_of name old held sized last next) (reader_of name new now sized last next)
-knows_filled first content size why name old new held now sized last next inside within filled same here =
-    let all : (bytes : List ℕ) → first ≡ Some bytes → Holds (reader_of name old held sized last next) bytes → take now new ≡ take (length old) bytes
-    = λ bytes told holds. filled.front bytes (same ∙ told) (held_front name old bytes held sized last next inside.within holds) in
-    record {
-      same = record { name = refl; limit = filled.long };
-      sized = refl;
-      last = refl;
-      next = refl;
-      here = here;
-      holds = λ bytes told holds.
-          let read = all_read (length old) now new bytes within (omega (arith, within, filled.long)) (all bytes told holds) in
-          front_held name new bytes now sized last next within read.0 read.1;
-      told = λ bytes told holds. sym (here ∙ ap (λ front. refusal size (replicate 16 true) (drop next front)) (all bytes told holds));
-      entry = λ bytes told holds good. ap (λ seen. front (drop next seen)) (all bytes told holds);
-      cut = λ bytes told holds cut. all bytes told holds;
-    }
+pub knows_read : (content : Option (List ℕ)) (size : ℕ) (why : Option Why) (old new : ReaderSeen) → ReadsOn content old new
+    → why ≡ refusal size (replicate 16 true) (drop old.next new.held) → Knows content size why old new
+knows_read content size why old new read here = record {
+  same = read.same;
+  sized = read.sized;
+  last = read.last;
+  next = read.next;
+  here = here;
+  holds = read.holds;
+  told = λ bytes told holds. sym (here ∙ ap (λ held. refusal size (replicate 16 true) (drop old.next held)) (read.all bytes told holds));
+  entry = λ bytes told holds good. ap (λ held. front (drop old.next held)) (read.all bytes told holds);
+  cut = λ bytes told holds cut. read.all bytes told holds;
+}
 
--- the bytes that are held from a place on
-pub between_seen : (size : ℕ) (buffer shown : List ℕ) (next held : ℕ) → shown ≡ buffer → refusal size (replicate 16 true) (between next held shown) ≡ refusal size (replicate 16 true) (drop next (take held buffer))
-between_seen size buffer shown next held same = rw (same, between_is buffer next held) refl
+-- a reader that has read nothing holds nothing else
+pub holds_opened : (reader : ReaderSeen) (bytes : List ℕ) → reader ≡ opened reader.name reader.limit → Holds reader bytes
+holds_opened reader bytes is = rw is (record { within = omega arith; behind = omega arith; held = refl })
+
+-- what a record is read from: the bytes that are held from a place on
+pub between_seen : (size at next held : ℕ) (buffer shown kept : List ℕ) → shown ≡ buffer → at ≡ next → take held buffer ≡ kept
+    → refusal size (replicate 16 true) (between at held shown) ≡ refusal size (replicate 16 true) (drop next kept)
+between_seen size at next held buffer shown kept same here is = rw (same, between_is buffer at held, is, here) refl
 
 -- the whole record at the front of what is held
 pub whole_seen : (buffer shown : List ℕ) (next held : ℕ) → shown ≡ buffer → IsWhole (drop next (take held buffer)) → IsWhole (between next held shown)
@@ -106,9 +105,9 @@ whole_by size why bytes here none = record { size = size; good = sym here ∙ no
 -- the record that stands next, where nothing is refused
 pub found_by : (content : Option (List ℕ)) (size : ℕ) (why : Option Why) (old : ReaderSeen) (name buffer : List ℕ) (held : ℕ) (sized : Option ℕ) (last next : ℕ) (shown : List ℕ) (count : ℕ)
     → Knows content size why old (reader_of name buffer held sized last next) → why ≡ None → ((known : ℕ) → old.size ≡ Some known → size ≡ known)
-    → shown ≡ buffer → count ≡ length (entry_bytes (front (between next held shown)))
+    → shown ≡ buffer → count ≡ length (entry_bytes (front (between next held shown))) → next + count ≤ length buffer
     → Found content next old (reader_of name buffer held sized next (next + count))
-found_by content size why old name buffer held sized last next shown count knows none is_size same long =
+found_by content size why old name buffer held sized last next shown count knows none is_size same long within =
     let seen = drop next (take held buffer) in
     let place : drop old.next (take held buffer) ≡ seen = ap (λ k. drop k (take held buffer)) (sym knows.next) in
     let front_seen : front (between next held shown) ≡ front seen = rw (same, between_is buffer next held) refl in
@@ -120,7 +119,9 @@ found_by content size why old name buffer held sized last next shown count knows
         sized = knows.sized;
         last = knows.next;
         next = rw (long, front_seen, knows.next) refl;
+        within = within;
       };
+      lies = λ known is_known. front_lies known (replicate 16 true) seen (ap (λ n. refusal n (replicate 16 true) seen) (sym (is_size known is_known)) ∙ ap (refusal size (replicate 16 true)) (sym place) ∙ sym knows.here ∙ none);
       holds = λ bytes told holds.
           let now = knows.holds bytes told holds in
           record { within = now.within; behind = now.behind; held = now.held };
@@ -141,9 +142,3 @@ pub header_refused : (limit : ℕ) (bytes seen : List ℕ) → seen ≡ take lim
 header_refused limit bytes seen same none =
     let good : header_size (take limit bytes) ≡ None = ap header_size (sym same) ∙ none in
     ap (λ size. if is_some size then None else Some (RefusedAt 0 Header)) good
-
--- what is read first is the front of the file
-pub first_filled : (first content : Option (List ℕ)) (held : ℕ) (old new : List ℕ) (n limit : ℕ) → held ≡ 0 → content ≡ first → length old ≡ limit → Filled content held old n new
-    → (bytes : List ℕ) → first ≡ Some bytes → take n new ≡ take limit bytes
-first_filled first content held old new n limit none same long filled bytes told =
-    filled.front bytes (same ∙ told) (rw none refl) ∙ ap (λ k. take k bytes) long

@@ -2,5 +2,6 @@ pub mod Cutting
 pub mod Ending
 pub mod Entries
 pub mod Reading
+pub mod Rules
 pub mod Workload
 pub mod Writing

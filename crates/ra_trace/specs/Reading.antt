@@ -5,7 +5,7 @@ use Rattle.ra_trace.specs.declared.error.Why.{Why}
 use Rattle.ra_trace.specs.declared.error.Why.TheVariants.{Header, Cut}
 use Rattle.ra_trace.specs.declared.error.TraceError.{TraceError}
 use Rattle.ra_trace.specs.declared.error.TraceError.TheVariants as errors
-use Rattle.ra_trace.specs.Entries.{Entry, entry_bytes}
+use Rattle.ra_trace.specs.Entries.{Entry, Written, Saved, Restored, entry_bytes}
 use Rattle.ra_trace.specs.Cutting.{Stop, RefusedAt, PastLimit, header_size, refusal, front, stop_within}
 
 -- what a caller sees of a reader: the name of its file, its limit, and how far it is
@@ -47,6 +47,20 @@ pub record Filled (content : Option (List ℕ)) (held : ℕ) (old : List ℕ) (n
   pub long : length new ≡ length old
   pub front : (bytes : List ℕ) → content ≡ Some bytes → take held old ≡ take held bytes → take n new ≡ take (length old) bytes
 
+-- Name and limit stay.
+pub record SameReader (old new : ReaderSeen) : Type 0 where
+  pub name : new.name ≡ old.name
+  pub limit : new.limit ≡ old.limit
+
+-- A reader has read on to the end of what it may see of the file, and nothing else of it changed.
+pub record ReadsOn (content : Option (List ℕ)) (old new : ReaderSeen) : Type 0 where
+  pub same : SameReader old new
+  pub sized : new.size ≡ old.size
+  pub last : new.last ≡ old.last
+  pub next : new.next ≡ old.next
+  pub holds : (bytes : List ℕ) → content ≡ Some bytes → Holds old bytes → Holds new bytes
+  pub all : (bytes : List ℕ) → content ≡ Some bytes → Holds old bytes → new.held ≡ take old.limit bytes
+
 -- what a reader with this limit may see of a file from a place on
 abbrev pub seen_from : ℕ → ℕ → List ℕ → List ℕ
 seen_from limit at bytes = drop at (take limit bytes)
@@ -59,6 +73,13 @@ header_stop limit bytes = if is_some (header_size (take limit bytes)) then None 
 abbrev pub next_stop : (limit size at : ℕ) → List ℕ → Option Stop
 next_stop limit size at bytes =
     option_map (λ why. stop_within (nat_le limit (length bytes)) (RefusedAt at why)) (refusal size (replicate 16 true) (seen_from limit at bytes))
+
+-- a record lies within a memory of this size and the sixteen slots
+abbrev pub LiesWithin : ℕ → Entry → Type 0
+LiesWithin size (Written at bytes) = at + length bytes ≤ size
+LiesWithin size (Saved slot) = slot ≤ 15
+LiesWithin size (Restored slot) = slot ≤ 15
+LiesWithin size _ = ⊤
 
 -- A record stands at the front of these bytes, over a memory of some size.
 pub record IsWhole (bytes : List ℕ) : Type 0 where
@@ -81,11 +102,6 @@ ByFault errors.Read before now = Rose before now
 ByFault (errors.Refused at why) before now = ⊤
 ByFault errors.TooLong before now = ⊤
 
--- Name and limit stay.
-pub record SameReader (old new : ReaderSeen) : Type 0 where
-  pub name : new.name ≡ old.name
-  pub limit : new.limit ≡ old.limit
-
 -- An error leaves the memory size and the last place.
 pub record StaysBefore (old new : ReaderSeen) : Type 0 where
   pub same : SameReader old new
@@ -99,12 +115,13 @@ pub record IsBehindHeader (size : ℕ) (old new : ReaderSeen) : Type 0 where
   pub last : new.last ≡ 0
   pub next : new.next ≡ 9
 
--- the reader behind one record more
+-- the reader behind one record more, which ends within the limit
 pub record IsBehindRecord (entry : Entry) (old new : ReaderSeen) : Type 0 where
   pub same : SameReader old new
   pub sized : new.size ≡ old.size
   pub last : new.last ≡ old.next
   pub next : new.next ≡ old.next + length (entry_bytes entry)
+  pub within : new.next ≤ new.limit
 
 -- What stands at a place of a file that a reader may see is whole and is this record.
 pub record Stands (limit size at : ℕ) (entry : Entry) (bytes : List ℕ) : Type 0 where
@@ -129,6 +146,7 @@ pub record Found (content : Option (List ℕ)) (at : ℕ) (old new : ReaderSeen)
   pub here : at ≡ old.next
   pub whole : IsWhole (drop at new.held)
   pub moved : IsBehindRecord (front (drop at new.held)) old new
+  pub lies : (size : ℕ) → old.size ≡ Some size → LiesWithin size (front (drop at new.held))
   pub holds : (bytes : List ℕ) → content ≡ Some bytes → Holds old bytes → Holds new bytes
   pub stands : (bytes : List ℕ) (size : ℕ) → content ≡ Some bytes → Holds old bytes → old.size ≡ Some size
       → Stands old.limit size old.next (front (drop at new.held)) bytes

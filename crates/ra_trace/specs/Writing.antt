@@ -1,6 +1,8 @@
--- What a writer of a trace is seen as.
-use Rattle.std.specs.Prelude.{ℕ, List, ◌++◌}
-use Rattle.ra_trace.specs.Entries.{Entry, entry_bytes}
+-- What a writer of a trace is seen as, and the records that it wrote.
+use Rattle.std.specs.Prelude.{◌≡◌, ℕ, ◌≤◌, ◌^◌, List, [], ◌∷◌, ◌++◌, All}
+use Rattle.std.specs.List.{flat_map}
+use Rattle.ra_trace.specs.Entries.{Entry, entry_bytes, trace_bytes}
+use Rattle.ra_trace.specs.Rules.{Fits}
 
 -- the memory size, and the bytes so far
 pub record WriterSeen : Type 0 where
@@ -10,3 +12,17 @@ pub record WriterSeen : Type 0 where
 -- the bytes with one record more
 abbrev pub with_record : WriterSeen → Entry → WriterSeen
 with_record old entry = record old { bytes = old.bytes ++ entry_bytes entry }
+
+-- the bytes with some records more
+abbrev pub with_records : WriterSeen → List Entry → WriterSeen
+with_records old entries = record old { bytes = old.bytes ++ flat_map entry_bytes entries }
+
+-- a writer has written these records, each within the rules
+pub record Wrote (writer : WriterSeen) (entries : List Entry) : Type 0 where
+  pub small : writer.size ≤ 2 ^ 27
+  pub fit : All (Fits writer.size) entries
+  pub bytes : writer.bytes ≡ trace_bytes writer.size entries
+
+-- whatever records it had written, it has written one more
+abbrev pub Adds : Entry → WriterSeen → WriterSeen → Type 0
+Adds entry old new = (entries : List Entry) → Wrote old entries → Wrote new (entries ++ entry ∷ [])

@@ -1,6 +1,6 @@
 //! The header and the record at the front of bytes.
 
-ghost use Rattle.std.specs.Prelude.{◌≡◌, ◌≤◌, true, length, replicate};
+ghost use Rattle.std.specs.Prelude.{◌≡◌, ◌≤◌, IfSome, true, length, replicate};
 ghost use Rattle.ra_trace.specs.Entries.{entry_of, entry_bytes};
 ghost use Rattle.ra_trace.specs.Cutting.{header_size, write_refusal, save_refusal, restore_refusal, refusal, front};
 ghost use Rattle.ra_trace.specs.Reading.{IsWhole};
@@ -16,7 +16,8 @@ const SLOT_LIMIT: u8 = 15;
 
 /// The memory size in a good header.
 pub fn read_header(bytes: &[u8]) -> Option<u32>
-    ensures { result ≡ header_size bytes.now }
+    ensures size { result ≡ header_size bytes.now }
+    ensures most { IfSome result (λ size. size ≤ 134217728) }
 {
     let [b'R', b'A', b'T', b'R', 1, a, b, c, d, ..] = bytes else {
         return None;

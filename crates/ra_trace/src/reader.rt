@@ -47,13 +47,13 @@ impl Model for Reader {
 }
 
 impl Reader {
-    ghost use Rattle.std.specs.Prelude.{◌≡◌, ◌≤◌, Some, IfOk, IfErr, OnErr, IfSome, IsSome, take};
+    ghost use Rattle.std.specs.Prelude.{◌≡◌, ◌≤◌, Some, IfOk, IfErr, OnErr, IfSome, IsSome, OnOk, take};
     ghost use Rattle.std.specs.Borrow.{sem};
     ghost use Rattle.ra_io.specs.Causes.{Rose, NoneFell};
     ghost use Rattle.ra_io.specs.Files.{SameContent};
     ghost use Rattle.ra_trace.specs.Entries.{entry_of};
     ghost use Rattle.ra_trace.specs.Cutting.{header_size};
-    ghost use Rattle.ra_trace.specs.Reading.{Holds, Knows, Found, Stands, StaysBefore, IsBehindHeader, opened, most_bytes, header_stop, next_stop, IsStop, ByFault};
+    ghost use Rattle.ra_trace.specs.Reading.{Holds, ReadsOn, Knows, Found, Stands, LiesWithin, StaysBefore, IsBehindHeader, opened, most_bytes, header_stop, next_stop, IsStop, ByFault};
     ghost use Rattle.ra_trace.specs.Ending.{EndsAs};
 
     /// A reader of the file of this name that takes no more bytes than the limit. It holds none yet.
@@ -78,6 +78,7 @@ impl Reader {
     pub fn header<F: Files>(&mut self, files: &mut F) -> Result<u32, TraceError>
         requires { self.old ≡ opened self.old.name self.old.limit }
         ensures ok { IfOk result (λ size. IfSome (F.content files.old self.old.name) (λ bytes. header_size (take self.old.limit bytes) ≡ Some size)) }
+        ensures most { IfOk result (λ size. size ≤ 134217728) }
         ensures seen { IfOk result (λ size. IsBehindHeader size self.old self.new) }
         ensures held { IfOk result (λ size. IfSome (F.content files.old self.old.name) (Holds self.new)) }
         ensures err { IfErr result (λ why. IfSome (F.content files.old self.old.name) (λ bytes. IsStop why (header_stop self.old.limit bytes))) }
@@ -86,7 +87,7 @@ impl Reader {
         ensures reads { NoneFell (F.read_faults files.old) (F.read_faults files.new) }
         ensures puts { NoneFell (F.put_faults files.old) (F.put_faults files.new) }
     {
-        self.held = fill(&self.name, &mut self.buffer, self.held, files)?;
+        self.read_on(files)?;
         let Some(size) = read_header(&self.buffer[..self.held]) else {
             return Err(TraceError::Refused {
                 at: 0,
@@ -96,6 +97,20 @@ impl Reader {
         self.size = Some(size);
         self.next = HEADER_LENGTH;
         Ok(size)
+    }
+
+    // Reads on, as far as the limit and the file go.
+    fn read_on<F: Files>(&mut self, files: &mut F) -> Result<(), TraceError>
+        ensures all { OnOk result (ReadsOn (F.content files.old self.old.name) self.old self.new) }
+        ensures only { IfErr result (λ why. why ≡ TraceError.Read) }
+        ensures last { OnErr result (StaysBefore self.old self.new) }
+        ensures fault { OnErr result (Rose (F.read_faults files.old self.old.name) (F.read_faults files.new self.old.name)) }
+        ensures same { SameContent (F.content files.old) (F.content files.new) }
+        ensures reads { NoneFell (F.read_faults files.old) (F.read_faults files.new) }
+        ensures puts { NoneFell (F.put_faults files.old) (F.put_faults files.new) }
+    {
+        self.held = fill(&self.name, &mut self.buffer, self.held, files)?;
+        Ok(())
     }
 
     // Reads on as far as the next record goes, and says why none stands there.
@@ -113,7 +128,7 @@ impl Reader {
         let Some(Why::Cut) = why else {
             return Ok(why);
         };
-        self.held = fill(&self.name, &mut self.buffer, self.held, files)?;
+        self.read_on(files)?;
         Ok(why_no_record(size, &self.buffer[at..self.held]))
     }
 
@@ -146,6 +161,7 @@ impl Reader {
     pub fn next_record<'a, F: Files>(&'a mut self, files: &mut F) -> Result<Record<'a>, TraceError>
         requires { IsSome self.old.size }
         ensures ok { IfOk result (λ found. IfSome (F.content files.old self.old.name) (λ bytes. Holds self.old bytes → IfSome self.old.size (λ size. Stands self.old.limit size self.old.next (entry_of found) bytes))) }
+        ensures lies { IfOk result (λ found. IfSome self.old.size (λ size. LiesWithin size (entry_of found))) }
         ensures err { IfErr result (λ why. IfSome (F.content files.old self.old.name) (λ bytes. Holds self.old bytes → IfSome self.old.size (λ size. IsStop why (next_stop self.old.limit size self.old.next bytes)))) }
         ensures fault { IfErr result (λ why. ByFault why (F.read_faults files.old self.old.name) (F.read_faults files.new self.old.name)) }
         ensures same { SameContent (F.content files.old) (F.content files.new) }

@@ -2,7 +2,7 @@
 
 ghost use Rattle.std.specs.Prelude.{◌^◌, ◌≤◌};
 
-use crate::{Reader, Record, TraceError, Why, Writer};
+use crate::{Reader, Record, TraceError, Why, Writer, make_set, make_trace};
 use ra_io::{Failed, Files, PutFailed, SureFiles};
 use std::test::Fail;
 
@@ -271,6 +271,50 @@ fn refusals_with_their_places(rt: HostRuntime) -> Result<(), Fail> {
     ];
     for (bytes, limit, frames, answer) in rows {
         assert_eq!(rt; stops(&rt, bytes, limit, frames)?, answer, "{bytes:?}");
+    }
+    Ok(())
+}
+
+#[test]
+fn sets_of_the_workload(rt: HostRuntime) -> Result<(), Fail> {
+    let last = b"::VAL:0x 0000\nP\nDisplay:\n@Number(0xX0000)\n";
+    let rows: [(u32, &[u8]); 2] = [
+        (
+            0,
+            b"A 1 I:0x 3c6e_0xH4750>d0xH4750.2._R:0xHd1cc=255\nA 2 I:0x 6252_",
+        ),
+        (
+            4_294_967_295,
+            b"A 1 I:0x 3c55_0xH3017>d0xH3017.8._R:0xH2283=255\n",
+        ),
+    ];
+    for (number, first) in rows {
+        let text = make_set(rt.alloc(), number)?;
+        assert!(rt; text.starts_with(first), "set {number}");
+        assert!(rt; text.ends_with(last), "set {number}");
+        // 47 bytes a line and its id, and 109 bytes behind the achievements.
+        assert_eq!(rt; text.len(), 256 * 47 + 9 + 2 * 90 + 3 * 157 + 109);
+    }
+    Ok(())
+}
+
+#[test]
+fn traces_of_the_workload(rt: HostRuntime) -> Result<(), Fail> {
+    let rows: [(u32, &[u8]); 2] = [
+        (
+            0,
+            b"RATR\x01\0\0\x01\0W\x88\x3c\0\0\x01\0\x88W\x16\x81\0\0\x01\0\x73",
+        ),
+        (
+            4_294_967_295,
+            b"RATR\x01\0\0\x01\0W\x6e\x3c\0\0\x01\0\x50W\xcc\xd1\0\0\x01\0\xf9",
+        ),
+    ];
+    for (number, first) in rows {
+        let bytes = make_trace(rt.alloc(), number)?;
+        assert!(rt; bytes.starts_with(first), "trace {number}");
+        assert!(rt; bytes.ends_with(b"FS\x0fPR\0E"), "trace {number}");
+        assert_eq!(rt; bytes.len(), 9 + 4096 * (8 * 8 + 1) + 64 * 2 + 8 * 3 + 1);
     }
     Ok(())
 }

@@ -1,7 +1,7 @@
 use Rattle.std.proofs.Common.{sym, subst, refl}
 use Rattle.ra_trace.specs.Reading.{Found}
 use Rattle.ra_trace.proofs.Looking.{whole_seen}
-use Rattle.ra_trace.proofs.Lending.{ends_by, stands_by}
+use Rattle.ra_trace.proofs.Lending.{ends_by, stands_by, lies_by}
 use Rattle.ra_trace.proofs.reader.Reader.next_record.Goals as goal
 
 pub front_record-requires : goal.front_record-requires
@@ -18,6 +18,7 @@ returns g c =
       (refl, (λ _. tt), ends_by content c.in_ok-at.at c.args.self.now inside.name.bytes.items inside.buffer.items inside.held inside.size inside.last inside.next c.deref.result.now c.front_record.result found c.deref.ensures.value c.front_record.ensures),
       record {
         ok = stands_by content c.in_ok-at.at c.args.self.now inside.name.bytes.items inside.buffer.items inside.held inside.size inside.last inside.next c.deref.result.now c.front_record.result found c.deref.ensures.value c.front_record.ensures;
+        lies = lies_by content c.in_ok-at.at c.args.self.now inside.name.bytes.items inside.buffer.items inside.held inside.size inside.last inside.next c.deref.result.now c.front_record.result found c.deref.ensures.value c.front_record.ensures;
         err = tt;
         fault = tt;
         same = e.same;

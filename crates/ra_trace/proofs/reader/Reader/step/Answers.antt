@@ -1,4 +1,4 @@
-use Rattle.std.proofs.Common.{rules, ◌≡◌, ap, sym, subst, drop, take}
+use Rattle.std.proofs.Common.{arith, rules, ◌≡◌, ap, sym, subst, drop, take}
 use Rattle.ra_trace.specs.Reading.{IsWhole, Knows}
 use Rattle.ra_trace.proofs.Looking.{whole_seen, whole_by, found_by}
 use Rattle.ra_trace.proofs.reader.Reader.step.Goals as goal
@@ -16,4 +16,4 @@ pub returns-in-None-clause-found : goal.returns-in-None-clause-found
 returns-in-None-clause-found g c =
     let knows = subst (λ s. Knows (g.F.Files.content c.args.files.now c.args.self.now.name) c.unwrap_or-size.result c.in_ok-look.field-0 c.args.self.now s) (sym c.self-2.view_is) c.in_ok-look.ensures.knows in
     found_by _ c.unwrap_or-size.result c.in_ok-look.field-0 c.args.self.now c.self-2.inside.name.bytes.items c.self-2.inside.buffer.items c.self-2.inside.held c.self-2.inside.size c.self-2.inside.last c.self-2.inside.next c.deref.result.now c.record_length-count.result
-    knows c.in-None.is (λ known is. search rules) c.deref.ensures.value c.record_length-count.ensures.length
+    knows c.in-None.is (λ known is. search rules) c.deref.ensures.value c.record_length-count.ensures.length (omega (arith, c.record_length-count.ensures.within))
