@@ -1,0 +1,17 @@
+//! What holds of all texts and boards.
+
+ghost use Rattle.std.specs.Prelude.{◌↔◌, ℕ, List};
+ghost use Rattle.ra_leaderboard.specs.Contents.{BoardContents};
+ghost use Rattle.ra_leaderboard.specs.Grammar.{board};
+ghost use Rattle.ra_leaderboard.specs.Spelled.{IsBoard};
+ghost use Rattle.ra_text.specs.Place.{OneSpelling};
+
+/// A text spells at most one board: docs/DEFINITIONS.md, "Boards".
+pub fn one_board()
+    ensures { OneSpelling board }
+{}
+
+/// Some text spells a board exactly where the board has its structure.
+pub fn spelled_boards()
+    ensures { (b : BoardContents) → IsBoard b ↔ ((text : List ℕ) × board text b) }
+{}
