@@ -1,2 +1,12 @@
 pub mod Contents
+pub mod Cut
+pub mod Following
+pub mod Grammar
+pub mod Kept
 pub mod Lines
+pub mod Placed
+pub mod Places
+pub mod Reading
+pub mod Sections
+pub mod Shown
+pub mod Spelled

@@ -50,7 +50,7 @@ by_lookup script name None v = by_format name (entry_of name script.formats) (en
 abbrev pub macro_text : ScriptContents → List ℕ → ℤ → List ℕ
 macro_text script name v = by_lookup script name (lookup_of name script.lookups) v
 
--- no clause looks past the end of a list of values
+-- the first value; one that is not there counts as 0
 abbrev pub first_or_zero : List ℤ → ℤ
 first_or_zero vs = slice_index_or vs 0 (pos 0)
 

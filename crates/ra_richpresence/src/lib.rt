@@ -1,12 +1,37 @@
 //! Presence scripts, and the line that they show.
 #![tactic(auto)]
 
+mod builtin;
+mod cut;
+mod display;
+mod display_lines;
+mod entries;
+mod heads;
+mod kept;
+mod keys;
+mod laws;
 mod line;
+mod lines;
 mod lookup;
+mod names;
+mod names_of_script;
+mod parse;
 mod piece;
+mod pieces;
 mod script;
+mod script_line;
+mod section;
+mod sections;
+mod shown_line;
+#[cfg(test)]
+mod shown_tests;
+#[cfg(test)]
+mod tests;
+mod text;
 
+pub use laws::one_script;
 pub use line::Line;
 pub use lookup::{Keys, Lookup};
+pub use parse::parse_script;
 pub use piece::Piece;
 pub use script::Script;

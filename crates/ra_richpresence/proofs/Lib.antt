@@ -1,0 +1,14 @@
+pub mod Cuts
+pub mod Exact
+pub mod Fronts
+pub mod Keeping
+pub mod LineForms
+pub mod Parts
+pub mod Repeats
+pub mod ScriptReaders
+pub mod ShownLemmas
+pub mod Splits
+pub mod Structure
+pub mod Texts
+pub mod Turns
+pub mod Whole

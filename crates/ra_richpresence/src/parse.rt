@@ -1,0 +1,81 @@
+//! Presence scripts of a text: docs/DEFINITIONS.md, "Presence scripts" and "First bad place".
+
+ghost use Rattle.std.specs.Prelude.{◌≡◌, ◌-◌, ◌≤◌, IfErr, IfOk, drop, length, map};
+ghost use Rattle.ra_condition.specs.Refusals.{IfSyntax};
+ghost use Rattle.ra_richpresence.specs.Contents.{script_contents};
+ghost use Rattle.ra_richpresence.specs.Following.{MovesUnlessFull, bytes_of, view_of};
+ghost use Rattle.ra_richpresence.specs.Grammar.{script};
+ghost use Rattle.ra_richpresence.specs.Placed.{first_place};
+ghost use Rattle.ra_richpresence.specs.Places.{IsOutside};
+ghost use Rattle.ra_richpresence.specs.Reading.{script_at};
+ghost use Rattle.ra_richpresence.specs.Spelled.{IsScript};
+
+use crate::cut::cut_lines;
+use crate::display::take_display;
+use crate::kept::Kept;
+use crate::lines::Lines;
+use crate::script::Script;
+use crate::script_line::ScriptLine;
+use crate::sections::take_sections;
+use ra_condition::{Fault, Refused};
+use ra_text::OutOfMemory;
+use std::alloc::Global;
+
+/// The presence script that the whole text spells.
+///
+/// `Syntax` carries the start of the first line with which no script of the grammar goes on, or the
+/// length where there is none. It comes exactly where the text is outside the grammar.
+pub fn parse_script(alloc: Global, text: &[u8]) -> Result<Script, Refused>
+    ensures ok { IfOk result (λ s. script text.now (script_contents s)) }
+    ensures structure { IfOk result (λ s. IsScript (script_contents s)) }
+    ensures err { IfErr result (λ e. IfSyntax e (λ place. IsOutside text.now place)) }
+{
+    let cut = match cut_lines(alloc, text) {
+        Ok(cut) => cut,
+        Err(OutOfMemory) => return Err(Refused::Memory),
+    };
+    let all = cut.as_slice();
+    let mut lines = Lines { rest: all };
+    match take_script(alloc, &mut lines) {
+        Ok(script) => {
+            if lines.rest.is_empty() {
+                Ok(script)
+            } else {
+                Err(Refused::Syntax {
+                    at: place_of(all, lines.rest.len(), text.len()),
+                })
+            }
+        }
+        Err(Fault::Stop) => Err(Refused::Syntax {
+            at: place_of(all, lines.rest.len(), text.len()),
+        }),
+        Err(Fault::Memory) => Err(Refused::Memory),
+    }
+}
+
+// Lookups and formats, with one display before, between or behind them.
+fn take_script(alloc: Global, lines: &mut Lines<'_>) -> Result<Script, Fault>
+    ensures { MovesUnlessFull script_contents result lines.new.rest.now (script_at (bytes_of lines.old.rest.now)) }
+{
+    let mut kept = Kept::new(alloc);
+    take_sections(alloc, &mut kept, lines)?;
+    let shown = take_display(alloc, lines)?;
+    take_sections(alloc, &mut kept, lines)?;
+    Ok(Script {
+        lookups: kept.lookups,
+        formats: kept.formats,
+        lines: shown,
+    })
+}
+
+// Where the first of the lines starts that are left, and the end where none is.
+fn place_of(lines: &[ScriptLine<'_>], left: usize, end: usize) -> usize
+    requires { left ≤ length lines.now }
+    ensures { result ≡ first_place (drop (length lines.now - left) (map view_of lines.now)) end }
+{
+    let (_, rest) = lines.split_at(lines.len() - left);
+    match rest {
+        [first, ..] => first.start,
+        [] => end,
+    }
+}

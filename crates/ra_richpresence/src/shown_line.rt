@@ -1,0 +1,152 @@
+//! The text of a presence line: docs/DEFINITIONS.md, "Presence over frames".
+
+ghost use Rattle.std.specs.Prelude.{◌≡◌, ◌++◌, ◌<◌, All, IfOk, OnOk, codes, drop, length, map};
+ghost use Rattle.std.specs.List.{flat_map};
+ghost use Rattle.ra_richpresence.specs.Contents.{line_contents, piece_contents, script_contents, values_in_line};
+ghost use Rattle.ra_richpresence.specs.Lines.{builtin_macros, by_format, line_text, macro_text, pieces_text};
+ghost use Rattle.ra_richpresence.specs.Shown.{piece_text, values_of};
+ghost use Rattle.ra_value_format.specs.Formats.{HasDigits, entry_of};
+
+use crate::builtin::builtin_format;
+use crate::line::Line;
+use crate::names_of_script::{format_named, text_named};
+use crate::piece::Piece;
+use crate::script::Script;
+use ra_text::OutOfMemory;
+use ra_value_format::format_value;
+use std::alloc::Global;
+
+impl Script {
+    /// The text of a line of the display: docs/DEFINITIONS.md, "Presence over frames".
+    ///
+    /// `shown` is the index of the line, from 0. `values` has the value of each macro of the whole
+    /// script in text order; one that is not there counts as 0.
+    pub fn line(&self, alloc: Global, shown: u32, values: &[i32]) -> Result<Vec<u8>, OutOfMemory>
+        requires shown { shown < length self.now.lines.items }
+        requires formats { All (λ format. HasDigits format.1) (script_contents self.now).formats }
+        ensures { IfOk result (λ text. text.items ≡ line_text (script_contents self.now) shown values.now) }
+    {
+        let index = shown as usize;
+        let left = behind_lines(&self.lines[..index], values);
+        self.shown_pieces(alloc, &self.lines[index].pieces, left)
+    }
+
+    // The text of pieces, with the values of their macros in order.
+    fn shown_pieces(
+        &self,
+        alloc: Global,
+        pieces: &[Piece],
+        values: &[i32],
+    ) -> Result<Vec<u8>, OutOfMemory>
+        requires { All (λ format. HasDigits format.1) (script_contents self.now).formats }
+        ensures { IfOk result
+            (λ text. text.items ≡ pieces_text (script_contents self.now) (map piece_contents pieces.now) values.now) }
+    {
+        let mut text = Vec::new(alloc);
+        let mut left = values;
+        for piece in pieces {
+            self.write_piece(alloc, &mut text, piece, left)?;
+            left = behind_piece(piece, left);
+        }
+        Ok(text)
+    }
+
+    // The text of a piece, at the end of a text.
+    fn write_piece(
+        &self,
+        alloc: Global,
+        text: &mut Vec<u8>,
+        piece: &Piece,
+        values: &[i32],
+    ) -> Result<(), OutOfMemory>
+        requires { All (λ format. HasDigits format.1) (script_contents self.now).formats }
+        ensures { OnOk result
+            (text.new.items ≡ text.old.items ++ piece_text (script_contents self.now) (piece_contents piece.now) values.now) }
+    {
+        match piece {
+            Piece::Text(bytes) => text.extend_from_slice(bytes)?,
+            Piece::Macro { name, .. } => {
+                let value = values.first().copied().unwrap_or(0);
+                self.write_macro(alloc, text, name, value)?;
+            }
+        }
+        Ok(())
+    }
+
+    // The text of a macro, at the end of a text: by the script's lookup of this name, else by a format.
+    fn write_macro(
+        &self,
+        alloc: Global,
+        text: &mut Vec<u8>,
+        name: &[u8],
+        value: i32,
+    ) -> Result<(), OutOfMemory>
+        requires { All (λ format. HasDigits format.1) (script_contents self.now).formats }
+        ensures { OnOk result (text.new.items ≡ text.old.items ++ macro_text (script_contents self.now) name.now value) }
+    {
+        if let Some(found) = text_named(&self.lookups, name, value.cast_unsigned()) {
+            text.extend_from_slice(found)?;
+        } else {
+            let written = self.formatted(alloc, name, value)?;
+            text.extend_from_slice(&written)?;
+        }
+        Ok(())
+    }
+
+    // A number by the script's format of this name, else by the built-in one, else the name as unknown.
+    fn formatted(&self, alloc: Global, name: &[u8], value: i32) -> Result<Vec<u8>, OutOfMemory>
+        requires { All (λ format. HasDigits format.1) (script_contents self.now).formats }
+        ensures { IfOk result (λ text. text.items ≡
+            by_format name.now (entry_of name.now (script_contents self.now).formats) (entry_of name.now builtin_macros) value) }
+    {
+        if let Some(format) = format_named(&self.formats, name) {
+            return format_value(alloc, format, value);
+        }
+        match builtin_format(name) {
+            Some(format) => format_value(alloc, format, value),
+            None => unknown(alloc, name),
+        }
+    }
+}
+
+// The name of a macro that is unknown.
+fn unknown(alloc: Global, name: &[u8]) -> Result<Vec<u8>, OutOfMemory>
+    ensures { IfOk result (λ text. text.items ≡ codes "[Unknown macro]" ++ name.now) }
+{
+    let mut text = Vec::new(alloc);
+    text.extend_from_slice(b"[Unknown macro]")?;
+    text.extend_from_slice(name)?;
+    Ok(text)
+}
+
+// The values behind those of the macros of these lines.
+fn behind_lines<'a>(lines: &[Line], values: &'a [i32]) -> &'a [i32]
+    ensures { result.now ≡ drop (length (flat_map values_in_line (map line_contents lines.now))) values.now }
+{
+    let mut left = values;
+    for line in lines {
+        left = behind_line(line, left);
+    }
+    left
+}
+
+// The values behind those of the macros of a line.
+fn behind_line<'a>(line: &Line, values: &'a [i32]) -> &'a [i32]
+    ensures { result.now ≡ drop (length (values_in_line (line_contents line.now))) values.now }
+{
+    let mut left = values;
+    for piece in &line.pieces {
+        left = behind_piece(piece, left);
+    }
+    left
+}
+
+// The values behind that of a piece, if it has one.
+fn behind_piece<'a>(piece: &Piece, values: &'a [i32]) -> &'a [i32]
+    ensures { result.now ≡ drop (values_of (piece_contents piece.now)) values.now }
+{
+    match (piece, values) {
+        (Piece::Macro { .. }, [_, others @ ..]) => others,
+        _ => values,
+    }
+}
