@@ -1,8 +1,9 @@
--- Which files are sets. `Spells` is the grammar of set files: which file spells which contents.
+-- Which files are sets.
 use Rattle.std.specs.Prelude.{◌≡◌, ℕ, ◌≤◌, ◌==◌, Bool, false, List, length}
 use Rattle.std.specs.List.{IsDistinct}
 use Rattle.md5.specs.Md5.{md5}
 use Rattle.ra_set.specs.Contents.{ItemContents, Unlocks, Ranks, SetContents}
+use Rattle.ra_set.specs.Grammar.{SetFile}
 use Rattle.ra_set.specs.Limits.{IsWithinLimits}
 
 -- two items of one letter have one id
@@ -11,10 +12,10 @@ repeats (Unlocks id t) (Unlocks id' t') = id == id'
 repeats (Ranks id format b) (Ranks id' format' b') = id == id'
 repeats _ _ = false
 
--- a file spells a set that is accepted: no id stands twice, and each limit is kept
-pub record IsSet (Spells : List ℕ → SetContents → Type 0) (file : List ℕ) (set : SetContents) : Type 0 where
+-- a file spells a set that is accepted: no id of one letter stands twice, and each limit is kept
+pub record IsSet (file : List ℕ) (set : SetContents) : Type 0 where
   pub size : length file ≤ 4194304
-  pub spelled : Spells file set
+  pub spelled : SetFile file set
   pub ids : IsDistinct repeats set.items
   pub limits : IsWithinLimits set
   pub digest : set.digest ≡ md5 file

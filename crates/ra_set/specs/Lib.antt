@@ -1,3 +1,10 @@
 pub mod Accepted
 pub mod Contents
+pub mod Counting
+pub mod Grammar
+pub mod Kept
 pub mod Limits
+pub mod Reading
+pub mod Refusals
+pub mod Runs
+pub mod Spelled

@@ -15,3 +15,18 @@ pub enum Item {
         text: BoardText,
     },
 }
+
+impl Item {
+    ghost use Rattle.std.specs.Prelude.{◌≡◌};
+    ghost use Rattle.ra_set.specs.Contents.{item_contents};
+    ghost use Rattle.ra_set.specs.Refusals.{id_of};
+
+    /// The number that its line gives it.
+    pub fn id(&self) -> u32
+        ensures { result ≡ id_of (item_contents self.now) }
+    {
+        match self {
+            Item::Achievement { id, .. } | Item::Leaderboard { id, .. } => *id,
+        }
+    }
+}

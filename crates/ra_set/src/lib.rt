@@ -1,10 +1,25 @@
 //! The set file: achievements, leaderboards and a presence script.
 #![tactic(auto)]
 
+mod counting;
+mod exact_id;
+mod ids;
 mod item;
+mod items;
+mod kept_lines;
+mod laws;
+mod lines;
+mod parse;
 mod refused;
+mod row;
+mod runs;
 mod set;
+#[cfg(test)]
+mod tests;
 
+pub use counting::conditions;
 pub use item::Item;
+pub use laws::{one_answer, one_file, spelled_sets};
+pub use parse::parse_set;
 pub use refused::{SetRefused, Which};
 pub use set::Set;

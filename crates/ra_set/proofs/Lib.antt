@@ -1,0 +1,13 @@
+pub mod AnswerLemmas
+pub mod CountLemmas
+pub mod FileReaders
+pub mod IdReaders
+pub mod KeptLemmas
+pub mod LineReaders
+pub mod LinesLemmas
+pub mod NameLemmas
+pub mod RepeatLemmas
+pub mod RunLemmas
+pub mod SetSpelling
+pub mod SetStructure
+pub mod TextCounts

@@ -1,0 +1,121 @@
+-- Reading set files from left to right: the step between the code and the grammar. No public clause cites it.
+use Rattle.std.specs.Prelude.{◌≡◌, ℕ, ◌+◌, ◌*◌, ◌==◌, ◌||◌, nat_lt, Bool, true, false, not, if◌then◌else◌, List, [], ◌∷◌, length, map, Option, Some, None, Ok, codes}
+use Rattle.ra_condition.specs.Reading.{trigger_at}
+use Rattle.ra_leaderboard.specs.Reading.{board_at}
+use Rattle.ra_value_format.specs.declared.format.Format.{Format}
+use Rattle.ra_value_format.specs.Formats.{format_of_name}
+use Rattle.ra_set.specs.Contents.{Unlocks, Ranks}
+use Rattle.ra_set.specs.Grammar.{Line}
+use Rattle.ra_set.specs.Runs.{any_but}
+use Rattle.ra_text.specs.Number.{digits}
+use Rattle.ra_text.specs.Reading.{Outcome, ◌>>=◌, one_at, optional_at, choice_at, begins, chain_at}
+use Rattle.ra_text.specs.Table.{lookup, bytes_for, is_in, only}
+
+-- no digit goes on with this number of an id, as a zero stands alone, or as the next would pass the numbers of 32 bits
+abbrev pub is_past : ℕ → ℕ → Bool
+is_past so_far d = (so_far == 0) || nat_lt 4294967295 (so_far * 10 + d)
+
+-- the number of an id with one digit more, where the digit goes on with it
+abbrev pub with_digit : ℕ → ℕ → Option ℕ
+with_digit so_far byte = elim (lookup digits byte) [ Some d ↦ if is_past so_far d then None else Some (so_far * 10 + d) | None ↦ None ]
+
+-- the number of an id, with as many digits as go on with it
+abbrev pub more_digits_at : ℕ → List ℕ → Outcome ℕ ℕ
+more_digits_at so_far [] = Ok (so_far, [])
+more_digits_at so_far (byte ∷ rest) = elim (with_digit so_far byte) [ Some n ↦ more_digits_at n rest | None ↦ Ok (so_far, byte ∷ rest) ]
+
+-- an id
+unfoldable pub id_at : List ℕ → Outcome ℕ ℕ
+id_at text = do
+  d ← one_at (lookup digits) text
+  more_digits_at d.0 d.1
+
+-- the symbols of a table, as many as stand there
+abbrev pub run_at : {A V : Type 0} → (A → Option V) → List A → Outcome A (List V)
+run_at table text = chain_at {S = Unit {0}} (λ s. table) (λ s v rest. Ok (v, rest)) (λ s v. s) (λ s. true) (length text) tt text
+
+-- a name of a format
+unfoldable pub format_at : List ℕ → Outcome ℕ Format
+format_at text = do
+  first ← one_at (any_but (codes " \n")) text
+  others ← run_at (any_but (codes " \n")) first.1
+  Ok (format_of_name (first.0 ∷ others.0), others.1)
+
+-- "#" and the rest of the line
+unfoldable pub comment_at : List ℕ → Outcome ℕ Line
+comment_at text = do
+  mark ← one_at (only (codes "#")) text
+  bytes ← run_at (any_but (codes "\n")) mark.1
+  Ok (None, bytes.1)
+
+-- a letter, a space, an id, and a space
+unfoldable pub head_at : (letter : ℕ) → List ℕ → Outcome ℕ ℕ
+head_at letter text = do
+  l ← one_at (only (letter ∷ [])) text
+  space ← one_at (only (codes " ")) l.1
+  id ← id_at space.1
+  behind ← one_at (only (codes " ")) id.1
+  Ok (id.0, behind.1)
+
+-- "A" " " id " " trigger
+unfoldable pub achievement_at : List ℕ → Outcome ℕ Line
+achievement_at text = do
+  id ← head_at 65 text
+  t ← trigger_at id.1
+  Ok (Some (Unlocks id.0 t.0), t.1)
+
+-- "L" " " id " " format " " board
+unfoldable pub leaderboard_at : List ℕ → Outcome ℕ Line
+leaderboard_at text = do
+  id ← head_at 76 text
+  format ← format_at id.1
+  space ← one_at (only (codes " ")) format.1
+  b ← board_at space.1
+  Ok (Some (Ranks id.0 format.0 b.0), b.1)
+
+-- a leaderboard, or an empty line
+unfoldable pub leaderboard_or_empty_at : List ℕ → Outcome ℕ Line
+leaderboard_or_empty_at = choice_at (begins (is_in (only (codes "L")))) leaderboard_at (λ text. Ok (None, text))
+
+-- a line that is no comment
+unfoldable pub item_line_at : List ℕ → Outcome ℕ Line
+item_line_at = choice_at (begins (is_in (only (codes "A")))) achievement_at leaderboard_or_empty_at
+
+-- a comment, with a CR at its end
+unfoldable pub comment_row_at : List ℕ → Outcome ℕ (Line × Bool)
+comment_row_at text = do
+  l ← comment_at text
+  Ok ((l.0, false), l.1)
+
+-- a line that is no comment, and whether a CR stands behind it
+unfoldable pub item_row_at : List ℕ → Outcome ℕ (Line × Bool)
+item_row_at text = do
+  l ← item_line_at text
+  returned ← optional_at (lookup (bytes_for (codes "\r") true)) false l.1
+  Ok ((l.0, returned.0), returned.1)
+
+-- what stands before an LF, and whether it wants one
+unfoldable pub row_at : List ℕ → Outcome ℕ (Line × Bool)
+row_at = choice_at (begins (is_in (only (codes "#")))) comment_row_at item_row_at
+
+-- rows, each behind an LF but the first, of which the last wants no LF
+unfoldable pub rows_at : List ℕ → Outcome ℕ (List (Line × Bool))
+rows_at text = do
+  first ← row_at text
+  others ← chain_at (λ wants. only (codes "\n")) (λ wants tag. row_at) (λ wants row. row.1) not (length first.1) first.0.1 first.1
+  Ok (first.0 ∷ others.0, others.1)
+
+-- the lines of rows
+abbrev pub lines_of : List (Line × Bool) → List Line
+lines_of rows = map (λ row. row.0) rows
+
+-- the lines of a file
+unfoldable pub set_lines_at : List ℕ → Outcome ℕ (List Line)
+set_lines_at text = do
+  rows ← rows_at text
+  Ok (lines_of rows.0, rows.1)
+
+-- a run of symbols of the table was passed, as long as it goes
+pub record PassesRun {A V : Type 0} (table : A → Option V) (old new : List A) : Type 0 where
+  pub run : List V
+  pub is : run_at table old ≡ Ok (run, new)
