@@ -1,5 +1,5 @@
--- An item that waits over its plan is one with its plan, and keeps what the plain opening keeps.
-use Rattle.std.proofs.Common.{Option, None, Some, List, [], ◌∷◌, length, sym, ◌∙◌, ap, subst}
+-- An item that waits over its plan is one with its plan.
+use Rattle.std.proofs.Common.{Option, None, Some, List, length, sym, ◌∙◌, ap, subst}
 use Rattle.std.proofs.lemmas.List.{length-replicate}
 use Rattle.ra_condition.specs.Contents.{TriggerContents, groups_of, trigger_hits, PartContents, value_hits}
 use Rattle.ra_indirect.specs.declared.node.Node.{Node}
@@ -17,11 +17,9 @@ use Rattle.ra_runtime.specs.declared.plans.ItemPlan.{ItemPlan}
 use Rattle.ra_runtime.specs.declared.plans.ItemPlan.TheVariants as plans
 use Rattle.ra_runtime.specs.declared.item_run.ItemRun.{ItemRun}
 use Rattle.ra_runtime.specs.declared.item_run.ItemRun.TheVariants.{Achievement, Leaderboard}
-use Rattle.ra_runtime.specs.Plans.{IsOptionalPlan, IsItemPlan, AreItemPlans}
+use Rattle.ra_runtime.specs.Plans.{IsOptionalPlan, IsItemPlan}
 use Rattle.ra_runtime.specs.BoardRuns.{IsOptionalRun, IsNewOptional}
 use Rattle.ra_runtime.specs.ItemRuns.{IsItemRun, IsNewItem}
-use Rattle.ra_runtime.specs.AllRuns.{AreItemRuns}
-use Rattle.ra_runtime.specs.NewRuns.{AreNewItems}
 use Rattle.ra_runtime.proofs.LaidLemmas.{room_laid}
 
 module _ (nodes : List Node) where
@@ -67,11 +65,3 @@ module _ (nodes : List Node) where
     value = new_value b.value plan.value run.value is.value new.value;
     progress = new_optional b.progress plan.progress run.progress is.progress new.progress;
   }
-
-  pub new_items : (items : List ItemContents) (ps : List ItemPlan) (runs : List ItemRun) → AreItemPlans nodes items ps → AreNewItems items ps runs → AreItemRuns nodes items runs
-  new_items [] [] [] are new = tt
-  new_items [] [] (run ∷ runs) are new = absurd new
-  new_items [] (p ∷ ps) runs are new = absurd are
-  new_items (item ∷ items) [] runs are new = absurd are
-  new_items (item ∷ items) (p ∷ ps) [] are new = absurd new
-  new_items (item ∷ items) (p ∷ ps) (run ∷ runs) are new = (new_item item p run are.0 new.0, new_items items ps runs are.1 new.1)

@@ -62,7 +62,7 @@ olds_more runs olds k run within rest =
     let there : get_or olds k run ≡ get_or runs k run = ap (λ n. get_or olds n run) (let e : k ≡ k + 0 = omega arith in e) ∙ sym (get_or-drop k olds 0 run) ∙ ap (λ l. get_or l 0 run) (sym rest) ∙ get_or-drop k runs 0 run ∙ ap (λ n. get_or runs n run) (let e : k + 0 ≡ k = omega arith in e) in
     take_more olds k run within ∙ ap (λ x. take k olds ++ x ∷ []) there
 
-rest_more : (runs olds : List ItemRun) (k : ℕ) (run new : ItemRun) → k < length runs → k < length olds → drop k runs ≡ drop k olds → drop (k + 1) (set runs k new) ≡ drop (k + 1) olds
+pub rest_more : (runs olds : List ItemRun) (k : ℕ) (run new : ItemRun) → k < length runs → k < length olds → drop k runs ≡ drop k olds → drop (k + 1) (set runs k new) ≡ drop (k + 1) olds
 rest_more runs olds k run new within within_too rest =
     let both : get_or runs k run ∷ drop (suc k) runs ≡ get_or olds k run ∷ drop (suc k) olds = sym (drop-cons runs k run within) ∙ rest ∙ drop-cons olds k run within_too in
     let later : drop (suc k) runs ≡ drop (suc k) olds = cc in

@@ -59,9 +59,3 @@ abbrev pub IsItemPlan : List Node → ItemContents → ItemPlan → Type 0
 IsItemPlan nodes (Unlocks id t) (plans.Achievement plan) = IsPlan nodes (groups_of t) plan
 IsItemPlan nodes (Ranks id format b) (plans.Leaderboard plan) = IsBoardPlan nodes b plan
 IsItemPlan nodes _ _ = ⊥
-
--- a plan for each item
-abbrev pub AreItemPlans : List Node → List ItemContents → List ItemPlan → Type 0
-AreItemPlans nodes [] [] = Unit {0}
-AreItemPlans nodes (item ∷ items) (plan ∷ plans) = IsItemPlan nodes item plan × AreItemPlans nodes items plans
-AreItemPlans nodes _ _ = ⊥

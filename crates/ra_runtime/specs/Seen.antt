@@ -2,7 +2,10 @@
 use Rattle.std.specs.Prelude.{◌≡◌, None, [], length, if◌then◌else◌}
 use Rattle.ra_memref.specs.Table.{Agrees}
 use Rattle.ra_set.specs.Contents.{set_contents}
+use Rattle.ra_set.specs.Limits.{IsWithinLimits}
+use Rattle.ra_progress.specs.Contents.{shape_contents}
 use Rattle.ra_runtime.specs.declared.runtime.Runtime.TheInside.{Inside}
+use Rattle.ra_runtime.specs.Order.{shape_of}
 use Rattle.ra_runtime.specs.Runtime.{RuntimeSeen}
 use Rattle.ra_runtime.specs.AllRuns.{AreItemRuns, HaveDigits, IsOver, all_lines, opening_by}
 
@@ -17,9 +20,11 @@ runtime_seen t = record {
   places = t.table.places;
 }
 
--- the table is over the set's cells and the memory, and there is a run for each item
+-- the set is within the limits, the table is over its cells and the memory, and there is a run for each item
 pub record IsRuntime (t : Inside) : Type 0 where
   pub no_script : (set_contents t.set).script ≡ None
+  pub limits : IsWithinLimits (set_contents t.set)
+  pub shape : shape_contents t.shape ≡ shape_of (set_contents t.set)
   pub over : IsOver (set_contents t.set) t.table
   pub runs : AreItemRuns t.table.nodes (set_contents t.set).items t.runs.items
   pub digits : HaveDigits (set_contents t.set).items

@@ -1,6 +1,7 @@
 //! Laws on the definitions, for whoever reads them.
 
 ghost use Rattle.ra_set.specs.Contents.{SetContents};
+ghost use Rattle.ra_runtime.specs.Calls.{CallsSucceed};
 ghost use Rattle.ra_runtime.specs.Runtime.{CutsAnywhere};
 
 /// A history may be cut at any frame: docs/DEFINITIONS.md, "The law of cuts".
@@ -8,4 +9,12 @@ ghost use Rattle.ra_runtime.specs.Runtime.{CutsAnywhere};
 /// A law: it does nothing. It holds for every set, every opening of its shape, and every history.
 pub fn histories_may_be_cut()
     ensures { (set : SetContents) → CutsAnywhere set }
+{}
+
+/// Writes that fit, frames and restores of saved bytes succeed over a made runtime, in any number and
+/// order: docs/DEFINITIONS.md, "Calls that take no memory".
+///
+/// A law: it does nothing.
+pub fn calls_succeed()
+    ensures { (set : SetContents) → CallsSucceed set }
 {}

@@ -6,13 +6,21 @@ mod board_run;
 mod item_run;
 mod laid;
 mod laws;
+mod planning;
 mod plans;
 mod reading;
+mod restored;
 mod runs;
 mod runtime;
+mod saved;
+mod shapes;
+mod state_bytes;
 mod test_run;
+#[cfg(test)]
+mod tests;
 mod value_run;
 mod written;
 
-pub use laws::histories_may_be_cut;
+pub use laws::{calls_succeed, histories_may_be_cut};
 pub use runtime::Runtime;
+pub use shapes::shape_of;

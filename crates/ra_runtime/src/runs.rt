@@ -1,16 +1,41 @@
 //! All items of a set over one table.
 
-ghost use Rattle.std.specs.Prelude.{◌≡◌, ◌++◌, true, length, map};
+ghost use Rattle.std.specs.Prelude.{◌≡◌, ◌+◌, ◌*◌, ◌≤◌, ◌^◌, ◌++◌, true, length, map, sum_by, All, IfOk};
 ghost use Rattle.std.specs.Result.{OnOk};
 ghost use Rattle.ra_set.specs.Contents.{item_contents};
+ghost use Rattle.ra_set.specs.Limits.{item_conditions};
 ghost use Rattle.ra_runtime.specs.AllRuns.{AreItemRuns, AreStepped, HaveDigits, all_lines};
+ghost use Rattle.ra_runtime.specs.Planning.{AreWaiting};
+ghost use Rattle.ra_set.specs.Spelled.{IsItem};
 
 use crate::item_run::ItemRun;
+use crate::planning::item_plan;
 use crate::written::put_lines;
+use ra_indirect::Pool;
 use ra_memref::Table;
 use ra_set::Item;
 use ra_text::OutOfMemory;
 use std::alloc::Global;
+
+// New runs of items, with all their trees in the pool.
+pub(crate) fn new_runs(
+    alloc: Global,
+    items: &[Item],
+    pool: &mut Pool,
+) -> Result<Vec<ItemRun>, OutOfMemory>
+    requires spelled { All IsItem (map item_contents items.now) }
+    requires room { length pool.old + 13 * sum_by item_conditions (map item_contents items.now) + 2 ≤ 2 ^ 31 }
+    ensures { IfOk result (λ runs. AreWaiting pool.old pool.new (map item_contents items.now) runs.items) }
+{
+    let mut runs = Vec::new(alloc);
+    let _ = pool.len();
+    for item in items {
+        let plan = item_plan(alloc, item, pool)?;
+        let run = ItemRun::new(alloc, item, plan)?;
+        runs.push(run)?;
+    }
+    Ok(runs)
+}
 
 // Steps each item by the frame of the table's last sample.
 pub(crate) fn step_runs(runs: &mut [ItemRun], items: &[Item], table: &Table)

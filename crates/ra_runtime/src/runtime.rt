@@ -1,9 +1,21 @@
-ghost use Rattle.std.specs.Prelude.{◌≡◌, ◌+◌, ◌≤◌, length, IfOk};
+ghost use Rattle.std.specs.Prelude.{◌≡◌, ◌+◌, ◌≤◌, ◌^◌, None, Some, length, IfOk, IfErr, OnOk, OnErr};
+ghost use Rattle.ra_set.specs.Contents.{set_contents};
+ghost use Rattle.ra_set.specs.Limits.{IsWithinLimits};
+ghost use Rattle.ra_progress.specs.Contents.{shape_contents};
+ghost use Rattle.ra_progress.specs.Reading.{refusal};
+ghost use Rattle.ra_progress.specs.Spelling.{progress_bytes};
+ghost use Rattle.ra_runtime.specs.Order.{shape_of};
+ghost use Rattle.ra_runtime.specs.Saving.{IsSaved};
+ghost use Rattle.ra_set.specs.Spelled.{IsSpelled};
 
 use crate::item_run::ItemRun;
+use crate::restored::put_back_runs;
 use crate::runs::{put_runs, step_runs};
+use crate::saved::{kept_items, put_numbers};
+use crate::shapes::{laid_out, shape_over};
 use ra_memory::{Counted, Memory, Steps};
 use ra_memref::Table;
+use ra_progress::{ProgressRefused, Shape, Snapshot, check, encode, frames_at};
 use ra_set::Set;
 use ra_text::OutOfMemory;
 use std::alloc::Global;
@@ -16,6 +28,7 @@ use std::sync::ledger::Ledger;
 #[derive(Drop)]
 pub struct Runtime {
     set: Set,
+    shape: Shape,
     memory: Memory,
     table: Table,
     runs: Vec<ItemRun>,
@@ -40,7 +53,40 @@ impl Model for Runtime {
 }
 
 impl Runtime {
-    ghost use Rattle.ra_runtime.specs.Runtime.{IsWritten, TakesFrame};
+    ghost use Rattle.ra_runtime.specs.Runtime.{IsMade, IsWritten, TakesFrame, TakesUp};
+
+    /// A set over a memory of `size` bytes, all 0, before the first frame: docs/DEFINITIONS.md, "What a
+    /// runtime keeps".
+    ///
+    /// On want of memory the set is given up.
+    pub fn new(alloc: Global, set: Set, size: u32) -> Result<Runtime, OutOfMemory>
+        requires limits { IsWithinLimits (set_contents set) }
+        requires spelled { IsSpelled (set_contents set) }
+        requires script { (set_contents set).script ≡ None }
+        requires size { size ≤ 2 ^ 27 }
+        ensures { IfOk result (IsMade (set_contents set) size) }
+    {
+        let (table, runs) = laid_out(alloc, &set, size)?;
+        let shape = shape_over(alloc, &set, &table, &runs)?;
+        let memory = Memory::new(alloc, size)?;
+        Ok(Runtime {
+            set,
+            shape,
+            memory,
+            table,
+            runs,
+            count: 0,
+            frame: 0,
+            framed: false,
+        })
+    }
+
+    /// The shape of the set: docs/DEFINITIONS.md, "Shape of a set".
+    pub fn shape(&self) -> &Shape
+        ensures { shape_contents result.now ≡ shape_of self.now.set }
+    {
+        &self.shape
+    }
 
     /// Writes the bytes from the address `at` on, and tells the table.
     pub fn write(&mut self, at: u32, bytes: &[u8])
@@ -51,6 +97,44 @@ impl Runtime {
         let count = bytes.len() as u32;
         let _ = self.memory.write(at, bytes);
         self.table.write(at, count);
+    }
+
+    /// The progress bytes of the present state: docs/DEFINITIONS.md, "Progress file".
+    pub fn save(&self, alloc: Global) -> Result<Vec<u8>, OutOfMemory>
+        ensures bytes { IfOk result (λ bytes. bytes.items ≡ progress_bytes self.now.set.digest self.now.kept) }
+        ensures saved { IfOk result (λ bytes. IsSaved self.now.set bytes.items) }
+    {
+        let frames = self.count;
+        let mut cells = Vec::new(alloc);
+        put_numbers(&mut cells, self.table.cells())?;
+        let mut priors = Vec::new(alloc);
+        put_numbers(&mut priors, self.table.priors())?;
+        let snapshot = Snapshot {
+            frames,
+            cells,
+            priors,
+            items: kept_items(alloc, &self.runs)?,
+            presence: None,
+        };
+        encode(alloc, &self.shape, &snapshot)
+    }
+
+    /// Takes up what progress bytes of this set say: docs/DEFINITIONS.md, "What a runtime keeps".
+    ///
+    /// Bytes that `check` refuses change nothing. No memory is taken.
+    pub fn restore(&mut self, bytes: &[u8]) -> Result<(), ProgressRefused>
+        ensures ok { OnOk result (TakesUp self.old self.new bytes.now) }
+        ensures accepted { OnOk result (refusal (shape_of self.old.set) bytes.now ≡ None) }
+        ensures refused { IfErr result (λ why. refusal (shape_of self.old.set) bytes.now ≡ Some why) }
+        ensures err { OnErr result (self.new ≡ self.old) }
+    {
+        check(&self.shape, bytes)?;
+        let items = 29 + 4 * (self.table.cells().len() + self.table.priors().len());
+        self.table.put_back(&bytes[29..items]);
+        put_back_runs(&mut self.runs, bytes, items);
+        self.count = frames_at(bytes);
+        self.framed = false;
+        Ok(())
     }
 
     /// Takes one frame of every item: docs/DEFINITIONS.md, "What a runtime keeps". No memory is taken.

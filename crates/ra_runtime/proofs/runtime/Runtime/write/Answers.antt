@@ -28,6 +28,8 @@ invariant_of-self c =
     let differ : DifferWithin at (length bytes) image c.write.new.self = subst (λ m. DifferWithin at (length bytes) image m) (sym now) (DifferWithin-written image bytes at fits) in
     record {
       no_script = inv.no_script;
+      limits = inv.limits;
+      shape = inv.shape;
       over = record {
         cells = ap (λ (t : TableSeen). cells_of t.nodes) told.rest ∙ inv.over.cells;
         tracked = ap (λ (t : TableSeen). tracked_of t.nodes) told.rest ∙ inv.over.tracked;

@@ -1,0 +1,55 @@
+-- What a runtime keeps after a restore is what the bytes say.
+use Rattle.std.proofs.Common.{◌≡◌, ℕ, ◌+◌, ◌*◌, true, Option, None, List, length, map, take, drop, replicate, option_map, sym, ◌∙◌, ap, arith}
+use Rattle.ra_indirect.specs.Pools.{cells_of, tracked_of}
+use Rattle.ra_memref.specs.Table.{TableSeen, IsPutBack}
+use Rattle.ra_richpresence.specs.Contents.{ScriptContents}
+use Rattle.ra_set.specs.Contents.{SetContents}
+use Rattle.ra_progress.specs.Reading.{words_at, frames_at, item_at, presence_at, said_items, said_presence, says}
+use Rattle.ra_runtime.specs.declared.item_run.ItemRun.{ItemRun}
+use Rattle.ra_runtime.specs.Order.{set_cells, set_tracked, item_shape, presence_shape, shape_of}
+use Rattle.ra_runtime.specs.ItemRuns.{kept_run}
+use Rattle.ra_runtime.specs.AllRuns.{AreItemRuns, IsOver, opening_by}
+use Rattle.ra_runtime.specs.Shapes.{run_shape}
+use Rattle.ra_runtime.proofs.ShapeLemmas.{runs_shaped}
+use Rattle.ra_runtime.proofs.WordLemmas.{length_words, words_piece}
+
+module _ (set : SetContents) (no_script : set.script ≡ None) (table after : TableSeen) (over : IsOver set table) (bytes : List ℕ) (n : ℕ) (long : n ≡ 4 * (length table.cells + length table.priors))
+    (put_back : IsPutBack table after (words_at (take n (drop 29 bytes)) 0 (length table.cells)) (words_at (take n (drop 29 bytes)) (4 * length table.cells) (length table.priors)))
+  where
+    abbrev cells : List ℕ
+    cells = words_at (take n (drop 29 bytes)) 0 (length table.cells)
+
+    cells_many : length cells ≡ length (set_cells set)
+    cells_many = length_words (take n (drop 29 bytes)) 0 (length table.cells) ∙ over.cells_many
+
+    pub over_restored : IsOver set after
+    over_restored = record {
+      cells = ap cells_of put_back.pool.0 ∙ over.cells;
+      tracked = ap tracked_of put_back.pool.0 ∙ over.tracked;
+      cells_many = ap length put_back.cells_too ∙ cells_many;
+      priors_many = ap length put_back.priors_too ∙ length_words (take n (drop 29 bytes)) (4 * length table.cells) (length table.priors) ∙ over.priors_many;
+    }
+
+    pub marked_restored : after.marked ≡ replicate (length (set_cells set)) true
+    marked_restored = put_back.marked ∙ ap (λ m. replicate m true) cells_many
+
+    pub kept_restored : (runs news : List ItemRun) → AreItemRuns table.nodes set.items runs → map kept_run news ≡ said_items bytes (29 + 4 * (length table.cells + length table.priors)) (map run_shape runs) → (count : ℕ) → count ≡ frames_at bytes → opening_by count after news ≡ says (shape_of set) bytes
+    kept_restored runs news are kept count frames =
+        let numbers : after.cells ≡ words_at bytes 29 (length (set_cells set)) =
+        put_back.cells_too
+        ∙ words_piece bytes 29 n 0 29 (length table.cells) (omega arith) (omega arith)
+        ∙ ap (words_at bytes 29) over.cells_many
+        in
+        let priors : after.priors ≡ words_at bytes (29 + 4 * length (set_cells set)) (length (set_tracked set)) =
+        put_back.priors_too
+        ∙ words_piece bytes 29 n (4 * length table.cells) (29 + 4 * length (set_cells set)) (length table.priors) (omega arith) (omega (arith, over.cells_many))
+        ∙ ap (words_at bytes (29 + 4 * length (set_cells set))) over.priors_many
+        in
+        let place : 29 + 4 * (length table.cells + length table.priors) ≡ item_at (shape_of set) 0 = omega (arith, over.cells_many, over.priors_many) in
+        let items : map kept_run news ≡ said_items bytes (item_at (shape_of set) 0) (map item_shape set.items) =
+        kept ∙ (λ i. said_items bytes (place i) (runs_shaped table.nodes set.items runs are i))
+        in
+        let presence : None ≡ option_map (said_presence bytes (presence_at (shape_of set))) (option_map presence_shape set.script) =
+        ap (λ (s : Option ScriptContents). option_map (said_presence bytes (presence_at (shape_of set))) (option_map presence_shape s)) (sym no_script)
+        in
+        (λ i. record { frames = frames i; cells = numbers i; priors = priors i; items = items i; presence = presence i })

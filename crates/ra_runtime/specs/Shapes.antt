@@ -1,0 +1,40 @@
+-- How many numbers runs keep, and a table that is laid out for a set.
+use Rattle.std.specs.Prelude.{◌≡◌, ℕ, ◌+◌, ◌<◌, ◌≤◌, ◌^◌, List, length, map}
+use Rattle.ra_memref.specs.Table.{TableSeen, IsFresh}
+use Rattle.ra_set.specs.Contents.{SetContents}
+use Rattle.ra_progress.specs.declared.shape.ItemShape.{ItemShape}
+use Rattle.ra_progress.specs.declared.shape.ItemShape.TheVariants as shapes
+use Rattle.ra_runtime.specs.declared.board_run.BoardRun.{BoardRun}
+use Rattle.ra_runtime.specs.declared.item_run.ItemRun.{ItemRun}
+use Rattle.ra_runtime.specs.declared.item_run.ItemRun.TheVariants.{Achievement, Leaderboard}
+use Rattle.ra_runtime.specs.Order.{item_shape}
+use Rattle.ra_runtime.specs.Openings.{plain_item}
+use Rattle.ra_runtime.specs.BoardRuns.{optional_kept}
+use Rattle.ra_runtime.specs.ItemRuns.{kept_run}
+use Rattle.ra_runtime.specs.AllRuns.{AreItemRuns, IsOver}
+
+-- the shape of a board, by the numbers that its run keeps
+abbrev pub board_run_shape : BoardRun → ItemShape
+board_run_shape run =
+    let progress = optional_kept run.progress in
+    shapes.Leaderboard
+    (length run.start.trigger.hits + length run.cancel.trigger.hits + length run.submit.trigger.hits + length run.value.value.hits + length progress.hits)
+    (length run.value.value.numbers + length progress.numbers)
+
+-- the shape of an item, by the numbers that its run keeps
+abbrev pub run_shape : ItemRun → ItemShape
+run_shape (Achievement run) = shapes.Achievement (length run.trigger.hits)
+run_shape (Leaderboard run) = board_run_shape run
+
+-- an item of this shape is within the limits of a set
+abbrev pub IsSmall : ItemShape → Type 0
+IsSmall (shapes.Achievement hits) = hits ≤ 65536
+IsSmall (shapes.Leaderboard hits parts) = (hits ≤ 65536) × (parts ≤ 65536)
+
+-- a table without a frame over the trees of a set, and runs that wait
+pub record IsLaidOut (set : SetContents) (size : ℕ) (table : TableSeen) (runs : List ItemRun) : Type 0 where
+  pub fresh : IsFresh table.nodes size table
+  pub few : length table.nodes < 2 ^ 30
+  pub over : IsOver set table
+  pub runs_too : AreItemRuns table.nodes set.items runs
+  pub plain : map kept_run runs ≡ map plain_item (map item_shape set.items)

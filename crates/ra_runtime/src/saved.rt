@@ -1,0 +1,107 @@
+//! What the runs keep, as a progress file keeps it.
+
+ghost use Rattle.std.specs.Prelude.{◌≡◌, map, IfOk};
+ghost use Rattle.std.specs.Result.{OnOk};
+ghost use Rattle.ra_progress.specs.Contents.{kept_item, ItemFits, ItemsFit};
+ghost use Rattle.ra_runtime.specs.Boards.{kept_board};
+ghost use Rattle.ra_runtime.specs.BoardRuns as spec;
+ghost use Rattle.ra_runtime.specs.BoardRuns.{optional_kept};
+ghost use Rattle.ra_runtime.specs.ItemRuns.{kept_run};
+ghost use Rattle.ra_runtime.specs.Shapes.{board_run_shape, run_shape};
+ghost use Rattle.ra_runtime.specs.Saving.{PutsBehind};
+
+use crate::board_run::BoardRun;
+use crate::item_run::ItemRun;
+use crate::state_bytes::{byte_of_board, byte_of_state};
+use crate::value_run::ValueRun;
+use ra_progress::ItemKept;
+use ra_text::OutOfMemory;
+use std::alloc::Global;
+
+// What is kept of all items.
+pub(crate) fn kept_items(alloc: Global, runs: &[ItemRun]) -> Result<Vec<ItemKept>, OutOfMemory>
+    ensures same { IfOk result (λ kept. map kept_item kept.items ≡ map kept_run runs.now) }
+    ensures fit { IfOk result (λ kept. ItemsFit (map run_shape runs.now) (map kept_item kept.items)) }
+{
+    let mut kept = Vec::new(alloc);
+    for run in runs {
+        let item = item_kept(alloc, run)?;
+        kept.push(item)?;
+    }
+    Ok(kept)
+}
+
+// What is kept of an item.
+fn item_kept(alloc: Global, run: &ItemRun) -> Result<ItemKept, OutOfMemory>
+    ensures same { IfOk result (λ kept. kept_item kept ≡ kept_run run.now) }
+    ensures fits { IfOk result (λ kept. ItemFits (run_shape run.now) (kept_item kept)) }
+{
+    match run {
+        ItemRun::Achievement(run) => {
+            let mut hits = Vec::new(alloc);
+            put_numbers(&mut hits, run.trigger.hits())?;
+            Ok(ItemKept::Achievement {
+                state: byte_of_state(run.trigger.state()),
+                measured: run.trigger.measured(),
+                hits,
+            })
+        }
+        ItemRun::Leaderboard(run) => {
+            let kept = board_kept(alloc, run)?;
+            Ok(kept)
+        }
+    }
+}
+
+// What is kept of a board: the hits of its fields in a row, and then the numbers of its values.
+fn board_kept(alloc: Global, run: &BoardRun) -> Result<ItemKept, OutOfMemory>
+    ensures same { IfOk result (λ kept. kept_item kept ≡ kept_board (spec.board_kept run.now)) }
+    ensures fits { IfOk result (λ kept. ItemFits (board_run_shape run.now) (kept_item kept)) }
+{
+    let mut hits = Vec::new(alloc);
+    let mut kept = Vec::new(alloc);
+    put_numbers(&mut hits, run.start.trigger.hits())?;
+    put_numbers(&mut hits, run.cancel.trigger.hits())?;
+    put_numbers(&mut hits, run.submit.trigger.hits())?;
+    put_value(&mut hits, &mut kept, &run.value)?;
+    put_optional(&mut hits, &mut kept, &run.progress)?;
+    Ok(ItemKept::Leaderboard {
+        state: byte_of_board(run.board.state()),
+        hits,
+        kept,
+    })
+}
+
+// Puts what is kept of a value that may be missing behind other hits and numbers.
+fn put_optional(
+    hits: &mut Vec<u32>,
+    kept: &mut Vec<u32>,
+    run: &Option<ValueRun>,
+) -> Result<(), OutOfMemory>
+    ensures hits { OnOk result (PutsBehind hits.old.items hits.new.items (optional_kept run.now).hits) }
+    ensures kept { OnOk result (PutsBehind kept.old.items kept.new.items (optional_kept run.now).numbers) }
+{
+    match run {
+        Some(run) => put_value(hits, kept, run),
+        None => Ok(()),
+    }
+}
+
+// Puts what is kept of a value behind other hits and numbers.
+fn put_value(hits: &mut Vec<u32>, kept: &mut Vec<u32>, run: &ValueRun) -> Result<(), OutOfMemory>
+    ensures hits { OnOk result (PutsBehind hits.old.items hits.new.items run.now.value.hits) }
+    ensures kept { OnOk result (PutsBehind kept.old.items kept.new.items run.now.value.numbers) }
+{
+    put_numbers(hits, run.value.hits())?;
+    put_numbers(kept, run.value.kept())
+}
+
+// Puts numbers behind others.
+pub(crate) fn put_numbers(words: &mut Vec<u32>, numbers: &[u32]) -> Result<(), OutOfMemory>
+    ensures { OnOk result (PutsBehind words.old.items words.new.items numbers.now) }
+{
+    for number in numbers {
+        words.push(*number)?;
+    }
+    Ok(())
+}
