@@ -1,14 +1,12 @@
--- How a run ends, with its last line.
-use Rattle.std.proofs.Common.{◌≡◌, inl, inr, ap, sym, subst, ◌∙◌, ℕ, List, [], ◌++◌, take, append_assoc, Option, Result, Ok, Err}
+-- How a job ends, with its last line.
+use Rattle.std.proofs.Common.{◌∷◌, ◌≡◌, ◌⊎◌, inl, inr, ap, sym, subst, refl, ◌∙◌, ℕ, List, [], ◌++◌, take, append_assoc, Option}
 use Rattle.std.specs.List.{concat}
 use Rattle.ra_io.specs.Sink.{grown}
 use Rattle.ra_player.specs.Writing.{GrewByPart}
-use Rattle.ra_player.specs.Endings.{Ending, Done, NoJob, ReadFault, LaterSet, LaterTrace, status_of, last_line}
+use Rattle.ra_player.specs.Endings.{Ending, Done, NoMemory, NoJob, BadSet, ReadFault, SinkFault, BadProgress, BadTrace, LongTrace, SaveFault, status_of, last_line}
 use Rattle.ra_player.specs.Expected.{Expected, prints_nothing}
-use Rattle.ra_player.specs.Headline.{Decides, as_expected, read_failed, Ends, whole, sink_failed, no_memory, IsFront}
+use Rattle.ra_player.specs.Headline.{Decides, as_expected, save_failed, read_failed, Ends, whole, sink_failed, no_memory, IsFront}
 use Rattle.ra_player.specs.Closing.{Closes, Finishes, EndsBefore}
-use Rattle.ra_player.specs.declared.stop.Stop.{Stop}
-use Rattle.ra_player.specs.declared.stop.Stop.TheVariants as stop
 use Rattle.ra_player.proofs.Pieces.{grown-grown, grown-nil}
 
 -- The text grew, and the status and the growth are those of an ending.
@@ -17,9 +15,23 @@ pub record GrewToEnd (e : Expected) (reads puts sink : Type 0) (old new : Option
   pub grew : new ≡ grown old more
   pub ends : Ends e reads puts sink status more
 
+nothing : (front rest : List ℕ) → front ++ rest ≡ [] → front ≡ []
+nothing [] rest is = refl
+nothing (b ∷ front) rest is = absurd (cc)
+
+-- a front of nothing leaves the text
+part_of_none : (old new : Option (List ℕ)) → GrewByPart old new [] → new ≡ old
+part_of_none old new part = part.grew ∙ ap (grown old) (nothing part.front part.rest part.whole) ∙ grown-nil old
+
+-- where the last line is empty the text stays, and the status is the ending's own, or that of a fault
+pub closes_empty : (own : ℕ) (old new : Option (List ℕ)) (sink : Type 0) (status : ℕ) → Closes own [] old new sink status → (new ≡ old) × ((status ≡ own) ⊎ ((status ≡ 1) ⊎ ((status ≡ 5) × sink)))
+closes_empty own old new sink status (inl written) = (written.1 ∙ grown-nil old, inl written.0)
+closes_empty own old new sink status (inr (inl memory)) = (part_of_none old new memory.1, inr (inl memory.0))
+closes_empty own old new sink status (inr (inr fault)) = (part_of_none old new fault.2, inr (inr (fault.0, fault.1)))
+
 module _ (e : Expected) (reads puts sink : Type 0) (old mid new : Option (List ℕ)) (status : ℕ) where
   -- a last line that was written, or cut short
-  closes_to_end : (ending : Ending) (before : List ℕ) → Decides e reads puts ending (before ++ last_line ending) → mid ≡ grown old before → Closes (status_of ending) (last_line ending) mid new sink status → GrewToEnd e reads puts sink old new status
+  pub closes_to_end : (ending : Ending) (before : List ℕ) → Decides e reads puts ending (before ++ last_line ending) → mid ≡ grown old before → Closes (status_of ending) (last_line ending) mid new sink status → GrewToEnd e reads puts sink old new status
   closes_to_end ending before decides so_far (inl written) = record {
     more = before ++ last_line ending;
     grew = written.1 ∙ ap (λ o. grown o (last_line ending)) so_far ∙ grown-grown old before (last_line ending);
@@ -44,23 +56,40 @@ module _ (e : Expected) (reads puts sink : Type 0) (old mid new : Option (List �
   front_of_all : (part : GrewByPart old mid (concat e.pieces)) → IsFront part.front (concat e.pieces ++ last_line e.ending)
   front_of_all part = (part.rest ++ last_line e.ending, sym (append_assoc part.front part.rest (last_line e.ending)) ∙ ap (λ x. x ++ last_line e.ending) part.whole)
 
-  -- what a run that ended so has printed with its last line
-  pub ends_with_line : (r : Result (Unit {0}) Stop) → EndsBefore e reads sink r old mid → Finishes r mid new sink status → GrewToEnd e reads puts sink old new status
-  ends_with_line (Ok done) before finishes =
-      closes_to_end Done (concat e.pieces) (expected_as Done before.0) before.1 (inl (finishes.0, finishes.1 ∙ sym (grown-nil mid)))
-  ends_with_line (Err stop.Memory) before finishes = record {
-    more = before.front;
-    grew = finishes.1 ∙ before.grew;
-    ends = subst (λ (s : ℕ). Ends e reads puts sink s before.front) (sym finishes.0) (no_memory e.ending (concat e.pieces ++ last_line e.ending) as_expected (front_of_all before));
+  -- a text that was cut short before its last line
+  cut_short : GrewByPart old mid (concat e.pieces) → new ≡ mid → (status ≡ 1) ⊎ ((status ≡ 5) × sink) → GrewToEnd e reads puts sink old new status
+  cut_short part same (inl memory) = record {
+    more = part.front;
+    grew = same ∙ part.grew;
+    ends = subst (λ (s : ℕ). Ends e reads puts sink s part.front) (sym memory) (no_memory e.ending (concat e.pieces ++ last_line e.ending) as_expected (front_of_all part));
   }
-  ends_with_line (Err stop.Write) before finishes = record {
-    more = before.1.front;
-    grew = finishes.1 ∙ before.1.grew;
-    ends = subst (λ (s : ℕ). Ends e reads puts sink s before.1.front) (sym finishes.0) (sink_failed before.0 e.ending (concat e.pieces ++ last_line e.ending) as_expected (front_of_all before.1));
+  cut_short part same (inr fault) = record {
+    more = part.front;
+    grew = same ∙ part.grew;
+    ends = subst (λ (s : ℕ). Ends e reads puts sink s part.front) (sym fault.0) (sink_failed fault.1 e.ending (concat e.pieces ++ last_line e.ending) as_expected (front_of_all part));
   }
-  ends_with_line (Err stop.Set) before finishes = closes_to_end LaterSet (concat e.pieces) (expected_as LaterSet before.0) before.1 finishes
-  ends_with_line (Err stop.Trace) before finishes = closes_to_end LaterTrace (concat e.pieces) (expected_as LaterTrace before.0) before.1 finishes
-  ends_with_line (Err stop.Read) before finishes = closes_to_end ReadFault (concat (take before.1.0 e.pieces)) (read_failed before.0 before.1.0) before.1.1 finishes
+
+  cut_by_memory : GrewByPart old mid (concat e.pieces) → Finishes NoMemory mid new sink status → GrewToEnd e reads puts sink old new status
+  cut_by_memory part finishes = let closed = closes_empty 1 mid new sink status finishes in cut_short part closed.0 (elim closed.1 [ inl own ↦ inl own | inr other ↦ other ])
+
+  cut_by_fault : sink → GrewByPart old mid (concat e.pieces) → Finishes SinkFault mid new sink status → GrewToEnd e reads puts sink old new status
+  cut_by_fault rose part finishes = let closed = closes_empty 5 mid new sink status finishes in cut_short part closed.0 (elim closed.1 [ inl own ↦ inr (own, rose) | inr other ↦ other ])
+
+  as_told : (ending : Ending) → e.ending ≡ ending → mid ≡ grown old (concat e.pieces) → Finishes ending mid new sink status → GrewToEnd e reads puts sink old new status
+  as_told ending is text finishes = closes_to_end ending (concat e.pieces) (expected_as ending is) text finishes
+
+  -- what a job that ended so has printed with its last line
+  pub ends_with_line : (ending : Ending) → EndsBefore e reads puts sink ending old mid → Finishes ending mid new sink status → GrewToEnd e reads puts sink old new status
+  ends_with_line NoMemory before finishes = cut_by_memory before finishes
+  ends_with_line SinkFault before finishes = cut_by_fault before.0 before.1 finishes
+  ends_with_line ReadFault before finishes = closes_to_end ReadFault (concat (take before.1.0 e.pieces)) (read_failed before.0 before.1.0) before.1.1 finishes
+  ends_with_line SaveFault before finishes = closes_to_end SaveFault (concat e.pieces) (save_failed before.0 before.1) before.2 finishes
+  ends_with_line Done before finishes = as_told Done before.0 before.1 finishes
+  ends_with_line NoJob before finishes = as_told NoJob before.0 before.1 finishes
+  ends_with_line (BadSet why) before finishes = as_told (BadSet why) before.0 before.1 finishes
+  ends_with_line (BadProgress digest why) before finishes = as_told (BadProgress digest why) before.0 before.1 finishes
+  ends_with_line (BadTrace at why) before finishes = as_told (BadTrace at why) before.0 before.1 finishes
+  ends_with_line LongTrace before finishes = as_told LongTrace before.0 before.1 finishes
 
 -- words that are no job
 pub no_job_ends : (sink : Type 0) (old new : Option (List ℕ)) (status : ℕ) → Closes 2 (last_line NoJob) old new sink status → GrewToEnd (prints_nothing NoJob) ⊥ ⊥ sink old new status

@@ -24,9 +24,6 @@ pub data Ending : Type 0 where
   BadTrace : (at : ℕ) → Why → Ending
   LongTrace : Ending
   SaveFault : Ending
-  -- a set or a trace of a form that is not played yet: docs/DEFINITIONS.md, "What is played so far"
-  LaterSet : Ending
-  LaterTrace : Ending
 
 -- the status of each ending
 abbrev pub status_of : Ending → ℕ
@@ -40,8 +37,6 @@ status_of (BadProgress digest why) = 6
 status_of (BadTrace at why) = 7
 status_of LongTrace = 8
 status_of SaveFault = 9
-status_of LaterSet = 3
-status_of LaterTrace = 7
 
 -- bytes in lower-case hexadecimal
 abbrev pub hex_digit : ℕ → ℕ
@@ -108,8 +103,6 @@ last_line (BadProgress digest why) = codes "progress refused: " ++ progress_word
 last_line (BadTrace at why) = codes "trace refused at " ++ decimal at ++ codes ": " ++ trace_word why ++ 10 ∷ []
 last_line LongTrace = codes "trace too long\n"
 last_line SaveFault = codes "save fault\n"
-last_line LaterSet = codes "set refused: not in this stage\n"
-last_line LaterTrace = codes "trace refused: not in this stage\n"
 
 -- how a trace ends a run
 abbrev pub ending_of : Stop → Ending

@@ -15,6 +15,10 @@ use Rattle.ra_trace.specs.Workload.{made_set, made_trace}
 use Rattle.ra_runtime.specs.Order.{set_cells, set_tracked, shape_of}
 use Rattle.ra_runtime.specs.Openings.{snapshot, plain_opening}
 use Rattle.ra_runtime.specs.Play.{Moment, moved, printed, first_moment, behind_end}
+use Rattle.ra_progress.specs.declared.refused.ProgressRefused.{ProgressRefused}
+use Rattle.ra_set.specs.Accepted.{IsSet}
+use Rattle.ra_set.specs.Refusals.{Refuses}
+use Rattle.ra_player.specs.Words.{Job, Run, Check, Make}
 use Rattle.ra_player.specs.Endings.{Ending, Done, BadSet, BadProgress, ending_of, hex}
 
 -- what a job says where nothing fails
@@ -53,14 +57,18 @@ played set o behind bytes =
       saved = progress_bytes set.digest (snapshot set o (behind_end behind trace.size trace.entries));
     }
 
--- `Accepts` says that a file is a set, and `Refuses` why it is none.
--- What a run over these bytes of SET, TRACE and the FILE of `--restore` says.
-pub data RunSays (Accepts : List ℕ → SetContents → Type 0) (Refuses : List ℕ → SetRefused → Type 0) (set_file trace_file : List ℕ) : Option (List ℕ) → Expected → Type 0 where
-  refuses_set : {restore : Option (List ℕ)} (why : SetRefused) → Refuses (take (set_limit + 1) set_file) why → RunSays Accepts Refuses set_file trace_file restore (prints_nothing (BadSet why))
-  refuses_file : (set : SetContents) (file : List ℕ) → Accepts set_file set → (why : _) → refusal (shape_of set) (take (length_of (shape_of set) + 1) file) ≡ Some why → RunSays Accepts Refuses set_file trace_file (Some file) (prints_nothing (BadProgress set.digest why))
-  begins : (set : SetContents) → Accepts set_file set → RunSays Accepts Refuses set_file trace_file None (played set (plain_opening set) [] trace_file)
-  -- every opening and history that the file keeps
-  goes_on : (set : SetContents) (o : Opening) (behind : History) → Accepts set_file set → IsOpening (shape_of set) o → AreImages behind → RunSays Accepts Refuses set_file trace_file (Some (progress_bytes set.digest (snapshot set o behind))) (played set o behind trace_file)
+-- What a run of these files says, where their bytes are told: it begins with the plain opening, or goes on from a
+-- progress file, for every opening and history that the file keeps.
+pub data RunSays (content : List ℕ → Option (List ℕ)) (set trace : List ℕ) : Option (List ℕ) → Expected → Type 0 where
+  refuses_set : {restore : Option (List ℕ)} (file : List ℕ) (why : SetRefused) → content set ≡ Some file
+      → Refuses (take (set_limit + 1) file) why → RunSays content set trace restore (prints_nothing (BadSet why))
+  refuses_file : (name set_file file : List ℕ) (s : SetContents) (why : ProgressRefused) → content set ≡ Some set_file → content name ≡ Some file
+      → IsSet set_file s → refusal (shape_of s) (take (length_of (shape_of s) + 1) file) ≡ Some why → RunSays content set trace (Some name) (prints_nothing (BadProgress s.digest why))
+  begins : (set_file trace_file : List ℕ) (s : SetContents) → content set ≡ Some set_file → content trace ≡ Some trace_file
+      → IsSet set_file s → RunSays content set trace None (played s (plain_opening s) [] trace_file)
+  goes_on : (name set_file trace_file : List ℕ) (s : SetContents) (o : Opening) (behind : History) → content set ≡ Some set_file → content trace ≡ Some trace_file
+      → content name ≡ Some (progress_bytes s.digest (snapshot s o behind)) → IsSet set_file s → IsOpening (shape_of s) o → AreImages behind
+      → RunSays content set trace (Some name) (played s o behind trace_file)
 
 -- how many achievements a set has
 abbrev pub achievements_in : List ItemContents → ℕ
@@ -81,10 +89,10 @@ check_line set =
     ∷ codes "conditions" ∷ decimal (set_conditions set) ∷ codes "cells" ∷ decimal (length (set_cells set))
     ∷ codes "priors" ∷ decimal (length (set_tracked set)) ∷ codes "md5" ∷ hex set.digest ∷ []) ++ 10 ∷ []
 
--- What `check` over these bytes says.
-pub data CheckSays (Accepts : List ℕ → SetContents → Type 0) (Refuses : List ℕ → SetRefused → Type 0) (set_file : List ℕ) : Expected → Type 0 where
-  refuses_set : (why : SetRefused) → Refuses (take (set_limit + 1) set_file) why → CheckSays Accepts Refuses set_file (prints_nothing (BadSet why))
-  counts : (set : SetContents) → Accepts set_file set → CheckSays Accepts Refuses set_file (record { pieces = check_line set ∷ []; ending = Done; saved = [] })
+-- What `check` of this file says, where its bytes are told.
+pub data CheckSays (content : List ℕ → Option (List ℕ)) (set : List ℕ) : Expected → Type 0 where
+  refuses_set : (file : List ℕ) (why : SetRefused) → content set ≡ Some file → Refuses (take (set_limit + 1) file) why → CheckSays content set (prints_nothing (BadSet why))
+  counts : (file : List ℕ) (s : SetContents) → content set ≡ Some file → IsSet file s → CheckSays content set (record { pieces = check_line s ∷ []; ending = Done; saved = [] })
 
 -- the line of `make`: the lines of a text, those of unlocks, and its digest
 abbrev pub make_line : ℕ → List ℕ → List ℕ
@@ -94,5 +102,11 @@ make_line number text =
     ∷ codes "md5" ∷ hex (md5 text) ∷ []) ++ 10 ∷ []
 
 -- What `make` of a number says.
-pub data MakeSays (Accepts : List ℕ → SetContents → Type 0) (number : ℕ) : Expected → Type 0 where
-  made : (set : SetContents) → Accepts (made_set number) set → MakeSays Accepts number (record { pieces = make_line number (concat (played set (plain_opening set) [] (made_trace number)).pieces) ∷ []; ending = Done; saved = [] })
+pub data MakeSays (number : ℕ) : Expected → Type 0 where
+  made : (s : SetContents) → IsSet (made_set number) s → MakeSays number (record { pieces = make_line number (concat (played s (plain_opening s) [] (made_trace number)).pieces) ∷ []; ending = Done; saved = [] })
+
+-- what a job says over files whose bytes are told
+abbrev pub JobSays : (content : List ℕ → Option (List ℕ)) → Job → Expected → Type 0
+JobSays content (Run set trace restore save) e = RunSays content set trace restore e
+JobSays content (Check set) e = CheckSays content set e
+JobSays content (Make number) e = MakeSays number e

@@ -1,28 +1,37 @@
--- What a run over the bytes of a set and a trace printed, where it was played to its end.
-use Rattle.std.specs.Prelude.{◌≡◌, ℕ, true, false, Option, List, []}
-use Rattle.ra_io.specs.Sink.{grown}
-use Rattle.ra_set.specs.Contents.{SetContents}
-use Rattle.ra_trace.specs.Cutting.{no_slots, trace_within}
-use Rattle.ra_runtime.specs.Openings.{plain_opening}
-use Rattle.ra_runtime.specs.Play.{text_of}
-use Rattle.ra_player.specs.Expected.{trace_limit}
-use Rattle.ra_player.specs.Stage.{IsStageSet, is_stage_trace}
+-- What a job has done before its last line.
+use Rattle.std.specs.Prelude.{◌≡◌, ⊤, ℕ, Option, List, is_some, true}
+use Rattle.std.specs.List.{AllByRecursion}
+use Rattle.ra_player.specs.Words.{Job, reads_of, set_read}
+use Rattle.ra_player.specs.Endings.{Ending, NoMemory, NoJob, BadSet, ReadFault, SinkFault, SaveFault}
+use Rattle.ra_player.specs.Expected.{Expected, JobSays}
+use Rattle.ra_player.specs.Closing.{EndsBefore}
+use Rattle.ra_player.specs.declared.stop.Stop.{Stop}
+use Rattle.ra_player.specs.declared.stop.Stop.TheVariants as stop
 
--- the text that a set defines over a trace file, from the plain opening
-abbrev pub defined_text : SetContents → List ℕ → List ℕ
-defined_text set file =
-    let trace = trace_within trace_limit no_slots file in
-    text_of set (plain_opening set) [] trace.size trace.entries
+-- the ending is told by the files, and by no fault
+abbrev pub IsTold : Ending → Type 0
+IsTold NoMemory = ⊥
+IsTold NoJob = ⊥
+IsTold ReadFault = ⊥
+IsTold SinkFault = ⊥
+IsTold SaveFault = ⊥
+IsTold _ = Unit {0}
 
--- The files are a set and a trace that are played so far, and the text grew by what the set defines.
-pub record PrintsAll (set_file trace_file : List ℕ) (old new : Option (List ℕ)) : Type 0 where
-  pub set : SetContents
-  pub is_set : IsStageSet set_file set
-  pub is_trace : is_stage_trace trace_file ≡ true
-  pub text : new ≡ grown old (defined_text set trace_file)
+-- the files whose bytes decide an ending
+abbrev pub deciding : Ending → Job → List (List ℕ)
+deciding (BadSet why) job = set_read job
+deciding _ job = reads_of job
 
--- The first file is such a set, and the second is no such trace.
-pub record RefusesTraceOf (set_file trace_file : List ℕ) : Type 0 where
-  pub set : SetContents
-  pub is_set : IsStageSet set_file set
-  pub is_no_trace : is_stage_trace trace_file ≡ false
+-- A job ended so: what was printed is what it says, its ending is said by the told files, or a fault was counted.
+pub record Ran (content : List ℕ → Option (List ℕ)) (job : Job) (reads puts sink : Type 0) (ending : Ending) (old new : Option (List ℕ)) : Type 0 where
+  pub printed : (e : Expected) → JobSays content job e → EndsBefore e reads puts sink ending old new
+  pub said : IsTold ending → AllByRecursion (λ name. is_some (content name) ≡ true) (deciding ending job) → (e : Expected) × JobSays content job e × (e.ending ≡ ending)
+  pub read : ending ≡ ReadFault → reads
+  pub wrote : ending ≡ SinkFault → sink
+
+-- the stop is one of a set that is read
+abbrev pub IsOfSet : Stop → Type 0
+IsOfSet stop.Memory = ⊤
+IsOfSet (stop.Set why) = ⊤
+IsOfSet stop.Read = ⊤
+IsOfSet _ = ⊥

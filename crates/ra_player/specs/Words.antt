@@ -1,5 +1,5 @@
 -- The job of the words: docs/DEFINITIONS.md, "Jobs".
-use Rattle.std.specs.Prelude.{ℕ, ◌&&◌, Bool, false, not, ◌==◌, if◌then◌else◌, Option, None, Some, List, [], ◌∷◌, codes, bytes_eq}
+use Rattle.std.specs.Prelude.{ℕ, Bool, false, not, ◌==◌, Option, None, Some, List, [], ◌∷◌}
 
 -- what the words ask for: to play a trace, to count a set, or to make and play a workload
 pub data Job : Type 0 where
@@ -12,12 +12,6 @@ abbrev pub is_name : List ℕ → Bool
 is_name [] = false
 is_name (c ∷ cs) = not (c == 45)
 
--- so far the only job is `run` with a set and a trace
-abbrev pub job_of : List (List ℕ) → Option Job
-job_of (word ∷ set ∷ trace ∷ []) =
-    if bytes_eq word (codes "run") && (is_name set && is_name trace) then Some (Run set trace None None) else None
-job_of _ = None
-
 -- the file of an option that may be missing
 abbrev pub file_in : Option (List ℕ) → List (List ℕ)
 file_in None = []
@@ -28,6 +22,12 @@ abbrev pub reads_of : Job → List (List ℕ)
 reads_of (Run set trace restore save) = set ∷ trace ∷ file_in restore
 reads_of (Check set) = set ∷ []
 reads_of (Make number) = []
+
+-- the file of the set that a job reads
+abbrev pub set_read : Job → List (List ℕ)
+set_read (Run set trace restore save) = set ∷ []
+set_read (Check set) = set ∷ []
+set_read (Make number) = []
 
 -- the file that a job puts
 abbrev pub puts_of : Job → List (List ℕ)

@@ -1,15 +1,21 @@
 //! The last line of a run, and its status.
 
-ghost use Rattle.std.specs.Prelude.{◌≡◌, ◌≤◌};
+ghost use Rattle.std.specs.Prelude.{◌≡◌, ◌≤◌, ◌++◌, IfOk, OnOk, string_bytes};
 ghost use Rattle.ra_io.specs.Causes.{Rose};
-ghost use Rattle.ra_player.specs.Closing.{Closes, Finishes};
+ghost use Rattle.ra_player.specs.Closing.{Closes, Finishes, ending_at, ending_of_stop};
+ghost use Rattle.ra_player.specs.Endings.{last_line, set_words, status_of, trace_word, word_of_limit, most_of};
 
 use crate::stop::Stop;
 use crate::writing::write_all;
 use ra_io::Sink;
+use ra_set::{SetRefused, Which};
+use ra_text::OutOfMemory;
+use ra_trace::Why;
+use std::alloc::Global;
+use std::fmt::Write;
 
 /// Writes a last line, and answers its status, or that of a line that is not written.
-pub fn last_line<K: Sink>(status: u8, line: &str, out: &mut K) -> u8
+pub fn put_last<K: Sink>(status: u8, line: &str, out: &mut K) -> u8
     ensures closes { Closes status line.now (K.text out.old) (K.text out.new) (Rose (K.faults out.old) (K.faults out.new)) result }
     ensures later { K.faults out.old ≤ K.faults out.new }
 {
@@ -20,17 +26,111 @@ pub fn last_line<K: Sink>(status: u8, line: &str, out: &mut K) -> u8
     }
 }
 
+// The word of a limit.
+fn limit_word(which: Which) -> &'static str
+    ensures { result.now ≡ word_of_limit which }
+{
+    match which {
+        Which::Bytes => "bytes",
+        Which::Items => "items",
+        Which::Conditions => "conditions",
+        Which::Macros => "macros",
+        Which::Lookup => "lookup",
+    }
+}
+
+// The most that a limit allows.
+fn limit_most(which: Which) -> u32
+    ensures { result ≡ most_of which }
+{
+    match which {
+        Which::Bytes => 4_194_304,
+        Which::Items => 16_384,
+        Which::Conditions => 65_536,
+        Which::Macros => 256,
+        Which::Lookup => 1_024,
+    }
+}
+
+// The word of a refusal of a trace.
+fn why_word(why: Why) -> &'static str
+    ensures { result.now ≡ trace_word why }
+{
+    match why {
+        Why::Header => "header",
+        Why::Kind => "kind",
+        Why::Cut => "cut",
+        Why::PastMemory => "memory",
+        Why::Slot => "slot",
+        Why::EmptySlot => "empty",
+    }
+}
+
+// Appends why a set is refused.
+fn push_refusal(line: &mut String, refused: SetRefused) -> Result<(), OutOfMemory>
+    ensures { OnOk result (string_bytes line.new ≡ string_bytes line.old ++ set_words refused) }
+{
+    match refused {
+        SetRefused::Syntax { at } => write!(line, "syntax at {at}")?,
+        SetRefused::DuplicateId { id, line: number } => {
+            write!(line, "id {id} again on line {number}")?
+        }
+        SetRefused::Limit { which, found } => {
+            let word = limit_word(which);
+            let most = limit_most(which);
+            write!(line, "{word} {found} over {most}")?
+        }
+        SetRefused::Memory => (),
+    }
+    Ok(())
+}
+
+// The last line of a run that was stopped.
+fn line_of_stop(alloc: Global, stop: Stop) -> Result<String, OutOfMemory>
+    ensures { IfOk result (λ line. string_bytes line ≡ last_line (ending_of_stop stop)) }
+{
+    let mut line = String::new(alloc);
+    match stop {
+        Stop::Memory | Stop::Write => (),
+        Stop::Read => line.push_str("read fault\n")?,
+        Stop::TooLong => line.push_str("trace too long\n")?,
+        Stop::Trace { at, why } => {
+            let word = why_word(why);
+            writeln!(line, "trace refused at {at}: {word}")?
+        }
+        Stop::Set(refused) => {
+            line.push_str("set refused: ")?;
+            push_refusal(&mut line, refused)?;
+            line.push_str("\n")?
+        }
+    }
+    Ok(line)
+}
+
+// The status of a run that was stopped.
+fn status_of_stop(stop: Stop) -> u8
+    ensures { result ≡ status_of (ending_of_stop stop) }
+{
+    match stop {
+        Stop::Memory => 1,
+        Stop::Set(_) => 3,
+        Stop::Read => 4,
+        Stop::Write => 5,
+        Stop::Trace { .. } => 7,
+        Stop::TooLong => 8,
+    }
+}
+
 /// Writes the last line of a run that ended so, and answers the status.
-pub fn finish<K: Sink>(ending: Result<(), Stop>, out: &mut K) -> u8
-    ensures finishes { Finishes ending (K.text out.old) (K.text out.new) (Rose (K.faults out.old) (K.faults out.new)) result }
+pub fn finish<K: Sink>(alloc: Global, ending: Result<(), Stop>, out: &mut K) -> u8
+    ensures finishes { Finishes (ending_at ending) (K.text out.old) (K.text out.new) (Rose (K.faults out.old) (K.faults out.new)) result }
     ensures later { K.faults out.old ≤ K.faults out.new }
 {
-    match ending {
-        Ok(()) => 0,
-        Err(Stop::Memory) => 1,
-        Err(Stop::Set) => last_line(3, "set refused: not in this stage\n", out),
-        Err(Stop::Read) => last_line(4, "read fault\n", out),
-        Err(Stop::Write) => 5,
-        Err(Stop::Trace) => last_line(7, "trace refused: not in this stage\n", out),
+    let Err(stop) = ending else {
+        return 0;
+    };
+    match line_of_stop(alloc, stop) {
+        Ok(line) => put_last(status_of_stop(stop), line.as_str(), out),
+        Err(_) => 1,
     }
 }

@@ -1,28 +1,35 @@
-//! The job that the words name.
+//! The jobs that are done so far.
 
-ghost use Rattle.std.specs.Prelude.{◌≡◌, None, map, option_map, string_bytes};
-ghost use Rattle.ra_player.specs.Words.{Run, is_name, job_of};
+ghost use Rattle.std.specs.Prelude.{◌≡◌, map, option_map, string_bytes, IfOk};
+ghost use Rattle.ra_player.specs.Doing.{job_of, done_as};
 
-// Whether a word names a file.
-fn is_name(word: &str) -> bool
-    ensures { result ≡ is_name word.now }
-{
-    match word.as_bytes() {
-        [] => false,
-        [first, ..] => *first != b'-',
-    }
+use crate::job_words::{Job, read_job};
+use ra_text::OutOfMemory;
+use std::alloc::Global;
+
+/// A job that is done so far.
+#[derive(Clone, Copy, Debug, PartialEq, Eq)]
+pub enum Doing<'a> {
+    /// To play a trace against a set.
+    Run { set: &'a str, trace: &'a str },
+    /// To count what a set has.
+    Check { set: &'a str },
 }
 
-/// The set and the trace that the words name, where they are a job.
-pub fn job(words: &[String]) -> Option<(&str, &str)>
-    ensures { option_map (λ j. Run j.0.now j.1.now None None) result ≡ job_of (map string_bytes words.now) }
+/// The job that the words ask for, where it is done so far: a run without options, or a check.
+pub fn job<'a>(alloc: Global, words: &'a [String]) -> Result<Option<Doing<'a>>, OutOfMemory>
+    ensures { IfOk result (λ job. option_map done_as job ≡ job_of (map string_bytes words.now)) }
 {
-    let [word, set, trace] = words else {
-        return None;
-    };
-    if word.as_str() == "run" && is_name(set.as_str()) && is_name(trace.as_str()) {
-        Some((set.as_str(), trace.as_str()))
-    } else {
-        None
+    match read_job(alloc, words)? {
+        Some(
+            Job::Run {
+                set,
+                trace,
+                restore: None,
+                save: None,
+            },
+        ) => Ok(Some(Doing::Run { set, trace })),
+        Some(Job::Check { set }) => Ok(Some(Doing::Check { set })),
+        _ => Ok(None),
     }
 }

@@ -1,23 +1,18 @@
 //! The player: plays a trace against a set, and prints what happens.
 #![tactic(auto)]
 
-mod achievement;
+mod check_line;
 mod closing;
 mod job;
-mod layout;
-mod lines;
+mod job_words;
 mod play;
+mod player;
 mod playing;
 mod reading;
 mod run;
-mod session;
-mod set_file;
-mod set_line;
-mod simple;
 mod stop;
 #[cfg(test)]
 mod tests;
-mod trace;
 mod writing;
 
 use play::play;

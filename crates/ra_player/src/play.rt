@@ -5,9 +5,9 @@ ghost use Rattle.ra_io.specs.Files.{SameContent};
 ghost use Rattle.ra_player.specs.Headline.{outside_of};
 ghost use Rattle.ra_player.specs.Statuses.{Answers};
 
-use crate::closing::{finish, last_line};
-use crate::job::job;
-use crate::run::run_job;
+use crate::closing::{finish, put_last};
+use crate::job::{Doing, job};
+use crate::run::{check_job, run_job};
 use ra_io::{Files, Sink};
 use std::alloc::Global;
 
@@ -25,9 +25,19 @@ pub fn play<F: Files, K: Sink>(alloc: Global, words: &[String], files: &mut F, o
         result }
     ensures content { SameContent (F.content files.old) (F.content files.new) }
 {
-    let Some((set, trace)) = job(words) else {
-        return last_line(2, USAGE, out);
+    let job = match job(alloc, words) {
+        Ok(Some(job)) => job,
+        Ok(None) => return put_last(2, USAGE, out),
+        Err(_) => return 1,
     };
-    let ending = run_job(alloc, set, trace, files, out);
-    finish(ending, out)
+    match job {
+        Doing::Run { set, trace } => {
+            let ending = run_job(alloc, set, trace, files, out);
+            finish(alloc, ending, out)
+        }
+        Doing::Check { set } => {
+            let ending = check_job(alloc, set, files, out);
+            finish(alloc, ending, out)
+        }
+    }
 }

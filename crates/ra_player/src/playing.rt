@@ -1,103 +1,90 @@
 //! The records of a trace, played one after the other.
 
-ghost use Rattle.std.specs.Prelude.{◌≡◌, ◌⊎◌, ◌≤◌, true, length, OnOk, IfErr};
-ghost use Rattle.std.specs.List.{concat};
-ghost use Rattle.ra_io.specs.Causes.{Rose};
+ghost use Rattle.std.specs.Prelude.{◌≡◌, ◌⊎◌, ◌≤◌, ◌<◌, ⊤, ℕ, List, Some, true, length, IfOk, IfErr, OnErr};
+ghost use Rattle.ra_io.specs.Causes.{Rose, NoneFell};
+ghost use Rattle.ra_io.specs.Files.{SameContent};
 ghost use Rattle.ra_io.specs.Sink.{grown};
 ghost use Rattle.ra_set.specs.Contents.{SetContents};
-ghost use Rattle.ra_trace.specs.Entries.{entry_of};
+ghost use Rattle.ra_progress.specs.Contents.{Opening};
 ghost use Rattle.ra_trace.specs.Cutting.{Pieces};
-ghost use Rattle.ra_runtime.specs.Openings.{plain_opening};
-ghost use Rattle.ra_runtime.specs.Play.{Moment, moved, printed};
-ghost use Rattle.ra_player.specs.Expected.{pieces_from};
-ghost use Rattle.ra_player.specs.Records.{FitsIn, Left, plays_entry, plays_pieces};
-ghost use Rattle.ra_player.specs.Session.{IsSound, StandsAt, lines_of};
-ghost use Rattle.ra_player.specs.Playing.{PlaysOn};
-ghost use Rattle.ra_player.specs.Writing.{GrewByPart};
+ghost use Rattle.ra_runtime.specs.Play.{Moment};
+ghost use Rattle.ra_player.specs.Closing.{EndsBefore, ending_at, ending_of_stop};
+ghost use Rattle.ra_player.specs.Endings.{ReadFault, SinkFault};
+ghost use Rattle.ra_player.specs.Playing.{StandsAt, IsLeft, IsOfTrace, TakesNext, says_from, slots_of};
 
-use crate::session::Session;
+use crate::player::{Player, Unplayed};
 use crate::stop::Stop;
-use crate::trace::read_record;
 use crate::writing::write_all;
-use ra_io::Sink;
-use ra_trace::Record;
+use ra_io::{Files, Sink};
+use ra_trace::{Reader, Record, Why};
 use std::alloc::Global;
 
-// Writes the lines of the last frame.
-fn write_lines<K: Sink>(alloc: Global, session: &Session, out: &mut K) -> Result<(), Stop>
-    ensures ok { OnOk result (K.text out.new ≡ grown (K.text out.old) (lines_of session.now.id session.now.last)) }
-    ensures part { GrewByPart (K.text out.old) (K.text out.new) (lines_of session.now.id session.now.last) }
-    ensures later { K.faults out.old ≤ K.faults out.new }
-    ensures stop { IfErr result (λ e. (e ≡ Stop.Memory) ⊎ ((e ≡ Stop.Write) × Rose (K.faults out.old) (K.faults out.new))) }
-{
-    match session.lines(alloc) {
-        Ok(text) => write_all(text.as_bytes(), out),
-        Err(_) => Err(Stop::Memory),
-    }
-}
-
-// Plays a write or a frame, and writes what comes of it.
-fn play_record<K: Sink>(
+// Reads and plays the next record, and writes what it prints. Answers whether it is the end record.
+fn play_next<F: Files, K: Sink>(
     alloc: Global,
-    entry: &Record<'_>,
-    session: &mut Session,
+    reader: &mut Reader,
+    player: &mut Player,
+    files: &mut F,
     out: &mut K,
-) -> Result<(), Stop>
-    requires sound { IsSound session.old }
-    requires played { plays_entry (entry_of entry.now) ≡ true }
-    requires fits { FitsIn (length session.old.image.items) (entry_of entry.now) }
+) -> Result<bool, Stop>
+    requires { reader.old.size ≡ Some (length player.old.runtime.image) }
 
-    // What was played and printed.
-    ensures ok { OnOk result ((set : SetContents) (m : Moment) → StandsAt set m session.old
-        → PlaysOn set (entry_of entry.now) m session.new (K.text out.old) (K.text out.new)) }
-    ensures part { (set : SetContents) (m : Moment) → StandsAt set m session.old
-        → GrewByPart (K.text out.old) (K.text out.new) (printed set (plain_opening set) (entry_of entry.now) (moved (entry_of entry.now) m)) }
+    // What was played and printed, where the bytes of the trace are told.
+    ensures next { (bytes : List ℕ) (set : SetContents) (o : Opening) (m : Moment) (left : Pieces) → F.content files.old reader.old.name ≡ Some bytes
+        → StandsAt set o m player.old.runtime (slots_of player.old.slots.items) → IsLeft bytes m reader.old left
+        → TakesNext bytes set o m left reader.new player.new.runtime (slots_of player.new.slots.items) (K.text out.old) (K.text out.new) result }
 
     // What stays, and why it stops.
-    ensures sound { IsSound session.new }
-    ensures size { length session.new.image.items ≡ length session.old.image.items }
+    ensures size { IfOk result (λ end. reader.new.size ≡ Some (length player.new.runtime.image)) }
+    ensures name { reader.new.name ≡ reader.old.name }
+    ensures further { IfOk result (λ end. (reader.old.next < reader.new.next) × (reader.new.next ≤ reader.new.limit) × (reader.new.limit ≡ reader.old.limit)) }
+    ensures read { IfErr result (λ stop. stop ≡ Stop.Read → Rose (F.read_faults files.old reader.old.name) (F.read_faults files.new reader.old.name)) }
+    ensures write { IfErr result (λ stop. stop ≡ Stop.Write → Rose (K.faults out.old) (K.faults out.new)) }
+    ensures kinds { IfErr result IsOfTrace }
+    ensures same { SameContent (F.content files.old) (F.content files.new) }
+    ensures reads { NoneFell (F.read_faults files.old) (F.read_faults files.new) }
+    ensures puts { NoneFell (F.put_faults files.old) (F.put_faults files.new) }
     ensures later { K.faults out.old ≤ K.faults out.new }
-    ensures stop { IfErr result (λ e. (e ≡ Stop.Memory) ⊎ ((e ≡ Stop.Write) × Rose (K.faults out.old) (K.faults out.new))) }
 {
-    match entry {
-        Record::Write { at, bytes } => {
-            session.write(*at, bytes);
-            Ok(())
+    let record = reader.next_record(files)?;
+    let end = matches!(record, Record::End);
+    match player.play(alloc, &record) {
+        Ok(text) => {
+            write_all(text.as_slice(), out)?;
+            Ok(end)
         }
-        Record::Frame => {
-            session.frame();
-            write_lines(alloc, session, out)
-        }
-        _ => Ok(()),
+        Err(Unplayed::EmptySlot) => Err(Stop::Trace {
+            at: reader.place(),
+            why: Why::EmptySlot,
+        }),
+        Err(Unplayed::Memory) => Err(Stop::Memory),
     }
 }
 
-/// Plays the records behind a header, and writes what comes of each before the next.
-pub fn play_records<K: Sink>(
+/// Plays the records up to the end record, and writes what each prints before the next is read.
+pub fn play_records<F: Files, K: Sink>(
     alloc: Global,
-    size: u32,
-    records: &[u8],
-    session: &mut Session,
+    reader: &mut Reader,
+    player: &mut Player,
+    files: &mut F,
     out: &mut K,
 ) -> Result<(), Stop>
-    requires sound { IsSound session.old }
-    requires size { length session.old.image.items ≡ size }
-    ensures ok { (set : SetContents) (m : Moment) (pieces : Pieces) → StandsAt set m session.old → Left size records.now pieces → plays_pieces pieces ≡ true
-        → OnOk result (K.text out.new ≡ grown (K.text out.old) (concat (pieces_from set (plain_opening set) m pieces.entries))) }
-    ensures part { (set : SetContents) (m : Moment) (pieces : Pieces) → StandsAt set m session.old → Left size records.now pieces → plays_pieces pieces ≡ true
-        → GrewByPart (K.text out.old) (K.text out.new) (concat (pieces_from set (plain_opening set) m pieces.entries)) }
+    requires { reader.old.size ≡ Some (length player.old.runtime.image) }
+
+    // What was printed, where the bytes of the trace are told.
+    ensures printed { (bytes : List ℕ) (set : SetContents) (o : Opening) (m : Moment) (left : Pieces) → F.content files.old reader.old.name ≡ Some bytes
+        → StandsAt set o m player.old.runtime (slots_of player.old.slots.items) → IsLeft bytes m reader.old left
+        → EndsBefore (says_from bytes set o m left) ⊤ ⊤ ⊤ (ending_at result) (K.text out.old) (K.text out.new) }
+
+    // Why it stops, and what stays.
+    ensures read { IfErr result (λ stop. stop ≡ Stop.Read → Rose (F.read_faults files.old reader.old.name) (F.read_faults files.new reader.old.name)) }
+    ensures write { IfErr result (λ stop. stop ≡ Stop.Write → Rose (K.faults out.old) (K.faults out.new)) }
+    ensures kinds { IfErr result IsOfTrace }
+    ensures same { SameContent (F.content files.old) (F.content files.new) }
+    ensures reads { NoneFell (F.read_faults files.old) (F.read_faults files.new) }
+    ensures puts { NoneFell (F.put_faults files.old) (F.put_faults files.new) }
     ensures later { K.faults out.old ≤ K.faults out.new }
-    ensures stop { IfErr result (λ e. (e ≡ Stop.Memory) ⊎ ((e ≡ Stop.Write) × Rose (K.faults out.old) (K.faults out.new))) }
 {
-    let mut rest = records;
-    while let Some((entry, behind)) = read_record(size, rest) {
-        if let Record::End = entry {
-            return Ok(());
-        }
-        match play_record(alloc, &entry, session, out) {
-            Ok(()) => rest = behind,
-            Err(stop) => return Err(stop),
-        }
-    }
+    while !play_next(alloc, reader, player, files, out)? {}
     Ok(())
 }

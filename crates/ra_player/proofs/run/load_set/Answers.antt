@@ -1,19 +1,22 @@
-use Rattle.std.proofs.Common.{◌≡◌, ◌∙◌, take}
-use Rattle.ra_condition.specs.Contents.{trigger_contents}
-use Rattle.ra_player.proofs.SetLineLemmas.{if_err, if_ok}
-use Rattle.ra_player.proofs.RunLemmas.{told, stage_set_read, no_stage_set_read}
+use Rattle.std.proofs.Common.{◌∙◌, inl}
+use Rattle.ra_player.proofs.NextLemmas.{told}
+use Rattle.ra_player.proofs.RunLemmas.{set_read, set_read_of, stop_by_set, is_digest}
 use Rattle.ra_player.proofs.run.load_set.Goals as goal
 
 pub returns-in-Ok-clause-set : goal.returns-in-Ok-clause-set
-returns-in-Ok-clause-set g c =
-    if_ok c.parse_set.result _ _
-    (λ a set file is_told. stage_set_read c.as_slice.result.now file a.id (trigger_contents a.text)
-    (c.as_slice.ensures.value ∙ told (g.F.Files.content c.args.files.now c.args.name.now) (λ all. c.in-Ok.bytes.items ≡ take 4194305 all) file is_told c.in-Ok.ensures.ok) set)
-    c.parse_set.ensures.set
+returns-in-Ok-clause-set g c = λ file is_told. set_read c.as_slice.result.now file _ (c.as_slice.ensures.value ∙ told _ _ file is_told c.in_ok-bytes.ensures.ok) c.in-Ok.ensures.ok
 
-pub returns-in-Ok-clause-refused : goal.returns-in-Ok-clause-refused
-returns-in-Ok-clause-refused g c =
-    if_err c.parse_set.result _ _
-    (λ e none refused file is_told. no_stage_set_read c.as_slice.result.now file
-    (c.as_slice.ensures.value ∙ told (g.F.Files.content c.args.files.now c.args.name.now) (λ all. c.in-Ok.bytes.items ≡ take 4194305 all) file is_told c.in-Ok.ensures.ok) (none refused))
-    c.parse_set.ensures.refused
+pub returns-in-Ok-clause-playable : goal.returns-in-Ok-clause-playable
+returns-in-Ok-clause-playable g c = record {
+  limits = c.in-Ok.ensures.ok.limits;
+  spelled = c.in-Ok.ensures.structure;
+  no_script = c.in-Ok.ensures.ok.spelled.script;
+  digest = is_digest _ c.as_slice.result.now c.in-Ok.ensures.ok.digest;
+}
+
+pub returns-in-Ok-clause-accepted : goal.returns-in-Ok-clause-accepted
+returns-in-Ok-clause-accepted g c = λ file s is_told is. c.in-Ok.ensures.accepted s (set_read_of c.as_slice.result.now file s (c.as_slice.ensures.value ∙ told _ _ file is_told c.in_ok-bytes.ensures.ok) is)
+
+pub returns-clause-accepted : goal.returns-clause-accepted
+returns-clause-accepted g c = λ file s is_told is.
+    inl (c.from.ensures ∙ stop_by_set c.in-Err.refused (c.in-Err.ensures.accepted s (set_read_of c.as_slice.result.now file s (c.as_slice.ensures.value ∙ told _ _ file is_told c.in_ok-bytes.ensures.ok) is)))
