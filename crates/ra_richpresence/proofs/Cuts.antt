@@ -1,11 +1,11 @@
 -- What is left of lines, and texts that are made of lines.
-use Rattle.std.proofs.Common.{◌≡◌, ◌∙◌, ℕ, ◌==◌, ◌&&◌, Bool, true, false, not, if◌then◌else◌, List, [], ◌∷◌, ◌++◌, map, refl, sym, ap, subst, append_assoc}
-use Rattle.std.specs.List.{list_any, filter, flat_map, AllByRecursion}
+use Rattle.std.proofs.Common.{◌≡◌, ◌∙◌, ℕ, ◌==◌, ◌&&◌, Bool, true, false, not, if◌then◌else◌, List, [], ◌∷◌, ◌++◌, map, refl, sym, ap, append_assoc}
+use Rattle.std.specs.List.{filter, flat_map, AllByRecursion}
 use Rattle.std.specs.Str.{bytes_eq}
 use Rattle.std.proofs.lemmas.List.{map-append}
 use Rattle.std.proofs.lemmas.List.Elements.{filter-append}
 use Rattle.std.proofs.lemmas.Slice.Eq.{bytes_eq-Decides}
-use Rattle.ra_richpresence.specs.Cut.{begun, lines_of, is_end, content_of, contents_of, begins_comment, uncommented, is_blank, is_nothing, before_trimmed, trimmed, left_of, kept_of, left_lines, has_no_feed, is_left}
+use Rattle.ra_richpresence.specs.Cut.{begun, lines_of, is_end, content_of, contents_of, begins_comment, uncommented, is_blank, is_nothing, before_trimmed, trimmed, left_of, kept_of, has_no_feed, is_left}
 use Rattle.ra_text.specs.Reading.{begins}
 
 -- ---- nothing more is cut from what is left

@@ -1,5 +1,5 @@
 -- What is read of a line whole, and of the form that the line has to have.
-use Rattle.std.proofs.Common.{◌≡◌, ◌∙◌, inl, inr, ◌==◌, if◌then◌else◌, codes, eqb-true, subst₂, ℕ, zero, suc, ◌≤◌, ◌<◌, Bool, true, false, List, [], ◌∷◌, ◌++◌, length, Option, Some, None, option_map, Ok, Err, refl, sym, ap, subst, arith, append_assoc, append-nil, length-append, le_refl}
+use Rattle.std.proofs.Common.{◌≡◌, ◌∙◌, inl, inr, ◌==◌, if◌then◌else◌, codes, eqb-true, subst₂, ℕ, zero, suc, ◌≤◌, ◌<◌, Bool, true, false, List, [], ◌∷◌, ◌++◌, length, Option, Some, None, option_map, Ok, Err, refl, sym, ap, subst, arith, append_assoc, append-nil, le_refl}
 use Rattle.ra_richpresence.specs.Grammar.{many, to_line_end}
 use Rattle.ra_richpresence.specs.Reading.{all_at, whole, behind}
 use Rattle.ra_text.specs.Form.{Form, Spell, Then, Viable, optional}

@@ -1,21 +1,20 @@
 -- The first lines of scripts, and the first bad line of a text.
-use Rattle.std.proofs.Common.{◌≡◌, ◌∙◌, ◌<◌, ◌≤◌, ◌+◌, ◌-◌, ℕ, zero, suc, Bool, true, false, not, if◌then◌else◌, List, [], ◌∷◌, ◌++◌, length, map, take, drop, Some, Ok, Err, inl, inr, refl, sym, ap, subst, arith, append_assoc, append-nil, length-append, length-drop, take-append-drop, eqb-true, ◌==◌, take_all, le_refl}
+use Rattle.std.proofs.Common.{◌≡◌, ◌∙◌, ◌<◌, ◌+◌, ◌-◌, ℕ, zero, suc, Bool, true, false, not, if◌then◌else◌, List, [], ◌∷◌, ◌++◌, length, map, take, drop, Ok, inl, inr, refl, sym, ap, subst, arith, append-nil, length-append, length-drop, take-append-drop, eqb-true, ◌==◌, take_all, le_refl}
 use Rattle.std.specs.List.{flat_map, AllByRecursion}
-use Rattle.std.proofs.lemmas.List.{length-map, map-append, nil_from_length}
-use Rattle.ra_richpresence.specs.Contents.{LineContents, ScriptContents}
+use Rattle.std.proofs.lemmas.List.{length-map, map-append}
+use Rattle.ra_richpresence.specs.Contents.{ScriptContents}
 use Rattle.ra_richpresence.specs.Cut.{lines_of, begun, content_of, contents_of, is_nothing, left_of, kept_of, left_lines, has_no_feed, is_left}
-use Rattle.ra_richpresence.specs.Grammar.{LineOf, many, lookup_head, format_head, format_type, entry, display_head, tested_line, last_line, SectionContents, section, display, script_lines, script}
+use Rattle.ra_richpresence.specs.Grammar.{LineOf, many, lookup_head, format_head, format_type, entry, display_head, tested_line, last_line, section, display, ScriptParts, script_of, script_lines, script_parts, script}
 use Rattle.ra_richpresence.specs.Placed.{placed, first_place}
-use Rattle.ra_richpresence.specs.Places.{IsFront, IsFirstBad, IsOutside, line_start}
+use Rattle.ra_richpresence.specs.Places.{IsFront, IsFirstBad, IsOutside}
 use Rattle.ra_richpresence.specs.Reading.{script_at}
-use Rattle.ra_richpresence.proofs.Cuts.{contents-no_feed, contents-text, text_of, kept-append, kept-left, kept-is_left, is-left, Left}
+use Rattle.ra_richpresence.proofs.Cuts.{contents-no_feed, contents-text, text_of, kept-append, kept-left, is-left}
 use Rattle.ra_richpresence.proofs.Exact.{reads-whole}
 use Rattle.ra_richpresence.proofs.ScriptReaders.{reads-script}
 use Rattle.ra_text.specs.Form.{Form, Viable}
 use Rattle.ra_text.specs.Reading.{Outcome, Reads, rest_of}
 use Rattle.ra_text.proofs.Choice.{same-front}
 use Rattle.ra_text.proofs.Places.{whole-spelled}
-use Rattle.ra_text.proofs.Steps.{viable-whole}
 
 -- ---- the lines of a script may be left so
 
@@ -86,8 +85,8 @@ take-clear (suc n) (line ∷ t) a = (a.0, take-clear n t a.1)
 pub front-viable : (lines : List (List ℕ)) → IsFront lines → Viable script_lines (kept_of lines)
 front-viable lines f = record {
   more = kept_of f.more;
-  v = f.v;
-  whole = subst (λ t. script_lines t f.v) (ap kept_of f.begins ∙ kept-append lines f.more) f.whole;
+  v = f.whole.parts;
+  whole = subst (λ t. script_lines t f.whole.parts) (ap kept_of f.begins ∙ kept-append lines f.more) f.whole.spelled;
 }
 
 -- and the other way
@@ -97,8 +96,12 @@ viable-front lines clear viable =
     let contents : contents_of (text_of (lines ++ viable.more)) ≡ lines ++ viable.more = contents-text (lines ++ viable.more) (clear-append lines viable.more clear (left-clear viable.more left)) in
     record {
       text = text_of (lines ++ viable.more);
-      v = viable.v;
-      whole = subst (λ t. script_lines t viable.v) (sym (ap kept_of contents ∙ kept-append lines viable.more ∙ ap (λ t. kept_of lines ++ t) (kept-left viable.more left))) viable.whole;
+      v = script_of viable.v;
+      whole = record {
+        parts = viable.v;
+        spelled = subst (λ t. script_lines t viable.v) (sym (ap kept_of contents ∙ kept-append lines viable.more ∙ ap (λ t. kept_of lines ++ t) (kept-left viable.more left))) viable.whole;
+        made = refl;
+      };
       more = viable.more;
       begins = contents;
     }
@@ -189,7 +192,7 @@ abbrev pub lines_in : List ℕ → List (ℕ × List ℕ)
 lines_in text = placed 0 (lines_of text)
 
 -- how many of them a reading took
-abbrev pub taken_of : List ℕ → Outcome (List ℕ) ScriptContents → ℕ
+abbrev pub taken_of : List ℕ → Outcome (List ℕ) ScriptParts → ℕ
 taken_of text outcome = length (lines_in text) - length (rest_of outcome)
 
 -- of two lists that are one, cut where as much is left, both parts are one
@@ -206,16 +209,16 @@ cut-rest lines front rest e =
     (sym e ∙ ap (map (λ line. line.1)) (sym (take-append-drop (length lines - length rest) lines)) ∙ map-append (λ line. line.1) (take (length lines - length rest) lines) (drop (length lines - length rest) lines)
     ∙ ap (λ t. t ++ map (λ line. line.1) (drop (length lines - length rest) lines)) (sym (cut-front lines front rest e)))
 
-module _ (text : List ℕ) (outcome : Outcome (List ℕ) ScriptContents) (is : script_at (left_lines text) ≡ outcome) where
+module _ (text : List ℕ) (outcome : Outcome (List ℕ) ScriptParts) (is : script_at (left_lines text) ≡ outcome) where
   reading : Reads script_lines (left_lines text) outcome
   reading = subst (λ o. Reads script_lines (left_lines text) o) is (reads-script (left_lines text))
 
   all-lines : map (λ line. line.1) (lines_in text) ≡ reading.front ++ rest_of outcome
   all-lines = placed-kept 0 (lines_of text) ∙ reading.parts
 
-  -- a text whose lines are all read is a script
-  pub whole-script : (v : ScriptContents) → outcome ≡ Ok (v, []) → script text v
-  whole-script v e = whole-spelled v (subst (λ o. Reads script_lines (left_lines text) o) e reading)
+  -- a text whose lines are all read spells the parts that were read
+  pub whole-parts : (v : ScriptParts) → outcome ≡ Ok (v, []) → script_parts text v
+  whole-parts v e = whole-spelled v (subst (λ o. Reads script_lines (left_lines text) o) e reading)
 
   -- the lines of the text are those that were read, and those that are left
   front-read : reading.front ≡ map (λ line. line.1) (take (taken_of text outcome) (lines_in text))
@@ -224,8 +227,8 @@ module _ (text : List ℕ) (outcome : Outcome (List ℕ) ScriptContents) (is : s
   rest-read : rest_of outcome ≡ map (λ line. line.1) (drop (taken_of text outcome) (lines_in text))
   rest-read = cut-rest (lines_in text) reading.front (rest_of outcome) all-lines
 
-  no-script : ((v : ScriptContents) → outcome ≡ Ok (v, []) → ⊥) → (v : ScriptContents) → script text v → ⊥
-  no-script not_whole v h = not_whole v (reads-whole reading v h)
+  no-script : ((v : ScriptParts) → outcome ≡ Ok (v, []) → ⊥) → (v : ScriptContents) → script text v → ⊥
+  no-script not_whole v h = not_whole h.parts (reads-whole reading h.parts h.spelled)
 
   -- all lines were read
   bad-end : (place : ℕ) → place ≡ length text → drop (taken_of text outcome) (lines_in text) ≡ [] → IsFirstBad text place
@@ -260,5 +263,5 @@ module _ (text : List ℕ) (outcome : Outcome (List ℕ) ScriptContents) (is : s
   first-bad place [] e at = bad-end place at e
   first-bad place (line ∷ behind) e at = bad-line place line.1 behind (e ∙ ap (λ n. (n, line.1) ∷ behind) (sym at))
 
-  pub outside-script : ((v : ScriptContents) → outcome ≡ Ok (v, []) → ⊥) → (place : ℕ) → place ≡ first_place (drop (taken_of text outcome) (lines_in text)) (length text) → IsOutside text place
+  pub outside-script : ((v : ScriptParts) → outcome ≡ Ok (v, []) → ⊥) → (place : ℕ) → place ≡ first_place (drop (taken_of text outcome) (lines_in text)) (length text) → IsOutside text place
   outside-script not_whole place at = record { first_bad = first-bad place (drop (taken_of text outcome) (lines_in text)) refl at; outside = no-script not_whole }

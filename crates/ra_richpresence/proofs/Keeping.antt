@@ -1,11 +1,13 @@
 -- The sections that are kept, and the set of their names.
-use Rattle.std.proofs.Common.{◌≡◌, ◌∙◌, ℕ, Bool, true, false, not, ◌||◌, if◌then◌else◌, List, [], ◌∷◌, ◌++◌, map, Vec, Global, Ordering, Less, Equal, Greater, refl, sym, ap, subst, append-nil}
+use Rattle.std.proofs.Common.{◌≡◌, ◌∙◌, ℕ, Bool, true, false, ◌||◌, if◌then◌else◌, List, [], ◌∷◌, ◌++◌, length, map, Option, None, Some, Vec, Global, Ordering, Less, Equal, Greater, refl, sym, ap, subst, subst₂, append-nil}
 use Rattle.std.specs.BTreeMap.{is_at}
 use Rattle.std.specs.BTreeSet.{BTreeSet, insert_key, contains}
 use Rattle.std.specs.Cmp.Lexicographic.{slice_cmp}
-use Rattle.std.specs.List.{list_any, filter_map}
-use Rattle.std.specs.Ordering.{nat_cmp, match_ordering, is_eq}
+use Rattle.std.specs.List.{list_any, filter_map, flat_map}
+use Rattle.std.specs.Option.{option_or}
+use Rattle.std.specs.Ordering.{nat_cmp, match_ordering}
 use Rattle.std.specs.Str.{bytes_eq}
+use Rattle.std.proofs.lemmas.Grind.{flat_map-append}
 use Rattle.std.proofs.lemmas.List.{map-append}
 use Rattle.std.proofs.lemmas.List.Elements.{filter_map-append}
 use Rattle.std.proofs.lemmas.List.Folds.{list_any-append}
@@ -13,10 +15,16 @@ use Rattle.std.proofs.lemmas.Map.Lookups.{exact_bytes}
 use Rattle.std.proofs.lemmas.Map.Text.{is_eq-slice_cmp}
 use Rattle.std.proofs.lemmas.Slice.Eq.{bytes_eq-Decides}
 use Rattle.ra_richpresence.specs.Contents.{lookup_contents}
-use Rattle.ra_richpresence.specs.Grammar.{SectionContents, Looks, Formats, name_of, is_taken, first_named, lookup_in, format_in}
+use Rattle.ra_richpresence.specs.Grammar.{EntryContents, SectionContents, Looks, Formats, name_of, is_taken, first_named, lookup_in, format_in}
 use Rattle.ra_richpresence.specs.Kept.{Keeps}
 use Rattle.ra_richpresence.specs.declared.kept.Kept.{Kept}
+use Rattle.ra_richpresence.specs.Sections.{IsLookupOf, IsSectionOf, section_name}
+use Rattle.ra_richpresence.specs.declared.section.Section.{Section}
+use Rattle.ra_richpresence.specs.declared.section.Section.TheVariants as section
+use Rattle.ra_richpresence.specs.Texts.{first_over, texts_of, texts_kept}
 use Rattle.ra_richpresence.specs.declared.lookup.Lookup.{Lookup}
+use Rattle.ra_richpresence.specs.declared.read_lookup.ReadLookup.{ReadLookup}
+use Rattle.ra_richpresence.proofs.LongTexts.{long-append}
 use Rattle.ra_value_format.specs.declared.format.Format.{Format}
 
 -- ---- names in order
@@ -97,7 +105,7 @@ names-more sections s name = ap (λ names. is_taken names name) (map-append name
   last false true = refl
   last false false = refl
 
-module _ (sections : List SectionContents) (s : SectionContents) (old : Kept) (keeps : Keeps sections old) (key : Vec ℕ Global) (named : key.items ≡ name_of s) where
+module _ (most : ℕ) (sections : List SectionContents) (s : SectionContents) (old : Kept) (keeps : Keeps most sections old) (key : Vec ℕ Global) (named : key.items ≡ name_of s) where
   -- the set tells whether the name is taken
   taken-by_set : contains name_cmp old.names key ≡ is_taken (map name_of sections) (name_of s)
   taken-by_set = contains-has old.names.keys key ∙ keeps.names key.items ∙ ap (is_taken (map name_of sections)) named
@@ -121,31 +129,74 @@ module _ (sections : List SectionContents) (s : SectionContents) (old : Kept) (k
       known true is = taken-same (map name_of sections) name (name_of s) is (sym taken-by_set ∙ taken)
       known false is = refl
 
-    pub keeps-taken : Keeps (sections ++ s ∷ []) (record { names = names; lookups = old.lookups; formats = old.formats })
-    keeps-taken = record { lookups = keeps.lookups ∙ ap (filter_map lookup_in) (sym taken-first); formats = keeps.formats ∙ ap (filter_map format_in) (sym taken-first); names = taken-names }
+    pub keeps-taken : Keeps most (sections ++ s ∷ []) (record { most = old.most; long = old.long; names = names; lookups = old.lookups; formats = old.formats })
+    keeps-taken = record {
+      lookups = keeps.lookups ∙ ap (filter_map lookup_in) (sym taken-first);
+      formats = keeps.formats ∙ ap (filter_map format_in) (sym taken-first);
+      limit = keeps.limit;
+      long = keeps.long ∙ ap (λ ss. first_over most (map length (flat_map texts_of ss))) (sym taken-first);
+      names = taken-names;
+    }
 
-pub keeps-lookup : (sections : List SectionContents) (old : Kept) (lookup : Lookup) → Keeps sections old → (key : Vec ℕ Global) → key.items ≡ lookup.name.items → (names : BTreeSet (Vec ℕ Global)) → contains name_cmp old.names key ≡ false → names.keys ≡ insert_key name_cmp old.names.keys key
-    → (lookups : Vec Lookup Global) → lookups.items ≡ old.lookups.items ++ lookup ∷ [] → Keeps (sections ++ Looks (lookup_contents lookup) ∷ []) (record { names = names; lookups = lookups; formats = old.formats })
-keeps-lookup sections old lookup keeps key named names fresh inserted lookups pushed =
-    let first : first_named [] (sections ++ Looks (lookup_contents lookup) ∷ []) ≡ first_named [] sections ++ Looks (lookup_contents lookup) ∷ [] = fresh-first sections (Looks (lookup_contents lookup)) old keeps key named names fresh inserted in
+-- the texts with those of one section more
+texts-more : (most : ℕ) (kept all : List SectionContents) (s : SectionContents) (long : Option ℕ) → all ≡ kept ++ s ∷ [] → long ≡ first_over most (map length (texts_of s)) → option_or (first_over most (map length (flat_map texts_of kept))) long ≡ first_over most (map length (flat_map texts_of all))
+texts-more most kept all s long parts is =
+    ap (option_or (first_over most (map length (flat_map texts_of kept)))) (is ∙ ap (λ ts. first_over most (map length ts)) (sym (append-nil (texts_of s))))
+    ∙ sym (ap (λ ss. first_over most (map length (flat_map texts_of ss))) parts ∙ ap (λ ts. first_over most (map length ts)) (flat_map-append texts_of kept (s ∷ [])) ∙ long-append most (flat_map texts_of kept) (flat_map texts_of (s ∷ [])))
+
+or-none : (long : Option ℕ) → option_or long None ≡ long
+or-none None = refl
+or-none (Some n) = refl
+
+keeps-lookup : (most : ℕ) (sections : List SectionContents) (old : Kept) (name : List ℕ) (entries : List EntryContents) (found : ReadLookup) → Keeps most sections old → IsLookupOf most name entries found → (key : Vec ℕ Global) → key.items ≡ found.lookup.name.items → (names : BTreeSet (Vec ℕ Global)) → contains name_cmp old.names key ≡ false → names.keys ≡ insert_key name_cmp old.names.keys key
+    → (lookups : Vec Lookup Global) → lookups.items ≡ old.lookups.items ++ found.lookup ∷ [] → Keeps most (sections ++ Looks name entries ∷ []) (record { most = old.most; long = option_or old.long found.long; names = names; lookups = lookups; formats = old.formats })
+keeps-lookup most sections old name entries found keeps is key named names fresh inserted lookups pushed =
+    let of_name : key.items ≡ name = named ∙ ap (λ l. l.name) is.lookup in
+    let first : first_named [] (sections ++ Looks name entries ∷ []) ≡ first_named [] sections ++ Looks name entries ∷ [] = fresh-first most sections (Looks name entries) old keeps key of_name names fresh inserted in
     record {
-      lookups = ap (map lookup_contents) pushed ∙ map-append lookup_contents old.lookups.items (lookup ∷ []) ∙ ap (λ ls. ls ++ lookup_contents lookup ∷ []) keeps.lookups
-          ∙ sym (ap (filter_map lookup_in) first ∙ filter_map-append lookup_in (first_named [] sections) (Looks (lookup_contents lookup) ∷ []));
-      formats = keeps.formats ∙ sym (ap (filter_map format_in) first ∙ filter_map-append format_in (first_named [] sections) (Looks (lookup_contents lookup) ∷ []) ∙ append-nil (filter_map format_in (first_named [] sections)));
-      names = fresh-names sections (Looks (lookup_contents lookup)) old keeps key named names fresh inserted;
+      lookups = ap (map lookup_contents) pushed ∙ map-append lookup_contents old.lookups.items (found.lookup ∷ []) ∙ ap (λ ls. ls ++ lookup_contents found.lookup ∷ []) keeps.lookups
+          ∙ ap (λ l. filter_map lookup_in (first_named [] sections) ++ l ∷ []) is.lookup
+          ∙ sym (ap (filter_map lookup_in) first ∙ filter_map-append lookup_in (first_named [] sections) (Looks name entries ∷ []));
+      formats = keeps.formats ∙ sym (ap (filter_map format_in) first ∙ filter_map-append format_in (first_named [] sections) (Looks name entries ∷ []) ∙ append-nil (filter_map format_in (first_named [] sections)));
+      limit = keeps.limit;
+      long = ap (λ n. option_or n found.long) keeps.long ∙ texts-more most (first_named [] sections) (first_named [] (sections ++ Looks name entries ∷ [])) (Looks name entries) found.long first is.long;
+      names = fresh-names most sections (Looks name entries) old keeps key of_name names fresh inserted;
     }
 
 -- a format as its name and itself
 abbrev pub format_pair : Vec ℕ Global × Format → List ℕ × Format
 format_pair f = (f.0.items, f.1)
 
-pub keeps-format : (sections : List SectionContents) (old : Kept) (name : Vec ℕ Global) (format : Format) → Keeps sections old → (key : Vec ℕ Global) → key.items ≡ name.items → (names : BTreeSet (Vec ℕ Global)) → contains name_cmp old.names key ≡ false → names.keys ≡ insert_key name_cmp old.names.keys key
-    → (formats : Vec (Vec ℕ Global × Format) Global) → formats.items ≡ old.formats.items ++ (name, format) ∷ [] → Keeps (sections ++ Formats name.items format ∷ []) (record { names = names; lookups = old.lookups; formats = formats })
-keeps-format sections old name format keeps key named names fresh inserted formats pushed =
-    let first : first_named [] (sections ++ Formats name.items format ∷ []) ≡ first_named [] sections ++ Formats name.items format ∷ [] = fresh-first sections (Formats name.items format) old keeps key named names fresh inserted in
+keeps-format : (most : ℕ) (sections : List SectionContents) (old : Kept) (name : Vec ℕ Global) (format : Format) → Keeps most sections old → (key : Vec ℕ Global) → key.items ≡ name.items → (names : BTreeSet (Vec ℕ Global)) → contains name_cmp old.names key ≡ false → names.keys ≡ insert_key name_cmp old.names.keys key
+    → (formats : Vec (Vec ℕ Global × Format) Global) → formats.items ≡ old.formats.items ++ (name, format) ∷ [] → Keeps most (sections ++ Formats name.items format ∷ []) (record { most = old.most; long = old.long; names = names; lookups = old.lookups; formats = formats })
+keeps-format most sections old name format keeps key named names fresh inserted formats pushed =
+    let first : first_named [] (sections ++ Formats name.items format ∷ []) ≡ first_named [] sections ++ Formats name.items format ∷ [] = fresh-first most sections (Formats name.items format) old keeps key named names fresh inserted in
     record {
       lookups = keeps.lookups ∙ sym (ap (filter_map lookup_in) first ∙ filter_map-append lookup_in (first_named [] sections) (Formats name.items format ∷ []) ∙ append-nil (filter_map lookup_in (first_named [] sections)));
       formats = ap (map format_pair) pushed ∙ map-append format_pair old.formats.items ((name, format) ∷ []) ∙ ap (λ fs. fs ++ (name.items, format) ∷ []) keeps.formats
           ∙ sym (ap (filter_map format_in) first ∙ filter_map-append format_in (first_named [] sections) (Formats name.items format ∷ []));
-      names = fresh-names sections (Formats name.items format) old keeps key named names fresh inserted;
+      limit = keeps.limit;
+      long = keeps.long ∙ sym (or-none (first_over most (map length (texts_kept sections)))) ∙ texts-more most (first_named [] sections) (first_named [] (sections ++ Formats name.items format ∷ [])) (Formats name.items format) None first refl;
+      names = fresh-names most sections (Formats name.items format) old keeps key named names fresh inserted;
     }
+
+-- the name of a section is that of what it stands for
+pub name-of_section : (most : ℕ) (s : SectionContents) (found : Section) → IsSectionOf most s found → section_name found ≡ name_of s
+name-of_section most (Looks name entries) (section.Lookup found) is = ap (λ l. l.name) is.lookup
+name-of_section most (Formats name format) (section.Format other found) is = is.0
+name-of_section most (Looks name entries) (section.Format other found) is = absurd is
+name-of_section most (Formats name format) (section.Lookup found) is = absurd is
+
+-- a lookup is kept whose name is new
+pub keeps-section_lookup : (most : ℕ) (sections : List SectionContents) (old : Kept) (s : SectionContents) (found : ReadLookup) → Keeps most sections old → IsSectionOf most s (section.Lookup found) → (key : Vec ℕ Global) → key.items ≡ found.lookup.name.items → (names : BTreeSet (Vec ℕ Global)) → contains name_cmp old.names key ≡ false
+    → names.keys ≡ insert_key name_cmp old.names.keys key → (lookups : Vec Lookup Global) → lookups.items ≡ old.lookups.items ++ found.lookup ∷ [] → (long : Option ℕ) → long ≡ option_or old.long found.long → Keeps most (sections ++ s ∷ []) (record { most = old.most; long = long; names = names; lookups = lookups; formats = old.formats })
+keeps-section_lookup most sections old (Looks name entries) found keeps is key named names fresh inserted lookups pushed long longer =
+    subst (λ n. Keeps most (sections ++ Looks name entries ∷ []) (record { most = old.most; long = n; names = names; lookups = lookups; formats = old.formats })) (sym longer) (keeps-lookup most sections old name entries found keeps is key named names fresh inserted lookups pushed)
+keeps-section_lookup most sections old (Formats name format) found keeps is key named names fresh inserted lookups pushed long longer = absurd is
+
+-- a format is kept whose name is new
+pub keeps-section_format : (most : ℕ) (sections : List SectionContents) (old : Kept) (s : SectionContents) (name : Vec ℕ Global) (format : Format) → Keeps most sections old → IsSectionOf most s (section.Format name format) → (key : Vec ℕ Global) → key.items ≡ name.items → (names : BTreeSet (Vec ℕ Global)) → contains name_cmp old.names key ≡ false
+    → names.keys ≡ insert_key name_cmp old.names.keys key → (formats : Vec (Vec ℕ Global × Format) Global) → formats.items ≡ old.formats.items ++ (name, format) ∷ [] → Keeps most (sections ++ s ∷ []) (record { most = old.most; long = old.long; names = names; lookups = old.lookups; formats = formats })
+keeps-section_format most sections old (Formats other found) name format keeps is key named names fresh inserted formats pushed =
+    subst₂ (λ n f. Keeps most (sections ++ Formats n f ∷ []) (record { most = old.most; long = old.long; names = names; lookups = old.lookups; formats = formats })) is.0 is.1 (keeps-format most sections old name format keeps key named names fresh inserted formats pushed)
+keeps-section_format most sections old (Looks other entries) name format keeps is key named names fresh inserted formats pushed = absurd is

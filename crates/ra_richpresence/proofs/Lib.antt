@@ -2,9 +2,12 @@ pub mod Cuts
 pub mod Exact
 pub mod Fronts
 pub mod Keeping
+pub mod Lengths
 pub mod LineForms
+pub mod LongTexts
 pub mod Parts
 pub mod Repeats
+pub mod ScriptForms
 pub mod ScriptReaders
 pub mod ShownLemmas
 pub mod Splits

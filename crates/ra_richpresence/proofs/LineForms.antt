@@ -1,22 +1,21 @@
 -- Each form of a line, and how it is told from the others by its first byte.
-use Rattle.std.proofs.Common.{◌≡◌, ◌∙◌, ◌⊎◌, inl, inr, ℕ, Bool, true, false, if◌then◌else◌, List, [], ◌∷◌, ◌++◌, Option, Some, None, option_map, Ok, Err, refl, sym, ap, subst, codes}
+use Rattle.std.proofs.Common.{◌≡◌, ◌∙◌, inl, inr, ℕ, Bool, true, false, if◌then◌else◌, List, [], ◌∷◌, Option, Some, None, option_map, Ok, refl, sym, ap, subst, codes}
 use Rattle.ra_condition.specs.Grammar.{trigger}
 use Rattle.ra_richpresence.specs.Contents.{LineContents}
 use Rattle.ra_richpresence.specs.Cut.{is_left}
 use Rattle.ra_richpresence.specs.Grammar.{name, lookup_head, lookup_text, EntryContents, Keyed, Other, keys, keyed_entry, other_entry, entry, format_head, format_type, display_head, test, tested_line, untested_line, last_line, pieces, LineOf, many}
-use Rattle.ra_richpresence.specs.Reading.{name_byte, name_at, whole, behind, keys_at, test_at, lookup_text_of, pieces_of, lookup_head_of, format_head_of, format_type_of, display_head_of, keyed_entry_of, other_entry_of, entry_of, tested_line_of, untested_with, last_line_of, left_only, run_at, HeadContents, OpensLookup, OpensFormat, head_or, section_head_of}
-use Rattle.ra_richpresence.proofs.Exact.{Exact, Closed, closed-reader, exact-whole, exact-behind, exact-map, exact-same}
+use Rattle.ra_richpresence.specs.Reading.{name_byte, name_at, whole, keys_at, test_at, lookup_text_of, pieces_of, lookup_head_of, format_head_of, format_type_of, display_head_of, keyed_entry_of, other_entry_of, entry_of, tested_line_of, untested_with, last_line_of, left_only, run_at, HeadContents, OpensLookup, OpensFormat, head_or, section_head_of}
+use Rattle.ra_richpresence.proofs.Exact.{Exact, Closed, closed-reader, exact-whole, exact-behind, exact-map}
 use Rattle.ra_richpresence.proofs.Parts.{reader-name, closed-keys, begins-keys, closed-test, one_byte}
-use Rattle.ra_richpresence.proofs.Repeats.{Headed, reader-many}
+use Rattle.ra_richpresence.proofs.Repeats.{reader-many}
 use Rattle.ra_richpresence.proofs.Texts.{exact-lookup_text, exact-pieces}
 use Rattle.ra_text.specs.Form.{Form, Spell, One, Literal, Then, ◌or◌}
-use Rattle.ra_text.specs.Reading.{Reads, literal_at, one_at, begins}
+use Rattle.ra_text.specs.Reading.{literal_at, one_at, begins}
 use Rattle.ra_text.specs.Table.{is_in, only, marks}
 use Rattle.ra_text.proofs.Begins.{Begins, IsListed, begins-then, begins-or, begins-wider}
 use Rattle.ra_text.proofs.Either.{reader-literal, begins-literal}
 use Rattle.ra_text.proofs.Readers.{Reader, Listed, reader-one, reader-same, reader-spell, reads-of}
-use Rattle.ra_text.proofs.Tables.{In, in_apart, in_within, begins-byte, not_in-in, is_in-in, passes}
-use Rattle.ra_value_format.specs.declared.format.Format.{Format}
+use Rattle.ra_text.proofs.Tables.{In, in_apart, in_within, begins-byte, is_in-in}
 use Rattle.ra_value_format.specs.Formats.{format_of_name}
 
 -- ---- what the lines spell

@@ -1,5 +1,5 @@
 -- The readers of repeated forms, of which each item begins with a symbol of a table.
-use Rattle.std.proofs.Common.{◌≡◌, ◌∙◌, Bool, true, List, [], ◌∷◌, ◌++◌, length, Option, Some, Ok, refl, sym, ap, subst}
+use Rattle.std.proofs.Common.{◌≡◌, ◌∙◌, true, List, [], ◌∷◌, ◌++◌, length, Option, Some, Ok, refl, sym, ap}
 use Rattle.ra_richpresence.specs.Grammar.{many}
 use Rattle.ra_richpresence.specs.Reading.{run_at}
 use Rattle.ra_text.specs.Chain.{Chain}

@@ -1,21 +1,21 @@
 -- The readers of sections, of the display and of a script, line by line.
-use Rattle.std.proofs.Common.{◌≡◌, ◌∙◌, ◌⊎◌, ◌≤◌, inl, inr, Bool, true, ℕ, List, [], ◌∷◌, ◌++◌, length, Option, Some, Ok, refl, sym, ap, subst, codes}
-use Rattle.ra_richpresence.specs.Contents.{LineContents, ScriptContents}
+use Rattle.std.proofs.Common.{◌≡◌, ◌∙◌, ◌⊎◌, ◌≤◌, inl, inr, true, ℕ, List, [], ◌∷◌, ◌++◌, length, Ok, refl, ap, codes}
+use Rattle.ra_richpresence.specs.Contents.{LineContents}
 use Rattle.ra_richpresence.specs.Cut.{is_left}
-use Rattle.ra_richpresence.specs.Grammar.{LineOf, many, lookup_head, format_head, format_type, entry, display_head, tested_line, last_line, SectionContents, Looks, Formats, lookup_with, lookup_section, format_section, section, display, script_with, script_lines}
-use Rattle.ra_richpresence.specs.Reading.{HeadContents, OpensLookup, OpensFormat, entries_at, entry_of, format_type_of, section_head_of, section_behind_at, sections_at, display_head_of, tested_line_of, tested_lines_at, last_line_of, display_at, script_at, left_only, name_at, format_head_of, pieces_of, run_at}
+use Rattle.ra_richpresence.specs.Grammar.{LineOf, many, format_type, entry, display_head, tested_line, last_line, SectionContents, Looks, Formats, section, display, ScriptParts, script_lines}
+use Rattle.ra_richpresence.specs.Reading.{HeadContents, OpensLookup, OpensFormat, entries_at, entry_of, format_type_of, section_head_of, section_behind_at, sections_at, display_head_of, tested_line_of, tested_lines_at, last_line_of, display_at, script_at, left_only, name_at, pieces_of, run_at}
 use Rattle.ra_richpresence.proofs.LineForms.{exact-entry, exact-format_type, exact-display_head, exact-tested_line, exact-last_line, section_head, left-head-reads, left-head-spells, head-apart-entry, head-apart-display, entry-apart-display, tested-apart-last, reader-line, reader-lines, begins-line}
 use Rattle.ra_richpresence.proofs.Repeats.{Headed, reader-many}
-use Rattle.ra_text.specs.Form.{Form, Spell, One, Then, ◌or◌}
-use Rattle.ra_text.specs.Reading.{Outcome, Reads, rest_of, ◌>>=◌, one_at}
+use Rattle.ra_text.specs.Form.{Form, Spell, Then}
+use Rattle.ra_text.specs.Reading.{Reads, rest_of, ◌>>=◌, one_at}
 use Rattle.ra_text.proofs.Begins.{Begins, IsListed, begins-then, reader-behind}
 use Rattle.ra_text.proofs.Either.{reader-map}
-use Rattle.ra_text.proofs.Readers.{Reader, Listed, reader-then, reader-wider, reads-of}
+use Rattle.ra_text.proofs.Readers.{Reader, Listed, reader-then, reads-of}
 use Rattle.ra_text.proofs.Steps.{reads-shorter}
 
 -- what stands behind the first line of a section
 abbrev pub section_behind : HeadContents → Form (List ℕ) SectionContents
-section_behind (OpensLookup lookup_name) = Then (many (LineOf entry)) (λ entries. Spell (Looks (lookup_with lookup_name entries)))
+section_behind (OpensLookup lookup_name) = Then (many (LineOf entry)) (λ entries. Spell (Looks lookup_name entries))
 section_behind (OpensFormat format_name) = Then (LineOf format_type) (λ format. Spell (Formats format_name format))
 
 head-section : (t : List (List ℕ)) (v : SectionContents) → section t v → Headed (left_only section_head_of) section_behind t v
@@ -52,7 +52,7 @@ format_type-listed = record { symbol = codes "FormatType=A"; v = _; listed = ref
 
 reader-section_behind : (tag : HeadContents) → Reader (section_behind tag) (section_behind_at tag) (IsListed (left_only entry_of))
 unfolding section_behind_at entries_at
-reader-section_behind (OpensLookup n) = reader-map (many (LineOf entry)) (run_at (left_only entry_of)) (IsListed (left_only entry_of)) (λ entries. Looks (lookup_with n entries)) (reader-lines entry entry_of exact-entry)
+reader-section_behind (OpensLookup n) = reader-map (many (LineOf entry)) (run_at (left_only entry_of)) (IsListed (left_only entry_of)) (λ entries. Looks n entries) (reader-lines entry entry_of exact-entry)
 reader-section_behind (OpensFormat n) = reader-map (LineOf format_type) (one_at (left_only format_type_of)) (IsListed (left_only entry_of)) (λ format. Formats n format) (reader-line format_type format_type_of exact-format_type (IsListed (left_only entry_of)) format_type-listed)
 
 pub reader-sections : Reader (many section) sections_at section_on
@@ -99,15 +99,15 @@ section-apart-display line (inl head) h = head-apart-display line head h
 section-apart-display line (inr found) h = entry-apart-display line found h
 
 -- the sections behind a display
-abbrev last_sections : List SectionContents → List LineContents → Form (List ℕ) ScriptContents
-last_sections before lines = Then (many section) (λ behind. Spell (script_with (before ++ behind) lines))
+abbrev last_sections : List SectionContents → List LineContents → Form (List ℕ) ScriptParts
+last_sections before lines = Then (many section) (λ behind. Spell (record { sections = before ++ behind; lines = lines }))
 
 pub reader-script : Reader script_lines script_at section_on
 unfolding script_at
-reader-script = reader-behind (many section) (λ before. Then display (last_sections before)) sections_at (λ before. display_at before.1 >>= λ shown. sections_at shown.1 >>= λ rest. Ok (script_with (before.0 ++ rest.0) shown.0, rest.1))
+reader-script = reader-behind (many section) (λ before. Then display (last_sections before)) sections_at (λ before. display_at before.1 >>= λ shown. sections_at shown.1 >>= λ rest. Ok (record { sections = before.0 ++ rest.0; lines = shown.0 }, rest.1))
     section_on (IsListed (left_only display_head_of)) section_on reader-sections
-    (λ before. reader-then display (last_sections before) display_at (λ shown. sections_at shown.1 >>= λ rest. Ok (script_with (before ++ rest.0) shown.0, rest.1)) (λ line. ⊥) section_on
-    reader-display (λ lines. reader-map (many section) sections_at section_on (λ behind. script_with (before ++ behind) lines) reader-sections) (λ lines c s v h on. on) (λ lines v h c on. absurd on))
+    (λ before. reader-then display (last_sections before) display_at (λ shown. sections_at shown.1 >>= λ rest. Ok (record { sections = before ++ rest.0; lines = shown.0 }, rest.1)) (λ line. ⊥) section_on
+    reader-display (λ lines. reader-map (many section) sections_at section_on (λ behind. record { sections = before ++ behind; lines = lines }) reader-sections) (λ lines c s v h on. on) (λ lines v h c on. absurd on))
     (λ before. begins-then display (last_sections before) (IsListed (left_only display_head_of)) begins-display)
     section-apart-display
 

@@ -1,5 +1,5 @@
 -- The first line of a text, and what is left of it.
-use Rattle.std.proofs.Common.{◌≡◌, ◌∙◌, ◌<◌, ◌≤◌, ◌+◌, ◌-◌, ◌==◌, ◌&&◌, ℕ, zero, suc, Bool, true, false, if◌then◌else◌, List, [], ◌∷◌, ◌++◌, length, map, take, drop, refl, sym, ap, subst, arith, append_assoc, append-nil, length-append, take-append-drop, take_at, take_all, get_or, subst₂, eqb-true}
+use Rattle.std.proofs.Common.{◌≡◌, ◌∙◌, ◌<◌, ◌≤◌, ◌+◌, ◌-◌, ◌==◌, ◌&&◌, ℕ, zero, suc, Bool, true, false, if◌then◌else◌, List, [], ◌∷◌, ◌++◌, length, take, drop, refl, sym, ap, subst, arith, append_assoc, append-nil, length-append, take-append-drop, take_at, take_all, get_or, subst₂, eqb-true}
 use Rattle.std.proofs.lemmas.List.{nil_from_length}
 use Rattle.ra_richpresence.specs.Cut.{begun, lines_of, is_end, content_of, begins_comment, uncommented, is_blank, is_nothing, before_trimmed, trimmed, left_of, has_no_feed, is_left}
 use Rattle.ra_richpresence.specs.Placed.{placed, without_return, IsFeedAt, SplitsLine}

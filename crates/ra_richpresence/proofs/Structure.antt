@@ -1,13 +1,13 @@
 -- The structure of what scripts spell.
-use Rattle.std.proofs.Common.{◌≡◌, ◌∙◌, ◌≤◌, inl, inr, ℕ, Bool, true, false, if◌then◌else◌, List, [], ◌∷◌, ◌++◌, Option, Some, None, map, refl, sym, ap, subst, arith}
+use Rattle.std.proofs.Common.{◌≡◌, inl, inr, ℕ, Bool, true, false, if◌then◌else◌, List, [], ◌∷◌, ◌++◌, Option, Some, None, refl, sym, subst, arith}
 use Rattle.std.specs.List.{AllByRecursion, filter_map}
 use Rattle.std.specs.Prelude.{All}
 use Rattle.std.specs.Str.{bytes_eq}
 use Rattle.std.proofs.lemmas.List.Elements.{All-from_recursion}
 use Rattle.ra_condition.specs.Spelled.{IsTrigger}
 use Rattle.ra_condition.proofs.Structure.{trigger-structure, value-structure}
-use Rattle.ra_richpresence.specs.Contents.{PieceContents, Bytes, Shows, LineContents, ScriptContents}
-use Rattle.ra_richpresence.specs.Grammar.{many, name, to_line_end, shown_character, macro, text_before, piece_before, joined_texts, pieces, lookup_head, format_head, format_type, entry, test, tested_line, untested_line, last_line, LineOf, SectionContents, Looks, Formats, name_of, is_taken, first_named, format_in, section, display, script_with, script_lines}
+use Rattle.ra_richpresence.specs.Contents.{PieceContents, Bytes, Shows, LineContents}
+use Rattle.ra_richpresence.specs.Grammar.{many, shown_character, macro, text_before, joined_texts, pieces, tested_line, last_line, LineOf, SectionContents, Looks, Formats, name_of, is_taken, first_named, format_in, section, display, ScriptParts, script_of, script_lines}
 use Rattle.ra_richpresence.specs.Spelled.{IsPiece, IsTested, IsUntested, IsDisplay, IsScript}
 use Rattle.ra_text.specs.Form.{Form, optional, ◌or◌}
 use Rattle.ra_text.specs.Table.{lookup, bytes_for}
@@ -102,7 +102,7 @@ format-digits wanted = named-digits (entry_of wanted format_names) (entry-each H
 
 -- the format of a section is one that a name has
 abbrev SectionDigits : SectionContents → Type 0
-SectionDigits (Looks lookup) = Unit {0}
+SectionDigits (Looks n entries) = Unit {0}
 SectionDigits (Formats n format) = HasDigits format
 
 section-digits : (t : List (List ℕ)) (v : SectionContents) → section t v → SectionDigits v
@@ -118,14 +118,14 @@ first-each P names (s ∷ sections) all = cases (is_taken names (name_of s)) (fi
 
 formats-each : (sections : List SectionContents) → AllByRecursion SectionDigits sections → AllByRecursion (λ format. HasDigits format.1) (filter_map format_in sections)
 formats-each [] all = tt
-formats-each (Looks lookup ∷ sections) all = formats-each sections all.1
+formats-each (Looks n entries ∷ sections) all = formats-each sections all.1
 formats-each (Formats n format ∷ sections) all = (all.0, formats-each sections all.1)
 
 -- ---- scripts
 
-pub script-structure : (t : List (List ℕ)) (v : ScriptContents) → script_lines t v → IsScript v
-script-structure t v h = subst IsScript (sym h.of_next.of_next.of_next.is) (record {
-  formats = All-from_recursion (λ (format : List ℕ × Format). HasDigits format.1) (script_with (h.v ++ h.of_next.of_next.v) h.of_next.v).formats
+pub script-structure : (t : List (List ℕ)) (v : ScriptParts) → script_lines t v → IsScript (script_of v)
+script-structure t v h = subst (λ parts. IsScript (script_of parts)) (sym h.of_next.of_next.of_next.is) (record {
+  formats = All-from_recursion (λ (format : List ℕ × Format). HasDigits format.1) (script_of (record { sections = h.v ++ h.of_next.of_next.v; lines = h.of_next.v })).formats
       (formats-each (first_named [] (h.v ++ h.of_next.of_next.v)) (first-each SectionDigits [] (h.v ++ h.of_next.of_next.v) (each-append SectionDigits h.v h.of_next.of_next.v
       (each-many section SectionDigits section-digits h.front h.v h.of_first) (each-many section SectionDigits section-digits h.of_next.of_next.front h.of_next.of_next.v h.of_next.of_next.of_first))));
   lines = display-structure h.of_next.front h.of_next.v h.of_next.of_first;

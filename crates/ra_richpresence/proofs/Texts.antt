@@ -1,13 +1,11 @@
 -- The texts and the pieces that end a line.
-use Rattle.std.proofs.Common.{◌≡◌, ◌∙◌, inl, inr, ℕ, ◌==◌, ◌&&◌, ◌<◌, Bool, true, false, if◌then◌else◌, List, [], ◌∷◌, ◌++◌, length, Option, Some, None, option_map, Ok, Err, refl, sym, ap, subst, codes, arith, eqb-true, append_assoc, append-nil, length-append}
-use Rattle.ra_richpresence.specs.Contents.{PieceContents, Bytes, Shows}
-use Rattle.ra_richpresence.specs.Grammar.{any_byte, other_than, escape, character, shown_character, macro, to_line_end, lookup_text, pieces, joined_texts}
+use Rattle.std.proofs.Common.{◌≡◌, ◌∙◌, inl, inr, ℕ, ◌==◌, ◌&&◌, ◌<◌, Bool, true, false, if◌then◌else◌, List, [], ◌∷◌, ◌++◌, length, Some, None, option_map, Ok, refl, sym, ap, subst, codes, arith, eqb-true, append-nil, length-append}
+use Rattle.ra_richpresence.specs.Contents.{PieceContents, Bytes}
+use Rattle.ra_richpresence.specs.Grammar.{other_than, escape, character, shown_character, macro, to_line_end, lookup_text, pieces, joined_texts}
 use Rattle.ra_richpresence.specs.Reading.{character_of, character_at, shown_character_of, piece_at, macro_at, lookup_text_of, pieces_of, all_at}
 use Rattle.ra_richpresence.proofs.Exact.{Exact, all-next, exact-all, exact-map}
 use Rattle.ra_richpresence.proofs.Parts.{closed-macro, begins-macro, one_byte}
-use Rattle.ra_text.specs.Form.{Form, Spell, One, Then, ◌or◌}
-use Rattle.ra_text.specs.Reading.{Outcome}
-use Rattle.ra_text.specs.Table.{is_in, only}
+use Rattle.ra_text.specs.Form.{◌or◌}
 use Rattle.ra_text.proofs.Steps.{same-ok}
 
 -- the bytes that no text goes on with, where it may hold macros

@@ -1,22 +1,23 @@
 -- The loops over the parts and over the lines of a script.
-use Rattle.std.proofs.Common.{min, subst₂, length-take, take, drop, get_or, ◌-◌, ◌≡◌, ◌∙◌, ◌≤◌, ◌<◌, ◌+◌, ◌==◌, if◌then◌else◌, ℕ, zero, suc, Bool, true, false, List, [], ◌∷◌, ◌++◌, length, map, Option, Some, None, option_map, Ok, Err, refl, sym, ap, subst, arith, le_refl, append_assoc, append-nil, length-append, codes}
-use Rattle.std.specs.List.{filter_map}
+use Rattle.std.proofs.Common.{min, subst₂, length-take, take, drop, get_or, ◌-◌, ◌≡◌, ◌∙◌, ◌≤◌, ◌<◌, ◌+◌, ◌==◌, if◌then◌else◌, ℕ, Bool, true, false, List, [], ◌∷◌, ◌++◌, length, map, Option, Some, None, option_map, Ok, Err, refl, sym, ap, subst, arith, le_refl, append_assoc, append-nil, length-append}
 use Rattle.std.proofs.lemmas.List.{map-append, length-map}
-use Rattle.std.proofs.lemmas.List.Elements.{filter_map-append}
 use Rattle.ra_condition.specs.Contents.{PartContents}
-use Rattle.ra_richpresence.specs.Contents.{PieceContents, Bytes, Shows, KeysContents, LookupContents}
-use Rattle.ra_richpresence.specs.Following.{bytes_of, ends_run, Run}
+use Rattle.ra_condition.specs.declared.fault.Fault.{Fault}
+use Rattle.ra_condition.specs.declared.fault.Fault.TheVariants.{Stop, Memory}
+use Rattle.ra_richpresence.specs.Contents.{PieceContents, Bytes, Shows}
+use Rattle.ra_richpresence.specs.Following.{bytes_of, ends_run, Run, MovesAs, MovesAsUnlessFull, AddsUnlessFull}
 use Rattle.ra_richpresence.specs.declared.script_line.ScriptLine.{ScriptLine}
-use Rattle.ra_richpresence.specs.Kept.{Keeps}
+use Rattle.ra_richpresence.specs.Kept.{Keeps, KeepsUnlessFull}
 use Rattle.ra_richpresence.specs.declared.kept.Kept.{Kept}
 use Rattle.ra_richpresence.proofs.ScriptReaders.{section_behind-shorter}
 use Rattle.ra_richpresence.proofs.Splits.{split-first}
-use Rattle.ra_richpresence.specs.Sections.{first_text, with_entry}
-use Rattle.ra_richpresence.specs.Grammar.{SectionContents, EntryContents, Keyed, Other, keys_in, first_other, lookup_with, character, shown_character, macro, text_before, piece_before, joined_texts}
+use Rattle.ra_richpresence.specs.Sections.{IsLookupOf, IsSectionOf}
+use Rattle.ra_richpresence.specs.declared.read_lookup.ReadLookup.{ReadLookup}
+use Rattle.ra_richpresence.specs.declared.section.Section.{Section}
+use Rattle.ra_richpresence.specs.Grammar.{SectionContents, EntryContents, macro, text_before, joined_texts}
 use Rattle.ra_richpresence.specs.Reading.{HeadContents, section_head_of, section_behind_at, sections_at, entry_of, entries_at, left_only, run_at, all_at, name_byte, name_at, character_of, character_at, shown_character_of, piece_at, macro_at, pieces_of, lookup_text_of}
 use Rattle.ra_richpresence.proofs.Parts.{closed-macro}
-use Rattle.ra_richpresence.proofs.Texts.{smaller-character, smaller-piece, character-smaller, text-next, piece-next}
-use Rattle.ra_text.specs.Form.{Form}
+use Rattle.ra_richpresence.proofs.Texts.{smaller-character, smaller-piece, text-next, piece-next}
 use Rattle.ra_text.specs.Reading.{Outcome, rest_of, ◌>>=◌, one_at, begins}
 use Rattle.ra_text.specs.Table.{is_in, only}
 use Rattle.ra_text.proofs.Loops.{Looping, loop-next, loop-fails, loop-ends}
@@ -240,79 +241,80 @@ run-goes_on (c ∷ t) some at = sym (is-macro c) ∙ at
 -- ---- the lines of a lookup
 
 -- the lines so far, and the lookup that they make
-pub record EntriesSoFar (name : List ℕ) (lookup : LookupContents) (rest : List (List ℕ)) (whole : Outcome (List ℕ) (List EntryContents)) : Type 0 where
+pub record EntriesSoFar (most : ℕ) (name : List ℕ) (found : ReadLookup) (rest : List (List ℕ)) (whole : Outcome (List ℕ) (List EntryContents)) : Type 0 where
   pub entries : List EntryContents
-  pub made : lookup ≡ lookup_with name entries
+  pub made : IsLookupOf most name entries found
   pub so_far : RunSoFar (left_only entry_of) entries rest whole
 
-pub entries-start : (name : List ℕ) (lines : List (List ℕ)) → EntriesSoFar name (record { name = name; keys = []; rest = None }) lines (entries_at lines)
+pub entries-start : (most : ℕ) (name : List ℕ) (found : ReadLookup) (lines : List (List ℕ)) → IsLookupOf most name [] found → EntriesSoFar most name found lines (entries_at lines)
 unfolding entries_at
-entries-start name lines = record { entries = []; made = refl; so_far = run-starts (left_only entry_of) lines }
+entries-start most name found lines made = record { entries = []; made = made; so_far = run-starts (left_only entry_of) lines }
 
-first_other-more : (entries : List EntryContents) (text : List ℕ) → first_other (entries ++ Other text ∷ []) ≡ first_text (first_other entries) text
-first_other-more [] text = refl
-first_other-more (Keyed keys ∷ entries) text = first_other-more entries text
-first_other-more (Other first ∷ entries) text = refl
-
-first_other-same : (entries : List EntryContents) (keys : KeysContents) → first_other (entries ++ Keyed keys ∷ []) ≡ first_other entries
-first_other-same [] keys = refl
-first_other-same (Keyed first ∷ entries) keys = first_other-same entries keys
-first_other-same (Other first ∷ entries) keys = refl
-
-lookup-more : (name : List ℕ) (entries : List EntryContents) (entry : EntryContents) → with_entry (lookup_with name entries) entry ≡ lookup_with name (entries ++ entry ∷ [])
-lookup-more name entries (Keyed keys) = cc (filter_map-append keys_in entries (Keyed keys ∷ []), first_other-same entries keys)
-lookup-more name entries (Other text) = cc (filter_map-append keys_in entries (Other text ∷ []), first_other-more entries text, append-nil (filter_map keys_in entries))
-
-pub entries-more : (name : List ℕ) (lookup after : LookupContents) (entry : EntryContents) (line : List ℕ) (rest : List (List ℕ)) (whole : Outcome (List ℕ) (List EntryContents)) → left_only entry_of line ≡ Some entry → after ≡ with_entry lookup entry → EntriesSoFar name lookup (line ∷ rest) whole → EntriesSoFar name after rest whole
-entries-more name lookup after entry line rest whole listed adds l = record {
+pub entries-more : (most : ℕ) (name : List ℕ) (found after : ReadLookup) (entry : EntryContents) (line : List ℕ) (rest : List (List ℕ)) (whole : Outcome (List ℕ) (List EntryContents)) → left_only entry_of line ≡ Some entry
+    → ((entries : List EntryContents) → IsLookupOf most name entries found → IsLookupOf most name (entries ++ entry ∷ []) after) → EntriesSoFar most name found (line ∷ rest) whole → EntriesSoFar most name after rest whole
+entries-more most name found after entry line rest whole listed adds l = record {
   entries = l.entries ++ entry ∷ [];
-  made = adds ∙ ap (λ k. with_entry k entry) l.made ∙ lookup-more name l.entries entry;
+  made = adds l.entries l.made;
   so_far = run-next (left_only entry_of) l.entries line entry rest whole listed l.so_far;
 }
 
-pub entries-end : (name : List ℕ) (lookup : LookupContents) (rest : List (List ℕ)) (whole : Outcome (List ℕ) (List EntryContents)) → ((c : List ℕ) (t : List (List ℕ)) → rest ≡ c ∷ t → left_only entry_of c ≡ None) → EntriesSoFar name lookup rest whole → (whole >>= λ entries. Ok (lookup_with name entries.0, entries.1)) ≡ Ok (lookup, rest)
-entries-end name lookup rest whole none l = ap (λ o. o >>= λ entries. Ok (lookup_with name entries.0, entries.1)) (run-ends (left_only entry_of) l.entries rest whole none l.so_far) ∙ ap (λ k. Ok (k, rest)) (sym l.made)
+pub entries-end : (most : ℕ) (name : List ℕ) (found : ReadLookup) (rest : List ScriptLine) (whole : Outcome (List ℕ) (List EntryContents)) → ((c : List ℕ) (t : List (List ℕ)) → bytes_of rest ≡ c ∷ t → left_only entry_of c ≡ None) → EntriesSoFar most name found (bytes_of rest) whole
+    → MovesAs (λ (found : ReadLookup) (entries : List EntryContents). IsLookupOf most name entries found) found rest whole
+entries-end most name found rest whole none l = record { value = l.entries; read = run-ends (left_only entry_of) l.entries (bytes_of rest) whole none l.so_far; is = l.made }
 
-pub entries-turn : (name : List ℕ) (lookup after : LookupContents) (entry : EntryContents) (line : ScriptLine) (rest : List ScriptLine) (whole : Outcome (List ℕ) (List EntryContents)) → 1 ≤ length rest → line ≡ get_or rest 0 line → left_only entry_of line.bytes.now ≡ Some entry → after ≡ with_entry lookup entry
-    → EntriesSoFar name lookup (bytes_of rest) whole → EntriesSoFar name after (bytes_of (take (length rest - 1) (drop 1 rest))) whole
-entries-turn name lookup after entry line rest whole some is listed adds l = entries-more name lookup after entry line.bytes.now (bytes_of (take (length rest - 1) (drop 1 rest))) whole listed adds
-    (subst (λ t. EntriesSoFar name lookup t whole) (first-line rest line some is) l)
+pub entries-turn : (most : ℕ) (name : List ℕ) (found after : ReadLookup) (entry : EntryContents) (line : ScriptLine) (rest : List ScriptLine) (whole : Outcome (List ℕ) (List EntryContents)) → 1 ≤ length rest → line ≡ get_or rest 0 line → left_only entry_of line.bytes.now ≡ Some entry
+    → ((entries : List EntryContents) → IsLookupOf most name entries found → IsLookupOf most name (entries ++ entry ∷ []) after)
+    → EntriesSoFar most name found (bytes_of rest) whole → EntriesSoFar most name after (bytes_of (take (length rest - 1) (drop 1 rest))) whole
+entries-turn most name found after entry line rest whole some is listed adds l = entries-more most name found after entry line.bytes.now (bytes_of (take (length rest - 1) (drop 1 rest))) whole listed adds
+    (subst (λ t. EntriesSoFar most name found t whole) (first-line rest line some is) l)
+
+-- a fault of a call that adds something is want of memory
+pub fault-adds : {X V : Type 0} (stands : X → V → Type 0) (fault : Fault) (fact : Type 0) (rest : List ScriptLine) (outcome : Outcome (List ℕ) V) → AddsUnlessFull (Err fault) fact → MovesAsUnlessFull stands (Err fault) rest outcome
+fault-adds stands Stop fact rest outcome h = absurd h
+fault-adds stands Memory fact rest outcome h = tt
 
 -- ---- sections
 
 -- the sections so far, kept behind those before
-pub record SectionsSoFar (before : List SectionContents) (kept : Kept) (rest : List (List ℕ)) (whole : Outcome (List ℕ) (List SectionContents)) : Type 0 where
+pub record SectionsSoFar (most : ℕ) (before : List SectionContents) (kept : Kept) (rest : List (List ℕ)) (whole : Outcome (List ℕ) (List SectionContents)) : Type 0 where
   pub sections : List SectionContents
-  pub keeps : Keeps (before ++ sections) kept
+  pub keeps : Keeps most (before ++ sections) kept
   pub so_far : Looping {S = Unit {0}} (λ s. left_only section_head_of) (λ s. section_behind_at) (λ s v. s) (λ s. true) sections tt rest whole
 
-pub sections-start : (before : List SectionContents) (kept : Kept) (lines : List (List ℕ)) → Keeps before kept → SectionsSoFar before kept lines (sections_at lines)
+pub sections-start : (most : ℕ) (before : List SectionContents) (kept : Kept) (lines : List (List ℕ)) → Keeps most before kept → SectionsSoFar most before kept lines (sections_at lines)
 unfolding sections_at
-sections-start before kept lines keeps = record {
+sections-start most before kept lines keeps = record {
   sections = [];
-  keeps = subst (λ sections. Keeps sections kept) (sym (append-nil before)) keeps;
+  keeps = subst (λ sections. Keeps most sections kept) (sym (append-nil before)) keeps;
   so_far = record { is = none-before (sections_at lines) };
 }
 
-pub sections-more : (before : List SectionContents) (kept after : Kept) (line : List ℕ) (lines rest : List (List ℕ)) (whole : Outcome (List ℕ) (List SectionContents)) (head : HeadContents) (s : SectionContents) → left_only section_head_of line ≡ Some head → section_behind_at head lines ≡ Ok (s, rest)
-    → ((sections : List SectionContents) → Keeps sections kept → Keeps (sections ++ s ∷ []) after) → SectionsSoFar before kept (line ∷ lines) whole → SectionsSoFar before after rest whole
-sections-more before kept after line lines rest whole head s listed read adds l = record {
+pub sections-more : (most : ℕ) (before : List SectionContents) (kept after : Kept) (line : List ℕ) (lines rest : List (List ℕ)) (whole : Outcome (List ℕ) (List SectionContents)) (head : HeadContents) (s : SectionContents) → left_only section_head_of line ≡ Some head → section_behind_at head lines ≡ Ok (s, rest)
+    → ((sections : List SectionContents) → Keeps most sections kept → Keeps most (sections ++ s ∷ []) after) → SectionsSoFar most before kept (line ∷ lines) whole → SectionsSoFar most before after rest whole
+sections-more most before kept after line lines rest whole head s listed read adds l = record {
   sections = l.sections ++ s ∷ [];
-  keeps = subst (λ sections. Keeps sections after) (append_assoc before l.sections (s ∷ [])) (adds (before ++ l.sections) l.keeps);
+  keeps = subst (λ sections. Keeps most sections after) (append_assoc before l.sections (s ∷ [])) (adds (before ++ l.sections) l.keeps);
   so_far = loop-next {S = Unit {0}} (λ s. left_only section_head_of) (λ s. section_behind_at) (λ s v. s) (λ s. true) (λ s tag lines. section_behind-shorter tag lines) l.sections tt line head lines whole s rest listed read l.so_far;
 }
 
-pub sections-fail : (before : List SectionContents) (kept : Kept) (line : List ℕ) (lines rest : List (List ℕ)) (whole : Outcome (List ℕ) (List SectionContents)) (head : HeadContents) → left_only section_head_of line ≡ Some head → section_behind_at head lines ≡ Err rest → SectionsSoFar before kept (line ∷ lines) whole → whole ≡ Err rest
-sections-fail before kept line lines rest whole head listed fails l =
+pub sections-fail : (most : ℕ) (before : List SectionContents) (kept : Kept) (line : List ℕ) (lines rest : List (List ℕ)) (whole : Outcome (List ℕ) (List SectionContents)) (head : HeadContents) → left_only section_head_of line ≡ Some head → section_behind_at head lines ≡ Err rest → SectionsSoFar most before kept (line ∷ lines) whole → whole ≡ Err rest
+sections-fail most before kept line lines rest whole head listed fails l =
     loop-fails {S = Unit {0}} (λ s. left_only section_head_of) (λ s. section_behind_at) (λ s v. s) (λ s. true) (λ s tag lines. section_behind-shorter tag lines) l.sections tt line head lines whole rest listed fails l.so_far
 
-pub sections-end : (before : List SectionContents) (kept : Kept) (rest : List (List ℕ)) (whole : Outcome (List ℕ) (List SectionContents)) → ((c : List ℕ) (t : List (List ℕ)) → rest ≡ c ∷ t → left_only section_head_of c ≡ None) → (l : SectionsSoFar before kept rest whole) → whole ≡ Ok (l.sections, rest)
-sections-end before kept rest whole none l = loop-ends {S = Unit {0}} (λ s. left_only section_head_of) (λ s. section_behind_at) (λ s v. s) (λ s. true) l.sections tt rest whole none refl l.so_far
+pub sections-end : (most : ℕ) (before : List SectionContents) (kept : Kept) (rest : List (List ℕ)) (whole : Outcome (List ℕ) (List SectionContents)) → ((c : List ℕ) (t : List (List ℕ)) → rest ≡ c ∷ t → left_only section_head_of c ≡ None) → (l : SectionsSoFar most before kept rest whole) → whole ≡ Ok (l.sections, rest)
+sections-end most before kept rest whole none l = loop-ends {S = Unit {0}} (λ s. left_only section_head_of) (λ s. section_behind_at) (λ s v. s) (λ s. true) l.sections tt rest whole none refl l.so_far
 
-pub sections-turn : (before : List SectionContents) (kept after : Kept) (line : ScriptLine) (lines rest : List ScriptLine) (whole : Outcome (List ℕ) (List SectionContents)) (head : HeadContents) (s : SectionContents) → 1 ≤ length lines → line ≡ get_or lines 0 line → left_only section_head_of line.bytes.now ≡ Some head
-    → section_behind_at head (bytes_of (take (length lines - 1) (drop 1 lines))) ≡ Ok (s, bytes_of rest) → ((sections : List SectionContents) → Keeps sections kept → Keeps (sections ++ s ∷ []) after) → SectionsSoFar before kept (bytes_of lines) whole → SectionsSoFar before after (bytes_of rest) whole
-sections-turn before kept after line lines rest whole head s some is listed read adds l = sections-more before kept after line.bytes.now (bytes_of (take (length lines - 1) (drop 1 lines))) (bytes_of rest) whole head s listed read adds
-    (subst (λ t. SectionsSoFar before kept t whole) (first-line lines line some is) l)
+-- want of memory at a section more
+pub fault-keeps : (most : ℕ) (before : List SectionContents) (fault : Fault) (fact : Type 0) (kept : Kept) (rest : List ScriptLine) (outcome : Outcome (List ℕ) (List SectionContents)) → AddsUnlessFull (Err fault) fact → KeepsUnlessFull most before (Err fault) kept rest outcome
+fault-keeps most before Stop fact kept rest outcome h = absurd h
+fault-keeps most before Memory fact kept rest outcome h = tt
+
+pub sections-turn : (most : ℕ) (before : List SectionContents) (kept after : Kept) (line : ScriptLine) (lines rest : List ScriptLine) (whole : Outcome (List ℕ) (List SectionContents)) (head : HeadContents) (section : Section)
+    → (m : MovesAs (λ (section : Section) (s : SectionContents). IsSectionOf kept.most s section) section rest (section_behind_at head (bytes_of (take (length lines - 1) (drop 1 lines)))))
+    → 1 ≤ length lines → line ≡ get_or lines 0 line → left_only section_head_of line.bytes.now ≡ Some head
+    → ((most : ℕ) (sections : List SectionContents) (s : SectionContents) → Keeps most sections kept → IsSectionOf most s section → Keeps most (sections ++ s ∷ []) after) → SectionsSoFar most before kept (bytes_of lines) whole → SectionsSoFar most before after (bytes_of rest) whole
+sections-turn most before kept after line lines rest whole head section m some is listed adds l = sections-more most before kept after line.bytes.now (bytes_of (take (length lines - 1) (drop 1 lines))) (bytes_of rest) whole head m.value listed m.read
+    (λ sections keeps. adds most sections m.value keeps (subst (λ n. IsSectionOf n m.value section) keeps.limit m.is)) (subst (λ t. SectionsSoFar most before kept t whole) (first-line lines line some is) l)
 
 pub sections-smaller : (head : HeadContents) (lines rest : List ScriptLine) (s : SectionContents) → 1 ≤ length lines → section_behind_at head (bytes_of (take (length lines - 1) (drop 1 lines))) ≡ Ok (s, bytes_of rest) → length rest < length lines
 sections-smaller head lines rest s some read =

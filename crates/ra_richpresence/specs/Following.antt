@@ -23,6 +23,18 @@ MovesUnlessFull view (Ok x) rest outcome = outcome ≡ Ok (view x, bytes_of rest
 MovesUnlessFull view (Err Stop) rest outcome = outcome ≡ Err (bytes_of rest)
 MovesUnlessFull view (Err Memory) rest outcome = Unit {0}
 
+-- reading gives a value that what a call returned stands for, and leaves these lines
+pub record MovesAs {X V : Type 0} (stands : X → V → Type 0) (x : X) (rest : List ScriptLine) (outcome : Outcome (List ℕ) V) : Type 0 where
+  pub value : V
+  pub read : outcome ≡ Ok (value, bytes_of rest)
+  pub is : stands x value
+
+-- what a call returned stands for what reading gives, and it left the same lines
+abbrev pub MovesAsUnlessFull : {X V : Type 0} → (X → V → Type 0) → Result X Fault → List ScriptLine → Outcome (List ℕ) V → Type 0
+MovesAsUnlessFull stands (Ok x) rest outcome = MovesAs stands x rest outcome
+MovesAsUnlessFull stands (Err Stop) rest outcome = outcome ≡ Err (bytes_of rest)
+MovesAsUnlessFull stands (Err Memory) rest outcome = Unit {0}
+
 -- nothing is left, or a macro begins
 abbrev pub ends_run : List ℕ → Bool
 ends_run [] = true

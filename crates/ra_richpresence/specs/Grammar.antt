@@ -1,7 +1,7 @@
 -- The grammar of presence scripts: docs/DEFINITIONS.md, "Presence scripts".
-use Rattle.std.specs.Prelude.{◌≡◌, ℕ, Bool, true, false, not, if◌then◌else◌, List, [], ◌∷◌, ◌++◌, Option, Some, None, codes, bytes_eq}
+use Rattle.std.specs.Prelude.{◌≡◌, ℕ, Bool, true, false, if◌then◌else◌, List, [], ◌∷◌, ◌++◌, Option, Some, None, codes, bytes_eq}
 use Rattle.std.specs.List.{list_any, filter_map}
-use Rattle.ra_condition.specs.Contents.{TriggerContents, PartContents}
+use Rattle.ra_condition.specs.Contents.{TriggerContents}
 use Rattle.ra_condition.specs.Grammar.{trigger}
 use Rattle.ra_condition.specs.Values.{value}
 use Rattle.ra_richpresence.specs.Contents.{PieceContents, Bytes, Shows, LineContents, KeysContents, LookupContents, ScriptContents}
@@ -218,9 +218,9 @@ pub record LineOf {V : Type 0} (form : Form ℕ V) (lines : List (List ℕ)) (v 
   pub left : is_left line ≡ true
   pub of_form : form line v
 
--- a lookup, or a format under its name
+-- a lookup under its name with its lines, or a format under its name
 pub data SectionContents : Type 0 where
-  Looks : LookupContents → SectionContents
+  Looks : List ℕ → List EntryContents → SectionContents
   Formats : List ℕ → Format → SectionContents
 
 -- the keys of a line of a lookup, if it has some
@@ -243,7 +243,7 @@ abbrev pub lookup_section : Form (List ℕ) SectionContents
 lookup_section = do
   lookup_name ← LineOf lookup_head
   entries ← many (LineOf entry)
-  Spell (Looks (lookup_with lookup_name entries))
+  Spell (Looks lookup_name entries)
 
 -- a format, and on the next line its type
 abbrev pub format_section : Form (List ℕ) SectionContents
@@ -266,7 +266,7 @@ display = do
 
 -- the name of a lookup or a format
 abbrev pub name_of : SectionContents → List ℕ
-name_of (Looks lookup) = lookup.name
+name_of (Looks lookup_name entries) = lookup_name
 name_of (Formats format_name format) = format_name
 
 -- the name is among these
@@ -280,30 +280,45 @@ first_named names (s ∷ ss) = if is_taken names (name_of s) then first_named na
 
 -- the lookup of a section, if it is one
 abbrev pub lookup_in : SectionContents → Option LookupContents
-lookup_in (Looks lookup) = Some lookup
+lookup_in (Looks lookup_name entries) = Some (lookup_with lookup_name entries)
 lookup_in (Formats format_name format) = None
 
 -- the format of a section with its name, if it is one
 abbrev pub format_in : SectionContents → Option (List ℕ × Format)
-format_in (Looks lookup) = None
+format_in (Looks lookup_name entries) = None
 format_in (Formats format_name format) = Some (format_name, format)
 
--- the script of these sections, of which the first of each name is kept, and of these lines
-abbrev pub script_with : List SectionContents → List LineContents → ScriptContents
-script_with sections lines = record {
-  lookups = filter_map lookup_in (first_named [] sections);
-  formats = filter_map format_in (first_named [] sections);
-  lines = lines;
+-- what the lines of a script spell: all its sections in order, also those whose name is taken, and the lines of its display
+pub record ScriptParts : Type 0 where
+  pub sections : List SectionContents
+  pub lines : List LineContents
+
+-- the script of these parts: of the sections that share a name the first is kept
+abbrev pub script_of : ScriptParts → ScriptContents
+script_of parts = record {
+  lookups = filter_map lookup_in (first_named [] parts.sections);
+  formats = filter_map format_in (first_named [] parts.sections);
+  lines = parts.lines;
 }
 
 -- lookups and formats, with one display before, between or behind them
-abbrev pub script_lines : Form (List ℕ) ScriptContents
+abbrev pub script_lines : Form (List ℕ) ScriptParts
 script_lines = do
   before ← many section
   lines ← display
   behind ← many section
-  Spell (script_with (before ++ behind) lines)
+  Spell (record { sections = before ++ behind; lines = lines })
 
--- a script, spelled by the lines that are left of its text
+-- the parts of a script, spelled by the lines that are left of its text
+abbrev pub script_parts : Form ℕ ScriptParts
+script_parts text = script_lines (left_lines text)
+
+-- the text spells parts, and this is their script
+pub record SpellsScript (text : List ℕ) (v : ScriptContents) : Type 0 where
+  pub parts : ScriptParts
+  pub spelled : script_parts text parts
+  pub made : v ≡ script_of parts
+
+-- a script
 abbrev pub script : Form ℕ ScriptContents
-script text = script_lines (left_lines text)
+script = SpellsScript

@@ -10,3 +10,4 @@ pub mod Reading
 pub mod Sections
 pub mod Shown
 pub mod Spelled
+pub mod Texts

@@ -11,12 +11,12 @@ use Rattle.ra_richpresence.specs.Contents.{PieceContents, Bytes, Shows, LineCont
 abbrev pub holds : List (ℕ × ℕ) → ℕ → Bool
 holds ranges n = list_any (λ range. nat_le range.0 n && nat_le n range.1) ranges
 
--- the text of the first keys that hold the number, else the other text, else nothing
+-- the text of all other numbers; where a lookup has none it is nothing
 abbrev pub other_text : Option (List ℕ) → List ℕ
 other_text None = []
 other_text (Some text) = text
 
--- the text of the first keys that hold a number, or the text of all others
+-- the text of the first keys that hold a number, or else the text of all others
 abbrev pub looked_up : List KeysContents → Option (List ℕ) → ℕ → List ℕ
 looked_up [] rest n = other_text rest
 looked_up (k ∷ ks) rest n = if holds k.ranges n then k.text else looked_up ks rest n

@@ -3,9 +3,9 @@ use Rattle.std.specs.Prelude.{ℕ, ◌==◌, ◌&&◌, zero, suc, Bool, true, fa
 use Rattle.ra_condition.specs.Contents.{TriggerContents}
 use Rattle.ra_condition.specs.Reading.{trigger_at}
 use Rattle.ra_condition.specs.ReadingValues.{value_at}
-use Rattle.ra_richpresence.specs.Contents.{PieceContents, Bytes, Shows, LineContents, ScriptContents}
+use Rattle.ra_richpresence.specs.Contents.{PieceContents, Bytes, Shows, LineContents}
 use Rattle.ra_richpresence.specs.Cut.{is_left}
-use Rattle.ra_richpresence.specs.Grammar.{other_than, joined_texts, EntryContents, Keyed, Other, SectionContents, Looks, Formats, lookup_with, script_with}
+use Rattle.ra_richpresence.specs.Grammar.{other_than, joined_texts, EntryContents, Keyed, Other, SectionContents, Looks, Formats, ScriptParts}
 use Rattle.ra_text.specs.Reading.{Outcome, ◌>>=◌, one_at, literal_at, choice_at, begins, chain_at, joined_at}
 use Rattle.ra_text.specs.ReadingNumbers.{decimal_at, hexadecimal_at}
 use Rattle.ra_text.specs.Table.{is_in, only, only_letters}
@@ -216,7 +216,7 @@ entries_at = run_at (left_only entry_of)
 unfoldable pub section_behind_at : HeadContents → List (List ℕ) → Outcome (List ℕ) SectionContents
 section_behind_at (OpensLookup lookup_name) lines = do
   entries ← entries_at lines
-  Ok (Looks (lookup_with lookup_name entries.0), entries.1)
+  Ok (Looks lookup_name entries.0, entries.1)
 section_behind_at (OpensFormat format_name) lines = do
   format ← one_at (left_only format_type_of) lines
   Ok (Formats format_name format.0, format.1)
@@ -238,9 +238,9 @@ display_at lines = do
   Ok (tested.0 ++ last.0 ∷ [], last.1)
 
 -- a script
-unfoldable pub script_at : List (List ℕ) → Outcome (List ℕ) ScriptContents
+unfoldable pub script_at : List (List ℕ) → Outcome (List ℕ) ScriptParts
 script_at lines = do
   before ← sections_at lines
   shown ← display_at before.1
   rest ← sections_at shown.1
-  Ok (script_with (before.0 ++ rest.0) shown.0, rest.1)
+  Ok (record { sections = before.0 ++ rest.0; lines = shown.0 }, rest.1)

@@ -2,7 +2,7 @@ ghost use Rattle.std.specs.Prelude.{ℕ, List, [], ◌∷◌, ◌++◌};
 ghost use Rattle.ra_richpresence.specs.Following.{AddsUnlessFull};
 ghost use Rattle.ra_richpresence.specs.Grammar.{SectionContents};
 ghost use Rattle.ra_richpresence.specs.Kept.{Keeps};
-ghost use Rattle.ra_richpresence.specs.Sections.{section_contents};
+ghost use Rattle.ra_richpresence.specs.Sections.{IsSectionOf};
 
 use crate::lookup::Lookup;
 use crate::section::Section;
@@ -11,9 +11,12 @@ use ra_value_format::Format;
 use std::alloc::Global;
 use std::collections::BTreeSet;
 
-/// The sections of a script that are kept: of those that share a name the first.
+/// The sections of a script that are kept: of those that share a name the first. And how long the
+/// first text of the kept lookups is that passes `most` bytes.
 #[derive(Drop)]
 pub struct Kept {
+    pub most: u64,
+    pub long: Option<u64>,
     pub names: BTreeSet<Vec<u8>>,
     pub lookups: Vec<Lookup>,
     pub formats: Vec<(Vec<u8>, Format)>,
@@ -21,10 +24,12 @@ pub struct Kept {
 
 impl Kept {
     /// No sections.
-    pub fn new(alloc: Global) -> Self
-        ensures { Keeps [] result }
+    pub fn new(alloc: Global, most: u64) -> Self
+        ensures { Keeps most [] result }
     {
         Kept {
+            most,
+            long: None,
             names: BTreeSet::new(alloc),
             lookups: Vec::new(alloc),
             formats: Vec::new(alloc),
@@ -33,12 +38,16 @@ impl Kept {
 
     /// Adds a section, unless its name is taken.
     pub fn add(&mut self, section: Section) -> Result<(), Fault>
-        ensures { (sections : List SectionContents) → Keeps sections self.old → AddsUnlessFull result (Keeps (sections ++ section_contents section ∷ []) self.new) }
+        ensures { (most : ℕ) (sections : List SectionContents) (s : SectionContents) → Keeps most sections self.old → IsSectionOf most s section
+            → AddsUnlessFull result (Keeps most (sections ++ s ∷ []) self.new) }
     {
         let name = section.name().clone()?;
         if self.names.insert(name)? {
             match section {
-                Section::Lookup(lookup) => self.lookups.push(lookup)?,
+                Section::Lookup(found) => {
+                    self.long = self.long.or(found.long);
+                    self.lookups.push(found.lookup)?;
+                }
                 Section::Format(name, format) => self.formats.push((name, format))?,
             }
         }

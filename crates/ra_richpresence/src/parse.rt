@@ -3,17 +3,19 @@
 ghost use Rattle.std.specs.Prelude.{◌≡◌, ◌-◌, ◌≤◌, IfErr, IfOk, drop, length, map};
 ghost use Rattle.ra_condition.specs.Refusals.{IfSyntax};
 ghost use Rattle.ra_richpresence.specs.Contents.{script_contents};
-ghost use Rattle.ra_richpresence.specs.Following.{MovesUnlessFull, bytes_of, view_of};
+ghost use Rattle.ra_richpresence.specs.Following.{MovesAsUnlessFull, bytes_of, view_of};
 ghost use Rattle.ra_richpresence.specs.Grammar.{script};
 ghost use Rattle.ra_richpresence.specs.Placed.{first_place};
 ghost use Rattle.ra_richpresence.specs.Places.{IsOutside};
 ghost use Rattle.ra_richpresence.specs.Reading.{script_at};
 ghost use Rattle.ra_richpresence.specs.Spelled.{IsScript};
+ghost use Rattle.ra_richpresence.specs.Texts.{IsRead, IsScriptOf};
 
 use crate::cut::cut_lines;
 use crate::display::take_display;
 use crate::kept::Kept;
 use crate::lines::Lines;
+use crate::read::ReadScript;
 use crate::script::Script;
 use crate::script_line::ScriptLine;
 use crate::sections::take_sections;
@@ -30,16 +32,30 @@ pub fn parse_script(alloc: Global, text: &[u8]) -> Result<Script, Refused>
     ensures structure { IfOk result (λ s. IsScript (script_contents s)) }
     ensures err { IfErr result (λ e. IfSyntax e (λ place. IsOutside text.now place)) }
 {
+    let read = read_script(alloc, text, u64::MAX)?;
+    Ok(read.script)
+}
+
+/// The presence script that the whole text spells, and the length of the first text of its lookups
+/// that is longer than `most` bytes.
+///
+/// Texts are taken in file order: those of keys, and the first of all other numbers of each lookup.
+/// A lookup that is not kept does not count. Refused as by `parse_script`.
+pub fn read_script(alloc: Global, text: &[u8], most: u64) -> Result<ReadScript, Refused>
+    ensures ok { IfOk result (λ read. IsRead text.now most read) }
+    ensures structure { IfOk result (λ read. IsScript (script_contents read.script)) }
+    ensures err { IfErr result (λ e. IfSyntax e (λ place. IsOutside text.now place)) }
+{
     let cut = match cut_lines(alloc, text) {
         Ok(cut) => cut,
         Err(OutOfMemory) => return Err(Refused::Memory),
     };
     let all = cut.as_slice();
     let mut lines = Lines { rest: all };
-    match take_script(alloc, &mut lines) {
-        Ok(script) => {
+    match take_script(alloc, most, &mut lines) {
+        Ok(read) => {
             if lines.rest.is_empty() {
-                Ok(script)
+                Ok(read)
             } else {
                 Err(Refused::Syntax {
                     at: place_of(all, lines.rest.len(), text.len()),
@@ -54,17 +70,20 @@ pub fn parse_script(alloc: Global, text: &[u8]) -> Result<Script, Refused>
 }
 
 // Lookups and formats, with one display before, between or behind them.
-fn take_script(alloc: Global, lines: &mut Lines<'_>) -> Result<Script, Fault>
-    ensures { MovesUnlessFull script_contents result lines.new.rest.now (script_at (bytes_of lines.old.rest.now)) }
+fn take_script(alloc: Global, most: u64, lines: &mut Lines<'_>) -> Result<ReadScript, Fault>
+    ensures { MovesAsUnlessFull (λ read parts. IsScriptOf most parts read) result lines.new.rest.now (script_at (bytes_of lines.old.rest.now)) }
 {
-    let mut kept = Kept::new(alloc);
+    let mut kept = Kept::new(alloc, most);
     take_sections(alloc, &mut kept, lines)?;
     let shown = take_display(alloc, lines)?;
     take_sections(alloc, &mut kept, lines)?;
-    Ok(Script {
-        lookups: kept.lookups,
-        formats: kept.formats,
-        lines: shown,
+    Ok(ReadScript {
+        script: Script {
+            lookups: kept.lookups,
+            formats: kept.formats,
+            lines: shown,
+        },
+        long: kept.long,
     })
 }
 

@@ -1,6 +1,6 @@
 //! Lookups and formats of a script: docs/DEFINITIONS.md, "Presence scripts".
 
-ghost use Rattle.std.specs.Prelude.{◌≡◌, List};
+ghost use Rattle.std.specs.Prelude.{ℕ, List};
 ghost use Rattle.ra_richpresence.specs.Following.{bytes_of};
 ghost use Rattle.ra_richpresence.specs.Grammar.{SectionContents};
 ghost use Rattle.ra_richpresence.specs.Kept.{Keeps, KeepsUnlessFull};
@@ -15,8 +15,8 @@ use std::alloc::Global;
 
 /// Reads lookups and formats, as many as there are, and keeps those whose name is not taken.
 pub fn take_sections(alloc: Global, kept: &mut Kept, lines: &mut Lines<'_>) -> Result<(), Fault>
-    ensures { (before : List SectionContents) → Keeps before kept.old
-        → KeepsUnlessFull before result kept.new lines.new.rest.now (sections_at (bytes_of lines.old.rest.now)) }
+    ensures { (most : ℕ) (before : List SectionContents) → Keeps most before kept.old
+        → KeepsUnlessFull most before result kept.new lines.new.rest.now (sections_at (bytes_of lines.old.rest.now)) }
 {
     while let [line, after @ ..] = lines.rest {
         let head = match read_head(alloc, line.bytes) {
@@ -25,7 +25,7 @@ pub fn take_sections(alloc: Global, kept: &mut Kept, lines: &mut Lines<'_>) -> R
             Err(Fault::Stop) => break,
         };
         lines.rest = after;
-        let section = take_section(alloc, head, lines)?;
+        let section = take_section(alloc, head, kept.most, lines)?;
         kept.add(section)?;
     }
     Ok(())

@@ -44,6 +44,12 @@ fn built_in_macros_have_their_formats(rt: HostRuntime) -> Result<(), Fail> {
     Ok(())
 }
 
+// What a macro `Score` shows for a value, in a script that begins with these sections.
+fn score(alloc: Global, sections: &str, value: i32) -> Result<Vec<u8>, Fail> {
+    let script = format!(in alloc; "{sections}Display:\n@Score(0)")?;
+    shown(alloc, &script, 0, &[value])
+}
+
 #[test]
 fn own_names_come_before_built_in_ones(rt: HostRuntime) -> Result<(), Fail> {
     for (head, value, text) in [
@@ -65,31 +71,25 @@ fn own_names_come_before_built_in_ones(rt: HostRuntime) -> Result<(), Fail> {
             5,
             "five",
         ),
-        (
-            "Lookup:Score\n7-6,0=none\n1-4=few\n0-9=digit\n*=all\n*=rest\n",
-            0,
-            "none",
-        ),
-        (
-            "Lookup:Score\n7-6,0=none\n1-4=few\n0-9=digit\n*=all\n*=rest\n",
-            4,
-            "few",
-        ),
-        (
-            "Lookup:Score\n7-6,0=none\n1-4=few\n0-9=digit\n*=all\n*=rest\n",
-            7,
-            "digit",
-        ),
-        (
-            "Lookup:Score\n7-6,0=none\n1-4=few\n0-9=digit\n*=all\n*=rest\n",
-            -1,
-            "all",
-        ),
+    ] {
+        let line = score(rt.alloc(), head, value)?;
+        assert_eq!(rt; line.as_slice(), text.as_bytes(), "at {head}");
+    }
+    Ok(())
+}
+
+#[test]
+fn the_first_keys_that_hold_a_number_give_its_text(rt: HostRuntime) -> Result<(), Fail> {
+    let digits = "Lookup:Score\n7-6,0=none\n1-4=few\n0-9=digit\n*=all\n*=rest\n";
+    for (head, value, text) in [
+        (digits, 0, "none"),
+        (digits, 4, "few"),
+        (digits, 7, "digit"),
+        (digits, -1, "all"),
         ("Lookup:Score\n4294967295=last\n", -1, "last"),
     ] {
-        let script = format!(in rt.alloc(); "{head}Display:\n@Score(0)")?;
-        let line = shown(rt.alloc(), &script, 0, &[value])?;
-        assert_eq!(rt; line.as_slice(), text.as_bytes(), "at {head}");
+        let line = score(rt.alloc(), head, value)?;
+        assert_eq!(rt; line.as_slice(), text.as_bytes(), "at {value}");
     }
     Ok(())
 }

@@ -1,7 +1,7 @@
-use Rattle.std.proofs.Common.{◌≡◌, ◌∙◌, List, [], ◌∷◌, ◌++◌, map, refl, sym, ap, codes}
+use Rattle.std.proofs.Common.{map, sym}
 use Rattle.std.proofs.lemmas.List.{map-append}
-use Rattle.ra_richpresence.specs.Contents.{piece_contents, Bytes}
-use Rattle.ra_richpresence.proofs.Turns.{pieces-start, macro-turn, macro-smaller, run-more, run-smaller, run-goes_on}
+use Rattle.ra_richpresence.specs.Contents.{piece_contents}
+use Rattle.ra_richpresence.proofs.Turns.{pieces-start, macro-turn, macro-smaller, run-more, run-goes_on}
 use Rattle.ra_richpresence.proofs.pieces.read_pieces.Goals as goal
 
 pub loop-alloc-init : goal.loop-alloc-init

@@ -1,4 +1,4 @@
-use Rattle.std.proofs.Common.{◌≡◌, List, [], ◌∷◌, ◌++◌, sym}
+use Rattle.std.proofs.Common.{sym}
 use Rattle.ra_richpresence.proofs.Turns.{running-more, run-goes_on}
 use Rattle.ra_richpresence.proofs.pieces.take_run.Goals as goal
 

@@ -1,0 +1,10 @@
+use crate::script::Script;
+
+/// A script, and how long the first of its texts is that passes a limit: docs/DEFINITIONS.md,
+/// "Lookup texts".
+#[derive(Drop)]
+pub struct ReadScript {
+    pub script: Script,
+    /// The length of the first text of a kept lookup, in file order, that is longer than the limit.
+    pub long: Option<u64>,
+}
