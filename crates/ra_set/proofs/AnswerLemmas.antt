@@ -1,60 +1,57 @@
 -- A file has one answer: it is a set of certain contents, or refused for one reason.
-use Rattle.std.proofs.Common.{◌≡◌, ◌∙◌, ◌⊎◌, inl, inr, ℕ, ◌+◌, ◌<◌, ◌≤◌, ◌-◌, List, length, map, drop, Ok, Option, Some, None, slice_get, refl, sym, ap, subst, arith}
+use Rattle.std.proofs.Common.{◌≡◌, ◌∙◌, ◌⊎◌, inl, inr, ℕ, ◌+◌, ◌<◌, ◌≤◌, List, length, map, Option, Some, None, option_map, slice_get, refl, sym, ap, subst, arith}
 use Rattle.std.specs.List.{IsDistinct, sum_by}
+use Rattle.std.specs.Prelude.{All}
 use Rattle.std.proofs.lemmas.Bool.{cases_lt}
-use Rattle.std.proofs.lemmas.List.{length-map}
 use Rattle.md5.specs.Md5.{md5}
-use Rattle.ra_richpresence.specs.Contents.{ScriptContents}
+use Rattle.ra_richpresence.specs.Contents.{ScriptContents, script_contents}
+use Rattle.ra_richpresence.specs.Grammar.{ScriptParts, script_of}
+use Rattle.ra_richpresence.specs.declared.read.ReadScript.{ReadScript}
+use Rattle.ra_richpresence.specs.declared.script.Script.{Script}
 use Rattle.ra_set.specs.declared.item.Item.{Item}
+use Rattle.ra_set.specs.declared.read_file.ReadFile.{ReadFile}
 use Rattle.ra_set.specs.declared.refused.Which.TheVariants.{Bytes, Items, Conditions, Macros, Lookup}
 use Rattle.ra_set.specs.declared.refused.SetRefused.{SetRefused}
 use Rattle.ra_set.specs.declared.refused.SetRefused.TheVariants.{Syntax, DuplicateId, Limit, Memory}
 use Rattle.ra_set.specs.Accepted.{IsSet, repeats}
 use Rattle.ra_set.specs.Contents.{ItemContents, SetContents, item_contents}
-use Rattle.ra_set.specs.Grammar.{Line, set_lines, items_of}
-use Rattle.ra_set.specs.Reading.{set_lines_at}
-use Rattle.ra_set.specs.Limits.{item_conditions}
-use Rattle.ra_set.specs.Refusals.{FirstRepeat, HasLines, HasItems, PassesLimit, Refuses, id_of}
-use Rattle.ra_set.proofs.FileReaders.{one-spelling, reads-set_lines}
+use Rattle.ra_set.specs.Grammar.{Line, FileContents, items_of}
+use Rattle.ra_set.specs.Limits.{KeepsLimits, PassesLimit, item_conditions}
+use Rattle.ra_set.specs.Places.{IsFileOutside}
+use Rattle.ra_set.specs.Read.{IsReadFile, script_read}
+use Rattle.ra_set.specs.Refusals.{FirstRepeat, HasContents, HasDistinct, Refuses, id_of}
+use Rattle.ra_set.specs.ScriptLimits.{IsReadOf, read_conditions}
+use Rattle.ra_set.specs.Spelled.{IsItem, IsSpelled, OptionalScript}
+use Rattle.ra_set.proofs.ContentsLemmas.{contents-count}
+use Rattle.ra_set.proofs.FileLemmas.{file-once}
+use Rattle.ra_set.proofs.LimitLemmas.{keeps-within, within-keeps, keeps-not_passes, passes-once, read-conditions}
+use Rattle.ra_set.proofs.PlaceLemmas.{one-file_place}
 use Rattle.ra_set.proofs.RepeatLemmas.{repeat-apart}
-use Rattle.ra_set.proofs.TextCounts.{lines-count}
-use Rattle.ra_text.specs.Form.{Form}
-use Rattle.ra_text.proofs.Places.{rest_fits, whole_ok}
-use Rattle.ra_text.specs.Place.{IsBadPlace, IsOutside}
+use Rattle.ra_set.proofs.SetStructure.{contents-items}
 
 -- ---- the reasons, with what they tell
 
--- why a file is refused, as one of five
+-- why a file is refused, as one of four
 data Cause (file : List ℕ) (why : SetRefused) : Type 0 where
   too_long : 4194304 < length file → why ≡ Limit Bytes (length file) → Cause file why
-  outside : (at : ℕ) → length file ≤ 4194304 → IsOutside set_lines file at → why ≡ Syntax at → Cause file why
-  repeated : (id number : ℕ) (lines : List Line) → HasLines file lines → FirstRepeat lines id number → why ≡ DuplicateId id number → Cause file why
-  many_items : (items : List ItemContents) → HasItems file items → 16384 < length items → why ≡ Limit Items (length items) → Cause file why
-  many_conditions : (items : List ItemContents) → HasItems file items → length items ≤ 16384 → 65536 < sum_by item_conditions items → why ≡ Limit Conditions (sum_by item_conditions items) → Cause file why
+  outside : (at : ℕ) → length file ≤ 4194304 → IsFileOutside file at → why ≡ Syntax at → Cause file why
+  repeated : (id number : ℕ) (contents : FileContents) → HasContents file contents → FirstRepeat contents.lines id number → why ≡ DuplicateId id number → Cause file why
+  limited : (contents : FileContents) → HasDistinct file contents → PassesLimit (items_of contents.lines) contents.script why → Cause file why
 
 cause : (file : List ℕ) (why : SetRefused) → Refuses file why → Cause file why
 cause file (Limit Bytes found) h = too_long h.0 (ap (λ n. Limit Bytes n) h.1)
-cause file (Limit Items found) h = many_items h.0 h.1 h.2.0 (ap (λ n. Limit Items n) h.2.1)
-cause file (Limit Conditions found) h = many_conditions h.0 h.1 h.2.0 h.2.1 (ap (λ n. Limit Conditions n) h.2.2)
-cause file (Limit Macros found) h = absurd h.2
-cause file (Limit Lookup found) h = absurd h.2
+cause file (Limit Items found) h = limited h.0 h.1 h.2
+cause file (Limit Conditions found) h = limited h.0 h.1 h.2
+cause file (Limit Macros found) h = limited h.0 h.1 h.2
+cause file (Limit Lookup found) h = limited h.0 h.1 h.2
 cause file (Syntax at) h = outside at h.0 h.1 refl
 cause file (DuplicateId id number) h = repeated id number h.0 h.1 h.2 refl
 cause file Memory h = absurd h
 
 -- ---- what excludes what
 
-one-lines : (file : List ℕ) (a b : List Line) → HasLines file a → HasLines file b → a ≡ b
-one-lines file a b x y = one-spelling file a b x.spelled y.spelled
-
-one-items : (file : List ℕ) (a b : List ItemContents) → HasItems file a → HasItems file b → a ≡ b
-one-items file a b x y = x.all ∙ ap items_of (one-lines file x.lines y.lines x.spelled y.spelled) ∙ sym y.all
-
-one-place : {V : Type 0} (form : Form ℕ V) (text : List ℕ) (n m : ℕ) → IsBadPlace form text n → IsBadPlace form text m → n ≡ m
-one-place form text n m a b = elim (cases_lt n m) [
-  | inl less ↦ absurd (a.longest m less b.within b.viable)
-  | inr ge ↦ elim (cases_lt m n) [ inl less ↦ absurd (b.longest n less a.within a.viable) | inr le ↦ omega arith ]
-]
+one-contents : (file : List ℕ) (a b : FileContents) → HasContents file a → HasContents file b → a ≡ b
+one-contents file a b x y = file-once file a b x.spelled y.spelled
 
 one-repeat : (lines : List Line) (id number id' number' : ℕ) → FirstRepeat lines id number → FirstRepeat lines id' number' → DuplicateId id number ≡ DuplicateId id' number'
 one-repeat lines id number id' number' a b =
@@ -67,62 +64,66 @@ one-repeat lines id number id' number' a b =
     let item-same : a.item ≡ b.item = cc line-same in
     ap (λ i. DuplicateId i number) (a.named ∙ ap id_of item-same ∙ sym b.named) ∙ ap (λ n. DuplicateId id' n) (a.counted ∙ ap (λ n. n + 1) same ∙ sym b.counted)
 
--- lines of which one repeats an id are no items without one
-repeat-no_items : (file : List ℕ) (lines : List Line) (id number : ℕ) (items : List ItemContents) → HasLines file lines → FirstRepeat lines id number → HasItems file items → ⊥
-repeat-no_items file lines id number items h r i =
-    let same : i.lines ≡ lines = one-lines file i.lines lines i.spelled h in
-    repeat-apart lines id number r (subst (λ x. IsDistinct repeats x) (i.all ∙ ap items_of same) i.ids)
+-- contents of which a line repeats an id are not distinct
+repeat-no_distinct : (file : List ℕ) (a b : FileContents) (id number : ℕ) → HasContents file a → FirstRepeat a.lines id number → HasDistinct file b → ⊥
+repeat-no_distinct file a b id number h r d =
+    repeat-apart a.lines id number r (subst (λ c. IsDistinct repeats (items_of c.lines)) (one-contents file b a d.has h) d.ids)
+
+same-limit : (file : List ℕ) (a b : FileContents) (why why' : SetRefused) → HasDistinct file a → HasDistinct file b → PassesLimit (items_of a.lines) a.script why → PassesLimit (items_of b.lines) b.script why' → why ≡ why'
+same-limit file a b why why' x y p q = passes-once (items_of a.lines) a.script why why' p (subst (λ c. PassesLimit (items_of c.lines) c.script why') (one-contents file b a y.has x.has) q)
 
 same-cause : (file : List ℕ) (a b : SetRefused) → Cause file a → Cause file b → a ≡ b
 same-cause file a b (too_long l e) (too_long l' e') = e ∙ sym e'
 same-cause file a b (too_long l e) (outside at le o e') = absurd (omega arith)
-same-cause file a b (too_long l e) (repeated id n lines h r e') = absurd (let s = h.size in omega arith)
-same-cause file a b (too_long l e) (many_items items h m e') = absurd (let s = h.spelled.size in omega arith)
-same-cause file a b (too_long l e) (many_conditions items h m c e') = absurd (let s = h.spelled.size in omega arith)
+same-cause file a b (too_long l e) (repeated id n contents h r e') = absurd (let s = h.size in omega arith)
+same-cause file a b (too_long l e) (limited contents h p) = absurd (let s = h.has.size in omega arith)
 same-cause file a b (outside at le o e) (too_long l e') = absurd (omega arith)
-same-cause file a b (outside at le o e) (outside at' le' o' e') = e ∙ ap (λ n. Syntax n) (one-place set_lines file at at' o.place o'.place) ∙ sym e'
-same-cause file a b (outside at le o e) (repeated id n lines h r e') = absurd (o.outside lines h.spelled)
-same-cause file a b (outside at le o e) (many_items items h m e') = absurd (o.outside h.lines h.spelled.spelled)
-same-cause file a b (outside at le o e) (many_conditions items h m c e') = absurd (o.outside h.lines h.spelled.spelled)
-same-cause file a b (repeated id n lines h r e) (too_long l e') = absurd (let s = h.size in omega arith)
-same-cause file a b (repeated id n lines h r e) (outside at le o e') = absurd (o.outside lines h.spelled)
-same-cause file a b (repeated id n lines h r e) (repeated id' n' lines' h' r' e') = e ∙ one-repeat lines id n id' n' r (subst (λ ls. FirstRepeat ls id' n') (one-lines file lines' lines h' h) r') ∙ sym e'
-same-cause file a b (repeated id n lines h r e) (many_items items i m e') = absurd (repeat-no_items file lines id n items h r i)
-same-cause file a b (repeated id n lines h r e) (many_conditions items i m c e') = absurd (repeat-no_items file lines id n items h r i)
-same-cause file a b (many_items items h m e) (too_long l e') = absurd (let s = h.spelled.size in omega arith)
-same-cause file a b (many_items items h m e) (outside at le o e') = absurd (o.outside h.lines h.spelled.spelled)
-same-cause file a b (many_items items i m e) (repeated id n lines h r e') = absurd (repeat-no_items file lines id n items h r i)
-same-cause file a b (many_items items h m e) (many_items items' h' m' e') = e ∙ ap (λ xs. Limit Items (length xs)) (one-items file items items' h h') ∙ sym e'
-same-cause file a b (many_items items h m e) (many_conditions items' h' m' c e') = absurd (omega (arith, ap length (one-items file items items' h h')))
-same-cause file a b (many_conditions items h m c e) (too_long l e') = absurd (let s = h.spelled.size in omega arith)
-same-cause file a b (many_conditions items h m c e) (outside at le o e') = absurd (o.outside h.lines h.spelled.spelled)
-same-cause file a b (many_conditions items i m c e) (repeated id n lines h r e') = absurd (repeat-no_items file lines id n items h r i)
-same-cause file a b (many_conditions items h m c e) (many_items items' h' m' e') = absurd (omega (arith, ap length (one-items file items items' h h')))
-same-cause file a b (many_conditions items h m c e) (many_conditions items' h' m' c' e') = e ∙ ap (λ xs. Limit Conditions (sum_by item_conditions xs)) (one-items file items items' h h') ∙ sym e'
+same-cause file a b (outside at le o e) (outside at' le' o' e') = e ∙ ap (λ n. Syntax n) (one-file_place file at at' o o') ∙ sym e'
+same-cause file a b (outside at le o e) (repeated id n contents h r e') = absurd (o.outside contents h.spelled)
+same-cause file a b (outside at le o e) (limited contents h p) = absurd (o.outside contents h.has.spelled)
+same-cause file a b (repeated id n contents h r e) (too_long l e') = absurd (let s = h.size in omega arith)
+same-cause file a b (repeated id n contents h r e) (outside at le o e') = absurd (o.outside contents h.spelled)
+same-cause file a b (repeated id n contents h r e) (repeated id' n' contents' h' r' e') =
+    e ∙ one-repeat contents.lines id n id' n' r (subst (λ c. FirstRepeat c.lines id' n') (one-contents file contents' contents h' h) r') ∙ sym e'
+same-cause file a b (repeated id n contents h r e) (limited contents' d p) = absurd (repeat-no_distinct file contents contents' id n h r d)
+same-cause file a b (limited contents d p) (too_long l e') = absurd (let s = d.has.size in omega arith)
+same-cause file a b (limited contents d p) (outside at le o e') = absurd (o.outside contents d.has.spelled)
+same-cause file a b (limited contents d p) (repeated id n contents' h r e') = absurd (repeat-no_distinct file contents' contents id n h r d)
+same-cause file a b (limited contents d p) (limited contents' d' p') = same-limit file contents contents' a b d d' p p'
 
 -- the same file is not refused for two reasons
 pub one-refusal : (file : List ℕ) (a b : SetRefused) → Refuses file a → Refuses file b → a ≡ b
 one-refusal file a b x y = same-cause file a b (cause file a x) (cause file b y)
 
--- a set has the items of its file
-set-items : (file : List ℕ) (set : SetContents) → IsSet file set → HasItems file set.items
-set-items file set h = record { lines = h.spelled.lines; spelled = record { size = h.size; spelled = h.spelled.spelled }; all = h.spelled.items; ids = h.ids }
+-- ---- sets
+
+-- a set has the contents of its file
+set-contents : (file : List ℕ) (set : SetContents) → (s : IsSet file set) → HasContents file s.spelled.contents
+set-contents file set s = record { size = s.size; spelled = s.spelled.spelled }
+
+-- and these keep the limits
+set-keeps : (file : List ℕ) (set : SetContents) → (s : IsSet file set) → KeepsLimits (items_of s.spelled.contents.lines) s.spelled.contents.script
+set-keeps file set s = subst (λ items. KeepsLimits items s.spelled.contents.script) s.spelled.items (within-keeps set s.spelled.contents.script s.spelled.script s.limits)
 
 -- a set is not refused
 pub set-not_refused : (file : List ℕ) (set : SetContents) (why : SetRefused) → IsSet file set → Refuses file why → ⊥
 set-not_refused file set why s h = elim (cause file why h) [
   | too_long l e ↦ let z = s.size in omega arith
-  | outside at le o e ↦ o.outside s.spelled.lines s.spelled.spelled
-  | repeated id n lines l r e ↦ repeat-no_items file lines id n set.items l r (set-items file set s)
-  | many_items items i m e ↦ omega (arith, s.limits.items, ap length (one-items file items set.items i (set-items file set s)))
-  | many_conditions items i m c e ↦ omega (arith, s.limits.conditions, ap (sum_by item_conditions) (one-items file items set.items i (set-items file set s)))
+  | outside at le o e ↦ o.outside s.spelled.contents s.spelled.spelled
+  | repeated id n contents c r e ↦ repeat-no_distinct file contents s.spelled.contents id n c r
+      (record { has = set-contents file set s; ids = subst (IsDistinct repeats) s.spelled.items s.ids })
+  | limited contents d p ↦ keeps-not_passes (items_of contents.lines) contents.script why
+      (subst (λ c. KeepsLimits (items_of c.lines) c.script) (one-contents file s.spelled.contents contents (set-contents file set s) d.has) (set-keeps file set s)) p
 ]
 
 -- a file spells one set
 pub same-set : (file : List ℕ) (a b : SetContents) → IsSet file a → IsSet file b → a ≡ b
-same-set file a b x y = fields a.items b.items a.script b.script a.digest b.digest (one-items file a.items b.items (set-items file a x) (set-items file b y)) (x.spelled.script ∙ sym y.spelled.script) (x.digest ∙ sym y.digest) where
-  fields : (i j : List ItemContents) (s t : Option ScriptContents) (d e : List ℕ) → i ≡ j → s ≡ t → d ≡ e → ◌≡◌ {A = SetContents} (record { items = i; script = s; digest = d }) (record { items = j; script = t; digest = e })
-  fields i j s t d e p q r = ap (λ x. record { items = x; script = s; digest = d }) p ∙ ap (λ x. record { items = j; script = x; digest = d }) q ∙ ap (λ x. record { items = j; script = t; digest = x }) r
+same-set file a b x y =
+    let same = one-contents file x.spelled.contents y.spelled.contents (set-contents file a x) (set-contents file b y) in
+    fields a.items b.items a.script b.script a.digest b.digest (x.spelled.items ∙ ap (λ c. items_of c.lines) same ∙ sym y.spelled.items)
+    (x.spelled.script ∙ ap (λ c. option_map script_of c.script) same ∙ sym y.spelled.script) (x.digest ∙ sym y.digest) where
+      fields : (i j : List ItemContents) (s t : Option ScriptContents) (d e : List ℕ) → i ≡ j → s ≡ t → d ≡ e → ◌≡◌ {A = SetContents} (record { items = i; script = s; digest = d }) (record { items = j; script = t; digest = e })
+      fields i j s t d e p q r = ap (λ x. record { items = x; script = s; digest = d }) p ∙ ap (λ x. record { items = j; script = x; digest = d }) q ∙ ap (λ x. record { items = j; script = t; digest = x }) r
 
 -- ---- what a call answers
 
@@ -136,50 +137,71 @@ pub error-of_refused : (file : List ℕ) (e : SetRefused) → (e ≡ Memory ⊎ 
 error-of_refused file e (inl memory) why h = inl memory
 error-of_refused file e (inr refuses) why h = inr (one-refusal file e why refuses h)
 
--- items pass a limit where they are those of the file
-pub limit-refuses : (file : List ℕ) (items : List ItemContents) (why : SetRefused) → HasItems file items → PassesLimit items why → Refuses file why
-limit-refuses file items (Limit Bytes found) h p = absurd p
-limit-refuses file items (Limit Items found) h p = (items, h, p)
-limit-refuses file items (Limit Conditions found) h p = (items, h, p)
-limit-refuses file items (Limit Macros found) h p = absurd p
-limit-refuses file items (Limit Lookup found) h p = absurd p
-limit-refuses file items (Syntax at) h p = absurd p
-limit-refuses file items (DuplicateId id number) h p = absurd p
-limit-refuses file items Memory h p = absurd p
+-- contents pass a limit
+limit-refuses : (file : List ℕ) (contents : FileContents) (why : SetRefused) → HasDistinct file contents → PassesLimit (items_of contents.lines) contents.script why → Refuses file why
+limit-refuses file contents (Limit Bytes found) h p = absurd p
+limit-refuses file contents (Limit Items found) h p = (contents, h, p)
+limit-refuses file contents (Limit Conditions found) h p = (contents, h, p)
+limit-refuses file contents (Limit Macros found) h p = (contents, h, p)
+limit-refuses file contents (Limit Lookup found) h p = (contents, h, p)
+limit-refuses file contents (Syntax at) h p = absurd p
+limit-refuses file contents (DuplicateId id number) h p = absurd p
+limit-refuses file contents Memory h p = absurd p
 
--- ---- what is kept of the lines of a file
+-- ---- what was read of a file
 
--- a file that is read to its end has the lines that were read
-pub all-lines : (file start rest : List ℕ) (lines : List Line) → length file ≤ 4194304 → start ≡ drop 0 file → set_lines_at start ≡ Ok (lines, rest) → (at : ℕ) → at ≡ length file - length rest → length file ≤ at → HasLines file lines
-all-lines file start rest lines size is e at place end =
-    let whole : set_lines_at file ≡ Ok (lines, rest) = subst (λ t. set_lines_at t ≡ Ok (lines, rest)) is e in
-    let fits = rest_fits set_lines set_lines_at reads-set_lines file 0 start is (Ok (lines, rest)) e in
-    record { size = size; spelled = whole_ok set_lines set_lines_at reads-set_lines file lines rest whole (omega (arith, fits)) }
+-- the script that was read is that of its parts
+script-made : (parts : Option ScriptParts) (read : Option ReadScript) → IsReadOf parts read → script_read read ≡ option_map script_of parts
+script-made None None is = refl
+script-made None (Some read) is = absurd is
+script-made (Some parts) None is = absurd is
+script-made (Some parts) (Some read) is = ap (λ s. Some s) is.made
 
--- what is kept of all lines is items, where no line repeats an id
-pub items-of_file : (file : List ℕ) (lines : List Line) (items : List ItemContents) → HasLines file lines → (items ≡ items_of lines) × IsDistinct repeats (items_of lines) → HasItems file items
-items-of_file file lines items h both = record { lines = lines; spelled = h; all = both.0; ids = subst (IsDistinct repeats) (sym both.0) both.1 }
+-- the contents of a script without what was noted beside it
+alone-read : (read : Option ReadScript) (alone : Option Script) → alone ≡ option_map (λ r. r.script) read → option_map script_contents alone ≡ script_read read
+alone-read None alone is = ap (option_map script_contents) is
+alone-read (Some read) alone is = ap (option_map script_contents) is
 
--- and a refusal, where one does
-pub repeat-refuses : (file : List ℕ) (lines : List Line) (why : SetRefused) → HasLines file lines → (id : ℕ) × (number : ℕ) × (why ≡ DuplicateId id number) × FirstRepeat lines id number → why ≡ Memory ⊎ Refuses file why
-repeat-refuses file lines why h r = inr (subst (Refuses file) (sym r.2) (lines, h, r.3))
+module _ (file : List ℕ) (read : ReadFile) (h : IsReadFile file read) where
+  -- what was read passes a limit
+  read-refuses : (why : SetRefused) → PassesLimit (map item_contents read.items.items) h.contents.script why → Refuses file why
+  read-refuses why p = limit-refuses file h.contents why h.distinct (subst (λ items. PassesLimit items h.contents.script why) h.items p)
 
--- a file has few conditions, as it has few bytes
-pub few-conditions : (file : List ℕ) (items : List ItemContents) → HasItems file items → sum_by item_conditions items ≤ 4194304
-few-conditions file items h = let few = lines-count file h.lines h.spelled.spelled in let s = h.spelled.size in omega (arith, ap (sum_by item_conditions) h.all)
+  -- or is a set
+  read-set : KeepsLimits (map item_contents read.items.items) h.contents.script → (digest : List ℕ) → digest ≡ md5 file → IsSet file (record { items = map item_contents read.items.items; script = script_read read.script; digest = digest })
+  read-set keeps digest is = record {
+    size = h.distinct.has.size;
+    spelled = record { contents = h.contents; spelled = h.distinct.has.spelled; items = h.items; script = script-made h.contents.script read.script h.script };
+    ids = subst (IsDistinct repeats) (sym h.items) h.distinct.ids;
+    limits = keeps-within (record { items = map item_contents read.items.items; script = script_read read.script; digest = digest }) h.contents.script (script-made h.contents.script read.script h.script) keeps;
+    digest = is;
+  }
 
--- the set that is made of a file's items
-pub made-set : (file : List ℕ) (items : List ItemContents) (digest : List ℕ) → HasItems file items → length items ≤ 16384 → sum_by item_conditions items ≤ 65536 → digest ≡ md5 file → IsSet file (record { items = items; script = None; digest = digest })
-made-set file items digest h few small is = record {
-  size = h.spelled.size;
-  spelled = record { lines = h.lines; spelled = h.spelled.spelled; items = h.all; script = refl };
-  ids = h.ids;
-  limits = record { items = few; conditions = omega (arith, small); script = tt };
-  digest = is;
-}
+  -- the items and the script as they are looked at
+  module _ (seen : List Item) (items : seen ≡ read.items.items) (found : Option ReadScript) (script : found ≡ read.script) where
+    -- they have few conditions
+    pub few-conditions : sum_by item_conditions (map item_contents seen) + read_conditions found ≤ 4194304
+    few-conditions =
+        let few = contents-count file h.contents h.distinct.has.spelled in
+        let all : sum_by item_conditions (map item_contents seen) ≡ sum_by item_conditions (items_of h.contents.lines) = ap (λ xs. sum_by item_conditions (map item_contents xs)) items ∙ ap (sum_by item_conditions) h.items in
+        omega (arith, few, h.distinct.has.size, all, ap read_conditions script, read-conditions h.contents.script read.script h.script)
 
--- the same of items as they lie in memory
-pub made-from : (file : List ℕ) (seen items : List Item) (digest : List ℕ) → seen ≡ items → HasItems file (map item_contents items) → length seen ≤ 16384 → sum_by item_conditions (map item_contents seen) ≤ 65536 → digest ≡ md5 file
-    → IsSet file (record { items = map item_contents items; script = None; digest = digest })
-made-from file seen items digest same h few small is = made-set file (map item_contents items) digest h
-    (omega (arith, few, ap length same, length-map items item_contents)) (subst (λ xs. sum_by item_conditions (map item_contents xs) ≤ 65536) same small) is
+    -- and are those of the file
+    seen-read : IsReadOf h.contents.script found
+    seen-read = subst (IsReadOf h.contents.script) (sym script) h.script
+
+    pub seen-refuses : (why : SetRefused) → ((parts : Option ScriptParts) → IsReadOf parts found → PassesLimit (map item_contents seen) parts why) → Refuses file why
+    seen-refuses why p = read-refuses why (subst (λ xs. PassesLimit (map item_contents xs) h.contents.script why) items (p h.contents.script seen-read))
+
+    pub seen-set : ((parts : Option ScriptParts) → IsReadOf parts found → KeepsLimits (map item_contents seen) parts) → (alone : Option Script) → alone ≡ option_map (λ r. r.script) read.script → (digest : List ℕ) → digest ≡ md5 file
+        → IsSet file (record { items = map item_contents read.items.items; script = option_map script_contents alone; digest = digest })
+    seen-set keeps alone is digest md = subst (λ s. IsSet file (record { items = map item_contents read.items.items; script = s; digest = digest })) (sym (alone-read read.script alone is))
+        (read-set (subst (λ xs. KeepsLimits (map item_contents xs) h.contents.script) items (keeps h.contents.script seen-read)) digest md)
+
+  -- what was read has the structure of a set
+  pub read-spelled : OptionalScript (script_read read.script) → (alone : Option Script) → alone ≡ option_map (λ r. r.script) read.script → (digest : List ℕ)
+      → IsSpelled (record { items = map item_contents read.items.items; script = option_map script_contents alone; digest = digest })
+  read-spelled spelled alone is digest = record {
+    items = subst (All IsItem) (sym h.items) (contents-items file h.contents h.distinct.has.spelled);
+    script = subst OptionalScript (sym (alone-read read.script alone is)) spelled;
+  }

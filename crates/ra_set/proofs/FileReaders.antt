@@ -1,301 +1,301 @@
--- The reader of the lines of a file: rows with an LF between them spell the lines, each with its end.
-use Rattle.std.proofs.Common.{◌≡◌, ◌∙◌, ◌⊎◌, inl, inr, ℕ, Bool, true, false, not, List, [], ◌∷◌, ◌++◌, length, None, Ok, refl, sym, ap, subst, subst₂, codes, append-nil, append_assoc}
-use Rattle.ra_set.specs.Grammar.{Line, comment, line, line_end, ended_line, set_lines}
-use Rattle.ra_set.specs.Reading.{row_at, rows_at, lines_of, set_lines_at}
-use Rattle.ra_set.specs.Runs.{many}
-use Rattle.ra_set.proofs.LineReaders.{NotEnd, row, item_line, returns, reader-row, comment-returned}
-use Rattle.ra_text.specs.Chain.{Chain}
-use Rattle.ra_text.specs.Form.{Form, Spell, One, Then, Viable}
-use Rattle.ra_text.specs.Place.{OneSpelling}
-use Rattle.ra_text.specs.Reading.{Outcome, Reads, ◌>>=◌, chain_at}
-use Rattle.ra_text.specs.Table.{lookup, only, marks}
-use Rattle.ra_text.proofs.Begins.{IsListed, Firsts, firsts-then, firsts-spell}
-use Rattle.ra_text.proofs.Chains.{reader-chain, firsts-chain}
-use Rattle.ra_text.proofs.Either.{reader-map}
-use Rattle.ra_text.proofs.Readers.{Reader, reader-then, reads-of}
-use Rattle.ra_text.proofs.Steps.{reads-same}
-use Rattle.ra_text.proofs.Places.{spelled-once}
-use Rattle.ra_text.proofs.Tables.{listed_in, each-in, each-listed}
+-- The reader of files up to their script: rows with an LF behind each spell the lines with their ends.
+use Rattle.std.proofs.Common.{◌≡◌, ◌∙◌, ◌⊎◌, inl, inr, ℕ, zero, suc, ◌<◌, ◌≤◌, ◌==◌, Bool, true, false, if◌then◌else◌, List, [], ◌∷◌, ◌++◌, length, None, Ok, Err, refl, sym, ap, subst, subst₂, codes, arith, append-nil, eqb-true, eq-eqb}
+use Rattle.ra_set.specs.Grammar.{Line, line}
+use Rattle.ra_set.specs.Reading.{Tail, Ends, Letter, Opens, feed_at, opens_at, letter_at, with_lines, last_at, behind_row_at, row_and_others_at, front_from, front_at}
+use Rattle.ra_set.proofs.LineReaders.{row, comment_row, item_row, reader-row, begins-comment_row, firsts-item_row}
+use Rattle.ra_set.proofs.RowLines.{line-row, row-line}
+use Rattle.ra_set.proofs.RunLemmas.{only-byte}
+use Rattle.ra_text.specs.Form.{Form, Then, Viable}
+use Rattle.ra_text.specs.Reading.{Outcome, Reads, ◌>>=◌}
+use Rattle.ra_text.specs.Table.{is_in, only}
+use Rattle.ra_text.proofs.Begins.{Firsts, firsts-or, firsts-wider, firsts-begins}
+use Rattle.ra_text.proofs.Steps.{BeginsAs, reads-more, reads-none, reads-spell, reads-step, same-ok, viable-whole}
+use Rattle.ra_text.proofs.Tables.{In, in_within}
 
--- the rows behind an LF each, where the row before says whether it wants one
-abbrev pub other_rows : Bool → Form ℕ (List (Line × Bool))
-other_rows = Chain (λ wants. only (codes "\n")) (λ wants tag. row) (λ wants r. r.1) not
+-- ---- the front of a file, as rows
 
--- rows with an LF between them, of which the last wants none
-abbrev pub rows : Form ℕ (List (Line × Bool))
-rows = Then row (λ first. Then (other_rows first.1) (λ others. Spell (first ∷ others)))
+-- a row with an LF, and what stands behind it
+pub record Ended (l : Line) (others : List ℕ → Type 0) (text : List ℕ) : Type 0 where
+  pub wants : Bool
+  pub front : List ℕ
+  pub behind : List ℕ
+  pub parts : text ≡ front ++ 10 ∷ behind
+  pub of_row : row front (l, wants)
+  pub of_others : others behind
 
--- the rows behind the first, as they are read
-abbrev other_rows_at : Bool → List ℕ → Outcome ℕ (List (Line × Bool))
-other_rows_at wants text = chain_at (λ wants. only (codes "\n")) (λ wants tag. row_at) (λ wants r. r.1) not (length text) wants text
+-- how the lines of a file end
+abbrev pub TailOf : Tail → List ℕ → Type 0
+TailOf (Ends l) text = line text l
+TailOf Letter text = text ≡ codes "P"
+TailOf (Opens behind) text = (text ≡ 80 ∷ 10 ∷ behind) ⊎ (text ≡ 80 ∷ 13 ∷ 10 ∷ behind)
 
--- anything may stand behind a file
-Any : ℕ → Type 0
-Any c = Unit {0}
+-- rows with an LF each, and how the lines end
+abbrev pub Front : List Line → Tail → List ℕ → Type 0
+Front [] tail text = TailOf tail text
+Front (l ∷ ended) tail text = Ended l (Front ended tail) text
 
-end-is : (c : ℕ) → IsListed (only (codes "\n")) c → c ≡ 10
-end-is c h = each-in (λ c. c ≡ 10) (codes "\n") (refl, tt) c (listed_in (marks (codes "\n")) c h)
+-- the front of a file
+abbrev pub file_front : Form ℕ (List Line × Tail)
+file_front text found = Front found.0 found.1 text
 
--- a row of nothing, which wants no LF
-no-row : row [] (None, false)
-no-row = inr (record {
-  front = [];
-  behind = [];
-  v = None;
-  parts = refl;
-  of_first = inr (inr (record { empty = refl; is = refl }));
-  of_next = record { front = []; behind = []; v = false; parts = refl; of_first = inr (record { empty = refl; is = refl }); of_next = record { empty = refl; is = refl } };
-})
+-- ---- readings of texts that are given whole
 
-rows-complete : (wants : Bool) → Viable (other_rows wants) []
-rows-complete false = record { more = []; v = []; whole = (refl, refl) }
-rows-complete true = record {
-  more = codes "\n";
-  v = (None, false) ∷ [];
-  whole = record { symbol = 10; tag = tt; front = []; behind = []; parts = refl; separated = refl; of_item = no-row; of_others = (refl, refl) };
+-- all of a text, which spells one value
+reads-all : {A V : Type 0} (form : Form A V) (text : List A) (v : V) → form text v → ((w : V) → form text w → w ≡ v) → Reads form text (Ok (v, []))
+reads-all form text v here unique = record {
+  front = text;
+  parts = sym (append-nil text);
+  viable = viable-whole text v here;
+  halts = λ symbol rest e viable. absurd (cc e);
+  spelled = λ w rest e. subst (λ x. form text x) (ap (λ p. p.0) (same-ok (v, []) (w, rest) e)) here;
+  only = λ w h. let same : w ≡ v = unique w h in cc same;
 }
 
-reader-other_rows : (wants : Bool) → Reader (other_rows wants) (other_rows_at wants) Any
-unfolding Any
-reader-other_rows wants = reader-chain (λ wants. only (codes "\n")) (λ wants tag. row) (λ wants tag. row_at) (λ wants r. r.1) not Any NotEnd
-    (λ s tag. reader-row) (λ s c h on. on (end-is c h)) (λ c on. tt) (λ s c h. tt) rows-complete wants
+-- a form whose values are changed
+abbrev Changed : {A V W : Type 0} → Form A V → (V → W) → Form A W
+Changed {A} {V} {W} form change text w = (v : V) × form text v × (w ≡ change v)
 
-firsts-others : (first : Line × Bool) → Firsts {V = List (Line × Bool)} (Then (other_rows first.1) (λ others. Spell (first ∷ others))) (IsListed (only (codes "\n")))
-firsts-others first = firsts-then (other_rows first.1) (λ others. Spell (first ∷ others)) (IsListed (only (codes "\n")))
-    (firsts-chain (λ wants. only (codes "\n")) (λ wants tag. row) (λ wants r. r.1) not first.1) (λ others. firsts-spell (first ∷ others) (IsListed (only (codes "\n"))))
+viable-changed : {A V W : Type 0} (form : Form A V) (change : V → W) (text : List A) → Viable form text → Viable (Changed form change) text
+viable-changed form change text viable = record { more = viable.more; v = change viable.v; whole = (viable.v, viable.whole, refl) }
 
-reader-rows : Reader rows rows_at Any
-unfolding rows_at Any
-reader-rows = reader-then row (λ first. Then (other_rows first.1) (λ others. Spell (first ∷ others))) row_at (λ first. other_rows_at first.0.1 first.1 >>= λ others. Ok (first.0 ∷ others.0, others.1)) NotEnd Any
-    reader-row
-    (λ first. reader-map (other_rows first.1) (other_rows_at first.1) Any (λ others. first ∷ others) (reader-other_rows first.1))
-    (λ first c s vs h on. on (end-is c ((firsts-others first).first c s vs h)))
-    (λ v x h c on. tt)
+unchanged : {A V W : Type 0} (form : Form A V) (change : V → W) (text : List A) → Viable (Changed form change) text → Viable form text
+unchanged form change text viable = record { more = viable.more; v = viable.whole.0; whole = viable.whole.1 }
 
--- ---- lines with their ends are rows with an LF between them
+reads-changed : {A V W : Type 0} (form : Form A V) (change : V → W) (text : List A) (outcome : Outcome A V) → Reads form text outcome → Reads (Changed form change) text (outcome >>= λ x. Ok (change x.0, x.1))
+reads-changed form change text (Ok x) r = record {
+  front = r.front;
+  parts = r.parts;
+  viable = viable-changed form change r.front r.viable;
+  halts = λ symbol rest e viable. r.halts symbol rest e (unchanged form change (r.front ++ symbol ∷ []) viable);
+  spelled = λ w rest e. (x.0, r.spelled x.0 x.1 refl, sym (ap (λ p. p.0) (same-ok (change x.0, x.1) (w, rest) e)));
+  only = λ w h. let same : x.0 ≡ h.0 = ap (λ p. p.0) (same-ok x (h.0, x.1) (r.only h.0 h.1)) in ap (λ v. Ok (v, x.1)) (ap change same ∙ sym h.2);
+}
+reads-changed form change text (Err left) r = record {
+  front = r.front;
+  parts = r.parts;
+  viable = viable-changed form change r.front r.viable;
+  halts = λ symbol rest e viable. r.halts symbol rest e (unchanged form change (r.front ++ symbol ∷ []) viable);
+  spelled = λ w rest e. absurd (cc e);
+  only = λ w h. absurd (let e = r.only h.0 h.1 in cc e);
+}
 
--- a comment is a row that wants no LF
-comment-row : (t : List ℕ) (l : Line) → comment t l → row t (l, false)
-comment-row t l h = inl (record { front = t; behind = []; v = l; parts = sym (append-nil t); of_first = h; of_next = record { empty = refl; is = refl } })
+-- ---- a line "P"
 
--- a line that is no comment, without a CR and with one
-item-row : (t : List ℕ) (l : Line) → item_line t l → row t (l, false)
-item-row t l h = inr (record {
-  front = t;
-  behind = [];
-  v = l;
-  parts = sym (append-nil t);
-  of_first = h;
-  of_next = record { front = []; behind = []; v = false; parts = refl; of_first = inr (record { empty = refl; is = refl }); of_next = record { empty = refl; is = refl } };
-})
+-- a byte is itself
+not-self : (byte : ℕ) → (byte == byte) ≡ false → ⊥
+not-self byte e = let is : (byte == byte) ≡ true = eq-eqb byte byte refl in cc (e, is)
 
-item-returned : (t : List ℕ) (l : Line) → item_line t l → row (t ++ codes "\r") (l, true)
-item-returned t l h = inr (record {
-  front = t;
-  behind = codes "\r";
-  v = l;
-  parts = refl;
-  of_first = h;
-  of_next = record { front = codes "\r"; behind = []; v = true; parts = refl; of_first = inl (record { symbol = 13; alone = refl; listed = refl }); of_next = record { empty = refl; is = refl } };
-})
+-- behind the CR of a line "P"
+abbrev Feed : Form ℕ Tail
+Feed text (Ends l) = ⊥
+Feed text Letter = ⊥
+Feed text (Opens behind) = text ≡ 10 ∷ behind
 
--- a line is a row that wants no LF
-line-row : (t : List ℕ) (l : Line) → line t l → row t (l, false)
-line-row t l (inl h) = comment-row t l h
-line-row t l (inr h) = item-row t l h
+-- behind the letter of a line "P"
+abbrev End : Form ℕ Tail
+End text (Ends l) = ⊥
+End text Letter = text ≡ []
+End text (Opens behind) = (text ≡ 10 ∷ behind) ⊎ (text ≡ 13 ∷ 10 ∷ behind)
 
--- one byte alone in its table
-one-is : (byte : ℕ) (t : List ℕ) (v : Unit {0}) → One (only (byte ∷ [])) t v → t ≡ byte ∷ []
-one-is byte t v h = h.alone ∙ ap (λ c. c ∷ []) (each-in (λ c. c ≡ byte) (byte ∷ []) (refl, tt) h.symbol (listed_in (marks (byte ∷ [])) h.symbol (v, h.listed)))
+feed-once : (rest : List ℕ) (tail : Tail) → Feed (10 ∷ rest) tail → tail ≡ Opens rest
+feed-once rest (Ends l) h = absurd h
+feed-once rest Letter h = absurd h
+feed-once rest (Opens behind) h = let same : behind ≡ rest = cc h in ap (λ t. Opens t) same
 
--- LF, or CR LF
-end-text : (e : List ℕ) (v : Unit {0}) → line_end e v → (e ≡ codes "\n") ⊎ (e ≡ codes "\r\n")
-end-text e v h = elim h.of_first [
-  | inl return ↦ inr (h.parts ∙ ap (λ x. x ++ h.behind) (one-is 13 h.front h.v return) ∙ ap (λ x. codes "\r" ++ x) (one-is 10 h.behind v h.of_next))
-  | inr none ↦ inl (h.parts ∙ ap (λ x. x ++ h.behind) none.empty ∙ one-is 10 h.behind v h.of_next)
+feed-empty : (tail : Tail) → Feed [] tail → ⊥
+feed-empty (Ends l) h = h
+feed-empty Letter h = h
+feed-empty (Opens behind) h = cc h
+
+feed-byte : (byte : ℕ) (rest : List ℕ) (tail : Tail) → Feed (byte ∷ rest) tail → byte ≡ 10
+feed-byte byte rest (Ends l) h = absurd h
+feed-byte byte rest Letter h = absurd h
+feed-byte byte rest (Opens behind) h = cc h
+
+feeds : Viable Feed []
+feeds = record { more = codes "\n"; v = Opens []; whole = refl }
+
+reads-feed : (text : List ℕ) → Reads Feed text (feed_at text)
+reads-feed [] = reads-none Feed [] feeds (λ byte rest e viable. absurd (cc e)) feed-empty
+reads-feed (byte ∷ rest) = decided (byte == 10) refl where
+  decided : (same : Bool) → (byte == 10) ≡ same → Reads Feed (byte ∷ rest) (if same then Ok (Opens rest, []) else Err (byte ∷ rest))
+  decided true e = let is : byte ≡ 10 = eqb-true byte 10 e in
+      subst (λ b. Reads Feed (b ∷ rest) (Ok (Opens rest, []))) (sym is) (reads-all Feed (10 ∷ rest) (Opens rest) refl (feed-once rest))
+  decided false e = reads-none Feed (byte ∷ rest) feeds
+      (λ symbol more is viable. let same : byte ≡ symbol = cc is in
+      let feed : symbol ≡ 10 = feed-byte symbol viable.more viable.v viable.whole in
+      not-self 10 (subst (λ b. (b == 10) ≡ false) (same ∙ feed) e))
+      feed-empty
+
+end-once : (rest : List ℕ) (tail : Tail) → End (10 ∷ rest) tail → tail ≡ Opens rest
+end-once rest (Ends l) h = absurd h
+end-once rest Letter h = absurd (cc h)
+end-once rest (Opens behind) (inl h) = let same : behind ≡ rest = cc h in ap (λ t. Opens t) same
+end-once rest (Opens behind) (inr h) = absurd (cc h)
+
+end-feed : (rest : List ℕ) (tail : Tail) → Feed rest tail → End (13 ∷ rest) tail
+end-feed rest (Ends l) h = h
+end-feed rest Letter h = absurd h
+end-feed rest (Opens behind) h = inr (ap (λ t. 13 ∷ t) h)
+
+feed-end : (rest : List ℕ) (tail : Tail) → End (13 ∷ rest) tail → Feed rest tail
+feed-end rest (Ends l) h = h
+feed-end rest Letter h = absurd (cc h)
+feed-end rest (Opens behind) (inl h) = absurd (cc h)
+feed-end rest (Opens behind) (inr h) = cc h
+
+end-byte : (byte : ℕ) (rest : List ℕ) (tail : Tail) → End (byte ∷ rest) tail → (byte ≡ 10) ⊎ (byte ≡ 13)
+end-byte byte rest (Ends l) h = absurd h
+end-byte byte rest Letter h = absurd (cc h)
+end-byte byte rest (Opens behind) (inl h) = inl (cc h)
+end-byte byte rest (Opens behind) (inr h) = inr (cc h)
+
+end-empty : (tail : Tail) → End [] tail → tail ≡ Letter
+end-empty (Ends l) h = absurd h
+end-empty Letter h = refl
+end-empty (Opens behind) (inl h) = absurd (cc h)
+end-empty (Opens behind) (inr h) = absurd (cc h)
+
+reads-end : (text : List ℕ) → Reads End text (opens_at text)
+reads-end [] = reads-all End [] Letter refl end-empty
+reads-end (byte ∷ rest) = decided (byte == 10) (byte == 13) refl refl where
+  decided : (feed returned : Bool) → (byte == 10) ≡ feed → (byte == 13) ≡ returned
+      → Reads End (byte ∷ rest) (if feed then Ok (Opens rest, []) else if returned then feed_at rest else Ok (Letter, byte ∷ rest))
+  decided true returned e f = let is : byte ≡ 10 = eqb-true byte 10 e in
+      subst (λ b. Reads End (b ∷ rest) (Ok (Opens rest, []))) (sym is) (reads-all End (10 ∷ rest) (Opens rest) (inl refl) (end-once rest))
+  decided false true e f = let is : byte ≡ 13 = eqb-true byte 13 f in
+      subst (λ b. Reads End (b ∷ rest) (feed_at rest)) (sym is) (reads-step End Feed 13 rest (feed_at rest) end-feed feed-end (reads-feed rest))
+  decided false false e f = reads-spell End (byte ∷ rest) Letter refl end-empty
+      (λ symbol more is viable. let same : byte ≡ symbol = cc is in elim (end-byte symbol viable.more viable.v viable.whole) [
+        | inl ten ↦ not-self 10 (subst (λ b. (b == 10) ≡ false) (same ∙ ten) e)
+        | inr thirteen ↦ not-self 13 (subst (λ b. (b == 13) ≡ false) (same ∙ thirteen) f)
+      ])
+
+-- the bytes that a row begins with, if it is not empty
+firsts-row : Firsts row (In (codes "#AL\r"))
+firsts-row = firsts-or comment_row item_row (In (codes "#AL\r"))
+    (firsts-wider comment_row (In (codes "#")) (In (codes "#AL\r")) (in_within (codes "#") (codes "#AL\r") refl) (firsts-begins comment_row (In (codes "#")) begins-comment_row))
+    (firsts-wider item_row (In (codes "AL\r")) (In (codes "#AL\r")) (in_within (codes "AL\r") (codes "#AL\r") refl) firsts-item_row)
+
+-- no row begins with the letter "P"
+row-no_letter : (t : List ℕ) (r : Line × Bool) → row (80 ∷ t) r → ⊥
+row-no_letter t r h = let some : In (codes "#AL\r") 80 = firsts-row.first 80 t r h in cc some
+
+ended-no_letter : (l : Line) (others : List ℕ → Type 0) (t : List ℕ) → Ended l others (80 ∷ t) → ⊥
+ended-no_letter l others t h = cases h.front h.parts h.of_row where
+  cases : (front : List ℕ) → 80 ∷ t ≡ front ++ 10 ∷ h.behind → row front (l, h.wants) → ⊥
+  cases [] e r = cc e
+  cases (c ∷ front) e r = let byte : c ≡ 80 = cc e in row-no_letter front (l, h.wants) (subst (λ c. row (c ∷ front) (l, h.wants)) byte r)
+
+-- the front of a file that has no line before
+abbrev alone : Tail → List Line × Tail
+alone tail = ([], tail)
+
+letter-front : (t : List ℕ) (v : List Line × Tail) → Changed End alone t v → file_front (80 ∷ t) v
+letter-front t v h = subst (λ x. file_front (80 ∷ t) x) (sym h.2) (cases h.0 h.1) where
+  cases : (tail : Tail) → End t tail → TailOf tail (80 ∷ t)
+  cases (Ends l) h = absurd h
+  cases Letter h = ap (λ t. 80 ∷ t) h
+  cases (Opens behind) (inl h) = inl (ap (λ t. 80 ∷ t) h)
+  cases (Opens behind) (inr h) = inr (ap (λ t. 80 ∷ t) h)
+
+front-letter : (t : List ℕ) (v : List Line × Tail) → file_front (80 ∷ t) v → Changed End alone t v
+front-letter t ([], Ends l) h = absurd (row-no_letter t (l, false) (line-row (80 ∷ t) l h))
+front-letter t ([], Letter) h = (Letter, cc h, refl)
+front-letter t ([], Opens behind) (inl h) = (Opens behind, inl (cc h), refl)
+front-letter t ([], Opens behind) (inr h) = (Opens behind, inr (cc h), refl)
+front-letter t (l ∷ ended, tail) h = absurd (ended-no_letter l (Front ended tail) t h)
+
+reads-letter : (rest : List ℕ) → Reads file_front (80 ∷ rest) (letter_at (80 ∷ rest))
+reads-letter rest = reads-step file_front (Changed End alone) 80 rest (letter_at (80 ∷ rest)) letter-front front-letter (reads-changed End alone rest (opens_at rest) (reads-end rest))
+
+-- ---- a row, and what stands behind it
+
+-- what may stand behind a row
+pub data Behind (r : Line × Bool) (text : List ℕ) (v : List Line × Tail) : Type 0 where
+  ends : text ≡ [] → r.1 ≡ false → v ≡ ([], Ends r.0) → Behind r text v
+  goes_on : (rest : List ℕ) → text ≡ 10 ∷ rest → (others : List Line × Tail) → file_front rest others → v ≡ (r.0 ∷ others.0, others.1) → Behind r text v
+
+-- a line before others
+abbrev one_before : Line → List Line × Tail → List Line × Tail
+one_before l others = (l ∷ others.0, others.1)
+
+row-front : (t : List ℕ) (v : List Line × Tail) → Then row Behind t v → file_front t v
+row-front t v h = elim h.of_next [
+  | ends nothing wants is ↦ subst₂ (λ x w. file_front x w) (sym (h.parts ∙ ap (λ x. h.front ++ x) nothing ∙ append-nil h.front)) (sym is)
+      (row-line h.front h.v.0 (subst (λ b. row h.front (h.v.0, b)) wants h.of_first))
+  | goes_on rest is others of_others same ↦ subst (λ w. file_front t w) (sym same)
+      (record { wants = h.v.1; front = h.front; behind = rest; parts = h.parts ∙ ap (λ x. h.front ++ x) is; of_row = h.of_first; of_others = of_others })
 ]
 
-lf : line_end (codes "\n") tt
-lf = record { front = []; behind = codes "\n"; v = tt; parts = refl; of_first = inr (record { empty = refl; is = refl }); of_next = record { symbol = 10; alone = refl; listed = refl } }
+-- no text that begins as this one begins with the letter "P"
+no-letter : (text t behind : List ℕ) → ((s : List ℕ) → text ≡ 80 ∷ s → ⊥) → BeginsAs text t → t ≡ 80 ∷ behind → ⊥
+no-letter text t behind other alike is = let same = alike 80 behind is in other same.0 same.1
 
-crlf : line_end (codes "\r\n") tt
-crlf = record { front = codes "\r"; behind = codes "\n"; v = tt; parts = refl; of_first = inl (record { symbol = 13; alone = refl; listed = refl }); of_next = record { symbol = 10; alone = refl; listed = refl } }
+front-row : (text : List ℕ) → ((s : List ℕ) → text ≡ 80 ∷ s → ⊥) → (t : List ℕ) (v : List Line × Tail) → BeginsAs text t → file_front t v → Then row Behind t v
+front-row text other t ([], Ends l) alike h = record { front = t; behind = []; v = (l, false); parts = sym (append-nil t); of_first = line-row t l h; of_next = ends refl refl refl }
+front-row text other t ([], Letter) alike h = absurd (no-letter text t [] other alike h)
+front-row text other t ([], Opens behind) alike (inl h) = absurd (no-letter text t (10 ∷ behind) other alike h)
+front-row text other t ([], Opens behind) alike (inr h) = absurd (no-letter text t (13 ∷ 10 ∷ behind) other alike h)
+front-row text other t (l ∷ ended, tail) alike h = record { front = h.front; behind = 10 ∷ h.behind; v = (l, h.wants); parts = h.parts; of_first = h.of_row; of_next = goes_on h.behind refl (ended, tail) h.of_others refl }
 
--- a row before an LF
-abbrev RowAndEnd : List ℕ → Line → Type 0
-RowAndEnd t l = (wants : Bool) × (r : List ℕ) × row r (l, wants) × (t ≡ r ++ codes "\n")
+-- an empty line
+pub empty-line : line [] None
+empty-line = inr (inr (inr (record { empty = refl; is = refl })))
 
-ended-by : (t e : List ℕ) (l : Line) → line t l → (e ≡ codes "\n") ⊎ (e ≡ codes "\r\n") → RowAndEnd (t ++ e) l
-ended-by t e l h (inl is) = (false, t, line-row t l h, ap (λ x. t ++ x) is)
-ended-by t e l (inl h) (inr is) = (false, t ++ codes "\r", comment-row (t ++ codes "\r") l (comment-returned t l h), ap (λ x. t ++ x) is ∙ sym (append_assoc t (codes "\r") (codes "\n")))
-ended-by t e l (inr h) (inr is) = (true, t ++ codes "\r", item-returned t l h, ap (λ x. t ++ x) is ∙ sym (append_assoc t (codes "\r") (codes "\n")))
+-- a row behind which no LF stands
+reads-last : (l : Line) (wants : Bool) (text : List ℕ) → ((s : List ℕ) → text ≡ 10 ∷ s → ⊥) → Reads (Behind (l, wants)) text (last_at l wants text)
+reads-last l true text other = reads-none (Behind (l, true)) text (record { more = codes "\n"; v = (l ∷ [], Ends None); whole = goes_on [] refl ([], Ends None) empty-line refl })
+    (λ symbol rest is viable. elim viable.whole [
+      | ends nothing wants same ↦ absurd (cc nothing)
+      | goes_on more begun others of_others same ↦ let byte : symbol ≡ 10 = cc begun in other rest (is ∙ ap (λ b. b ∷ rest) byte)
+    ])
+    (λ v h. elim h [ ends nothing wants same ↦ absurd (cc wants) | goes_on more begun others of_others same ↦ absurd (cc begun) ])
+reads-last l false text other = reads-spell (Behind (l, false)) text ([], Ends l) (ends refl refl refl)
+    (λ v h. elim h [ ends nothing wants same ↦ same | goes_on more begun others of_others same ↦ absurd (cc begun) ])
+    (λ symbol rest is viable. elim viable.whole [
+      | ends nothing wants same ↦ absurd (cc nothing)
+      | goes_on more begun others of_others same ↦ let byte : symbol ≡ 10 = cc begun in other rest (is ∙ ap (λ b. b ∷ rest) byte)
+    ])
 
--- a line with its end is a row and an LF
-ended-row : (t : List ℕ) (l : Line) → ended_line t l → RowAndEnd t l
-ended-row t l h =
-    let behind : h.behind ≡ h.of_next.front = h.of_next.parts ∙ ap (λ x. h.of_next.front ++ x) h.of_next.of_next.empty ∙ append-nil h.of_next.front in
-    subst₂ (λ x v. RowAndEnd x v) (sym (h.parts ∙ ap (λ x. h.front ++ x) behind)) (sym h.of_next.of_next.is) (ended-by h.front h.of_next.front h.v h.of_first (end-text h.of_next.front h.of_next.v h.of_next.of_first))
+-- an LF, and others
+feed-behind : (l : Line) (wants : Bool) (t : List ℕ) (v : List Line × Tail) → Changed file_front (one_before l) t v → Behind (l, wants) (10 ∷ t) v
+feed-behind l wants t v h = goes_on t refl h.0 h.1 h.2
 
-with-end : (t e : List ℕ) (l : Line) → line t l → line_end e tt → ended_line (t ++ e) l
-with-end t e l h end = record {
-  front = t;
-  behind = e;
-  v = l;
-  parts = refl;
-  of_first = h;
-  of_next = record { front = e; behind = []; v = tt; parts = sym (append-nil e); of_first = end; of_next = record { empty = refl; is = refl } };
-}
-
--- a CR wants an LF
-returned-wants : (t : List ℕ) (wants : Bool) → One (lookup returns) t wants → (t ≡ codes "\r") × (wants ≡ true)
-returned-wants t wants h = let byte : h.symbol ≡ 13 = each-in (λ c. c ≡ 13) (codes "\r") (refl, tt) h.symbol (listed_in returns h.symbol (wants, h.listed)) in
-    (h.alone ∙ ap (λ c. c ∷ []) byte, each-listed (λ b. b ≡ true) returns (refl, tt) h.symbol wants h.listed)
-
--- what a row is: a line, or one that is no comment with a CR behind it
-abbrev Cut : List ℕ → Line → Bool → Type 0
-Cut t l wants = (line t l × (wants ≡ false)) ⊎ ((u : List ℕ) × line u l × (wants ≡ true) × (t ≡ u ++ codes "\r"))
-
-cut : (t : List ℕ) (l : Line) (wants : Bool) → row t (l, wants) → Cut t l wants
-cut t l wants (inl h) =
-    let same = h.of_next.is in
-    let text : t ≡ h.front = h.parts ∙ ap (λ x. h.front ++ x) h.of_next.empty ∙ append-nil h.front in
-    inl (subst₂ (λ x v. line x v) (sym text) (sym (ap (λ p. p.0) same)) (inl h.of_first), ap (λ p. p.1) same)
-cut t l wants (inr h) =
-    let same = h.of_next.of_next.is in
-    let behind : h.behind ≡ h.of_next.front = h.of_next.parts ∙ ap (λ x. h.of_next.front ++ x) h.of_next.of_next.empty ∙ append-nil h.of_next.front in
-    let here : line h.front l = subst (λ v. line h.front v) (sym (ap (λ p. p.0) same)) (inr h.of_first) in
-    elim h.of_next.of_first [
-      | inl one ↦ let r = returned-wants h.of_next.front h.of_next.v one in inr (h.front, here, ap (λ p. p.1) same ∙ r.1, h.parts ∙ ap (λ x. h.front ++ x) (behind ∙ r.0))
-      | inr none ↦ inl (subst (λ x. line x l) (sym (h.parts ∙ ap (λ x. h.front ++ x) (behind ∙ none.empty) ∙ append-nil h.front)) here, ap (λ p. p.1) same ∙ none.is)
-    ]
-
--- a row that wants no LF is a line
-row-line : (t : List ℕ) (l : Line) → row t (l, false) → line t l
-row-line t l h = elim (cut t l false h) [ inl c ↦ c.0 | inr c ↦ absurd (let e = c.2 in cc e) ]
-
--- a row and an LF are a line with its end
-row-ended : (t : List ℕ) (l : Line) (wants : Bool) → row t (l, wants) → ended_line (t ++ codes "\n") l
-row-ended t l wants h = elim (cut t l wants h) [
-  | inl c ↦ with-end t (codes "\n") l c.0 lf
-  | inr c ↦ subst (λ x. ended_line x l) (sym (ap (λ x. x ++ codes "\n") c.3 ∙ append_assoc c.0 (codes "\r") (codes "\n"))) (with-end c.0 (codes "\r\n") l c.1 crlf)
+behind-feed : (l : Line) (wants : Bool) (t : List ℕ) (v : List Line × Tail) → Behind (l, wants) (10 ∷ t) v → Changed file_front (one_before l) t v
+behind-feed l wants t v h = elim h [
+  | ends nothing wants same ↦ absurd (cc nothing)
+  | goes_on rest is others of_others same ↦ let tail : rest ≡ t = cc is in (others, subst (λ x. file_front x others) tail of_others, same)
 ]
 
--- the rows of lines with their ends, and a last line
-abbrev RowsOf : List ℕ → List Line → Type 0
-RowsOf t ls = (rs : List (Line × Bool)) × rows t rs × (lines_of rs ≡ ls)
+module _ (others : List ℕ → Outcome ℕ (List Line × Tail)) (most : ℕ) (reads : (text : List ℕ) → length text < most → Reads file_front text (others text)) where
+  reads-behind : (l : Line) (wants : Bool) (text : List ℕ) → length text ≤ most → Reads (Behind (l, wants)) text (behind_row_at others l wants text)
+  reads-behind l wants [] le = reads-last l wants [] (λ s e. cc e)
+  reads-behind l wants (byte ∷ rest) le = decided (byte == 10) refl where
+    decided : (same : Bool) → (byte == 10) ≡ same → Reads (Behind (l, wants)) (byte ∷ rest) (if same then with_lines (l ∷ []) (others rest) else last_at l wants (byte ∷ rest))
+    decided true e = let is : byte ≡ 10 = eqb-true byte 10 e in
+        subst (λ b. Reads (Behind (l, wants)) (b ∷ rest) (with_lines (l ∷ []) (others rest))) (sym is)
+        (reads-step (Behind (l, wants)) (Changed file_front (one_before l)) 10 rest (with_lines (l ∷ []) (others rest)) (feed-behind l wants) (behind-feed l wants)
+        (reads-changed file_front (one_before l) rest (others rest) (reads rest (omega arith))))
+    decided false e = reads-last l wants (byte ∷ rest) (λ s is. let same : byte ≡ 10 = cc is in not-self 10 (subst (λ b. (b == 10) ≡ false) same e))
 
-last-row : (u : List ℕ) (last : Line) → line u last → RowsOf u (last ∷ [])
-last-row u last h = (
-  (last, false) ∷ [],
-  record {
-    front = u;
-    behind = [];
-    v = (last, false);
-    parts = sym (append-nil u);
-    of_first = line-row u last h;
-    of_next = record { front = []; behind = []; v = []; parts = refl; of_first = (refl, refl); of_next = record { empty = refl; is = refl } };
-  },
-  refl,
-)
+  reads-row : (text : List ℕ) → length text ≤ most → ((s : List ℕ) → text ≡ 80 ∷ s → ⊥) → Reads file_front text (row_and_others_at others text)
+  reads-row text le other = reads-more (Then row Behind) file_front row-front (front-row text other)
+      (reader-row.before (List Line × Tail) Behind (λ x. behind_row_at others x.0.0 x.0.1 x.1) text
+      (λ r rest shorter. reads-behind r.0 r.1 rest (omega arith))
+      (λ r c s v h on. elim h [ ends nothing wants same ↦ absurd (cc nothing) | goes_on rest is others of_others same ↦ on (cc is) ]))
 
--- one row more before rows
-more-rows : (r : List ℕ) (l : Line) (wants : Bool) (t : List ℕ) (ls : List Line) → row r (l, wants) → RowsOf t ls → RowsOf (r ++ 10 ∷ t) (l ∷ ls)
-more-rows r l wants t ls h o =
-    let all = o.1 in
-    let next = all.of_next in
-    let text : t ≡ all.front ++ next.front = all.parts ∙ ap (λ x. all.front ++ x) (next.parts ∙ ap (λ x. next.front ++ x) next.of_next.empty ∙ append-nil next.front) in (
-      (l, wants) ∷ (all.v ∷ next.v),
-      record {
-        front = r;
-        behind = 10 ∷ t;
-        v = (l, wants);
-        parts = refl;
-        of_first = h;
-        of_next = record {
-          front = 10 ∷ t;
-          behind = [];
-          v = all.v ∷ next.v;
-          parts = sym (append-nil (10 ∷ t));
-          of_first = record { symbol = 10; tag = tt; front = all.front; behind = next.front; parts = ap (λ x. 10 ∷ x) text; separated = refl; of_item = all.of_first; of_others = next.of_first };
-          of_next = record { empty = refl; is = refl };
-        };
-      },
-      ap (λ x. l ∷ x) (sym (ap lines_of next.of_next.is) ∙ o.2),
-    )
+reads-front_from : (most : ℕ) (text : List ℕ) → length text < most → Reads file_front text (front_from most text)
+reads-front_from zero text less = absurd (omega arith)
+reads-front_from (suc most) [] less = reads-row (front_from most) most (reads-front_from most) [] (omega arith) (λ s e. cc e)
+reads-front_from (suc most) (byte ∷ rest) less = decided (is_in (only (codes "P")) byte) refl (λ text shorter. reads-front_from most text shorter) where
+  decided : (same : Bool) → is_in (only (codes "P")) byte ≡ same → ((text : List ℕ) → length text < most → Reads file_front text (front_from most text))
+      → Reads file_front (byte ∷ rest) (if same then letter_at (byte ∷ rest) else row_and_others_at (front_from most) (byte ∷ rest))
+  decided true e next = let is : byte ≡ 80 = only-byte 80 byte e in subst (λ b. Reads file_front (b ∷ rest) (letter_at (b ∷ rest))) (sym is) (reads-letter rest)
+  decided false e next = reads-row (front_from most) most next (byte ∷ rest) (omega arith)
+      (λ s is. let same : byte ≡ 80 = cc is in let no : is_in (only (codes "P")) 80 ≡ false = subst (λ b. is_in (only (codes "P")) b ≡ false) same e in cc no)
 
-lines-rows : (ended : List Line) (t : List ℕ) → many ended_line t ended → (u : List ℕ) (last : Line) → line u last → RowsOf (t ++ u) (ended ++ last ∷ [])
-lines-rows [] t none u last h = subst (λ x. RowsOf (x ++ u) (last ∷ [])) (sym none) (last-row u last h)
-lines-rows (l ∷ ended) t h u last hl =
-    let e = ended-row h.front l h.of_first in
-    let text : t ++ u ≡ e.1 ++ 10 ∷ (h.behind ++ u) = ap (λ x. x ++ u) (h.parts ∙ ap (λ x. x ++ h.behind) e.3 ∙ append_assoc e.1 (codes "\n") h.behind) ∙ append_assoc e.1 (10 ∷ h.behind) u in
-    subst (λ x. RowsOf x (l ∷ (ended ++ last ∷ []))) (sym text) (more-rows e.1 l e.0 (h.behind ++ u) (ended ++ last ∷ []) e.2 (lines-rows ended h.behind h.of_next u last hl))
-
-wants-none : (b : Bool) → not b ≡ true → b ≡ false
-wants-none true e = absurd (cc e)
-wants-none false e = refl
-
-rows-lines : (first : Line × Bool) (others : List (Line × Bool)) (t u : List ℕ) → row t first → other_rows first.1 u others → set_lines (t ++ u) (lines_of (first ∷ others))
-rows-lines first [] t u h o = record {
-  front = [];
-  behind = t ++ u;
-  v = [];
-  parts = refl;
-  of_first = refl;
-  of_next = record {
-    front = t;
-    behind = u;
-    v = first.0;
-    parts = refl;
-    of_first = row-line t first.0 (subst (λ b. row t (first.0, b)) (wants-none first.1 o.1) h);
-    of_next = record { empty = o.0; is = refl };
-  };
-}
-rows-lines first (next ∷ others) t u h o =
-    let more = rows-lines next others o.front o.behind o.of_item o.of_others in
-    let byte : o.symbol ≡ 10 = end-is o.symbol (o.tag, o.separated) in
-    let text : t ++ u ≡ ((t ++ codes "\n") ++ more.front) ++ more.behind =
-    ap (λ x. t ++ x) (o.parts ∙ ap (λ c. c ∷ (o.front ++ o.behind)) byte ∙ ap (λ x. 10 ∷ x) more.parts) ∙ sym (append_assoc t (codes "\n") (more.front ++ more.behind)) ∙ sym (append_assoc (t ++ codes "\n") more.front more.behind) in
-    record {
-      front = (t ++ codes "\n") ++ more.front;
-      behind = more.behind;
-      v = first.0 ∷ more.v;
-      parts = text;
-      of_first = record { front = t ++ codes "\n"; behind = more.front; parts = refl; of_first = row-ended t first.0 first.1 h; of_next = more.of_first };
-      of_next = record {
-        front = more.of_next.front;
-        behind = more.of_next.behind;
-        v = more.of_next.v;
-        parts = more.of_next.parts;
-        of_first = more.of_next.of_first;
-        of_next = record { empty = more.of_next.of_next.empty; is = ap (λ x. first.0 ∷ x) more.of_next.of_next.is };
-      };
-    }
-
--- ---- the reading of files
-
--- the lines of rows
-abbrev lines_form : Form ℕ (List Line)
-lines_form = Then rows (λ rs. Spell (lines_of rs))
-
-into-lines : (t : List ℕ) (ls : List Line) → lines_form t ls → set_lines t ls
-into-lines t ls h =
-    let all = h.of_first in
-    let next = all.of_next in
-    let text : t ≡ all.front ++ next.front =
-    h.parts ∙ ap (λ x. h.front ++ x) h.of_next.empty ∙ append-nil h.front ∙ all.parts ∙ ap (λ x. all.front ++ x) (next.parts ∙ ap (λ x. next.front ++ x) next.of_next.empty ∙ append-nil next.front) in
-    subst₂ (λ x v. set_lines x v) (sym text) (sym (h.of_next.is ∙ ap lines_of next.of_next.is)) (rows-lines all.v next.v all.front next.front all.of_first next.of_first)
-
-from-lines : (t : List ℕ) (ls : List Line) → set_lines t ls → lines_form t ls
-from-lines t ls h =
-    let last = h.of_next in
-    let all = lines-rows h.v h.front h.of_first last.front last.v last.of_first in
-    let text : t ≡ h.front ++ last.front = h.parts ∙ ap (λ x. h.front ++ x) (last.parts ∙ ap (λ x. last.front ++ x) last.of_next.empty ∙ append-nil last.front) in
-    record { front = t; behind = []; v = all.0; parts = sym (append-nil t); of_first = subst (λ x. rows x all.0) (sym text) all.1; of_next = record { empty = refl; is = last.of_next.is ∙ sym all.2 } }
-
-pub reads-set_lines : (text : List ℕ) → Reads set_lines text (set_lines_at text)
-unfolding set_lines_at
-reads-set_lines text = reads-same lines_form set_lines into-lines from-lines (reads-of lines_form set_lines_at Any (reader-map rows rows_at Any lines_of reader-rows) text)
-
--- a file has its lines in one way at most
-pub one-spelling : OneSpelling set_lines
-one-spelling = spelled-once set_lines set_lines_at reads-set_lines
+-- what stands before the script of a file is read
+pub reads-front : (text : List ℕ) → Reads file_front text (front_at text)
+unfolding front_at
+reads-front text = reads-front_from (suc (length text)) text (omega arith)

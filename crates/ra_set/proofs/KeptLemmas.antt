@@ -16,7 +16,7 @@ use Rattle.ra_set.proofs.RepeatLemmas.{first-more, first-last, distinct-last, it
 one-more : (lines : List Line) (l : Line) → length (lines ++ l ∷ []) ≡ length lines + 1
 one-more lines l = omega (arith, length-append lines (l ∷ []))
 
-items-none : (lines : List Line) → items_of (lines ++ None ∷ []) ≡ items_of lines
+pub items-none : (lines : List Line) → items_of (lines ++ None ∷ []) ≡ items_of lines
 items-none lines = items-more lines None ∙ append-nil (items_of lines)
 
 tells-none : (repeat : Option Repeat) (lines : List Line) → TellsRepeat repeat lines → TellsRepeat repeat (lines ++ None ∷ [])

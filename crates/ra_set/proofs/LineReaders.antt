@@ -153,7 +153,7 @@ head-spelled letter listed = record {
   }
 
 -- an empty text begins some text of a form that is read
-viable-nothing : {A V : Type 0} {form : Form A V} {outcome : Outcome A V} → Reads form [] outcome → Viable form []
+pub viable-nothing : {A V : Type 0} {form : Form A V} {outcome : Outcome A V} → Reads form [] outcome → Viable form []
 viable-nothing {A} {V} {form} {outcome} r = record { more = r.front ++ r.viable.more; v = r.viable.v; whole = r.viable.whole }
 
 opens-achievement : (c : ℕ) → is_in (only (codes "A")) c ≡ true → Viable achievement (c ∷ [])
@@ -249,7 +249,7 @@ reader-comment_row : Reader comment_row comment_row_at NotEnd
 unfolding comment_row_at
 reader-comment_row = reader-map comment comment_at NotEnd (λ l. (l, false)) reader-comment
 
-begins-comment_row : Begins comment_row (In (codes "#"))
+pub begins-comment_row : Begins comment_row (In (codes "#"))
 begins-comment_row = begins-then comment (λ l. Spell (l, false)) (In (codes "#")) (begins-then (One (only (codes "#"))) (λ mark. Then (run_of in_line) (λ bytes. Spell None)) (In (codes "#")) (begins-byte (marks (codes "#"))))
 
 behind-item : (l : Line) → Reader {V = Line × Bool} (Then (optional (lookup returns) false) (λ returned. Spell (l, returned))) (λ text. optional_at (lookup returns) false text >>= λ returned. Ok ((l, returned.0), returned.1)) NotEnd
@@ -266,7 +266,7 @@ unfolding item_row_at
 reader-item_row = reader-follows item_line (λ l. Then (optional (lookup returns) false) (λ returned. Spell (l, returned))) item_line_at (λ l. optional_at (lookup returns) false l.1 >>= λ returned. Ok ((l.0, returned.0), returned.1)) (In item_rest) (In (codes "\r")) NotEnd
     reader-item_line behind-item firsts-behind (in_apart item_rest (codes "\r") refl) (not-end-in item_rest (λ e. cc e))
 
-firsts-item_row : Firsts item_row (In (codes "AL\r"))
+pub firsts-item_row : Firsts item_row (In (codes "AL\r"))
 firsts-item_row = firsts-then item_line (λ l. Then (optional (lookup returns) false) (λ returned. Spell (l, returned))) (In (codes "AL\r"))
     (firsts-wider item_line (In (codes "AL")) (In (codes "AL\r")) (in_within (codes "AL") (codes "AL\r") refl) firsts-item_line)
     (λ l. firsts-wider (Then (optional (lookup returns) false) (λ returned. Spell (l, returned))) (In (codes "\r")) (In (codes "AL\r")) (in_within (codes "\r") (codes "AL\r") refl) (firsts-behind l))

@@ -16,9 +16,12 @@ use Rattle.ra_value_format.specs.Formats.{HasDigits, format_of_name}
 use Rattle.ra_set.specs.Contents.{ItemContents, Unlocks, Ranks, SetContents}
 use Rattle.ra_set.specs.Grammar.{Line, ExactId, format_name, head, line, ended_line, items_of, SetFile}
 use Rattle.ra_set.specs.Runs.{many, run_of, any_but}
-use Rattle.ra_set.specs.Spelled.{IsItem, HasSmallId, IsSpelled}
+use Rattle.ra_set.specs.Spelled.{IsItem, HasSmallId, IsSpelled, OptionalScript}
+use Rattle.ra_set.proofs.ContentsLemmas.{lines-of_file}
+use Rattle.ra_set.proofs.FileReaders.{empty-line}
+use Rattle.ra_set.proofs.FrontLemmas.{file-of_lines}
 use Rattle.ra_set.proofs.RunLemmas.{only-byte}
-use Rattle.ra_set.proofs.SetStructure.{lines-items}
+use Rattle.ra_set.proofs.SetStructure.{contents-items}
 use Rattle.ra_text.specs.declared.base.Base.TheVariants.{Ten}
 use Rattle.ra_text.specs.Form.{Form, Spell, One, Then}
 use Rattle.ra_text.specs.Number.{digits, numeral}
@@ -214,15 +217,15 @@ set-spelled set script h small =
     let lines = item-lines set.items (recursion_from_All IsItem set.items h.items) (recursion_from_All HasSmallId set.items small) in (
       lines.0,
       record {
-        lines = map Some set.items ++ None ∷ [];
-        spelled = record {
+        contents = record { lines = map Some set.items ++ None ∷ []; script = None };
+        spelled = file-of_lines lines.0 (map Some set.items ++ None ∷ []) (record {
           front = lines.0;
           behind = [];
           v = map Some set.items;
           parts = sym (append-nil lines.0);
           of_first = lines.1;
-          of_next = record { front = []; behind = []; v = None; parts = refl; of_first = inr (inr (inr (record { empty = refl; is = refl }))); of_next = record { empty = refl; is = refl } };
-        };
+          of_next = record { front = []; behind = []; v = None; parts = refl; of_first = empty-line; of_next = record { empty = refl; is = refl } };
+        });
         items = sym (all-items set.items);
         script = script;
       },
@@ -252,9 +255,11 @@ ended-small [] t none u last h = both-small (option_to_list last) [] (line-small
 ended-small (l ∷ ended) t h u last hl = both-small (option_to_list l) (items_of (ended ++ last ∷ []))
     (subst (λ x. EachSmall (option_to_list x)) (sym h.of_first.of_next.of_next.is) (line-small h.of_first.front h.of_first.v h.of_first.of_first)) (ended-small ended h.behind h.of_next u last hl)
 
--- what a file spells has its structure
-pub spelled-set : (set : SetContents) → (file : List ℕ) × SetFile file set → IsSpelled set × All HasSmallId set.items
-spelled-set set h = let f = h.1 in let s = f.spelled in (
-  record { items = subst (All IsItem) (sym f.items) (lines-items h.0 f.lines s) },
-  subst (All HasSmallId) (sym f.items) (All-from_recursion HasSmallId (items_of f.lines) (subst (λ ls. EachSmall (items_of ls)) (sym s.of_next.of_next.is) (ended-small s.v s.front s.of_first s.of_next.front s.of_next.v s.of_next.of_first))),
-)
+-- what a file without a script spells has its structure
+pub spelled-set : (set : SetContents) → set.script ≡ None → (file : List ℕ) × SetFile file set → IsSpelled set × All HasSmallId set.items
+spelled-set set script h =
+    let f = h.1 in
+    let l = lines-of_file h.0 f.contents f.spelled in (
+      record { items = subst (All IsItem) (sym f.items) (contents-items h.0 f.contents f.spelled); script = subst OptionalScript (sym script) tt },
+      subst (All HasSmallId) (sym f.items) (All-from_recursion HasSmallId (items_of f.contents.lines) (subst EachSmall (sym l.items) (ended-small l.ended l.front l.of_ended l.behind l.last l.of_last))),
+    )

@@ -8,10 +8,10 @@ use Rattle.ra_leaderboard.proofs.BoardStructure.{board-structure}
 use Rattle.ra_value_format.specs.declared.format.Format.{Format}
 use Rattle.ra_value_format.specs.Formats.{HasDigits, format_names, entry_of, named_format, format_of_name}
 use Rattle.ra_set.specs.Contents.{ItemContents}
-use Rattle.ra_set.specs.Grammar.{Line, line, ended_line, set_lines, items_of}
-use Rattle.ra_set.specs.Refusals.{HasItems}
+use Rattle.ra_set.specs.Grammar.{Line, line, ended_line, FileContents, set_file, items_of}
 use Rattle.ra_set.specs.Runs.{many}
 use Rattle.ra_set.specs.Spelled.{IsItem}
+use Rattle.ra_set.proofs.ContentsLemmas.{lines-of_file}
 
 -- ---- formats of names
 
@@ -57,9 +57,6 @@ ended-items (l ∷ ended) t h u last hl = both-items (option_to_list l) (items_o
     (subst (λ x. EachItem (option_to_list x)) (sym h.of_first.of_next.of_next.is) (line-items h.of_first.front h.of_first.v h.of_first.of_first)) (ended-items ended h.behind h.of_next u last hl)
 
 -- each item of a file is one that some line spells
-pub lines-items : (t : List ℕ) (lines : List Line) → set_lines t lines → All IsItem (items_of lines)
-lines-items t lines h = All-from_recursion IsItem (items_of lines)
-    (subst (λ ls. EachItem (items_of ls)) (sym h.of_next.of_next.is) (ended-items h.v h.front h.of_first h.of_next.front h.of_next.v h.of_next.of_first))
-
-pub items-spelled : (file : List ℕ) (items : List ItemContents) → HasItems file items → All IsItem items
-items-spelled file items h = subst (All IsItem) (sym h.all) (lines-items file h.lines h.spelled.spelled)
+pub contents-items : (file : List ℕ) (contents : FileContents) → set_file file contents → All IsItem (items_of contents.lines)
+contents-items file contents h = let l = lines-of_file file contents h in
+    All-from_recursion IsItem (items_of contents.lines) (subst EachItem (sym l.items) (ended-items l.ended l.front l.of_ended l.behind l.last l.of_last))

@@ -18,7 +18,7 @@ use Rattle.ra_leaderboard.specs.Fields.{FieldContents, OfStart, OfCancel, OfSubm
 use Rattle.ra_leaderboard.specs.Grammar.{held, field, next_field, at_most_one, board}
 use Rattle.ra_set.specs.Contents.{Unlocks, Ranks}
 use Rattle.ra_set.specs.Counting.{board_conditions}
-use Rattle.ra_set.specs.Grammar.{Line, line, ended_line, set_lines, items_of}
+use Rattle.ra_set.specs.Grammar.{Line, line, ended_line, items_of}
 use Rattle.ra_set.specs.Limits.{part_conditions, value_conditions, optional_value, item_conditions}
 use Rattle.ra_set.specs.Runs.{many}
 use Rattle.ra_text.specs.Chain.{Chain, joined}
@@ -192,15 +192,10 @@ line-count t l (inr (inr (inr h))) = omega (arith, ap line_count h.is)
 lines-sum : (l : Line) (lines : List Line) → sum_by item_conditions (items_of (l ∷ lines)) ≡ line_count l + sum_by item_conditions (items_of lines)
 lines-sum l lines = sum_by-append item_conditions (option_to_list l) (items_of lines)
 
-ended-count : (ended : List Line) (t : List ℕ) → many ended_line t ended → (u : List ℕ) (last : Line) → line u last → sum_by item_conditions (items_of (ended ++ last ∷ [])) ≤ length t + length u
+-- lines with their ends and a last line have no more conditions than their text has bytes
+pub ended-count : (ended : List Line) (t : List ℕ) → many ended_line t ended → (u : List ℕ) (last : Line) → line u last → sum_by item_conditions (items_of (ended ++ last ∷ [])) ≤ length t + length u
 ended-count [] t none u last h = let c = line-count u last h in omega (arith, lines-sum last [])
 ended-count (l ∷ ended) t h u last hl =
     let c = line-count h.of_first.front h.of_first.v h.of_first.of_first in
     let more = ended-count ended h.behind h.of_next u last hl in
     omega (arith, lines-sum l (ended ++ last ∷ []), ap line_count h.of_first.of_next.of_next.is, ap length h.parts, length-append h.front h.behind, ap length h.of_first.parts, length-append h.of_first.front h.of_first.behind)
-
--- the lines of a file have no more conditions than the file has bytes
-pub lines-count : (t : List ℕ) (lines : List Line) → set_lines t lines → sum_by item_conditions (items_of lines) ≤ length t
-lines-count t lines h =
-    let c = ended-count h.v h.front h.of_first h.of_next.front h.of_next.v h.of_next.of_first in
-    omega (arith, ap (λ ls. sum_by item_conditions (items_of ls)) h.of_next.of_next.is, ap length h.parts, length-append h.front h.behind, ap length h.of_next.parts, length-append h.of_next.front h.of_next.behind)

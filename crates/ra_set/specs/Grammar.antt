@@ -1,11 +1,12 @@
 -- The grammar of set files: docs/DEFINITIONS.md, "Set file".
-use Rattle.std.specs.Prelude.{◌≡◌, ℕ, ◌<◌, ◌^◌, false, List, [], ◌∷◌, ◌++◌, length, Option, Some, None, option_to_list, codes}
+use Rattle.std.specs.Prelude.{◌≡◌, ℕ, ◌<◌, ◌^◌, false, List, [], ◌∷◌, ◌++◌, length, Option, Some, None, option_map, option_to_list, codes}
 use Rattle.std.specs.List.{flat_map}
 use Rattle.ra_condition.specs.Grammar.{trigger}
 use Rattle.ra_leaderboard.specs.Grammar.{board}
 use Rattle.ra_value_format.specs.declared.format.Format.{Format}
 use Rattle.ra_value_format.specs.Formats.{format_of_name}
 use Rattle.ra_set.specs.Contents.{ItemContents, Unlocks, Ranks, SetContents}
+use Rattle.ra_richpresence.specs.Grammar.{ScriptParts, script_parts, script_of}
 use Rattle.ra_set.specs.Runs.{many, run_of, any_but}
 use Rattle.ra_text.specs.Form.{Form, Spell, One, ◌>>=◌, ◌or◌, optional}
 use Rattle.ra_text.specs.Number.{numeral, digits}
@@ -78,7 +79,7 @@ ended_line = do
   end ← line_end
   Spell l
 
--- the lines of a file: each has its end but the last, which ends with the file
+-- the lines of a file without a presence script: each has its end but the last, which ends with the file
 abbrev pub set_lines : Form ℕ (List Line)
 set_lines = do
   ended ← many ended_line
@@ -89,9 +90,45 @@ set_lines = do
 abbrev pub items_of : List Line → List ItemContents
 items_of lines = flat_map option_to_list lines
 
--- a file without a presence script spells the items of its lines
-pub record SetFile (file : List ℕ) (set : SetContents) : Type 0 where
+-- lines that each have their end, and behind them the letter of a line "P"
+abbrev pub last_head : Form ℕ (List Line)
+last_head = do
+  ended ← many ended_line
+  letter ← One (only (codes "P"))
+  Spell ended
+
+-- the same with the end of that line: behind it a presence script begins
+abbrev pub script_head : Form ℕ (List Line)
+script_head = do
+  ended ← last_head
+  end ← line_end
+  Spell ended
+
+-- what a file contains: its lines, and what the text behind a line "P" spells, where there is one
+pub record FileContents : Type 0 where
   pub lines : List Line
-  pub spelled : set_lines file lines
-  pub items : set.items ≡ items_of lines
-  pub script : set.script ≡ None
+  pub script : Option ScriptParts
+
+-- a file with a presence script, which all of the file behind the line "P" is
+abbrev pub scripted : Form ℕ FileContents
+scripted = do
+  ended ← script_head
+  parts ← script_parts
+  Spell (record { lines = ended; script = Some parts })
+
+-- a file without a presence script
+abbrev pub unscripted : Form ℕ FileContents
+unscripted = do
+  lines ← set_lines
+  Spell (record { lines = lines; script = None })
+
+-- a set file
+abbrev pub set_file : Form ℕ FileContents
+set_file = scripted or unscripted
+
+-- a file spells the items of its lines, and its script
+pub record SetFile (file : List ℕ) (set : SetContents) : Type 0 where
+  pub contents : FileContents
+  pub spelled : set_file file contents
+  pub items : set.items ≡ items_of contents.lines
+  pub script : set.script ≡ option_map script_of contents.script

@@ -5,6 +5,7 @@ use Rattle.std.specs.List.{IsDistinct, list_any}
 use Rattle.std.specs.Ordering.{nat_cmp}
 use Rattle.ra_condition.specs.declared.fault.Fault.{Fault}
 use Rattle.ra_condition.specs.declared.fault.Fault.TheVariants.{Stop, Memory}
+use Rattle.ra_set.specs.declared.file_lines.FileLines.{FileLines}
 use Rattle.ra_set.specs.declared.ids.Ids.{Ids}
 use Rattle.ra_set.specs.declared.kept_lines.KeptLines.{KeptLines}
 use Rattle.ra_set.specs.declared.kept_lines.Repeat.{Repeat}
@@ -54,8 +55,8 @@ pub record NotesId (old : KeptLines) (x : ItemContents) (new : KeptLines) : Type
   pub ids : (y : ItemContents) → has_id new.ids y ≡ (repeats x y || has_id old.ids y)
   pub repeat : new.repeat ≡ earlier_repeat old.repeat (repeat_now old x)
 
--- the lines that reading gives are kept, unless memory runs out
-abbrev pub KeepsUnlessFull : Result KeptLines Fault → List ℕ → Outcome ℕ (List Line) → Type 0
-KeepsUnlessFull (Ok kept) rest outcome = (lines : List Line) × (outcome ≡ Ok (lines, rest)) × Keeps kept lines
+-- the lines that reading gives are kept, and whether a script stands behind them, unless memory runs out
+abbrev pub KeepsUnlessFull : Result FileLines Fault → List ℕ → Outcome ℕ (List Line × Bool) → Type 0
+KeepsUnlessFull (Ok found) rest outcome = (lines : List Line) × (outcome ≡ Ok ((lines, found.has_script), rest)) × Keeps found.kept lines
 KeepsUnlessFull (Err Stop) rest outcome = outcome ≡ Err rest
 KeepsUnlessFull (Err Memory) rest outcome = Unit {0}

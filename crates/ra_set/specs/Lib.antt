@@ -4,7 +4,10 @@ pub mod Counting
 pub mod Grammar
 pub mod Kept
 pub mod Limits
+pub mod Places
+pub mod Read
 pub mod Reading
 pub mod Refusals
 pub mod Runs
+pub mod ScriptLimits
 pub mod Spelled

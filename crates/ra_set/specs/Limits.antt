@@ -1,8 +1,13 @@
--- What a set may hold.
-use Rattle.std.specs.Prelude.{ℕ, ◌+◌, ◌≤◌, Option, None, Some, List, ◌∷◌, length, sum_by, map}
+-- What a set may hold: docs/DEFINITIONS.md, "Limits of a set".
+use Rattle.std.specs.Prelude.{◌≡◌, ℕ, ◌+◌, ◌<◌, ◌≤◌, Option, None, Some, option_map, List, [], ◌∷◌, length, sum_by, map}
 use Rattle.std.specs.List.{AllByRecursion, flat_map}
 use Rattle.ra_condition.specs.Contents.{TriggerContents, trigger_hits, PartContents, Legacy, Grouped}
 use Rattle.ra_richpresence.specs.Contents.{LineContents, LookupContents, ScriptContents, values_in_line}
+use Rattle.ra_richpresence.specs.Grammar.{ScriptParts, script_of}
+use Rattle.ra_richpresence.specs.Texts.{first_over, kept_texts}
+use Rattle.ra_set.specs.declared.refused.Which.TheVariants.{Items, Conditions, Macros, Lookup}
+use Rattle.ra_set.specs.declared.refused.SetRefused.{SetRefused}
+use Rattle.ra_set.specs.declared.refused.SetRefused.TheVariants.{Limit}
 use Rattle.ra_set.specs.Contents.{ItemContents, Unlocks, Ranks, SetContents}
 
 -- the conditions of a value, its legacy terms counted too
@@ -66,3 +71,39 @@ pub record IsWithinLimits (set : SetContents) : Type 0 where
   pub items : length set.items ≤ 16384
   pub conditions : set_conditions set ≤ 65536
   pub script : OptionalScriptFits set.script
+
+-- ---- the first limit that is passed
+
+-- the conditions of items, and of the parts of a script if there is one
+abbrev pub all_conditions : List ItemContents → Option ScriptParts → ℕ
+all_conditions items script = sum_by item_conditions items + script_conditions (option_map script_of script)
+
+-- how many macros each display line of a script has, in text order
+abbrev pub macro_counts : Option ScriptParts → List ℕ
+macro_counts None = []
+macro_counts (Some parts) = map (λ line. length (values_in_line line)) parts.lines
+
+-- how long the texts are that a script keeps, in text order
+abbrev pub kept_lengths : Option ScriptParts → List ℕ
+kept_lengths None = []
+kept_lengths (Some parts) = map length (kept_texts parts)
+
+-- items and a script, if there is one, keep each limit
+pub record KeepsLimits (held : List ItemContents) (script : Option ScriptParts) : Type 0 where
+  pub items : length held ≤ 16384
+  pub conditions : all_conditions held script ≤ 65536
+  pub macros : first_over 256 (macro_counts script) ≡ None
+  pub texts : first_over 1024 (kept_lengths script) ≡ None
+
+-- the first limit that items and a script pass, in the order of the cases, with how much was found:
+-- of display lines and of lookup texts the first that passes it
+abbrev pub PassesLimit : List ItemContents → Option ScriptParts → SetRefused → Type 0
+PassesLimit items script (Limit Items found) = (16384 < length items) × (found ≡ length items)
+PassesLimit items script (Limit Conditions found) =
+    (length items ≤ 16384) × (65536 < all_conditions items script) × (found ≡ all_conditions items script)
+PassesLimit items script (Limit Macros found) =
+    (length items ≤ 16384) × (all_conditions items script ≤ 65536) × (first_over 256 (macro_counts script) ≡ Some found)
+PassesLimit items script (Limit Lookup found) =
+    (length items ≤ 16384) × (all_conditions items script ≤ 65536) × (first_over 256 (macro_counts script) ≡ None)
+    × (first_over 1024 (kept_lengths script) ≡ Some found)
+PassesLimit items script _ = ⊥

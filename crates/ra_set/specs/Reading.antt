@@ -1,5 +1,5 @@
 -- Reading set files from left to right: the step between the code and the grammar. No public clause cites it.
-use Rattle.std.specs.Prelude.{◌≡◌, ℕ, ◌+◌, ◌*◌, ◌==◌, ◌||◌, nat_lt, Bool, true, false, not, if◌then◌else◌, List, [], ◌∷◌, length, map, Option, Some, None, Ok, codes}
+use Rattle.std.specs.Prelude.{◌≡◌, ℕ, zero, suc, ◌+◌, ◌*◌, ◌==◌, ◌||◌, nat_lt, Bool, true, false, if◌then◌else◌, List, [], ◌∷◌, ◌++◌, length, Option, Some, None, Ok, Err, codes}
 use Rattle.ra_condition.specs.Reading.{trigger_at}
 use Rattle.ra_leaderboard.specs.Reading.{board_at}
 use Rattle.ra_value_format.specs.declared.format.Format.{Format}
@@ -98,22 +98,87 @@ item_row_at text = do
 unfoldable pub row_at : List ℕ → Outcome ℕ (Line × Bool)
 row_at = choice_at (begins (is_in (only (codes "#")))) comment_row_at item_row_at
 
--- rows, each behind an LF but the first, of which the last wants no LF
-unfoldable pub rows_at : List ℕ → Outcome ℕ (List (Line × Bool))
-rows_at text = do
-  first ← row_at text
-  others ← chain_at (λ wants. only (codes "\n")) (λ wants tag. row_at) (λ wants row. row.1) not (length first.1) first.0.1 first.1
-  Ok (first.0 ∷ others.0, others.1)
+-- how the lines of a file end: with a last line, with the letter of a line "P", or with such a line and its end, which have this text behind them
+pub data Tail : Type 0 where
+  Ends : Line → Tail
+  Letter : Tail
+  Opens : List ℕ → Tail
 
--- the lines of rows
-abbrev pub lines_of : List (Line × Bool) → List Line
-lines_of rows = map (λ row. row.0) rows
+-- behind the CR of a line "P"
+abbrev pub feed_at : List ℕ → Outcome ℕ Tail
+feed_at [] = Err []
+feed_at (byte ∷ rest) = if byte == 10 then Ok (Opens rest, []) else Err (byte ∷ rest)
 
--- the lines of a file
-unfoldable pub set_lines_at : List ℕ → Outcome ℕ (List Line)
-set_lines_at text = do
-  rows ← rows_at text
-  Ok (lines_of rows.0, rows.1)
+-- behind the letter of a line "P"
+abbrev pub opens_at : List ℕ → Outcome ℕ Tail
+opens_at [] = Ok (Letter, [])
+opens_at (byte ∷ rest) = if byte == 10 then Ok (Opens rest, []) else if byte == 13 then feed_at rest else Ok (Letter, byte ∷ rest)
+
+-- a line "P"
+abbrev pub letter_at : List ℕ → Outcome ℕ (List Line × Tail)
+letter_at [] = Err []
+letter_at (byte ∷ rest) = do
+  tail ← opens_at rest
+  Ok (([], tail.0), tail.1)
+
+-- the end of a line "P", or the end of the file
+abbrev pub script_end_at : List ℕ → Outcome ℕ (Unit {0})
+script_end_at [] = Ok (tt, [])
+script_end_at (byte ∷ rest) = do
+  returned ← optional_at (lookup (bytes_for (codes "\r") true)) false (byte ∷ rest)
+  one_at (only (codes "\n")) returned.1
+
+-- a line "P", with its end or at the end of the file
+abbrev pub script_line_at : List ℕ → Outcome ℕ (Unit {0})
+script_line_at text = do
+  letter ← one_at (only (codes "P")) text
+  script_end_at letter.1
+
+-- the end of the file, behind a row that wants no LF
+abbrev pub end_at : Bool → List ℕ → Outcome ℕ (Unit {0})
+end_at true text = Err text
+end_at false [] = Ok (tt, [])
+end_at false (byte ∷ rest) = Err (byte ∷ rest)
+
+-- lines before others
+abbrev pub with_lines : List Line → Outcome ℕ (List Line × Tail) → Outcome ℕ (List Line × Tail)
+with_lines lines others = do
+  found ← others
+  Ok ((lines ++ found.0.0, found.0.1), found.1)
+
+-- a row as the last line, if it wants no LF
+abbrev pub last_at : Line → Bool → List ℕ → Outcome ℕ (List Line × Tail)
+last_at l true text = Err text
+last_at l false text = Ok (([], Ends l), text)
+
+-- behind a row: an LF and others, or the end of the lines
+abbrev pub behind_row_at : (List ℕ → Outcome ℕ (List Line × Tail)) → Line → Bool → List ℕ → Outcome ℕ (List Line × Tail)
+behind_row_at others l wants [] = last_at l wants []
+behind_row_at others l wants (byte ∷ rest) = if byte == 10 then with_lines (l ∷ []) (others rest) else last_at l wants (byte ∷ rest)
+
+-- the next line of a file and those behind it
+abbrev pub row_and_others_at : (List ℕ → Outcome ℕ (List Line × Tail)) → List ℕ → Outcome ℕ (List Line × Tail)
+row_and_others_at others text = do
+  row ← row_at text
+  behind_row_at others row.0.0 row.0.1 row.1
+
+-- the lines of a file up to their end; the number bounds how many
+abbrev pub front_from : ℕ → List ℕ → Outcome ℕ (List Line × Tail)
+front_from zero text = Err text
+front_from (suc most) text = choice_at (begins (is_in (only (codes "P")))) letter_at (row_and_others_at (front_from most)) text
+
+-- the lines of a file, with their ends but the last, and how they end
+unfoldable pub front_at : List ℕ → Outcome ℕ (List Line × Tail)
+front_at text = front_from (suc (length text)) text
+
+-- the lines of a file, and whether its script stands behind them, which is what is left
+abbrev pub lines_in : Outcome ℕ (List Line × Tail) → Outcome ℕ (List Line × Bool)
+lines_in (Ok ((ended, Ends l), [])) = Ok ((ended ++ l ∷ [], false), [])
+lines_in (Ok ((ended, Ends l), byte ∷ rest)) = Err (byte ∷ rest)
+lines_in (Ok ((ended, Letter), [])) = Ok ((ended, true), [])
+lines_in (Ok ((ended, Letter), byte ∷ rest)) = Err (byte ∷ rest)
+lines_in (Ok ((ended, Opens text), rest)) = Ok ((ended, true), text)
+lines_in (Err rest) = Err rest
 
 -- a run of symbols of the table was passed, as long as it goes
 pub record PassesRun {A V : Type 0} (table : A → Option V) (old new : List A) : Type 0 where

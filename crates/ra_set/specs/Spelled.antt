@@ -1,7 +1,9 @@
 -- The structure of the sets that some file spells: docs/DEFINITIONS.md, "What texts spell".
-use Rattle.std.specs.Prelude.{◌<◌, ◌^◌, All}
+use Rattle.std.specs.Prelude.{◌<◌, ◌^◌, All, Option, Some, None, length}
 use Rattle.ra_condition.specs.Spelled.{IsTrigger}
 use Rattle.ra_leaderboard.specs.Spelled.{IsBoard}
+use Rattle.ra_richpresence.specs.Contents.{ScriptContents}
+use Rattle.ra_richpresence.specs.Spelled.{IsScript}
 use Rattle.ra_value_format.specs.Formats.{HasDigits}
 use Rattle.ra_set.specs.Contents.{ItemContents, Unlocks, Ranks, SetContents}
 use Rattle.ra_set.specs.Refusals.{id_of}
@@ -11,9 +13,15 @@ abbrev pub IsItem : ItemContents → Type 0
 IsItem (Unlocks id t) = IsTrigger t
 IsItem (Ranks id format b) = IsBoard b × HasDigits format
 
--- each item is one that some line spells
+-- a script that some text spells, with as many lines as a number of 32 bits can count, if there is one
+abbrev pub OptionalScript : Option ScriptContents → Type 0
+OptionalScript None = Unit {0}
+OptionalScript (Some script) = IsScript script × (length script.lines < 2 ^ 32)
+
+-- each item is one that some line spells, and the script is one that some text spells
 pub record IsSpelled (set : SetContents) : Type 0 where
   pub items : All IsItem set.items
+  pub script : OptionalScript set.script
 
 -- the id of an item is a number of 32 bits
 abbrev pub HasSmallId : ItemContents → Type 0

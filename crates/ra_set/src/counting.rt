@@ -113,7 +113,8 @@ fn in_optional_script(script: &Option<Script>) -> u64
     }
 }
 
-fn in_lines(lines: &[Line]) -> u64
+// How many conditions the lines of a script have.
+pub fn in_lines(lines: &[Line]) -> u64
     requires { sum_by line_conditions (map line_contents lines.now) < 2 ^ 64 }
     ensures { result ≡ sum_by line_conditions (map line_contents lines.now) }
 {

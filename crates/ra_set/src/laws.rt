@@ -3,15 +3,15 @@
 ghost use Rattle.std.specs.Prelude.{◌≡◌, ◌↔◌, ℕ, All, List, None};
 ghost use Rattle.ra_set.specs.Accepted.{IsSet};
 ghost use Rattle.ra_set.specs.Contents.{SetContents};
-ghost use Rattle.ra_set.specs.Grammar.{SetFile, set_lines};
+ghost use Rattle.ra_set.specs.Grammar.{SetFile, set_file};
 ghost use Rattle.ra_set.specs.Refusals.{Refuses};
 ghost use Rattle.ra_set.specs.Spelled.{HasSmallId, IsSpelled};
 ghost use Rattle.ra_set.specs.declared.refused.SetRefused.{SetRefused};
 ghost use Rattle.ra_text.specs.Place.{OneSpelling};
 
-/// A file has its lines in one way at most: docs/DEFINITIONS.md, "Set file".
+/// A file has its contents in one way at most: docs/DEFINITIONS.md, "Set file".
 pub fn one_file()
-    ensures { OneSpelling set_lines }
+    ensures { OneSpelling set_file }
 {}
 
 /// A file is at most one set, or is refused for one reason, and never both.

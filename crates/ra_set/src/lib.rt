@@ -3,16 +3,21 @@
 
 mod counting;
 mod exact_id;
+mod file;
+mod file_lines;
 mod ids;
 mod item;
-mod items;
 mod kept_lines;
 mod laws;
+mod limits;
 mod lines;
 mod parse;
+mod read_file;
 mod refused;
 mod row;
 mod runs;
+#[cfg(test)]
+mod script_tests;
 mod set;
 #[cfg(test)]
 mod tests;

@@ -1,15 +1,17 @@
 //! Sets of a file: docs/DEFINITIONS.md, "Set file" and "Limits of a set".
 
-ghost use Rattle.std.specs.Prelude.{◌≡◌, ◌⊎◌, IfErr, IfOk, IsErrAnd, MatchResult};
+ghost use Rattle.std.specs.Prelude.{◌≡◌, ◌⊎◌, IfErr, IfOk, IsErrAnd, MatchResult, option_map};
 ghost use Rattle.ra_set.specs.Accepted.{IsSet};
 ghost use Rattle.ra_set.specs.Contents.{SetContents, set_contents};
 ghost use Rattle.ra_set.specs.Refusals.{Refuses};
 ghost use Rattle.ra_set.specs.Spelled.{IsSpelled};
 
-use crate::items::{check_limits, read_items};
+use crate::file::read_file;
+use crate::limits::check_limits;
 use crate::refused::{SetRefused, Which};
 use crate::set::Set;
 use md5::{Digest, Md5};
+use ra_richpresence::{ReadScript, Script};
 use std::alloc::Global;
 
 // The most bytes of a set.
@@ -19,7 +21,8 @@ const MOST_BYTES: usize = 4_194_304;
 ///
 /// Of several reasons why the file is none the first is told, in this order: its bytes pass their
 /// limit; it is outside the grammar, with the first bad place; a line repeats an id of its own
-/// letter, with the first such line; its items, and then its conditions, pass their limit.
+/// letter, with the first such line; its items pass their limit, or else its conditions, the macros
+/// of a display line, a lookup text.
 pub fn parse_set(alloc: Global, bytes: &[u8]) -> Result<Set, SetRefused>
     ensures ok { IfOk result (λ set. IsSet bytes.now (set_contents set)) }
     ensures structure { IfOk result (λ set. IsSpelled (set_contents set)) }
@@ -36,11 +39,21 @@ pub fn parse_set(alloc: Global, bytes: &[u8]) -> Result<Set, SetRefused>
             found: bytes.len() as u64,
         });
     }
-    let items = read_items(alloc, bytes)?;
-    check_limits(&items)?;
+    let read = read_file(alloc, bytes)?;
+    check_limits(&read.items, read.script.as_ref())?;
     Ok(Set {
-        items,
-        script: None,
+        items: read.items,
+        script: script_alone(read.script),
         digest: Md5::digest(bytes),
     })
+}
+
+// The script that was read, if there is one.
+fn script_alone(read: Option<ReadScript>) -> Option<Script>
+    ensures { result ≡ option_map (λ r. r.script) read }
+{
+    match read {
+        Some(read) => Some(read.script),
+        None => None,
+    }
 }

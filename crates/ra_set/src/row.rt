@@ -48,7 +48,7 @@ fn take_item_row(alloc: Global, cursor: &mut Cursor<'_>) -> Result<(Option<Item>
 }
 
 // A CR, where one is next.
-fn take_return(cursor: &mut Cursor<'_>) -> bool
+pub fn take_return(cursor: &mut Cursor<'_>) -> bool
     ensures { optional_at (lookup (bytes_for (codes "\r") true)) false cursor.old.rest.now ≡ Ok (result, cursor.new.rest.now) }
 {
     match cursor.rest {

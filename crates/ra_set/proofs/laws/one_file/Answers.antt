@@ -1,5 +1,5 @@
-use Rattle.ra_set.proofs.FileReaders.{one-spelling}
+use Rattle.ra_set.proofs.FileLemmas.{file-once}
 use Rattle.ra_set.proofs.laws.one_file.Goals as goal
 
 pub returns : goal.returns
-returns c = one-spelling
+returns c = file-once

@@ -1,36 +1,37 @@
-use Rattle.std.proofs.Common.{◌≡◌, ◌∙◌, ◌+◌, [], false, refl, sym, ap, subst, codes}
+use Rattle.std.proofs.Common.{◌≡◌, Ok, Err, refl, sym, subst}
 use Rattle.std.proofs.lemmas.Result.{err_from_is_err_and}
-use Rattle.ra_set.proofs.LinesLemmas.{first-fault, next-fault, lines-start, lines-next, lines-smaller, lines-end, lines-stop}
-use Rattle.ra_text.specs.Reading.{begins}
-use Rattle.ra_text.specs.Table.{is_in, only}
+use Rattle.ra_set.specs.Reading.{end_at}
+use Rattle.ra_set.proofs.LinesLemmas.{lines-start, lines-fault, lines-end, lines-stop, lines-next, row-smaller, script-stops, script-opens}
 use Rattle.ra_set.proofs.lines.take_lines.Goals as goal
 
-pub returns-in_err-first : goal.returns-in_err-first
-returns-in_err-first c = let p = err_from_is_err_and c.from_residual.result c.from_residual.ensures.1 in
-    rw (p.1, p.2) (first-fault c.in_err-first.field-0.0 c.args.cursor.now.rest.now c.take_row.new.cursor.rest.now c.in_err-first.ensures)
+pub lines-init : goal.lines-init
+lines-init c = lines-start c.none-kept.result c.args.cursor.now.rest.now c.none-kept.ensures.kept c.none-kept.ensures.count
 
-pub others-init : goal.others-init
-others-init c = lines-start c.add.new.self c.in_ok-first.first c.in_ok-first.wants_end c.take_row.new.cursor.rest.now c.args.cursor.now.rest.now c.in_ok-first.ensures (c.in_ok-add.ensures.kept [] c.none-lines.ensures.kept) (c.in_ok-add.ensures.count ∙ ap (λ n. n + 1) c.none-lines.ensures.count)
+pub returns-in_err-line : goal.returns-in_err-line
+returns-in_err-line c = let p = err_from_is_err_and c.from_residual.result c.from_residual.ensures.1 in
+    rw (p.1, p.2) (lines-fault c.in_err-line.field-0.0 c.lines.kept c.lines.cursor.rest.now c.take_row.new.cursor.rest.now c.args.cursor.now.rest.now (sym c.lines-test.ensures) c.in_err-line.ensures c.lines.invariant)
 
-pub returns-in_err-next : goal.returns-in_err-next
-returns-in_err-next c = let p = err_from_is_err_and c.from_residual-in_err-next.result c.from_residual-in_err-next.ensures.1 in let i = c.others.invariant in
-    rw (p.1, p.2) (next-fault c.in_err-next.field-0.0 i.so_far c.others.wants_end c.others.cursor.rest.now c.skip.new.self.rest.now c.args.cursor.now.rest.now c.take_row-in-others.new.cursor.rest.now (c.others-test.ensures.passed refl) c.in_err-next.ensures i.rows)
+pub returns-in_err-take_end : goal.returns-in_err-take_end
+returns-in_err-take_end c = let p = err_from_is_err_and c.from_residual-in_err-take_end.result c.from_residual-in_err-take_end.ensures.1 in
+    rw (p.1, p.2) (lines-stop c.lines.kept c.add.new.self c.lines.cursor.rest.now c.take_row.new.cursor.rest.now c.args.cursor.now.rest.now c.in_ok-line.line c.in_ok-line.wants_end
+    (sym c.lines-test.ensures) c.in_ok-line.ensures (sym c.if-not-skip.ensures.is_next) c.lines.invariant c.skip.new.self.rest.now
+    (subst (λ t. end_at c.in_ok-line.wants_end t ≡ Err c.skip.new.self.rest.now) (c.if-not-skip.ensures.stayed refl) c.in_err-take_end.ensures))
 
-pub others-smaller : goal.others-smaller
-others-smaller c = lines-smaller c.others.cursor.rest.now c.skip.new.self.rest.now c.take_row-in-others.new.cursor.rest.now _ (c.others-test.ensures.passed refl) c.in_ok-next.ensures
+pub returns-then-not-skip : goal.returns-then-not-skip
+returns-then-not-skip c = lines-end c.lines.kept c.add.new.self c.lines.cursor.rest.now c.take_row.new.cursor.rest.now c.args.cursor.now.rest.now c.in_ok-line.line c.in_ok-line.wants_end
+    (sym c.lines-test.ensures) c.in_ok-line.ensures (sym c.if-not-skip.ensures.is_next) c.lines.invariant c.skip.new.self.rest.now
+    (subst (λ t. end_at c.in_ok-line.wants_end t ≡ Ok (tt, c.skip.new.self.rest.now)) (c.if-not-skip.ensures.stayed refl) c.in_ok-take_end.ensures) c.in_ok-add.ensures.kept
 
-pub others-preserved : goal.others-preserved
-others-preserved c = lines-next c.others.lines c.add-in-others.new.self c.others.wants_end c.others.cursor.rest.now c.skip.new.self.rest.now c.take_row-in-others.new.cursor.rest.now c.args.cursor.now.rest.now c.in_ok-next.next c.in_ok-next.wants
-    (c.others-test.ensures.passed refl) c.in_ok-next.ensures c.in_ok-add-2.ensures.kept c.in_ok-add-2.ensures.count c.others.invariant
+pub lines-smaller : goal.lines-smaller
+lines-smaller c = row-smaller c.lines.cursor.rest.now c.take_row.new.cursor.rest.now c.skip.new.self.rest.now _ c.in_ok-line.wants_end c.in_ok-line.ensures (c.if-not-skip.ensures.passed refl)
 
-pub returns-then-wants_end : goal.returns-then-wants_end
-returns-then-wants_end c =
-    let stays = c.others-test.ensures.stayed refl in
-    let none : begins (is_in (only (codes "\n"))) c.skip.new.self.rest.now ≡ false = subst (λ t. begins (is_in (only (codes "\n"))) t ≡ false) (sym stays) (sym c.others-test.ensures.is_next) in
-    lines-stop c.others.lines c.skip.new.self.rest.now c.args.cursor.now.rest.now none (rw (← c.if-wants_end.true, stays) c.others.invariant)
+pub lines-preserved : goal.lines-preserved
+lines-preserved c = lines-next c.lines.kept c.add.new.self c.lines.cursor.rest.now c.take_row.new.cursor.rest.now c.skip.new.self.rest.now c.args.cursor.now.rest.now c.in_ok-line.line c.in_ok-line.wants_end
+    (sym c.lines-test.ensures) c.in_ok-line.ensures (c.if-not-skip.ensures.passed refl) c.in_ok-add.ensures.kept c.in_ok-add.ensures.count c.lines.invariant
 
-pub returns-else-wants_end : goal.returns-else-wants_end
-returns-else-wants_end c =
-    let stays = c.others-test.ensures.stayed refl in
-    let none : begins (is_in (only (codes "\n"))) c.skip.new.self.rest.now ≡ false = subst (λ t. begins (is_in (only (codes "\n"))) t ≡ false) (sym stays) (sym c.others-test.ensures.is_next) in
-    lines-end c.others.lines c.skip.new.self.rest.now c.args.cursor.now.rest.now none (rw (← c.if-wants_end.false, stays) c.others.invariant)
+pub returns-in_err-take_script_line : goal.returns-in_err-take_script_line
+returns-in_err-take_script_line c = let p = err_from_is_err_and c.from_residual-in_err-take_script_line.result c.from_residual-in_err-take_script_line.ensures.1 in
+    rw (p.1, p.2) (script-stops c.lines.kept c.lines.cursor.rest.now c.args.cursor.now.rest.now (sym c.lines-test.ensures) c.lines.invariant c.take_script_line.new.cursor.rest.now c.in_err-take_script_line.ensures)
+
+pub returns : goal.returns
+returns c = script-opens c.lines.kept c.lines.cursor.rest.now c.args.cursor.now.rest.now (sym c.lines-test.ensures) c.lines.invariant c.take_script_line.new.cursor.rest.now c.in_ok-take_script_line.ensures
