@@ -1,19 +1,22 @@
 -- One frame of all items, from what is kept, is one frame of the set by the definitions.
-use Rattle.std.proofs.Common.{◌≡◌, ℕ, ◌<◌, ◌^◌, None, List, [], ◌∷◌, ◌++◌, length, map, zip, refl, sym, ◌∙◌, ap, ap₂, subst, arith}
+use Rattle.std.proofs.Common.{◌≡◌, ℕ, ◌<◌, ◌^◌, Option, None, Some, List, [], ◌∷◌, ◌++◌, length, map, zip, refl, sym, ◌∙◌, ap, ap₂, subst, arith}
 use Rattle.std.specs.List.{flat_map}
 use Rattle.ra_indirect.specs.Trees.{cells_in, tracked_in, same_cell, same_tracked}
 use Rattle.ra_indirect.specs.Pools.{cells_of, tracked_of, spelled_by}
 use Rattle.ra_memref.specs.Values.{Start, cell_number, tracked_number}
 use Rattle.ra_memref.specs.Table.{TableSeen, AreKept, Samples, spelled_value}
+use Rattle.ra_richpresence.specs.Contents.{ScriptContents}
 use Rattle.ra_set.specs.Contents.{ItemContents, SetContents}
 use Rattle.ra_progress.specs.Contents.{Opening}
 use Rattle.ra_runtime.specs.declared.item_run.ItemRun.{ItemRun}
+use Rattle.ra_runtime.specs.declared.presence_run.PresenceRun.{PresenceRun}
 use Rattle.ra_runtime.specs.Order.{trees_in_set, set_cells, set_tracked}
 use Rattle.ra_runtime.specs.Openings.{start_of, snapshot, item_after, number_beside, prior_beside, frames_after, optional_presence}
 use Rattle.ra_runtime.specs.Play.{item_lines, lines}
 use Rattle.ra_runtime.specs.Runs.{HasValues}
 use Rattle.ra_runtime.specs.ItemRuns.{kept_run}
 use Rattle.ra_runtime.specs.AllRuns.{AreStepped, all_lines, opening_by, IsOver}
+use Rattle.ra_runtime.specs.PresenceRuns.{StepsOptional, optional_presence_kept}
 use Rattle.std.proofs.lemmas.List.{length-map}
 use Rattle.ra_runtime.specs.Runtime.{RuntimeSeen, TakesFrame}
 use Rattle.ra_runtime.proofs.Law.{cuts_anywhere}
@@ -38,9 +41,18 @@ module _ (table : TableSeen) (start : Start) (image : List ℕ) (has : HasValues
   stepped_lines frame (item ∷ items) (old ∷ olds) (new ∷ news) are =
       ap₂ (λ x xs. x ++ xs) (are.0.lines start image frame has) (stepped_lines frame items olds news are.1)
 
-module _ (set : SetContents) (no_script : set.script ≡ None) (count : ℕ) (old new : TableSeen) (image : List ℕ) (olds news : List ItemRun) (over : IsOver set old) (samples : Samples old new image) (stepped : AreStepped new set.items olds news) where
+-- one frame of a display that may be missing
+presence_kept_on : (table : TableSeen) (start : Start) (image : List ℕ) → HasValues table start (image ∷ []) → (script : Option ScriptContents) (old new : Option PresenceRun) → StepsOptional table script old new → optional_presence_kept new ≡ optional_presence start (image ∷ []) script (optional_presence_kept old)
+presence_kept_on table start image has None None None steps = refl
+presence_kept_on table start image has None None (Some new) steps = absurd steps
+presence_kept_on table start image has None (Some old) new steps = absurd steps
+presence_kept_on table start image has (Some script) None new steps = absurd steps
+presence_kept_on table start image has (Some script) (Some old) None steps = absurd steps
+presence_kept_on table start image has (Some script) (Some old) (Some new) steps = ap Some (steps start image has)
+
+module _ (set : SetContents) (count : ℕ) (old new : TableSeen) (image : List ℕ) (olds news : List ItemRun) (shown shown' : Option PresenceRun) (over : IsOver set old) (samples : Samples old new image) (stepped : AreStepped new set.items olds news) (steps : StepsOptional new set.script shown shown') where
   abbrev kept : Opening
-  kept = opening_by count old olds
+  kept = opening_by count old olds shown
 
   abbrev start : Start
   start = start_of set kept
@@ -55,13 +67,13 @@ module _ (set : SetContents) (no_script : set.script ≡ None) (count : ℕ) (ol
   has_values =
       samples.values start [] are_kept ∙ ap (λ ns. map (spelled_value start (image ∷ [])) (spelled_by ns)) (sym samples.pool.0)
 
-  pub frame_kept : opening_by (frames_after count 1) new news ≡ snapshot set kept (image ∷ [])
+  pub frame_kept : opening_by (frames_after count 1) new news shown' ≡ snapshot set kept (image ∷ [])
   frame_kept =
       let after : AreKept start (image ∷ []) old.nodes new.cells new.priors = samples.kept start [] are_kept in
       let cells : new.cells ≡ map (λ c. cell_number start c (image ∷ [])) (set_cells set) = after.numbers ∙ ap (map (λ c. cell_number start c (image ∷ []))) over.cells in
       let priors : new.priors ≡ map (λ t. tracked_number start t (image ∷ [])) (set_tracked set) = after.priors_too ∙ ap (map (λ t. tracked_number start t (image ∷ []))) over.tracked in
       let items = stepped_kept new start image has_values set.items olds news stepped in
-      let presence : None ≡ optional_presence start (image ∷ []) set.script None = rw no_script refl in
+      let presence = presence_kept_on new start image has_values set.script shown shown' steps in
       (λ i. record { frames = frames_after count 1; cells = cells i; priors = priors i; items = items i; presence = presence i })
 
   pub frame_lines : count < 2 ^ 64 → all_lines count set.items news ≡ lines set kept (image ∷ [])

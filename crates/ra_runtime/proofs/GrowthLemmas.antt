@@ -1,5 +1,6 @@
 -- A pool that grows by the trees of a list, one element after the other.
-use Rattle.std.proofs.Common.{◌≡◌, ℕ, ◌+◌, ◌*◌, ◌<◌, ◌≤◌, List, [], ◌∷◌, ◌++◌, length, map, take, get_or, sum_by, All, sym, ◌∙◌, ap, subst, arith}
+use Rattle.std.proofs.Common.{◌≡◌, ℕ, ◌+◌, ◌*◌, ◌<◌, ◌≤◌, List, [], ◌∷◌, ◌++◌, length, map, take, drop, get_or, sum_by, All, sym, ◌∙◌, ap, ap₂, subst, arith, add-one}
+use Rattle.std.proofs.Math.Seq.{drop-cons}
 use Rattle.std.specs.List.{flat_map}
 use Rattle.std.proofs.lemmas.List.{take-map, length-map, get_or-map, map_more}
 use Rattle.std.proofs.lemmas.List.Sums.{sum_by_push, sum_by_more_le}
@@ -22,6 +23,10 @@ module _ {X Y : Type 0} (contents : Y → X) (ys : List Y) (k : ℕ) (y : Y) (wi
 
   pub taken_next : map contents (take (k + 1) ys) ≡ map contents (take k ys) ++ contents y ∷ []
   taken_next = map_more contents ys k y within ∙ ap (λ z. map contents (take k ys) ++ contents z ∷ []) (sym is)
+
+  pub dropped_next : map contents (drop k ys) ≡ contents y ∷ map contents (drop (k + 1) ys)
+  dropped_next =
+      ap (map contents) (drop-cons ys k y within) ∙ ap₂ (λ x n. contents x ∷ map contents (drop n ys)) (sym is) (sym (add-one k))
 
   pub holds_at : (P : X → Type 0) → All P (map contents ys) → P (contents y)
   holds_at P all =

@@ -1,34 +1,33 @@
 -- A table that is laid out for a set is over it.
-use Rattle.std.proofs.Common.{◌≡◌, ℕ, Option, None, List, [], ◌++◌, length, sym, ◌∙◌, ap, subst, arith}
+use Rattle.std.proofs.Common.{◌≡◌, ℕ, ◌*◌, Option, List, [], length, sum_by, sym, ◌∙◌, ap, subst, arith}
 use Rattle.std.specs.List.{flat_map}
-use Rattle.std.proofs.lemmas.List.{append-nil, length-replicate}
+use Rattle.std.proofs.lemmas.List.{length-replicate}
 use Rattle.ra_indirect.specs.declared.node.Node.{Node}
-use Rattle.ra_indirect.specs.Trees.{Tree, cells_in, tracked_in, same_cell, same_tracked, firsts}
+use Rattle.ra_indirect.specs.Trees.{cells_in, tracked_in, same_cell, same_tracked}
 use Rattle.ra_indirect.specs.Pools.{cells_of, tracked_of}
 use Rattle.ra_indirect.specs.Growing.{GrowsBy}
 use Rattle.ra_indirect.proofs.SameLemmas.{cell_is, cell_itself, tracked_is, tracked_itself}
 use Rattle.ra_indirect.proofs.GrowingLemmas.{grown-firsts}
 use Rattle.ra_memref.specs.Table.{TableSeen, IsFresh}
-use Rattle.ra_richpresence.specs.Contents.{ScriptContents}
 use Rattle.ra_set.specs.Contents.{SetContents}
-use Rattle.ra_set.specs.Limits.{IsWithinLimits}
+use Rattle.ra_set.specs.Limits.{item_conditions, script_conditions, set_conditions, IsWithinLimits}
 use Rattle.ra_runtime.specs.declared.item_run.ItemRun.{ItemRun}
+use Rattle.ra_runtime.specs.declared.presence_run.PresenceRun.{PresenceRun}
 use Rattle.ra_runtime.specs.Order.{trees_in_item, trees_in_line, lines_in, trees_in_set, set_cells, set_tracked}
 use Rattle.ra_runtime.specs.AllRuns.{AreItemRuns, IsOver}
-use Rattle.ra_runtime.specs.Planning.{AreWaiting}
+use Rattle.ra_runtime.specs.NewPresence.{IsNewPresence}
+use Rattle.ra_runtime.specs.Planning.{GrowsWithin, AreWaiting}
+use Rattle.ra_runtime.specs.PresenceRuns.{IsOptionalPresence}
 use Rattle.ra_runtime.specs.Shapes.{IsLaidOut}
+use Rattle.ra_runtime.proofs.PlanLemmas.{within_through}
+use Rattle.ra_runtime.proofs.WaitingLemmas.{item_runs_more}
 
-module _ (set : SetContents) (no_script : set.script ≡ None) where
-  trees_alone : flat_map trees_in_item set.items ≡ trees_in_set set
-  trees_alone =
-      sym (append-nil (flat_map trees_in_item set.items))
-      ∙ ap (λ (s : Option ScriptContents). flat_map trees_in_item set.items ++ flat_map trees_in_line (lines_in s)) (sym no_script)
-
-  -- a table over a pool that grew by the trees of the items is over the set
-  pub over_fresh : (nodes : List Node) (size : ℕ) (table : TableSeen) → GrowsBy [] nodes (flat_map trees_in_item set.items) → IsFresh nodes size table → IsOver set table
+module _ (set : SetContents) where
+  -- a table over a pool that grew by the trees of the set is over the set
+  pub over_fresh : (nodes : List Node) (size : ℕ) (table : TableSeen) → GrowsBy [] nodes (trees_in_set set) → IsFresh nodes size table → IsOver set table
   over_fresh nodes size table grows fresh =
-      let cells : cells_of nodes ≡ set_cells set = grows.cells ∙ grown-firsts same_cell cell_is cell_itself [] (flat_map cells_in (flat_map trees_in_item set.items)) ∙ ap (λ (ts : List Tree). firsts same_cell (flat_map cells_in ts)) trees_alone in
-      let tracked : tracked_of nodes ≡ set_tracked set = grows.tracked ∙ grown-firsts same_tracked tracked_is tracked_itself [] (flat_map tracked_in (flat_map trees_in_item set.items)) ∙ ap (λ (ts : List Tree). firsts same_tracked (flat_map tracked_in ts)) trees_alone in
+      let cells : cells_of nodes ≡ set_cells set = grows.cells ∙ grown-firsts same_cell cell_is cell_itself [] (flat_map cells_in (trees_in_set set)) in
+      let tracked : tracked_of nodes ≡ set_tracked set = grows.tracked ∙ grown-firsts same_tracked tracked_is tracked_itself [] (flat_map tracked_in (trees_in_set set)) in
       record {
         cells = ap cells_of fresh.pool ∙ cells;
         tracked = ap tracked_of fresh.pool ∙ tracked;
@@ -36,12 +35,22 @@ module _ (set : SetContents) (no_script : set.script ≡ None) where
         priors_many = ap length fresh.priors ∙ length-replicate (length (tracked_of nodes)) 0 ∙ ap length tracked;
       }
 
-  -- items that wait over a fresh table
-  pub laid : (pool : List Node) (size : ℕ) (table : TableSeen) (runs : List ItemRun) → IsWithinLimits set → AreWaiting [] pool set.items runs → IsFresh pool size table → IsLaidOut set size table runs
-  laid pool size table runs limits are fresh = record {
-    fresh = subst (λ (ns : List Node). IsFresh ns size table) (sym fresh.pool) fresh;
-    few = omega (arith, ap length fresh.pool, are.grows.few, limits.conditions);
-    over = over_fresh pool size table are.grows.grows fresh;
-    runs_too = subst (λ (ns : List Node). AreItemRuns ns set.items runs) (sym fresh.pool) are.runs_too;
-    plain = are.plain;
-  }
+  -- items that wait and a new display over a fresh table
+  module _ (items pool : List Node) (size : ℕ) (table : TableSeen) (runs : List ItemRun) (presence : Option PresenceRun) (limits : IsWithinLimits set) (are : AreWaiting [] items set.items runs) (is : IsNewPresence items pool set.script presence) (fresh : IsFresh pool size table) where
+    all_grown : GrowsWithin [] pool (trees_in_set set) (13 * set_conditions set)
+    all_grown =
+        within_through [] items pool (flat_map trees_in_item set.items) (flat_map trees_in_line (lines_in set.script)) (13 * sum_by item_conditions set.items) (13 * script_conditions set.script) (13 * set_conditions set) (omega arith) are.grows is.grows
+
+    all_runs : AreItemRuns pool set.items runs
+    all_runs = item_runs_more items pool is.grows.grows.front set.items runs are.runs_too
+
+    pub laid : IsLaidOut set size table runs presence
+    laid = record {
+      fresh = subst (λ (ns : List Node). IsFresh ns size table) (sym fresh.pool) fresh;
+      few = omega (arith, ap length fresh.pool, all_grown.few, limits.conditions);
+      over = over_fresh pool size table all_grown.grows fresh;
+      runs_too = subst (λ (ns : List Node). AreItemRuns ns set.items runs) (sym fresh.pool) all_runs;
+      plain = are.plain;
+      presence_too = subst (λ (ns : List Node). IsOptionalPresence ns set.script presence) (sym fresh.pool) is.run_too;
+      plain_too = is.plain;
+    }

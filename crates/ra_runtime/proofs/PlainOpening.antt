@@ -35,8 +35,8 @@ plain_presence_fits (Some script) has =
     (omega (arith, some), zeros shape.hits, zeros shape.parts)
 
 -- all waits, the last line is shown, and all numbers are 0
-pub plain_is_opening : (set : SetContents) → HasLines set → IsOpening (shape_of set) (plain_opening set)
-plain_is_opening set has = record {
+pub plain_fits : (set : SetContents) → HasLines set → IsOpening (shape_of set) (plain_opening set)
+plain_fits set has = record {
   frames = lit< tt;
   cells = zeros (shape_of set).cells;
   priors = zeros (shape_of set).priors;

@@ -48,7 +48,7 @@ values_again (v ∷ vs) (k ∷ ks) hits numbers fits =
 values_again [] (k ∷ ks) hits numbers fits = absurd fits
 values_again (v ∷ vs) [] hits numbers fits = absurd fits
 
-length_values : (vs : List (List PartContents)) (ks : List ValueKept) → ValuesFit vs ks → (length (flat_map (λ (v : ValueKept). v.hits) ks) ≡ sum_by value_hits vs) × (length (flat_map (λ (v : ValueKept). v.numbers) ks) ≡ sum_by length vs)
+pub length_values : (vs : List (List PartContents)) (ks : List ValueKept) → ValuesFit vs ks → (length (flat_map (λ (v : ValueKept). v.hits) ks) ≡ sum_by value_hits vs) × (length (flat_map (λ (v : ValueKept). v.numbers) ks) ≡ sum_by length vs)
 length_values [] [] fits = (refl, refl)
 length_values (v ∷ vs) (k ∷ ks) fits =
     let rest = length_values vs ks fits.1 in

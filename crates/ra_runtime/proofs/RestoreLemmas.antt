@@ -55,13 +55,13 @@ module _ (bytes : List ℕ) (at : ℕ) (small : slice_index bytes at < 5) where
       run = achievement_run;
     }
 
-test_run : (bytes : List ℕ) (at : ℕ) (old new : TestRun) → PutsBackTest bytes at old new → (nodes : List Node) (t : TriggerContents) → IsTestRun nodes t old → IsTestRun nodes t new
+pub test_run : (bytes : List ℕ) (at : ℕ) (old new : TestRun) → PutsBackTest bytes at old new → (nodes : List Node) (t : TriggerContents) → IsTestRun nodes t old → IsTestRun nodes t new
 test_run bytes at old new back nodes t is = record {
   laid = subst (IsLaid nodes (groups_of t)) (sym back.laid) is.laid;
   hits = ap length back.hits ∙ length_words bytes at (length old.trigger.hits) ∙ is.hits;
 }
 
-value_run : (bytes : List ℕ) (hits numbers : ℕ) (old new : ValueRun) → PutsBackValue bytes hits numbers old new → (nodes : List Node) (parts : List PartContents) → IsValueRun nodes parts old → IsValueRun nodes parts new
+pub value_run : (bytes : List ℕ) (hits numbers : ℕ) (old new : ValueRun) → PutsBackValue bytes hits numbers old new → (nodes : List Node) (parts : List PartContents) → IsValueRun nodes parts old → IsValueRun nodes parts new
 value_run bytes hits numbers old new back nodes parts is = record {
   laid = subst (IsLaid nodes (map counted_in parts)) (sym (ap (λ r. r.laid) back.rest)) is.laid;
   nodes_too = subst (λ ns. AreSums nodes parts ns) (sym (ap (λ r. r.nodes.items) back.rest)) is.nodes_too;

@@ -1,19 +1,20 @@
 -- All items, put back one after the other.
-use Rattle.std.proofs.Common.{◌≡◌, ℕ, zero, suc, ◌+◌, ◌*◌, ◌<◌, ◌≤◌, List, [], ◌∷◌, ◌++◌, length, map, take, drop, get_or, set, slice_index, sum_by, sym, ◌∙◌, ap, ap₂, subst, arith}
+use Rattle.std.proofs.Common.{◌≡◌, ℕ, zero, suc, ◌+◌, ◌*◌, ◌<◌, ◌≤◌, Option, None, Some, List, [], ◌∷◌, ◌++◌, length, map, take, drop, get_or, set, slice_index, sum_by, sym, ◌∙◌, ap, ap₂, subst, arith}
 use Rattle.std.specs.List.{AllByRecursion}
 use Rattle.std.proofs.lemmas.List.{map-append, length-map, take-map, take_all, take_more, take_more_set, get_or-drop, get_or_default}
 use Rattle.std.proofs.lemmas.List.Sums.{sum_by-cons, sum_by_push}
 use Rattle.ra_indirect.specs.declared.node.Node.{Node}
 use Rattle.ra_set.specs.Contents.{ItemContents, SetContents}
 use Rattle.ra_progress.specs.declared.shape.ItemShape.{ItemShape}
-use Rattle.ra_progress.specs.Reading.{item_length, item_at, Bounded, states_from, shown_field, presence_at, said_item, said_items, IsAccepted}
+use Rattle.ra_progress.specs.declared.shape.PresenceShape.{PresenceShape}
+use Rattle.ra_progress.specs.Reading.{item_length, presence_length, item_at, Bounded, states_from, shown_field, presence_at, said_item, said_items, IsAccepted}
 use Rattle.ra_memref.specs.Table.{TableSeen}
 use Rattle.ra_runtime.specs.declared.item_run.ItemRun.{ItemRun}
 use Rattle.ra_runtime.specs.Order.{item_shape, shape_of}
 use Rattle.ra_runtime.specs.ItemRuns.{IsItemRun, kept_run}
 use Rattle.ra_runtime.specs.AllRuns.{AreItemRuns, IsOver}
 use Rattle.ra_runtime.specs.Shapes.{run_shape}
-use Rattle.ra_runtime.specs.Restoring.{HaveStates, PutsBackItem}
+use Rattle.ra_runtime.specs.Restoring.{HasShown, HaveStates, PutsBackItem}
 use Rattle.ra_runtime.proofs.GrowthLemmas.{taken_next, weight_at}
 use Rattle.ra_runtime.proofs.RunsLemmas.{length_runs, run_at, runs_more, rest_more}
 use Rattle.ra_runtime.proofs.ShapeLemmas.{runs_shaped}
@@ -92,7 +93,13 @@ states_stand : (bytes : List ℕ) (at : ℕ) (shapes : List ItemShape) (others :
 states_stand bytes at [] others all = tt
 states_stand bytes at (s ∷ shapes) others all = (all.0, states_stand bytes (at + item_length s) shapes others all.1)
 
--- bytes that are accepted have room and states for all runs
+-- the shown line of accepted bytes
+shown_stands : (bytes : List ℕ) (at : ℕ) (presence : Option PresenceShape) (states : List Bounded) → AllByRecursion (λ field. field.found < field.bound) (states ++ shown_field bytes at presence) → HasShown bytes at presence
+shown_stands bytes at None [] all = tt
+shown_stands bytes at (Some shape) [] all = all.0
+shown_stands bytes at presence (state ∷ states) all = shown_stands bytes at presence states all.1
+
+-- bytes that are accepted have room and states for all runs, and for the display behind them
 module _ (set : SetContents) (table : TableSeen) (runs : List ItemRun) (over : IsOver set table) (are : AreItemRuns table.nodes set.items runs) (bytes : List ℕ) (accepted : IsAccepted (shape_of set) bytes) where
   abbrev pub first_item : ℕ
   first_item = 29 + 4 * (length table.cells + length table.priors)
@@ -112,3 +119,20 @@ module _ (set : SetContents) (table : TableSeen) (runs : List ItemRun) (over : I
   runs_states =
       let there : HaveStates bytes (item_at (shape_of set) 0) (map item_shape set.items) = states_stand bytes (item_at (shape_of set) 0) (map item_shape set.items) (shown_field bytes (presence_at (shape_of set)) (shape_of set).presence) accepted.states in
       subst (λ n. HaveStates bytes n (map run_shape runs)) first_is (subst (HaveStates bytes (item_at (shape_of set) 0)) (sym shapes) there)
+
+  -- the display stands behind the items
+  abbrev pub first_of_display : ℕ
+  first_of_display = first_item + sum_by item_length (map run_shape runs)
+
+  pub behind_runs : first_of_display ≡ presence_at (shape_of set)
+  behind_runs =
+      let all : take (length (map item_shape set.items)) (map item_shape set.items) ≡ map item_shape set.items = take_all (length (map item_shape set.items)) (map item_shape set.items) (omega arith) in
+      omega (arith, ap (sum_by item_length) all, ap (sum_by item_length) shapes, over.cells_many, over.priors_many)
+
+  pub presence_within : first_of_display + presence_length (shape_of set).presence ≤ length bytes
+  presence_within = omega (arith, accepted.as_long, behind_runs)
+
+  pub presence_shown : HasShown bytes first_of_display (shape_of set).presence
+  presence_shown =
+      subst (λ at. HasShown bytes at (shape_of set).presence) (sym behind_runs)
+      (shown_stands bytes (presence_at (shape_of set)) (shape_of set).presence (states_from bytes (item_at (shape_of set) 0) (shape_of set).items) accepted.states)

@@ -15,7 +15,7 @@ use Rattle.ra_runtime.specs.Order.{optional_parts}
 use Rattle.ra_runtime.proofs.SpelledTrees.{HasOperands, FitsGroup}
 use Rattle.ra_runtime.proofs.ItemWords.{FitsTrigger, FitsPart, FitsValue, FitsBoard, FitsItem}
 
-weaker : {A : Type 0} (P Q : A → Type 0) → ((a : A) → P a → Q a) → (xs : List A) → All P xs → AllByRecursion Q xs
+pub weaker : {A : Type 0} (P Q : A → Type 0) → ((a : A) → P a → Q a) → (xs : List A) → All P xs → AllByRecursion Q xs
 weaker P Q each xs all = recursion_from_All Q xs (All-weaker P Q each xs all)
 
 spelled_group : (setting : Setting) (cs : List Condition) → All (IsCondition setting) cs → FitsGroup cs

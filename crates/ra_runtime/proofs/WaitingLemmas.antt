@@ -51,10 +51,10 @@ plans_item nodes (Ranks id format b) (plans.Leaderboard plan) is = optional_plan
 
 -- a run stays one where the pool grows
 module _ (old new : List Node) (front : IsFront old new) where
-  laid_more : (groups : List (List Condition)) (laid : Laid) → IsLaid old groups laid → IsLaid new groups laid
+  pub laid_more : (groups : List (List Condition)) (laid : Laid) → IsLaid old groups laid → IsLaid new groups laid
   laid_more groups laid is = record { plan = plan_more old new groups laid.plan front is.plan; ops = is.ops; truths = is.truths; lefts = is.lefts }
 
-  value_run_more : (parts : List PartContents) (run : ValueRun) → IsValueRun old parts run → IsValueRun new parts run
+  pub value_run_more : (parts : List PartContents) (run : ValueRun) → IsValueRun old parts run → IsValueRun new parts run
   value_run_more parts run is = record {
     laid = laid_more (map counted_in parts) run.laid is.laid;
     nodes_too = sums_more old new parts run.nodes.items front is.nodes_too;
@@ -81,7 +81,7 @@ module _ (old new : List Node) (front : IsFront old new) where
     progress = optional_run_more b.progress run.progress is.progress;
   }
 
-  item_runs_more : (items : List ItemContents) (runs : List ItemRun) → AreItemRuns old items runs → AreItemRuns new items runs
+  pub item_runs_more : (items : List ItemContents) (runs : List ItemRun) → AreItemRuns old items runs → AreItemRuns new items runs
   item_runs_more [] [] are = tt
   item_runs_more [] (run ∷ runs) are = absurd are
   item_runs_more (item ∷ items) [] are = absurd are

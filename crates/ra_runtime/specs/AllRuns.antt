@@ -1,5 +1,5 @@
 -- All items of a set: how they are kept and stepped, and their lines.
-use Rattle.std.specs.Prelude.{◌≡◌, ℕ, None, List, [], ◌∷◌, ◌++◌, length, map}
+use Rattle.std.specs.Prelude.{◌≡◌, ℕ, Option, List, [], ◌∷◌, ◌++◌, length, map}
 use Rattle.ra_indirect.specs.Pools.{cells_of, tracked_of}
 use Rattle.ra_progress.specs.Contents.{Opening}
 use Rattle.ra_runtime.specs.Order.{set_cells, set_tracked}
@@ -7,6 +7,8 @@ use Rattle.ra_indirect.specs.declared.node.Node.{Node}
 use Rattle.ra_memref.specs.Table.{TableSeen}
 use Rattle.ra_set.specs.Contents.{ItemContents, SetContents}
 use Rattle.ra_runtime.specs.declared.item_run.ItemRun.{ItemRun}
+use Rattle.ra_runtime.specs.declared.presence_run.PresenceRun.{PresenceRun}
+use Rattle.ra_runtime.specs.PresenceRuns.{optional_presence_kept}
 use Rattle.ra_runtime.specs.ItemRuns.{IsItemRun, StepsItem, kept_run}
 use Rattle.ra_runtime.specs.RunLines.{run_lines, HasItemDigits}
 
@@ -32,9 +34,9 @@ abbrev pub HaveDigits : List ItemContents → Type 0
 HaveDigits [] = Unit {0}
 HaveDigits (item ∷ items) = HasItemDigits item × HaveDigits items
 
--- what is kept, from a count, a table and the items
-abbrev pub opening_by : ℕ → TableSeen → List ItemRun → Opening
-opening_by count table runs = record { frames = count; cells = table.cells; priors = table.priors; items = map kept_run runs; presence = None }
+-- what is kept, from a count, a table, the items and the display
+abbrev pub opening_by : ℕ → TableSeen → List ItemRun → Option PresenceRun → Opening
+opening_by count table runs presence = record { frames = count; cells = table.cells; priors = table.priors; items = map kept_run runs; presence = optional_presence_kept presence }
 
 -- the table is over the cells and tracked masks of the set
 pub record IsOver (set : SetContents) (table : TableSeen) : Type 0 where

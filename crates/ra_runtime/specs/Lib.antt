@@ -5,12 +5,14 @@ pub mod Calls
 pub mod Histories
 pub mod ItemRuns
 pub mod Lines
+pub mod NewPresence
 pub mod Openings
 pub mod Order
 pub mod Planning
 pub mod Plans
 pub mod Play
 pub mod Presence
+pub mod PresenceRuns
 pub mod Readings
 pub mod Restoring
 pub mod RunLines
@@ -19,3 +21,4 @@ pub mod Runtime
 pub mod Saving
 pub mod Seen
 pub mod Shapes
+pub mod Showing

@@ -1,32 +1,35 @@
 -- What a runtime is seen as, by its fields, and what its fields always have.
-use Rattle.std.specs.Prelude.{◌≡◌, None, [], length, if◌then◌else◌}
+use Rattle.std.specs.Prelude.{◌≡◌, [], length, if◌then◌else◌}
 use Rattle.ra_memref.specs.Table.{Agrees}
 use Rattle.ra_set.specs.Contents.{set_contents}
 use Rattle.ra_set.specs.Limits.{IsWithinLimits}
+use Rattle.ra_set.specs.Spelled.{OptionalScript}
 use Rattle.ra_progress.specs.Contents.{shape_contents}
 use Rattle.ra_runtime.specs.declared.runtime.Runtime.TheInside.{Inside}
 use Rattle.ra_runtime.specs.Order.{shape_of}
 use Rattle.ra_runtime.specs.Runtime.{RuntimeSeen}
 use Rattle.ra_runtime.specs.AllRuns.{AreItemRuns, HaveDigits, IsOver, all_lines, opening_by}
+use Rattle.ra_runtime.specs.PresenceRuns.{IsOptionalPresence}
 
 -- what a caller sees of the inside of a runtime
 abbrev pub runtime_seen : Inside → RuntimeSeen
 runtime_seen t = record {
   set = set_contents t.set;
   image = t.memory;
-  kept = opening_by t.count t.table t.runs.items;
+  kept = opening_by t.count t.table t.runs.items t.presence;
   lines = if t.framed then all_lines t.frame (set_contents t.set).items t.runs.items else [];
   marked = t.table.marked;
   places = t.table.places;
 }
 
--- the set is within the limits, the table is over its cells and the memory, and there is a run for each item
+-- the set is within the limits, the table is over its cells and the memory, and there is a run for each item and for the display
 pub record IsRuntime (t : Inside) : Type 0 where
-  pub no_script : (set_contents t.set).script ≡ None
+  pub script : OptionalScript (set_contents t.set).script
   pub limits : IsWithinLimits (set_contents t.set)
   pub shape : shape_contents t.shape ≡ shape_of (set_contents t.set)
   pub over : IsOver (set_contents t.set) t.table
   pub runs : AreItemRuns t.table.nodes (set_contents t.set).items t.runs.items
+  pub presence : IsOptionalPresence t.table.nodes (set_contents t.set).script t.presence
   pub digits : HaveDigits (set_contents t.set).items
   pub size : t.table.size ≡ length t.memory
   pub agrees : Agrees t.table t.memory

@@ -1,17 +1,20 @@
 -- How many numbers runs keep, and a table that is laid out for a set.
-use Rattle.std.specs.Prelude.{◌≡◌, ℕ, ◌+◌, ◌<◌, ◌≤◌, ◌^◌, List, length, map}
+use Rattle.std.specs.Prelude.{◌≡◌, ℕ, ◌+◌, ◌<◌, ◌≤◌, ◌^◌, Option, None, Some, option_map, List, length, map}
 use Rattle.ra_memref.specs.Table.{TableSeen, IsFresh}
 use Rattle.ra_set.specs.Contents.{SetContents}
 use Rattle.ra_progress.specs.declared.shape.ItemShape.{ItemShape}
 use Rattle.ra_progress.specs.declared.shape.ItemShape.TheVariants as shapes
+use Rattle.ra_progress.specs.declared.shape.PresenceShape.{PresenceShape}
 use Rattle.ra_runtime.specs.declared.board_run.BoardRun.{BoardRun}
 use Rattle.ra_runtime.specs.declared.item_run.ItemRun.{ItemRun}
+use Rattle.ra_runtime.specs.declared.presence_run.PresenceRun.{PresenceRun}
 use Rattle.ra_runtime.specs.declared.item_run.ItemRun.TheVariants.{Achievement, Leaderboard}
-use Rattle.ra_runtime.specs.Order.{item_shape}
-use Rattle.ra_runtime.specs.Openings.{plain_item}
+use Rattle.ra_runtime.specs.Order.{item_shape, presence_shape}
+use Rattle.ra_runtime.specs.Openings.{plain_item, plain_presence}
 use Rattle.ra_runtime.specs.BoardRuns.{optional_kept}
 use Rattle.ra_runtime.specs.ItemRuns.{kept_run}
 use Rattle.ra_runtime.specs.AllRuns.{AreItemRuns, IsOver}
+use Rattle.ra_runtime.specs.PresenceRuns.{IsOptionalPresence, presence_kept, optional_presence_kept}
 
 -- the shape of a board, by the numbers that its run keeps
 abbrev pub board_run_shape : BoardRun → ItemShape
@@ -26,15 +29,34 @@ abbrev pub run_shape : ItemRun → ItemShape
 run_shape (Achievement run) = shapes.Achievement (length run.trigger.hits)
 run_shape (Leaderboard run) = board_run_shape run
 
+-- the shape of a display, by the numbers that its run keeps
+abbrev pub presence_run_shape : PresenceRun → PresenceShape
+presence_run_shape run = record {
+  lines = length run.lines.items;
+  hits = length (presence_kept run).hits;
+  parts = length (presence_kept run).numbers;
+}
+
+-- the same of a display that may be missing
+abbrev pub optional_run_shape : Option PresenceRun → Option PresenceShape
+optional_run_shape run = option_map presence_run_shape run
+
+-- the numbers of this shape, where there is one, are of 32 bits
+abbrev pub IsSmallPresence : Option PresenceShape → Type 0
+IsSmallPresence None = Unit {0}
+IsSmallPresence (Some shape) = (shape.lines < 2 ^ 32) × (shape.hits ≤ 65536) × (shape.parts ≤ 65536)
+
 -- an item of this shape is within the limits of a set
 abbrev pub IsSmall : ItemShape → Type 0
 IsSmall (shapes.Achievement hits) = hits ≤ 65536
 IsSmall (shapes.Leaderboard hits parts) = (hits ≤ 65536) × (parts ≤ 65536)
 
--- a table without a frame over the trees of a set, and runs that wait
-pub record IsLaidOut (set : SetContents) (size : ℕ) (table : TableSeen) (runs : List ItemRun) : Type 0 where
+-- a table without a frame over the trees of a set, runs that wait, and a display that shows its last line
+pub record IsLaidOut (set : SetContents) (size : ℕ) (table : TableSeen) (runs : List ItemRun) (presence : Option PresenceRun) : Type 0 where
   pub fresh : IsFresh table.nodes size table
   pub few : length table.nodes < 2 ^ 30
   pub over : IsOver set table
   pub runs_too : AreItemRuns table.nodes set.items runs
   pub plain : map kept_run runs ≡ map plain_item (map item_shape set.items)
+  pub presence_too : IsOptionalPresence table.nodes set.script presence
+  pub plain_too : optional_presence_kept presence ≡ option_map plain_presence (option_map presence_shape set.script)

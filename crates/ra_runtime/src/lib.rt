@@ -6,14 +6,18 @@ mod board_run;
 mod item_run;
 mod laid;
 mod laws;
+mod line_run;
 mod planning;
 mod plans;
+mod presence_run;
 mod reading;
 mod restored;
+mod restored_presence;
 mod runs;
 mod runtime;
 mod saved;
 mod shapes;
+mod shown;
 mod state_bytes;
 mod test_run;
 #[cfg(test)]

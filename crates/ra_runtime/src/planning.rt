@@ -72,7 +72,7 @@ fn board_plan(alloc: Global, text: &BoardText, pool: &mut Pool) -> Result<BoardP
 }
 
 // The plan of a trigger, the core group's first.
-fn trigger_plan(
+pub(crate) fn trigger_plan(
     alloc: Global,
     text: &TriggerText,
     pool: &mut Pool,
@@ -151,7 +151,11 @@ fn optional_plan(
 }
 
 // The plan of a value.
-fn value_plan(alloc: Global, text: &ValueText, pool: &mut Pool) -> Result<ValuePlan, OutOfMemory>
+pub(crate) fn value_plan(
+    alloc: Global,
+    text: &ValueText,
+    pool: &mut Pool,
+) -> Result<ValuePlan, OutOfMemory>
     requires spelled { IsValue (value_contents text.now) }
     requires room { length pool.old + 13 * value_conditions (value_contents text.now) + 2 ≤ 2 ^ 31 }
     ensures plan { IfOk result (IsValuePlan pool.new (value_contents text.now)) }

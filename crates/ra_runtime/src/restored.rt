@@ -18,17 +18,19 @@ use crate::value_run::ValueRun;
 use ra_progress::word_at;
 use ra_trigger::State;
 
-// Puts back what the bytes from a place on say of all items.
-pub(crate) fn put_back_runs(runs: &mut [ItemRun], bytes: &[u8], from: usize)
+// Puts back what the bytes from a place on say of all items, and gives the place behind.
+pub(crate) fn put_back_runs(runs: &mut [ItemRun], bytes: &[u8], from: usize) -> usize
     requires long { from + sum_by reading.item_length (map run_shape runs.old) ≤ length bytes.now }
     requires states { HaveStates bytes.now from (map run_shape runs.old) }
     ensures kept { map kept_run runs.new ≡ reading.said_items bytes.now from (map run_shape runs.old) }
     ensures runs { (nodes : List Node) (items : List ItemContents) → AreItemRuns nodes items runs.old → AreItemRuns nodes items runs.new }
+    ensures place { result ≡ from + sum_by reading.item_length (map run_shape runs.old) }
 {
     let mut at = from;
     for place in 0..runs.len() {
         at = put_back_item(&mut runs[place], bytes, at);
     }
+    at
 }
 
 // Puts back what the bytes at a place say of an item, and gives the place behind.
@@ -69,7 +71,7 @@ fn put_back_board(run: &mut BoardRun, bytes: &[u8], at: usize) -> usize
 }
 
 // Puts back the hits of a trigger, and gives the place behind.
-fn put_back_test(run: &mut TestRun, bytes: &[u8], at: usize) -> usize
+pub(crate) fn put_back_test(run: &mut TestRun, bytes: &[u8], at: usize) -> usize
     requires { at + 4 * length run.old.trigger.hits ≤ length bytes.now }
     ensures test { PutsBackTest bytes.now at run.old run.new }
     ensures place { result ≡ at + 4 * length run.old.trigger.hits }
@@ -80,7 +82,7 @@ fn put_back_test(run: &mut TestRun, bytes: &[u8], at: usize) -> usize
 }
 
 // Puts back the hits and the numbers of a value, and gives the place behind the numbers.
-fn put_back_value(run: &mut ValueRun, bytes: &[u8], hits: usize, numbers: usize) -> usize
+pub(crate) fn put_back_value(run: &mut ValueRun, bytes: &[u8], hits: usize, numbers: usize) -> usize
     requires hits { hits + 4 * length run.old.value.hits ≤ length bytes.now }
     requires numbers { numbers + 4 * length run.old.value.numbers ≤ length bytes.now }
     ensures value { PutsBackValue bytes.now hits numbers run.old run.new }

@@ -2,17 +2,20 @@ ghost use Rattle.std.specs.Prelude.{◌≡◌, ◌+◌, ◌≤◌, ◌^◌, None
 ghost use Rattle.ra_set.specs.Contents.{set_contents};
 ghost use Rattle.ra_set.specs.Limits.{IsWithinLimits};
 ghost use Rattle.ra_progress.specs.Contents.{shape_contents};
-ghost use Rattle.ra_progress.specs.Reading.{refusal};
+ghost use Rattle.ra_progress.specs.Reading.{IsAccepted, refusal};
 ghost use Rattle.ra_progress.specs.Spelling.{progress_bytes};
 ghost use Rattle.ra_runtime.specs.Order.{shape_of};
 ghost use Rattle.ra_runtime.specs.Saving.{IsSaved};
 ghost use Rattle.ra_set.specs.Spelled.{IsSpelled};
 
 use crate::item_run::ItemRun;
+use crate::presence_run::{PresenceRun, step_presence};
 use crate::restored::put_back_runs;
+use crate::restored_presence::put_back_presence;
 use crate::runs::{put_runs, step_runs};
-use crate::saved::{kept_items, put_numbers};
+use crate::saved::{kept_items, kept_presence, put_numbers};
 use crate::shapes::{laid_out, shape_over};
+use crate::shown::shown_line;
 use ra_memory::{Counted, Memory, Steps};
 use ra_memref::Table;
 use ra_progress::{ProgressRefused, Shape, Snapshot, check, encode, frames_at};
@@ -32,6 +35,7 @@ pub struct Runtime {
     memory: Memory,
     table: Table,
     runs: Vec<ItemRun>,
+    presence: Option<PresenceRun>,
     // the count of frames, which stops at the last number
     count: u64,
     // the number of the last frame: the count before it
@@ -53,7 +57,7 @@ impl Model for Runtime {
 }
 
 impl Runtime {
-    ghost use Rattle.ra_runtime.specs.Runtime.{IsMade, IsWritten, TakesFrame, TakesUp};
+    ghost use Rattle.ra_runtime.specs.Runtime.{IsMade, IsWritten, ShowsKept, TakesFrame, TakesUp};
 
     /// A set over a memory of `size` bytes, all 0, before the first frame: docs/DEFINITIONS.md, "What a
     /// runtime keeps".
@@ -62,12 +66,11 @@ impl Runtime {
     pub fn new(alloc: Global, set: Set, size: u32) -> Result<Runtime, OutOfMemory>
         requires limits { IsWithinLimits (set_contents set) }
         requires spelled { IsSpelled (set_contents set) }
-        requires script { (set_contents set).script ≡ None }
         requires size { size ≤ 2 ^ 27 }
         ensures { IfOk result (IsMade (set_contents set) size) }
     {
-        let (table, runs) = laid_out(alloc, &set, size)?;
-        let shape = shape_over(alloc, &set, &table, &runs)?;
+        let (table, runs, presence) = laid_out(alloc, &set, size)?;
+        let shape = shape_over(alloc, &set, &table, &runs, &presence)?;
         let memory = Memory::new(alloc, size)?;
         Ok(Runtime {
             set,
@@ -75,6 +78,7 @@ impl Runtime {
             memory,
             table,
             runs,
+            presence,
             count: 0,
             frame: 0,
             framed: false,
@@ -114,7 +118,7 @@ impl Runtime {
             cells,
             priors,
             items: kept_items(alloc, &self.runs)?,
-            presence: None,
+            presence: kept_presence(alloc, &self.presence)?,
         };
         encode(alloc, &self.shape, &snapshot)
     }
@@ -129,12 +133,21 @@ impl Runtime {
         ensures err { OnErr result (self.new ≡ self.old) }
     {
         check(&self.shape, bytes)?;
+        self.take_up(bytes);
+        Ok(())
+    }
+
+    // Takes up what accepted bytes say.
+    fn take_up(&mut self, bytes: &[u8])
+        requires { IsAccepted (shape_of self.old.set) bytes.now }
+        ensures { TakesUp self.old self.new bytes.now }
+    {
         let items = 29 + 4 * (self.table.cells().len() + self.table.priors().len());
         self.table.put_back(&bytes[29..items]);
-        put_back_runs(&mut self.runs, bytes, items);
+        let presence = put_back_runs(&mut self.runs, bytes, items);
+        put_back_presence(&mut self.presence, &self.shape.presence, bytes, presence);
         self.count = frames_at(bytes);
         self.framed = false;
-        Ok(())
     }
 
     /// Takes one frame of every item: docs/DEFINITIONS.md, "What a runtime keeps". No memory is taken.
@@ -146,6 +159,7 @@ impl Runtime {
             steps,
         });
         step_runs(&mut self.runs, &self.set.items, &self.table);
+        step_presence(&mut self.presence, &self.set.script, &self.table);
         self.frame = self.count;
         self.count = self.count.saturating_add(1);
         self.framed = true;
@@ -160,5 +174,13 @@ impl Runtime {
             put_runs(alloc, &mut out, self.frame, &self.set.items, &self.runs)?;
         }
         Ok(out)
+    }
+
+    /// The presence line after the last frame, with the count of frames: docs/DEFINITIONS.md, "Presence
+    /// over frames". Empty where the set has no script.
+    pub fn show(&self, alloc: Global) -> Result<Vec<u8>, OutOfMemory>
+        ensures { IfOk result (λ text. ShowsKept self.now text.items) }
+    {
+        shown_line(alloc, self.count, &self.set.script, &self.presence)
     }
 }

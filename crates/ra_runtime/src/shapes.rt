@@ -1,20 +1,26 @@
 //! The shape of a set, and a table that is laid out for it.
 
-ghost use Rattle.std.specs.Prelude.{◌≡◌, ◌≤◌, ◌<◌, ◌^◌, ◌+◌, None, length, map, All, IfOk};
+ghost use Rattle.std.specs.Prelude.{◌≡◌, ◌≤◌, ◌<◌, ◌^◌, ◌+◌, length, map, option_map, All, IfOk};
+ghost use Rattle.std.specs.List.{flat_map};
 ghost use Rattle.ra_set.specs.Contents.{set_contents};
 ghost use Rattle.ra_set.specs.Limits.{IsWithinLimits};
 ghost use Rattle.ra_progress.specs.Contents.{shape_contents};
 ghost use Rattle.ra_runtime.specs.Order as spec;
 ghost use Rattle.ra_runtime.specs.AllRuns.{IsOver};
-ghost use Rattle.ra_runtime.specs.Shapes.{run_shape, board_run_shape, IsSmall, IsLaidOut};
+ghost use Rattle.ra_runtime.specs.Presence.{hits_in, numbers_in};
+ghost use Rattle.ra_runtime.specs.PresenceRuns.{line_kept, test_kept};
+ghost use Rattle.ra_runtime.specs.Shapes.{run_shape, board_run_shape, optional_run_shape, IsSmall, IsSmallPresence, IsLaidOut};
 ghost use Rattle.ra_set.specs.Spelled.{IsSpelled};
 
 use crate::board_run::BoardRun;
 use crate::item_run::ItemRun;
+use crate::line_run::LineRun;
+use crate::presence_run::{PresenceRun, new_presence};
 use crate::runs::new_runs;
+use crate::test_run::TestRun;
 use ra_indirect::Pool;
 use ra_memref::Table;
-use ra_progress::{ItemShape, Shape};
+use ra_progress::{ItemShape, PresenceShape, Shape};
 use ra_set::Set;
 use ra_text::OutOfMemory;
 use std::alloc::Global;
@@ -23,29 +29,28 @@ use std::alloc::Global;
 pub fn shape_of(alloc: Global, set: &Set) -> Result<Shape, OutOfMemory>
     requires limits { IsWithinLimits (set_contents set.now) }
     requires spelled { IsSpelled (set_contents set.now) }
-    requires script { (set_contents set.now).script ≡ None }
     ensures { IfOk result (λ shape. shape_contents shape ≡ spec.shape_of (set_contents set.now)) }
 {
-    let (table, runs) = laid_out(alloc, set, 0)?;
-    shape_over(alloc, set, &table, &runs)
+    let (table, runs, presence) = laid_out(alloc, set, 0)?;
+    shape_over(alloc, set, &table, &runs, &presence)
 }
 
-// A table over the trees of a set, and a run for each item.
+// A table over the trees of a set, a run for each item, and one for the display.
 pub(crate) fn laid_out(
     alloc: Global,
     set: &Set,
     size: u32,
-) -> Result<(Table, Vec<ItemRun>), OutOfMemory>
+) -> Result<(Table, Vec<ItemRun>, Option<PresenceRun>), OutOfMemory>
     requires limits { IsWithinLimits (set_contents set.now) }
     requires spelled { IsSpelled (set_contents set.now) }
-    requires script { (set_contents set.now).script ≡ None }
     requires size { size ≤ 2 ^ 27 }
-    ensures { IfOk result (λ laid. IsLaidOut (set_contents set.now) size laid.0 laid.1.items) }
+    ensures { IfOk result (λ laid. IsLaidOut (set_contents set.now) size laid.0 laid.1.items laid.2) }
 {
     let mut pool = Pool::new(alloc);
     let runs = new_runs(alloc, &set.items, &mut pool)?;
+    let presence = new_presence(alloc, &set.script, &mut pool)?;
     let table = Table::new(alloc, pool, size)?;
-    Ok((table, runs))
+    Ok((table, runs, presence))
 }
 
 // The shape of a set, by its table and its runs.
@@ -54,12 +59,14 @@ pub(crate) fn shape_over(
     set: &Set,
     table: &Table,
     runs: &[ItemRun],
+    presence: &Option<PresenceRun>,
 ) -> Result<Shape, OutOfMemory>
-    requires script { (set_contents set.now).script ≡ None }
     requires over { IsOver (set_contents set.now) table.now }
     requires few { length table.now.cells + length table.now.priors < 2 ^ 32 }
     requires small { All IsSmall (map run_shape runs.now) }
     requires items { map run_shape runs.now ≡ map spec.item_shape (set_contents set.now).items }
+    requires small_presence { IsSmallPresence (optional_run_shape presence.now) }
+    requires presence { optional_run_shape presence.now ≡ option_map spec.presence_shape (set_contents set.now).script }
     ensures { IfOk result (λ shape. shape_contents shape ≡ spec.shape_of (set_contents set.now)) }
 {
     let items = item_shapes(alloc, runs)?;
@@ -68,7 +75,7 @@ pub(crate) fn shape_over(
         cells: table.cells().len() as u32,
         priors: table.priors().len() as u32,
         items,
-        presence: None,
+        presence: presence_shape(presence),
     })
 }
 
@@ -112,5 +119,66 @@ fn board_shape(run: &BoardRun) -> ItemShape
     ItemShape::Leaderboard {
         hits: (tests + run.value.value.hits().len() + hits) as u32,
         parts: (run.value.value.kept().len() + parts) as u32,
+    }
+}
+
+// How many lines, hits and parts a display keeps, where there is one.
+fn presence_shape(presence: &Option<PresenceRun>) -> Option<PresenceShape>
+    requires { IsSmallPresence (optional_run_shape presence.now) }
+    ensures { result ≡ optional_run_shape presence.now }
+{
+    match presence {
+        Some(run) => {
+            let (hits, parts) = kept_by_lines(&run.lines);
+            Some(PresenceShape {
+                lines: run.lines.len() as u32,
+                hits: hits as u32,
+                parts: parts as u32,
+            })
+        }
+        None => None,
+    }
+}
+
+// How many hits and numbers lines keep.
+fn kept_by_lines(lines: &[LineRun]) -> (usize, usize)
+    requires hits { length (flat_map hits_in (map line_kept lines.now)) ≤ 65536 }
+    requires numbers { length (flat_map numbers_in (map line_kept lines.now)) ≤ 65536 }
+    ensures hits { result.0 ≡ length (flat_map hits_in (map line_kept lines.now)) }
+    ensures numbers { result.1 ≡ length (flat_map numbers_in (map line_kept lines.now)) }
+{
+    let mut hits = 0;
+    let mut numbers = 0;
+    for line in lines {
+        let kept = kept_by_line(line);
+        hits += kept.0;
+        numbers += kept.1;
+    }
+    (hits, numbers)
+}
+
+// How many hits and numbers a line keeps.
+fn kept_by_line(line: &LineRun) -> (usize, usize)
+    requires hits { length (hits_in (line_kept line.now)) ≤ 65536 }
+    requires numbers { length (numbers_in (line_kept line.now)) ≤ 65536 }
+    ensures hits { result.0 ≡ length (hits_in (line_kept line.now)) }
+    ensures numbers { result.1 ≡ length (numbers_in (line_kept line.now)) }
+{
+    let mut hits = test_hits(&line.test);
+    let mut numbers = 0;
+    for run in &line.values {
+        hits += run.value.hits().len();
+        numbers += run.value.kept().len();
+    }
+    (hits, numbers)
+}
+
+// How many hits a test keeps, where there is one.
+fn test_hits(test: &Option<TestRun>) -> usize
+    ensures { result ≡ length (test_kept test.now) }
+{
+    match test {
+        Some(run) => run.trigger.hits().len(),
+        None => 0,
     }
 }

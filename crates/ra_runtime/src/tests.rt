@@ -1,11 +1,13 @@
 //! Sets over a memory, from the rules.
 
-ghost use Rattle.std.specs.Prelude.{◌≡◌, None, IfOk};
+ghost use Rattle.std.specs.Prelude.{IfOk};
 ghost use Rattle.ra_set.specs.Contents.{set_contents};
 ghost use Rattle.ra_set.specs.Limits.{IsWithinLimits};
 ghost use Rattle.ra_set.specs.Spelled.{IsSpelled};
 
+mod displays;
 mod played;
+mod shown;
 
 use crate::shape_of;
 use crate::tests::played::Played;
@@ -19,7 +21,6 @@ use std::test::Fail;
 pub(crate) fn set_of(alloc: Global, file: &str) -> Result<Set, Fail>
     ensures limits { IfOk result (λ set. IsWithinLimits (set_contents set)) }
     ensures spelled { IfOk result (λ set. IsSpelled (set_contents set)) }
-    ensures script { IfOk result (λ set. (set_contents set).script ≡ None) }
 {
     match parse_set(alloc, file.as_bytes()) {
         Ok(set) => Ok(set),

@@ -163,7 +163,7 @@ fn is_started(change: &BoardChange) -> bool
 }
 
 // Puts the words of a line, the last one by itself.
-fn put_ended(out: &mut Vec<u8>, head: &[u8], word: &[u8]) -> Result<(), OutOfMemory>
+pub(crate) fn put_ended(out: &mut Vec<u8>, head: &[u8], word: &[u8]) -> Result<(), OutOfMemory>
     ensures { OnOk result (out.new.items ≡ out.old.items ++ (head.now ++ (word.now ++ 10 ∷ []))) }
 {
     out.extend_from_slice(head)?;

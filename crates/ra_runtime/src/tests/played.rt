@@ -10,23 +10,41 @@ use std::marker::Brand;
 use std::sync::ledger::{Blank, Ledger};
 use std::test::Fail;
 
-/// A runtime over 32 bytes, of which the one at 0x10 changes.
+/// A runtime over 256 bytes, of which mostly the one at 0x10 changes.
 #[derive(Drop)]
 pub struct Played {
     runtime: Runtime,
-    ghost size: { length runtime.image ≡ 32 },
+    ghost size: { length runtime.image ≡ 256 },
 }
 
 impl Played {
     pub fn new(alloc: Global, file: &str) -> Result<Played, Fail> {
         let set = set_of(alloc, file)?;
-        let runtime = Runtime::new(alloc, set, 32)?;
+        let runtime = Runtime::new(alloc, set, 256)?;
         Ok(Played { runtime })
     }
 
     /// The lines of a frame at which the byte has this value.
     pub fn lines_at(&mut self, alloc: Global, byte: u8) -> Result<Vec<u8>, OutOfMemory> {
         self.runtime.write(0x10, &[byte]);
+        self.take_frame::<Brand>(Blank::new(1));
+        self.runtime.lines(alloc)
+    }
+
+    /// Writes one byte at each of these places.
+    pub fn write_all(&mut self, writes: &[(u8, u8)]) {
+        for (at, byte) in writes {
+            self.runtime.write(u32::from(*at), &[*byte]);
+        }
+    }
+
+    /// The lines of a frame behind these writes.
+    pub fn lines_behind(
+        &mut self,
+        alloc: Global,
+        writes: &[(u8, u8)],
+    ) -> Result<Vec<u8>, OutOfMemory> {
+        self.write_all(writes);
         self.take_frame::<Brand>(Blank::new(1));
         self.runtime.lines(alloc)
     }
@@ -49,6 +67,10 @@ impl Played {
 
     pub fn lines(&self, alloc: Global) -> Result<Vec<u8>, OutOfMemory> {
         self.runtime.lines(alloc)
+    }
+
+    pub fn show(&self, alloc: Global) -> Result<Vec<u8>, OutOfMemory> {
+        self.runtime.show(alloc)
     }
 
     pub fn save(&self, alloc: Global) -> Result<Vec<u8>, OutOfMemory> {

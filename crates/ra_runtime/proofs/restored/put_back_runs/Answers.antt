@@ -41,3 +41,9 @@ returns-clause-runs c nodes items are =
     let all : take p.place items ≡ items = take_all p.place items (omega (arith, many)) in
     let all_runs : take p.place p.runs ≡ p.runs = take_all p.place p.runs (omega arith) in
     rw (all, all_runs) at (p.invariant.runs nodes items are)
+
+pub returns-clause-place : goal.returns-clause-place
+returns-clause-place c =
+    let p = c.loop-place in
+    let all : take p.place c.args.runs.now ≡ c.args.runs.now = take_all p.place c.args.runs.now (omega arith) in
+    rw all at p.invariant.at

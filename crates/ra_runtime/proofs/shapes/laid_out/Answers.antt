@@ -8,8 +8,9 @@ use Rattle.ra_runtime.proofs.shapes.laid_out.Goals as goal
 pub returns : goal.returns
 returns c =
     let set = set_contents c.args.set.now in
-    let pool = c.new_runs.new.pool in
+    let items = c.new_runs.new.pool in
+    let pool = c.new_presence.new.pool in
     let runs = c.in_ok-runs.runs.items in
-    let items : map item_contents c.deref.result.now ≡ set.items = ap (map item_contents) c.deref.ensures.value in
-    let are : AreWaiting [] pool set.items runs = subst (λ (xs : List ItemContents). AreWaiting [] pool xs runs) items (subst (λ (ns : List Node). AreWaiting ns pool (map item_contents c.deref.result.now) runs) c.new-pool.ensures c.in_ok-runs.ensures) in
-    laid set c.requires.script pool c.args.size c.in_ok-table.table runs c.requires.limits are c.in_ok-table.ensures
+    let same : map item_contents c.deref.result.now ≡ set.items = ap (map item_contents) c.deref.ensures.value in
+    let are : AreWaiting [] items set.items runs = subst (λ (xs : List ItemContents). AreWaiting [] items xs runs) same (subst (λ (ns : List Node). AreWaiting ns items (map item_contents c.deref.result.now) runs) c.new-pool.ensures c.in_ok-runs.ensures) in
+    laid set items pool c.args.size c.in_ok-table.table runs c.in_ok-presence.presence c.requires.limits are c.in_ok-presence.ensures c.in_ok-table.ensures

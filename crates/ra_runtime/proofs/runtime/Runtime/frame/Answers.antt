@@ -24,11 +24,12 @@ invariant_of-self g c =
     let stepped : AreStepped c.sample.new.self set.items c.self.inside.runs.items c.step_runs.new.runs = rw (c.deref.ensures.value, c.deref_mut.ensures.value) at c.step_runs.ensures.stepped in
     let runs : AreItemRuns c.sample.new.self.nodes set.items c.step_runs.new.runs = rw c.deref.ensures.value at c.step_runs.ensures.runs in
     record {
-      no_script = c.self.invariant.no_script;
+      script = c.self.invariant.script;
       limits = c.self.invariant.limits;
       shape = c.self.invariant.shape;
-      over = over_after set c.self.invariant.no_script c.self.inside.count c.self.inside.table c.sample.new.self c.self.inside.memory c.self.inside.runs.items c.step_runs.new.runs c.self.invariant.over c.sample.ensures.taken stepped;
+      over = over_after set c.self.inside.count c.self.inside.table c.sample.new.self c.self.inside.memory c.self.inside.runs.items c.step_runs.new.runs c.self.inside.presence c.step_presence.new.run c.self.invariant.over c.sample.ensures.taken stepped c.step_presence.ensures.steps;
       runs = subst (λ (rs : List ItemRun). AreItemRuns c.sample.new.self.nodes set.items rs) (sym same) runs;
+      presence = c.step_presence.ensures.run;
       digits = c.self.invariant.digits;
       size = c.sample.ensures.taken.pool.1 ∙ c.self.invariant.size;
       agrees = c.sample.ensures.taken.agrees;
@@ -43,6 +44,6 @@ returns g c =
     let small : count < 2 ^ 64 = omega arith in
     let same : (with_items c.self.inside.runs news).items ≡ news = with_items_is c.self.inside.runs news (c.step_runs.auto.runs ∙ c.deref_mut.ensures.len) in
     let stepped : AreStepped c.sample.new.self set.items olds news = rw (c.deref.ensures.value, c.deref_mut.ensures.value) at c.step_runs.ensures.stepped in
-    rw (← c.self.view_is) (takes_frame (runtime_seen c.self.inside) (runtime_seen (record { set = c.self.inside.set; shape = c.self.inside.shape; memory = c.self.inside.memory; table = c.sample.new.self; runs = with_items c.self.inside.runs news; count = c.saturating_add-self-inside.result; frame = count; framed = true })) refl refl
-    ((λ i. opening_by (c.saturating_add-self-inside.ensures i) c.sample.new.self (same i)) ∙ frame_kept set c.self.invariant.no_script count c.self.inside.table c.sample.new.self c.self.inside.memory olds news c.self.invariant.over c.sample.ensures.taken stepped)
-    (ap (all_lines count set.items) same ∙ frame_lines set c.self.invariant.no_script count c.self.inside.table c.sample.new.self c.self.inside.memory olds news c.self.invariant.over c.sample.ensures.taken stepped small))
+    rw (← c.self.view_is) (takes_frame (runtime_seen c.self.inside) (runtime_seen (record { set = c.self.inside.set; shape = c.self.inside.shape; memory = c.self.inside.memory; table = c.sample.new.self; runs = with_items c.self.inside.runs news; presence = c.step_presence.new.run; count = c.saturating_add-self-inside.result; frame = count; framed = true })) refl refl
+    ((λ i. opening_by (c.saturating_add-self-inside.ensures i) c.sample.new.self (same i) c.step_presence.new.run) ∙ frame_kept set count c.self.inside.table c.sample.new.self c.self.inside.memory olds news c.self.inside.presence c.step_presence.new.run c.self.invariant.over c.sample.ensures.taken stepped c.step_presence.ensures.steps)
+    (ap (all_lines count set.items) same ∙ frame_lines set count c.self.inside.table c.sample.new.self c.self.inside.memory olds news c.self.inside.presence c.step_presence.new.run c.self.invariant.over c.sample.ensures.taken stepped c.step_presence.ensures.steps small))

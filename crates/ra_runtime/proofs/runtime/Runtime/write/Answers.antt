@@ -8,6 +8,7 @@ use Rattle.ra_memref.proofs.AgreeLemmas.{DifferWithin-written}
 use Rattle.ra_set.specs.Contents.{set_contents}
 use Rattle.ra_runtime.specs.Runtime.{RuntimeSeen}
 use Rattle.ra_runtime.specs.AllRuns.{AreItemRuns}
+use Rattle.ra_runtime.specs.PresenceRuns.{IsOptionalPresence}
 use Rattle.ra_runtime.proofs.runtime.Runtime.write.Goals as goal
 
 holds_by : {T E P : Type 0} (r : Result T E) → OnOk r P → (IsErr r → ⊥) → P
@@ -27,7 +28,7 @@ invariant_of-self c =
     let now : c.write.new.self ≡ written image at bytes = holds_by c.write.result c.write.ensures.ok (λ e. let more = c.write.ensures.refused.0 e in absurd (omega (arith, more, fits))) in
     let differ : DifferWithin at (length bytes) image c.write.new.self = subst (λ m. DifferWithin at (length bytes) image m) (sym now) (DifferWithin-written image bytes at fits) in
     record {
-      no_script = inv.no_script;
+      script = inv.script;
       limits = inv.limits;
       shape = inv.shape;
       over = record {
@@ -37,6 +38,7 @@ invariant_of-self c =
         priors_many = ap (λ (t : TableSeen). length t.priors) told.rest ∙ inv.over.priors_many;
       };
       runs = subst (λ (ns : List Node). AreItemRuns ns set.items c.self.inside.runs.items) (sym (ap (λ (t : TableSeen). t.nodes) told.rest)) inv.runs;
+      presence = subst (λ (ns : List Node). IsOptionalPresence ns set.script c.self.inside.presence) (sym (ap (λ (t : TableSeen). t.nodes) told.rest)) inv.presence;
       digits = inv.digits;
       size = ap (λ (t : TableSeen). t.size) told.rest ∙ inv.size ∙ sym differ.size;
       agrees = told.agrees image c.write.new.self (sym inv.size) differ inv.agrees;

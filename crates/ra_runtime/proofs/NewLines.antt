@@ -1,0 +1,170 @@
+-- Lines of a display that were never stepped, one after the other over a pool that grows.
+use Rattle.std.proofs.Common.{◌≡◌, ℕ, ◌+◌, ◌*◌, ◌-◌, Option, None, Some, List, [], ◌∷◌, ◌++◌, length, map, get_or, replicate, sum_by, All, IfSome, refl, sym, ◌∙◌, ap, ap₂, subst, arith, length-append}
+use Rattle.std.specs.List.{flat_map, filter_map}
+use Rattle.std.proofs.lemmas.List.{append-nil, map-append, replicate-append-replicate}
+use Rattle.std.proofs.lemmas.List.Elements.{All-append, All-cons, All-nil}
+use Rattle.std.proofs.lemmas.List.Sums.{sum_by-cons, sum_by-append}
+use Rattle.ra_condition.specs.Contents.{TriggerContents, groups_of, trigger_hits, PartContents, value_hits}
+use Rattle.ra_condition.specs.Spelled.{IsTrigger}
+use Rattle.ra_indirect.specs.declared.node.Node.{Node}
+use Rattle.ra_indirect.specs.Growing.{IsFront}
+use Rattle.ra_chain.specs.Occurrence.{trees_in_trigger, trees_in_value}
+use Rattle.ra_chain.specs.declared.plan.GroupPlan.{GroupPlan}
+use Rattle.ra_richpresence.specs.Contents.{PieceContents, Bytes, Shows, LineContents, ScriptContents, value_in, values_in_line}
+use Rattle.ra_richpresence.specs.Spelled.{IsTested, IsUntested, IsDisplay}
+use Rattle.ra_trigger.specs.Steps.{TriggerKept}
+use Rattle.ra_value.specs.Steps.{ValueKept, no_value}
+use Rattle.ra_set.specs.Limits.{optional_trigger, optional_value, value_conditions, line_conditions}
+use Rattle.ra_runtime.specs.declared.plans.ValuePlan.{ValuePlan}
+use Rattle.ra_runtime.specs.declared.line_run.LineRun.{LineRun}
+use Rattle.ra_runtime.specs.declared.presence_run.PresenceRun.{PresenceRun}
+use Rattle.ra_runtime.specs.declared.test_run.TestRun.{TestRun}
+use Rattle.ra_runtime.specs.declared.value_run.ValueRun.{ValueRun}
+use Rattle.ra_runtime.specs.Order.{tests_in, trees_in_line, line_hits}
+use Rattle.ra_runtime.specs.Plans.{IsPlan, IsValuePlan}
+use Rattle.ra_runtime.specs.Planning.{GrowsWithin}
+use Rattle.ra_runtime.specs.Presence.{hits_in, numbers_in}
+use Rattle.ra_runtime.specs.Runs.{IsNewTest, IsValueRun, IsNewValue}
+use Rattle.ra_runtime.specs.PresenceRuns.{IsOptionalTest, AreValueRuns, IsLineRun, AreLineRuns, line_kept}
+use Rattle.ra_runtime.specs.NewPresence.{plain_test, plain_line, IsShownLine, IsNewTestOver, AreNewValues, IsNewLine, AreNewLines, IsNewPresence}
+use Rattle.ra_runtime.proofs.GrowthLemmas.{grows_more}
+use Rattle.ra_runtime.proofs.NewLemmas.{new_test, new_value}
+use Rattle.ra_runtime.proofs.PlanLemmas.{within_through, within_as}
+use Rattle.ra_runtime.proofs.SideBySide.{beside_more, beside_weaker}
+use Rattle.ra_runtime.proofs.WaitingLemmas.{laid_more, value_run_more}
+
+-- runs stay ones where the pool grows
+module _ (old new : List Node) (front : IsFront old new) where
+  pub test_more : (test : Option TriggerContents) (run : Option TestRun) → IsOptionalTest old test run → IsOptionalTest new test run
+  test_more None None is = tt
+  test_more None (Some run) is = absurd is
+  test_more (Some t) None is = absurd is
+  test_more (Some t) (Some run) is = record { laid = laid_more old new front (groups_of t) run.laid is.laid; hits = is.hits }
+
+  pub value_runs_more : (values : List (List PartContents)) (runs : List ValueRun) → AreValueRuns old values runs → AreValueRuns new values runs
+  value_runs_more values runs are = beside_weaker (IsValueRun old) (IsValueRun new) (value_run_more old new front) values runs are
+
+  pub line_run_more : (line : LineContents) (run : LineRun) → IsLineRun old line run → IsLineRun new line run
+  line_run_more line run is = record { test = test_more line.test run.test is.test; values = value_runs_more (values_in_line line) run.values.items is.values }
+
+  pub line_runs_more : (lines : List LineContents) (runs : List LineRun) → AreLineRuns old lines runs → AreLineRuns new lines runs
+  line_runs_more lines runs are = beside_weaker (IsLineRun old) (IsLineRun new) line_run_more lines runs are
+
+-- a test with its plan
+pub test_made : (old new : List Node) (t : TriggerContents) (plan : GroupPlan) (run : TestRun) → GrowsWithin old new (trees_in_trigger t) (13 * trigger_hits t) → IsPlan new (groups_of t) plan → IsNewTest t plan run → IsNewTestOver old new (Some t) (Some run)
+test_made old new t plan run grows is made = record {
+  grows = within_as old new (trees_in_trigger t) (trees_in_trigger t ++ []) (13 * trigger_hits t) (13 * trigger_hits t) (sym (append-nil (trees_in_trigger t))) (omega arith) grows;
+  run_too = new_test new t plan run is made;
+  plain = ap (λ (k : TriggerKept). k.hits) made.trigger;
+}
+
+-- a value more
+pub values_more : (a b c : List Node) (values : List (List PartContents)) (runs : List ValueRun) (parts : List PartContents) (plan : ValuePlan) (run : ValueRun) → AreNewValues a b values runs → GrowsWithin b c (trees_in_value parts) (13 * value_conditions parts) → IsValuePlan c parts plan → IsNewValue parts plan run → AreNewValues a c (values ++ parts ∷ []) (runs ++ run ∷ [])
+values_more a b c values runs parts plan run are grows is made = record {
+  grows = grows_more trees_in_value value_conditions a b c values parts are.grows grows;
+  runs_too = beside_more (IsValueRun c) values runs parts run (value_runs_more b c grows.grows.front values runs are.runs_too) (new_value c parts plan run is made);
+  plain =
+      map-append (λ (v : ValueRun). v.value) runs (run ∷ [])
+      ∙ ap₂ (λ ks k. ks ++ k ∷ []) are.plain made.value
+      ∙ sym (map-append no_value values (parts ∷ []));
+}
+
+-- text is no value more
+pub values_same : (a b : List Node) (values : List (List PartContents)) (runs : List ValueRun) → AreNewValues a b values runs → AreNewValues a b (values ++ []) runs
+values_same a b values runs are = subst (λ vs. AreNewValues a b vs runs) (sym (append-nil values)) are
+
+-- the conditions of the macros among some pieces
+pub macro_conditions : (pieces : List PieceContents) → sum_by value_conditions (filter_map value_in pieces) ≡ sum_by (λ p. optional_value (value_in p)) pieces
+macro_conditions [] = refl
+macro_conditions (Bytes text ∷ pieces) =
+    omega (arith, macro_conditions pieces, sum_by-cons (λ p. optional_value (value_in p)) (Bytes text) pieces)
+macro_conditions (Shows name parts ∷ pieces) =
+    omega (arith, macro_conditions pieces, sum_by-cons value_conditions parts (filter_map value_in pieces), sum_by-cons (λ p. optional_value (value_in p)) (Shows name parts) pieces)
+
+-- a line of a test and of values
+pub line_made : (a b c : List Node) (line : LineContents) (run : LineRun) → IsNewTestOver a b line.test run.test → AreNewValues b c (values_in_line line) run.values.items → IsNewLine a c line run
+line_made a b c line run test values =
+    let n1 : ℕ = optional_trigger line.test in
+    let n2 : ℕ = sum_by value_conditions (values_in_line line) in
+    record {
+      grows = within_through a b c (flat_map trees_in_trigger (tests_in line.test)) (flat_map trees_in_value (values_in_line line)) (13 * n1) (13 * n2) (13 * line_conditions line) (omega arith) test.grows values.grows;
+      run_too = record { test = test_more b c values.grows.grows.front line.test run.test test.run_too; values = values.runs_too };
+      plain = (λ i. record { test = test.plain i; values = values.plain i });
+    }
+
+-- a line more
+pub lines_more : (a b c : List Node) (lines : List LineContents) (runs : List LineRun) (line : LineContents) (run : LineRun) → AreNewLines a b lines runs → IsNewLine b c line run → AreNewLines a c (lines ++ line ∷ []) (runs ++ run ∷ [])
+lines_more a b c lines runs line run are is = record {
+  grows = grows_more trees_in_line line_conditions a b c lines line are.grows is.grows;
+  runs_too = beside_more (IsLineRun c) lines runs line run (line_runs_more b c is.grows.grows.front lines runs are.runs_too) is.run_too;
+  plain =
+      map-append line_kept runs (run ∷ [])
+      ∙ ap₂ (λ ks k. ks ++ k ∷ []) are.plain is.plain
+      ∙ sym (map-append plain_line lines (line ∷ []));
+}
+
+-- zeros in a row
+abbrev zeros : ℕ → List ℕ
+zeros n = replicate n 0
+
+zero_hits : (values : List (List PartContents)) → flat_map (λ (v : ValueKept). v.hits) (map no_value values) ≡ zeros (sum_by value_hits values)
+zero_hits [] = refl
+zero_hits (parts ∷ values) =
+    ap (λ l. zeros (value_hits parts) ++ l) (zero_hits values)
+    ∙ replicate-append-replicate (value_hits parts) (sum_by value_hits values) 0
+    ∙ ap zeros (sym (sum_by-cons value_hits parts values))
+
+zero_numbers : (values : List (List PartContents)) → flat_map (λ (v : ValueKept). v.numbers) (map no_value values) ≡ zeros (sum_by length values)
+zero_numbers [] = refl
+zero_numbers (parts ∷ values) =
+    ap (λ l. zeros (length parts) ++ l) (zero_numbers values)
+    ∙ replicate-append-replicate (length parts) (sum_by length values) 0
+    ∙ ap zeros (sym (sum_by-cons length parts values))
+
+zero_test : (test : Option TriggerContents) → plain_test test ≡ zeros (sum_by trigger_hits (tests_in test))
+zero_test None = refl
+zero_test (Some t) = let e : trigger_hits t ≡ sum_by trigger_hits (t ∷ []) = omega arith in ap zeros e
+
+line_zero : (line : LineContents) → hits_in (plain_line line) ≡ zeros (line_hits line)
+line_zero line =
+    ap₂ (λ xs ys. xs ++ ys) (zero_test line.test) (zero_hits (values_in_line line))
+    ∙ replicate-append-replicate (sum_by trigger_hits (tests_in line.test)) (sum_by value_hits (values_in_line line)) 0
+
+lines_zero : (lines : List LineContents) → flat_map hits_in (map plain_line lines) ≡ zeros (sum_by line_hits lines)
+lines_zero [] = refl
+lines_zero (line ∷ lines) =
+    ap₂ (λ xs ys. xs ++ ys) (line_zero line) (lines_zero lines)
+    ∙ replicate-append-replicate (line_hits line) (sum_by line_hits lines) 0
+    ∙ ap zeros (sym (sum_by-cons line_hits line lines))
+
+numbers_zero : (lines : List LineContents) → flat_map numbers_in (map plain_line lines) ≡ zeros (sum_by length (flat_map values_in_line lines))
+numbers_zero [] = refl
+numbers_zero (line ∷ lines) =
+    ap₂ (λ xs ys. xs ++ ys) (zero_numbers (values_in_line line)) (numbers_zero lines)
+    ∙ replicate-append-replicate (sum_by length (values_in_line line)) (sum_by length (flat_map values_in_line lines)) 0
+    ∙ ap zeros (sym (sum_by-append length (values_in_line line) (flat_map values_in_line lines)))
+
+-- a display of lines that were never stepped, which shows the last one
+pub presence_made : (a b : List Node) (script : ScriptContents) (run : PresenceRun) → AreNewLines a b script.lines run.lines.items → IsDisplay script.lines → run.shown ≡ length script.lines - 1 → IsNewPresence a b (Some script) (Some run)
+presence_made a b script run are display shown =
+    let some : length script.lines ≡ length display.front + 1 = ap length display.parts ∙ length-append display.front (display.last ∷ []) in
+    let hits : flat_map hits_in (map line_kept run.lines.items) ≡ zeros (sum_by line_hits script.lines) = ap (λ ks. flat_map hits_in ks) are.plain ∙ lines_zero script.lines in
+    let numbers : flat_map numbers_in (map line_kept run.lines.items) ≡ zeros (sum_by length (flat_map values_in_line script.lines)) = ap (λ ks. flat_map numbers_in ks) are.plain ∙ numbers_zero script.lines in
+    record {
+      grows = are.grows;
+      run_too = record { lines = are.runs_too; shown = omega (arith, shown, some) };
+      plain = (λ i. Some (record { shown = shown i; hits = hits i; numbers = numbers i }));
+    }
+
+-- the lines of a display are ones that some text spells
+tested_shown : (line : LineContents) → IsTested line → IsShownLine line
+tested_shown line is = record { test = subst (λ t. IfSome t IsTrigger) (sym is.tested) is.spelled; pieces = is.pieces }
+
+untested_shown : (line : LineContents) → IsUntested line → IsShownLine line
+untested_shown line is = record { test = subst (λ t. IfSome t IsTrigger) (sym is.untested) tt; pieces = is.pieces }
+
+pub shown_lines : (lines : List LineContents) → IsDisplay lines → All IsShownLine lines
+shown_lines lines is =
+    let front : All IsShownLine is.front = λ k d within. tested_shown (get_or is.front k d) (is.tested k d within) in
+    let last : All IsShownLine (is.last ∷ []) = All-cons IsShownLine is.last [] (untested_shown is.last is.untested) (All-nil IsShownLine) in
+    subst (All IsShownLine) (sym is.parts) (All-append IsShownLine is.front (is.last ∷ []) front last)

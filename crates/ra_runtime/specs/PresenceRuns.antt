@@ -1,0 +1,115 @@
+-- How the lines of a display are kept and stepped.
+use Rattle.std.specs.Prelude.{◌≡◌, ℕ, ◌<◌, Bool, true, Option, None, Some, option_map, List, [], ◌∷◌, length, map, zip}
+use Rattle.std.specs.List.{flat_map}
+use Rattle.ra_condition.specs.Contents.{TriggerContents, PartContents}
+use Rattle.ra_indirect.specs.declared.node.Node.{Node}
+use Rattle.ra_memref.specs.Values.{Start}
+use Rattle.ra_memref.specs.Table.{TableSeen}
+use Rattle.ra_progress.specs.Contents.{KeptPresence}
+use Rattle.ra_richpresence.specs.Contents.{LineContents, ScriptContents, values_in_line}
+use Rattle.ra_runtime.specs.declared.line_run.LineRun.{LineRun}
+use Rattle.ra_runtime.specs.declared.presence_run.PresenceRun.{PresenceRun}
+use Rattle.ra_runtime.specs.declared.test_run.TestRun.{TestRun}
+use Rattle.ra_runtime.specs.declared.value_run.ValueRun.{ValueRun}
+use Rattle.ra_runtime.specs.Histories.{value_after}
+use Rattle.ra_runtime.specs.Presence.{LineKept, line_test_hits, line_truth, line_after, first_true, hits_in, numbers_in, presence_after}
+use Rattle.ra_runtime.specs.Runs.{HasValues, IsTestRun, IsValueRun}
+
+-- the test of a line, where it has one, with its plan
+abbrev pub IsOptionalTest : List Node → Option TriggerContents → Option TestRun → Type 0
+IsOptionalTest nodes None None = Unit {0}
+IsOptionalTest nodes (Some t) (Some run) = IsTestRun nodes t run
+IsOptionalTest nodes _ _ = ⊥
+
+-- each of a list has this with what stands at its place in another list, and neither list is longer
+abbrev pub AreBeside : {X Y : Type 0} → (X → Y → Type 0) → List X → List Y → Type 0
+AreBeside has [] [] = Unit {0}
+AreBeside has (x ∷ xs) (y ∷ ys) = has x y × AreBeside has xs ys
+AreBeside has _ _ = ⊥
+
+-- each value with its plan
+abbrev pub AreValueRuns : List Node → List (List PartContents) → List ValueRun → Type 0
+AreValueRuns nodes values runs = AreBeside (IsValueRun nodes) values runs
+
+-- a line of a display with its plans
+pub record IsLineRun (nodes : List Node) (line : LineContents) (run : LineRun) : Type 0 where
+  pub test : IsOptionalTest nodes line.test run.test
+  pub values : AreValueRuns nodes (values_in_line line) run.values.items
+
+-- each line with its plans
+abbrev pub AreLineRuns : List Node → List LineContents → List LineRun → Type 0
+AreLineRuns nodes lines runs = AreBeside (IsLineRun nodes) lines runs
+
+-- the display of a script with its plans, of which one line is shown
+pub record IsPresenceRun (nodes : List Node) (script : ScriptContents) (run : PresenceRun) : Type 0 where
+  pub lines : AreLineRuns nodes script.lines run.lines.items
+  pub shown : run.shown < length script.lines
+
+-- the same of a script that may be missing
+abbrev pub IsOptionalPresence : List Node → Option ScriptContents → Option PresenceRun → Type 0
+IsOptionalPresence nodes None None = Unit {0}
+IsOptionalPresence nodes (Some script) (Some run) = IsPresenceRun nodes script run
+IsOptionalPresence nodes _ _ = ⊥
+
+-- what is kept of a test that may be missing: its hits
+abbrev pub test_kept : Option TestRun → List ℕ
+test_kept None = []
+test_kept (Some run) = run.trigger.hits
+
+-- what a run of a line keeps
+abbrev pub line_kept : LineRun → LineKept
+line_kept run = record { test = test_kept run.test; values = map (λ v. v.value) run.values.items }
+
+-- what an opening keeps for a display: the shown line, hits and numbers
+abbrev pub presence_kept : PresenceRun → KeptPresence
+presence_kept run = record {
+  shown = run.shown;
+  hits = flat_map hits_in (map line_kept run.lines.items);
+  numbers = flat_map numbers_in (map line_kept run.lines.items);
+}
+
+-- the same of a display that may be missing
+abbrev pub optional_presence_kept : Option PresenceRun → Option KeptPresence
+optional_presence_kept run = option_map presence_kept run
+
+-- One frame of a test that may be missing, from the hits that it keeps: those after it, and whether it holds.
+pub record StepsOptionalTest (table : TableSeen) (test : Option TriggerContents) (old new : Option TestRun) (holds : Bool) : Type 0 where
+  pub kept : (start : Start) (image : List ℕ) → HasValues table start (image ∷ []) → test_kept new ≡ line_test_hits start test (test_kept old) (image ∷ [])
+  pub truth : (start : Start) (image : List ℕ) → HasValues table start (image ∷ []) → holds ≡ line_truth start test (test_kept old) (image ∷ [])
+
+-- one frame of each value
+abbrev pub StepsValues : TableSeen → List (List PartContents) → (old new : List ValueRun) → Type 0
+StepsValues table values olds news =
+    (start : Start) (image : List ℕ) → HasValues table start (image ∷ []) → map (λ v. v.value) news ≡ map (λ v. value_after start v.0 v.1 (image ∷ [])) (zip values (map (λ v. v.value) olds))
+
+-- One frame of a line, from what it keeps: what it keeps after it, and whether its test holds.
+pub record StepsLine (table : TableSeen) (line : LineContents) (old new : LineRun) (holds : Bool) : Type 0 where
+  pub kept : (start : Start) (image : List ℕ) → HasValues table start (image ∷ []) → line_kept new ≡ line_after start (image ∷ []) (line, line_kept old)
+  pub truth : (start : Start) (image : List ℕ) → HasValues table start (image ∷ []) → holds ≡ line_truth start line.test (test_kept old.test) (image ∷ [])
+
+-- whether each line holds at the first frame, from what it keeps
+abbrev pub line_truths : Start → List ℕ → List LineContents → List LineKept → List Bool
+line_truths start image lines kept = map (λ pair. line_truth start pair.0.test pair.1.test (image ∷ [])) (zip lines kept)
+
+-- one frame of each line, from what it keeps
+abbrev pub StepsLines : TableSeen → List LineContents → (old new : List LineRun) → Type 0
+StepsLines table lines olds news =
+    (start : Start) (image : List ℕ) → HasValues table start (image ∷ []) → map line_kept news ≡ map (line_after start (image ∷ [])) (zip lines (map line_kept olds))
+
+-- The place of the first line that holds at a frame; as many as there are lines where none holds, and a line without a test holds.
+pub record IsFirstLine (table : TableSeen) (lines : List LineContents) (olds : List LineRun) (first : ℕ) : Type 0 where
+  pub truths : List Bool
+  pub first_too : first ≡ first_true truths
+  pub untested : AreBeside (λ line truth. line.test ≡ None → truth ≡ true) lines truths
+  pub held : (start : Start) (image : List ℕ) → HasValues table start (image ∷ []) → truths ≡ line_truths start image lines (map line_kept olds)
+
+-- One frame of a display, from what it keeps.
+abbrev pub StepsPresence : TableSeen → ScriptContents → (old new : PresenceRun) → Type 0
+StepsPresence table script old new =
+    (start : Start) (image : List ℕ) → HasValues table start (image ∷ []) → presence_kept new ≡ presence_after start script (presence_kept old) (image ∷ [])
+
+-- the same of a display that may be missing
+abbrev pub StepsOptional : TableSeen → Option ScriptContents → (old new : Option PresenceRun) → Type 0
+StepsOptional table None None None = Unit {0}
+StepsOptional table (Some script) (Some old) (Some new) = StepsPresence table script old new
+StepsOptional table _ _ _ = ⊥

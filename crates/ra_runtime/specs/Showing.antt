@@ -1,0 +1,34 @@
+-- What a display shows, by what its run keeps.
+use Rattle.std.specs.Prelude.{ℕ, ◌<◌, Option, Some, List, [], ◌∷◌, length, map, codes, decimal, ℤ, All}
+use Rattle.std.specs.List.{flat_map}
+use Rattle.ra_value.specs.Steps.{signed_greatest}
+use Rattle.ra_richpresence.specs.Contents.{ScriptContents}
+use Rattle.ra_richpresence.specs.Lines.{line_text}
+use Rattle.ra_value_format.specs.Formats.{HasDigits}
+use Rattle.ra_runtime.specs.declared.presence_run.PresenceRun.{PresenceRun}
+use Rattle.ra_runtime.specs.Lines.{line_of}
+use Rattle.ra_runtime.specs.Presence.{LineKept}
+use Rattle.ra_runtime.specs.PresenceRuns.{line_kept}
+
+-- the number of each value of a line
+abbrev pub line_numbers : LineKept → List ℤ
+line_numbers kept = map (λ v. signed_greatest v.numbers) kept.values
+
+-- the numbers of all values of a display, line by line, whichever line is shown
+abbrev pub presence_numbers : PresenceRun → List ℤ
+presence_numbers run = flat_map line_numbers (map line_kept run.lines.items)
+
+-- the line that a display shows, with the count of frames
+abbrev pub shown_text : (count : ℕ) → ScriptContents → PresenceRun → List ℕ
+shown_text count script run =
+    line_of (codes "presence" ∷ decimal count ∷ line_text script run.shown (presence_numbers run) ∷ [])
+
+-- the same where a set may have no script, and then it shows nothing
+abbrev pub optional_text : (count : ℕ) → Option ScriptContents → Option PresenceRun → List ℕ
+optional_text count (Some script) (Some run) = shown_text count script run
+optional_text count _ _ = []
+
+-- a display shows a line of its script, and can write each value
+abbrev pub MayShow : Option ScriptContents → Option PresenceRun → Type 0
+MayShow (Some script) (Some run) = (run.shown < length script.lines) × All (λ format. HasDigits format.1) script.formats
+MayShow _ _ = Unit {0}

@@ -1,0 +1,75 @@
+//! The presence line: docs/DEFINITIONS.md, "Presence over frames".
+
+ghost use Rattle.std.specs.Prelude.{◌≡◌, ◌++◌, ◌<◌, All, IfOk, length, option_map};
+ghost use Rattle.std.specs.Result.{OnOk};
+ghost use Rattle.ra_richpresence.specs.Contents.{script_contents};
+ghost use Rattle.ra_value_format.specs.Formats.{HasDigits};
+ghost use Rattle.ra_runtime.specs.PresenceRuns.{line_kept};
+ghost use Rattle.ra_runtime.specs.Showing as spec;
+ghost use Rattle.ra_runtime.specs.Showing.{MayShow, line_numbers, optional_text, presence_numbers};
+
+use crate::line_run::LineRun;
+use crate::presence_run::PresenceRun;
+use crate::written::put_ended;
+use ra_richpresence::Script;
+use ra_text::OutOfMemory;
+use std::alloc::Global;
+
+// The line that the display shows, with the count of frames; nothing where there is no script.
+pub(crate) fn shown_line(
+    alloc: Global,
+    count: u64,
+    script: &Option<Script>,
+    run: &Option<PresenceRun>,
+) -> Result<Vec<u8>, OutOfMemory>
+    requires { MayShow (option_map script_contents script.now) run.now }
+    ensures { IfOk result
+        (λ text. text.items ≡ optional_text count (option_map script_contents script.now) run.now) }
+{
+    match (script, run) {
+        (Some(script), Some(run)) => shown_text(alloc, count, script, run),
+        _ => Ok(Vec::new(alloc)),
+    }
+}
+
+// The line that a display shows.
+fn shown_text(
+    alloc: Global,
+    count: u64,
+    script: &Script,
+    run: &PresenceRun,
+) -> Result<Vec<u8>, OutOfMemory>
+    requires shown { run.now.shown < length script.now.lines.items }
+    requires formats { All (λ format. HasDigits format.1) (script_contents script.now).formats }
+    ensures { IfOk result
+        (λ text. text.items ≡ spec.shown_text count (script_contents script.now) run.now) }
+{
+    let numbers = numbers_of(alloc, run)?;
+    let text = script.line(alloc, run.shown, &numbers)?;
+    let head = format!(in alloc; "presence {count} ")?;
+    let mut out = Vec::new(alloc);
+    put_ended(&mut out, head.as_bytes(), &text)?;
+    Ok(out)
+}
+
+// The numbers of all values of a display, line by line.
+fn numbers_of(alloc: Global, run: &PresenceRun) -> Result<Vec<i32>, OutOfMemory>
+    ensures { IfOk result (λ numbers. numbers.items ≡ presence_numbers run.now) }
+{
+    let mut numbers = Vec::new(alloc);
+    for line in &run.lines {
+        put_line_numbers(&mut numbers, line)?;
+    }
+    Ok(numbers)
+}
+
+// Puts the numbers of the values of a line behind others.
+fn put_line_numbers(numbers: &mut Vec<i32>, line: &LineRun) -> Result<(), OutOfMemory>
+    ensures { OnOk result
+        (numbers.new.items ≡ numbers.old.items ++ line_numbers (line_kept line.now)) }
+{
+    for run in &line.values {
+        numbers.push(run.value.greatest())?;
+    }
+    Ok(())
+}
