@@ -8,7 +8,7 @@ use Rattle.ra_set.specs.Accepted.{IsSet}
 use Rattle.ra_set.specs.Contents.{SetContents}
 use Rattle.ra_set.specs.Refusals.{Refuses}
 use Rattle.ra_player.specs.Words.{Check}
-use Rattle.ra_player.specs.Endings.{Done, BadSet, ReadFault, SinkFault}
+use Rattle.ra_player.specs.Endings.{Done, BadSet, ReadFault, SinkFault, SaveFault}
 use Rattle.ra_player.specs.Expected.{Expected, JobSays, CheckSays, refuses_set, counts, check_line, prints_nothing, set_limit}
 use Rattle.ra_player.specs.Closing.{EndsBefore, ending_at, ending_of_stop}
 use Rattle.ra_player.specs.Running.{Ran, IsTold, deciding}
@@ -17,27 +17,31 @@ use Rattle.ra_player.specs.declared.stop.Stop.{Stop as Stopped}
 use Rattle.ra_player.specs.declared.stop.Stop.TheVariants as stop
 use Rattle.ra_player.proofs.Pieces.{grown-nil}
 use Rattle.ra_player.proofs.Parts.{part_none}
-use Rattle.ra_player.proofs.RunLemmas.{StoppedAtSet, cut_at, file_of, read_rose, no_sink}
+use Rattle.ra_player.proofs.ReadLemmas.{check_read}
+use Rattle.ra_player.proofs.RunLemmas.{StoppedAtSet, cut_at, file_of}
+use Rattle.ra_player.proofs.StopLemmas.{read_stop, write_stop, save_stop, set_not_write, set_not_save}
 
 module _ (content : List ℕ → Option (List ℕ)) (set : List ℕ) (reads puts sink : Type 0) (old : Option (List ℕ)) where
   check_says : (e : Expected) (s : Stopped) → StoppedAtSet content set reads s → CheckSays content set e → EndsBefore e reads puts sink (ending_of_stop s) old old
   check_says e s at (refuses_set file why told refuses) = elim (at.bad file why told refuses) [
-    | inl memory ↦ cut_at content set [] reads puts sink old e s at.read (inl memory)
+    | inl memory ↦ cut_at e reads puts sink old s (check_read content set e (refuses_set file why told refuses)) at.read (inl memory)
     | inr rest ↦ elim rest [
-      | inl fault ↦ cut_at content set [] reads puts sink old e s at.read (inr fault)
+      | inl fault ↦ cut_at e reads puts sink old s (check_read content set e (refuses_set file why told refuses)) at.read (inr fault)
       | inr is ↦ subst (λ (k : Stopped). EndsBefore e reads puts sink (ending_of_stop k) old old) (sym is) (refl, sym (grown-nil old))
     ]
   ]
-  check_says e s at (counts file c told is) = cut_at content set [] reads puts sink old e s at.read (at.accepted file c told is)
+  check_says e s at (counts file c told is) = cut_at e reads puts sink old s (check_read content set e (counts file c told is)) at.read (at.accepted file c told is)
 
   check_said : (s : Stopped) → StoppedAtSet content set reads s → IsTold (ending_of_stop s) → AllByRecursion (λ name. is_some (content name) ≡ true) (deciding (ending_of_stop s) (Check set))
       → (e : Expected) × JobSays content (Check set) e × (e.ending ≡ ending_of_stop s)
   check_said stop.Memory at is told = absurd is
-  check_said (stop.Set why) at is told = let file = file_of content set [] reads puts sink old set told.0 in (prints_nothing (BadSet why), refuses_set file.0 why file.1 (at.refused why refl file.0 file.1), refl)
+  check_said (stop.Set why) at is told = let file = file_of content set told.0 in (prints_nothing (BadSet why), refuses_set file.0 why file.1 (at.refused why refl file.0 file.1), refl)
   check_said stop.Read at is told = absurd is
   check_said stop.Write at is told = absurd is
   check_said (stop.Trace place why) at is told = absurd at.kind
   check_said stop.TooLong at is told = absurd at.kind
+  check_said (stop.Progress digest why) at is told = absurd at.kind
+  check_said stop.Save at is told = absurd is
 
   -- a check that was stopped at its set
   pub checked_at_set : (s : Stopped) (r : Result (Unit {0}) Stopped) → IsErrAnd r (λ k. k ≡ s) → StoppedAtSet content set reads s → Ran content (Check set) reads puts sink (ending_at r) old old
@@ -45,8 +49,9 @@ module _ (content : List ℕ → Option (List ℕ)) (set : List ℕ) (reads puts
   checked_at_set s (Err k) is at = subst (λ (k : Stopped). Ran content (Check set) reads puts sink (ending_of_stop k) old old) (sym is) (record {
     printed = λ e says. check_says e s at says;
     said = λ told files. check_said s at told files;
-    read = λ end. read_rose content set [] reads puts sink old s at.read end;
-    wrote = λ end. no_sink content set [] reads puts sink old s at.kind end;
+    read = λ end. at.read (read_stop s end);
+    wrote = λ end. absurd (set_not_write s at.kind (write_stop s end));
+    put = λ end. absurd (set_not_save s at.kind (save_stop s end));
   })
 
   -- What was printed of a set that was accepted.
@@ -79,39 +84,43 @@ module _ (content : List ℕ → Option (List ℕ)) (set : List ℕ) (reads puts
 
   line_said : (c : SetContents) (new : Option (List ℕ)) (r : Result (Unit {0}) Stopped) → CountedSet c new r → IsTold (ending_at r) → AllByRecursion (λ name. is_some (content name) ≡ true) (deciding (ending_at r) (Check set))
       → (e : Expected) × JobSays content (Check set) e × (e.ending ≡ ending_at r)
-  line_said c new (Ok done) p is told = let file = file_of content set [] reads puts sink old set told.0 in (line_of_set c, counts file.0 c file.1 (p.is_set file.0 file.1), refl)
+  line_said c new (Ok done) p is told = let file = file_of content set told.0 in (line_of_set c, counts file.0 c file.1 (p.is_set file.0 file.1), refl)
   line_said c new (Err stop.Memory) p is told = absurd is
   line_said c new (Err (stop.Set why)) p is told = elim p.why [ inl memory ↦ absurd (cc) | inr write ↦ let bad = write.0 in absurd (cc) ]
   line_said c new (Err stop.Read) p is told = absurd is
   line_said c new (Err stop.Write) p is told = absurd is
   line_said c new (Err (stop.Trace at why)) p is told = elim p.why [ inl memory ↦ absurd (cc) | inr write ↦ let bad = write.0 in absurd (cc) ]
+  line_said c new (Err (stop.Progress digest why)) p is told = elim p.why [ inl memory ↦ absurd (cc) | inr write ↦ let bad = write.0 in absurd (cc) ]
+  line_said c new (Err stop.Save) p is told = absurd is
   line_said c new (Err stop.TooLong) p is told = elim p.why [ inl memory ↦ absurd (cc) | inr write ↦ let bad = write.0 in absurd (cc) ]
 
-  never_read : (r : Result (Unit {0}) Stopped) → IfErr r (λ s. (s ≡ stop.Memory) ⊎ ((s ≡ stop.Write) × sink)) → ending_at r ≡ ReadFault → reads
+  -- why a line was not written
+  line_why : (s : Stopped) → (s ≡ stop.Memory) ⊎ ((s ≡ stop.Write) × sink) → (k : Stopped) → s ≡ k → (k ≡ stop.Memory → ⊥) → (k ≡ stop.Write → ⊥) → ⊥
+  line_why s why k is no_memory no_write = elim why [ inl memory ↦ no_memory (sym is ∙ memory) | inr write ↦ no_write (sym is ∙ write.0) ]
+
+  never_read : (r : Result (Unit {0}) Stopped) → IfErr r (λ s. (s ≡ stop.Memory) ⊎ ((s ≡ stop.Write) × sink)) → ending_at r ≡ ReadFault → ⊥
   never_read (Ok done) why is = absurd (cc)
-  never_read (Err stop.Memory) why is = absurd (cc)
-  never_read (Err (stop.Set w)) why is = absurd (cc)
-  never_read (Err stop.Read) why is = elim why [ inl memory ↦ absurd (cc) | inr write ↦ let bad = write.0 in absurd (cc) ]
-  never_read (Err stop.Write) why is = absurd (cc)
-  never_read (Err (stop.Trace at w)) why is = absurd (cc)
-  never_read (Err stop.TooLong) why is = absurd (cc)
+  never_read (Err s) why is = line_why s why stop.Read (read_stop s is) (λ bad. absurd (cc)) (λ bad. absurd (cc))
+
+  never_put : (r : Result (Unit {0}) Stopped) → IfErr r (λ s. (s ≡ stop.Memory) ⊎ ((s ≡ stop.Write) × sink)) → ending_at r ≡ SaveFault → ⊥
+  never_put (Ok done) why is = absurd (cc)
+  never_put (Err s) why is = line_why s why stop.Save (save_stop s is) (λ bad. absurd (cc)) (λ bad. absurd (cc))
 
   wrote_rose : (r : Result (Unit {0}) Stopped) → IfErr r (λ s. (s ≡ stop.Memory) ⊎ ((s ≡ stop.Write) × sink)) → ending_at r ≡ SinkFault → sink
   wrote_rose (Ok done) why is = absurd (cc)
-  wrote_rose (Err stop.Memory) why is = absurd (cc)
-  wrote_rose (Err (stop.Set w)) why is = absurd (cc)
-  wrote_rose (Err stop.Read) why is = absurd (cc)
-  wrote_rose (Err stop.Write) why is = elim why [ inl memory ↦ absurd (cc) | inr write ↦ write.1 ]
-  wrote_rose (Err (stop.Trace at w)) why is = absurd (cc)
-  wrote_rose (Err stop.TooLong) why is = absurd (cc)
+  wrote_rose (Err s) why is = elim why [
+    | inl memory ↦ let bad : stop.Memory ≡ stop.Write = sym memory ∙ write_stop s is in absurd (cc)
+    | inr write ↦ write.1
+  ]
 
   -- a check whose set was accepted
   pub checked : (c : SetContents) (new : Option (List ℕ)) (r : Result (Unit {0}) Stopped) → CountedSet c new r → Ran content (Check set) reads puts sink (ending_at r) old new
   checked c new r p = record {
     printed = λ e says. line_says c new r p e says;
     said = λ told files. line_said c new r p told files;
-    read = λ is. never_read r p.why is;
+    read = λ is. absurd (never_read r p.why is);
     wrote = λ is. wrote_rose r p.why is;
+    put = λ is. absurd (never_put r p.why is);
   }
 
   -- a check that had no memory for its line
@@ -122,4 +131,5 @@ module _ (content : List ℕ → Option (List ℕ)) (set : List ℕ) (reads puts
     said = λ told files. absurd told;
     read = λ is. absurd (cc);
     wrote = λ is. absurd (cc);
+    put = λ is. absurd (cc);
   })

@@ -82,7 +82,7 @@ module _ (e : Expected) (reads puts sink : Type 0) (old mid new : Option (List �
   pub ends_with_line : (ending : Ending) → EndsBefore e reads puts sink ending old mid → Finishes ending mid new sink status → GrewToEnd e reads puts sink old new status
   ends_with_line NoMemory before finishes = cut_by_memory before finishes
   ends_with_line SinkFault before finishes = cut_by_fault before.0 before.1 finishes
-  ends_with_line ReadFault before finishes = closes_to_end ReadFault (concat (take before.1.0 e.pieces)) (read_failed before.0 before.1.0) before.1.1 finishes
+  ends_with_line ReadFault before finishes = closes_to_end ReadFault (concat (take before.1.0 e.pieces)) (read_failed before.0 before.1.0 before.1.1) before.1.2 finishes
   ends_with_line SaveFault before finishes = closes_to_end SaveFault (concat e.pieces) (save_failed before.0 before.1) before.2 finishes
   ends_with_line Done before finishes = as_told Done before.0 before.1 finishes
   ends_with_line NoJob before finishes = as_told NoJob before.0 before.1 finishes

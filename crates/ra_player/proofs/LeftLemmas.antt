@@ -1,6 +1,7 @@
 -- What is left of a trace, record by record.
 use Rattle.std.proofs.Common.{arith, ◌≡◌, ◌<◌, ap, sym, subst, refl, ◌∙◌, ℕ, zero, suc, ◌+◌, nat_le, length, take, drop, map, replicate, Bool, true, Option, Some, None, is_some, option_map, List, [], ◌∷◌}
 use Rattle.std.proofs.lemmas.List.{drop-drop, length-drop, map-set}
+use Rattle.ra_memory.specs.Image.{History}
 use Rattle.ra_trace.specs.declared.error.Why.{Why}
 use Rattle.ra_trace.specs.declared.error.Why.TheVariants.{Cut, EmptySlot}
 use Rattle.ra_trace.specs.declared.error.TraceError.{TraceError}
@@ -23,8 +24,8 @@ abbrev pub pieces_of : ℕ → List ℕ → Pieces
 pieces_of size bytes = cut (suc (length (take trace_limit bytes))) size no_slots 9 (drop 9 (take trace_limit bytes))
 
 -- behind the header all records are left
-pub left_whole : (bytes : List ℕ) (size : ℕ) (old new : ReaderSeen) → old.limit ≡ trace_limit → IsBehindHeader size old new → Holds new bytes → IsLeft bytes (first_moment size []) new (pieces_of size bytes)
-left_whole bytes size old new limit behind holds = record {
+pub left_whole : (bytes : List ℕ) (size : ℕ) (frames : History) (old new : ReaderSeen) → old.limit ≡ trace_limit → IsBehindHeader size old new → Holds new bytes → IsLeft bytes (first_moment size frames) new (pieces_of size bytes)
+left_whole bytes size frames old new limit behind holds = record {
   size = size;
   sized = behind.sized;
   limit = behind.same.limit ∙ limit;

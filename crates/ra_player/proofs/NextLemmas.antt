@@ -25,6 +25,7 @@ use Rattle.ra_player.specs.declared.stop.Stop.{Stop}
 use Rattle.ra_player.specs.declared.stop.Stop.TheVariants as stop
 use Rattle.ra_player.proofs.Pieces.{grown-nil}
 use Rattle.ra_player.proofs.Parts.{part_after}
+use Rattle.ra_player.proofs.ReadLemmas.{left_read}
 use Rattle.ra_player.proofs.LeftLemmas.{left_refused, left_empty, left_ends, left_behind}
 
 pub told : {T : Type 0} (o : Option T) (P : T → Type 0) (x : T) → o ≡ Some x → IfSome o P → P x
@@ -53,7 +54,7 @@ module _ (bytes : List ℕ) (set : SetContents) (o : Opening) (m : Moment) (left
   full = nat_le trace_limit (length bytes)
 
   stopped : (why : TraceError) (old : Option (List ℕ)) → IsStop why (next_stop trace_limit is.size reader.next bytes) → EndsBefore (says_from bytes set o m left) ⊤ ⊤ ⊤ (ending_of_stop (stop_of_trace why)) old old
-  stopped errors.Read old stop = (tt, (0, sym (grown-nil old)))
+  stopped errors.Read old stop = (tt, (0, left_read bytes set o m left reader is, sym (grown-nil old)))
   stopped (errors.Refused at why) old stop =
       let refused = left_refused bytes m reader left is (errors.Refused at why) stop (λ read. absurd (cc)) in
       (refused.1, sym (grown-nil old) ∙ ap (λ es. grown old (concat (pieces_from set o m es))) (sym refused.0))

@@ -1,5 +1,5 @@
 -- A player at the moments of a trace.
-use Rattle.std.proofs.Common.{arith, ◌≡◌, ◌≤◌, ◌+◌, ap, sym, subst, refl, ◌∙◌, ℕ, zero, suc, slice_index_or, slice_set, replicate, length, take, drop, option_map, Option, Some, None, List, [], ◌∷◌, ◌++◌}
+use Rattle.std.proofs.Common.{arith, ◌≡◌, ◌≤◌, ◌+◌, ap, sym, subst, refl, ◌∙◌, ℕ, zero, suc, slice_index_or, slice_set, replicate, length, take, drop, option_map, IfSome, Option, Some, None, List, [], ◌∷◌, ◌++◌}
 use Rattle.std.specs.Global.{Vec}
 use Rattle.std.proofs.lemmas.List.{map-set}
 use Rattle.ra_memory.specs.Image.{History, AreBytes, AreImages, written}
@@ -9,14 +9,14 @@ use Rattle.ra_progress.specs.Spelling.{progress_bytes}
 use Rattle.ra_progress.specs.Reading.{refusal, says}
 use Rattle.ra_trace.specs.declared.record.Record.{Record}
 use Rattle.ra_trace.specs.Entries.{entry_of, Written, Framed, Saved, Restored, Shown, Ended}
-use Rattle.ra_runtime.specs.Runtime.{RuntimeSeen, IsMade, IsWritten, TakesFrame, TakesUp}
+use Rattle.ra_runtime.specs.Runtime.{RuntimeSeen, IsMade, IsWritten, ShowsKept, TakesFrame, TakesUp}
 use Rattle.ra_runtime.specs.Order.{shape_of}
 use Rattle.ra_runtime.specs.Openings.{snapshot, plain_opening}
-use Rattle.ra_runtime.specs.Play.{Moment, moved, lines, first_moment, kept_in}
+use Rattle.ra_runtime.specs.Play.{Moment, moved, lines, shown, first_moment, kept_in}
 use Rattle.ra_player.specs.declared.player.Player.{Player}
-use Rattle.ra_runtime.proofs.PlainOpening.{HasLines}
-use Rattle.ra_runtime.proofs.Snapshots.{saved_fits}
-use Rattle.ra_player.specs.Playing.{StandsAt, IsPlayable, HoldsKept, HoldEachKept, TakesEmpty, Plays, slots_of}
+use Rattle.ra_runtime.proofs.Snapshots.{plain_is_opening, saved_fits, snapshot_none}
+use Rattle.ra_player.specs.Loading.{AreAccepted, BeginsAt}
+use Rattle.ra_player.specs.Playing.{StandsAt, IsPlayable, HoldsKept, HoldEachKept, TakesEmpty, TakesUpFrom, Plays, slots_of}
 
 -- bytes of parts are bytes of the whole
 pub append_bytes : (a b : List ℕ) → AreBytes a → AreBytes b → AreBytes (a ++ b)
@@ -138,9 +138,16 @@ plays_write set o m old new slots at bytes are is stands = record {
   prints = refl;
 }
 
--- a set without a presence script shows nothing
-pub plays_show : (set : SetContents) (o : Opening) (m : Moment) (runtime : RuntimeSeen) (slots : List (Option (List ℕ))) → StandsAt set o m runtime slots → Plays set o Shown m runtime slots []
-plays_show set o m runtime slots stands = record { filled = λ no. no; stands = stands; prints = rw stands.playable.no_script refl }
+-- a show tells what the set shows over the frames that lie behind
+own_show : (runtime : RuntimeSeen) (o : Opening) (m : Moment) (slots : List (Option (List ℕ))) (text : List ℕ) → ShowsKept runtime text → StandsAt runtime.set o m runtime slots → text ≡ shown runtime.set o m.behind
+own_show runtime o m slots text shows stands = shows o m.behind stands.opening stands.behind stands.kept
+
+pub plays_show : (set : SetContents) (o : Opening) (m : Moment) (runtime : RuntimeSeen) (slots : List (Option (List ℕ))) (text : List ℕ) → ShowsKept runtime text → StandsAt set o m runtime slots → Plays set o Shown m runtime slots text
+plays_show set o m runtime slots text shows stands = record {
+  filled = λ no. no;
+  stands = stands;
+  prints = subst (λ (s : SetContents). StandsAt s o m runtime slots → text ≡ shown s o m.behind) stands.same (own_show runtime o m slots text shows) stands;
+}
 
 pub plays_end : (set : SetContents) (o : Opening) (m : Moment) (runtime : RuntimeSeen) (slots : List (Option (List ℕ))) → StandsAt set o m runtime slots → Plays set o Ended m runtime slots []
 plays_end set o m runtime slots stands = record { filled = λ no. no; stands = stands; prints = refl }
@@ -201,19 +208,57 @@ never_refused set o m runtime slots k bytes some comes_back refused stands =
     let keep = keeps set o m runtime slots k bytes some stands in
     refused (ap (λ (s : SetContents). refusal (shape_of s) bytes) stands.same ∙ ap (refusal (shape_of set)) keep.saved ∙ (comes_back keep.kept keep.images).accepted)
 
--- before the first record
-pub stands_first : (set : SetContents) (size : ℕ) (runtime : RuntimeSeen) (slots : List (Option (List ℕ))) → IsPlayable set → IsMade set size runtime → slots ≡ replicate 16 None → IsOpening (shape_of set) (plain_opening set) → snapshot set (plain_opening set) [] ≡ plain_opening set
-    → StandsAt set (plain_opening set) (first_moment size []) runtime slots
-stands_first set size runtime slots playable made none opening start = record {
-  same = made.set_too;
-  playable = playable;
-  opening = opening;
-  image = made.image;
-  bytes = zero_bytes size;
-  behind = tt;
-  kept = made.kept ∙ sym start;
-  held = subst (HoldEachKept set (plain_opening set) (replicate 16 None)) (sym none) (hold_none set (plain_opening set) 16);
-}
+-- what an opening and a history leave comes back from its bytes
+pub comes_back_of : (set : SetContents) (o : Opening) (behind : History) → IsPlayable set → IsOpening (shape_of set) o → AreImages behind → SavedComesBack set (snapshot set o behind)
+comes_back_of set o behind playable opening images =
+    let back = saved_fits set o behind playable.spelled playable.digest opening images in
+    record { accepted = back.0; says_it = back.1 }
+
+-- accepted bytes are those that the runtime of a set takes up
+pub accepted_for : (set : SetContents) (progress : Option (Vec ℕ)) (runtime : RuntimeSeen) → runtime.set ≡ set → AreAccepted set (option_map (λ b. b.items) progress) → IfSome progress (λ b. refusal (shape_of runtime.set) b.items ≡ None)
+accepted_for set None runtime same accepted = tt
+accepted_for set (Some bytes) runtime same accepted = ap (λ (s : SetContents). refusal (shape_of s) bytes.items) same ∙ accepted.1
+
+-- before the first record of a run that begins anew
+stands_anew : (set : SetContents) (size : ℕ) (runtime : RuntimeSeen) (slots : List (Option (List ℕ))) → IsPlayable set → IsMade set size runtime → slots ≡ replicate 16 None → StandsAt set (plain_opening set) (first_moment size []) runtime slots
+stands_anew set size runtime slots playable made none =
+    let opening = plain_is_opening set playable.spelled in
+    record {
+      same = made.set_too;
+      playable = playable;
+      opening = opening;
+      image = made.image;
+      bytes = zero_bytes size;
+      behind = tt;
+      kept = made.kept ∙ sym (snapshot_none set (plain_opening set) opening);
+      held = subst (HoldEachKept set (plain_opening set) (replicate 16 None)) (sym none) (hold_none set (plain_opening set) 16);
+    }
+
+-- before the first record of a run that goes on from the bytes of an opening and a history
+stands_behind : (set : SetContents) (size : ℕ) (o : Opening) (behind : History) (bytes : List ℕ) (made runtime : RuntimeSeen) (slots : List (Option (List ℕ))) → IsPlayable set → IsMade set size made → TakesUp made runtime bytes
+    → BeginsAt set (Some bytes) o behind → slots ≡ replicate 16 None → StandsAt set o (first_moment size behind) runtime slots
+stands_behind set size o behind bytes made runtime slots playable is takes begins none =
+    let said : runtime.kept ≡ says (shape_of set) bytes = takes.kept ∙ ap (λ (s : SetContents). says (shape_of s) bytes) is.set_too in
+    record {
+      same = takes.set ∙ is.set_too;
+      playable = playable;
+      opening = begins.0;
+      image = takes.image ∙ is.image;
+      bytes = zero_bytes size;
+      behind = begins.1;
+      kept = said ∙ ap (says (shape_of set)) begins.2 ∙ (comes_back_of set o behind playable begins.0 begins.1).says_it;
+      held = subst (HoldEachKept set o (replicate 16 None)) (sym none) (hold_none set o 16);
+    }
+
+-- before the first record, wherever a run begins
+pub stands_first : (set : SetContents) (size : ℕ) (progress : Option (List ℕ)) (o : Opening) (behind : History) (made runtime : RuntimeSeen) (slots : List (Option (List ℕ))) → IsPlayable set → IsMade set size made → TakesUpFrom progress made runtime
+    → BeginsAt set progress o behind → slots ≡ replicate 16 None → StandsAt set o (first_moment size behind) runtime slots
+stands_first set size None o behind made runtime slots playable is takes begins none =
+    subst (λ (k : Opening). StandsAt set k (first_moment size behind) runtime slots) (sym begins.0)
+    (subst (λ (h : History). StandsAt set (plain_opening set) (first_moment size h) runtime slots) (sym begins.1)
+    (subst (λ (r : RuntimeSeen). StandsAt set (plain_opening set) (first_moment size []) r slots) (sym takes) (stands_anew set size made slots playable is none)))
+stands_first set size (Some bytes) o behind made runtime slots playable is takes begins none =
+    stands_behind set size o behind bytes made runtime slots playable is takes begins none
 
 -- a record that is read, played by a player that is seen so
 pub plays_by : (set : SetContents) (o : Opening) (m : Moment) (record_read : Record) (e : Record) (old new : Player) (text : List ℕ) → record_read ≡ e → new ≡ old → text ≡ []
@@ -232,14 +277,8 @@ plays_restored set o m k runtime slots stands = record { filled = stands.1; stan
 
 -- what each slot has kept comes back
 pub kept_comes_back : (set : SetContents) (o : Opening) (m : Moment) (runtime : RuntimeSeen) (slots : List (Option (List ℕ))) → StandsAt set o m runtime slots → (behind : History) → AreImages behind → SavedComesBack set (snapshot set o behind)
-kept_comes_back set o m runtime slots stands behind images =
-    let back = saved_fits set o behind stands.playable.spelled stands.playable.no_script stands.playable.digest stands.opening images in
-    record { accepted = back.0; says_it = back.1 }
+kept_comes_back set o m runtime slots stands behind images = comes_back_of set o behind stands.playable stands.opening images
 
 -- nothing and something are not the same
 pub never_some : {T : Type 0} (o : Option T) (x : T) → o ≡ Some x → o ≡ None → ⊥
 never_some o x some none = let bad : Some x ≡ None = sym some ∙ none in absurd (cc)
-
--- a set without a script has no script of no lines
-pub no_script_lines : (set : SetContents) → set.script ≡ None → HasLines set
-no_script_lines set none script some = let bad : None ≡ Some script = sym none ∙ some in absurd (cc)

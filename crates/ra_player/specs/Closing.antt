@@ -7,8 +7,8 @@ use Rattle.ra_set.specs.declared.refused.SetRefused.TheVariants.{Memory}
 use Rattle.ra_trace.specs.declared.error.TraceError.{TraceError}
 use Rattle.ra_trace.specs.declared.error.TraceError.TheVariants as trace
 use Rattle.ra_player.specs.Writing.{GrewByPart}
-use Rattle.ra_player.specs.Endings.{Ending, Done, NoMemory, BadSet, ReadFault, SinkFault, BadTrace, LongTrace, SaveFault, status_of, last_line}
-use Rattle.ra_player.specs.Expected.{Expected}
+use Rattle.ra_player.specs.Endings.{Ending, Done, NoMemory, BadSet, ReadFault, SinkFault, BadProgress, BadTrace, LongTrace, SaveFault, status_of, last_line}
+use Rattle.ra_player.specs.Expected.{Expected, IsReadBehind}
 use Rattle.ra_player.specs.declared.stop.Stop.{Stop}
 use Rattle.ra_player.specs.declared.stop.Stop.TheVariants as stop
 
@@ -31,9 +31,11 @@ ending_of_stop stop.Read = ReadFault
 ending_of_stop stop.Write = SinkFault
 ending_of_stop (stop.Trace at why) = BadTrace at why
 ending_of_stop stop.TooLong = LongTrace
+ending_of_stop (stop.Progress digest why) = BadProgress digest why
+ending_of_stop stop.Save = SaveFault
 
 -- how a run ends
-abbrev pub ending_at : Result (Unit {0}) Stop → Ending
+abbrev pub ending_at : {T : Type 0} → Result T Stop → Ending
 ending_at (Ok done) = Done
 ending_at (Err stop) = ending_of_stop stop
 
@@ -51,6 +53,6 @@ Finishes ending old new sink status = Closes (status_of ending) (last_line endin
 abbrev pub EndsBefore : Expected → (reads puts sink : Type 0) → Ending → (old new : Option (List ℕ)) → Type 0
 EndsBefore e reads puts sink NoMemory old new = GrewByPart old new (concat e.pieces)
 EndsBefore e reads puts sink SinkFault old new = sink × GrewByPart old new (concat e.pieces)
-EndsBefore e reads puts sink ReadFault old new = reads × ((records : ℕ) × (new ≡ grown old (concat (take records e.pieces))))
+EndsBefore e reads puts sink ReadFault old new = reads × ((records : ℕ) × IsReadBehind e records × (new ≡ grown old (concat (take records e.pieces))))
 EndsBefore e reads puts sink SaveFault old new = puts × (e.ending ≡ Done) × (new ≡ grown old (concat e.pieces))
 EndsBefore e reads puts sink ending old new = (e.ending ≡ ending) × (new ≡ grown old (concat e.pieces))

@@ -1,5 +1,5 @@
 -- What a job prints, how it ends and what it saves, where nothing fails.
-use Rattle.std.specs.Prelude.{◌≡◌, ℕ, ◌+◌, ◌^◌, ◌==◌, Option, None, Some, List, [], ◌∷◌, ◌++◌, length, take, codes, decimal, count_by, bytes_eq}
+use Rattle.std.specs.Prelude.{◌≡◌, ℕ, ◌+◌, ◌^◌, ◌<◌, ◌≤◌, ◌==◌, Option, None, Some, List, [], ◌∷◌, ◌++◌, length, take, codes, decimal, count_by, bytes_eq}
 use Rattle.std.specs.List.{join_with_byte, slice_split, concat}
 use Rattle.md5.specs.Md5.{md5}
 use Rattle.ra_set.specs.declared.refused.SetRefused.{SetRefused}
@@ -28,6 +28,12 @@ pub record Expected : Type 0 where
   pub ending : Ending
   -- the progress file at the end record
   pub saved : List ℕ
+
+-- Behind so many records a read may come: there are as many, and the end record, behind which nothing is read, is not
+-- among them.
+pub record IsReadBehind (e : Expected) (records : ℕ) : Type 0 where
+  pub there : records ≤ length e.pieces
+  pub before_end : e.ending ≡ Done → records < length e.pieces
 
 -- a job that ends before it prints
 abbrev pub prints_nothing : Ending → Expected

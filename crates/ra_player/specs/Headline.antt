@@ -5,7 +5,7 @@ use Rattle.ra_io.specs.Causes.{Rose}
 use Rattle.ra_io.specs.Sink.{grown}
 use Rattle.ra_player.specs.Words.{Job, reads_of, puts_of}
 use Rattle.ra_player.specs.Endings.{Ending, Done, NoJob, ReadFault, SaveFault, status_of, last_line}
-use Rattle.ra_player.specs.Expected.{Expected, prints_nothing}
+use Rattle.ra_player.specs.Expected.{Expected, IsReadBehind, prints_nothing}
 
 -- what is seen of the files and the sink
 pub record Outside : Type 0 where
@@ -41,8 +41,8 @@ IsFront part whole = (rest : List ℕ) × (part ++ rest ≡ whole)
 pub data Decides (e : Expected) (reads puts : Type 0) : Ending → List ℕ → Type 0 where
   as_expected : Decides e reads puts e.ending (concat e.pieces ++ last_line e.ending)
   save_failed : puts → e.ending ≡ Done → Decides e reads puts SaveFault (concat e.pieces ++ last_line SaveFault)
-  -- after some record, or before the first
-  read_failed : reads → (records : ℕ) → Decides e reads puts ReadFault (concat (take records e.pieces) ++ last_line ReadFault)
+  -- after some record but the end record, or before the first
+  read_failed : reads → (records : ℕ) → IsReadBehind e records → Decides e reads puts ReadFault (concat (take records e.pieces) ++ last_line ReadFault)
 
 -- How a call of `play` may end, where a job is expected to say this: its status, and how the text grew.
 pub data Ends (e : Expected) (reads puts sink : Type 0) : ℕ → List ℕ → Type 0 where

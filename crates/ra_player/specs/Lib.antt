@@ -7,7 +7,9 @@ pub mod Headline
 pub mod Statuses
 pub mod Closing
 pub mod Running
+pub mod Making
 pub mod Playing
+pub mod Loading
 pub mod JobCommand
 pub mod JobWords
-pub mod Doing
+pub mod RunFiles

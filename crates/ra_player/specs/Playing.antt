@@ -12,7 +12,7 @@ use Rattle.ra_set.specs.Spelled.{IsSpelled}
 use Rattle.ra_trace.specs.Entries.{Entry, Restored, Ended}
 use Rattle.ra_trace.specs.Cutting.{Pieces, Reached, cut, with_entry, stop_within}
 use Rattle.ra_trace.specs.Reading.{ReaderSeen, Holds, seen_from}
-use Rattle.ra_runtime.specs.Runtime.{RuntimeSeen}
+use Rattle.ra_runtime.specs.Runtime.{RuntimeSeen, TakesUp}
 use Rattle.ra_runtime.specs.Order.{shape_of}
 use Rattle.ra_runtime.specs.Openings.{snapshot}
 use Rattle.ra_runtime.specs.Play.{Moment, moved, printed}
@@ -22,11 +22,10 @@ use Rattle.ra_player.specs.Closing.{EndsBefore, ending_of_stop}
 use Rattle.ra_player.specs.declared.stop.Stop.{Stop}
 use Rattle.ra_player.specs.declared.stop.Stop.TheVariants as stop
 
--- a set that a runtime can be made for: it is within the limits, some file spells it, and it has no presence script
+-- a set that a runtime can be made for: it is within the limits, and some file spells it
 pub record IsPlayable (set : SetContents) : Type 0 where
   pub limits : IsWithinLimits set
   pub spelled : IsSpelled set
-  pub no_script : set.script ≡ None
   pub digest : IsDigest set.digest
 
 -- a slot holds the progress bytes of the frames that it has kept, and nothing where it is empty
@@ -51,6 +50,15 @@ pub record StandsAt (set : SetContents) (o : Opening) (m : Moment) (runtime : Ru
   pub behind : AreImages m.behind
   pub kept : runtime.kept ≡ snapshot set o m.behind
   pub held : HoldEachKept set o m.slots slots
+
+-- a runtime takes up progress bytes, and stays as it is where there are none
+abbrev pub TakesUpFrom : Option (List ℕ) → RuntimeSeen → RuntimeSeen → Type 0
+TakesUpFrom None old new = new ≡ old
+TakesUpFrom (Some bytes) old new = TakesUp old new bytes
+
+-- the progress bytes of what a runtime keeps
+abbrev pub kept_bytes : RuntimeSeen → List ℕ
+kept_bytes runtime = progress_bytes runtime.set.digest runtime.kept
 
 -- the bytes in each slot
 abbrev pub slots_of : List (Option (Vec ℕ)) → List (Option (List ℕ))
@@ -107,7 +115,9 @@ TakesNext bytes set o m left reader runtime slots old new (Ok true) = IsAtEnd se
 TakesNext bytes set o m left reader runtime slots old new (Ok false) = GoesOn bytes set o m left reader runtime slots old new
 TakesNext bytes set o m left reader runtime slots old new (Err stop) = EndsBefore (says_from bytes set o m left) ⊤ ⊤ ⊤ (ending_of_stop stop) old new
 
--- the stop is none of a set
+-- the stop is none of a set, of a progress file, or of a put
 abbrev pub IsOfTrace : Stop → Type 0
 IsOfTrace (stop.Set why) = ⊥
+IsOfTrace (stop.Progress digest why) = ⊥
+IsOfTrace stop.Save = ⊥
 IsOfTrace _ = ⊤

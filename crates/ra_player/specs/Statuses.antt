@@ -1,20 +1,27 @@
 -- What each status of a call of `play` says: docs/DEFINITIONS.md, "Statuses".
-use Rattle.std.specs.Prelude.{◌≡◌, ◌⊎◌, ◌≤◌, ℕ, None, Some, List, ◌++◌, is_some, true}
+use Rattle.std.specs.Prelude.{◌≡◌, ◌≢◌, ◌⊎◌, ◌≤◌, ℕ, None, Some, List, ◌++◌}
 use Rattle.std.specs.List.{concat, AllByRecursion}
-use Rattle.ra_player.specs.Words.{Job, reads_of, set_read}
-use Rattle.ra_player.specs.Doing.{job_of}
-use Rattle.ra_player.specs.Endings.{Ending, Done, NoJob, BadSet, BadTrace, LongTrace, last_line}
+use Rattle.ra_io.specs.Files.{SameContent}
+use Rattle.ra_player.specs.Words.{Job, reads_of, puts_of, puts_in, set_read, first_reads}
+use Rattle.ra_player.specs.JobWords.{job_of}
+use Rattle.ra_player.specs.Endings.{Ending, Done, NoJob, BadSet, BadProgress, BadTrace, LongTrace, status_of, last_line}
 use Rattle.ra_player.specs.Expected.{Expected, JobSays}
-use Rattle.ra_player.specs.Headline.{Outside, GrewBy, ReadsRose, SinkRose, PlaysAs, RefusesWords}
+use Rattle.ra_player.specs.Running.{AreTold, HasSaved}
+use Rattle.ra_player.specs.Headline.{Outside, GrewBy, ReadsRose, PutsRose, SinkRose, PlaysAs, RefusesWords}
 
 -- the statuses so far
 abbrev pub IsStatus : ℕ → Type 0
-IsStatus s = (s ≤ 5) ⊎ ((s ≡ 7) ⊎ (s ≡ 8))
+IsStatus s = s ≤ 9
 
 -- the set was refused
 abbrev pub IsBadSet : Ending → Type 0
 IsBadSet (BadSet why) = Unit {0}
 IsBadSet _ = ⊥
+
+-- the progress file was refused
+abbrev pub IsBadProgress : Ending → Type 0
+IsBadProgress (BadProgress digest why) = Unit {0}
+IsBadProgress _ = ⊥
 
 -- the trace was refused at its first bad record
 abbrev pub IsBadTrace : Ending → Type 0
@@ -27,7 +34,7 @@ module _ (words : List (List ℕ)) (old new : Outside) where
   pub record EndsAsSaid (deciding : Job → List (List ℕ)) (Ends : Ending → Type 0) : Type 0 where
     pub job : Job
     pub is_job : job_of words ≡ Some job
-    pub said : AllByRecursion (λ name. is_some (old.content name) ≡ true) (deciding job)
+    pub said : AreTold old.content (deciding job)
         → (e : Expected) × JobSays old.content job e × Ends e.ending × GrewBy old new (concat e.pieces ++ last_line e.ending)
 
   -- 2: the words are no job.
@@ -41,19 +48,46 @@ module _ (words : List (List ℕ)) (old new : Outside) where
     pub is_job : job_of words ≡ Some job
     pub rose : ReadsRose (reads_of job) old new
 
+  -- 9: a put of the file that the job puts failed.
+  pub record MeetsSaveFault : Type 0 where
+    pub job : Job
+    pub is_job : job_of words ≡ Some job
+    pub rose : PutsRose (puts_of job) old new
+
   -- What the words and the told files say is what is printed, whatever the status.
   pub record PlaysWords (status : ℕ) : Type 0 where
     pub no_job : job_of words ≡ None → RefusesWords old new status
     pub job : (job : Job) (e : Expected) → job_of words ≡ Some job → JobSays old.content job e → PlaysAs job e old new status
 
+  -- No read of the files of the job failed in the call, no put of its file, and no write.
+  pub record MeetsNoFault (job : Job) : Type 0 where
+    pub read : ReadsRose (reads_of job) old new → ⊥
+    pub put : PutsRose (puts_of job) old new → ⊥
+    pub write : SinkRose old new → ⊥
+
+  -- Without a fault a job is done as the told files say, and all of it is printed, unless memory was wanting.
+  abbrev pub IsWhole : ℕ → Type 0
+  IsWhole status = (job : Job) (e : Expected) → job_of words ≡ Some job → JobSays old.content job e → MeetsNoFault job
+      → (status ≡ 1) ⊎ ((status ≡ status_of e.ending) × GrewBy old new (concat e.pieces ++ last_line e.ending))
+
   -- What a call that answers this status did.
   pub record Answers (status : ℕ) : Type 0 where
     pub known : IsStatus status
     pub printed : PlaysWords status
+    pub whole : IsWhole status
     pub done : status ≡ 0 → EndsAsSaid reads_of (λ ending. ending ≡ Done)
     pub no_job : status ≡ 2 → IsNoJob
     pub set : status ≡ 3 → EndsAsSaid set_read IsBadSet
     pub read : status ≡ 4 → MeetsReadFault
     pub write : status ≡ 5 → SinkRose old new
+    pub progress : status ≡ 6 → EndsAsSaid first_reads IsBadProgress
     pub trace : status ≡ 7 → EndsAsSaid reads_of IsBadTrace
     pub long : status ≡ 8 → EndsAsSaid reads_of (λ ending. ending ≡ LongTrace)
+    pub save : status ≡ 9 → MeetsSaveFault
+
+  -- What a call that answers this status leaves of the files: no name changes but the one that the words put, and that
+  -- one only where the job was done, and then it has the bytes of what is kept; or where a put of it failed.
+  pub record LeavesFiles (status : ℕ) : Type 0 where
+    pub others : (name : List ℕ) → AllByRecursion (λ put. name ≢ put) (puts_in (job_of words)) → new.content name ≡ old.content name
+    pub only : (status ≡ 0) ⊎ (PutsRose (puts_in (job_of words)) old new ⊎ SameContent old.content new.content)
+    pub saved : status ≡ 0 → (job : Job) (e : Expected) → job_of words ≡ Some job → JobSays old.content job e → HasSaved job e old.content new.content

@@ -29,7 +29,18 @@ set_read (Run set trace restore save) = set ∷ []
 set_read (Check set) = set ∷ []
 set_read (Make number) = []
 
+-- the files that a job reads before a trace: its set, and the progress file that it goes on from
+abbrev pub first_reads : Job → List (List ℕ)
+first_reads (Run set trace restore save) = set ∷ file_in restore
+first_reads (Check set) = set ∷ []
+first_reads (Make number) = []
+
 -- the file that a job puts
 abbrev pub puts_of : Job → List (List ℕ)
 puts_of (Run set trace restore save) = file_in save
 puts_of _ = []
+
+-- the file that words put, where they are a job that puts one
+abbrev pub puts_in : Option Job → List (List ℕ)
+puts_in None = []
+puts_in (Some job) = puts_of job

@@ -41,11 +41,11 @@ fn leaderboards(items: &[Item]) -> usize
     count
 }
 
-// The bytes of a digest in lower-case hexadecimal.
-fn hex_of(alloc: Global, digest: [u8; 16]) -> Result<String, AllocError>
-    ensures { IfOk result (λ text. string_bytes text ≡ hex digest) }
+/// Bytes in lower-case hexadecimal, two digits each.
+pub fn hex_of(alloc: Global, bytes: &[u8]) -> Result<String, AllocError>
+    ensures { IfOk result (λ text. string_bytes text ≡ hex bytes.now) }
 {
-    hex::encode(alloc, digest)
+    hex::encode(alloc, bytes)
 }
 
 /// What a set has, in one line: docs/DEFINITIONS.md, "Counts of a set".
@@ -60,7 +60,7 @@ pub fn check_line(alloc: Global, set: &Set, shape: &Shape) -> Result<String, Out
     let leaderboards = leaderboards(&set.items);
     let conditions = conditions(set);
     let (cells, priors) = (shape.cells, shape.priors);
-    let digest = hex_of(alloc, set.digest)?;
+    let digest = hex_of(alloc, &set.digest)?;
     let mut line = String::new(alloc);
     writeln!(
         line,

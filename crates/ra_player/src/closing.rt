@@ -3,11 +3,13 @@
 ghost use Rattle.std.specs.Prelude.{◌≡◌, ◌≤◌, ◌++◌, IfOk, OnOk, string_bytes};
 ghost use Rattle.ra_io.specs.Causes.{Rose};
 ghost use Rattle.ra_player.specs.Closing.{Closes, Finishes, ending_at, ending_of_stop};
-ghost use Rattle.ra_player.specs.Endings.{last_line, set_words, status_of, trace_word, word_of_limit, most_of};
+ghost use Rattle.ra_player.specs.Endings.{last_line, progress_words, set_words, status_of, trace_word, word_of_limit, most_of};
 
+use crate::check_line::hex_of;
 use crate::stop::Stop;
 use crate::writing::write_all;
 use ra_io::Sink;
+use ra_progress::ProgressRefused;
 use ra_set::{SetRefused, Which};
 use ra_text::OutOfMemory;
 use ra_trace::Why;
@@ -85,6 +87,39 @@ fn push_refusal(line: &mut String, refused: SetRefused) -> Result<(), OutOfMemor
     Ok(())
 }
 
+// Appends why progress bytes are refused by the set of a digest.
+fn push_progress(
+    line: &mut String,
+    alloc: Global,
+    digest: [u8; 16],
+    refused: ProgressRefused,
+) -> Result<(), OutOfMemory>
+    ensures { OnOk result (string_bytes line.new ≡ string_bytes line.old ++ progress_words digest refused) }
+{
+    match refused {
+        ProgressRefused::WrongLength { wanted, found } => {
+            write!(line, "length {found} wanted {wanted}")?
+        }
+        ProgressRefused::WrongMark { found } => {
+            let mark = hex_of(alloc, &found)?;
+            write!(line, "mark {mark} wanted 52415047")?
+        }
+        ProgressRefused::WrongVersion { found } => write!(line, "version {found} wanted 1")?,
+        ProgressRefused::WrongSum { kept, found } => {
+            let said = hex_of(alloc, &kept)?;
+            let sum = hex_of(alloc, &found)?;
+            write!(line, "sum {said} is {sum}")?
+        }
+        ProgressRefused::OtherSet { found } => {
+            let other = hex_of(alloc, &found)?;
+            let own = hex_of(alloc, &digest)?;
+            write!(line, "set {other} wanted {own}")?
+        }
+        ProgressRefused::BadState { at, found } => write!(line, "state {found} at {at}")?,
+    }
+    Ok(())
+}
+
 // The last line of a run that was stopped.
 fn line_of_stop(alloc: Global, stop: Stop) -> Result<String, OutOfMemory>
     ensures { IfOk result (λ line. string_bytes line ≡ last_line (ending_of_stop stop)) }
@@ -103,6 +138,12 @@ fn line_of_stop(alloc: Global, stop: Stop) -> Result<String, OutOfMemory>
             push_refusal(&mut line, refused)?;
             line.push_str("\n")?
         }
+        Stop::Progress { digest, refused } => {
+            line.push_str("progress refused: ")?;
+            push_progress(&mut line, alloc, digest, refused)?;
+            line.push_str("\n")?
+        }
+        Stop::Save => line.push_str("save fault\n")?,
     }
     Ok(line)
 }
@@ -116,14 +157,17 @@ fn status_of_stop(stop: Stop) -> u8
         Stop::Set(_) => 3,
         Stop::Read => 4,
         Stop::Write => 5,
+        Stop::Progress { .. } => 6,
         Stop::Trace { .. } => 7,
         Stop::TooLong => 8,
+        Stop::Save => 9,
     }
 }
 
 /// Writes the last line of a run that ended so, and answers the status.
 pub fn finish<K: Sink>(alloc: Global, ending: Result<(), Stop>, out: &mut K) -> u8
     ensures finishes { Finishes (ending_at ending) (K.text out.old) (K.text out.new) (Rose (K.faults out.old) (K.faults out.new)) result }
+    ensures done { OnOk ending (result ≡ 0) }
     ensures later { K.faults out.old ≤ K.faults out.new }
 {
     let Err(stop) = ending else {

@@ -1,15 +1,26 @@
 //! The player: plays a trace against a set, and prints what happens.
 #![tactic(auto)]
 
+mod beginning;
 mod check_line;
 mod closing;
-mod job;
+mod counts;
+#[cfg(test)]
+mod file_tests;
 mod job_words;
+#[cfg(test)]
+mod large_tests;
+mod laws;
+mod loading;
+mod make;
 mod play;
 mod player;
 mod playing;
+#[cfg(test)]
+mod presence_tests;
 mod reading;
 mod run;
+mod run_files;
 mod stop;
 #[cfg(test)]
 mod tests;

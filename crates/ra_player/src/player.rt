@@ -1,19 +1,21 @@
 //! A runtime that plays the records of a trace.
 
-ghost use Rattle.std.specs.Prelude.{◌≡◌, ◌≤◌, ◌<◌, ◌+◌, ◌^◌, None, Some, [], length, option_map, slice_index_or, IfOk, IfErr, OnOk, OnErr};
-ghost use Rattle.ra_memory.specs.Image.{AreBytes};
+ghost use Rattle.std.specs.Prelude.{◌≡◌, ◌≤◌, ◌<◌, ◌+◌, ◌^◌, None, Some, length, option_map, slice_index_or, IfSome, IfOk, IfErr, OnOk, OnErr};
+ghost use Rattle.ra_memory.specs.Image.{AreBytes, History};
 ghost use Rattle.ra_progress.specs.Contents.{Opening};
+ghost use Rattle.ra_progress.specs.Reading.{refusal};
 ghost use Rattle.ra_set.specs.Contents.{SetContents, set_contents};
 ghost use Rattle.ra_trace.specs.Entries.{entry_of, Saved, Restored};
 ghost use Rattle.ra_trace.specs.Reading.{LiesWithin};
-ghost use Rattle.ra_runtime.specs.Openings.{plain_opening};
+ghost use Rattle.ra_runtime.specs.Order.{shape_of};
 ghost use Rattle.ra_runtime.specs.Play.{Moment, moved, first_moment};
 ghost use Rattle.ra_runtime.specs.Runtime.{IsWritten, TakesFrame};
-ghost use Rattle.ra_player.specs.Playing.{StandsAt, IsPlayable, TakesEmpty, Plays, slots_of};
+ghost use Rattle.ra_player.specs.Loading.{AreAccepted, BeginsAt, progress_in};
+ghost use Rattle.ra_player.specs.Playing.{StandsAt, IsPlayable, TakesEmpty, TakesUpFrom, Plays, kept_bytes, slots_of};
 
+use crate::beginning::Beginning;
 use ra_memory::Steps;
 use ra_runtime::Runtime;
-use ra_set::Set;
 use ra_text::OutOfMemory;
 use ra_trace::Record;
 use std::alloc::Global;
@@ -58,6 +60,16 @@ fn take_frame<L: Ledger>(runtime: &mut Runtime, blank: Blank)
     runtime.frame(&mut steps);
 }
 
+// Takes up progress bytes of the runtime's set, where there are some.
+fn take_up(runtime: &mut Runtime, progress: &Option<Vec<u8>>)
+    requires { IfSome progress.now (λ bytes. refusal (shape_of runtime.old.set) bytes.items ≡ None) }
+    ensures { TakesUpFrom (option_map (λ bytes. bytes.items) progress.now) runtime.old runtime.new }
+{
+    if let Some(bytes) = progress {
+        let _ = runtime.restore(bytes.as_slice());
+    }
+}
+
 // The progress bytes in a slot; none where it is empty.
 fn bytes_in(slots: &[Option<Vec<u8>>], slot: u8) -> Option<&[u8]>
     ensures { option_map (λ bytes. bytes.now) result ≡ slice_index_or (slots_of slots.now) slot None }
@@ -70,18 +82,30 @@ fn bytes_in(slots: &[Option<Vec<u8>>], slot: u8) -> Option<&[u8]>
 
 impl Player {
     /// The moment before the first record, over an image of zeros; every slot is empty.
-    pub fn new(alloc: Global, set: Set, size: u32) -> Result<Player, OutOfMemory>
-        requires playable { IsPlayable (set_contents set) }
+    ///
+    /// Behind it lie the frames whose progress bytes the run goes on from, where there are some.
+    pub fn new(alloc: Global, beginning: Beginning, size: u32) -> Result<Player, OutOfMemory>
+        requires playable { IsPlayable (set_contents beginning.set) }
+        requires accepted { AreAccepted (set_contents beginning.set) (progress_in beginning) }
         requires size { size ≤ 2 ^ 27 }
-        ensures stands { IfOk result (λ p. StandsAt (set_contents set) (plain_opening (set_contents set)) (first_moment size []) p.runtime (slots_of p.slots.items)) }
+        ensures stands { IfOk result (λ p. (o : Opening) (behind : History) → BeginsAt (set_contents beginning.set) (progress_in beginning) o behind
+            → StandsAt (set_contents beginning.set) o (first_moment size behind) p.runtime (slots_of p.slots.items)) }
         ensures image { IfOk result (λ p. length p.runtime.image ≡ size) }
     {
         let mut slots = Vec::new(alloc);
         while slots.len() < SLOTS {
             slots.push(None)?;
         }
-        let runtime = Runtime::new(alloc, set, size)?;
+        let mut runtime = Runtime::new(alloc, beginning.set, size)?;
+        take_up(&mut runtime, &beginning.progress);
         Ok(Player { runtime, slots })
+    }
+
+    /// The progress bytes of what the runtime keeps.
+    pub fn progress(&self, alloc: Global) -> Result<Vec<u8>, OutOfMemory>
+        ensures { IfOk result (λ bytes. bytes.items ≡ kept_bytes self.now.runtime) }
+    {
+        self.runtime.save(alloc)
     }
 
     // Writes bytes into the image.
@@ -141,7 +165,7 @@ impl Player {
             }
             Record::Save { slot } => self.save(alloc, *slot)?,
             Record::Restore { slot } => self.restore(*slot)?,
-            Record::Show => {}
+            Record::Show => return Ok(self.runtime.show(alloc)?),
             Record::End => {}
         }
         Ok(Vec::new(alloc))

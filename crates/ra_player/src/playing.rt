@@ -1,13 +1,13 @@
 //! The records of a trace, played one after the other.
 
-ghost use Rattle.std.specs.Prelude.{◌≡◌, ◌⊎◌, ◌≤◌, ◌<◌, ⊤, ℕ, List, Some, true, length, IfOk, IfErr, OnErr};
+ghost use Rattle.std.specs.Prelude.{◌≡◌, ◌⊎◌, ◌≤◌, ◌<◌, ⊤, ℕ, List, Some, true, length, IfOk, IfErr, OnOk, OnErr};
 ghost use Rattle.ra_io.specs.Causes.{Rose, NoneFell};
 ghost use Rattle.ra_io.specs.Files.{SameContent};
 ghost use Rattle.ra_io.specs.Sink.{grown};
 ghost use Rattle.ra_set.specs.Contents.{SetContents};
 ghost use Rattle.ra_progress.specs.Contents.{Opening};
 ghost use Rattle.ra_trace.specs.Cutting.{Pieces};
-ghost use Rattle.ra_runtime.specs.Play.{Moment};
+ghost use Rattle.ra_runtime.specs.Play.{Moment, moment_after};
 ghost use Rattle.ra_player.specs.Closing.{EndsBefore, ending_at, ending_of_stop};
 ghost use Rattle.ra_player.specs.Endings.{ReadFault, SinkFault};
 ghost use Rattle.ra_player.specs.Playing.{StandsAt, IsLeft, IsOfTrace, TakesNext, says_from, slots_of};
@@ -75,6 +75,9 @@ pub fn play_records<F: Files, K: Sink>(
     ensures printed { (bytes : List ℕ) (set : SetContents) (o : Opening) (m : Moment) (left : Pieces) → F.content files.old reader.old.name ≡ Some bytes
         → StandsAt set o m player.old.runtime (slots_of player.old.slots.items) → IsLeft bytes m reader.old left
         → EndsBefore (says_from bytes set o m left) ⊤ ⊤ ⊤ (ending_at result) (K.text out.old) (K.text out.new) }
+    ensures ends { OnOk result ((bytes : List ℕ) (set : SetContents) (o : Opening) (m : Moment) (left : Pieces) → F.content files.old reader.old.name ≡ Some bytes
+        → StandsAt set o m player.old.runtime (slots_of player.old.slots.items) → IsLeft bytes m reader.old left
+        → StandsAt set o (moment_after m left.entries) player.new.runtime (slots_of player.new.slots.items)) }
 
     // Why it stops, and what stays.
     ensures read { IfErr result (λ stop. stop ≡ Stop.Read → Rose (F.read_faults files.old reader.old.name) (F.read_faults files.new reader.old.name)) }

@@ -2,6 +2,7 @@ ghost use Rattle.std.specs.Prelude.{◌≡◌};
 ghost use Rattle.ra_player.specs.Closing.{stop_of_set, stop_of_trace};
 ghost use Rattle.ra_player.specs.declared.stop.Stop.TheVariants as stop;
 
+use ra_progress::ProgressRefused;
 use ra_set::SetRefused;
 use ra_text::OutOfMemory;
 use ra_trace::{TraceError, Why};
@@ -14,14 +15,24 @@ pub enum Stop {
     Memory,
     /// The set is refused.
     Set(SetRefused),
+    /// The progress file is refused, by the set of this digest.
+    Progress {
+        digest: [u8; 16],
+        refused: ProgressRefused,
+    },
     /// A read of a file failed.
     Read,
     /// A write to the output failed.
     Write,
     /// The trace is refused: the place of its header or of its first bad record, and the reason.
-    Trace { at: u64, why: Why },
+    Trace {
+        at: u64,
+        why: Why,
+    },
     /// The trace has no end record within the limit.
     TooLong,
+    /// A put of the file to save into failed.
+    Save,
 }
 
 impl From<AllocError> for Stop {

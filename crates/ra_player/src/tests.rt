@@ -11,7 +11,7 @@ const FIVES: &[u8] =
 
 const THREE_HITS: &[u8] = b"A 1 0xH0010=5.3.\n";
 
-fn words(alloc: Global, words: &[&str]) -> Result<Vec<String>, Fail> {
+pub fn words(alloc: Global, words: &[&str]) -> Result<Vec<String>, Fail> {
     let mut all = Vec::new(alloc);
     for word in words {
         all.push(String::from_str(alloc, word)?)?;
@@ -27,7 +27,7 @@ fn joined(alloc: Global, front: &[u8], middle: &[u8], back: &[u8]) -> Result<Vec
 }
 
 // Runs a set over a trace, and answers the status and the text.
-fn run_over(alloc: Global, set: &[u8], trace: &[u8]) -> Result<(u8, Vec<u8>), Fail> {
+pub fn run_over(alloc: Global, set: &[u8], trace: &[u8]) -> Result<(u8, Vec<u8>), Fail> {
     let run = words(alloc, &["run", "S", "T"])?;
     let mut files = SureFiles::new(alloc).ok().ok_or("memory")?;
     files.add("S", set).ok().ok_or("memory")?;
@@ -195,7 +195,8 @@ fn plays_saves_and_restores(rt: HostRuntime) -> Result<(), Fail> {
 // A cell that two items read counts once, and so does a mask whose prior two of them read.
 #[test]
 fn checks_sets(rt: HostRuntime) -> Result<(), Fail> {
-    let rows: [(&[u8], u8, &[u8]); 3] = [
+    let rows: [(&[u8], u8, &[u8]); 4] = [
+        (b"A 1 0xH10=5.3\n", 3, b"set refused: syntax at 13\n"),
         (
             b"",
             0,
@@ -236,7 +237,7 @@ fn refuses_sets(rt: HostRuntime) -> Result<(), Fail> {
             b"set refused: id 1 again on line 2\n",
         ),
         (b"A 01 0=1\n", b"set refused: syntax at 3\n"),
-        (b"P\n", b"set refused: syntax at 0\n"),
+        (b"P\n", b"set refused: syntax at 2\n"),
         (
             b"L 1 VALUE STA:0=1::STA:0=1\n",
             b"set refused: syntax at 20\n",

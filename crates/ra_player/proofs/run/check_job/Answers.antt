@@ -3,7 +3,7 @@ use Rattle.ra_io.specs.Causes.{Rose}
 use Rattle.ra_io.specs.Sink.{grown}
 use Rattle.ra_set.specs.Contents.{set_contents}
 use Rattle.ra_player.specs.Writing.{GrewByPart}
-use Rattle.ra_player.proofs.CheckLemmas.{checked_at_set, checked}
+use Rattle.ra_player.proofs.CheckLemmas.{checked_at_set, checked, checked_no_memory}
 use Rattle.ra_player.proofs.run.check_job.Goals as goal
 
 any_only : (P : List ℕ → Type 0) (a : List ℕ) → P a → Any P (a ∷ [])
@@ -32,3 +32,7 @@ returns-clause-ran g c =
       part = subst (GrewByPart (g.K.Sink.text c.args.out.now) (g.K.Sink.text c.write_all.new.out)) (c.as_bytes.ensures.value ∙ c.in_ok-line.ensures) c.write_all.ensures.part;
       why = c.write_all.ensures.stop;
     })
+
+pub returns-in_err-line-clause-ran : goal.returns-in_err-line-clause-ran
+returns-in_err-line-clause-ran g c =
+    checked_no_memory (g.F.Files.content c.args.files.now) c.args.name.now _ _ _ (g.K.Sink.text c.args.out.now) (set_contents c.in_ok-set.set) c.from_residual-in_err-line.result c.from_residual-in_err-line.ensures.1

@@ -1,15 +1,17 @@
 use Rattle.std.proofs.Common.{arith, ◌≡◌, ◌∙◌, ap, None, replicate, length}
 use Rattle.std.proofs.lemmas.Bool.Decides.{nat_tests}
 use Rattle.ra_set.specs.Contents.{set_contents}
-use Rattle.ra_runtime.specs.Openings.{plain_opening}
-use Rattle.ra_runtime.proofs.Snapshots.{plain_is_opening, snapshot_none}
+use Rattle.ra_player.specs.Loading.{progress_in}
 use Rattle.ra_player.specs.Playing.{slots_of}
-use Rattle.ra_player.proofs.StandLemmas.{stands_first, no_script_lines}
+use Rattle.ra_player.proofs.StandLemmas.{stands_first, accepted_for}
 use Rattle.ra_player.proofs.player.Player.new.Goals as goal
 
+pub take_up-requires : goal.take_up-requires
+take_up-requires c = accepted_for (set_contents c.args.beginning.set) c.args.beginning.progress c.in_ok-runtime.runtime c.in_ok-runtime.ensures.set_too c.requires.accepted
+
 pub returns-clause-stands : goal.returns-clause-stands
-returns-clause-stands c =
-    let set = set_contents c.args.set in
+returns-clause-stands c = λ o behind at.
+    let set = set_contents c.args.beginning.set in
     let sixteen : length c.loop-slots.slots.items ≡ 16 = grind (arith, nat_tests, c.loop-slots-test.false, c.len.ensures, c.loop-slots.invariant.few) in
-    let opening = plain_is_opening set (no_script_lines set c.requires.playable.no_script) in
-    stands_first set c.args.size c.in_ok-runtime.runtime (slots_of c.loop-slots.slots.items) c.requires.playable c.in_ok-runtime.ensures (ap slots_of (c.loop-slots.invariant.empty ∙ ap (λ n. replicate n None) sixteen)) opening (snapshot_none set (plain_opening set) opening)
+    stands_first set c.args.size (progress_in c.args.beginning) o behind c.in_ok-runtime.runtime c.take_up.new.runtime (slots_of c.loop-slots.slots.items) c.requires.playable c.in_ok-runtime.ensures c.take_up.ensures at
+    (ap slots_of (c.loop-slots.invariant.empty ∙ ap (λ n. replicate n None) sixteen))

@@ -2,9 +2,9 @@ use Rattle.std.proofs.Common.{sym, subst, []}
 use Rattle.ra_trace.specs.Entries.{Written}
 use Rattle.ra_trace.specs.declared.record.Record.TheVariants as trace
 use Rattle.ra_player.specs.Playing.{Plays, slots_of}
-use Rattle.ra_player.proofs.StandLemmas.{plays_write, plays_show, plays_end, plays_by, plays_saved, plays_restored}
+use Rattle.ra_player.proofs.StandLemmas.{plays_write, plays_end, plays_by, plays_saved, plays_restored}
 use Rattle.ra_player.proofs.player.Player.play.Goals as goal
-use Rattle.ra_player.proofs.player.Player.play.Goals.{in-Write, in-Save+in_ok-save-in-Save, in-Restore+in_ok-restore-in-Restore, in-Show, in-End}
+use Rattle.ra_player.proofs.player.Player.play.Goals.{in-Write, in-Save+in_ok-save-in-Save, in-Restore+in_ok-restore-in-Restore, in-End}
 
 pub returns-clause-played : goal.returns-clause-played
 returns-clause-played c = λ set o m stands. elim c.match-entry.branch [
@@ -15,6 +15,5 @@ returns-clause-played c = λ set o m stands. elim c.match-entry.branch [
       (plays_saved set o m w.in-Save.slot w.save.new.self.runtime _ (w.in_ok-save-in-Save.ensures.saved set o m stands))
   | in-Restore+in_ok-restore-in-Restore w ↦ plays_by set o m _ (trace.Restore w.in-Restore.slot) w.restore.new.self c.match-entry.self _ w.in-Restore.is w.self-is c.new-2.ensures.items
       (plays_restored set o m w.in-Restore.slot w.restore.new.self.runtime _ (w.in_ok-restore-in-Restore.ensures.restored set o m stands))
-  | in-Show w ↦ plays_by set o m _ trace.Show c.args.self.now c.match-entry.self _ w.in-Show.is w.self-is c.new-2.ensures.items (plays_show set o m c.args.self.now.runtime _ stands)
   | in-End w ↦ plays_by set o m _ trace.End c.args.self.now c.match-entry.self _ w.in-End.is w.self-is c.new-2.ensures.items (plays_end set o m c.args.self.now.runtime _ stands)
 ]

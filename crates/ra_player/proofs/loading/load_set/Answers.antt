@@ -1,7 +1,7 @@
 use Rattle.std.proofs.Common.{◌∙◌, inl}
 use Rattle.ra_player.proofs.NextLemmas.{told}
 use Rattle.ra_player.proofs.RunLemmas.{set_read, set_read_of, stop_by_set, is_digest}
-use Rattle.ra_player.proofs.run.load_set.Goals as goal
+use Rattle.ra_player.proofs.loading.load_set.Goals as goal
 
 pub returns-in-Ok-clause-set : goal.returns-in-Ok-clause-set
 returns-in-Ok-clause-set g c = λ file is_told. set_read c.as_slice.result.now file _ (c.as_slice.ensures.value ∙ told _ _ file is_told c.in_ok-bytes.ensures.ok) c.in-Ok.ensures.ok
@@ -10,7 +10,6 @@ pub returns-in-Ok-clause-playable : goal.returns-in-Ok-clause-playable
 returns-in-Ok-clause-playable g c = record {
   limits = c.in-Ok.ensures.ok.limits;
   spelled = c.in-Ok.ensures.structure;
-  no_script = c.in-Ok.ensures.ok.spelled.script;
   digest = is_digest _ c.as_slice.result.now c.in-Ok.ensures.ok.digest;
 }
 
