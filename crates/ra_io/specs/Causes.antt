@@ -9,6 +9,6 @@ next_count count = min (count + 1) (2 ^ 64 - 1)
 abbrev pub Rose : ℕ → ℕ → Type 0
 Rose before now = next_count before ≤ now
 
--- No count of a name fell.
+-- no count of a name fell
 pub record NoneFell (before now : List ℕ → ℕ) : Type 0 where
   pub each : (name : List ℕ) → before name ≤ now name

@@ -14,12 +14,12 @@ Names = List ℕ → Option (List ℕ)
 abbrev pub bytes_under : Names → List ℕ → List ℕ
 bytes_under names name = unwrap_or (names name) []
 
--- One name has these bytes, and every other is as it was.
+-- one name has these bytes now, and every other is as it was
 pub record SetsName (old new : Names) (name bytes : List ℕ) : Type 0 where
   pub changed : new name ≡ Some bytes
   pub others : (other : List ℕ) → other ≢ name → new other ≡ old other
 
--- the calls of one kind
+-- what is counted of the calls of one kind
 pub record CallsSeen : Type 0 where
   -- how many were made, and the numbers of those that are to fail, counted from 1
   pub made : ℕ

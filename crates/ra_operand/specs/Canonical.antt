@@ -37,11 +37,11 @@ letter_of ThreeBig = codes "J"
 letter_of Four = codes "X"
 letter_of FourBig = codes "G"
 
--- hexadecimal digits in lower case, with zeros before them to at least four
+-- an address in lower-case hexadecimal, with zeros before it to at least four digits
 abbrev pub address_text : ℕ → List ℕ
 address_text address = let shortest = digits 16 false address in replicate (4 - length shortest) 48 ++ shortest
 
--- an operand: prefix, `0x`, letter and address, or a constant without sign, or the word
+-- the text of an operand: prefix, `0x`, letter and address, or a constant in decimal, or `{recall}`
 abbrev pub operand_text : Operand → List ℕ
 operand_text (Cell kind size address) = prefix_of kind ++ (codes "0x" ++ (letter_of size ++ address_text address))
 operand_text (Const n) = decimal n

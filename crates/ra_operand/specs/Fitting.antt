@@ -1,4 +1,4 @@
--- Operands whose number is one of 32 bits: these are the ones that texts spell.
+-- Operands that some text spells: docs/DEFINITIONS.md, "What texts spell".
 use Rattle.std.specs.Prelude.{◌^◌, ◌<◌}
 use Rattle.ra_operand.specs.declared.operand.Operand.{Operand}
 use Rattle.ra_operand.specs.declared.operand.Operand.TheVariants.{Cell, Const, Recall}

@@ -10,18 +10,18 @@ use Rattle.ra_text.specs.Form.{Form, Spell, One, Literal, ◌>>=◌, ◌or◌, o
 use Rattle.ra_text.specs.Number.{hexadecimal, signed}
 use Rattle.ra_text.specs.Table.{lookup, letters, bytes_for, only, only_letters}
 
--- the prefixes
+-- the prefixes of operands, letters in either case, with their kinds
 abbrev pub kinds : List (ℕ × Kind)
 kinds = letters (codes "D") Delta ++ letters (codes "P") Prior ++ letters (codes "B") Bcd ++ bytes_for (codes "~") Inverted
 
--- the letters of the sizes, and the blank
+-- the letters of the sizes, in either case, and the blank
 abbrev pub sizes : List (ℕ × Size)
 sizes =
     letters (codes "M") Bit0 ++ letters (codes "N") Bit1 ++ letters (codes "O") Bit2 ++ letters (codes "P") Bit3 ++ letters (codes "Q") Bit4 ++ letters (codes "R") Bit5
     ++ letters (codes "S") Bit6 ++ letters (codes "T") Bit7 ++ letters (codes "L") Low ++ letters (codes "U") High ++ letters (codes "H") Byte ++ letters (codes "K") Count
     ++ bytes_for (codes " ") Two ++ letters (codes "I") TwoBig ++ letters (codes "W") Three ++ letters (codes "J") ThreeBig ++ letters (codes "X") Four ++ letters (codes "G") FourBig
 
--- [d | p | b | ~] 0x [size] hexnum, where no prefix is plain and no size is 16 bits
+-- [d | p | b | ~] 0x [size] hexnum: plain without a prefix, and 16 bits without a size
 abbrev pub memory : Form ℕ Operand
 memory = do
   kind ← optional (lookup kinds) Mem
@@ -50,7 +50,7 @@ constant = do
   v ← optional (only_letters (codes "V")) tt
   hex_constant or decimal_constant
 
--- these eight bytes
+-- "{recall}", in lower case alone
 abbrev pub recall : Form ℕ Operand
 recall = do
   word ← Literal (codes "{recall}")

@@ -1,4 +1,4 @@
--- Reading operands from left to right: the step between the code and the grammar. No public clause of a parser cites it.
+-- Reading operands from left to right: the step between the code and docs/DEFINITIONS.md, "Operands".
 use Rattle.std.specs.Prelude.{ℕ, ◌==◌, Bool, false, if◌then◌else◌, List, [], ◌∷◌, Ok, codes}
 use Rattle.ra_operand.specs.declared.kind.Kind.TheVariants.{Mem}
 use Rattle.ra_operand.specs.declared.operand.Operand.{Operand}
@@ -48,7 +48,7 @@ recall_at text = do
   word ← literal_at (codes "{recall}") text
   Ok (Recall, word.1)
 
--- a prefix, or the front of `0x`: a 0 before another byte is a constant
+-- a memory operand begins, with a prefix or `0x`; a 0 before another byte is a constant
 abbrev pub begins_memory : List ℕ → Bool
 begins_memory [] = false
 begins_memory (byte ∷ rest) = if byte == 48 then begins (is_in (only_letters (codes "X"))) rest else is_in (lookup kinds) byte

@@ -1,11 +1,11 @@
--- What each size views of a cell, and what each kind makes of the view.
+-- What each size views of a cell, and what each kind makes of the view: docs/DEFINITIONS.md, "Sizes" and "Kinds of operands".
 use Rattle.std.specs.Prelude.{ℕ, zero, suc, ◌+◌, ◌-◌, ◌*◌, ◌/◌, ◌%◌, ◌^◌, bit_and, bit_xor, count_ones}
 use Rattle.ra_operand.specs.declared.size.Size.{Size}
 use Rattle.ra_operand.specs.declared.size.Size.TheVariants.{Bit0, Bit1, Bit2, Bit3, Bit4, Bit5, Bit6, Bit7, Low, High, Byte, Two, Three, Four, Count, TwoBig, ThreeBig, FourBig}
 use Rattle.ra_operand.specs.declared.kind.Kind.{Kind}
 use Rattle.ra_operand.specs.declared.kind.Kind.TheVariants.{Bcd, Inverted}
 
--- the bytes of the cell that a size views
+-- how many bytes the cell of a size has
 abbrev pub width_of : Size → ℕ
 width_of Two = 2
 width_of TwoBig = 2
@@ -36,7 +36,7 @@ mask_of ThreeBig = 0xFFFFFF
 mask_of Four = 0xFFFFFFFF
 mask_of FourBig = 0xFFFFFFFF
 
--- the lowest bytes of a number, in reverse
+-- the number of so many lowest bytes of a number, in reverse
 abbrev pub reversed : ℕ → ℕ → ℕ
 reversed zero n = 0
 reversed (suc bytes) n = n % 256 * 256 ^ bytes + reversed bytes (n / 256)
@@ -61,7 +61,7 @@ shown_of _ bits = bits
 abbrev pub view_of : Size → ℕ → ℕ
 view_of size raw = shown_of size (bit_and raw (mask_of size))
 
--- how many bits a view has
+-- how many bits the view of a size has
 abbrev pub bits_of : Size → ℕ
 bits_of Low = 4
 bits_of High = 4
@@ -75,7 +75,7 @@ bits_of Four = 32
 bits_of FourBig = 32
 bits_of _ = 1
 
--- the lowest hexadecimal digits of a number, read as decimal ones
+-- so many lowest hexadecimal digits of a number, read as decimal ones
 abbrev pub as_decimal : ℕ → ℕ → ℕ
 as_decimal zero x = 0
 as_decimal (suc digits) x = x % 16 + 10 * as_decimal digits (x / 16)

@@ -1,4 +1,4 @@
--- Forms: which texts spell which values. A text is a list of symbols of some alphabet, such as bytes or lines.
+-- Forms: which texts spell which values, as in the grammars of docs/DEFINITIONS.md, "Numbers in text" the first. A text is a list of symbols, such as bytes or lines.
 use Rattle.std.specs.Prelude.{◌≡◌, ◌⊎◌, List, [], ◌∷◌, ◌++◌, Option, Some}
 
 -- a relation between texts and the values that they spell
@@ -39,11 +39,11 @@ infixl 5 ◌or◌
 abbrev pub ◌or◌ : {A V : Type 0} → Form A V → Form A V → Form A V
 ◌or◌ a b text v = a text v ⊎ b text v
 
--- a symbol that the table has, or nothing
+-- a symbol that the table has, for what it has there, or the empty text, for the other value
 abbrev pub optional : {A V : Type 0} → (A → Option V) → V → Form A V
 optional table none = One table or Spell none
 
--- the texts that begin so are the fronts of some text of the form
+-- the front begins some text of the form
 pub record Viable {A V : Type 0} (form : Form A V) (front : List A) : Type 0 where
   pub more : List A
   pub v : V

@@ -1,4 +1,4 @@
--- How a method of a cursor follows the reading of a form.
+-- How a method of a cursor follows the reading of a form: the step between the code and docs/DEFINITIONS.md, "First bad place".
 use Rattle.std.specs.Prelude.{◌≡◌, ℕ, List, ◌∷◌, Option, Some, Result, Ok, Err}
 use Rattle.ra_text.specs.declared.base.Base.{Base}
 use Rattle.ra_text.specs.declared.cursor.Stop.{Stop}

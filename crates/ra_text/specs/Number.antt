@@ -6,51 +6,51 @@ use Rattle.ra_text.specs.Form.{Form, Spell, One, ◌>>=◌, optional}
 use Rattle.ra_text.specs.Reading.{begins}
 use Rattle.ra_text.specs.Table.{lookup, bytes_for, is_in}
 
--- the bytes one after the other, for the numbers from this one on
+-- each of the bytes with its number, counted from this one on
 abbrev pub counted_from : ℕ → List ℕ → List (ℕ × ℕ)
 counted_from n [] = []
 counted_from n (byte ∷ others) = (byte, n) ∷ counted_from (n + 1) others
 
--- 0 to 9
+-- the digits 0 to 9 with their numbers
 abbrev pub digits : List (ℕ × ℕ)
 digits = counted_from 0 (codes "0123456789")
 
--- 0 to 9 and a to f, in either case
+-- the digits 0 to 9 and a to f, in either case, with their numbers
 abbrev pub hex_digits : List (ℕ × ℕ)
 hex_digits = digits ++ (counted_from 10 (codes "abcdef") ++ counted_from 10 (codes "ABCDEF"))
 
--- the number that a digit stands for
+-- the number that a digit of the base stands for
 abbrev pub digit_of : Base → ℕ → Option ℕ
 digit_of Ten = lookup digits
 digit_of Sixteen = lookup hex_digits
 
--- how many digits there are
+-- how many digits a base has
 abbrev pub base_of : Base → ℕ
 base_of Ten = 10
 base_of Sixteen = 16
 
--- digit {digit}, of a base, behind digits of the number so far
+-- more digits of a base, where those before give the number so far
 abbrev pub Digits : (ℕ → Option ℕ) → ℕ → ℕ → Form ℕ ℕ
 Digits table base so_far [] n = n ≡ so_far
 Digits table base so_far (byte ∷ rest) n = (d : ℕ) × (table byte ≡ Some d) × Digits table base (so_far * base + d) rest n
 
--- one or more digits
+-- digit { digit }, of a base
 abbrev pub numeral : (ℕ → Option ℕ) → ℕ → Form ℕ ℕ
 numeral table base = do
   d ← One table
   Digits table base d
 
--- a number that is not negative is at most the greatest of 32 bits
+-- a number that is not negative as it is kept: at most the greatest of 32 bits
 abbrev pub saturated : ℕ → ℕ
 saturated n = min n 4294967295
 
--- dec
+-- dec, saturated
 abbrev pub decimal : Form ℕ ℕ
 decimal = do
   n ← numeral (lookup digits) 10
   Spell (saturated n)
 
--- hexnum
+-- hexnum, saturated
 abbrev pub hexadecimal : Form ℕ ℕ
 hexadecimal = do
   n ← numeral (lookup hex_digits) 16
@@ -60,15 +60,15 @@ hexadecimal = do
 abbrev pub signs : List (ℕ × Bool)
 signs = bytes_for (codes "+") false ++ bytes_for (codes "-") true
 
--- [+ | -]
+-- [ "+" | "-" ], and whether it is a minus
 abbrev pub sign : Form ℕ Bool
 sign = optional (lookup signs) false
 
--- a negative number is at least -2147483648, and is kept as two's complement of 32 bits
+-- a number as it is kept by its sign: a negative one is at least -2147483648, in two's complement of 32 bits
 abbrev pub with_sign : Bool → ℕ → ℕ
 with_sign negative n = if negative then (4294967296 - min n 2147483648) % 4294967296 else saturated n
 
--- [+ | -] dec
+-- [ "+" | "-" ] dec
 abbrev pub signed : Form ℕ ℕ
 signed = do
   negative ← sign

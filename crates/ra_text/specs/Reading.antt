@@ -1,4 +1,4 @@
--- Reading from left to right: the step between the code and the forms. No public clause of a parser cites it.
+-- Reading from left to right: the step between the code and docs/DEFINITIONS.md, "First bad place".
 use Rattle.std.specs.Prelude.{◌≡◌, ℕ, ◌==◌, Bool, true, false, if◌then◌else◌, List, [], ◌∷◌, ◌++◌, length, zero, suc, Option, Some, None, Result, Ok, Err}
 use Rattle.ra_text.specs.Form.{Form, Viable}
 
@@ -6,12 +6,12 @@ use Rattle.ra_text.specs.Form.{Form, Viable}
 abbrev pub Outcome : Type 0 → Type 0 → Type 0
 Outcome A V = Result (V × List A) (List A)
 
--- what is left
+-- what a reading leaves
 abbrev pub rest_of : {A V : Type 0} → Outcome A V → List A
 rest_of (Ok x) = x.1
 rest_of (Err rest) = rest
 
--- Reading stopped at the first symbol that no text of the form goes on with, or at the end, and answered what stands before it spells.
+-- reading stops at the first symbol that no text of the form goes on with, or at the end, and answers what stands before it spells
 pub record Reads {A V : Type 0} (form : Form A V) (text : List A) (outcome : Outcome A V) : Type 0 where
   pub front : List A
   pub parts : text ≡ front ++ rest_of outcome
@@ -56,7 +56,7 @@ literal_at (byte ∷ literal) (c ∷ rest) = if c == byte then literal_at litera
 abbrev pub choice_at : {A V : Type 0} → (List A → Bool) → (List A → Outcome A V) → (List A → Outcome A V) → List A → Outcome A V
 choice_at test first second text = if test text then first text else second text
 
--- the first symbol passes
+-- there is a first symbol, and it passes the test
 abbrev pub begins : {A : Type 0} → (A → Bool) → List A → Bool
 begins test [] = false
 begins test (symbol ∷ rest) = test symbol

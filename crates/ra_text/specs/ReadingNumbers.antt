@@ -1,4 +1,4 @@
--- Reading numbers, from left to right.
+-- Reading numbers from left to right: the step between the code and docs/DEFINITIONS.md, "Numbers in text".
 use Rattle.std.specs.Prelude.{ℕ, ◌+◌, ◌*◌, false, List, [], ◌∷◌, Option, Some, None, Ok}
 use Rattle.ra_text.specs.declared.base.Base.{Base}
 use Rattle.ra_text.specs.declared.base.Base.TheVariants.{Ten, Sixteen}
@@ -6,12 +6,12 @@ use Rattle.ra_text.specs.Reading.{Outcome, ◌>>=◌, one_at, optional_at}
 use Rattle.ra_text.specs.Table.{lookup}
 use Rattle.ra_text.specs.Number.{digit_of, base_of, saturated, signs, with_sign}
 
--- digits behind the number so far
+-- the number so far with all digits that stand next
 abbrev pub digits_at : (ℕ → Option ℕ) → ℕ → ℕ → List ℕ → Outcome ℕ ℕ
 digits_at table base so_far [] = Ok (so_far, [])
 digits_at table base so_far (byte ∷ rest) = elim (table byte) [ Some d ↦ digits_at table base (so_far * base + d) rest | None ↦ Ok (so_far, byte ∷ rest) ]
 
--- one digit, and more
+-- a digit, and all digits that stand next
 unfoldable pub numeral_at : (ℕ → Option ℕ) → ℕ → List ℕ → Outcome ℕ ℕ
 numeral_at table base text = do
   d ← one_at table text

@@ -1,4 +1,4 @@
--- Tables of bytes.
+-- Tables of bytes, in either case or as they are: docs/DEFINITIONS.md, "Numbers in text" and "Operands".
 use Rattle.std.specs.Prelude.{ℕ, ◌+◌, ◌==◌, Bool, true, false, if◌then◌else◌, List, [], ◌∷◌, Option, Some, None}
 
 -- what stands beside the byte in the table
@@ -20,18 +20,18 @@ bytes_for (byte ∷ others) v = (byte, v) ∷ bytes_for others v
 abbrev pub is_in : {V : Type 0} → (ℕ → Option V) → ℕ → Bool
 is_in table byte = elim (table byte) [ Some v ↦ true | None ↦ false ]
 
--- these bytes, without a value
+-- a table of these bytes, each without a value
 abbrev pub marks : List ℕ → List (ℕ × Unit {0})
 marks wanted = bytes_for wanted tt
 
--- these letters in either case, without a value
+-- a table of these letters in either case, each without a value
 abbrev pub letter_marks : List ℕ → List (ℕ × Unit {0})
 letter_marks wanted = letters wanted tt
 
--- one of these bytes
+-- the byte is one of these
 abbrev pub only : List ℕ → ℕ → Option (Unit {0})
 only wanted = lookup (marks wanted)
 
--- one of these letters in either case
+-- the byte is one of these letters, in either case
 abbrev pub only_letters : List ℕ → ℕ → Option (Unit {0})
 only_letters wanted = lookup (letter_marks wanted)
