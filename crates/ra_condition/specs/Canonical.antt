@@ -57,7 +57,7 @@ target_text n = if n == 0 then [] else codes "." ++ (decimal n ++ codes ".")
 abbrev pub tail_text : Op → Operand → ℕ → List ℕ
 tail_text op right target = if is_bare op then [] else op_text op ++ (operand_text right ++ target_text target)
 
--- the flag, the left operand, and the tail
+-- the text of a condition: the flag, the left operand, and the tail
 abbrev pub condition_text : Condition → List ℕ
 condition_text c = flag_text c.flag ++ (operand_text c.left ++ tail_text c.op c.right c.target)
 
@@ -66,11 +66,11 @@ abbrev pub joined_text : {X : Type 0} → ℕ → (X → List ℕ) → List X �
 joined_text separator text [] = []
 joined_text separator text (x ∷ xs) = text x ++ flat_map (λ y. separator ∷ text y) xs
 
--- conditions with `_` between them
+-- the text of a group: conditions with `_` between them
 abbrev pub group_text : List Condition → List ℕ
 group_text = joined_text 95 condition_text
 
--- the core, and each alt group behind an `S`
+-- the text of a trigger: the core, and each alt group behind an `S`
 abbrev pub trigger_text : TriggerContents → List ℕ
 trigger_text t = group_text t.core ++ flat_map (λ alt. 83 ∷ group_text alt) t.alts
 
@@ -79,15 +79,15 @@ abbrev pub factor_text : Option Operand → List ℕ
 factor_text (Some factor) = 42 ∷ operand_text factor
 factor_text None = []
 
--- the operand, and its factor
+-- the text of a legacy term: the operand, and its factor
 abbrev pub term_text : Term → List ℕ
 term_text t = operand_text t.operand ++ factor_text t.factor
 
--- terms or conditions with `_` between them
+-- the text of a part: terms or conditions with `_` between them
 abbrev pub part_text : PartContents → List ℕ
 part_text (Legacy terms) = joined_text 95 term_text terms
 part_text (Grouped conditions) = group_text conditions
 
--- parts with `$` between them
+-- the text of a value: parts with `$` between them
 abbrev pub value_text : List PartContents → List ℕ
 value_text = joined_text 36 part_text

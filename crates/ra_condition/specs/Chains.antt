@@ -1,4 +1,4 @@
--- Chains of conditions, and the order in which a group's conditions pass.
+-- Chains of conditions, and the order in which a group's conditions pass: docs/DEFINITIONS.md, "Chains and pass order".
 use Rattle.std.specs.Prelude.{ℕ, Bool, false, if◌then◌else◌, not, List, [], ◌∷◌, ◌++◌, length, drop, filter}
 use Rattle.std.specs.List.{range_with_len}
 use Rattle.ra_condition.specs.declared.condition.Condition.{Condition}
@@ -17,7 +17,7 @@ in_pause_chain cs j = ends_in_pause (drop j cs)
 abbrev pub places : List Condition → List ℕ
 places cs = range_with_len 0 (length cs)
 
--- the conditions of the pause chains in text order, then all others in text order
+-- the places of the conditions of pause chains in text order, then all others in text order
 abbrev pub pass_order : List Condition → List ℕ
 pass_order cs =
     filter (in_pause_chain cs) (places cs) ++ filter (λ j. not (in_pause_chain cs j)) (places cs)

@@ -1,4 +1,4 @@
--- The classes of flags.
+-- The classes of flags: docs/DEFINITIONS.md, "Flags" and "Group outcome".
 use Rattle.std.specs.Prelude.{Bool, true, false}
 use Rattle.ra_condition.specs.declared.flag.Flag.{Flag}
 use Rattle.ra_condition.specs.declared.flag.Flag.TheVariants.{Plain, PauseIf, ResetIf, AddSource, SubSource, AddHits, SubHits, AndNext, OrNext, Measured, MeasuredPercent, MeasuredIf, AddAddress, TriggerIf, ResetNextIf, Remember}
@@ -30,7 +30,7 @@ abbrev pub is_reset : Flag → Bool
 is_reset ResetIf = true
 is_reset _ = false
 
--- the condition offers a number
+-- the condition offers a number to its group
 abbrev pub is_measured : Flag → Bool
 is_measured Measured = true
 is_measured MeasuredPercent = true
@@ -56,7 +56,7 @@ abbrev pub is_remember : Flag → Bool
 is_remember Remember = true
 is_remember _ = false
 
--- what has to be valid in a primed group
+-- the condition has to be valid for its group to be primed
 abbrev pub is_wanted : Flag → Bool
 is_wanted Plain = true
 is_wanted Measured = true
@@ -64,7 +64,7 @@ is_wanted MeasuredPercent = true
 is_wanted MeasuredIf = true
 is_wanted _ = false
 
--- what has to be valid in a valid group: the same, and the Trigger conditions
+-- the condition has to be valid for its group to be valid: a wanted one, or a Trigger
 abbrev pub is_required : Flag → Bool
 is_required TriggerIf = true
 is_required flag = is_wanted flag

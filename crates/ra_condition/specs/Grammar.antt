@@ -17,7 +17,7 @@ use Rattle.ra_text.specs.Form.{Form, Spell, One, ◌>>=◌, ◌or◌, optional}
 use Rattle.ra_text.specs.Number.{decimal}
 use Rattle.ra_text.specs.Table.{lookup, letters, bytes_for, only, only_letters}
 
--- the letters of the flags
+-- the letters of the flags, in either case
 abbrev pub flags : List (ℕ × Flag)
 flags =
     letters (codes "P") PauseIf ++ letters (codes "R") ResetIf ++ letters (codes "A") AddSource ++ letters (codes "B") SubSource ++ letters (codes "C") AddHits ++ letters (codes "D") SubHits
@@ -54,7 +54,7 @@ greater = do
 abbrev pub comparison : Form ℕ Op
 comparison = equal or (unequal or (less or greater))
 
--- arith
+-- arith, as a table of the operators
 abbrev pub operators : List (ℕ × Op)
 operators =
     bytes_for (codes "*") Mul ++ bytes_for (codes "/") Div ++ bytes_for (codes "&") And ++ bytes_for (codes "^") Xor ++ bytes_for (codes "%") Rem
@@ -80,7 +80,7 @@ bracketed = do
 abbrev pub target : Form ℕ ℕ
 target = dotted or (bracketed or Spell 0)
 
--- nothing behind the left operand
+-- the tail of a condition without an operator
 abbrev pub bare : Tail
 bare = record { op = Bare; right = Const 0; target = 0 }
 
@@ -111,7 +111,7 @@ abbrev pub stands_bare : Setting → Flag → Bool
 stands_bare InTrigger flag = false
 stands_bare InValue flag = is_measured flag
 
--- What stands behind the left operand: a condition that hands a value on takes a value, every other one compares, but where it may stand without an operator.
+-- what stands behind the left operand: arithmetic or nothing where a value is handed on, else a comparison, or nothing where that may be
 abbrev pub tail_of : (hands_on stands_bare : Bool) → Form ℕ Tail
 tail_of true may = ignored or (computed or Spell bare)
 tail_of false true = compared or Spell bare
@@ -139,7 +139,7 @@ condition setting = flagged setting or unflagged setting Plain
 abbrev pub group : Form ℕ (List Condition)
 group = joined (only (codes "_")) (condition InTrigger) or Spell []
 
--- the first group is the core
+-- the trigger of these groups, the first as its core
 abbrev pub trigger_of : List (List Condition) → TriggerContents
 trigger_of [] = record { core = []; alts = [] }
 trigger_of (core ∷ alts) = record { core = core; alts = alts }

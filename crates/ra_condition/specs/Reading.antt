@@ -1,4 +1,4 @@
--- Reading conditions, groups and triggers from left to right: the step between the code and the grammar. No public clause of a parser cites it.
+-- Reading conditions, groups and triggers from left to right: the step between the code and docs/DEFINITIONS.md, "Conditions" and "Triggers".
 use Rattle.std.specs.Prelude.{ℕ, ◌&&◌, ◌||◌, not, Bool, true, false, List, [], ◌∷◌, Ok, codes}
 use Rattle.ra_operand.specs.declared.op.Op.{Op}
 use Rattle.ra_operand.specs.declared.op.Op.TheVariants.{Eq, Ne, Lt, Le, Gt, Ge}
@@ -137,7 +137,7 @@ flagged_at setting text = do
   colon ← one_at (only (codes ":")) flag.1
   unflagged_at setting flag.0 colon.1
 
--- A letter of a flag begins a flag where a colon follows, or where it begins no operand.
+-- a flag begins: a letter of one, before a colon or where it begins no operand
 abbrev pub begins_flag : List ℕ → Bool
 begins_flag [] = false
 begins_flag (byte ∷ rest) = is_in (lookup flags) byte && (begins (is_in (only (codes ":"))) rest || not (is_in (lookup kinds) byte))

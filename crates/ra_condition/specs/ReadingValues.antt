@@ -1,4 +1,4 @@
--- Reading values from left to right: the step between the code and the grammar. No public clause of a parser cites it.
+-- Reading values from left to right: the step between the code and docs/DEFINITIONS.md, "Values".
 use Rattle.std.specs.Prelude.{ℕ, List, ◌∷◌, length, Option, Some, None, Ok, codes}
 use Rattle.ra_operand.specs.declared.operand.Operand.{Operand}
 use Rattle.ra_operand.specs.Reading.{operand_at}

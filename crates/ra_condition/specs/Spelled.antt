@@ -14,13 +14,13 @@ use Rattle.ra_condition.specs.Contents.{TriggerContents, PartContents, Legacy, G
 use Rattle.ra_condition.specs.Flags.{hands_on, is_measured}
 use Rattle.ra_condition.specs.Grammar.{stands_bare}
 
--- Which operators a condition may have: one that hands a value on computes or has none, every other one compares, and a Measured of a value may have none.
+-- the operator fits a condition: arithmetic or none where it hands a value on, else a comparison, or none where it may stand bare
 abbrev pub takes_op : (hands_on stands_bare : Bool) → Op → Bool
 takes_op true may op = is_bare op || is_arithmetic op
 takes_op false true op = not (is_arithmetic op)
 takes_op false false op = not (is_bare op || is_arithmetic op)
 
--- a condition of a trigger, or of a value
+-- some text of a trigger, or of a value, spells the condition
 pub record IsCondition (setting : Setting) (c : Condition) : Type 0 where
   pub op : takes_op (hands_on c.flag) (stands_bare setting c.flag) c.op ≡ true
   pub left : Fits32 c.left
@@ -30,11 +30,11 @@ pub record IsCondition (setting : Setting) (c : Condition) : Type 0 where
   pub bare_target : is_bare c.op ≡ true → c.target ≡ 0
   pub handed_target : hands_on c.flag ≡ true → c.target ≡ 0
 
--- a group of a trigger: any conditions
+-- some text spells the group of a trigger: each of its conditions is spelled
 abbrev pub IsTriggerGroup : List Condition → Type 0
 IsTriggerGroup = All (IsCondition InTrigger)
 
--- any groups of any conditions
+-- some text spells the trigger: each condition of each of its groups is spelled
 pub record IsTrigger (t : TriggerContents) : Type 0 where
   pub core : IsTriggerGroup t.core
   pub alts : All IsTriggerGroup t.alts
@@ -49,28 +49,28 @@ abbrev pub first_flagged : List Condition → Type 0
 first_flagged [] = Unit {0} → ⊥
 first_flagged (c ∷ cs) = c.flag ≡ Plain → ⊥
 
--- a group of a value: the first condition has a flag, and some condition measures
+-- some text spells the group of a value: the first condition has a flag, and some condition measures
 pub record IsValueGroup (cs : List Condition) : Type 0 where
   pub conditions : All (IsCondition InValue) cs
   pub flagged : first_flagged cs
   pub measured : some_measured cs ≡ true
 
--- a factor, where there is one
+-- the number of the factor is one of 32 bits, if there is a factor
 abbrev pub FitsFactor : Option Operand → Type 0
 FitsFactor (Some factor) = Fits32 factor
 FitsFactor None = Unit {0}
 
--- a term
+-- some text spells the term: its numbers are of 32 bits
 pub record IsTerm (t : Term) : Type 0 where
   pub operand : Fits32 t.operand
   pub factor : FitsFactor t.factor
 
--- at least one term, or a group of a value
+-- some text spells the part: at least one term, each of them spelled, or a group of a value
 abbrev pub IsPart : PartContents → Type 0
 IsPart (Legacy terms) = (0 < length terms) × All IsTerm terms
 IsPart (Grouped conditions) = IsValueGroup conditions
 
--- a value has at least one part
+-- some text spells the value: at least one part, each of them spelled
 pub record IsValue (parts : List PartContents) : Type 0 where
   pub some : 0 < length parts
   pub each : All IsPart parts
