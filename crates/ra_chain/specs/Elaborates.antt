@@ -1,4 +1,4 @@
--- What an elaboration answers, and what it leaves in the pool.
+-- What an elaboration answers, and what it leaves in the pool: docs/DEFINITIONS.md, "Trees of a group".
 use Rattle.std.specs.Prelude.{◌≡◌, ℕ, ◌<◌, List, [], ◌∷◌, length, slice_index}
 use Rattle.std.specs.List.{flat_map}
 use Rattle.ra_condition.specs.declared.condition.Condition.{Condition}

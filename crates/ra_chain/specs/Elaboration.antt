@@ -1,4 +1,4 @@
--- The trees of a group's conditions, found by looking back in the text and, for `{recall}`, in the pass order.
+-- The trees of a group's conditions, by looking back in the text and, for `{recall}`, in the pass order: docs/DEFINITIONS.md, "Trees of a group".
 use Rattle.std.specs.Prelude.{◌≡◌, ℕ, zero, suc, ◌<◌, ◌==◌, Option, None, Some, List, [], ◌∷◌, length, map, replicate, slice_set, slice_index_or, if◌then◌else◌}
 use Rattle.std.specs.List.{before_first}
 use Rattle.ra_operand.specs.declared.operand.Operand.{Operand}
@@ -37,7 +37,7 @@ last_remembered cs values before [] = before
 last_remembered cs values before (i ∷ is) =
     last_remembered cs values (if is_remember (flag_at cs i) then tree_at values i else before) is
 
--- what `{recall}` means in a condition: the latest Remember before it in pass order
+-- the value of `{recall}` in a condition: that of the latest Remember before it in pass order
 abbrev pub recall_of : List Condition → List Tree → ℕ → Tree
 recall_of cs values j = last_remembered cs values (constant 0) (before_first (λ i. i == j) (pass_order cs))
 
@@ -76,7 +76,7 @@ abbrev pub joined : Op → Tree → Tree → Tree
 joined Bare left right = left
 joined op left right = join op left right
 
--- the value that a condition hands on: a Remember takes its sum along, and other flags hand nothing on
+-- the value that a condition hands on: a Remember takes its sum along, and other flags hand on the constant 0
 abbrev pub handed_on : Flag → Option Tree → Tree → Tree
 handed_on AddSource sum value = value
 handed_on SubSource sum value = value
@@ -84,22 +84,22 @@ handed_on AddAddress sum value = value
 handed_on Remember sum value = added sum value
 handed_on _ sum value = constant 0
 
--- the tree that a condition hands on or compares, by the values of the conditions before it
+-- the value that a condition hands on, by the values of the others; the constant 0 where it hands none on
 abbrev pub value_by_rules : List Condition → List Tree → ℕ → Tree
 value_by_rules cs values j =
     handed_on (flag_at cs j) (sum_of cs values j)
     (joined (condition_at cs j).op (left_operand cs values j) (right_operand cs values j))
 
--- the values of all conditions, each found when it passes
+-- the values once these conditions have passed, each found when it passes
 abbrev pub values_along : List Condition → List Tree → List ℕ → List Tree
 values_along cs values [] = values
 values_along cs values (j ∷ js) = values_along cs (slice_set values j (value_by_rules cs values j)) js
 
--- the tree of each condition of a group
+-- the value that each condition of a group hands on, in text order
 abbrev pub values_of : List Condition → List Tree
 values_of cs = values_along cs (replicate (length cs) (constant 0)) (pass_order cs)
 
--- each value is what the rules make of the others; a group has one list of such values
+-- each value is what the rules make of the others, as in one list of values alone
 pub record AreValues (cs : List Condition) (values : List Tree) : Type 0 where
   pub as_many : length values ≡ length cs
   pub each : (j : ℕ) → j < length cs → tree_at values j ≡ value_by_rules cs values j
@@ -110,30 +110,30 @@ left_of cs j =
     let values = values_of cs in
     if hands_on (flag_at cs j) then tree_at values j else added (sum_of cs values j) (left_operand cs values j)
 
--- the right side of the comparison of a condition
+-- the right tree of a condition; one that hands a value on has the value on both sides
 abbrev pub right_of : List Condition → ℕ → Tree
 right_of cs j =
     let values = values_of cs in
     if hands_on (flag_at cs j) then tree_at values j else right_operand cs values j
 
--- the left sides of a group, in the order of its conditions
+-- the left trees of a group, in text order
 abbrev pub lefts_of : List Condition → List Tree
 lefts_of cs = map (left_of cs) (places cs)
 
--- the right sides of a group, in the order of its conditions
+-- the right trees of a group, in text order
 abbrev pub rights_of : List Condition → List Tree
 rights_of cs = map (right_of cs) (places cs)
 
--- the factor of a legacy term, if it has one
+-- a tree times the factor of a legacy term, if it has one
 abbrev pub times : Tree → Option Operand → Tree
 times tree None = tree
 times tree (Some factor) = join Mul tree (operand_tree factor (constant 0) (constant 0))
 
--- a legacy term knows no pointer, and recalls 0
+-- the tree of a legacy term, which has no pointer and recalls 0
 abbrev pub term_tree : Term → Tree
 term_tree t = times (operand_tree t.operand (constant 0) (constant 0)) t.factor
 
--- a tree with the terms after it
+-- the sum of a tree and the terms after it
 abbrev pub summed_from : Tree → List Term → Tree
 summed_from sum [] = sum
 summed_from sum (t ∷ ts) = summed_from (join Add sum (term_tree t)) ts

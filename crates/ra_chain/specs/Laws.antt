@@ -1,4 +1,4 @@
--- The pass order in the words of chains.
+-- The pass order in the words of chains: docs/DEFINITIONS.md, "Chains and pass order".
 use Rattle.std.specs.Prelude.{◌≡◌, ℕ, ◌<◌, ◌≤◌, true, List, length, slice_index}
 use Rattle.ra_condition.specs.declared.condition.Condition.{Condition}
 use Rattle.ra_condition.specs.Flags.{combines, is_pause}

@@ -1,4 +1,4 @@
--- What the calls of an elaboration leave in a pool.
+-- What the calls of an elaboration leave in a pool: the step between the code and docs/DEFINITIONS.md, "Trees of a group".
 use Rattle.std.specs.Prelude.{◌≡◌, ℕ, ◌<◌, Option, None, Some, List, [], length}
 use Rattle.ra_condition.specs.declared.flag.Flag.{Flag}
 use Rattle.ra_condition.specs.declared.flag.Flag.TheVariants.{AddSource, SubSource, AddAddress}
@@ -45,17 +45,17 @@ pub record IsKept (old new : List Node) (nodes cells views : ℕ) : Type 0 where
   pub pool : IsPool new
   pub adds : AddsAtMost old new nodes cells views
 
--- how many cells and views a node is
+-- how many cells a node is: one or none
 abbrev pub cells_at : Node → ℕ
 cells_at (CellNode pointer offset width) = 1
 cells_at _ = 0
 
--- how many views a node is
+-- how many views a node is: one or none
 abbrev pub views_at : Node → ℕ
 views_at (View kind size c) = 1
 views_at _ = 0
 
--- the flags whose value goes into the sum, or passes it on
+-- a condition of this flag goes into the sum, or passes it on
 abbrev pub IsCarried : Flag → Type 0
 IsCarried AddSource = Unit {0}
 IsCarried SubSource = Unit {0}

@@ -1,4 +1,4 @@
--- The trees of a condition, from its sum, its left operand and its right one.
+-- The trees of a condition, from its sum, its left operand and its right one: docs/DEFINITIONS.md, "Trees of a group".
 use Rattle.std.specs.Prelude.{◌≡◌, ℕ, suc, if◌then◌else◌, Option, None, Some, List, [], ◌∷◌, ◌++◌, length, slice_index, slice_index_or, IsTrue, ◌⊎◌}
 use Rattle.ra_operand.specs.Operators.{is_arithmetic, is_bare}
 use Rattle.ra_condition.specs.declared.condition.Condition.{Condition}
@@ -16,12 +16,12 @@ use Rattle.ra_chain.specs.Planting.{SpellsOrZero, SpellsSum, IsCarried}
 abbrev pub JoinsValues : Condition → Type 0
 JoinsValues c = IsTrue (hands_on c.flag) → IsTrue (is_bare c.op) ⊎ IsTrue (is_arithmetic c.op)
 
--- the left and the right tree
+-- the left tree of a condition, by its sum and its operands; the value itself where it hands one on
 abbrev pub left_side : Condition → Option Tree → (left right : Tree) → Tree
 left_side c sum left right =
     if hands_on c.flag then handed_on c.flag sum (joined c.op left right) else added sum left
 
--- the right side of a comparison: the value itself where the condition hands it on
+-- the right tree of a condition, by its operands; the value itself where it hands one on
 abbrev pub right_side : Condition → Option Tree → (left right : Tree) → Tree
 right_side c sum left right = if hands_on c.flag then handed_on c.flag sum (joined c.op left right) else right
 
@@ -41,7 +41,7 @@ pub record PlantsSides (base new : List Node) (left right : Tree) (first second 
   pub left_too : Spells new first left
   pub right_too : Spells new second right
 
--- there is an entry for each condition
+-- what passed has an entry for each condition
 pub record IsSized (passed : Passed) (count : ℕ) : Type 0 where
   pub lefts_too : length passed.lefts.items ≡ count
   pub rights_too : length passed.rights.items ≡ count

@@ -1,4 +1,4 @@
--- The sum of legacy terms, as far as it goes.
+-- The sum of legacy terms, as far as it goes: docs/DEFINITIONS.md, "Trees of a group".
 use Rattle.std.specs.Prelude.{ℕ, Option, None, Some, List, [], ◌∷◌}
 use Rattle.ra_condition.specs.declared.part.Term.{Term}
 use Rattle.ra_indirect.specs.declared.node.Node.{Node}

@@ -1,4 +1,4 @@
--- A pool that grows by trees: what it did not have goes last, in order of first occurrence.
+-- A pool that grows by trees, in which what it did not have goes last: docs/DEFINITIONS.md, "Order of first occurrence".
 use Rattle.std.specs.Prelude.{◌≡◌, ℕ, ◌+◌, ◌<◌, ◌≤◌, Bool, true, false, if◌then◌else◌, List, [], ◌∷◌, ◌++◌, length, filter}
 use Rattle.std.specs.List.{list_any, flat_map}
 use Rattle.ra_indirect.specs.declared.node.Node.{Node}
@@ -7,7 +7,7 @@ use Rattle.ra_indirect.specs.Trees.{Tree, same_cell, same_tracked, cells_in, tra
 use Rattle.ra_indirect.specs.Pools.{spelled_at, spelled_with, spelled_by, cell_in, tracked_at, cells_of, tracked_of}
 use Rattle.ra_indirect.specs.Interned.{IsPool}
 
--- a list that grows by others: each that it does not have yet goes last
+-- a list grown by others: each that it does not have yet goes last
 abbrev pub grown : {A : Type 0} → (A → A → Bool) → List A → List A → List A
 grown same old [] = old
 grown same old (x ∷ xs) = grown same (if list_any (λ y. same y x) old then old else old ++ x ∷ []) xs
@@ -24,7 +24,7 @@ pub record GrowsBy (old new : List Node) (trees : List Tree) : Type 0 where
   pub cells : cells_of new ≡ grown same_cell (cells_of old) (flat_map cells_in trees)
   pub tracked : tracked_of new ≡ grown same_tracked (tracked_of old) (flat_map tracked_in trees)
 
--- what a pool gains by a node
+-- the pool grew by what a node names first, and the node at the place spells what this one does
 pub record GainsNode (old new : List Node) (node : Node) (place : ℕ) : Type 0 where
   pub front : IsFront old new
   pub within : place < length new

@@ -1,4 +1,4 @@
--- What a pool is, and what it does with a node.
+-- What a pool is, and what it does with a node: docs/DEFINITIONS.md, "Trees, cells and tracked masks".
 use Rattle.std.specs.Prelude.{◌≡◌, ◌≢◌, ◌⊎◌, ℕ, ◌<◌, List, [], ◌∷◌, ◌++◌, length, take, slice_get, Some, Contains}
 use Rattle.ra_indirect.specs.declared.node.Node.{Node}
 use Rattle.ra_indirect.specs.Pools.{MayFollow, node_at, spelled_at, spelled_by}
@@ -8,7 +8,7 @@ pub record IsPool (nodes : List Node) : Type 0 where
   pub named : (k : ℕ) → k < length nodes → MayFollow (take k nodes) (node_at nodes k)
   pub once : (i k : ℕ) → i < k → k < length nodes → node_at nodes i ≢ node_at nodes k
 
--- the item stood at the place
+-- the item stands at the place, and nothing is new
 pub record IsFound {A : Type 0} (old new : List A) (item : A) (place : ℕ) : Type 0 where
   pub stands : slice_get old place ≡ Some item
   pub same : new ≡ old

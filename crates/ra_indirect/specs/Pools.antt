@@ -1,4 +1,4 @@
--- A pool of nodes, and the tree or the cell that each node spells.
+-- A pool of nodes, and the tree or the cell that each node spells: docs/DEFINITIONS.md, "Trees, cells and tracked masks".
 use Rattle.std.specs.Prelude.{◌≡◌, ℕ, ◌<◌, ◌⊎◌, IsTrue, List, [], ◌∷◌, ◌++◌, length, slice_get, slice_index_or, Some}
 use Rattle.std.specs.List.{flat_map}
 use Rattle.ra_operand.specs.declared.size.Size.{Size}
@@ -9,7 +9,7 @@ use Rattle.ra_indirect.specs.declared.node.Node.{Node}
 use Rattle.ra_indirect.specs.declared.node.Node.TheVariants.{Const, Cell as CellNode, View, Arith}
 use Rattle.ra_indirect.specs.Trees.{Tree, constant, join, view, Cell, cell_of, Tracked, same_tracked, tracked_by, firsts}
 
--- a node spells a tree or a cell
+-- what a node spells: a tree, or a cell
 pub data Spelled : Type 0 where
   IsTree : Tree → Spelled
   IsCell : Cell → Spelled
@@ -19,7 +19,7 @@ abbrev pub tree_in : Spelled → Tree
 tree_in (IsTree tree) = tree
 tree_in (IsCell c) = constant 0
 
--- a view of the cell that a node spells
+-- a view of the cell that a node spells, the constant 0 where it spells none
 abbrev pub view_in : Kind → Size → Spelled → Tree
 view_in kind size (IsCell c) = view kind size c.pointer c.address
 view_in kind size (IsTree tree) = constant 0
@@ -50,12 +50,12 @@ spelled_by nodes = spelled_from [] nodes
 abbrev pub Spells : List Node → ℕ → Tree → Type 0
 Spells nodes n tree = slice_get (spelled_by nodes) n ≡ Some (IsTree tree)
 
--- a node is a cell of this width, or no cell, so that it has a value
+-- the node is a cell of this width
 abbrev pub IsCellOf : ℕ → Node → Type 0
 IsCellOf width (CellNode pointer offset w) = w ≡ width
 IsCellOf width node = ⊥
 
--- a node has a number unless it is a cell, which its views read
+-- the node has a value: it is no cell
 abbrev pub IsValued : Node → Type 0
 IsValued (CellNode pointer offset w) = ⊥
 IsValued node = Unit {0}
@@ -68,14 +68,14 @@ node_at nodes n = slice_index_or nodes n (Const 0)
 abbrev pub IsWidth : ℕ → Type 0
 IsWidth width = (width ≡ 1) ⊎ ((width ≡ 2) ⊎ (width ≡ 4))
 
--- what a node may name, after these nodes
+-- the node may stand behind these: it names earlier nodes alone, and such as it needs
 abbrev pub MayFollow : List Node → Node → Type 0
 MayFollow nodes (Const n) = Unit {0}
 MayFollow nodes (CellNode pointer offset width) = (pointer < length nodes) × IsValued (node_at nodes pointer) × IsWidth width
 MayFollow nodes (View kind size c) = (c < length nodes) × IsCellOf (width_of size) (node_at nodes c)
 MayFollow nodes (Arith op left right) = (left < length nodes) × IsValued (node_at nodes left) × (right < length nodes) × IsValued (node_at nodes right) × IsTrue (is_arithmetic op)
 
--- the cells of a pool in order, and its tracked masks in order of first occurrence
+-- the cell that a node spells, if it spells one
 abbrev pub cell_in : Spelled → List Cell
 cell_in (IsCell c) = c ∷ []
 cell_in (IsTree tree) = []
@@ -84,11 +84,11 @@ cell_in (IsTree tree) = []
 abbrev pub cells_of : List Node → List Cell
 cells_of nodes = flat_map cell_in (spelled_by nodes)
 
--- the mask that a node keeps a prior of, if it is such a view
+-- the tracked mask that a node looks at, if it is a prior view
 abbrev pub tracked_at : Spelled → List Tracked
 tracked_at (IsTree (view kind size pointer address)) = tracked_by kind size (cell_of size pointer address)
 tracked_at _ = []
 
--- the masks with a prior in a pool, each once, in the order of the nodes
+-- the tracked masks of a pool, each once, in the order of the nodes
 abbrev pub tracked_of : List Node → List Tracked
 tracked_of nodes = firsts same_tracked (flat_map tracked_at (spelled_by nodes))

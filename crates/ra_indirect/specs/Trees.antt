@@ -1,4 +1,4 @@
--- Trees: what an operand means, with the cells that it looks at.
+-- Trees, and the cells and tracked masks in them: docs/DEFINITIONS.md, "Trees, cells and tracked masks" and "Order of first occurrence".
 use Rattle.std.specs.Prelude.{ℕ, ◌==◌, ◌&&◌, Bool, false, not, List, [], ◌∷◌, ◌++◌, filter}
 use Rattle.ra_operand.specs.declared.size.Size.{Size}
 use Rattle.ra_operand.specs.declared.kind.Kind.{Kind}
@@ -28,18 +28,18 @@ pub record Tracked : Type 0 where
   pub cell : Cell
   pub mask : ℕ
 
--- two trees are one where all their parts are
+-- the two trees are one: all their parts are
 abbrev pub same_tree : Tree → Tree → Bool
 same_tree (constant m) (constant n) = m == n
 same_tree (join o x y) (join p u v) = same_op o p && (same_tree x u && same_tree y v)
 same_tree (view k s p a) (view l t q b) = same_kind k l && (same_size s t && (a == b && same_tree p q))
 same_tree _ _ = false
 
--- two cells are one where pointers, addresses and widths are equal
+-- the two cells are one: pointers, addresses and widths are equal
 abbrev pub same_cell : Cell → Cell → Bool
 same_cell c d = c.address == d.address && (c.width == d.width && same_tree c.pointer d.pointer)
 
--- two tracked masks are one where cell and mask are equal
+-- the two tracked masks are one: cells and masks are equal
 abbrev pub same_tracked : Tracked → Tracked → Bool
 same_tracked s t = s.mask == t.mask && same_cell s.cell t.cell
 
@@ -49,7 +49,7 @@ cells_in (constant n) = []
 cells_in (join op left right) = cells_in left ++ cells_in right
 cells_in (view kind size pointer address) = cells_in pointer ++ cell_of size pointer address ∷ []
 
--- a prior view tracks the mask of its size, and no other view tracks one
+-- the mask that a view tracks: that of its size for a prior view, none for others
 abbrev pub tracked_by : Kind → Size → Cell → List Tracked
 tracked_by Prior size c = record { cell = c; mask = mask_of size } ∷ []
 tracked_by _ size c = []

@@ -1,9 +1,8 @@
--- Images, and the history of a run. An image is a list of bytes.
+-- Images, and the history of a run: docs/DEFINITIONS.md, "Images and histories". An image is a list of bytes.
 use Rattle.std.specs.Prelude.{◌≡◌, ◌⊎◌, ℕ, zero, suc, ◌+◌, ◌*◌, ◌<◌, List, ◌++◌, length, take, drop, slice_index}
 use Rattle.std.specs.List.{AllByRecursion}
 
--- the images of the frames that lie behind, the newest first, so that `image ∷ history` is the history
--- with one image more and `later ++ earlier` is a history that went on
+-- the images of the frames that lie behind, the newest first: `image ∷ history` has one image more, and `later ++ earlier` went on
 abbrev pub History : Type 0
 History = List (List ℕ)
 
@@ -12,7 +11,7 @@ abbrev pub raw : ℕ → List ℕ → ℕ → ℕ
 raw zero image at = 0
 raw (suc width) image at = slice_index image at + 256 * raw width image (suc at)
 
--- how many bytes are read at a time
+-- a read takes so many bytes: 1, 2 or 4
 abbrev pub IsReadWidth : ℕ → Type 0
 IsReadWidth width = (width ≡ 1) ⊎ ((width ≡ 2) ⊎ (width ≡ 4))
 
@@ -24,6 +23,6 @@ written image at bytes = take at image ++ (bytes ++ drop (at + length bytes) ima
 abbrev pub AreBytes : List ℕ → Type 0
 AreBytes bytes = AllByRecursion (λ b. b < 256) bytes
 
--- a history is of images alone
+-- each image of the history is of bytes
 abbrev pub AreImages : History → Type 0
 AreImages history = AllByRecursion AreBytes history
