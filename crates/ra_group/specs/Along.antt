@@ -1,4 +1,4 @@
--- Groups side by side: lists that run over the conditions of several groups.
+-- Groups side by side, with lists that run over the conditions of all: docs/DEFINITIONS.md, "Triggers over frames" and "Values over frames".
 use Rattle.std.specs.Prelude.{ℕ, ◌+◌, Bool, List, ◌++◌, length, take, drop}
 use Rattle.ra_condition.specs.declared.condition.Condition.{Condition}
 use Rattle.ra_group.specs.Equations.{Frame, frame_of}

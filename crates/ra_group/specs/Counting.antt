@@ -1,4 +1,4 @@
--- Groups whose measured numbers come from hits.
+-- Groups whose measured numbers come from hits: docs/DEFINITIONS.md, "Group outcome".
 use Rattle.std.specs.Prelude.{Bool, ◌&&◌, List}
 use Rattle.std.specs.List.{list_any}
 use Rattle.ra_condition.specs.declared.condition.Condition.{Condition}

@@ -1,4 +1,4 @@
--- The equations read condition by condition, with the condition before found by the text alone.
+-- The equations read condition by condition, with the condition before found by the text alone: docs/DEFINITIONS.md, "Equations of a condition".
 use Rattle.std.specs.Prelude.{◌≡◌, ℕ, ◌<◌, ◌≤◌, Bool, true, false, ◌==◌, List, slice_index, slice_index_or, pos, ◌+ℤ◌}
 use Rattle.ra_condition.specs.declared.condition.Condition.{Condition}
 use Rattle.ra_condition.specs.Flags.{combines, hands_on}
@@ -42,7 +42,7 @@ pub record HasEquationsAfter (f : Frame) (j i : ℕ) : Type 0 where
   pub reset : (settled_at f j).reset ≡ reset_after (flag_at f.conditions i) (settled_at f i).valid (settled_at f i).reset
   pub add : (settled_at f j).add ≡ add_after (flag_at f.conditions i) (settled_at f i).add (settled_at f i).hit
 
--- the same where there is none
+-- the equations that look at the condition before, where there is none
 pub record HasEquationsFirst (f : Frame) (j : ℕ) : Type 0 where
   pub met : met_at f j ≡ truth_at f j
   pub reset : (settled_at f j).reset ≡ false

@@ -1,4 +1,4 @@
--- What a group says at a frame, and the hits after it.
+-- What a group says at a frame, and the hits after it: docs/DEFINITIONS.md, "Group outcome".
 use Rattle.std.specs.Prelude.{ℕ, max, min, Bool, true, false, if◌then◌else◌, not, ◌&&◌, ◌||◌, ◌==◌, Option, None, Some, List, [], ◌∷◌, slice_index, map}
 use Rattle.std.specs.List.{list_any, list_all}
 use Rattle.ra_operand.specs.Operators.{is_bare}
@@ -12,20 +12,20 @@ use Rattle.ra_group.specs.declared.form.Form.{Form}
 use Rattle.ra_group.specs.declared.form.Form.TheVariants.{InTrigger, InValue}
 use Rattle.ra_group.specs.declared.outcome.Outcome.{Outcome}
 
--- some condition of the class is valid, of those at the places
+-- of the conditions at the places some one of the class is valid
 abbrev pub some_valid : (Flag → Bool) → Frame → List ℕ → Bool
 some_valid class f js = list_any (λ j. class (condition_at f.conditions j).flag && (settled_at f j).valid) js
 
--- all conditions of the class are valid, of those at the places
+-- of the conditions at the places all of the class are valid
 abbrev pub all_valid : (Flag → Bool) → Frame → List ℕ → Bool
 all_valid class f js = list_all (λ j. not (class (condition_at f.conditions j).flag) || (settled_at f j).valid) js
 
--- whether a measured condition takes its number from `total`
+-- whether a measured condition takes its number from its total
 abbrev pub from_total : Form → Condition → Bool
 from_total InTrigger c = not (c.target == 0)
 from_total InValue c = not (is_bare c.op)
 
--- the number of a measured condition
+-- the number of a measured condition, by its total and its left value
 abbrev pub number_of : Form → Condition → ℕ → ℕ → ℕ
 number_of form c total left =
     if from_total form c then (if c.target == 0 then total else min total c.target) else left
@@ -41,7 +41,7 @@ abbrev pub offer : Form → Frame → ℕ → Option ℕ
 offer form f j =
     if is_measured (condition_at f.conditions j).flag then Some (number_of form (condition_at f.conditions j) (settled_at f j).total (slice_index f.lefts j)) else None
 
--- the greatest of the numbers at the places
+-- the greatest of the numbers that the conditions at the places offer, if one does
 abbrev pub greatest : Form → Frame → List ℕ → Option ℕ
 greatest form f [] = None
 greatest form f (j ∷ js) = larger (offer form f j) (greatest form f js)

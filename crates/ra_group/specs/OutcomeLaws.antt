@@ -1,4 +1,4 @@
--- The outcome of a group in the words of its conditions.
+-- The outcome of a group in the words of its conditions: docs/DEFINITIONS.md, "Group outcome".
 use Rattle.std.specs.Prelude.{◌≡◌, ℕ, ◌<◌, ◌≤◌, Bool, true, false, length, slice_index}
 use Rattle.ra_condition.specs.declared.flag.Flag.{Flag}
 use Rattle.ra_condition.specs.Flags.{is_measured}
@@ -22,7 +22,7 @@ pub record EachValid (class : Flag → Bool) (f : Frame) : Type 0 where
 pub record NoneMeasured (f : Frame) : Type 0 where
   pub at : (j : ℕ) → j < length f.conditions → is_measured (flag_at f.conditions j) ≡ false
 
--- the number of the condition at the place
+-- the number of the measured condition at the place
 abbrev pub number_at : Form → Frame → ℕ → ℕ
 number_at form f j = number_of form (condition_at f.conditions j) (settled_at f j).total (slice_index f.lefts j)
 

@@ -1,4 +1,4 @@
--- What the conditions visited so far say together, and the outcome that it comes to.
+-- What the conditions visited so far say together, and the outcome that it comes to: the step between the code and docs/DEFINITIONS.md, "Group outcome".
 use Rattle.std.specs.Prelude.{ℕ, true, false, if◌then◌else◌, not, ◌&&◌, ◌||◌, Option, None, Some}
 use Rattle.ra_condition.specs.declared.condition.Condition.{Condition}
 use Rattle.ra_condition.specs.Flags.{is_pause, is_reset, is_measured, is_measured_if, is_wanted, is_required}
@@ -8,7 +8,7 @@ use Rattle.ra_group.specs.declared.settled.Settled.{Settled}
 use Rattle.ra_group.specs.declared.tally.Tally.{Tally}
 use Rattle.ra_group.specs.Outcome.{from_total, number_of, larger, option_if}
 
--- nothing is noted yet
+-- what is noted before the first condition
 abbrev pub no_tally : Tally
 no_tally = record { paused = false; reset = false; valid = true; primed = true; counting = true; greatest = None; from_hits = false }
 
@@ -16,7 +16,7 @@ no_tally = record { paused = false; reset = false; valid = true; primed = true; 
 abbrev pub offered : Form → Condition → Settled → ℕ → Option ℕ
 offered form c here left = if is_measured c.flag then Some (number_of form c here.total left) else None
 
--- one condition more
+-- what is noted with one condition more
 abbrev pub noted : Form → Condition → Settled → ℕ → Tally → Tally
 noted form c here left tally = record {
   paused = tally.paused || (is_pause c.flag && here.valid);
@@ -28,7 +28,7 @@ noted form c here left tally = record {
   from_hits = tally.from_hits || (is_measured c.flag && from_total form c);
 }
 
--- the outcome of a group whose conditions are all noted
+-- the outcome of a group of which each condition is noted
 abbrev pub outcome_by : Tally → Outcome
 outcome_by tally = record {
   paused = tally.paused;

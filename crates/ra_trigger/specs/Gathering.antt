@@ -1,4 +1,4 @@
--- What the core and the alts so far say together, and the verdict that it comes to.
+-- What the core and the alts so far say together, and the verdict that it comes to: the step between the code and docs/DEFINITIONS.md, "Triggers over frames".
 use Rattle.std.specs.Prelude.{Bool, true, false, not, ◌&&◌, ◌||◌, List, [], ◌∷◌}
 use Rattle.std.specs.List.{list_any, list_all}
 use Rattle.ra_group.specs.declared.outcome.Outcome.{Outcome}
@@ -12,7 +12,7 @@ abbrev pub are_there : List Outcome → Bool
 are_there [] = false
 are_there (alt ∷ alts) = true
 
--- the core and these alts
+-- what the core and these alts say together, some condition a Trigger or not
 abbrev pub gathered_of : Outcome → List Outcome → Bool → Gathered
 gathered_of core alts triggers = record {
   core = core;
@@ -26,7 +26,7 @@ gathered_of core alts triggers = record {
   all_paused = list_all (λ o. o.paused) alts;
 }
 
--- one alt more
+-- what is gathered with one alt more
 abbrev pub added : Outcome → Bool → Gathered → Gathered
 added alt triggers g = record {
   core = g.core;
@@ -40,7 +40,7 @@ added alt triggers g = record {
   all_paused = g.all_paused && alt.paused;
 }
 
--- what all groups say together
+-- the verdict that what is gathered comes to
 abbrev pub verdict_by : Gathered → Verdict
 verdict_by g = record {
   reset = g.reset;
@@ -51,6 +51,6 @@ verdict_by g = record {
   measured = g.measured;
 }
 
--- the same of the definition
+-- the verdict of what the groups say together, without their hits
 abbrev pub verdict_of : Together → Verdict
 verdict_of now = record { reset = now.reset; valid = now.valid; paused = now.paused; primed = now.primed; from_hits = now.from_hits; measured = now.measured }

@@ -1,4 +1,4 @@
--- What a frame does to an achievement, in the words of its states.
+-- What a frame does to an achievement, in the words of its states: docs/DEFINITIONS.md, "Achievement states".
 use Rattle.std.specs.Prelude.{◌≡◌, ℕ, Bool, true, if◌then◌else◌, List, replicate}
 use Rattle.ra_condition.specs.Contents.{TriggerContents, trigger_hits}
 use Rattle.ra_trigger.specs.declared.state.State.{State}
@@ -10,11 +10,11 @@ pub record IsFrame (t : TriggerContents) (truths : List Bool) (lefts : List ℕ)
   pub says : now ≡ together t truths lefts old.hits
   pub leaves : new ≡ step t truths lefts old
 
--- all hits of all groups are 0, and a number that comes from hits too
+-- all hits of all groups are 0, and so is a measured number that comes from hits
 pub record AreCleared (t : TriggerContents) (now : Together) (new : TriggerKept) : Type 0 where
   pub hits : new.hits ≡ replicate (trigger_hits t) 0
   pub measured : now.from_hits ≡ true → new.measured ≡ 0
 
--- after a reset the achievement is active or paused
+-- the state after a reset: paused where the trigger is paused, else active
 abbrev pub state_after_reset : Together → State
 state_after_reset now = if now.paused then Paused else Active

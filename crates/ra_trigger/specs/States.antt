@@ -1,4 +1,4 @@
--- The states of an achievement.
+-- The states of an achievement: docs/DEFINITIONS.md, "Achievement states".
 use Rattle.std.specs.Prelude.{ℕ, Bool, true, false, ◌&&◌, ◌||◌, ◌==◌, if◌then◌else◌}
 use Rattle.ra_trigger.specs.declared.state.State.{State}
 use Rattle.ra_trigger.specs.declared.state.State.TheVariants.{Waiting, Active, Paused, Primed, Triggered}
@@ -31,7 +31,7 @@ abbrev pub is_triggered : State → Bool
 is_triggered Triggered = true
 is_triggered _ = false
 
--- the state after a frame, by the first of these that fits
+-- the state after a frame: that of the first row that fits
 abbrev pub state_after : State → (reset valid paused primed : Bool) → State
 state_after old reset valid paused primed =
     if is_triggered old then Triggered
@@ -41,6 +41,6 @@ state_after old reset valid paused primed =
     else if primed then Primed
     else Active
 
--- the frame clears the hits: a reset, or a valid trigger that still waits
+-- the frame clears the hits: the trigger resets, or is valid while it waits
 abbrev pub is_cleared : State → (reset valid : Bool) → Bool
 is_cleared old reset valid = reset || (is_waiting old && valid)

@@ -1,4 +1,4 @@
--- One frame of a trigger: all groups are stepped, and what they say together.
+-- One frame of a trigger, in which all groups are stepped, and what they say together: docs/DEFINITIONS.md, "Triggers over frames".
 use Rattle.std.specs.Prelude.{ℕ, Bool, false, ◌&&◌, ◌||◌, not, if◌then◌else◌, Option, None, unwrap_or, List, [], ◌∷◌, length, map, take, drop, replicate}
 use Rattle.std.specs.List.{list_any, list_all, flat_map}
 use Rattle.ra_condition.specs.declared.condition.Condition.{Condition}
@@ -11,7 +11,7 @@ use Rattle.ra_group.specs.Outcome.{outcome_of, next_hits, larger}
 use Rattle.ra_trigger.specs.declared.state.State.{State}
 use Rattle.ra_trigger.specs.States.{state_after, is_cleared, is_triggered}
 
--- each group's frame, of lists that run over the conditions of all groups
+-- the frame of each group, from lists that run over the conditions of all groups
 abbrev pub frames_along : List (List Condition) → List Bool → (lefts hits : List ℕ) → List Frame
 frames_along [] truths lefts hits = []
 frames_along (cs ∷ groups) truths lefts hits =
@@ -49,7 +49,7 @@ pub record Together : Type 0 where
   pub measured : Option ℕ
   pub hits : List ℕ
 
--- what the groups say together, of their frames
+-- what the groups of a trigger say together, by the comparisons, left values and hits of all their conditions
 abbrev pub together : TriggerContents → List Bool → (lefts hits : List ℕ) → Together
 together t truths lefts hits =
     let frames = frames_along (groups_of t) truths lefts hits in
@@ -65,7 +65,7 @@ together t truths lefts hits =
       hits = flat_map next_hits frames;
     }
 
--- no hits
+-- the hits, each set to 0
 abbrev pub cleared : List ℕ → List ℕ
 cleared hits = replicate (length hits) 0
 
@@ -95,7 +95,7 @@ step t truths lefts old =
 abbrev pub truth : TriggerContents → List Bool → (lefts hits : List ℕ) → Bool
 truth t truths lefts hits = (together t truths lefts hits).valid
 
--- the hits of such a trigger after the frame
+-- the hits of a trigger without states after a frame
 abbrev pub hits_after_truth : TriggerContents → List Bool → (lefts hits : List ℕ) → List ℕ
 hits_after_truth t truths lefts hits =
     let now = together t truths lefts hits in

@@ -1,4 +1,4 @@
--- What a value keeps, as its calls leave it.
+-- What a value keeps, as its calls leave it: docs/DEFINITIONS.md, "Values over frames".
 use Rattle.std.specs.Prelude.{ℕ, Bool, false, if◌then◌else◌, List, length, map, replicate, slice_index, slice_index_or}
 use Rattle.std.specs.List.{flat_map, range_with_len}
 use Rattle.ra_condition.specs.Chains.{pass_order}
@@ -11,7 +11,7 @@ use Rattle.ra_value.specs.Steps.{ValueKept}
 abbrev pub orders_of : List PartContents → List ℕ
 orders_of parts = flat_map (λ part. pass_order (counted_in part)) parts
 
--- nothing is left of hits and numbers
+-- what is kept, with each hit and each number set to 0
 abbrev pub cleared : ValueKept → ValueKept
 cleared old = record { hits = replicate (length old.hits) 0; numbers = replicate (length old.numbers) 0 }
 

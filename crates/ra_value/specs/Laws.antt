@@ -1,4 +1,4 @@
--- What a frame does to a value, in the words of its parts.
+-- What a frame does to a value, in the words of its parts: docs/DEFINITIONS.md, "Values over frames".
 use Rattle.std.specs.Prelude.{◌≡◌, ℕ, ◌<◌, ◌^◌, List, length, slice_index, ℤ}
 use Rattle.std.specs.Int.{w32, cast_signed}
 use Rattle.std.specs.Int.Signed.{◌≤ℤ◌}

@@ -1,4 +1,4 @@
--- One frame of a value: each part gives a number, and the greatest counts.
+-- One frame of a value, in which each part gives a number and the greatest counts: docs/DEFINITIONS.md, "Values over frames".
 use Rattle.std.specs.Prelude.{ℕ, ◌+◌, ◌%◌, ◌^◌, Bool, false, ◌&&◌, if◌then◌else◌, nat_lt, unwrap_or, List, [], ◌∷◌, length, map, take, drop, replicate, slice_index, ℤ}
 use Rattle.std.specs.List.{list_any, flat_map}
 use Rattle.std.specs.Int.{w32, cast_signed}
@@ -12,21 +12,21 @@ pub record ValueKept : Type 0 where
   pub hits : List ℕ
   pub numbers : List ℕ
 
--- what one part gives at a frame
+-- what one part says at a frame: whether it resets, whether it counts from hits, its number and its hits
 pub record PartStep : Type 0 where
   pub reset : Bool
   pub from_hits : Bool
   pub number : ℕ
   pub hits : List ℕ
 
--- a legacy part gives the sum of its terms; another the measured number of its group, or the old one where there is none
+-- a part at a frame: a legacy one gives its sum, another the number that its group measures, or else the old one
 abbrev pub part_step : PartContents → Frame → (sum old : ℕ) → PartStep
 part_step (Legacy terms) f sum old = record { reset = false; from_hits = false; number = sum; hits = [] }
 part_step (Grouped cs) f sum old =
     let o = outcome_of InValue f in
     record { reset = o.reset; from_hits = o.from_hits; number = unwrap_or o.measured old; hits = next_hits f }
 
--- the parts one by one, of lists that run over the conditions of all parts; a sum and a kept number per part
+-- each part at a frame, from lists that run over the conditions of all parts, with a sum and a kept number for each
 abbrev pub part_steps : List PartContents → List Bool → (lefts hits sums numbers : List ℕ) → List PartStep
 part_steps [] truths lefts hits sums numbers = []
 part_steps (part ∷ parts) truths lefts hits sums numbers =
@@ -49,7 +49,7 @@ step parts truths lefts sums old =
       numbers = map (number_after reset) steps;
     }
 
--- nothing is kept yet
+-- what the plain opening keeps of a value: 0 everywhere
 abbrev pub no_value : List PartContents → ValueKept
 no_value parts = record { hits = replicate (value_hits parts) 0; numbers = replicate (length parts) 0 }
 
@@ -61,16 +61,16 @@ signed_place n = (n + 2 ^ 31) % 2 ^ 32
 abbrev pub signed_max : ℕ → ℕ → ℕ
 signed_max m n = if nat_lt (signed_place m) (signed_place n) then n else m
 
--- the greatest of a number and others
+-- the greatest of a number and others, compared as signed numbers
 abbrev pub greatest_from : ℕ → List ℕ → ℕ
 greatest_from best [] = best
 greatest_from best (n ∷ ns) = greatest_from (signed_max best n) ns
 
--- the greatest of the numbers, and 0 of none
+-- the greatest of the numbers, compared as signed ones, and 0 of none
 abbrev pub greatest : List ℕ → ℕ
 greatest [] = 0
 greatest (n ∷ ns) = greatest_from n ns
 
--- the same as a signed number
+-- the greatest of the numbers, as a signed number
 abbrev pub signed_greatest : List ℕ → ℤ
 signed_greatest numbers = cast_signed w32 (greatest numbers)
