@@ -1,4 +1,4 @@
--- What a board contains.
+-- What a board contains: docs/DEFINITIONS.md, "Boards".
 use Rattle.std.specs.Prelude.{Option, option_map, List}
 use Rattle.ra_condition.specs.Contents.{TriggerContents, trigger_contents, PartContents, value_contents}
 use Rattle.ra_leaderboard.specs.declared.board_text.BoardText.{BoardText}

@@ -1,4 +1,4 @@
--- The fields of a board.
+-- The fields of a board: docs/DEFINITIONS.md, "Boards".
 use Rattle.std.specs.Prelude.{List, Option, Some, None}
 use Rattle.ra_condition.specs.Contents.{TriggerContents, PartContents, trigger_contents, value_contents}
 use Rattle.ra_leaderboard.specs.declared.field.Field.{Field}

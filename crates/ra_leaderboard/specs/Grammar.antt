@@ -12,7 +12,7 @@ use Rattle.ra_text.specs.Chain.{Chain}
 use Rattle.ra_text.specs.Form.{Form, Spell, One, ◌>>=◌}
 use Rattle.ra_text.specs.Table.{only, only_letters}
 
--- these letters, given in upper case, each in either case
+-- these letters, each in either case
 abbrev pub in_either_case : List ℕ → Form ℕ (Unit {0})
 in_either_case [] = Spell tt
 in_either_case (upper ∷ others) = do
@@ -51,12 +51,12 @@ fields = do
   others ← Chain {S = Unit {0}} (λ s. only (codes ":")) (λ s colon. next_field) (λ s f. s) (λ s. true) tt
   Spell (first ∷ others)
 
--- the one item, or none
+-- a list of the one item, or of none
 abbrev pub at_most_one : {V : Type 0} → Option V → List V
 at_most_one (Some v) = v ∷ []
 at_most_one None = []
 
--- Nothing more: the fields are those of the board in some order, STA, CAN, SUB and VAL exactly once each, PRO at most once.
+-- the text ends, and the fields are those of the board in some order, the first four tags once each and PRO at most once
 pub record Arranged (in_order : List FieldContents) (text : List ℕ) (b : BoardContents) : Type 0 where
   pub empty : text ≡ []
   pub start : filter_map start_in in_order ≡ b.start ∷ []
@@ -65,7 +65,7 @@ pub record Arranged (in_order : List FieldContents) (text : List ℕ) (b : Board
   pub value : filter_map value_in in_order ≡ b.value ∷ []
   pub progress : filter_map progress_in in_order ≡ at_most_one b.progress
 
--- the fields in any order
+-- field { "::" field }, the tags in any order
 abbrev pub board : Form ℕ BoardContents
 board = do
   in_order ← fields

@@ -1,4 +1,4 @@
--- Reading boards from left to right: the step between the code and the grammar. No public clause of a parser cites it.
+-- Reading boards from left to right: the step between the code and docs/DEFINITIONS.md, "Boards".
 use Rattle.std.specs.Prelude.{ℕ, Bool, ◌&&◌, ◌==◌, if◌then◌else◌, List, [], ◌∷◌, length, Option, Some, None, is_some, is_none, unwrap_or, Ok, codes}
 use Rattle.ra_condition.specs.Contents.{TriggerContents, PartContents}
 use Rattle.ra_condition.specs.Reading.{trigger_at}
@@ -48,11 +48,11 @@ pub record HeldSoFar : Type 0 where
   pub value : Option (List PartContents)
   pub progress : Option (List PartContents)
 
--- before the first field
+-- what is held before the first field
 abbrev pub none_held : HeldSoFar
 none_held = record { start = None; cancel = None; submit = None; value = None; progress = None }
 
--- one field more
+-- what is held with one field more
 abbrev pub with_field : HeldSoFar → FieldContents → HeldSoFar
 with_field h (OfStart t) = record h { start = Some t }
 with_field h (OfCancel t) = record h { cancel = Some t }
@@ -64,7 +64,7 @@ with_field h (OfProgress v) = record h { progress = Some v }
 abbrev pub free_tags : HeldSoFar → List Tag
 free_tags h = chosen_tags (is_none h.start) (is_none h.cancel) (is_none h.submit) (is_none h.value) (is_none h.progress)
 
--- a colon goes on where a tag is free
+-- the tags that may follow a colon, where some are free
 abbrev pub separator : HeldSoFar → ℕ → Option SomeTags
 separator h byte = if byte == 58 then some_tags (free_tags h) else None
 
@@ -86,12 +86,12 @@ board_of h = record {
   progress = h.progress;
 }
 
--- what the fields hold with these behind them
+-- what is held with these fields more
 abbrev pub with_fields : HeldSoFar → List FieldContents → HeldSoFar
 with_fields h [] = h
 with_fields h (f ∷ fs) = with_fields (with_field h f) fs
 
--- the fields behind those so far
+-- the fields that stand behind those so far
 abbrev pub others_at : HeldSoFar → List ℕ → Outcome ℕ (List FieldContents)
 others_at h text = chain_at separator (λ h tags. next_field_at tags) with_field is_whole (length text) h text
 

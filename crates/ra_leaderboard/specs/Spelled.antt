@@ -3,7 +3,7 @@ use Rattle.std.specs.Prelude.{IfSome}
 use Rattle.ra_condition.specs.Spelled.{IsTrigger, IsValue}
 use Rattle.ra_leaderboard.specs.Contents.{BoardContents}
 
--- three triggers, a value, and a progress where there is one
+-- some text spells the board: its three triggers, its value, and its progress where it has one
 pub record IsBoard (b : BoardContents) : Type 0 where
   pub start : IsTrigger b.start
   pub cancel : IsTrigger b.cancel

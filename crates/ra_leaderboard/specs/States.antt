@@ -1,4 +1,4 @@
--- The states of a leaderboard.
+-- The states of a leaderboard: docs/DEFINITIONS.md, "Leaderboard states".
 use Rattle.std.specs.Prelude.{ℕ, Bool, true, false, ◌&&◌, not, ◌==◌, if◌then◌else◌}
 use Rattle.ra_leaderboard.specs.declared.state.BoardState.{BoardState}
 use Rattle.ra_leaderboard.specs.declared.state.BoardState.TheVariants.{Waiting, Active, Started, Cancelled, Submitted}
@@ -26,7 +26,7 @@ state_after Started start cancel submit =
 state_after Cancelled start cancel submit = if start then Cancelled else Active
 state_after Submitted start cancel submit = if start then Submitted else Active
 
--- the state is one in which the values are stepped
+-- the values are stepped in this state
 abbrev pub is_running : BoardState → Bool
 is_running Started = true
 is_running Submitted = true

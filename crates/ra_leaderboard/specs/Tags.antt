@@ -1,4 +1,4 @@
--- The tags of a board, and some of them.
+-- The tags of a board, and some of them: docs/DEFINITIONS.md, "Boards".
 use Rattle.std.specs.Prelude.{ℕ, Bool, true, false, List, [], ◌∷◌, filter, Option, Some, None, slice_index, codes}
 use Rattle.ra_leaderboard.specs.declared.tag.Tag.{Tag}
 use Rattle.ra_leaderboard.specs.declared.tag.Tag.TheVariants.{Start, Cancel, Submit, Value, Progress}
@@ -12,7 +12,7 @@ word_of Submit = codes "SUB"
 word_of Value = codes "VAL"
 word_of Progress = codes "PRO"
 
--- a first tag, and the others
+-- one tag or more: the first, and the others
 abbrev pub SomeTags : Type 0
 SomeTags = Tag × List Tag
 
@@ -25,17 +25,17 @@ abbrev pub some_tags : List Tag → Option SomeTags
 some_tags [] = None
 some_tags (t ∷ ts) = Some (t, ts)
 
--- these tags, of which there are some
+-- one tag or more, of a list that is not empty
 abbrev pub tags_of : List Tag → SomeTags
 tags_of [] = (Start, [])
 tags_of (t ∷ ts) = (t, ts)
 
--- the tag before others, where it is one of them
+-- the tags with this one before them, where it is chosen
 abbrev pub chosen : Bool → Tag → List Tag → List Tag
 chosen true t others = t ∷ others
 chosen false t others = others
 
--- the tags of which these are told
+-- the tags that are chosen, in their order
 abbrev pub chosen_tags : (start cancel submit value progress : Bool) → List Tag
 chosen_tags start cancel submit value progress =
     chosen start Start (chosen cancel Cancel (chosen submit Submit (chosen value Value (chosen progress Progress []))))
