@@ -1,4 +1,4 @@
--- What a presence script contains.
+-- What a presence script contains: docs/DEFINITIONS.md, "Presence scripts".
 use Rattle.std.specs.Prelude.{ℕ, Option, None, Some, option_map, List, map}
 use Rattle.std.specs.List.{filter_map, flat_map}
 use Rattle.ra_condition.specs.Contents.{TriggerContents, trigger_contents, PartContents, value_contents}
@@ -10,7 +10,7 @@ use Rattle.ra_richpresence.specs.declared.lookup.Keys.{Keys}
 use Rattle.ra_richpresence.specs.declared.lookup.Lookup.{Lookup}
 use Rattle.ra_richpresence.specs.declared.script.Script.{Script}
 
--- bytes as they are, or the value of a macro under its name
+-- a piece of a line: bytes as they are, or the value of a macro under its name
 pub data PieceContents : Type 0 where
   Bytes : List ℕ → PieceContents
   Shows : List ℕ → List PartContents → PieceContents
@@ -20,7 +20,7 @@ abbrev pub piece_contents : Piece → PieceContents
 piece_contents (Text text) = Bytes text.items
 piece_contents (Macro name value) = Shows name.items (value_contents value)
 
--- a line with its test; the last line has none
+-- a line of the display with its test, if it has one, and its pieces
 pub record LineContents : Type 0 where
   pub test : Option TriggerContents
   pub pieces : List PieceContents
@@ -32,7 +32,7 @@ line_contents l = record {
   pieces = map piece_contents l.pieces.items;
 }
 
--- ranges of keys from a first to a last, and their text
+-- a line of a lookup: ranges of keys, each from a first to a last, and their text
 pub record KeysContents : Type 0 where
   pub ranges : List (ℕ × ℕ)
   pub text : List ℕ
@@ -74,7 +74,7 @@ abbrev pub value_in : PieceContents → Option (List PartContents)
 value_in (Bytes text) = None
 value_in (Shows name value) = Some value
 
--- the values of a line's macros, and of a script's
+-- the values of a line's macros, in text order
 abbrev pub values_in_line : LineContents → List (List PartContents)
 values_in_line line = filter_map value_in line.pieces
 

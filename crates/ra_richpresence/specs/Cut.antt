@@ -3,7 +3,7 @@ use Rattle.std.specs.Prelude.{ℕ, ◌==◌, ◌&&◌, ◌||◌, Bool, true, fal
 use Rattle.std.specs.List.{list_any, filter}
 use Rattle.ra_text.specs.Reading.{begins}
 
--- a byte before the first line
+-- the lines, with a byte before the first of them
 abbrev pub begun : ℕ → List (List ℕ) → List (List ℕ)
 begun byte [] = (byte ∷ []) ∷ []
 begun byte (line ∷ lines) = (byte ∷ line) ∷ lines
@@ -13,23 +13,23 @@ abbrev pub lines_of : List ℕ → List (List ℕ)
 lines_of [] = []
 lines_of (byte ∷ text) = if byte == 10 then (10 ∷ []) ∷ lines_of text else begun byte (lines_of text)
 
--- these bytes are the end of a line: a line feed, with a carriage return directly before it if there is one
+-- the bytes are the end of a line: a line feed, or a carriage return and a line feed
 abbrev pub is_end : List ℕ → Bool
 is_end [] = false
 is_end (byte ∷ []) = byte == 10
 is_end (byte ∷ next ∷ []) = byte == 13 && next == 10
 is_end (byte ∷ next ∷ third ∷ others) = false
 
--- a line without its end
+-- the content of a line: the line without its end
 abbrev pub content_of : List ℕ → List ℕ
 content_of [] = []
 content_of (byte ∷ line) = if is_end (byte ∷ line) then [] else byte ∷ content_of line
 
--- the lines of a text without their ends
+-- the contents of the lines of a text
 abbrev pub contents_of : List ℕ → List (List ℕ)
 contents_of text = map content_of (lines_of text)
 
--- a comment begins here
+-- a comment begins, with `//`
 abbrev pub begins_comment : List ℕ → Bool
 begins_comment [] = false
 begins_comment (byte ∷ line) = byte == 47 && begins (λ next. next == 47) line
@@ -43,7 +43,7 @@ uncommented (byte ∷ line) = if begins_comment (byte ∷ line) then [] else byt
 abbrev pub is_blank : ℕ → Bool
 is_blank byte = byte == 32 || byte == 9
 
--- nothing is left
+-- no byte is left
 abbrev pub is_nothing : List ℕ → Bool
 is_nothing [] = true
 is_nothing (byte ∷ line) = false

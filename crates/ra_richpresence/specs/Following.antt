@@ -1,4 +1,4 @@
--- How calls follow the reading of lines, unless memory runs out.
+-- How calls follow the reading of lines, unless memory runs out: the step between the code and docs/DEFINITIONS.md, "Presence scripts".
 use Rattle.std.specs.Prelude.{◌≡◌, ℕ, ◌+◌, ◌≤◌, ◌==◌, Bool, true, false, List, [], ◌∷◌, ◌++◌, length, map, Option, Some, None, option_map, Result, Ok, Err}
 use Rattle.ra_condition.specs.declared.fault.Fault.{Fault}
 use Rattle.ra_condition.specs.declared.fault.Fault.TheVariants.{Stop, Memory}
@@ -40,7 +40,7 @@ abbrev pub ends_run : List ℕ → Bool
 ends_run [] = true
 ends_run (byte ∷ rest) = byte == 64
 
--- a text of characters was taken, up to a macro or to the end: what stood there are its bytes before what is left
+-- the text is the characters that stood there up to a macro or to the end, and the new bytes are those behind them
 pub record Run (old text new : List ℕ) : Type 0 where
   pub reads : all_at piece_at (length old) old ≡ option_map (λ pieces. map (λ byte. Bytes (byte ∷ [])) text ++ pieces) (all_at piece_at (length new) new)
   pub ends : ends_run new ≡ true
@@ -53,7 +53,7 @@ TakesRun view (Ok text) old new = Run old (view text) new
 TakesRun view (Err Stop) old new = ⊥
 TakesRun view (Err Memory) old new = Unit {0}
 
--- what a call that adds something leaves, unless memory runs out
+-- the fact holds of what a call that adds something leaves, unless memory runs out
 abbrev pub AddsUnlessFull : Result (Unit {0}) Fault → Type 0 → Type 0
 AddsUnlessFull (Ok done) fact = fact
 AddsUnlessFull (Err Stop) fact = ⊥

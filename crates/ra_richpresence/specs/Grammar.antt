@@ -76,18 +76,18 @@ escape = do
   backslash ← One (only (codes "\\"))
   One any_byte
 
--- a byte other than these and `\`, or an escape
+-- a character: a byte other than these and `\`, or an escape
 abbrev pub character : List ℕ → Form ℕ ℕ
 character others = One (other_than (codes "\\" ++ others)) or escape
 
--- { item }, and a `\` that ends the line and stands for itself, which is this value
+-- { item }, and a `\` that ends the line and stands for itself, as this value
 abbrev pub to_line_end : {V : Type 0} → Form ℕ V → V → Form ℕ (List V)
 to_line_end item backslash = do
   items ← many item
   last ← optional (lookup (bytes_for (codes "\\") (backslash ∷ []))) []
   Spell (items ++ last)
 
--- the text of a lookup
+-- the text of a lookup: characters up to the end of the line
 abbrev pub lookup_text : Form ℕ (List ℕ)
 lookup_text = to_line_end (character []) 92
 
@@ -101,29 +101,29 @@ macro = do
   closing ← One (only (codes ")"))
   Spell (Shows macro_name shown)
 
--- a character that begins no macro
+-- a character that begins no macro, as a piece
 abbrev pub shown_character : Form ℕ PieceContents
 shown_character = do
   byte ← character (codes "@")
   Spell (Bytes (byte ∷ []))
 
--- a text before pieces; with a text that they begin with it is one
+-- pieces with a text before them, joined to a text that they begin with
 abbrev pub text_before : List ℕ → List PieceContents → List PieceContents
 text_before text [] = Bytes text ∷ []
 text_before text (Bytes next ∷ pieces) = Bytes (text ++ next) ∷ pieces
 text_before text (Shows macro_name shown ∷ pieces) = Bytes text ∷ Shows macro_name shown ∷ pieces
 
--- a piece before pieces
+-- pieces with a piece before them
 abbrev pub piece_before : PieceContents → List PieceContents → List PieceContents
 piece_before (Bytes text) pieces = text_before text pieces
 piece_before (Shows macro_name shown) pieces = Shows macro_name shown ∷ pieces
 
--- the pieces, texts side by side joined to one
+-- the pieces, with texts side by side joined to one
 abbrev pub joined_texts : List PieceContents → List PieceContents
 joined_texts [] = []
 joined_texts (piece ∷ pieces) = piece_before piece (joined_texts pieces)
 
--- characters and macros
+-- characters and macros up to the end of the line, texts side by side joined to one
 abbrev pub pieces : Form ℕ (List PieceContents)
 pieces = do
   found ← to_line_end (shown_character or macro) (Bytes (codes "\\"))
@@ -149,7 +149,7 @@ keys = do
   equals ← One (only (codes "="))
   Spell ranges
 
--- keys and a text
+-- keys, "=" and a text
 abbrev pub keyed_entry : Form ℕ EntryContents
 keyed_entry = do
   ranges ← keys
@@ -163,7 +163,7 @@ other_entry = do
   text ← lookup_text
   Spell (Other text)
 
--- a line of a lookup
+-- a line of a lookup: keys with their text, or the text of all other numbers
 abbrev pub entry : Form ℕ EntryContents
 entry = keyed_entry or other_entry
 
@@ -192,7 +192,7 @@ test = do
   closing ← One (only (codes "?"))
   Spell found
 
--- a test, and pieces that may be none
+-- "?" trigger "?" pieces, which may be none
 abbrev pub tested_line : Form ℕ LineContents
 tested_line = do
   found ← test
@@ -228,7 +228,7 @@ abbrev pub keys_in : EntryContents → Option KeysContents
 keys_in (Keyed found) = Some found
 keys_in (Other text) = None
 
--- the text of all other numbers: the first that stands there
+-- the text of all other numbers: that of the first `*` line, if there is one
 abbrev pub first_other : List EntryContents → Option (List ℕ)
 first_other [] = None
 first_other (Keyed found ∷ entries) = first_other entries
@@ -238,14 +238,14 @@ first_other (Other text ∷ entries) = Some text
 abbrev pub lookup_with : List ℕ → List EntryContents → LookupContents
 lookup_with lookup_name entries = record { name = lookup_name; keys = filter_map keys_in entries; rest = first_other entries }
 
--- a lookup lasts as long as its lines go on
+-- a lookup: its name, and the lines that go on with it
 abbrev pub lookup_section : Form (List ℕ) SectionContents
 lookup_section = do
   lookup_name ← LineOf lookup_head
   entries ← many (LineOf entry)
   Spell (Looks lookup_name entries)
 
--- a format, and on the next line its type
+-- a format: its name, and on the next line its type
 abbrev pub format_section : Form (List ℕ) SectionContents
 format_section = do
   format_name ← LineOf format_head
@@ -256,7 +256,7 @@ format_section = do
 abbrev pub section : Form (List ℕ) SectionContents
 section = lookup_section or format_section
 
--- the display: lines with tests, and the last one, which closes it
+-- the display: its head, lines with tests, and the last line, which closes it
 abbrev pub display : Form (List ℕ) (List LineContents)
 display = do
   head ← LineOf display_head
@@ -288,7 +288,7 @@ abbrev pub format_in : SectionContents → Option (List ℕ × Format)
 format_in (Looks lookup_name entries) = None
 format_in (Formats format_name format) = Some (format_name, format)
 
--- what the lines of a script spell: all its sections in order, also those whose name is taken, and the lines of its display
+-- the parts of a script: all its sections in order, also those whose name is taken, and the lines of its display
 pub record ScriptParts : Type 0 where
   pub sections : List SectionContents
   pub lines : List LineContents
@@ -319,6 +319,6 @@ pub record SpellsScript (text : List ℕ) (v : ScriptContents) : Type 0 where
   pub spelled : script_parts text parts
   pub made : v ≡ script_of parts
 
--- a script
+-- the texts of scripts, each for the script of its parts
 abbrev pub script : Form ℕ ScriptContents
 script = SpellsScript

@@ -1,4 +1,4 @@
--- The sections of a script that are kept.
+-- The sections of a script that are kept: docs/DEFINITIONS.md, "Lookup texts".
 use Rattle.std.specs.Prelude.{◌≡◌, ℕ, List, [], ◌++◌, length, map, bytes_eq, Result, Ok, Err}
 use Rattle.std.specs.List.{list_any, filter_map}
 use Rattle.ra_condition.specs.declared.fault.Fault.{Fault}

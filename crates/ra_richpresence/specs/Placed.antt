@@ -1,15 +1,15 @@
--- Where the lines that are left start: the step between the code and the first bad place. No public clause cites it.
+-- Where the lines that are left start: the step between the code and docs/DEFINITIONS.md, "First bad place".
 use Rattle.std.specs.Prelude.{◌≡◌, ℕ, ◌+◌, ◌<◌, ◌≤◌, ◌==◌, ◌&&◌, true, if◌then◌else◌, List, [], ◌∷◌, ◌++◌, length, take, drop}
 use Rattle.ra_richpresence.specs.Cut.{lines_of, content_of, is_nothing, left_of, has_no_feed}
 
--- what is left of the lines, each with its place, where the first line has this place
+-- what is left of lines that start at this place, each with its own place
 abbrev pub placed : ℕ → List (List ℕ) → List (ℕ × List ℕ)
 placed at [] = []
 placed at (line ∷ lines) =
     if is_nothing (left_of (content_of line)) then placed (at + length line) lines
     else (at, left_of (content_of line)) ∷ placed (at + length line) lines
 
--- the place of the first of these lines, and the end where there is none
+-- the place of the first of these lines, and the end of the text where there is none
 abbrev pub first_place : List (ℕ × List ℕ) → ℕ → ℕ
 first_place [] end = end
 first_place (line ∷ lines) end = line.0
@@ -19,7 +19,7 @@ abbrev pub without_return : List ℕ → List ℕ
 without_return [] = []
 without_return (byte ∷ line) = if byte == 13 && is_nothing line then [] else byte ∷ without_return line
 
--- the first line feed stands behind so many bytes, or there is none and so many bytes stand there
+-- the first line feed stands at the place, or there is none and the place is the end
 pub record IsFeedAt (text : List ℕ) (at : ℕ) : Type 0 where
   pub within : at ≤ length text
   pub clear : has_no_feed (take at text) ≡ true

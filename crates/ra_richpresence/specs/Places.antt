@@ -17,7 +17,7 @@ pub record IsFront (lines : List (List ℕ)) : Type 0 where
 abbrev pub line_start : List ℕ → ℕ → ℕ
 line_start text index = length (flat_map (λ line. line) (take index (lines_of text)))
 
--- The place is where the first line starts with which no script of the grammar goes on, or the length where there is none.
+-- the place is where the first line starts with which no script goes on, or the length where there is none
 pub record IsFirstBad (text : List ℕ) (place : ℕ) : Type 0 where
   pub index : ℕ
   pub within : index ≤ length (lines_of text)
@@ -25,7 +25,7 @@ pub record IsFirstBad (text : List ℕ) (place : ℕ) : Type 0 where
   pub bad : index < length (lines_of text) → IsFront (take (suc index) (contents_of text)) → ⊥
   pub is : place ≡ line_start text index
 
--- The text is no script, and the place is its first bad one.
+-- the text is no script, and the place is its first bad one
 pub record IsOutside (text : List ℕ) (place : ℕ) : Type 0 where
   pub first_bad : IsFirstBad text place
   pub outside : (v : ScriptContents) → script text v → ⊥

@@ -1,4 +1,4 @@
--- Reading scripts from left to right: the step between the code and the grammar. No public clause of a parser cites it.
+-- Reading scripts from left to right: the step between the code and docs/DEFINITIONS.md, "Presence scripts".
 use Rattle.std.specs.Prelude.{ℕ, ◌==◌, ◌&&◌, zero, suc, Bool, true, false, if◌then◌else◌, List, [], ◌∷◌, ◌++◌, length, Option, Some, None, option_map, Ok, Err, codes}
 use Rattle.ra_condition.specs.Contents.{TriggerContents}
 use Rattle.ra_condition.specs.Reading.{trigger_at}
@@ -14,7 +14,7 @@ use Rattle.ra_value_format.specs.Formats.{format_of_name}
 
 -- ---- the parts of a line
 
--- symbols of the table, as many as stand there, for what it has there
+-- symbols of the table, as many as stand there
 abbrev pub run_at : {A V : Type 0} → (A → Option V) → List A → Outcome A (List V)
 run_at table text = chain_at {S = Unit {0}} (λ s. table) (λ s tag rest. Ok (tag, rest)) (λ s v. s) (λ s. true) (length text) tt text
 
@@ -55,7 +55,7 @@ range_end_at text = do
   dash ← one_at (only (codes "-")) text
   key_at dash.1
 
--- "-" key, or the first key again
+-- "-" key, or else the first key again
 unfoldable pub range_last_at : ℕ → List ℕ → Outcome ℕ ℕ
 range_last_at first = choice_at (begins (is_in (only (codes "-")))) range_end_at (λ text. Ok (first, text))
 
@@ -137,13 +137,13 @@ pieces_of text = option_map joined_texts (all_at piece_at (length text) text)
 
 -- ---- the lines
 
--- the value, where the whole text was read
+-- the value of a reading that left nothing
 abbrev pub whole : {V : Type 0} → Outcome ℕ V → Option V
 whole (Ok (v, [])) = Some v
 whole (Ok (v, byte ∷ rest)) = None
 whole (Err rest) = None
 
--- the rest behind what was read
+-- a second reading of what a first one left, where the first one gave a value
 abbrev pub behind : {V W : Type 0} → Outcome ℕ V → (V → List ℕ → Option W) → Option W
 behind (Ok x) next = next x.0 x.1
 behind (Err rest) next = None
@@ -204,7 +204,7 @@ head_or None other = option_map OpensFormat other
 unfoldable pub section_head_of : List ℕ → Option HeadContents
 section_head_of line = head_or (lookup_head_of line) (format_head_of line)
 
--- the value of a line that may be left
+-- the value of a line, where it is one that may be left
 abbrev pub left_only : {V : Type 0} → (List ℕ → Option V) → List ℕ → Option V
 left_only value_of line = if is_left line then value_of line else None
 

@@ -1,4 +1,4 @@
--- What the lines and the sections of a script contain.
+-- What the lines and the sections of a script contain: docs/DEFINITIONS.md, "Presence scripts" and "Lookup texts".
 use Rattle.std.specs.Prelude.{◌≡◌, ℕ, List, length, map}
 use Rattle.ra_richpresence.specs.Contents.{keys_contents, lookup_contents}
 use Rattle.ra_richpresence.specs.Grammar.{EntryContents, Keyed, SectionContents, Looks, Formats, lookup_with}
@@ -23,12 +23,12 @@ abbrev pub head_contents : Head → HeadContents
 head_contents (head.Lookup name) = OpensLookup name.items
 head_contents (head.Format name) = OpensFormat name.items
 
--- a lookup has this name and these lines, and this is the length of its first text that is longer than the limit
+-- the lookup has this name and these lines, and this is the length of its first text over the limit
 pub record IsLookupOf (most : ℕ) (name : List ℕ) (entries : List EntryContents) (found : ReadLookup) : Type 0 where
   pub lookup : lookup_contents found.lookup ≡ lookup_with name entries
   pub long : found.long ≡ first_over most (map length (entry_texts entries))
 
--- a section is this one, its lookup with the length of its first long text
+-- the section is this one, a lookup with the length of its first text over the limit
 abbrev pub IsSectionOf : ℕ → SectionContents → Section → Type 0
 IsSectionOf most (Looks name entries) (section.Lookup found) = IsLookupOf most name entries found
 IsSectionOf most (Formats format_name format) (section.Format name other) = (name.items ≡ format_name) × (other ≡ format)

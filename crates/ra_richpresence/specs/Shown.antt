@@ -1,16 +1,16 @@
--- One piece of a presence line, and what a name stands for.
+-- One piece of a presence line, and what a name stands for: docs/DEFINITIONS.md, "Presence over frames".
 use Rattle.std.specs.Prelude.{ℕ, List, [], ◌∷◌, Option, option_map, codes, ℤ}
 use Rattle.ra_value_format.specs.declared.format.Format.{Format}
 use Rattle.ra_value_format.specs.declared.format.Format.TheVariants.{Fixed, Float}
 use Rattle.ra_richpresence.specs.Contents.{PieceContents, Bytes, Shows, LookupContents, ScriptContents}
 use Rattle.ra_richpresence.specs.Lines.{looked_up, lookup_of, macro_text, first_or_zero}
 
--- the text of a piece, with the first of the values for a macro
+-- the text of a piece; a macro shows the first of the values
 abbrev pub piece_text : ScriptContents → PieceContents → List ℤ → List ℕ
 piece_text script (Bytes text) vs = text
 piece_text script (Shows name value) vs = macro_text script name (first_or_zero vs)
 
--- how many values a piece shows
+-- how many values a piece shows: one for a macro
 abbrev pub values_of : PieceContents → ℕ
 values_of (Bytes text) = 0
 values_of (Shows name value) = 1

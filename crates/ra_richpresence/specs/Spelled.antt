@@ -5,24 +5,24 @@ use Rattle.ra_condition.specs.Spelled.{IsTrigger, IsValue}
 use Rattle.ra_richpresence.specs.Contents.{PieceContents, Bytes, Shows, LineContents, ScriptContents}
 use Rattle.ra_value_format.specs.Formats.{HasDigits}
 
--- a text is not empty, and a macro shows a value that some text spells
+-- some text spells the piece: text that is not empty, or a macro of a value that is spelled
 abbrev pub IsPiece : PieceContents → Type 0
 IsPiece (Bytes text) = text ≡ [] → ⊥
 IsPiece (Shows name value) = IsValue value
 
--- a line of the display with a test
+-- some text spells the line, which has a test
 pub record IsTested (line : LineContents) : Type 0 where
   pub test : TriggerContents
   pub tested : line.test ≡ Some test
   pub spelled : IsTrigger test
   pub pieces : All IsPiece line.pieces
 
--- the line of the display without one
+-- some text spells the line, which has no test
 pub record IsUntested (line : LineContents) : Type 0 where
   pub untested : line.test ≡ None
   pub pieces : All IsPiece line.pieces
 
--- the lines of a display: all have a test but the last
+-- some text spells the lines of the display: all have a test but the last
 pub record IsDisplay (lines : List LineContents) : Type 0 where
   pub front : List LineContents
   pub last : LineContents
@@ -30,7 +30,7 @@ pub record IsDisplay (lines : List LineContents) : Type 0 where
   pub tested : All IsTested front
   pub untested : IsUntested last
 
--- a script: its formats are those of names, and its lines are those of a display
+-- some text spells the script: its formats are those of names, and its lines those of a display
 pub record IsScript (s : ScriptContents) : Type 0 where
   pub formats : All (λ format. HasDigits format.1) s.formats
   pub lines : IsDisplay s.lines
