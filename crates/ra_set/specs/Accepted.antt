@@ -1,4 +1,4 @@
--- Which files are sets.
+-- Which files are sets: docs/DEFINITIONS.md, "Set file", "Repeated ids" and "Limits of a set".
 use Rattle.std.specs.Prelude.{◌≡◌, ℕ, ◌≤◌, ◌==◌, Bool, false, List, length}
 use Rattle.std.specs.List.{IsDistinct}
 use Rattle.md5.specs.Md5.{md5}
@@ -12,7 +12,7 @@ repeats (Unlocks id t) (Unlocks id' t') = id == id'
 repeats (Ranks id format b) (Ranks id' format' b') = id == id'
 repeats _ _ = false
 
--- a file spells a set that is accepted: no id of one letter stands twice, and each limit is kept
+-- the file is a set: it spells this set, no id of one letter stands twice, and each limit is kept
 pub record IsSet (file : List ℕ) (set : SetContents) : Type 0 where
   pub size : length file ≤ 4194304
   pub spelled : SetFile file set

@@ -1,4 +1,4 @@
--- What a set contains.
+-- What a set contains: docs/DEFINITIONS.md, "Set file".
 use Rattle.std.specs.Prelude.{ℕ, Option, option_map, List, map}
 use Rattle.ra_condition.specs.Contents.{TriggerContents, trigger_contents}
 use Rattle.ra_leaderboard.specs.Contents.{BoardContents, board_contents}
@@ -18,7 +18,7 @@ abbrev pub item_contents : Item → ItemContents
 item_contents (Achievement id text) = Unlocks id (trigger_contents text)
 item_contents (Leaderboard id format text) = Ranks id format (board_contents text)
 
--- items in text order, a presence script where there is one, and the digest of the file
+-- what a set contains: items in text order, a presence script where there is one, and the digest of its file
 pub record SetContents : Type 0 where
   pub items : List ItemContents
   pub script : Option ScriptContents

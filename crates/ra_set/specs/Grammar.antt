@@ -62,7 +62,7 @@ leaderboard = do
   b ← board
   Spell (Some (Ranks id format b))
 
--- a line before the presence script; it may be empty
+-- a line before the presence script: a comment, an achievement, a leaderboard, or empty
 abbrev pub line : Form ℕ Line
 line = comment or (achievement or (leaderboard or Spell None))
 
@@ -97,19 +97,19 @@ last_head = do
   letter ← One (only (codes "P"))
   Spell ended
 
--- the same with the end of that line: behind it a presence script begins
+-- lines that each have their end, and a line "P" with its end, behind which a presence script begins
 abbrev pub script_head : Form ℕ (List Line)
 script_head = do
   ended ← last_head
   end ← line_end
   Spell ended
 
--- what a file contains: its lines, and what the text behind a line "P" spells, where there is one
+-- what a file contains: its lines, and the parts of its script where it has a line "P"
 pub record FileContents : Type 0 where
   pub lines : List Line
   pub script : Option ScriptParts
 
--- a file with a presence script, which all of the file behind the line "P" is
+-- a file with a presence script, which is all that stands behind the line "P"
 abbrev pub scripted : Form ℕ FileContents
 scripted = do
   ended ← script_head
@@ -122,11 +122,11 @@ unscripted = do
   lines ← set_lines
   Spell (record { lines = lines; script = None })
 
--- a set file
+-- the set files, each for what it contains
 abbrev pub set_file : Form ℕ FileContents
 set_file = scripted or unscripted
 
--- a file spells the items of its lines, and its script
+-- the file spells the set: the items of its lines, and its script
 pub record SetFile (file : List ℕ) (set : SetContents) : Type 0 where
   pub contents : FileContents
   pub spelled : set_file file contents

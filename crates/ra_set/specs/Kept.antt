@@ -1,4 +1,4 @@
--- What is kept of lines while they are read: the step between the code and the grammar. No public clause cites it.
+-- What is kept of lines while they are read: the step between the code and docs/DEFINITIONS.md, "Set file" and "Repeated ids".
 use Rattle.std.specs.Prelude.{◌≡◌, ℕ, ◌+◌, ◌||◌, if◌then◌else◌, Bool, List, length, map, Option, Some, None, Result, Ok, Err}
 use Rattle.std.specs.BTreeSet.{contains}
 use Rattle.std.specs.List.{IsDistinct, list_any}
@@ -48,7 +48,7 @@ earlier_repeat None later = later
 abbrev pub repeat_now : KeptLines → ItemContents → Option Repeat
 repeat_now kept x = if has_id kept.ids x then Some (record { id = id_of x; line = kept.count }) else None
 
--- the id of an item was noted, and the repeat where it is the first
+-- the id of an item was noted, and its repeat where that is the first
 pub record NotesId (old : KeptLines) (x : ItemContents) (new : KeptLines) : Type 0 where
   pub items : new.items ≡ old.items
   pub count : new.count ≡ old.count

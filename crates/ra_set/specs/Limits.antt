@@ -10,45 +10,45 @@ use Rattle.ra_set.specs.declared.refused.SetRefused.{SetRefused}
 use Rattle.ra_set.specs.declared.refused.SetRefused.TheVariants.{Limit}
 use Rattle.ra_set.specs.Contents.{ItemContents, Unlocks, Ranks, SetContents}
 
--- the conditions of a value, its legacy terms counted too
+-- how many conditions a part has, or how many legacy terms
 abbrev pub part_conditions : PartContents → ℕ
 part_conditions (Legacy terms) = length terms
 part_conditions (Grouped cs) = length cs
 
--- the conditions of a value
+-- how many conditions a value has, its legacy terms counted too
 abbrev pub value_conditions : List PartContents → ℕ
 value_conditions parts = sum_by part_conditions parts
 
--- the conditions of a value that may be missing
+-- how many conditions a value has that may be missing
 abbrev pub optional_value : Option (List PartContents) → ℕ
 optional_value None = 0
 optional_value (Some parts) = value_conditions parts
 
--- the conditions of an item
+-- how many conditions an item has
 abbrev pub item_conditions : ItemContents → ℕ
 item_conditions (Unlocks id t) = trigger_hits t
 item_conditions (Ranks id format b) =
     trigger_hits b.start + trigger_hits b.cancel + trigger_hits b.submit + value_conditions b.value + optional_value b.progress
 
--- the conditions of a trigger that may be missing
+-- how many conditions a trigger has that may be missing
 abbrev pub optional_trigger : Option TriggerContents → ℕ
 optional_trigger None = 0
 optional_trigger (Some t) = trigger_hits t
 
--- the conditions of a line of a script
+-- how many conditions a line of a script has
 abbrev pub line_conditions : LineContents → ℕ
 line_conditions line = optional_trigger line.test + sum_by value_conditions (values_in_line line)
 
--- the conditions of a script, if there is one
+-- how many conditions a script has, if there is one
 abbrev pub script_conditions : Option ScriptContents → ℕ
 script_conditions None = 0
 script_conditions (Some script) = sum_by line_conditions script.lines
 
--- all conditions of a set
+-- how many conditions a set has
 abbrev pub set_conditions : SetContents → ℕ
 set_conditions set = sum_by item_conditions set.items + script_conditions set.script
 
--- the texts of a lookup
+-- how many bytes each text of a lookup has
 abbrev pub text_lengths : LookupContents → List ℕ
 text_lengths l = rest_length l.rest (map (λ k. length k.text) l.keys)
   where
@@ -56,7 +56,7 @@ text_lengths l = rest_length l.rest (map (λ k. length k.text) l.keys)
     rest_length None lengths = lengths
     rest_length (Some text) lengths = length text ∷ lengths
 
--- each display line and each lookup text is small enough
+-- each display line has few enough macros, and each lookup text few enough bytes
 pub record ScriptFits (script : ScriptContents) : Type 0 where
   pub macros : AllByRecursion (λ line. length (values_in_line line) ≤ 256) script.lines
   pub texts : AllByRecursion (λ n. n ≤ 1024) (flat_map text_lengths script.lookups)
@@ -74,7 +74,7 @@ pub record IsWithinLimits (set : SetContents) : Type 0 where
 
 -- ---- the first limit that is passed
 
--- the conditions of items, and of the parts of a script if there is one
+-- how many conditions items and the parts of a script have, if there is a script
 abbrev pub all_conditions : List ItemContents → Option ScriptParts → ℕ
 all_conditions items script = sum_by item_conditions items + script_conditions (option_map script_of script)
 
@@ -83,7 +83,7 @@ abbrev pub macro_counts : Option ScriptParts → List ℕ
 macro_counts None = []
 macro_counts (Some parts) = map (λ line. length (values_in_line line)) parts.lines
 
--- how long the texts are that a script keeps, in text order
+-- how many bytes each text has that a script keeps, in text order
 abbrev pub kept_lengths : Option ScriptParts → List ℕ
 kept_lengths None = []
 kept_lengths (Some parts) = map length (kept_texts parts)
@@ -95,8 +95,7 @@ pub record KeepsLimits (held : List ItemContents) (script : Option ScriptParts) 
   pub macros : first_over 256 (macro_counts script) ≡ None
   pub texts : first_over 1024 (kept_lengths script) ≡ None
 
--- the first limit that items and a script pass, in the order of the cases, with how much was found:
--- of display lines and of lookup texts the first that passes it
+-- the first limit that items and a script pass, with how much was found; of lines and of texts that of the first over it
 abbrev pub PassesLimit : List ItemContents → Option ScriptParts → SetRefused → Type 0
 PassesLimit items script (Limit Items found) = (16384 < length items) × (found ≡ length items)
 PassesLimit items script (Limit Conditions found) =

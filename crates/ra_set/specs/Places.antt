@@ -4,13 +4,13 @@ use Rattle.ra_richpresence.specs.Places.{IsFirstBad}
 use Rattle.ra_set.specs.Grammar.{FileContents, Line, script_head, last_head, set_file}
 use Rattle.ra_text.specs.Place.{IsBadPlace}
 
--- the file has a line `P` behind lines that each have their end, and this text stands behind that line: it has its end, or is the last line of the file
+-- the file has a line "P" behind lines that each have their end, the front goes up to its end, and this text stands behind it
 pub record HasScript (file front text : List ℕ) : Type 0 where
   pub parts : file ≡ front ++ text
   pub lines : List Line
   pub opens : script_head front lines ⊎ ((text ≡ []) × last_head front lines)
 
--- behind a line `P` the place is that of the script, counted from the start of the file
+-- the place is that of the script behind a line "P", counted from the start of the file
 pub record IsScriptPlace (file : List ℕ) (at : ℕ) : Type 0 where
   pub front : List ℕ
   pub text : List ℕ
@@ -19,7 +19,7 @@ pub record IsScriptPlace (file : List ℕ) (at : ℕ) : Type 0 where
   pub first_bad : IsFirstBad text place
   pub is : at ≡ length front + place
 
--- without such a line the place is the length of the longest front of the file that begins some set file
+-- there is no line "P", and the place is the length of the longest front that begins some set file
 pub record IsLinePlace (file : List ℕ) (at : ℕ) : Type 0 where
   pub no_script : (front text : List ℕ) → HasScript file front text → ⊥
   pub bad : IsBadPlace set_file file at

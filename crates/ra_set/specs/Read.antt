@@ -1,4 +1,4 @@
--- What was read of a file: the step between the code and the grammar. No public clause cites it.
+-- What was read of a file: the step between the code and docs/DEFINITIONS.md, "Set file".
 use Rattle.std.specs.Prelude.{◌≡◌, ℕ, ◌+◌, Bool, true, false, List, map, Option, Some, None, option_map}
 use Rattle.ra_richpresence.specs.Contents.{ScriptContents, script_contents}
 use Rattle.ra_richpresence.specs.Places.{IsOutside}
@@ -16,22 +16,22 @@ use Rattle.ra_set.specs.ScriptLimits.{IsReadOf}
 abbrev pub script_read : Option ReadScript → Option ScriptContents
 script_read read = option_map (λ r. script_contents r.script) read
 
--- the text behind a line `P` was read as a script, or there is no such line
+-- the text behind a line "P" was read as a script, or there is no such line
 abbrev pub IsReadBehind : Bool → List ℕ → Option ReadScript → Type 0
 IsReadBehind true text (Some read) = IsRead text 1024 read
 IsReadBehind false text None = Unit {0}
 IsReadBehind _ text _ = ⊥
 
--- the text is no script, and its first bad place is told from the start of the file on, where the text starts at this place
+-- the text is no script, and its first bad place is told from the start of the file, where it starts at this place
 abbrev pub IsBadText : List ℕ → ℕ → SetRefused → Type 0
 IsBadText text start why = (place : ℕ) × IsOutside text place × (why ≡ Syntax (start + place))
 
--- there is a line `P`, and the text behind it is no script
+-- there is a line "P", and the text behind it is no script
 abbrev pub IsBadScript : Bool → List ℕ → ℕ → SetRefused → Type 0
 IsBadScript true text start why = IsBadText text start why
 IsBadScript false text start why = ⊥
 
--- the items and the script are what the file contains, and no two items of one letter have one id
+-- what was read is what the file contains, and no two items of one letter have one id
 pub record IsReadFile (file : List ℕ) (read : ReadFile) : Type 0 where
   pub contents : FileContents
   pub distinct : HasDistinct file contents

@@ -1,4 +1,4 @@
--- Reading set files from left to right: the step between the code and the grammar. No public clause cites it.
+-- Reading set files from left to right: the step between the code and docs/DEFINITIONS.md, "Set file".
 use Rattle.std.specs.Prelude.{◌≡◌, ℕ, zero, suc, ◌+◌, ◌*◌, ◌==◌, ◌||◌, nat_lt, Bool, true, false, if◌then◌else◌, List, [], ◌∷◌, ◌++◌, length, Option, Some, None, Ok, Err, codes}
 use Rattle.ra_condition.specs.Reading.{trigger_at}
 use Rattle.ra_leaderboard.specs.Reading.{board_at}
@@ -11,7 +11,7 @@ use Rattle.ra_text.specs.Number.{digits}
 use Rattle.ra_text.specs.Reading.{Outcome, ◌>>=◌, one_at, optional_at, choice_at, begins, chain_at}
 use Rattle.ra_text.specs.Table.{lookup, bytes_for, is_in, only}
 
--- no digit goes on with this number of an id, as a zero stands alone, or as the next would pass the numbers of 32 bits
+-- no digit goes on with this number of an id: it is a lone zero, or the number with the digit passes 32 bits
 abbrev pub is_past : ℕ → ℕ → Bool
 is_past so_far d = (so_far == 0) || nat_lt 4294967295 (so_far * 10 + d)
 
@@ -81,7 +81,7 @@ leaderboard_or_empty_at = choice_at (begins (is_in (only (codes "L")))) leaderbo
 unfoldable pub item_line_at : List ℕ → Outcome ℕ Line
 item_line_at = choice_at (begins (is_in (only (codes "A")))) achievement_at leaderboard_or_empty_at
 
--- a comment, with a CR at its end
+-- a comment, a CR at its end with it, so that it wants no LF
 unfoldable pub comment_row_at : List ℕ → Outcome ℕ (Line × Bool)
 comment_row_at text = do
   l ← comment_at text
@@ -94,22 +94,22 @@ item_row_at text = do
   returned ← optional_at (lookup (bytes_for (codes "\r") true)) false l.1
   Ok ((l.0, returned.0), returned.1)
 
--- what stands before an LF, and whether it wants one
+-- what stands of a line before its LF, and whether it wants one
 unfoldable pub row_at : List ℕ → Outcome ℕ (Line × Bool)
 row_at = choice_at (begins (is_in (only (codes "#")))) comment_row_at item_row_at
 
--- how the lines of a file end: with a last line, with the letter of a line "P", or with such a line and its end, which have this text behind them
+-- how the lines of a file end: with a last line, at the letter of a line "P", or with a line "P" that has this text behind it
 pub data Tail : Type 0 where
   Ends : Line → Tail
   Letter : Tail
   Opens : List ℕ → Tail
 
--- behind the CR of a line "P"
+-- what stands behind the CR of a line "P"
 abbrev pub feed_at : List ℕ → Outcome ℕ Tail
 feed_at [] = Err []
 feed_at (byte ∷ rest) = if byte == 10 then Ok (Opens rest, []) else Err (byte ∷ rest)
 
--- behind the letter of a line "P"
+-- what stands behind the letter of a line "P"
 abbrev pub opens_at : List ℕ → Outcome ℕ Tail
 opens_at [] = Ok (Letter, [])
 opens_at (byte ∷ rest) = if byte == 10 then Ok (Opens rest, []) else if byte == 13 then feed_at rest else Ok (Letter, byte ∷ rest)
@@ -140,7 +140,7 @@ end_at true text = Err text
 end_at false [] = Ok (tt, [])
 end_at false (byte ∷ rest) = Err (byte ∷ rest)
 
--- lines before others
+-- what others give, with these lines before them
 abbrev pub with_lines : List Line → Outcome ℕ (List Line × Tail) → Outcome ℕ (List Line × Tail)
 with_lines lines others = do
   found ← others
@@ -151,7 +151,7 @@ abbrev pub last_at : Line → Bool → List ℕ → Outcome ℕ (List Line × Ta
 last_at l true text = Err text
 last_at l false text = Ok (([], Ends l), text)
 
--- behind a row: an LF and others, or the end of the lines
+-- what stands behind a row: an LF and other lines, or the end of the lines
 abbrev pub behind_row_at : (List ℕ → Outcome ℕ (List Line × Tail)) → Line → Bool → List ℕ → Outcome ℕ (List Line × Tail)
 behind_row_at others l wants [] = last_at l wants []
 behind_row_at others l wants (byte ∷ rest) = if byte == 10 then with_lines (l ∷ []) (others rest) else last_at l wants (byte ∷ rest)
@@ -180,7 +180,7 @@ lines_in (Ok ((ended, Letter), byte ∷ rest)) = Err (byte ∷ rest)
 lines_in (Ok ((ended, Opens text), rest)) = Ok ((ended, true), text)
 lines_in (Err rest) = Err rest
 
--- a run of symbols of the table was passed, as long as it goes
+-- the symbols of the table that stand next were passed
 pub record PassesRun {A V : Type 0} (table : A → Option V) (old new : List A) : Type 0 where
   pub run : List V
   pub is : run_at table old ≡ Ok (run, new)

@@ -1,4 +1,4 @@
--- Why a file is no set: docs/DEFINITIONS.md, "Limits of a set".
+-- Why a file is no set: docs/DEFINITIONS.md, "Limits of a set" and "Repeated ids".
 use Rattle.std.specs.Prelude.{◌≡◌, ℕ, ◌+◌, ◌<◌, ◌≤◌, true, List, length, Some, slice_get}
 use Rattle.std.specs.List.{IsDistinct}
 use Rattle.ra_set.specs.declared.refused.Which.TheVariants.{Bytes}

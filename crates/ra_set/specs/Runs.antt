@@ -1,10 +1,10 @@
--- Forms of any length: any number of texts of a form, and any number of symbols of a table.
+-- Any number of texts of a form, and any number of symbols of a table: the lines and the names of docs/DEFINITIONS.md, "Set file".
 use Rattle.std.specs.Prelude.{◌≡◌, ℕ, true, if◌then◌else◌, List, [], ◌∷◌, ◌++◌, Option, Some, None}
 use Rattle.ra_text.specs.Chain.{Chain}
 use Rattle.ra_text.specs.Form.{Form, Spell}
 use Rattle.ra_text.specs.Table.{is_in, only}
 
--- a text in two pieces, of which each is as it says
+-- the text is two pieces, the first of the first kind and the next of the next
 pub record Both {A : Type 0} (first next : List A → Type 0) (text : List A) : Type 0 where
   pub front : List A
   pub behind : List A

@@ -1,4 +1,4 @@
--- The limits of a script that was read: the step between the code and the limits. No public clause cites it.
+-- The limits of a script that was read: the step between the code and docs/DEFINITIONS.md, "Limits of a set".
 use Rattle.std.specs.Prelude.{◌≡◌, ℕ, Option, None, Some, option_map, List, length, map, Result, Ok, Err}
 use Rattle.ra_richpresence.specs.Contents.{LineContents, script_contents, values_in_line}
 use Rattle.ra_richpresence.specs.Grammar.{ScriptParts}
@@ -24,7 +24,7 @@ read_conditions read = script_conditions (option_map (λ r. script_contents r.sc
 abbrev pub macros_of : List LineContents → List ℕ
 macros_of lines = map (λ line. length (values_in_line line)) lines
 
--- the first limit that lines, and a long text if there is one, pass
+-- the limit of macros or of texts that these lines and the first long text, if there is one, pass first, or none
 abbrev pub ChecksScript : Result (Unit {0}) SetRefused → List LineContents → Option ℕ → Type 0
 ChecksScript (Ok done) lines long = (first_over 256 (macros_of lines) ≡ None) × (long ≡ None)
 ChecksScript (Err (Limit Macros found)) lines long = first_over 256 (macros_of lines) ≡ Some found
