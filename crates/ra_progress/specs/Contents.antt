@@ -1,4 +1,4 @@
--- What a snapshot and a shape contain. The contents of a snapshot are an opening: what stands before the first frame.
+-- What a snapshot and a shape contain: docs/DEFINITIONS.md, "Openings and snapshots" and "Shape of a set".
 use Rattle.std.specs.Prelude.{◌≡◌, ℕ, ◌<◌, ◌≤◌, ◌^◌, Option, None, Some, option_map, List, [], ◌∷◌, length, map}
 use Rattle.std.specs.List.{AllByRecursion}
 use Rattle.ra_progress.specs.declared.shape.ItemShape.{ItemShape}
@@ -48,7 +48,7 @@ pub record KeptPresence : Type 0 where
 abbrev pub kept_presence : PresenceKept → KeptPresence
 kept_presence p = record { shown = p.shown; hits = p.hits.items; numbers = p.kept.items }
 
--- what a progress file keeps: frames, cells and priors, items, and presence
+-- an opening: the count of frames, the numbers of cells and of tracked masks, and what is kept of items and presence
 pub record Opening : Type 0 where
   pub frames : ℕ
   pub cells : List ℕ
@@ -66,7 +66,7 @@ snapshot_contents s = record {
   presence = option_map kept_presence s.presence;
 }
 
--- numbers of 32 bits, as many as wanted
+-- there are so many numbers, and each is of 32 bits
 pub record AreWords (count : ℕ) (numbers : List ℕ) : Type 0 where
   pub as_many : length numbers ≡ count
   pub fit : AllByRecursion (λ n. n < 2 ^ 32) numbers
@@ -77,7 +77,7 @@ ItemFits (shapes.Achievement count) (OfAchievement state measured hits) = (state
 ItemFits (shapes.Leaderboard count parts) (OfBoard state hits numbers) = (state ≤ 4) × AreWords count hits × AreWords parts numbers
 ItemFits _ _ = ⊥
 
--- items one beside the other have the shapes of a set
+-- each item has the shape beside it, and no shape or item is left
 abbrev pub ItemsFit : List ItemShape → List KeptItem → Type 0
 ItemsFit [] [] = Unit {0}
 ItemsFit (shape ∷ shapes) (item ∷ items) = ItemFits shape item × ItemsFit shapes items

@@ -1,4 +1,4 @@
--- What a reader wants of the two directions of a progress file.
+-- That a progress file says again what it was made of: docs/DEFINITIONS.md, "Progress file".
 use Rattle.std.specs.Prelude.{◌≡◌, ℕ, ◌<◌, ◌^◌, List, length, Some}
 use Rattle.ra_progress.specs.declared.shape.PresenceShape.{PresenceShape}
 use Rattle.std.specs.List.{AllByRecursion}
@@ -11,7 +11,7 @@ pub record IsDigest (digest : List ℕ) : Type 0 where
   pub long : length digest ≡ 16
   pub fit : AllByRecursion (λ b. b < 256) digest
 
--- the numbers of a shape are within their types
+-- the digest of the shape is one, and its count of lines is a number of 32 bits
 pub record IsShape (shape : ShapeContents) : Type 0 where
   pub digest : IsDigest shape.digest
   pub lines : (presence : PresenceShape) → shape.presence ≡ Some presence → presence.lines < 2 ^ 32

@@ -1,4 +1,4 @@
--- Which bytes are a progress file of a shape, why others are none, and what accepted ones say.
+-- Which bytes are a progress file of a shape, why others are none, and what accepted ones say: docs/DEFINITIONS.md, "Progress file".
 use Rattle.std.specs.Prelude.{◌≡◌, ℕ, ◌+◌, ◌-◌, ◌*◌, ◌<◌, ◌==◌, not, if◌then◌else◌, nat_lt, Option, None, Some, option_map, List, [], ◌∷◌, ◌++◌, length, map, take, drop, find, bytes_eq, slice_index, sum_by}
 use Rattle.std.specs.List.{range_with_len, AllByRecursion}
 use Rattle.std.specs.Int.{w32, w64, from_le_bytes}
@@ -11,11 +11,11 @@ use Rattle.ra_progress.specs.declared.refused.ProgressRefused.TheVariants.{Wrong
 use Rattle.ra_progress.specs.Contents.{ShapeContents, KeptItem, OfAchievement, OfBoard, KeptPresence, Opening}
 use Rattle.ra_progress.specs.Spelling.{mark}
 
--- a word of four bytes at a place, and so many in a row
+-- the number of the four bytes at a place
 abbrev pub word_at : List ℕ → ℕ → ℕ
 word_at bytes at = from_le_bytes w32 (take 4 (drop at bytes))
 
--- so many words from a place on
+-- the numbers of so many words in a row, from a place on
 abbrev pub words_at : List ℕ → ℕ → ℕ → List ℕ
 words_at bytes at count = map (λ k. word_at bytes (at + 4 * k)) (range_with_len 0 count)
 
@@ -33,7 +33,7 @@ abbrev pub presence_length : Option PresenceShape → ℕ
 presence_length None = 0
 presence_length (Some p) = 4 + 4 * (p.hits + p.parts)
 
--- where an item stands, and where the presence does
+-- where the item of this index begins
 abbrev pub item_at : ShapeContents → ℕ → ℕ
 item_at shape i = 29 + 4 * (shape.cells + shape.priors) + sum_by item_length (take i shape.items)
 
@@ -45,7 +45,7 @@ presence_at shape = item_at shape (length shape.items)
 abbrev pub length_of : ShapeContents → ℕ
 length_of shape = presence_at shape + presence_length shape.presence + 16
 
--- the closing sum, and what it is a sum of
+-- the closing sum of a file: its last sixteen bytes
 abbrev pub sum_in : List ℕ → List ℕ
 sum_in bytes = drop (length bytes - 16) bytes
 
@@ -69,12 +69,12 @@ states_from bytes at [] = []
 states_from bytes at (shape ∷ shapes) =
     record { at = at; found = slice_index bytes at; bound = 5 } ∷ states_from bytes (at + item_length shape) shapes
 
--- the line shown, which is below the count of lines
+-- the index of the shown line, which is below the count of lines, if there is a presence
 abbrev pub shown_field : List ℕ → ℕ → Option PresenceShape → List Bounded
 shown_field bytes at None = []
 shown_field bytes at (Some p) = record { at = at; found = word_at bytes at; bound = p.lines } ∷ []
 
--- the state bytes and the shown index, in the order of the file
+-- the fields of a file that have a bound: the state bytes and the shown index, in the order of the file
 abbrev pub states_in : ShapeContents → List ℕ → List Bounded
 states_in shape bytes =
     states_from bytes (item_at shape 0) shape.items ++ shown_field bytes (presence_at shape) shape.presence
@@ -88,12 +88,12 @@ pub record IsAccepted (shape : ShapeContents) (bytes : List ℕ) : Type 0 where
   pub digest : digest_in bytes ≡ shape.digest
   pub states : AllByRecursion (λ field. field.found < field.bound) (states_in shape bytes)
 
--- why the bytes are refused: the first check that fails
+-- the refusal of the field that reaches its bound, if there is one
 abbrev pub bad_state : Option Bounded → Option ProgressRefused
 bad_state None = None
 bad_state (Some field) = Some (BadState field.at field.found)
 
--- why a file is no progress of this shape: the first rule that it breaks
+-- why the bytes are no progress file of the shape, by the first rule that they break, if they break one
 abbrev pub refusal : ShapeContents → List ℕ → Option ProgressRefused
 refusal shape bytes =
     if not (length bytes == length_of shape) then Some (WrongLength (length_of shape) (length bytes))

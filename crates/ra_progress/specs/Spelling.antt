@@ -1,11 +1,11 @@
--- The bytes of a progress file.
+-- The bytes of a progress file: docs/DEFINITIONS.md, "Progress file".
 use Rattle.std.specs.Prelude.{ℕ, Option, None, Some, List, [], ◌∷◌, ◌++◌, codes}
 use Rattle.std.specs.List.{flat_map}
 use Rattle.std.specs.Int.{w32, w64, to_le_bytes}
 use Rattle.md5.specs.Md5.{md5}
 use Rattle.ra_progress.specs.Contents.{KeptItem, OfAchievement, OfBoard, KeptPresence, Opening}
 
--- numbers of four bytes each, low byte first
+-- the bytes of numbers, four for each, the least first
 abbrev pub words : List ℕ → List ℕ
 words numbers = flat_map (to_le_bytes w32) numbers
 
@@ -23,11 +23,11 @@ presence_bytes (Some p) = words (p.shown ∷ p.hits) ++ words p.numbers
 abbrev pub mark : List ℕ
 mark = codes "RAPG"
 
--- mark, version, the set's digest, the frame count, cells, priors, items, presence
+-- the bytes before the sum: mark, version, digest, frame count, cells, priors, items, presence
 abbrev pub body_bytes : List ℕ → Opening → List ℕ
 body_bytes digest o =
     mark ++ 1 ∷ (digest ++ (to_le_bytes w64 o.frames ++ (words o.cells ++ (words o.priors ++ (flat_map item_bytes o.items ++ presence_bytes o.presence)))))
 
--- and their sum
+-- the bytes of a progress file: the body, and its MD5
 abbrev pub progress_bytes : List ℕ → Opening → List ℕ
 progress_bytes digest o = body_bytes digest o ++ md5 (body_bytes digest o)

@@ -1,4 +1,4 @@
--- How a trace file is cut into its records, up to the end record or to the first refusal.
+-- How a trace file is cut into its records, up to the end record or to the first refusal: docs/DEFINITIONS.md, "Trace file".
 use Rattle.std.specs.Prelude.{ℕ, zero, suc, ◌+◌, ◌&&◌, Bool, true, false, if◌then◌else◌, nat_lt, nat_le, ◌==◌, Option, None, Some, List, [], ◌∷◌, ◌++◌, length, take, drop, replicate, bytes_eq, codes, slice_index, slice_index_or, slice_set}
 use Rattle.std.specs.Int.{w16, w32, from_le_bytes}
 use Rattle.ra_trace.specs.declared.error.Why.{Why}
@@ -17,22 +17,22 @@ pub record Trace : Type 0 where
   pub entries : List Entry
   pub stop : Stop
 
--- the memory size of a good header
+-- the memory size that a header says, if it is a good one
 abbrev pub header_size : List ℕ → Option ℕ
 header_size bytes =
     if bytes_eq (take 5 bytes) (codes "RATR" ++ 1 ∷ []) && (nat_le 9 (length bytes) && nat_le (from_le_bytes w32 (take 4 (drop 5 bytes))) 134217728)
     then Some (from_le_bytes w32 (take 4 (drop 5 bytes)))
     else None
 
--- the place and the length in a write, behind its first byte
+-- the place that a write record says, in the bytes behind its letter
 abbrev pub place_in : List ℕ → ℕ
 place_in rest = from_le_bytes w32 (take 4 rest)
 
--- how many bytes a write record says that it writes
+-- how many bytes a write record says that it has, in the bytes behind its letter
 abbrev pub count_in : List ℕ → ℕ
 count_in rest = from_le_bytes w16 (take 2 (drop 4 rest))
 
--- Why no record stands at the front of these bytes. A memory has a size, and some slots are filled.
+-- why no write record stands here, behind its letter, in a memory of this size
 abbrev pub write_refusal : ℕ → List ℕ → Option Why
 write_refusal size rest =
     if nat_lt (length rest) 6 then Some Cut
@@ -40,18 +40,18 @@ write_refusal size rest =
     else if nat_lt size (place_in rest + count_in rest) then Some PastMemory
     else None
 
--- why no save record stands here, behind its mark
+-- why no save record stands here, behind its letter
 abbrev pub save_refusal : List ℕ → Option Why
 save_refusal [] = Some Cut
 save_refusal (slot ∷ rest) = if nat_lt 15 slot then Some Slot else None
 
--- why no restore record stands here, behind its mark, by the slots that are filled
+-- why no restore record stands here, behind its letter, by the slots that are filled
 abbrev pub restore_refusal : List Bool → List ℕ → Option Why
 restore_refusal filled [] = Some Cut
 restore_refusal filled (slot ∷ rest) =
     if nat_lt 15 slot then Some Slot else if slice_index_or filled slot false then None else Some EmptySlot
 
--- why no record stands at the front of these bytes, by their mark
+-- why no record stands at the front of these bytes, by their letter
 abbrev pub refusal : ℕ → List Bool → List ℕ → Option Why
 refusal size filled [] = Some Cut
 refusal size filled (mark ∷ rest) =
@@ -100,12 +100,12 @@ abbrev pub cut_unless : (List Bool → ℕ → List ℕ → Pieces) → Option W
 cut_unless next (Some why) filled at bytes = record { entries = []; stop = RefusedAt at why }
 cut_unless next None filled at bytes = cut_behind next (front bytes) filled at bytes
 
--- the records from a place on; no more than so many, and bytes have no more records than bytes
+-- the records from a place on, as many as this number at most; no bytes have more records than bytes
 abbrev pub cut : ℕ → ℕ → List Bool → ℕ → List ℕ → Pieces
 cut zero size filled at bytes = record { entries = []; stop = RefusedAt at Cut }
 cut (suc more) size filled at bytes = cut_unless (cut more size) (refusal size filled bytes) filled at bytes
 
--- the trace of a file
+-- the trace of a file by the size that its header says, if that is a good one
 abbrev pub trace_behind : List Bool → Option ℕ → List ℕ → Trace
 trace_behind filled None bytes = record { size = 0; entries = []; stop = RefusedAt 0 Header }
 trace_behind filled (Some size) bytes =
@@ -124,8 +124,7 @@ no_slots = replicate 16 false
 abbrev pub trace_of : List ℕ → Trace
 trace_of bytes = trace_with no_slots bytes
 
--- A record that is cut, where the reader has taken as many bytes as it may. A header can always be told, since a
--- reader takes at least nine bytes.
+-- where a reader stops: a cut record is past its limit, if it has taken as many bytes as it may
 abbrev pub stop_within : Bool → Stop → Stop
 stop_within full (RefusedAt at Cut) = if full then PastLimit else RefusedAt at Cut
 stop_within full stop = stop

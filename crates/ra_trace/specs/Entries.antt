@@ -1,4 +1,4 @@
--- The records of a trace and their bytes.
+-- The records of a trace and their bytes: docs/DEFINITIONS.md, "Trace file".
 use Rattle.std.specs.Prelude.{ℕ, List, [], ◌∷◌, ◌++◌, length, codes}
 use Rattle.std.specs.List.{flat_map}
 use Rattle.std.specs.Int.{w16, w32, to_le_bytes}
@@ -14,7 +14,7 @@ pub data Entry : Type 0 where
   Shown : Entry
   Ended : Entry
 
--- what a record says
+-- the contents of a record that was read
 abbrev pub entry_of : Record → Entry
 entry_of (Write at bytes) = Written at bytes.now
 entry_of Frame = Framed
@@ -23,7 +23,7 @@ entry_of (Restore slot) = Restored slot
 entry_of Show = Shown
 entry_of End = Ended
 
--- W, F, S, R, P and E, with numbers low byte first
+-- the bytes of a record: its letter, and numbers the least byte first
 abbrev pub entry_bytes : Entry → List ℕ
 entry_bytes (Written at bytes) = 87 ∷ (to_le_bytes w32 at ++ (to_le_bytes w16 (length bytes) ++ bytes))
 entry_bytes Framed = 70 ∷ []
@@ -36,6 +36,6 @@ entry_bytes Ended = 69 ∷ []
 abbrev pub header_bytes : ℕ → List ℕ
 header_bytes size = codes "RATR" ++ 1 ∷ to_le_bytes w32 size
 
--- the file of a memory size and records
+-- the trace file of a memory size and records
 abbrev pub trace_bytes : ℕ → List Entry → List ℕ
 trace_bytes size entries = header_bytes size ++ flat_map entry_bytes entries

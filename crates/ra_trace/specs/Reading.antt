@@ -29,30 +29,29 @@ most_bytes = 2 ^ 24
 abbrev pub opened : List ℕ → ℕ → ReaderSeen
 opened name limit = record { name = name; limit = limit; size = None; last = 0; next = 0; taken = 0; held = [] }
 
--- What a reader keeps at all times: it holds no more than its buffer has room for, and what it answered was read.
+-- a reader holds no more than its buffer has room for, and what it answered is among what it holds
 pub record IsInside (room held next : ℕ) : Type 0 where
   pub limit : room ≤ most_bytes
   pub within : held ≤ room
   pub behind : next ≤ held
 
--- The bytes that the reader holds are those of the file at their places.
+-- the bytes that the reader holds are those of the file at their places
 pub record Holds (reader : ReaderSeen) (bytes : List ℕ) : Type 0 where
   pub within : reader.taken ≤ length bytes
   pub behind : length reader.held ≤ reader.taken
   pub held : reader.held ≡ take (length reader.held) (drop (reader.taken - length reader.held) bytes)
 
--- The buffer holds n bytes of the file from its front, where its first bytes were so before, and n is less than
--- its length only where the file ends there.
+-- the buffer holds n bytes of the file from its front, if its first bytes did before, and fewer than fit where the file ends
 pub record Filled (content : Option (List ℕ)) (held : ℕ) (old : List ℕ) (n : ℕ) (new : List ℕ) : Type 0 where
   pub long : length new ≡ length old
   pub front : (bytes : List ℕ) → content ≡ Some bytes → take held old ≡ take held bytes → take n new ≡ take (length old) bytes
 
--- Name and limit stay.
+-- name and limit of the reader stay
 pub record SameReader (old new : ReaderSeen) : Type 0 where
   pub name : new.name ≡ old.name
   pub limit : new.limit ≡ old.limit
 
--- A reader has read on to the end of what it may see of the file, and nothing else of it changed.
+-- the reader has read on to the end of what it may see of the file, and nothing else of it changed
 pub record ReadsOn (content : Option (List ℕ)) (old new : ReaderSeen) : Type 0 where
   pub same : SameReader old new
   pub sized : new.size ≡ old.size
@@ -65,23 +64,23 @@ pub record ReadsOn (content : Option (List ℕ)) (old new : ReaderSeen) : Type 0
 abbrev pub seen_from : ℕ → ℕ → List ℕ → List ℕ
 seen_from limit at bytes = drop at (take limit bytes)
 
--- why no header stands at the front; with a limit of nine bytes or more it is never the limit
+-- why no header stands at the front, if none does; with a limit of nine bytes or more the limit is no reason
 abbrev pub header_stop : ℕ → List ℕ → Option Stop
 header_stop limit bytes = if is_some (header_size (take limit bytes)) then None else Some (RefusedAt 0 Header)
 
--- why no record stands at a place, every slot taken as filled
+-- why no record stands at a place, if none does, every slot taken as filled
 abbrev pub next_stop : (limit size at : ℕ) → List ℕ → Option Stop
 next_stop limit size at bytes =
     option_map (λ why. stop_within (nat_le limit (length bytes)) (RefusedAt at why)) (refusal size (replicate 16 true) (seen_from limit at bytes))
 
--- a record lies within a memory of this size and the sixteen slots
+-- the record lies within a memory of this size and the sixteen slots
 abbrev pub LiesWithin : ℕ → Entry → Type 0
 LiesWithin size (Written at bytes) = at + length bytes ≤ size
 LiesWithin size (Saved slot) = slot ≤ 15
 LiesWithin size (Restored slot) = slot ≤ 15
 LiesWithin size _ = ⊤
 
--- A record stands at the front of these bytes, over a memory of some size.
+-- a record stands at the front of these bytes, over a memory of some size
 pub record IsWhole (bytes : List ℕ) : Type 0 where
   pub size : ℕ
   pub good : refusal size (replicate 16 true) bytes ≡ None
@@ -90,32 +89,32 @@ pub record IsWhole (bytes : List ℕ) : Type 0 where
 abbrev pub next_entry : (limit at : ℕ) → List ℕ → Entry
 next_entry limit at bytes = front (seen_from limit at bytes)
 
--- what a reader answers for a stop; a failed read is told by no stop
+-- the error is what a reader answers for a stop; a failed read is told by no stop
 abbrev pub IsStop : TraceError → Option Stop → Type 0
 IsStop (errors.Refused at why) stop = stop ≡ Some (RefusedAt at why)
 IsStop errors.TooLong stop = stop ≡ Some PastLimit
 IsStop errors.Read stop = ⊤
 
--- a failed read is answered only where a fault was counted
+-- the error is no failed read, or the count of faults rose
 abbrev pub ByFault : TraceError → ℕ → ℕ → Type 0
 ByFault errors.Read before now = Rose before now
 ByFault (errors.Refused at why) before now = ⊤
 ByFault errors.TooLong before now = ⊤
 
--- An error leaves the memory size and the last place.
+-- an error leaves the memory size and the last place
 pub record StaysBefore (old new : ReaderSeen) : Type 0 where
   pub same : SameReader old new
   pub sized : new.size ≡ old.size
   pub last : new.last ≡ old.last
 
--- the reader behind a header
+-- the reader is behind a header of this size
 pub record IsBehindHeader (size : ℕ) (old new : ReaderSeen) : Type 0 where
   pub same : SameReader old new
   pub sized : new.size ≡ Some size
   pub last : new.last ≡ 0
   pub next : new.next ≡ 9
 
--- the reader behind one record more, which ends within the limit
+-- the reader is behind one record more, which ends within the limit
 pub record IsBehindRecord (entry : Entry) (old new : ReaderSeen) : Type 0 where
   pub same : SameReader old new
   pub sized : new.size ≡ old.size
@@ -123,13 +122,12 @@ pub record IsBehindRecord (entry : Entry) (old new : ReaderSeen) : Type 0 where
   pub next : new.next ≡ old.next + length (entry_bytes entry)
   pub within : new.next ≤ new.limit
 
--- What stands at a place of a file that a reader may see is whole and is this record.
+-- at a place of what a reader may see of a file stands this record, whole
 pub record Stands (limit size at : ℕ) (entry : Entry) (bytes : List ℕ) : Type 0 where
   pub good : next_stop limit size at bytes ≡ None
   pub is : entry ≡ next_entry limit at bytes
 
--- What a reader knows of its next record once it has read as far as it must: why none stands there, if so, and
--- that the file shows the same. A record is cut only where all that may be seen of the file is held.
+-- the reader has read so far that it knows why no record is next, if none is, and the file shows the same
 pub record Knows (content : Option (List ℕ)) (size : ℕ) (why : Option Why) (old new : ReaderSeen) : Type 0 where
   pub same : SameReader old new
   pub sized : new.size ≡ old.size
@@ -141,7 +139,7 @@ pub record Knows (content : Option (List ℕ)) (size : ℕ) (why : Option Why) (
   pub entry : (bytes : List ℕ) → content ≡ Some bytes → Holds old bytes → why ≡ None → front (drop old.next new.held) ≡ next_entry old.limit old.next bytes
   pub cut : (bytes : List ℕ) → content ≡ Some bytes → Holds old bytes → why ≡ Some Cut → new.held ≡ take old.limit bytes
 
--- What `next_record` does before it lends the record: it moves behind it, and holds its bytes.
+-- before a record is lent the reader is behind it, and holds its bytes
 pub record Found (content : Option (List ℕ)) (at : ℕ) (old new : ReaderSeen) : Type 0 where
   pub here : at ≡ old.next
   pub whole : IsWhole (drop at new.held)

@@ -3,7 +3,7 @@ use Rattle.std.specs.Prelude.{◌≡◌, ℕ, ◌+◌, ◌≤◌, ⊤, Bool, tru
 use Rattle.ra_trace.specs.Entries.{Entry, Written, Framed, Saved, Restored, Shown, Ended, trace_bytes}
 use Rattle.ra_trace.specs.Cutting.{Trace, Reached, filled_after}
 
--- a record that is no end, over a memory of this size: a write fits, and a slot is one of the sixteen
+-- the record is no end and keeps the rules: a write fits the memory, and a slot is one of the sixteen
 abbrev pub Fits : ℕ → Entry → Type 0
 Fits size (Written at bytes) = (at + length bytes ≤ size) × (length bytes ≤ 65535)
 Fits size Framed = ⊤
@@ -12,12 +12,12 @@ Fits size (Restored slot) = slot ≤ 15
 Fits size Shown = ⊤
 Fits size Ended = ⊥
 
--- a restore takes a filled slot
+-- the record takes a filled slot, if it is a restore
 abbrev pub TakesFilled : List Bool → Entry → Type 0
 TakesFilled filled (Restored slot) = slice_index_or filled slot false ≡ true
 TakesFilled filled _ = ⊤
 
--- every restore takes a slot that is filled before the first record or by a save before it
+-- each restore takes a slot that is filled before the first record or by a save before it
 abbrev pub AllTakeFilled : List Bool → List Entry → Type 0
 AllTakeFilled filled [] = ⊤
 AllTakeFilled filled (entry ∷ more) = TakesFilled filled entry × AllTakeFilled (filled_after entry filled) more

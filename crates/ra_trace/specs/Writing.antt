@@ -1,19 +1,19 @@
--- What a writer of a trace is seen as, and the records that it wrote.
+-- What a writer of a trace is seen as, and the records that it wrote: docs/DEFINITIONS.md, "Trace file".
 use Rattle.std.specs.Prelude.{◌≡◌, ℕ, ◌≤◌, ◌^◌, List, [], ◌∷◌, ◌++◌, All}
 use Rattle.std.specs.List.{flat_map}
 use Rattle.ra_trace.specs.Entries.{Entry, entry_bytes, trace_bytes}
 use Rattle.ra_trace.specs.Rules.{Fits}
 
--- the memory size, and the bytes so far
+-- what a caller sees of a writer: the memory size, and the bytes so far
 pub record WriterSeen : Type 0 where
   pub size : ℕ
   pub bytes : List ℕ
 
--- the bytes with one record more
+-- the writer with one record more
 abbrev pub with_record : WriterSeen → Entry → WriterSeen
 with_record old entry = record old { bytes = old.bytes ++ entry_bytes entry }
 
--- the bytes with some records more
+-- the writer with these records more
 abbrev pub with_records : WriterSeen → List Entry → WriterSeen
 with_records old entries = record old { bytes = old.bytes ++ flat_map entry_bytes entries }
 
@@ -23,6 +23,6 @@ pub record Wrote (writer : WriterSeen) (entries : List Entry) : Type 0 where
   pub fit : All (Fits writer.size) entries
   pub bytes : writer.bytes ≡ trace_bytes writer.size entries
 
--- whatever records it had written, it has written one more
+-- the writer has written one record more, whatever records it had written
 abbrev pub Adds : Entry → WriterSeen → WriterSeen → Type 0
 Adds entry old new = (entries : List Entry) → Wrote old entries → Wrote new (entries ++ entry ∷ [])
