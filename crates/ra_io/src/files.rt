@@ -11,7 +11,9 @@ pub struct Failed;
 /// A put failed, or there was no memory for it.
 #[derive(Clone, Copy, Debug, PartialEq, Eq)]
 pub enum PutFailed {
+    /// The put met a fault, which was counted.
     Failed,
+    /// There was no memory for it, and every name is as it was.
     Memory,
 }
 
@@ -30,9 +32,10 @@ pub trait Files {
 
     /// Reads bytes at a place, counted from 0, into the front of the buffer, and says how many.
     ///
-    /// With room in the buffer, none come only at the end of the file or past it. `Failed` comes
-    /// only where a fault of this name was counted. What stands in the buffer behind the bytes
-    /// that were read is left open, and so is all of it after an error.
+    /// The place and the room of the buffer together are at most 2^41. With room in the buffer,
+    /// none come only at the end of the file or past it. `Failed` comes only where a fault of this
+    /// name was counted. What stands in the buffer behind the bytes that were read is left open,
+    /// and so is all of it after an error.
     fn read_at(&mut self, name: &str, at: u64, buf: &mut [u8]) -> Result<usize, Failed>
         requires { at + length buf.old ≤ 2 ^ 41 }
 
@@ -48,10 +51,10 @@ pub trait Files {
         ensures reads { NoneFell (read_faults self.old) (read_faults self.new) }
         ensures puts { NoneFell (put_faults self.old) (put_faults self.new) };
 
-    /// Replaces the whole content of one name.
+    /// Replaces the whole content of one name; every other name stays.
     ///
     /// `Failed` comes only where a fault of this name was counted, and then the name may hold
-    /// anything.
+    /// anything. `Memory` leaves every name as it was.
     fn put(&mut self, name: &str, bytes: &[u8]) -> Result<(), PutFailed>
         // What was put.
         ensures ok { OnOk result (IfSome (content self.old name.now) (λ _. content self.new name.now ≡ Some bytes.now)) }

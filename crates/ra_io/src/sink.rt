@@ -7,7 +7,9 @@ ghost use Rattle.ra_io.specs.Sink.{grown, taken};
 /// A write failed, or there was no memory for it.
 #[derive(Clone, Copy, Debug, PartialEq, Eq)]
 pub enum SinkFailed {
+    /// The write met a fault, which was counted.
     Failed,
+    /// There was no memory for it.
     Memory,
 }
 

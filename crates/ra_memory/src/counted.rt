@@ -6,7 +6,9 @@ use std::sync::ledger::Ledger;
 /// A memory whose reads are steps: docs/DEFINITIONS.md, "Images and histories".
 #[derive(Drop)]
 pub struct Counted<'a, L: Ledger> {
+    /// The memory that is read.
     pub memory: &'a Memory,
+    /// The steps to which each read adds one.
     pub steps: &'a mut Steps<L>,
 }
 

@@ -4,14 +4,17 @@ ghost use base.Fml.{GName};
 
 /// Bytes that are read a number at a time, and count it: docs/DEFINITIONS.md, "Images and histories".
 pub trait Image {
+    /// The bytes that are read.
     ghost bytes: { Self → List ℕ };
 
+    /// How many reads were counted.
     ghost reads: { Self → ℕ };
 
-    // which counter it is that counts
+    /// Which counter it is that counts.
     ghost counter: { Self → GName };
 
-    /// The little-endian number of `width` bytes from `at` on, with 0 for a byte past the end.
+    /// The little-endian number of `width` bytes from `at` on, with 0 for a byte past the end. It
+    /// is one read. The width is 1, 2 or 4.
     fn read(&mut self, at: u32, width: u8) -> u32
         requires { IsReadWidth width }
         ensures number { result ≡ raw width (bytes self.old) at }

@@ -44,9 +44,9 @@ impl Memory {
         self.bytes.len() as u32
     }
 
-    /// Writes the bytes from the address `at` on.
+    /// Writes the bytes from the address `at` on: docs/DEFINITIONS.md, "Images and histories".
     ///
-    /// `OutOfRange` where they pass the end, and then nothing is written.
+    /// `OutOfRange` exactly where they pass the end, and then nothing is written.
     pub fn write(&mut self, at: u32, bytes: &[u8]) -> Result<(), OutOfRange>
         ensures ok { OnOk result (self.new ≡ written self.old at bytes.now) }
         ensures refused { IsErr result ↔ (length self.old < at + length bytes.now) }
@@ -60,8 +60,8 @@ impl Memory {
         Ok(())
     }
 
-    /// The little-endian number of `width` bytes from the address `at` on, with 0 for a byte past the
-    /// end. It is one step.
+    /// The little-endian number of `width` bytes, 1, 2 or 4, from the address `at` on, with 0 for a
+    /// byte past the end. It is one step.
     pub fn read<L: Ledger>(&self, at: u32, width: u8, steps: &mut Steps<L>) -> u32
         requires { IsReadWidth width }
         ensures number { result ≡ raw width self.now at }

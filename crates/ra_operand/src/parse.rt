@@ -10,8 +10,8 @@ use ra_text::{Cursor, Syntax};
 
 /// The operand at a place, and the place where it ends: docs/DEFINITIONS.md, "Operands".
 ///
-/// Bytes are read up to the first that goes on with no operand. `Syntax` carries that place where
-/// what was read is no whole operand.
+/// Places are in bytes from the start. Bytes are read up to the first that goes on with no operand.
+/// `Syntax` carries that place, and comes exactly where what was read is no whole operand.
 pub fn parse_operand(text: &[u8], at: usize) -> Result<(Operand, usize), Syntax>
     requires { at ≤ length text.now }
     ensures { MatchResult result
@@ -28,6 +28,8 @@ pub fn parse_operand(text: &[u8], at: usize) -> Result<(Operand, usize), Syntax>
 }
 
 /// A text spells at most one operand: docs/DEFINITIONS.md, "Operands".
+///
+/// A law: it does nothing.
 pub fn one_operand()
     ensures { OneSpelling operand }
 {}

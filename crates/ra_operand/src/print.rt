@@ -51,7 +51,8 @@ fn letter(size: Size) -> &'static str
     }
 }
 
-/// Writes the canonical text of an operand at the end of a text.
+/// Writes the canonical text of an operand at the end of a text: docs/DEFINITIONS.md, "Canonical
+/// text". It fails only for want of memory.
 pub fn write_operand(text: &mut String, operand: &Operand) -> Result<(), AllocError>
     ensures text { OnOk result (string_bytes text.new ≡ string_bytes text.old ++ operand_text operand.now) }
     ensures number { Fits32 operand.now }

@@ -13,7 +13,10 @@ use crate::size::Size;
 use crate::tables::{kind_of, size_of};
 use ra_text::{Cursor, Stop};
 
-/// Reads an operand: memory, a constant or `{recall}`.
+/// Reads an operand: docs/DEFINITIONS.md, "Operands".
+///
+/// `Stop` exactly where what stands before the first byte that goes on with no operand is no whole
+/// operand; the cursor then stands before that byte.
 #[tactic(auto, unfolding(crate::specs::Reading::operand_at))]
 pub fn take_operand(cursor: &mut Cursor<'_>) -> Result<Operand, Stop>
     ensures { Moves result cursor.new.rest.now (operand_at cursor.old.rest.now) }

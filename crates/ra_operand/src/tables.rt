@@ -8,7 +8,7 @@ ghost use Rattle.ra_text.specs.Table.{is_in, lookup, only};
 use crate::kind::Kind;
 use crate::size::Size;
 
-/// Whether an operand may begin with the byte.
+/// Whether an operand may begin with the byte: docs/DEFINITIONS.md, "Operands".
 pub fn begins_operand(byte: u8) -> bool
     ensures { result ≡ is_in (only operand_starts) byte }
 {
@@ -20,7 +20,8 @@ pub fn begins_operand(byte: u8) -> bool
     }
 }
 
-/// The kind of a prefix, in either case.
+/// The kind of a prefix, in either case: docs/DEFINITIONS.md, "Operands". `None` for any other
+/// byte.
 pub fn kind_of(byte: u8) -> Option<Kind>
     ensures { result ≡ lookup kinds byte }
 {

@@ -6,7 +6,7 @@ ghost use Rattle.ra_operand.specs.Views.{as_decimal, bits_of, mask_of, reversed,
 use crate::kind::Kind;
 use crate::size::Size;
 
-/// The bytes of the cell that a size views: docs/DEFINITIONS.md, "Sizes".
+/// How many bytes the cell of a size has, 1, 2 or 4: docs/DEFINITIONS.md, "Sizes".
 pub fn width(size: Size) -> u8
     ensures { result ≡ width_of size }
 {

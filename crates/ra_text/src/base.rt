@@ -4,12 +4,14 @@ ghost use Rattle.ra_text.specs.Number.{base_of, digit_of};
 /// The base of a number in text.
 #[derive(Clone, Copy, Debug, PartialEq, Eq)]
 pub enum Base {
+    /// The digits 0 to 9.
     Ten,
+    /// The digits 0 to 9 and a to f, in either case.
     Sixteen,
 }
 
 impl Base {
-    /// How many digits there are.
+    /// How many digits the base has: 10 or 16.
     pub fn count(self) -> u32
         ensures { result ≡ base_of self }
     {
@@ -19,7 +21,9 @@ impl Base {
         }
     }
 
-    /// The number that a digit stands for. Hexadecimal digits are read in either case.
+    /// The number that a digit of the base stands for: docs/DEFINITIONS.md, "Numbers in text".
+    ///
+    /// `None` exactly for a byte that is no digit. Hexadecimal digits are read in either case.
     pub fn digit(self, byte: u8) -> Option<u32>
         ensures { result ≡ digit_of self byte }
     {

@@ -11,6 +11,7 @@ use crate::base::Base;
 /// What is left of a text that is read.
 #[derive(Clone, Copy)]
 pub struct Cursor<'a> {
+    /// The bytes from where the cursor stands to the end of the text.
     pub rest: &'a [u8],
 }
 
@@ -21,7 +22,7 @@ pub struct Stop;
 impl<'a> Cursor<'a> {
     ghost use Rattle.ra_text.specs.Moves.{Moves, PassesOne, SumsDigits};
 
-    /// The text from a place on.
+    /// The text from a place on, in bytes from its start.
     pub fn new(text: &'a [u8], at: usize) -> Self
         requires { at ≤ length text.now }
         ensures { result.rest.now ≡ drop at text.now }
@@ -30,7 +31,7 @@ impl<'a> Cursor<'a> {
         Cursor { rest }
     }
 
-    /// Where the cursor stands in the text that it reads.
+    /// Where the cursor stands in the text that it reads, in bytes from its start.
     pub fn place(&self, text: &[u8]) -> usize
         requires { length self.now.rest.now ≤ length text.now }
         ensures { result ≡ length text.now - length self.now.rest.now }
@@ -38,7 +39,7 @@ impl<'a> Cursor<'a> {
         text.len() - self.rest.len()
     }
 
-    /// Reads this byte.
+    /// Reads this byte. `Stop` where another byte or the end is next.
     pub fn byte(&mut self, wanted: u8) -> Result<(), Stop>
         ensures { Moves result self.new.rest.now (one_at (only (wanted ∷ [])) self.old.rest.now) }
     {
@@ -103,7 +104,8 @@ impl<'a> Cursor<'a> {
         }
     }
 
-    /// Reads this letter, given in upper case, in either case.
+    /// Reads this letter, given in upper case, in either case. `Stop` where another byte or the end
+    /// is next.
     pub fn letter(&mut self, upper: u8) -> Result<(), Stop>
         requires { upper < 128 }
         ensures { Moves result self.new.rest.now (one_at (only_letters (upper ∷ [])) self.old.rest.now) }
@@ -129,7 +131,8 @@ impl<'a> Cursor<'a> {
         }
     }
 
-    /// Reads these bytes.
+    /// Reads these bytes. `Stop` at the first that differs, or at the end, behind those that do
+    /// not.
     pub fn literal(&mut self, wanted: &[u8]) -> Result<(), Stop>
         ensures { Moves result self.new.rest.now (literal_at wanted.now self.old.rest.now) }
     {
@@ -140,6 +143,8 @@ impl<'a> Cursor<'a> {
     }
 
     /// Reads decimal digits, as many as stand there: docs/DEFINITIONS.md, "Numbers in text".
+    ///
+    /// The number is at most 4294967295. `Stop` exactly where no digit is next.
     pub fn decimal(&mut self) -> Result<u32, Stop>
         ensures { Moves result self.new.rest.now (decimal_at self.old.rest.now) }
     {
@@ -147,6 +152,8 @@ impl<'a> Cursor<'a> {
     }
 
     /// Reads hexadecimal digits, as many as stand there: docs/DEFINITIONS.md, "Numbers in text".
+    ///
+    /// The number is at most 4294967295. `Stop` exactly where no digit is next.
     pub fn hexadecimal(&mut self) -> Result<u32, Stop>
         ensures { Moves result self.new.rest.now (hexadecimal_at self.old.rest.now) }
     {
@@ -192,7 +199,8 @@ impl<'a> Cursor<'a> {
 
     /// Reads one optional sign and digits: docs/DEFINITIONS.md, "Numbers in text".
     ///
-    /// A negative number is kept as two's complement of 32 bits.
+    /// A negative number is at least -2147483648, and is given as two's complement of 32 bits.
+    /// `Stop` exactly where no digit is next, behind the sign if there is one.
     #[tactic(auto, unfolding(crate::specs::ReadingNumbers::signed_at))]
     pub fn signed(&mut self) -> Result<u32, Stop>
         ensures { Moves result self.new.rest.now (signed_at self.old.rest.now) }

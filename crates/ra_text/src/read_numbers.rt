@@ -7,9 +7,11 @@ ghost use Rattle.ra_text.specs.Table.{lookup};
 
 use crate::cursor::Cursor;
 
-/// The decimal number at a place, and the place behind its last digit.
+/// The decimal number at a place, and the place behind its last digit, both in bytes from the
+/// start: docs/DEFINITIONS.md, "Numbers in text".
 ///
-/// As many digits are read as stand there, and the number is at most 4294967295.
+/// As many digits are read as stand there, and the number is at most 4294967295. `None` exactly
+/// where no digit stands at the place.
 pub fn read_decimal(text: &[u8], at: usize) -> Option<(u32, usize)>
     requires { at ≤ length text.now }
     ensures found { IfSome result (λ x. EndsAt decimal text.now at x.1 (Some x.0)) }
@@ -22,9 +24,11 @@ pub fn read_decimal(text: &[u8], at: usize) -> Option<(u32, usize)>
     }
 }
 
-/// The decimal number with an optional sign at a place, and the place behind its last digit.
+/// The decimal number with an optional sign at a place, and the place behind its last digit, both
+/// in bytes from the start: docs/DEFINITIONS.md, "Numbers in text".
 ///
-/// A negative number is at least -2147483648, and is given as two's complement of 32 bits.
+/// A negative number is at least -2147483648, and is given as two's complement of 32 bits. `None`
+/// exactly where no digit stands at the place, after one optional sign.
 pub fn read_signed(text: &[u8], at: usize) -> Option<(u32, usize)>
     requires { at ≤ length text.now }
     ensures found { IfSome result (λ x. EndsAt signed text.now at x.1 (Some x.0)) }
@@ -37,9 +41,11 @@ pub fn read_signed(text: &[u8], at: usize) -> Option<(u32, usize)>
     }
 }
 
-/// The hexadecimal number at a place, and the place behind its last digit.
+/// The hexadecimal number at a place, and the place behind its last digit, both in bytes from the
+/// start: docs/DEFINITIONS.md, "Numbers in text".
 ///
-/// The digits are of either case, and the number is at most 4294967295.
+/// The digits are of either case, and the number is at most 4294967295. `None` exactly where no
+/// digit stands at the place.
 pub fn read_hex(text: &[u8], at: usize) -> Option<(u32, usize)>
     requires { at ≤ length text.now }
     ensures found { IfSome result (λ x. EndsAt hexadecimal text.now at x.1 (Some x.0)) }

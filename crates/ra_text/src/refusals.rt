@@ -21,6 +21,6 @@ impl<T: Drop> From<AllocFailed<T>> for OutOfMemory {
 /// The text is outside the grammar.
 #[derive(Clone, Copy, Debug, PartialEq, Eq)]
 pub struct Syntax {
-    /// The first bad place: docs/DEFINITIONS.md, "First bad place".
+    /// The first bad place, in bytes from 0: docs/DEFINITIONS.md, "First bad place".
     pub at: usize,
 }
