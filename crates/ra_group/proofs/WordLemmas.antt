@@ -2,24 +2,16 @@
 use Rattle.std.proofs.Common.{◌≡◌, ℕ, zero, suc, ◌+◌, ◌-◌, ◌*◌, ◌<◌, ◌≤◌, List, [], ◌∷◌, length, get_or, take, drop, map, refl, sym, ap, ◌∙◌, arith}
 use Rattle.std.specs.List.{range_with_len}
 use Rattle.std.specs.Int.{w32, from_le_bytes}
-use Rattle.std.proofs.lemmas.List.{drop_more, drop-take, take-take, drop-drop}
+use Rattle.std.proofs.lemmas.List.{drop-take, take-take, drop-drop}
 use Rattle.std.proofs.lemmas.List.FromFn.{length-map-range_with_len}
+use Rattle.ra_text.proofs.Bytes.{four_bytes}
 use Rattle.ra_group.specs.Words.{word_at, words_at}
-
-four_bytes : (bytes : List ℕ) (at : ℕ) → at + 3 < length bytes → take 4 (drop at bytes) ≡ get_or bytes at 0 ∷ get_or bytes (at + 1) 0 ∷ get_or bytes (at + 2) 0 ∷ get_or bytes (at + 3) 0 ∷ []
-four_bytes bytes at l =
-    let one : at + 1 + 1 ≡ at + 2 = omega arith in
-    let two : at + 2 + 1 ≡ at + 3 = omega arith in
-    ap (take 4) (drop_more bytes at 0 (omega arith))
-    ∙ ap (λ xs. get_or bytes at 0 ∷ take 3 xs) (drop_more bytes (at + 1) 0 (omega arith) ∙ ap (λ n. get_or bytes (at + 1) 0 ∷ drop n bytes) one)
-    ∙ ap (λ xs. get_or bytes at 0 ∷ get_or bytes (at + 1) 0 ∷ take 2 xs) (drop_more bytes (at + 2) 0 (omega arith) ∙ ap (λ n. get_or bytes (at + 2) 0 ∷ drop n bytes) two)
-    ∙ ap (λ xs. get_or bytes at 0 ∷ get_or bytes (at + 1) 0 ∷ get_or bytes (at + 2) 0 ∷ take 1 xs) (drop_more bytes (at + 3) 0 (omega arith))
 
 -- the word at a place, as it is read
 pub word_at-read : (bytes : List ℕ) (k word : ℕ) → 4 * k + 3 < length bytes → word ≡ from_le_bytes w32 (get_or bytes (4 * k) 0 ∷ get_or bytes (4 * k + 1) 0 ∷ get_or bytes (4 * k + 2) 0 ∷ get_or bytes (4 * k + 3) 0 ∷ []) → word ≡ word_at bytes (0 + 4 * k)
 word_at-read bytes k word l is =
     let e : 4 * k ≡ 0 + 4 * k = omega arith in
-    is ∙ ap (from_le_bytes w32) (sym (four_bytes bytes (4 * k) l)) ∙ ap (word_at bytes) e
+    is ∙ ap (from_le_bytes w32) (sym (four_bytes bytes (4 * k) (omega arith))) ∙ ap (word_at bytes) e
 
 map_same_below : (g h : ℕ → ℕ) (a n : ℕ) → ((k : ℕ) → a ≤ k → k < a + n → g k ≡ h k) → map g (range_with_len a n) ≡ map h (range_with_len a n)
 map_same_below g h a zero same = refl

@@ -8,7 +8,7 @@ use ra_text::OutOfMemory;
 use std::alloc::Global;
 
 /// The word at a place, counted in bytes: docs/DEFINITIONS.md, "Progress file".
-#[tactic(auto, using(crate::proofs::Bytes::four_bytes))]
+#[tactic(auto, using(ra_text::proofs::Bytes::four_bytes))]
 pub fn word_at(bytes: &[u8], at: u64) -> u32
     requires { at + 4 ≤ length bytes.now }
     ensures { result ≡ spec.word_at bytes.now at }

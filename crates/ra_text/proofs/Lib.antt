@@ -11,3 +11,4 @@ pub mod Saturation
 pub mod Numerals
 pub mod Loops
 pub mod Items
+pub mod Bytes
