@@ -27,13 +27,10 @@ use Rattle.ra_condition.specs.Values.{measured_by, measured_conditions, times, t
 use Rattle.ra_condition.proofs.Structure.{measured-chain}
 use Rattle.ra_text.specs.Form.{Spell, One, ◌or◌}
 use Rattle.ra_text.specs.Table.{lookup, only, only_letters}
-use Rattle.ra_text.proofs.Items.{chain-spelled, joined-spelled}
+use Rattle.ra_text.proofs.Items.{one-byte, chain-spelled, joined-spelled}
 use Rattle.ra_text.proofs.Numerals.{decimal-spelled}
 
 -- ---- tails
-
-one-byte : (byte : ℕ) → only (byte ∷ []) byte ≡ Some tt → One (only (byte ∷ [])) (byte ∷ []) tt
-one-byte byte e = record { symbol = byte; alone = refl; listed = e }
 
 comparison-spelled : (op : Op) → not (is_bare op || is_arithmetic op) ≡ true → comparison (op_text op) op
 comparison-spelled Eq e = inl (record { front = codes "="; behind = []; v = tt; parts = refl; of_first = one-byte 61 refl; of_next = record { front = []; behind = []; v = tt; parts = refl; of_first = inr (record { empty = refl; is = refl }); of_next = record { empty = refl; is = refl } } })
@@ -42,14 +39,7 @@ comparison-spelled Lt e = inr (inr (inl (record { front = codes "<"; behind = []
 comparison-spelled Le e = inr (inr (inl (record { front = codes "<"; behind = codes "="; v = tt; parts = refl; of_first = one-byte 60 refl; of_next = inl (record { symbol = 61; alone = refl; listed = refl }) })))
 comparison-spelled Gt e = inr (inr (inr (record { front = codes ">"; behind = []; v = tt; parts = refl; of_first = one-byte 62 refl; of_next = inr (record { empty = refl; is = refl }) })))
 comparison-spelled Ge e = inr (inr (inr (record { front = codes ">"; behind = codes "="; v = tt; parts = refl; of_first = one-byte 62 refl; of_next = inl (record { symbol = 61; alone = refl; listed = refl }) })))
-comparison-spelled Bare e = absurd (cc e)
-comparison-spelled Mul e = absurd (cc e)
-comparison-spelled Div e = absurd (cc e)
-comparison-spelled And e = absurd (cc e)
-comparison-spelled Xor e = absurd (cc e)
-comparison-spelled Rem e = absurd (cc e)
-comparison-spelled Add e = absurd (cc e)
-comparison-spelled Sub e = absurd (cc e)
+comparison-spelled _ e = absurd (cc e)
 
 operator-spelled : (op : Op) → is_arithmetic op ≡ true → One (lookup operators) (op_text op) op
 operator-spelled Mul e = record { symbol = 42; alone = refl; listed = refl }
@@ -59,13 +49,7 @@ operator-spelled Xor e = record { symbol = 94; alone = refl; listed = refl }
 operator-spelled Rem e = record { symbol = 37; alone = refl; listed = refl }
 operator-spelled Add e = record { symbol = 43; alone = refl; listed = refl }
 operator-spelled Sub e = record { symbol = 45; alone = refl; listed = refl }
-operator-spelled Bare e = absurd (cc e)
-operator-spelled Eq e = absurd (cc e)
-operator-spelled Ne e = absurd (cc e)
-operator-spelled Lt e = absurd (cc e)
-operator-spelled Le e = absurd (cc e)
-operator-spelled Gt e = absurd (cc e)
-operator-spelled Ge e = absurd (cc e)
+operator-spelled _ e = absurd (cc e)
 
 some-target : (n : ℕ) → target_text (suc n) ≡ codes "." ++ (decimal (suc n) ++ codes ".")
 some-target n = let some : (suc n == 0) ≡ false = ne_eqb (suc n) 0 (suc-ne-zero n) in rw some
@@ -125,19 +109,7 @@ computed-spelled op right arithmetic fits = record {
 -- no operator is one operator
 bare-only : (op : Op) → is_bare op ≡ true → op ≡ Bare
 bare-only Bare e = refl
-bare-only Eq e = absurd (cc e)
-bare-only Ne e = absurd (cc e)
-bare-only Lt e = absurd (cc e)
-bare-only Le e = absurd (cc e)
-bare-only Gt e = absurd (cc e)
-bare-only Ge e = absurd (cc e)
-bare-only Mul e = absurd (cc e)
-bare-only Div e = absurd (cc e)
-bare-only And e = absurd (cc e)
-bare-only Xor e = absurd (cc e)
-bare-only Rem e = absurd (cc e)
-bare-only Add e = absurd (cc e)
-bare-only Sub e = absurd (cc e)
+bare-only _ e = absurd (cc e)
 
 bare-spelled : (hands may : Bool) → takes_op hands may Bare ≡ true → tail_of hands may [] bare
 bare-spelled true may takes = inr (inr (record { empty = refl; is = refl }))

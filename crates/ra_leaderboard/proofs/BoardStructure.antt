@@ -19,7 +19,7 @@ use Rattle.ra_leaderboard.proofs.FieldReaders.{own-letter}
 use Rattle.ra_leaderboard.proofs.TagLemmas.{letter-first}
 use Rattle.ra_text.specs.Form.{Form, Spell, Then}
 use Rattle.ra_text.specs.Table.{only}
-use Rattle.ra_text.proofs.Items.{chain-each, chain-spelled}
+use Rattle.ra_text.proofs.Items.{changed, chain-each, chain-spelled}
 
 -- ---- the structure of what is spelled
 
@@ -129,10 +129,6 @@ tagged t text f h = record {
   of_first = upper-spelled (word_of t);
   of_next = record { front = 58 ∷ []; behind = text; v = tt; parts = refl; of_first = record { symbol = 58; alone = refl; listed = refl }; of_next = h };
 }
-
--- what a form spells, changed
-changed : {V W : Type 0} (form : Form ℕ V) (of_it : V → W) (text : List ℕ) (v : V) → form text v → Then form (λ v. Spell (of_it v)) text (of_it v)
-changed form of_it text v h = record { front = text; behind = []; v = v; parts = sym (append-nil text); of_first = h; of_next = record { empty = refl; is = refl } }
 
 field-spelled : (f : FieldContents) → IsField f → field (field_text f) f
 field-spelled (OfStart t) h = tagged Start (trigger_text t) (OfStart t) (changed trigger (λ t. OfStart t) (trigger_text t) t (trigger-spelled t h))

@@ -70,7 +70,7 @@ reader-achievement = reader-then (head 65) (λ id. Then trigger (λ t. Spell (So
 -- ---- leaderboards
 
 -- the class of the bytes of a name
-abbrev in_name : ℕ → Option ℕ
+abbrev pub in_name : ℕ → Option ℕ
 in_name = any_but (codes " \n")
 
 reader-format : Reader format_name format_at (IsListed in_name)

@@ -20,6 +20,7 @@ use Rattle.ra_set.specs.Spelled.{IsItem, HasSmallId, IsSpelled, OptionalScript}
 use Rattle.ra_set.proofs.ContentsLemmas.{lines-of_file}
 use Rattle.ra_set.proofs.FileReaders.{empty-line}
 use Rattle.ra_set.proofs.FrontLemmas.{file-of_lines}
+use Rattle.ra_set.proofs.LineReaders.{in_name}
 use Rattle.ra_set.proofs.RunLemmas.{only-byte}
 use Rattle.ra_set.proofs.SetStructure.{contents-items}
 use Rattle.ra_text.specs.declared.base.Base.TheVariants.{Ten}
@@ -27,6 +28,7 @@ use Rattle.ra_text.specs.Form.{Form, Spell, One, Then}
 use Rattle.ra_text.specs.Number.{digits, numeral}
 use Rattle.ra_text.specs.Reading.{begins}
 use Rattle.ra_text.specs.Table.{lookup, is_in, only}
+use Rattle.ra_text.proofs.Items.{changed, one-byte}
 use Rattle.ra_text.proofs.Numerals.{numeral-spelled}
 use Rattle.ra_text.proofs.Tables.{all_pass}
 
@@ -45,19 +47,17 @@ exact-decimal zero small longer = absurd (omega (arith, ap length (decimal_digit
 exact-decimal (suc n) small longer = not-zero (decimal (suc n)) (first_decimal (suc n) (omega arith) (omega arith))
 
 -- the decimal digits of a number are an id
-id-spelled : (n : ℕ) → n < 2 ^ 32 → ExactId (decimal n) n
+pub id-spelled : (n : ℕ) → n < 2 ^ 32 → ExactId (decimal n) n
 id-spelled n small =
     let d = decimal_is_IsNumeral n (omega arith) in
     record { number = subst (λ m. numeral (lookup digits) 10 (decimal n) m) d.1 (numeral-spelled Ten (decimal n) d.0); exact = exact-decimal n small; fits = small }
 
-one-byte : (byte : ℕ) → only (byte ∷ []) byte ≡ Some tt → One (only (byte ∷ [])) (byte ∷ []) tt
-one-byte byte listed = record { symbol = byte; alone = refl; listed = listed }
-
 -- a letter, a space, an id and a space
-abbrev head_text : ℕ → ℕ → List ℕ
+abbrev pub head_text : ℕ → ℕ → List ℕ
 head_text letter id = letter ∷ (32 ∷ (decimal id ++ codes " "))
 
-head-spelled : (letter id : ℕ) → only (letter ∷ []) letter ≡ Some tt → id < 2 ^ 32 → head letter (head_text letter id) id
+-- a letter and the decimal digits of an id spell the head of a line
+pub head-spelled : (letter id : ℕ) → only (letter ∷ []) letter ≡ Some tt → id < 2 ^ 32 → head letter (head_text letter id) id
 head-spelled letter id listed small = record {
   front = letter ∷ [];
   behind = 32 ∷ (decimal id ++ codes " ");
@@ -83,11 +83,8 @@ head-spelled letter id listed small = record {
 
 -- ---- names of formats
 
--- the class of the bytes of a name
-abbrev in_name : ℕ → Option ℕ
-in_name = any_but (codes " \n")
-
-in-name : (c : ℕ) → not (is_in (only (codes " \n")) c) ≡ true → in_name c ≡ Some c
+-- a byte other than a space and a line feed is one of a name
+pub in-name : (c : ℕ) → not (is_in (only (codes " \n")) c) ≡ true → in_name c ≡ Some c
 in-name c e = cases (is_in (only (codes " \n")) c) e where
   cases : (b : Bool) → not b ≡ true → (if b then None else Some c) ≡ Some c
   cases true e = absurd (cc e)
@@ -97,17 +94,20 @@ both-true : (a b : Bool) → (if a then b else false) ≡ true → (a ≡ true) 
 both-true true b e = (refl, e)
 both-true false b e = absurd (cc e)
 
-run-spelled : (bytes : List ℕ) → all_pass (λ c. not (is_in (only (codes " \n")) c)) bytes ≡ true → run_of in_name bytes bytes
+-- such bytes are a run of the class
+pub run-spelled : (bytes : List ℕ) → all_pass (λ c. not (is_in (only (codes " \n")) c)) bytes ≡ true → run_of in_name bytes bytes
 run-spelled [] all = (refl, refl)
 run-spelled (c ∷ bytes) all =
     let e = both-true (not (is_in (only (codes " \n")) c)) (all_pass (λ c. not (is_in (only (codes " \n")) c)) bytes) all in
     record { symbol = c; tag = c; front = []; behind = bytes; parts = refl; separated = in-name c e.0; of_item = record { empty = refl; is = refl }; of_others = run-spelled bytes e.1 }
 
 -- a name that spells a format
-abbrev NameOf : Format → Type 0
+abbrev pub NameOf : Format → Type 0
 NameOf format = (name : List ℕ) × format_name name format
 
-named : (c : ℕ) (others : List ℕ) (format : Format) → in_name c ≡ Some c → all_pass (λ c. not (is_in (only (codes " \n")) c)) others ≡ true → format ≡ format_of_name (c ∷ others) → NameOf format
+-- such bytes are a name of the format that they stand for
+pub named : (c : ℕ) (others : List ℕ) (format : Format) → in_name c ≡ Some c
+    → all_pass (λ c. not (is_in (only (codes " \n")) c)) others ≡ true → format ≡ format_of_name (c ∷ others) → NameOf format
 named c others format first all is = (
   c ∷ others,
   record {
@@ -120,7 +120,8 @@ named c others format first all is = (
   },
 )
 
-name-of : (format : Format) → HasDigits format → NameOf format
+-- each format that a name has has a name
+pub name-of : (format : Format) → HasDigits format → NameOf format
 name-of Value h = named 86 (codes "ALUE") Value refl refl refl
 name-of Score h = named 83 (codes "CORE") Score refl refl refl
 name-of Frames h = named 70 (codes "RAMES") Frames refl refl refl
@@ -152,10 +153,6 @@ name-of (Float n) h = float n h.0 h.1 where
 
 -- ---- items
 
--- what a form spells, changed
-changed : {V W : Type 0} (form : Form ℕ V) (of_it : V → W) (text : List ℕ) (v : V) → form text v → Then form (λ v. Spell (of_it v)) text (of_it v)
-changed form of_it text v h = record { front = text; behind = []; v = v; parts = sym (append-nil text); of_first = h; of_next = record { empty = refl; is = refl } }
-
 -- a line for an item
 item-line : (x : ItemContents) → IsItem x → HasSmallId x → (text : List ℕ) × line text (Some x)
 item-line (Unlocks id t) h small = (
@@ -182,7 +179,7 @@ item-line (Ranks id format b) h small = let name = name-of format h.1 in (
 )
 
 -- a line with its end
-with-end : (t : List ℕ) (l : Line) → line t l → ended_line (t ++ codes "\n") l
+pub with-end : (t : List ℕ) (l : Line) → line t l → ended_line (t ++ codes "\n") l
 with-end t l h = record {
   front = t;
   behind = codes "\n";

@@ -1,8 +1,25 @@
 -- What is spelled by items with separators: each item, and the end; and a text that spells given items.
 use Rattle.std.proofs.Common.{◌≡◌, ℕ, ◌<◌, Bool, true, List, [], ◌∷◌, ◌++◌, length, Option, Some, refl, sym, subst, arith, append-nil}
 use Rattle.std.specs.List.{flat_map, AllByRecursion}
-use Rattle.ra_text.specs.Form.{Form}
+use Rattle.ra_text.specs.Form.{Form, Spell, One, Then}
 use Rattle.ra_text.specs.Chain.{Chain, joined}
+use Rattle.ra_text.specs.Table.{only}
+
+-- a byte alone is that byte
+pub one-byte : (byte : ℕ) → only (byte ∷ []) byte ≡ Some tt → One (only (byte ∷ [])) (byte ∷ []) tt
+one-byte byte listed = record { symbol = byte; alone = refl; listed = listed }
+
+-- what a form spells, changed
+pub changed : {V W : Type 0} (form : Form ℕ V) (of_it : V → W) (text : List ℕ) (v : V) → form text v
+    → Then form (λ v. Spell (of_it v)) text (of_it v)
+changed form of_it text v h = record {
+  front = text;
+  behind = [];
+  v = v;
+  parts = sym (append-nil text);
+  of_first = h;
+  of_next = record { empty = refl; is = refl };
+}
 
 -- the state behind items
 abbrev pub ends_in : {S V : Type 0} → (S → V → S) → S → List V → S
