@@ -7,7 +7,7 @@ mod LawLemmas
 mod OutcomeLemmas
 mod PassLemmas
 mod PausesLemmas
-mod TallyLemmas
+pub mod TallyLemmas
 mod TurnLemmas
 mod Turns
 pub mod WordLemmas

@@ -1,7 +1,6 @@
 -- How far the pass is: what it carries, tallies and writes after some places.
 use Rattle.std.proofs.Common.{◌≡◌, ◌≢◌, ℕ, Bool, true, false, not, ◌&&◌, ◌||◌, cond, eqb, Option, None, Some, List, [], ◌∷◌, ◌++◌, length, get_or, slice_index, slice_index_or, refl, sym, ap, ◌∙◌, inl, inr}
 use Rattle.std.specs.List.{list_any}
-use Rattle.std.proofs.lemmas.List.Folds.{list_any-append}
 use Rattle.std.proofs.lemmas.List.FromFn.{fill_by_all}
 use Rattle.std.proofs.lemmas.Bool.{cases_eq, cond-true, cond-false, eq-eqb, ne_eqb}
 use Rattle.ra_condition.specs.Flags.{combines, hands_on, is_pause}
@@ -14,8 +13,8 @@ use Rattle.ra_group.specs.Equations.{Frame, settled, settled_at}
 use Rattle.ra_group.specs.Outcome.{some_valid, outcome_of, next_hit, next_hits}
 use Rattle.ra_group.specs.Tallies.{noted, no_tally, outcome_by}
 use Rattle.ra_group.proofs.Carried.{carried, carried-push, settled_after, seen_after_handed, seen_after_counted}
-use Rattle.ra_group.proofs.TallyLemmas.{tally_of, tally_of-push, tally_of-parts, outcome_by-tally_of, noted_handed}
-use Rattle.ra_group.proofs.Turns.{Turn, visited}
+use Rattle.ra_group.proofs.TallyLemmas.{any_push, tally_of, tally_of-push, tally_of-parts, outcome_by-tally_of, noted_handed}
+use Rattle.ra_group.proofs.Turns.{Turn, visited, or_none}
 
 -- the hits after these places: the next ones there, the old ones elsewhere
 pub record AreWritten (f : Frame) (js : List ℕ) (hits : List ℕ) : Type 0 where
@@ -30,20 +29,9 @@ pub record HasPassed (form : Form) (f : Frame) (js : List ℕ) (before : Option 
 pub passed_none : (form : Form) (f : Frame) → HasPassed form f [] None no_tally f.hits
 passed_none form f = record { carries = refl; tallied = refl; written = record { each = λ j. refl } }
 
-any_more : (js : List ℕ) (i j : ℕ) → list_any (λ x. eqb x j) (js ++ i ∷ []) ≡ (list_any (λ x. eqb x j) js || eqb i j)
-any_more js i j = list_any-append (λ x. eqb x j) js (i ∷ []) ∙ ap (λ b. list_any (λ x. eqb x j) js || b) (or_false (eqb i j))
-  where
-    or_false : (b : Bool) → (b || false) ≡ b
-    or_false true = refl
-    or_false false = refl
-
 or_true : (a b : Bool) → b ≡ true → (a || b) ≡ true
 or_true true b e = refl
 or_true false b e = e
-
-or_none : (a b : Bool) → b ≡ false → (a || b) ≡ a
-or_none true b e = refl
-or_none false b e = e
 
 -- one place more is written
 written_more : (f : Frame) (js hits hits' : List ℕ) (i : ℕ) → get_or hits' i 0 ≡ next_hit f i → ((j : ℕ) → j ≢ i → get_or hits' j 0 ≡ get_or hits j 0) → AreWritten f js hits → AreWritten f (js ++ i ∷ []) hits'
@@ -51,10 +39,12 @@ written_more f js hits hits' i here others w = record {
   each = λ j. elim (cases_eq j i) [
     | inl same ↦
         ap (λ k. get_or hits' k 0) same ∙ here ∙ ap (next_hit f) (sym same)
-        ∙ sym (cond-true (list_any (λ x. eqb x j) (js ++ i ∷ [])) (next_hit f j) (get_or f.hits j 0) (any_more js i j ∙ or_true (list_any (λ x. eqb x j) js) (eqb i j) (eq-eqb i j (sym same))))
+        ∙ sym (cond-true (list_any (λ x. eqb x j) (js ++ i ∷ [])) (next_hit f j) (get_or f.hits j 0)
+        (any_push (λ x. eqb x j) js i ∙ or_true (list_any (λ x. eqb x j) js) (eqb i j) (eq-eqb i j (sym same))))
     | inr other ↦
         others j other ∙ w.each j
-        ∙ ap (λ b. cond b (next_hit f j) (get_or f.hits j 0)) (sym (any_more js i j ∙ or_none (list_any (λ x. eqb x j) js) (eqb i j) (ne_eqb i j (λ e. other (sym e)))))
+        ∙ ap (λ b. cond b (next_hit f j) (get_or f.hits j 0))
+        (sym (any_push (λ x. eqb x j) js i ∙ or_none (list_any (λ x. eqb x j) js) (eqb i j) (ne_eqb i j (λ e. other (sym e)))))
   ];
 }
 

@@ -2,6 +2,7 @@
 use Rattle.std.proofs.Common.{◌≡◌, ℕ, max, Bool, true, false, not, ◌&&◌, ◌||◌, cond, Option, None, Some, List, [], ◌∷◌, ◌++◌, slice_index, refl, sym, ap, ◌∙◌, arith}
 use Rattle.std.specs.List.{list_any, list_all, filter}
 use Rattle.std.proofs.lemmas.List.Folds.{list_any-append, list_all-append}
+use Rattle.std.proofs.Math.Bool.{or-false, and-true}
 use Rattle.ra_condition.specs.declared.flag.Flag.{Flag}
 use Rattle.ra_condition.specs.declared.flag.Flag.TheVariants.{AddSource, SubSource, AddAddress, Remember, Plain, PauseIf, ResetIf, AddHits, SubHits, AndNext, OrNext, Measured, MeasuredPercent, MeasuredIf, TriggerIf, ResetNextIf}
 use Rattle.ra_condition.specs.declared.condition.Condition.{Condition}
@@ -32,25 +33,21 @@ tally_of form f js = record {
 pub outcome_by-tally_of : (form : Form) (f : Frame) → outcome_by (tally_of form f (places f.conditions)) ≡ outcome_of form f
 outcome_by-tally_of form f = refl
 
-or_false : (b : Bool) → (b || false) ≡ b
-or_false true = refl
-or_false false = refl
+-- whether some item passes, with one item more
+pub any_push : {A : Type 0} (p : A → Bool) (xs : List A) (x : A) → list_any p (xs ++ x ∷ []) ≡ (list_any p xs || p x)
+any_push p xs x = list_any-append p xs (x ∷ []) ∙ ap (λ b. list_any p xs || b) (or-false (p x))
 
-and_true : (b : Bool) → (b && true) ≡ b
-and_true true = refl
-and_true false = refl
+-- whether all items pass, with one item more
+pub all_push : {A : Type 0} (p : A → Bool) (xs : List A) (x : A) → list_all p (xs ++ x ∷ []) ≡ (list_all p xs && p x)
+all_push p xs x = list_all-append p xs (x ∷ []) ∙ ap (λ b. list_all p xs && b) (and-true (p x))
 
-any_push : (p : ℕ → Bool) (js : List ℕ) (j : ℕ) → list_any p (js ++ j ∷ []) ≡ (list_any p js || p j)
-any_push p js j = list_any-append p js (j ∷ []) ∙ ap (λ b. list_any p js || b) (or_false (p j))
-
-all_push : (p : ℕ → Bool) (js : List ℕ) (j : ℕ) → list_all p (js ++ j ∷ []) ≡ (list_all p js && p j)
-all_push p js j = list_all-append p js (j ∷ []) ∙ ap (λ b. list_all p js && b) (and_true (p j))
-
-larger_none : (a : Option ℕ) → larger a None ≡ a
+-- none is never the larger
+pub larger_none : (a : Option ℕ) → larger a None ≡ a
 larger_none None = refl
 larger_none (Some a) = refl
 
-larger_assoc : (a b c : Option ℕ) → larger (larger a b) c ≡ larger a (larger b c)
+-- the larger of three numbers, whichever two come first
+pub larger_assoc : (a b c : Option ℕ) → larger (larger a b) c ≡ larger a (larger b c)
 larger_assoc None b c = refl
 larger_assoc (Some a) None c = refl
 larger_assoc (Some a) (Some b) None = refl
@@ -116,25 +113,16 @@ tally_of-parts form f q js =
     (any_parts (λ i. is_measured (condition_at f.conditions i).flag && from_total form (condition_at f.conditions i)) q js)
 
 same_left : (t : Tally) → record { paused = t.paused || false; reset = t.reset || false; valid = t.valid && true; primed = t.primed && true; counting = t.counting && true; greatest = larger t.greatest None; from_hits = t.from_hits || false } ≡ t
-same_left t = same_tally (or_false t.paused) (or_false t.reset) (and_true t.valid) (and_true t.primed) (and_true t.counting) (larger_none t.greatest) (or_false t.from_hits)
+same_left t =
+    same_tally (or-false t.paused) (or-false t.reset) (and-true t.valid) (and-true t.primed) (and-true t.counting)
+    (larger_none t.greatest) (or-false t.from_hits)
 
 noted_flag : (form : Form) (flag : Flag) (c : Condition) (here : Settled) (left : ℕ) (t : Tally) → hands_on flag ≡ true → noted form (record c { flag = flag }) here left t ≡ t
 noted_flag form AddSource c here left t h = same_left t
 noted_flag form SubSource c here left t h = same_left t
 noted_flag form AddAddress c here left t h = same_left t
 noted_flag form Remember c here left t h = same_left t
-noted_flag form Plain c here left t h = cc
-noted_flag form PauseIf c here left t h = cc
-noted_flag form ResetIf c here left t h = cc
-noted_flag form AddHits c here left t h = cc
-noted_flag form SubHits c here left t h = cc
-noted_flag form AndNext c here left t h = cc
-noted_flag form OrNext c here left t h = cc
-noted_flag form Measured c here left t h = cc
-noted_flag form MeasuredPercent c here left t h = cc
-noted_flag form MeasuredIf c here left t h = cc
-noted_flag form TriggerIf c here left t h = cc
-noted_flag form ResetNextIf c here left t h = cc
+noted_flag form _ c here left t h = cc
 
 -- a condition that only hands a value on changes no tally
 pub noted_handed : (form : Form) (c : Condition) (here : Settled) (left : ℕ) (t : Tally) → hands_on c.flag ≡ true → noted form c here left t ≡ t

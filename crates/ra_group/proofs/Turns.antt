@@ -60,7 +60,8 @@ no_pause f (j ∷ js) = no_pause_more (filter (λ i. not (in_pause_chain f.condi
     no_pause_more ks rest false e true s = absurd (true≢false (sym (in_pause_chain-pause f.conditions j s) ∙ e))
     no_pause_more ks rest false e false s = ap (λ b. (b && (settled_at f j).valid) || list_any (λ i. is_pause (flag_at f.conditions i) && (settled_at f i).valid) ks) s ∙ rest
 
-or_none : (a b : Bool) → b ≡ false → (a || b) ≡ a
+-- what is false changes no choice
+pub or_none : (a b : Bool) → b ≡ false → (a || b) ≡ a
 or_none true b e = refl
 or_none false b e = e
 

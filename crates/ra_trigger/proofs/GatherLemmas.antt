@@ -1,40 +1,17 @@
 -- What the core and the alts so far say together, alt by alt.
 use Rattle.std.proofs.Common.{◌≡◌, ℕ, max, Bool, true, false, not, ◌&&◌, ◌||◌, Option, None, Some, List, [], ◌∷◌, ◌++◌, refl, sym, ap, ◌∙◌, arith}
 use Rattle.std.specs.List.{list_any, list_all}
-use Rattle.std.proofs.lemmas.List.Folds.{list_any-append, list_all-append}
+use Rattle.std.proofs.Math.Bool.{or-false, and-true}
 use Rattle.ra_group.specs.declared.outcome.Outcome.{Outcome}
 use Rattle.ra_group.specs.Outcome.{larger}
+use Rattle.ra_group.proofs.TallyLemmas.{any_push, all_push, larger_none, larger_assoc}
 use Rattle.ra_trigger.specs.declared.gathered.Gathered.{Gathered}
 use Rattle.ra_trigger.specs.Steps.{core_and_some, core_or_all, greatest_of}
 use Rattle.ra_trigger.specs.Gathering.{are_there, gathered_of, added}
 
-or_false : (b : Bool) → (b || false) ≡ b
-or_false true = refl
-or_false false = refl
-
-and_true : (b : Bool) → (b && true) ≡ b
-and_true true = refl
-and_true false = refl
-
-any_push : (p : Outcome → Bool) (os : List Outcome) (o : Outcome) → list_any p (os ++ o ∷ []) ≡ (list_any p os || p o)
-any_push p os o = list_any-append p os (o ∷ []) ∙ ap (λ b. list_any p os || b) (or_false (p o))
-
-all_push : (p : Outcome → Bool) (os : List Outcome) (o : Outcome) → list_all p (os ++ o ∷ []) ≡ (list_all p os && p o)
-all_push p os o = list_all-append p os (o ∷ []) ∙ ap (λ b. list_all p os && b) (and_true (p o))
-
 there_push : (os : List Outcome) (o : Outcome) → are_there (os ++ o ∷ []) ≡ true
 there_push [] o = refl
 there_push (p ∷ os) o = refl
-
-larger_none : (a : Option ℕ) → larger a None ≡ a
-larger_none None = refl
-larger_none (Some a) = refl
-
-larger_assoc : (a b c : Option ℕ) → larger (larger a b) c ≡ larger a (larger b c)
-larger_assoc None b c = refl
-larger_assoc (Some a) None c = refl
-larger_assoc (Some a) (Some b) None = refl
-larger_assoc (Some a) (Some b) (Some c) = let e : max (max a b) c ≡ max a (max b c) = omega arith in ap Some e
 
 greatest_push : (os : List Outcome) (o : Outcome) → greatest_of (os ++ o ∷ []) ≡ larger (greatest_of os) o.measured
 greatest_push [] o = larger_none o.measured
@@ -61,9 +38,9 @@ gathered_of-push core os o triggers triggers' more is =
 
 -- the core has it, and some alt where there are alts
 pub core_and_some-gathered : (has : Outcome → Bool) (core : Outcome) (os : List Outcome) → core_and_some has (core ∷ os) ≡ (has core && (not (are_there os) || list_any has os))
-core_and_some-gathered has core [] = sym (and_true (has core))
+core_and_some-gathered has core [] = sym (and-true (has core))
 core_and_some-gathered has core (o ∷ os) = refl
 
 pub core_or_all-gathered : (has : Outcome → Bool) (core : Outcome) (os : List Outcome) → core_or_all has (core ∷ os) ≡ (has core || (are_there os && list_all has os))
-core_or_all-gathered has core [] = sym (or_false (has core))
+core_or_all-gathered has core [] = sym (or-false (has core))
 core_or_all-gathered has core (o ∷ os) = refl

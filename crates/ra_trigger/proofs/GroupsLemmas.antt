@@ -2,15 +2,16 @@
 use Rattle.std.proofs.Common.{◌≡◌, ℕ, ◌+◌, Bool, true, false, not, ◌&&◌, ◌||◌, Option, List, [], ◌∷◌, ◌++◌, length, take, drop, map, sum_by, refl, sym, ap, ◌∙◌, arith, append_assoc, length-append}
 use Rattle.std.specs.List.{flat_map, list_any}
 use Rattle.std.proofs.lemmas.List.{drop-drop, take_at, drop_at, append-nil, map_push, drop_all}
-use Rattle.std.proofs.lemmas.List.Folds.{list_any-append}
 use Rattle.std.proofs.lemmas.List.Sums.{sum_by-cons, sum_by-append}
 use Rattle.std.proofs.lemmas.Grind.{flat_map-append}
+use Rattle.std.proofs.Math.Bool.{or-false}
 use Rattle.ra_condition.specs.declared.condition.Condition.{Condition}
 use Rattle.ra_condition.specs.Flags.{is_trigger}
 use Rattle.ra_group.specs.declared.form.Form.TheVariants.{InTrigger}
 use Rattle.ra_group.specs.Equations.{Frame, frame_of}
 use Rattle.ra_group.specs.Outcome.{outcome_of, next_hits}
 use Rattle.ra_group.proofs.AlongLemmas.{frame_at-drop, length-next_hits}
+use Rattle.ra_group.proofs.TallyLemmas.{any_push}
 use Rattle.ra_group.specs.Along.{frame_at, with_part}
 use Rattle.ra_trigger.specs.declared.gathered.Gathered.{Gathered}
 use Rattle.ra_trigger.specs.declared.verdict.Verdict.{Verdict}
@@ -44,10 +45,6 @@ pub record HasStepped (truths : List Bool) (lefts hits : List ℕ) (core : List 
   pub gathers : gathered ≡ gathered_of (outcome_of InTrigger (frame_at core truths lefts hits 0)) (map (outcome_of InTrigger) (frames_along alts (drop (length core) truths) (drop (length core) lefts) (drop (length core) hits))) (has_trigger (core ∷ alts))
   pub written : now ≡ flat_map next_hits (frames_along (core ∷ alts) truths lefts hits) ++ drop start hits
 
-or_false : (b : Bool) → (b || false) ≡ b
-or_false true = refl
-or_false false = refl
-
 abbrev verdict : (reset valid paused primed from_hits : Bool) → Option ℕ → Verdict
 verdict reset valid paused primed from_hits measured = record { reset = reset; valid = valid; paused = paused; primed = primed; from_hits = from_hits; measured = measured }
 
@@ -61,7 +58,9 @@ module _ (truths : List Bool) (lefts hits : List ℕ) (core : List Condition) wh
   pub stepped_core : (now : List ℕ) → now ≡ with_part hits 0 (next_hits (frame_at core truths lefts hits 0)) → HasStepped truths lefts hits core [] (length core) (gathered_of (outcome_of InTrigger (frame_at core truths lefts hits 0)) [] (list_any (λ c. is_trigger c.flag) core)) now
   stepped_core now is = record {
     starts = omega arith;
-    gathers = ap (gathered_of (outcome_of InTrigger (frame_at core truths lefts hits 0)) []) (sym (or_false (list_any (λ c. is_trigger c.flag) core)));
+    gathers =
+        ap (gathered_of (outcome_of InTrigger (frame_at core truths lefts hits 0)) [])
+        (sym (or-false (list_any (λ c. is_trigger c.flag) core)));
     written = is ∙ part_here hits (next_hits (frame_at core truths lefts hits 0)) (length core) (length-next_hits (frame_at core truths lefts hits 0)) ∙ ap (λ xs. xs ++ drop (length core) hits) (sym (append-nil (next_hits (frame_at core truths lefts hits 0))));
   }
 
@@ -95,8 +94,7 @@ module _ (truths : List Bool) (lefts hits : List ℕ) (core : List Condition) wh
       let long = ends alts start so.starts in
       let more = frames_more cs alts start so.starts in
       let triggers : has_trigger (core ∷ (alts ++ cs ∷ [])) ≡ (has_trigger (core ∷ alts) || list_any (λ c. is_trigger c.flag) cs) =
-      list_any-append (λ g. list_any (λ c. is_trigger c.flag) g) (core ∷ alts) (cs ∷ [])
-      ∙ ap (λ b. has_trigger (core ∷ alts) || b) (or_false (list_any (λ c. is_trigger c.flag) cs)) in
+      any_push (λ g. list_any (λ c. is_trigger c.flag) g) (core ∷ alts) cs in
       let outcomes : map (outcome_of InTrigger) (frames_along (alts ++ cs ∷ []) (drop (length core) truths) (drop (length core) lefts) (drop (length core) hits)) ≡ map (outcome_of InTrigger) rest ++ outcome_of InTrigger f ∷ [] =
       ap (map (outcome_of InTrigger)) more ∙ map_push (outcome_of InTrigger) rest f in
       let end : start + length (next_hits f) ≡ start' = ap (λ n. start + n) (length-next_hits f) ∙ sym is_start in

@@ -2,9 +2,9 @@
 use Rattle.std.proofs.Common.{◌≡◌, ℕ, suc, ◌+◌, ◌<◌, Bool, true, false, ◌||◌, unwrap_or, List, [], ◌∷◌, ◌++◌, length, get_or, set, take, drop, map, slice_index, refl, sym, ap, ◌∙◌, arith, append_assoc, length-append}
 use Rattle.std.specs.List.{flat_map, list_any}
 use Rattle.std.proofs.lemmas.List.{drop-drop, take_at, drop_at, set_at, append-nil, map_push, drop_all, drop_more, length-map, take-append-drop, get_or-append-add, length_push}
-use Rattle.std.proofs.lemmas.List.Folds.{list_any-append}
 use Rattle.std.proofs.lemmas.List.Sums.{sum_by-cons, sum_by-append}
 use Rattle.std.proofs.lemmas.Grind.{flat_map-append}
+use Rattle.std.proofs.Math.Bool.{or-false}
 use Rattle.ra_condition.specs.declared.condition.Condition.{Condition}
 use Rattle.ra_condition.specs.declared.part.Term.{Term}
 use Rattle.ra_condition.specs.Contents.{PartContents, Legacy, Grouped, counted_in, value_hits}
@@ -13,6 +13,7 @@ use Rattle.ra_group.specs.Equations.{frame_of}
 use Rattle.ra_group.specs.Outcome.{outcome_of, next_hits}
 use Rattle.ra_group.specs.Along.{frame_at, with_part}
 use Rattle.ra_group.proofs.AlongLemmas.{frame_at-drop, length-next_hits}
+use Rattle.ra_group.proofs.TallyLemmas.{any_push}
 use Rattle.ra_value.specs.Steps.{PartStep, part_step, part_steps}
 
 -- the step of a part whose conditions start at a place, and which is the k-th of the parts
@@ -58,10 +59,6 @@ length-hits_of (p ∷ parts) truths lefts hits sums numbers =
     ∙ ap (λ m. m + length (flat_map (λ s. s.hits) rest)) (length-part_hits p truths lefts hits 0 (slice_index sums 0) (slice_index numbers 0))
     ∙ ap (λ m. n + m) (length-hits_of parts (drop n truths) (drop n lefts) (drop n hits) (drop 1 sums) (drop 1 numbers))
     ∙ sym (sum_by-cons (λ q. length (counted_in q)) p parts)
-
-or_false : (b : Bool) → (b || false) ≡ b
-or_false true = refl
-or_false false = refl
 
 -- how far the parts are stepped
 pub record HasStepped (truths : List Bool) (lefts hits sums numbers : List ℕ) (parts : List PartContents) (start : ℕ) (resets : Bool) (hits' numbers' : List ℕ) : Type 0 where
@@ -109,7 +106,7 @@ module _ (truths : List Bool) (lefts hits sums numbers : List ℕ) where
         starts = omega (arith, is_start, so.starts, sum_by-append (λ q. length (counted_in q)) parts (part ∷ []), sum_by-cons (λ q. length (counted_in q)) part []);
         reset =
             is_reset ∙ ap (λ b. b || s.reset) so.reset
-            ∙ sym (ap (list_any (λ q. q.reset)) more ∙ list_any-append (λ q. q.reset) steps (s ∷ []) ∙ ap (λ b. list_any (λ q. q.reset) steps || b) (or_false s.reset));
+            ∙ sym (ap (list_any (λ q. q.reset)) more ∙ any_push (λ q. q.reset) steps s);
         written =
             is_hits
             ∙ ap (λ xs. with_part xs start s.hits) so.written
@@ -143,7 +140,8 @@ module _ (truths : List Bool) (lefts hits sums numbers : List ℕ) where
   stepped_terms terms parts start resets hits' numbers' l so =
       let z : start + 0 ≡ start = omega arith in
       let same : with_part hits' start [] ≡ hits' = ap (λ n. take start hits' ++ drop n hits') z ∙ take-append-drop start hits' in
-      stepped_more (Legacy terms) parts start start resets resets hits' hits' numbers' (set numbers' (length parts) (slice_index sums (length parts))) l so (omega arith) (sym (or_false resets)) (sym same) refl
+      stepped_more (Legacy terms) parts start start resets resets hits' hits' numbers'
+      (set numbers' (length parts) (slice_index sums (length parts))) l so (omega arith) (sym (or-false resets)) (sym same) refl
 
   -- a condition part, by what its group's step ensures
   pub stepped_group : (cs : List Condition) (parts : List PartContents) (start start' : ℕ) (resets resets' : Bool) (hits' hits'' numbers' numbers'' : List ℕ) → length parts < length numbers → HasStepped truths lefts hits sums numbers parts start resets hits' numbers' → start' ≡ start + length cs → resets' ≡ (resets || (outcome_of InValue (frame_at cs truths lefts hits' start)).reset) → hits'' ≡ with_part hits' start (next_hits (frame_at cs truths lefts hits' start)) → numbers'' ≡ set numbers' (length parts) (unwrap_or (outcome_of InValue (frame_at cs truths lefts hits' start)).measured (slice_index numbers' (length parts))) → HasStepped truths lefts hits sums numbers (parts ++ Grouped cs ∷ []) start' resets' hits'' numbers''
