@@ -16,36 +16,12 @@ hands_on_from_combines SubHits h = refl
 hands_on_from_combines AndNext h = refl
 hands_on_from_combines OrNext h = refl
 hands_on_from_combines ResetNextIf h = refl
-hands_on_from_combines Plain h = h
-hands_on_from_combines PauseIf h = h
-hands_on_from_combines ResetIf h = h
-hands_on_from_combines AddSource h = h
-hands_on_from_combines SubSource h = h
-hands_on_from_combines Measured h = h
-hands_on_from_combines MeasuredPercent h = h
-hands_on_from_combines MeasuredIf h = h
-hands_on_from_combines AddAddress h = h
-hands_on_from_combines TriggerIf h = h
-hands_on_from_combines Remember h = h
+hands_on_from_combines _ h = h
 
 -- a PauseIf ends its chain
 pub combines_from_pause : (flag : Flag) → is_pause flag ≡ true → combines flag ≡ false
 combines_from_pause PauseIf h = refl
-combines_from_pause Plain h = absurd (false≢true h)
-combines_from_pause ResetIf h = absurd (false≢true h)
-combines_from_pause AddSource h = absurd (false≢true h)
-combines_from_pause SubSource h = absurd (false≢true h)
-combines_from_pause AddHits h = absurd (false≢true h)
-combines_from_pause SubHits h = absurd (false≢true h)
-combines_from_pause AndNext h = absurd (false≢true h)
-combines_from_pause OrNext h = absurd (false≢true h)
-combines_from_pause Measured h = absurd (false≢true h)
-combines_from_pause MeasuredPercent h = absurd (false≢true h)
-combines_from_pause MeasuredIf h = absurd (false≢true h)
-combines_from_pause AddAddress h = absurd (false≢true h)
-combines_from_pause TriggerIf h = absurd (false≢true h)
-combines_from_pause ResetNextIf h = absurd (false≢true h)
-combines_from_pause Remember h = absurd (false≢true h)
+combines_from_pause _ h = absurd (false≢true h)
 
 -- a test of places that does not change inside a chain
 pub record KeepsChains (cs : List Condition) (q : ℕ → Bool) : Type 0 where

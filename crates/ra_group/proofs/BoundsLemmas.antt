@@ -26,20 +26,7 @@ wider most more sum l w = record { low = omega (arith, ints, w.low); high = omeg
 add_after-within : (flag : Flag) (sum : ℤ) (hit most : ℕ) → hit < 2 ^ 32 → Within most sum → Within (most + 2 ^ 32) (add_after flag sum hit)
 add_after-within AddHits sum hit most l w = record { low = omega (arith, ints, w.low); high = omega (arith, ints, w.high) }
 add_after-within SubHits sum hit most l w = record { low = omega (arith, ints, w.low); high = omega (arith, ints, w.high) }
-add_after-within Plain sum hit most l w = wider most (most + 2 ^ 32) sum (omega arith) w
-add_after-within PauseIf sum hit most l w = wider most (most + 2 ^ 32) sum (omega arith) w
-add_after-within ResetIf sum hit most l w = wider most (most + 2 ^ 32) sum (omega arith) w
-add_after-within AddSource sum hit most l w = wider most (most + 2 ^ 32) sum (omega arith) w
-add_after-within SubSource sum hit most l w = wider most (most + 2 ^ 32) sum (omega arith) w
-add_after-within AndNext sum hit most l w = wider most (most + 2 ^ 32) sum (omega arith) w
-add_after-within OrNext sum hit most l w = wider most (most + 2 ^ 32) sum (omega arith) w
-add_after-within Measured sum hit most l w = wider most (most + 2 ^ 32) sum (omega arith) w
-add_after-within MeasuredPercent sum hit most l w = wider most (most + 2 ^ 32) sum (omega arith) w
-add_after-within MeasuredIf sum hit most l w = wider most (most + 2 ^ 32) sum (omega arith) w
-add_after-within AddAddress sum hit most l w = wider most (most + 2 ^ 32) sum (omega arith) w
-add_after-within TriggerIf sum hit most l w = wider most (most + 2 ^ 32) sum (omega arith) w
-add_after-within ResetNextIf sum hit most l w = wider most (most + 2 ^ 32) sum (omega arith) w
-add_after-within Remember sum hit most l w = wider most (most + 2 ^ 32) sum (omega arith) w
+add_after-within _ sum hit most l w = wider most (most + 2 ^ 32) sum (omega arith) w
 
 pub add_by-within : (prev : Option Settled) (most : ℕ) → IsSmall most prev → Within (most + 2 ^ 32) (add_by prev)
 add_by-within None most small = record { low = omega (arith, ints); high = omega (arith, ints) }

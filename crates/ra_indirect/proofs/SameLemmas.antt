@@ -24,48 +24,17 @@ operated n = slice_index_or (Bare ∷ Eq ∷ Ne ∷ Lt ∷ Le ∷ Gt ∷ Ge ∷ 
 sized_back : (s : Size) → sized (number_of_size s) ≡ s
 unfolding sized
 sized_back Bit0 = refl
-sized_back Bit1 = refl
-sized_back Bit2 = refl
-sized_back Bit3 = refl
-sized_back Bit4 = refl
-sized_back Bit5 = refl
-sized_back Bit6 = refl
-sized_back Bit7 = refl
-sized_back Low = refl
-sized_back High = refl
-sized_back Byte = refl
-sized_back Two = refl
-sized_back Three = refl
-sized_back Four = refl
-sized_back Count = refl
-sized_back TwoBig = refl
-sized_back ThreeBig = refl
-sized_back FourBig = refl
+sized_back _ = refl
 
 kinded_back : (k : Kind) → kinded (number_of_kind k) ≡ k
 unfolding kinded
 kinded_back Mem = refl
-kinded_back Delta = refl
-kinded_back Prior = refl
-kinded_back Bcd = refl
-kinded_back Inverted = refl
+kinded_back _ = refl
 
 operated_back : (o : Op) → operated (number_of_op o) ≡ o
 unfolding operated
 operated_back Bare = refl
-operated_back Eq = refl
-operated_back Ne = refl
-operated_back Lt = refl
-operated_back Le = refl
-operated_back Gt = refl
-operated_back Ge = refl
-operated_back Mul = refl
-operated_back Div = refl
-operated_back And = refl
-operated_back Xor = refl
-operated_back Rem = refl
-operated_back Add = refl
-operated_back Sub = refl
+operated_back _ = refl
 
 pub size_is : (a b : Size) → same_size a b ≡ true → a ≡ b
 size_is a b same =

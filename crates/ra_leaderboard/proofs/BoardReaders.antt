@@ -147,10 +147,7 @@ reader-board_in = reader-follows (field_in all_tags) (λ first. Then (others_in 
 
 held-tag : (t : Tag) (text : List ℕ) (f : FieldContents) → held t text f → tag_of f ≡ t
 held-tag Start text f h = ap tag_of h.of_next.is
-held-tag Cancel text f h = ap tag_of h.of_next.is
-held-tag Submit text f h = ap tag_of h.of_next.is
-held-tag Value text f h = ap tag_of h.of_next.is
-held-tag Progress text f h = ap tag_of h.of_next.is
+held-tag _ text f h = ap tag_of h.of_next.is
 
 field-of : (tags : SomeTags) (text : List ℕ) (f : FieldContents) → field_in tags text f → field text f × Among (tag_of f) (tags.0 ∷ tags.1)
 field-of tags text f h = let word = tag-of tags h.v h.front h.of_first in (

@@ -125,10 +125,7 @@ letter_of t place = slice_index (word_of t) place
 
 word-three : (t : Tag) → word_of t ≡ letter_of t 0 ∷ letter_of t 1 ∷ letter_of t 2 ∷ []
 word-three Start = refl
-word-three Cancel = refl
-word-three Submit = refl
-word-three Value = refl
-word-three Progress = refl
+word-three _ = refl
 
 -- a text spells a tag exactly where it has its three letters
 abbrev pub HasWord : Tag → List ℕ → Type 0

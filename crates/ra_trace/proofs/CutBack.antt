@@ -88,11 +88,7 @@ size_read size rest small =
 no_more_records : (entries : List Entry) → length entries ≤ length (flat_map entry_bytes entries)
 no_more_records [] = omega arith
 no_more_records (Written at bytes ∷ entries) = omega (arith, no_more_records entries, length-append (entry_bytes (Written at bytes)) (flat_map entry_bytes entries))
-no_more_records (Framed ∷ entries) = omega (arith, no_more_records entries)
-no_more_records (Saved slot ∷ entries) = omega (arith, no_more_records entries)
-no_more_records (Restored slot ∷ entries) = omega (arith, no_more_records entries)
-no_more_records (Shown ∷ entries) = omega (arith, no_more_records entries)
-no_more_records (Ended ∷ entries) = omega (arith, no_more_records entries)
+no_more_records (_ ∷ entries) = omega (arith, no_more_records entries)
 
 -- a trace of records that keep the rules is cut into them, whatever stands behind its end record
 pub trace_cut : (filled : List Bool) (size : ℕ) (entries : List Entry) (behind : List ℕ) → size ≤ 2 ^ 27 → All (Fits size) entries → AllTakeFilled filled entries
