@@ -34,7 +34,7 @@ four_digits n large small =
     ∙ rw (two, three)
 
 -- zeros in front make them four
-with_zeros : (n : ℕ) → n < 65536 → replicate (4 - length (digits 16 false n)) 48 ++ digits 16 false n ≡ hex4 n
+pub with_zeros : (n : ℕ) → n < 65536 → replicate (4 - length (digits 16 false n)) 48 ++ digits 16 false n ≡ hex4 n
 with_zeros n small = elim (cases_lt n 16) [
   | inl one ↦ (let a : n / 4096 ≡ 0 = omega arith in let b : n / 256 ≡ 0 = omega arith in let c : n / 16 ≡ 0 = omega arith in rw (one_digit n one, a, b, c))
   | inr more ↦ elim (cases_lt n 256) [
