@@ -6,7 +6,8 @@ use std::io::{Read, Seek, SeekFrom};
 use std::marker::Model;
 use std::{fs, io};
 
-/// The files of the system, a thin adapter. Each call opens its file anew.
+/// The files of the system, a thin adapter: docs/DEFINITIONS.md, "Files in memory". Each call opens
+/// its file anew.
 ///
 /// It tells no content. Each error of the system is counted as a fault.
 #[derive(Drop)]

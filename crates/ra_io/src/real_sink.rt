@@ -5,7 +5,7 @@ use std::io;
 use std::io::Write;
 use std::marker::Model;
 
-/// Standard output, a thin adapter.
+/// Standard output, a thin adapter: docs/DEFINITIONS.md, "Files in memory".
 ///
 /// It tells no text. Each error of the system is counted as a fault, and so is a write that takes
 /// nothing of a piece that is not empty.

@@ -8,7 +8,8 @@ use ra_text::OutOfMemory;
 use std::alloc::Global;
 use std::collections::BTreeMap;
 
-/// Files in memory that never fail, with a file for each name that was added.
+/// Files in memory that never fail, with a file for each name that was added: docs/DEFINITIONS.md,
+/// "Files in memory".
 #[derive(Drop)]
 pub struct SureFiles {
     alloc: Global,

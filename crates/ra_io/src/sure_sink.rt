@@ -4,7 +4,8 @@ use crate::{Sink, SinkFailed};
 use std::alloc::Global;
 use std::marker::Model;
 
-/// A text in memory that never fails and takes whole pieces.
+/// A text in memory that never fails and takes whole pieces: docs/DEFINITIONS.md, "Files in
+/// memory".
 #[derive(Drop)]
 pub struct SureSink {
     text: Vec<u8>,
