@@ -5,6 +5,7 @@ use std::alloc::{AllocError, AllocFailed};
 pub enum Fault {
     /// No text of the grammar goes on with what is next. The cursor stands before it.
     Stop,
+    /// There was no memory for what is read.
     Memory,
 }
 

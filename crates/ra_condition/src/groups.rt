@@ -42,6 +42,9 @@ fn take_group(alloc: Global, cursor: &mut Cursor<'_>) -> Result<Group, Fault>
 }
 
 /// Reads a trigger: docs/DEFINITIONS.md, "Triggers".
+///
+/// `Stop` exactly where what stands before the first byte that goes on with no trigger is no whole
+/// trigger; the cursor then stands before that byte. `Memory` where there is no memory for it.
 #[tactic(auto, unfolding(crate::specs::Reading::trigger_at))]
 pub fn take_trigger(alloc: Global, cursor: &mut Cursor<'_>) -> Result<TriggerText, Fault>
     ensures { GivesUnlessFull trigger_contents result cursor.new.rest.now (trigger_at cursor.old.rest.now) }

@@ -14,9 +14,10 @@ use crate::trigger_text::TriggerText;
 use ra_text::Cursor;
 use std::alloc::Global;
 
-/// The trigger that the whole text spells.
+/// The trigger that the whole text spells: docs/DEFINITIONS.md, "Triggers".
 ///
-/// `Syntax` carries the first bad place, and comes exactly where the text is outside the grammar.
+/// `Syntax` carries the first bad place, in bytes from 0, and comes exactly where the text is
+/// outside the grammar. `Memory` where there is no memory for the trigger.
 pub fn parse_trigger(alloc: Global, text: &[u8]) -> Result<TriggerText, Refused>
     ensures ok { IfOk result (λ t. trigger text.now (trigger_contents t)) }
     ensures structure { IfOk result (λ t. IsTrigger (trigger_contents t)) }
@@ -30,10 +31,11 @@ pub fn parse_trigger(alloc: Global, text: &[u8]) -> Result<TriggerText, Refused>
     }
 }
 
-/// The trigger at a place, and the place where it ends.
+/// The trigger at a place, and the place where it ends: docs/DEFINITIONS.md, "Triggers".
 ///
-/// Bytes are read up to the first that goes on with no trigger. `Syntax` carries that place, and
-/// comes exactly where what was read is no whole trigger.
+/// Places are in bytes from the start. Bytes are read up to the first that goes on with no trigger.
+/// `Syntax` carries that place, and comes exactly where what was read is no whole trigger. `Memory`
+/// where there is no memory for the trigger.
 pub fn read_trigger(alloc: Global, text: &[u8], at: usize) -> Result<(TriggerText, usize), Refused>
     requires { at ≤ length text.now }
     ensures ok { IfOk result (λ x. EndsAt trigger text.now at x.1 (Some (trigger_contents x.0))) }

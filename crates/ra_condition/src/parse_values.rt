@@ -14,9 +14,10 @@ use crate::values::take_value;
 use ra_text::Cursor;
 use std::alloc::Global;
 
-/// The value that the whole text spells.
+/// The value that the whole text spells: docs/DEFINITIONS.md, "Values".
 ///
-/// `Syntax` carries the first bad place, and comes exactly where the text is outside the grammar.
+/// `Syntax` carries the first bad place, in bytes from 0, and comes exactly where the text is
+/// outside the grammar. `Memory` where there is no memory for the value.
 pub fn parse_value(alloc: Global, text: &[u8]) -> Result<ValueText, Refused>
     ensures ok { IfOk result (λ t. value text.now (value_contents t)) }
     ensures structure { IfOk result (λ t. IsValue (value_contents t)) }
@@ -30,10 +31,11 @@ pub fn parse_value(alloc: Global, text: &[u8]) -> Result<ValueText, Refused>
     }
 }
 
-/// The value at a place, and the place where it ends.
+/// The value at a place, and the place where it ends: docs/DEFINITIONS.md, "Values".
 ///
-/// Bytes are read up to the first that goes on with no value. `Syntax` carries that place, and
-/// comes exactly where what was read is no whole value.
+/// Places are in bytes from the start. Bytes are read up to the first that goes on with no value.
+/// `Syntax` carries that place, and comes exactly where what was read is no whole value. `Memory`
+/// where there is no memory for the value.
 pub fn read_value(alloc: Global, text: &[u8], at: usize) -> Result<(ValueText, usize), Refused>
     requires { at ≤ length text.now }
     ensures ok { IfOk result (λ x. EndsAt value text.now at x.1 (Some (value_contents x.0))) }

@@ -13,7 +13,9 @@ use crate::write::{write_trigger, write_value};
 use ra_text::OutOfMemory;
 use std::alloc::Global;
 
-/// The canonical text of a trigger. It spells the trigger.
+/// The canonical text of a trigger: docs/DEFINITIONS.md, "Canonical text". It spells the trigger.
+///
+/// The trigger has the structure of those that some text spells ("What texts spell").
 pub fn print_trigger(alloc: Global, text: &TriggerText) -> Result<Vec<u8>, OutOfMemory>
     requires { IsTrigger (trigger_contents text.now) }
     ensures text { IfOk result (λ bytes. bytes.items ≡ trigger_text (trigger_contents text.now)) }
@@ -24,7 +26,9 @@ pub fn print_trigger(alloc: Global, text: &TriggerText) -> Result<Vec<u8>, OutOf
     Ok(canonical.into_bytes())
 }
 
-/// The canonical text of a value. It spells the value.
+/// The canonical text of a value: docs/DEFINITIONS.md, "Canonical text". It spells the value.
+///
+/// The value has the structure of those that some text spells ("What texts spell").
 pub fn print_value(alloc: Global, text: &ValueText) -> Result<Vec<u8>, OutOfMemory>
     requires { IsValue (value_contents text.now) }
     ensures text { IfOk result (λ bytes. bytes.items ≡ value_text (value_contents text.now)) }

@@ -5,8 +5,11 @@ use ra_operand::{Op, Operand};
 /// What stands behind the left operand of a condition, and is kept.
 #[derive(Clone, Copy, Debug, PartialEq, Eq)]
 pub struct Tail {
+    /// The operator, `Bare` where nothing is kept.
     pub op: Op,
+    /// The right operand.
     pub right: Operand,
+    /// The hit target; 0 is no target.
     pub target: u32,
 }
 

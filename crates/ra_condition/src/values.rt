@@ -16,6 +16,9 @@ use ra_text::{Cursor, Stop};
 use std::alloc::Global;
 
 /// Reads a value: docs/DEFINITIONS.md, "Values".
+///
+/// `Stop` exactly where what stands before the first byte that goes on with no value is no whole
+/// value; the cursor then stands before that byte. `Memory` where there is no memory for it.
 pub fn take_value(alloc: Global, cursor: &mut Cursor<'_>) -> Result<ValueText, Fault>
     ensures { GivesUnlessFull value_contents result cursor.new.rest.now (value_at cursor.old.rest.now) }
 {
