@@ -10,7 +10,8 @@ use ra_condition::{Condition, Group};
 use ra_text::OutOfMemory;
 use std::alloc::Global;
 
-/// The pass order of a group, as places in its text: docs/DEFINITIONS.md, "Chains and pass order".
+/// The pass order of a group, as places in its text from 0: docs/DEFINITIONS.md, "Chains and pass
+/// order". The group has fewer than 2^32 conditions.
 pub fn order_of(alloc: Global, group: &Group) -> Result<Vec<u32>, OutOfMemory>
     requires { length (group_contents group.now) < 2 ^ 32 }
     ensures { IfOk result (λ order. order.items ≡ pass_order (group_contents group.now)) }

@@ -21,7 +21,9 @@ use ra_text::OutOfMemory;
 /// What the operands of a condition may name: its pointer, and the value last remembered.
 #[derive(Clone, Copy)]
 pub struct Named {
+    /// The node of the pointer, if the condition before is an AddAddress.
     pub pointer: Option<u32>,
+    /// The node of the value last remembered, if one was.
     pub recalled: Option<u32>,
 }
 

@@ -24,7 +24,9 @@ use std::alloc::Global;
 
 /// The plan of a group, and its trees in the pool: docs/DEFINITIONS.md, "Trees of a group".
 ///
-/// Nodes are interned in pass order, left before right. After `OutOfMemory` the pool keeps what it has.
+/// Nodes are interned in pass order, left before right: at most 12 for each condition and one more,
+/// which have to fit below 2^31. Conditions that hand a value on have arithmetic or no operator, as
+/// in every group that some text spells. After `OutOfMemory` the pool keeps what it has.
 pub fn elaborate(alloc: Global, group: &Group, pool: &mut Pool) -> Result<GroupPlan, OutOfMemory>
     requires few { length (group_contents group.now) < 2 ^ 32 }
     requires room { length pool.old + 12 * length (group_contents group.now) + 2 ≤ 2 ^ 31 }
@@ -82,9 +84,13 @@ fn take_conditions(
 /// The nodes of the conditions that passed: their trees, their sums, and the value last remembered.
 #[derive(Drop)]
 pub struct Passed {
+    /// The node of the left tree of each condition in text order.
     pub lefts: Vec<u32>,
+    /// The node of the right tree of each condition in text order.
     pub rights: Vec<u32>,
+    /// The node of the sum behind each condition in text order, where there is one.
     pub sums: Vec<Option<u32>>,
+    /// The node of the value last remembered, if one was.
     pub recalled: Option<u32>,
 }
 

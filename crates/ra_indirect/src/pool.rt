@@ -54,7 +54,7 @@ impl Pool {
         self.nodes.is_empty()
     }
 
-    /// The node of a number. No other node spells the same tree or cell.
+    /// The node of a number below `len`. No other node spells the same tree or cell.
     pub fn node(&self, number: u32) -> Node
         requires { number < length self.now }
         ensures node { slice_get self.now number ≡ Some result }
@@ -64,6 +64,9 @@ impl Pool {
     }
 
     /// The number of the node, which goes last where it is new.
+    ///
+    /// The node names nodes that are there, and such as it needs: a cell for a view, nodes with a
+    /// value for all else. The pool has fewer than 2^31 nodes. `OutOfMemory` leaves it as it was.
     pub fn intern(&mut self, node: Node) -> Result<u32, OutOfMemory>
         requires follows { MayFollow self.old node }
         requires room { length self.old < 2 ^ 31 }
