@@ -9,8 +9,9 @@ use crate::outcome::Outcome;
 use crate::pass::step;
 use ra_condition::Group;
 
-/// Steps a group as `step` does, where the slices run over several groups and the entries of this
-/// one start at `start`.
+/// Steps a group by a frame as `step` does, where the slices run over the conditions of several
+/// groups and the entries of this one start at `start`: docs/DEFINITIONS.md, "Group outcome". Of
+/// the hits all others stay.
 pub fn step_at(
     group: &Group,
     form: Form,

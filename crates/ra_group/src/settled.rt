@@ -7,6 +7,7 @@ use ra_condition::{Condition, Flag};
 /// What a condition comes to at a frame: docs/DEFINITIONS.md, "Equations of a condition".
 #[derive(Clone, Copy, Debug)]
 pub struct Settled {
+    /// The flag of the condition.
     pub flag: Flag,
     /// A ResetNextIf reaches it.
     pub reset: bool,
@@ -14,7 +15,9 @@ pub struct Settled {
     pub hit: u32,
     /// The hits that the chain adds.
     pub add: i128,
+    /// Its hits with those that the chain adds, at least 0 and at most the greatest `u32`.
     pub total: u32,
+    /// Whether it is valid.
     pub valid: bool,
 }
 

@@ -15,12 +15,19 @@ use ra_operand::Op;
 /// What the conditions visited so far say together.
 #[derive(Drop)]
 pub struct Tally {
+    /// Some PauseIf is valid.
     pub paused: bool,
+    /// Some ResetIf is valid.
     pub reset: bool,
+    /// Each condition that has to be valid for the group to be valid is.
     pub valid: bool,
+    /// Each condition that has to be valid for the group to be primed is.
     pub primed: bool,
+    /// Each MeasuredIf is valid.
     pub counting: bool,
+    /// The greatest measured number, if there is one.
     pub greatest: Option<u32>,
+    /// Some measured number is taken from hits.
     pub from_hits: bool,
 }
 
@@ -75,7 +82,8 @@ impl Tally {
     }
 }
 
-/// Whether some measured number of the group comes from hits, whatever the frame.
+/// Whether some measured number of the group comes from hits, whatever the frame:
+/// docs/DEFINITIONS.md, "Group outcome".
 pub fn counts_hits(group: &Group, form: Form) -> bool
     ensures { result ≡ counts_hits form (group_contents group.now) }
 {
@@ -117,7 +125,7 @@ fn offered(form: Form, condition: &Condition, settled: &Settled, left: u32) -> O
     }
 }
 
-/// The larger of two numbers, of those that are there.
+/// The larger of two numbers, of those that are there: docs/DEFINITIONS.md, "Group outcome".
 pub fn larger(a: Option<u32>, b: Option<u32>) -> Option<u32>
     ensures { result ≡ larger a b }
 {

@@ -4,6 +4,7 @@ use ra_group::{Outcome, larger};
 /// What the core group says, and what the alt groups so far say together.
 #[derive(Clone, Copy)]
 pub struct Gathered {
+    /// What the core group says.
     pub core: Outcome,
     /// Some group resets.
     pub reset: bool,
@@ -15,8 +16,11 @@ pub struct Gathered {
     pub triggers: bool,
     /// There are alt groups.
     pub alts: bool,
+    /// Some alt group is valid.
     pub some_valid: bool,
+    /// Some alt group is primed.
     pub some_primed: bool,
+    /// All alt groups are paused.
     pub all_paused: bool,
 }
 

@@ -3,10 +3,15 @@ use crate::verdict::Verdict;
 /// The state of an achievement: docs/DEFINITIONS.md, "Achievement states".
 #[derive(Clone, Copy, Debug, PartialEq, Eq)]
 pub enum State {
+    /// Byte 0: it has not been false yet.
     Waiting,
+    /// Byte 1: it may trigger.
     Active,
+    /// Byte 2: it is paused.
     Paused,
+    /// Byte 3: only its Trigger conditions are missing.
     Primed,
+    /// Byte 4: it has triggered, and no frame changes it.
     Triggered,
 }
 

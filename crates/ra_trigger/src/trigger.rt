@@ -98,9 +98,11 @@ impl Trigger {
         }
     }
 
-    /// Steps a trigger without states by a frame, and says whether it is true.
+    /// Steps a trigger without states by a frame, and says whether it is true: docs/DEFINITIONS.md,
+    /// "Triggers over frames".
     ///
-    /// The slices are those of `step`. State and measured number stay.
+    /// The slices are those of `step`. On a reset all hits become 0. State and measured number
+    /// stay.
     pub fn truth(
         &mut self,
         text: &TriggerText,
@@ -147,8 +149,8 @@ impl Trigger {
         &self.hits
     }
 
-    /// Takes back what a progress file keeps: `hits` has four little-endian bytes for each
-    /// condition.
+    /// Takes back what a progress file keeps: docs/DEFINITIONS.md, "Progress file". `hits` has four
+    /// little-endian bytes for each condition.
     pub fn put_back(&mut self, state: State, measured: u32, hits: &[u8])
         requires { length hits.now ≡ 4 * length self.old.hits }
         ensures { self.new ≡ record {

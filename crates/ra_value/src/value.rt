@@ -6,8 +6,8 @@ use ra_text::OutOfMemory;
 use std::alloc::Global;
 use std::marker::Model;
 
-/// What is kept of a value between frames: the hits of the conditions of all parts, and a number
-/// for each part.
+/// What is kept of a value between frames, the hits of the conditions of all parts and a number for
+/// each part: docs/DEFINITIONS.md, "Values over frames".
 #[derive(Drop)]
 pub struct Value {
     hits: Vec<u32>,
@@ -94,21 +94,21 @@ impl Value {
         self.kept.fill(0);
     }
 
-    /// The greatest kept number.
+    /// The greatest kept number, compared as signed ones; 0 without parts.
     pub fn greatest(&self) -> i32
         ensures { result ≡ signed_greatest self.now.numbers }
     {
         greatest_of(&self.kept)
     }
 
-    /// The hits of the conditions of all parts.
+    /// The hits of the conditions of all parts, in text order.
     pub fn hits(&self) -> &[u32]
         ensures { result.now ≡ self.now.hits }
     {
         &self.hits
     }
 
-    /// The number of each part.
+    /// The number of each part, in text order.
     pub fn kept(&self) -> &[u32]
         ensures { result.now ≡ self.now.numbers }
     {
@@ -116,7 +116,7 @@ impl Value {
     }
 
     /// Takes back what a progress file keeps, four little-endian bytes for each condition and for
-    /// each part.
+    /// each part: docs/DEFINITIONS.md, "Progress file".
     pub fn put_back(&mut self, hits: &[u8], kept: &[u8])
         requires hits { length hits.now ≡ 4 * length self.old.hits }
         requires kept { length kept.now ≡ 4 * length self.old.numbers }
