@@ -50,7 +50,7 @@ impl Board {
         self.state
     }
 
-    /// Takes back what a progress file keeps.
+    /// Takes back the state that a progress file keeps.
     pub fn put_back(&mut self, state: BoardState)
         ensures { self.new ≡ state }
     {

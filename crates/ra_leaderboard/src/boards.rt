@@ -19,6 +19,9 @@ use ra_text::{Cursor, Stop};
 use std::alloc::Global;
 
 /// Reads a board: docs/DEFINITIONS.md, "Boards".
+///
+/// `Stop` exactly where what stands before the first byte that goes on with no board is no whole
+/// board; the cursor then stands before that byte. `Memory` where there is no memory for it.
 pub fn take_board(alloc: Global, cursor: &mut Cursor<'_>) -> Result<BoardText, Fault>
     ensures { GivesUnlessFull board_contents result cursor.new.rest.now (board_at cursor.old.rest.now) }
 {

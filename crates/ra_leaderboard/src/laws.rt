@@ -7,11 +7,16 @@ ghost use Rattle.ra_leaderboard.specs.Spelled.{IsBoard};
 ghost use Rattle.ra_text.specs.Place.{OneSpelling};
 
 /// A text spells at most one board: docs/DEFINITIONS.md, "Boards".
+///
+/// A law: it does nothing.
 pub fn one_board()
     ensures { OneSpelling board }
 {}
 
-/// Some text spells a board exactly where the board has its structure.
+/// Some text spells a board exactly where the board has its structure: docs/DEFINITIONS.md, "What
+/// texts spell".
+///
+/// A law: it does nothing.
 pub fn spelled_boards()
     ensures { (b : BoardContents) → IsBoard b ↔ ((text : List ℕ) × board text b) }
 {}

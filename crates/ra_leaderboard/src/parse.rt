@@ -13,9 +13,10 @@ use ra_condition::{Fault, Refused};
 use ra_text::Cursor;
 use std::alloc::Global;
 
-/// The board that the whole text spells.
+/// The board that the whole text spells: docs/DEFINITIONS.md, "Boards".
 ///
-/// `Syntax` carries the first bad place, and comes exactly where the text is outside the grammar.
+/// `Syntax` carries the first bad place, in bytes from 0, and comes exactly where the text is
+/// outside the grammar. `Memory` where there is no memory for the board.
 pub fn parse_board(alloc: Global, text: &[u8]) -> Result<BoardText, Refused>
     ensures ok { IfOk result (λ b. board text.now (board_contents b)) }
     ensures structure { IfOk result (λ b. IsBoard (board_contents b)) }

@@ -1,10 +1,15 @@
 /// The state of a leaderboard attempt: docs/DEFINITIONS.md, "Leaderboard states".
 #[derive(Clone, Copy, Debug, PartialEq, Eq)]
 pub enum BoardState {
+    /// Byte 0: start has not been false yet.
     Waiting,
+    /// Byte 1: an attempt may start.
     Active,
+    /// Byte 2: an attempt goes on.
     Started,
+    /// Byte 3: the attempt was cancelled, and start has not been false since.
     Cancelled,
+    /// Byte 4: the attempt was submitted, and start has not been false since.
     Submitted,
 }
 

@@ -1,10 +1,15 @@
 /// The field of a board that a tag names: docs/DEFINITIONS.md, "Boards".
 #[derive(Clone, Copy, Debug, PartialEq, Eq)]
 pub enum Tag {
+    /// STA.
     Start,
+    /// CAN.
     Cancel,
+    /// SUB.
     Submit,
+    /// VAL.
     Value,
+    /// PRO.
     Progress,
 }
 

@@ -4,25 +4,37 @@ ghost use Rattle.ra_value_format.specs.Formats.{format_of_name, named_format, en
 /// How a number is written: docs/DEFINITIONS.md, "Formats".
 #[derive(Clone, Copy, Debug, PartialEq, Eq)]
 pub enum Format {
+    /// The signed number in decimal.
     Value,
+    /// The signed number with leading zeros to six characters, the sign one of them.
     Score,
+    /// Frames, 60 a second, as minutes, seconds and hundredths.
     Frames,
+    /// Seconds, as minutes and seconds.
     Secs,
+    /// Hundredths of a second, as minutes, seconds and hundredths.
     Hundredths,
+    /// Minutes, as hours and minutes.
     Minutes,
+    /// Seconds, as hours and minutes.
     SecsAsMins,
+    /// The number without sign, in decimal.
     Unsigned,
+    /// The signed number times 10.
     Tens,
+    /// The signed number times 100.
     Hundreds,
+    /// The signed number times 1000.
     Thousands,
-    /// With 1 to 3 decimals.
+    /// With 1 to 3 of its digits as decimals.
     Fixed(u8),
-    /// With 1 to 6 zeros after the point.
+    /// With 1 to 6 zeros behind a point.
     Float(u8),
 }
 
 impl Format {
-    /// The format of a name, and `Value` for every unknown one.
+    /// The format of a name, compared byte for byte, and `Value` for every unknown one:
+    /// docs/DEFINITIONS.md, "Formats".
     pub fn of_name(name: &[u8]) -> Format
         ensures { result ≡ format_of_name name.now }
     {

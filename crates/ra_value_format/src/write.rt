@@ -9,6 +9,8 @@ use std::alloc::Global;
 use std::fmt;
 
 /// The text of a number: docs/DEFINITIONS.md, "Formats".
+///
+/// `Fixed` has 1 to 3 decimals and `Float` 1 to 6 zeros, as with every format that a name has.
 pub fn format_value(alloc: Global, format: Format, value: i32) -> Result<Vec<u8>, OutOfMemory>
     requires { HasDigits format }
     ensures { IfOk result (λ text. text.items ≡ formatted format value) }
