@@ -17,7 +17,9 @@ use std::alloc::Global;
 /// A line of a lookup: keys with their text, or the text of all other numbers.
 #[derive(Drop)]
 pub enum Entry {
+    /// Keys with their text.
     Keyed(Keys),
+    /// The text of all other numbers.
     Other(Vec<u8>),
 }
 

@@ -15,7 +15,9 @@ use std::alloc::Global;
 /// The first line of a lookup or of a format, with its name.
 #[derive(Drop)]
 pub enum Head {
+    /// That of a lookup, with its name.
     Lookup(Vec<u8>),
+    /// That of a format, with its name.
     Format(Vec<u8>),
 }
 

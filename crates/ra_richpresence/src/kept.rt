@@ -15,10 +15,15 @@ use std::collections::BTreeSet;
 /// first text of the kept lookups is that passes `most` bytes.
 #[derive(Drop)]
 pub struct Kept {
+    /// The most bytes of a text that is not long.
     pub most: u64,
+    /// The length of the first long text, if there is one.
     pub long: Option<u64>,
+    /// The names that are taken.
     pub names: BTreeSet<Vec<u8>>,
+    /// The lookups that are kept, in text order.
     pub lookups: Vec<Lookup>,
+    /// The formats that are kept, each under its name, in text order.
     pub formats: Vec<(Vec<u8>, Format)>,
 }
 

@@ -4,6 +4,8 @@ ghost use Rattle.ra_richpresence.specs.Grammar.{script};
 ghost use Rattle.ra_text.specs.Place.{OneSpelling};
 
 /// A text spells at most one script: docs/DEFINITIONS.md, "Presence scripts".
+///
+/// A law: it does nothing.
 pub fn one_script()
     ensures { OneSpelling script }
 {}

@@ -23,10 +23,11 @@ use ra_condition::{Fault, Refused};
 use ra_text::OutOfMemory;
 use std::alloc::Global;
 
-/// The presence script that the whole text spells.
+/// The presence script that the whole text spells: docs/DEFINITIONS.md, "Presence scripts".
 ///
 /// `Syntax` carries the start of the first line with which no script of the grammar goes on, or the
-/// length where there is none. It comes exactly where the text is outside the grammar.
+/// length where there is none, in bytes from 0. It comes exactly where the text is outside the
+/// grammar. `Memory` where there is no memory for the script.
 pub fn parse_script(alloc: Global, text: &[u8]) -> Result<Script, Refused>
     ensures ok { IfOk result (λ s. script text.now (script_contents s)) }
     ensures structure { IfOk result (λ s. IsScript (script_contents s)) }
@@ -37,7 +38,7 @@ pub fn parse_script(alloc: Global, text: &[u8]) -> Result<Script, Refused>
 }
 
 /// The presence script that the whole text spells, and the length of the first text of its lookups
-/// that is longer than `most` bytes.
+/// that is longer than `most` bytes: docs/DEFINITIONS.md, "Lookup texts".
 ///
 /// Texts are taken in file order: those of keys, and the first of all other numbers of each lookup.
 /// A lookup that is not kept does not count. Refused as by `parse_script`.

@@ -4,7 +4,9 @@ use crate::script::Script;
 /// "Lookup texts".
 #[derive(Drop)]
 pub struct ReadScript {
+    /// The script.
     pub script: Script,
-    /// The length of the first text of a kept lookup, in file order, that is longer than the limit.
+    /// The length, in bytes, of the first text of a kept lookup, in file order, that is longer than
+    /// the limit, if one is.
     pub long: Option<u64>,
 }

@@ -12,7 +12,9 @@ use std::alloc::Global;
 /// A lookup, and how long the first of its texts is that is longer than a limit.
 #[derive(Drop)]
 pub struct ReadLookup {
+    /// The lookup.
     pub lookup: Lookup,
+    /// The length of its first text that is longer than the limit, if one is.
     pub long: Option<u64>,
 }
 

@@ -2,10 +2,14 @@ use crate::line::Line;
 use crate::lookup::Lookup;
 use ra_value_format::Format;
 
-/// A presence script. Of the lookups and formats that share a name only the first is kept.
+/// A presence script: docs/DEFINITIONS.md, "Presence scripts". Of the lookups and formats that
+/// share a name only the first is kept.
 #[derive(Drop)]
 pub struct Script {
+    /// The lookups that are kept, in text order.
     pub lookups: Vec<Lookup>,
+    /// The formats that are kept, each under its name, in text order.
     pub formats: Vec<(Vec<u8>, Format)>,
+    /// The lines of the display in text order, at least one.
     pub lines: Vec<Line>,
 }

@@ -17,7 +17,9 @@ use std::alloc::Global;
 /// A lookup with its long text, or a format under its name.
 #[derive(Drop)]
 pub enum Section {
+    /// A lookup.
     Lookup(ReadLookup),
+    /// A format under its name.
     Format(Vec<u8>, Format),
 }
 

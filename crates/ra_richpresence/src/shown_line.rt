@@ -19,8 +19,9 @@ use std::alloc::Global;
 impl Script {
     /// The text of a line of the display: docs/DEFINITIONS.md, "Presence over frames".
     ///
-    /// `shown` is the index of the line, from 0. `values` has the value of each macro of the whole
-    /// script in text order; one that is not there counts as 0.
+    /// `shown` is the index of the line, from 0 and below the number of lines. `values` has the
+    /// value of each macro of the whole script in text order; one that is not there counts as 0.
+    /// The formats are those of names, as in every script that was read.
     pub fn line(&self, alloc: Global, shown: u32, values: &[i32]) -> Result<Vec<u8>, OutOfMemory>
         requires shown { shown < length self.now.lines.items }
         requires formats { All (λ format. HasDigits format.1) (script_contents self.now).formats }
