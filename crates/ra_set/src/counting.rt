@@ -14,7 +14,8 @@ use ra_condition::{Part, TriggerText, ValueText};
 use ra_leaderboard::BoardText;
 use ra_richpresence::{Line, Piece, Script};
 
-/// How many conditions a set has, legacy terms counted too.
+/// How many conditions a set has, legacy terms counted too: docs/DEFINITIONS.md, "Limits of a set".
+/// There are fewer than 2^64, as in every set that was read.
 pub fn conditions(set: &Set) -> u64
     requires { set_conditions (set_contents set.now) < 2 ^ 64 }
     ensures { result ≡ set_conditions (set_contents set.now) }

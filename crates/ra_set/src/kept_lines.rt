@@ -7,6 +7,7 @@ use std::alloc::Global;
 /// The first line that repeats an id of its own letter.
 #[derive(Clone, Copy)]
 pub struct Repeat {
+    /// The id.
     pub id: u32,
     /// The line, counted from 1.
     pub line: u32,

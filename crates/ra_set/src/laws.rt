@@ -10,11 +10,16 @@ ghost use Rattle.ra_set.specs.declared.refused.SetRefused.{SetRefused};
 ghost use Rattle.ra_text.specs.Place.{OneSpelling};
 
 /// A file has its contents in one way at most: docs/DEFINITIONS.md, "Set file".
+///
+/// A law: it does nothing.
 pub fn one_file()
     ensures { OneSpelling set_file }
 {}
 
-/// A file is at most one set, or is refused for one reason, and never both.
+/// A file is at most one set, or is refused for one reason, and never both: docs/DEFINITIONS.md,
+/// "Limits of a set".
+///
+/// A law: it does nothing.
 pub fn one_answer()
     ensures set { (file : List ℕ) (a b : SetContents) → IsSet file a → IsSet file b → a ≡ b }
     ensures refusal { (file : List ℕ) (a b : SetRefused) → Refuses file a → Refuses file b → a ≡ b }
@@ -22,7 +27,9 @@ pub fn one_answer()
 {}
 
 /// Some file without a presence script spells a set exactly where its items have their structure
-/// and its ids are of 32 bits.
+/// and its ids are of 32 bits: docs/DEFINITIONS.md, "What texts spell".
+///
+/// A law: it does nothing.
 pub fn spelled_sets()
     ensures { (set : SetContents) → set.script ≡ None
         → (IsSpelled set × All HasSmallId set.items) ↔ ((file : List ℕ) × SetFile file set) }

@@ -17,12 +17,13 @@ use std::alloc::Global;
 // The most bytes of a set.
 const MOST_BYTES: usize = 4_194_304;
 
-/// The set that a file spells, with the MD5 of the file.
+/// The set that a file spells, with the MD5 of the file: docs/DEFINITIONS.md, "Set file".
 ///
-/// Of several reasons why the file is none the first is told, in this order: its bytes pass their
-/// limit; it is outside the grammar, with the first bad place; a line repeats an id of its own
-/// letter, with the first such line; its items pass their limit, or else its conditions, the macros
-/// of a display line, a lookup text.
+/// Of several reasons why the file is none the first is told, in this order ("Limits of a set"):
+/// its bytes pass their limit; it is outside the grammar, with the first bad place; a line repeats
+/// an id of its own letter, with the first such line; its items pass their limit, or else its
+/// conditions, the macros of a display line, a lookup text. `Memory` comes for want of memory
+/// alone.
 pub fn parse_set(alloc: Global, bytes: &[u8]) -> Result<Set, SetRefused>
     ensures ok { IfOk result (λ set. IsSet bytes.now (set_contents set)) }
     ensures structure { IfOk result (λ set. IsSpelled (set_contents set)) }

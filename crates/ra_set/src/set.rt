@@ -1,10 +1,13 @@
 use crate::item::Item;
 use ra_richpresence::Script;
 
-/// A set: its items in file order, its presence script, and the MD5 of its file.
+/// A set: docs/DEFINITIONS.md, "Set file".
 #[derive(Drop)]
 pub struct Set {
+    /// The items, in file order.
     pub items: Vec<Item>,
+    /// The presence script, where the file has a line `P`.
     pub script: Option<Script>,
+    /// The MD5 of the whole file.
     pub digest: [u8; 16],
 }
