@@ -13,7 +13,9 @@ use md5::{Digest, Md5};
 
 /// Whether the bytes are a progress file of the shape: docs/DEFINITIONS.md, "Progress file".
 ///
-/// The first check that fails is told, with the values that differ.
+/// The first of these that fails is told, with the values that differ: length, mark, version,
+/// closing sum, digest, then state bytes and shown index in file order. The shape has at most
+/// 16,384 items.
 pub fn check(shape: &Shape, bytes: &[u8]) -> Result<(), ProgressRefused>
     requires { length_of_list shape.now.items.items ≤ 16384 }
     ensures ok { IsOk result ↔ spec.IsAccepted (shape_contents shape.now) bytes.now }

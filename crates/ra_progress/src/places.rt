@@ -6,7 +6,7 @@ ghost use Rattle.ra_progress.specs.Reading as spec;
 
 use crate::shape::{ItemShape, PresenceShape, Shape};
 
-/// How long a progress file of the shape is: docs/DEFINITIONS.md, "Progress file".
+/// How many bytes a progress file of the shape has: docs/DEFINITIONS.md, "Progress file".
 pub fn length(shape: &Shape) -> u64
     requires { length_of_list shape.now.items.items ≤ 16384 }
     ensures { result ≡ spec.length_of (shape_contents shape.now) }
@@ -14,7 +14,8 @@ pub fn length(shape: &Shape) -> u64
     items_end(shape) + presence_length(&shape.presence) + 16
 }
 
-/// The frame count that the bytes keep.
+/// The frame count that the bytes keep, of which there are at least 29: docs/DEFINITIONS.md,
+/// "Progress file".
 pub fn frames_at(bytes: &[u8]) -> u64
     requires { 29 ≤ length_of_list bytes.now }
     ensures { result ≡ spec.frames_at bytes.now }
@@ -24,7 +25,8 @@ pub fn frames_at(bytes: &[u8]) -> u64
     ])
 }
 
-/// Where an item stands: its state byte, and then its numbers.
+/// Where an item stands, its state byte and then its numbers, in bytes from the start:
+/// docs/DEFINITIONS.md, "Progress file". Items are counted from 0.
 pub fn item_at(shape: &Shape, item: u32) -> u64
     requires few { length_of_list shape.now.items.items ≤ 16384 }
     requires item { item < length_of_list shape.now.items.items }
@@ -33,7 +35,8 @@ pub fn item_at(shape: &Shape, item: u32) -> u64
     items_start(shape) + items_length(&shape.items[..item as usize])
 }
 
-/// Where the presence stands: the index of the shown line, and then its numbers.
+/// Where the presence stands, the index of the shown line and then its numbers, in bytes from the
+/// start: docs/DEFINITIONS.md, "Progress file".
 pub fn presence_at(shape: &Shape) -> u64
     requires few { length_of_list shape.now.items.items ≤ 16384 }
     requires some { IsSome shape.now.presence }

@@ -11,7 +11,8 @@ use crate::words::{word_at, words_at};
 use ra_text::OutOfMemory;
 use std::alloc::Global;
 
-/// The snapshot whose numbers stand in the bytes: docs/DEFINITIONS.md, "Progress file".
+/// The snapshot whose numbers stand in bytes that `check` accepts: docs/DEFINITIONS.md, "Progress
+/// file".
 pub fn decode(alloc: Global, shape: &Shape, bytes: &[u8]) -> Result<Snapshot, OutOfMemory>
     requires few { length_of_list shape.now.items.items ≤ 16384 }
     requires accepted { spec.IsAccepted (shape_contents shape.now) bytes.now }

@@ -13,7 +13,8 @@ use md5::{Digest, Md5};
 use ra_text::OutOfMemory;
 use std::alloc::Global;
 
-/// The bytes of a snapshot, with their closing sum: docs/DEFINITIONS.md, "Progress file".
+/// The bytes of a snapshot of the shape, with their closing sum: docs/DEFINITIONS.md, "Progress
+/// file". The shape has at most 16,384 items.
 pub fn encode(alloc: Global, shape: &Shape, snapshot: &Snapshot) -> Result<Vec<u8>, OutOfMemory>
     requires few { length_of_list shape.now.items.items ≤ 16384 }
     requires fits { IsOpening (shape_contents shape.now) (snapshot_contents snapshot.now) }

@@ -41,7 +41,7 @@ fn write_achievements(text: &mut String, count: u32, draws: &mut Draws) -> Resul
     Ok(())
 }
 
-/// The set file of the workload of a number.
+/// The set file of the workload of a number: docs/DEFINITIONS.md, "Workload".
 #[tactic(auto, unfolding(crate::specs::Workload::made_set))]
 pub fn make_set(alloc: Global, number: u32) -> Result<Vec<u8>, OutOfMemory>
     ensures { IfOk result (λ text. text.items ≡ made_set number) }

@@ -47,7 +47,7 @@ fn write_behind_frame(writer: &mut Writer, frame: u32) -> Result<(), OutOfMemory
     Ok(())
 }
 
-/// The trace file of the workload of a number.
+/// The trace file of the workload of a number: docs/DEFINITIONS.md, "Workload".
 pub fn make_trace(alloc: Global, number: u32) -> Result<Vec<u8>, OutOfMemory>
     ensures { IfOk result (λ bytes. bytes.items ≡ made_trace number) }
 {

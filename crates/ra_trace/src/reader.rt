@@ -56,7 +56,8 @@ impl Reader {
     ghost use Rattle.ra_trace.specs.Reading.{Holds, ReadsOn, Knows, Found, Stands, LiesWithin, StaysBefore, IsBehindHeader, opened, most_bytes, header_stop, next_stop, IsStop, ByFault};
     ghost use Rattle.ra_trace.specs.Ending.{EndsAs};
 
-    /// A reader of the file of this name that takes no more bytes than the limit. It holds none yet.
+    /// A reader of the file of this name that takes no more bytes than the limit, which is 9 to
+    /// 16,777,216. It holds none yet.
     pub fn open(alloc: Global, name: &str, limit: u64) -> Result<Reader, OutOfMemory>
         requires least { 9 ≤ limit }
         requires most { limit ≤ most_bytes }
@@ -74,7 +75,10 @@ impl Reader {
         })
     }
 
-    /// The memory size. The first call on a reader.
+    /// The memory size that the header says. The first call on a reader.
+    ///
+    /// `Refused` at 0 exactly where a told file begins with no good header, and `Read` only where a
+    /// fault was counted.
     pub fn header<F: Files>(&mut self, files: &mut F) -> Result<u32, TraceError>
         requires { self.old ≡ opened self.old.name self.old.limit }
         ensures ok { IfOk result (λ size. IfSome (F.content files.old self.old.name) (λ bytes. header_size (take self.old.limit bytes) ≡ Some size)) }
@@ -158,6 +162,9 @@ impl Reader {
     }
 
     /// The next record. Not called before the header was read, nor after an end record or an error.
+    ///
+    /// `Refused` with the place and the reason, or `TooLong`, exactly as "Reading a trace" says of
+    /// a told file, and `Read` only where a fault was counted. An error leaves the place.
     pub fn next_record<'a, F: Files>(&'a mut self, files: &mut F) -> Result<Record<'a>, TraceError>
         requires { IsSome self.old.size }
         ensures ok { IfOk result (λ found. IfSome (F.content files.old self.old.name) (λ bytes. Holds self.old bytes → IfSome self.old.size (λ size. Stands self.old.limit size self.old.next (entry_of found) bytes))) }
@@ -173,7 +180,7 @@ impl Reader {
         Ok(front_record(&self.buffer[at..self.held]))
     }
 
-    /// The place of the last record, 0 where none was read.
+    /// The place where the last record starts, in bytes from 0, and 0 where none was read.
     pub fn place(&self) -> u64
         ensures { result ≡ self.now.last }
     {

@@ -27,7 +27,7 @@ impl Writer {
     ghost use Rattle.ra_trace.specs.Rules.{whole_trace};
     ghost use Rattle.ra_trace.specs.Writing.{with_record, Wrote, Adds};
 
-    /// The header of a trace over a memory of `size` bytes.
+    /// The header of a trace over a memory of `size` bytes, at most 134,217,728.
     #[tactic(auto, using(crate::proofs::Writes::wrote_none))]
     pub fn new(alloc: Global, size: u32) -> Result<Writer, OutOfMemory>
         requires { size ≤ 2 ^ 27 }
@@ -40,7 +40,7 @@ impl Writer {
         Ok(Writer { size, bytes })
     }
 
-    /// Adds a write of bytes at the address `at`.
+    /// Adds a write of bytes at the address `at`: at most 65,535 of them, which fit the memory.
     #[tactic(auto, using(crate::proofs::Writes::wrote_more))]
     pub fn write(&mut self, at: u32, bytes: &[u8]) -> Result<(), OutOfMemory>
         requires fits { at + length bytes.now ≤ self.old.size }
@@ -69,7 +69,7 @@ impl Writer {
         Ok(())
     }
 
-    /// Adds a save to a slot.
+    /// Adds a save to a slot, 0 to 15.
     #[tactic(auto, using(crate::proofs::Writes::wrote_more))]
     pub fn save(&mut self, slot: u8) -> Result<(), OutOfMemory>
         requires { slot ≤ 15 }
@@ -81,7 +81,7 @@ impl Writer {
         Ok(())
     }
 
-    /// Adds a restore of a slot.
+    /// Adds a restore of a slot, 0 to 15.
     #[tactic(auto, using(crate::proofs::Writes::wrote_more))]
     pub fn restore(&mut self, slot: u8) -> Result<(), OutOfMemory>
         requires { slot ≤ 15 }
