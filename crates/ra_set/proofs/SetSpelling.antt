@@ -154,7 +154,7 @@ name-of (Float n) h = float n h.0 h.1 where
 -- ---- items
 
 -- a line for an item
-item-line : (x : ItemContents) → IsItem x → HasSmallId x → (text : List ℕ) × line text (Some x)
+pub item-line : (x : ItemContents) → IsItem x → HasSmallId x → (text : List ℕ) × line text (Some x)
 item-line (Unlocks id t) h small = (
   head_text 65 id ++ trigger_text t,
   inr (inl (record { front = head_text 65 id; behind = trigger_text t; v = id; parts = refl; of_first = head-spelled 65 id refl small; of_next = changed trigger (λ t. Some (Unlocks id t)) (trigger_text t) t (trigger-spelled t h) })),
