@@ -131,8 +131,8 @@ impl<'a> Cursor<'a> {
         }
     }
 
-    /// Reads these bytes. `Stop` at the first that differs, or at the end, behind those that do
-    /// not.
+    /// Reads these bytes, one after the other. `Stop` where another byte or the end is next; the
+    /// cursor then stands behind those that were read.
     pub fn literal(&mut self, wanted: &[u8]) -> Result<(), Stop>
         ensures { Moves result self.new.rest.now (literal_at wanted.now self.old.rest.now) }
     {
