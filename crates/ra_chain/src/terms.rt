@@ -15,8 +15,8 @@ use std::alloc::Global;
 
 /// The node of the legacy sum of terms: docs/DEFINITIONS.md, "Trees of a group".
 ///
-/// It adds at most 12 nodes for each term and one more, which have to fit below 2^31. After
-/// `OutOfMemory` the pool keeps what it has.
+/// It adds at most 12 nodes for each term and one more; the nodes that are there, 12 for each term
+/// and two are together at most 2^31. After `OutOfMemory` the pool keeps what it has.
 pub fn elaborate_terms(alloc: Global, terms: &[Term], pool: &mut Pool) -> Result<u32, OutOfMemory>
     requires { length pool.old + 12 * length terms.now + 2 ≤ 2 ^ 31 }
     ensures ok { IfOk result (Plants pool.old pool.new (terms_tree terms.now ∷ []) (terms_tree terms.now)) }

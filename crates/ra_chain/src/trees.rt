@@ -24,9 +24,10 @@ use std::alloc::Global;
 
 /// The plan of a group, and its trees in the pool: docs/DEFINITIONS.md, "Trees of a group".
 ///
-/// Nodes are interned in pass order, left before right: at most 12 for each condition and one more,
-/// which have to fit below 2^31. Conditions that hand a value on have arithmetic or no operator, as
-/// in every group that some text spells. After `OutOfMemory` the pool keeps what it has.
+/// Nodes are interned in pass order, left before right, at most 12 for each condition; the nodes
+/// that are there, 12 for each condition and two are together at most 2^31. Conditions that hand a
+/// value on have arithmetic or no operator, as in every group that some text spells. After
+/// `OutOfMemory` the pool keeps what it has.
 pub fn elaborate(alloc: Global, group: &Group, pool: &mut Pool) -> Result<GroupPlan, OutOfMemory>
     requires few { length (group_contents group.now) < 2 ^ 32 }
     requires room { length pool.old + 12 * length (group_contents group.now) + 2 ≤ 2 ^ 31 }
