@@ -1,4 +1,4 @@
--- All items of a set: how they are kept and stepped, and their lines.
+-- How all items of a set are kept and stepped, and their lines: docs/DEFINITIONS.md, "What a runtime keeps".
 use Rattle.std.specs.Prelude.{◌≡◌, ℕ, Option, List, [], ◌∷◌, ◌++◌, length, map}
 use Rattle.ra_indirect.specs.Pools.{cells_of, tracked_of}
 use Rattle.ra_progress.specs.Contents.{Opening}

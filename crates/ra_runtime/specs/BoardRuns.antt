@@ -1,4 +1,4 @@
--- How leaderboards are kept and stepped.
+-- How leaderboards are kept and stepped: docs/DEFINITIONS.md, "Leaderboard states".
 use Rattle.std.specs.Prelude.{◌≡◌, ℕ, Option, None, Some, List, [], ◌∷◌, ℤ}
 use Rattle.ra_condition.specs.Contents.{PartContents}
 use Rattle.ra_indirect.specs.declared.node.Node.{Node}
@@ -14,7 +14,7 @@ use Rattle.ra_runtime.specs.declared.board_run.BoardRun.{BoardRun}
 use Rattle.ra_runtime.specs.Boards.{BoardKept, board_after}
 use Rattle.ra_runtime.specs.Runs.{HasValues, IsTestRun, IsNewTest, IsValueRun, IsNewValue}
 
--- a value that may be missing, with its plan
+-- a value that may be missing, with its plan: there is a run exactly where there is a value
 abbrev pub IsOptionalRun : List Node → Option (List PartContents) → Option ValueRun → Type 0
 IsOptionalRun nodes None None = Unit {0}
 IsOptionalRun nodes (Some parts) (Some run) = IsValueRun nodes parts run
@@ -32,7 +32,7 @@ PlansOptional None None = Unit {0}
 PlansOptional (Some parts) (Some plan) = Unit {0}
 PlansOptional _ _ = ⊥
 
--- what is kept of such a value, and of a board
+-- what is kept of a value that may be missing: nothing where there is none
 abbrev pub optional_kept : Option ValueRun → ValueKept
 optional_kept None = record { hits = []; numbers = [] }
 optional_kept (Some run) = run.value
@@ -48,12 +48,12 @@ board_kept run = record {
   progress = optional_kept run.progress;
 }
 
--- the tracked number: the progress where there is one, else the value
+-- what is kept of the value that is tracked: the progress where there is one, else the value
 abbrev pub tracked_kept_by : Option ValueRun → ValueKept → ValueKept
 tracked_kept_by None value = value
 tracked_kept_by (Some run) value = run.value
 
--- the value of a board that its lines print
+-- the tracked number of a board, by its run
 abbrev pub tracked_by : BoardRun → ℤ
 tracked_by run = signed_greatest (tracked_kept_by run.progress run.value.value).numbers
 

@@ -1,4 +1,4 @@
--- Leaderboards after a history.
+-- Leaderboards after a history: docs/DEFINITIONS.md, "Leaderboard states".
 use Rattle.std.specs.Prelude.{ℕ, if◌then◌else◌, Option, None, Some, List, [], ◌∷◌, ◌++◌, length, take, drop, ℤ}
 use Rattle.ra_condition.specs.Contents.{trigger_hits, PartContents, value_hits}
 use Rattle.ra_leaderboard.specs.declared.state.BoardState.{BoardState}
@@ -52,11 +52,11 @@ board_after start b opened history = record {
   progress = board_value start b opened (optional_parts b.progress) opened.progress history;
 }
 
--- the number of a board's value, and the tracked number: the progress where there is one, else the value
+-- the number of a board's value
 abbrev pub value_number : BoardKept → ℤ
 value_number kept = signed_greatest kept.value.numbers
 
--- what is kept of the value that an attempt tracks: its progress, if it has one
+-- what is kept of the value that an attempt tracks: its progress where the board has one, else its value
 abbrev pub tracked_kept : Option (List PartContents) → BoardKept → ValueKept
 tracked_kept None kept = kept.value
 tracked_kept (Some parts) kept = kept.progress
@@ -85,7 +85,7 @@ abbrev pub opened_board : BoardContents → KeptItem → BoardKept
 opened_board b (OfBoard state hits numbers) = cut_board b state hits numbers
 opened_board b (OfAchievement state measured hits) = cut_board b state hits []
 
--- and the other way round: start, cancel, submit, value, progress in a row
+-- a board as a progress file keeps it: hits and numbers in the order start, cancel, submit, value, progress
 abbrev pub kept_board : BoardKept → KeptItem
 kept_board k =
     OfBoard (board_byte k.state) (k.start ++ k.cancel ++ k.submit ++ k.value.hits ++ k.progress.hits) (k.value.numbers ++ k.progress.numbers)

@@ -1,4 +1,4 @@
--- Lists of calls that take no memory, over a runtime that was made.
+-- Lists of calls over a runtime that was made: docs/DEFINITIONS.md, "Calls that take no memory".
 use Rattle.std.specs.Prelude.{◌≡◌, ℕ, ◌+◌, ◌≤◌, None, List, [], ◌∷◌, length}
 use Rattle.std.specs.List.{AllByRecursion}
 use Rattle.ra_set.specs.Contents.{SetContents}
@@ -32,7 +32,7 @@ Leaves old (Write at bytes) new = IsWritten old new at bytes
 Leaves old Frame new = TakesFrame old new
 Leaves old (Restore bytes) new = TakesUp old new bytes
 
--- each call succeeds, whatever the calls before it left
+-- each call of the list succeeds, whatever the calls before it left
 abbrev pub AllSucceed : RuntimeSeen → List Call → Type 0
 AllSucceed runtime [] = Unit {0}
 AllSucceed runtime (call ∷ calls) =

@@ -1,4 +1,4 @@
--- Triggers and values after a history.
+-- Triggers and values after a history: docs/DEFINITIONS.md, "Triggers over frames" and "Values over frames".
 use Rattle.std.specs.Prelude.{ℕ, Bool, false, List, [], ◌∷◌, map}
 use Rattle.std.specs.List.{flat_map}
 use Rattle.ra_operand.specs.Operators.{compared}
@@ -11,20 +11,20 @@ use Rattle.ra_memref.specs.Values.{Start, value_of}
 use Rattle.ra_trigger.specs.Steps.{TriggerKept, step as trigger_step, truth, hits_after_truth}
 use Rattle.ra_value.specs.Steps.{ValueKept, step as value_step}
 
--- the left value of a condition at the last frame, and whether its comparison holds there
+-- the left value of a condition at the last frame
 abbrev pub left_at : Start → History → List Condition → ℕ → ℕ
 left_at start history cs j = value_of start (left_of cs j) history
 
--- whether the comparison of a condition holds after a history
+-- whether the comparison of a condition holds at the last frame
 abbrev pub truth_at : Start → History → List Condition → ℕ → Bool
 truth_at start history cs j =
     compared (condition_at cs j).op (left_at start history cs j) (value_of start (right_of cs j) history)
 
--- the same for all conditions of some groups
+-- the left values of all conditions of some groups at the last frame
 abbrev pub lefts_at : Start → History → List (List Condition) → List ℕ
 lefts_at start history groups = flat_map (λ cs. map (left_at start history cs) (places cs)) groups
 
--- the truths of the conditions of groups after a history
+-- whether the comparison of each condition of some groups holds at the last frame
 abbrev pub truths_at : Start → History → List (List Condition) → List Bool
 truths_at start history groups = flat_map (λ cs. map (truth_at start history cs) (places cs)) groups
 
@@ -42,7 +42,7 @@ test_hits start t opened (image ∷ earlier) =
     hits_after_truth t (truths_at start (image ∷ earlier) (groups_of t)) (lefts_at start (image ∷ earlier) (groups_of t))
     (test_hits start t opened earlier)
 
--- its truth at the last frame; before the first frame there is none
+-- the truth of a trigger without states at the last frame; false before the first
 abbrev pub test_truth : Start → TriggerContents → List ℕ → History → Bool
 test_truth start t opened [] = false
 test_truth start t opened (image ∷ earlier) =

@@ -1,4 +1,4 @@
--- How items are kept and stepped.
+-- How items are kept and stepped: docs/DEFINITIONS.md, "What a runtime keeps".
 use Rattle.std.specs.Prelude.{◌≡◌, ℕ, List, [], ◌∷◌}
 use Rattle.ra_indirect.specs.declared.node.Node.{Node}
 use Rattle.ra_memref.specs.Values.{Start}
@@ -27,7 +27,7 @@ IsItemRun nodes (Unlocks id t) (Achievement run) = IsAchievementRun nodes t run
 IsItemRun nodes (Ranks id format b) (Leaderboard run) = IsBoardRun nodes b run
 IsItemRun nodes _ _ = ⊥
 
--- there is a plan for each field
+-- a leaderboard has a plan of its progress exactly where it has a progress
 abbrev pub PlansItem : ItemContents → ItemPlan → Type 0
 PlansItem (Unlocks id t) (plans.Achievement plan) = Unit {0}
 PlansItem (Ranks id format b) (plans.Leaderboard plan) = PlansOptional b.progress plan.progress

@@ -1,4 +1,4 @@
--- The lines that items print at a frame. Nothing here sees another item.
+-- The lines that items print at a frame, none of which sees another item: docs/DEFINITIONS.md, "Printed lines".
 use Rattle.std.specs.Prelude.{ℕ, ◌==◌, ◌&&◌, ◌||◌, not, Bool, true, false, if◌then◌else◌, List, [], ◌∷◌, ◌++◌, codes, decimal, ℤ}
 use Rattle.std.specs.Fmt.{signed_decimal}
 use Rattle.std.specs.List.{join_with_byte}
@@ -29,7 +29,7 @@ achievement_lines frame id before after =
     ++ line_if (is_primed before.state && not (is_primed after.state)) (codes "unprimed" ∷ decimal frame ∷ decimal id ∷ [])
     ++ line_if (not (is_triggered before.state) && is_triggered after.state) (codes "unlock" ∷ decimal frame ∷ decimal id ∷ [])
 
--- whether an attempt runs
+-- whether the state is that of an attempt that runs
 abbrev pub is_started : BoardState → Bool
 is_started Started = true
 is_started _ = false

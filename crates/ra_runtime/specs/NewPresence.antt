@@ -1,4 +1,4 @@
--- What a new display leaves in a pool, and what it keeps before the first frame.
+-- What a new display leaves in a pool, and what it keeps before the first frame: docs/DEFINITIONS.md, "Openings and snapshots".
 use Rattle.std.specs.Prelude.{◌≡◌, ℕ, ◌*◌, Option, None, Some, option_map, List, [], map, replicate, sum_by, All, IfSome}
 use Rattle.std.specs.List.{flat_map}
 use Rattle.ra_condition.specs.Contents.{TriggerContents, trigger_hits, PartContents}

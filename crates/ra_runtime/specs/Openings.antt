@@ -1,4 +1,4 @@
--- Openings of a set: what stands before the first frame, and the opening after a history.
+-- What stands before the first frame of a set, and the opening after a history: docs/DEFINITIONS.md, "Openings and snapshots".
 use Rattle.std.specs.Prelude.{ℕ, ◌+◌, ◌-◌, ◌^◌, min, Option, None, Some, option_map, if◌then◌else◌, List, [], ◌∷◌, length, map, replicate, drop, zip, slice_index}
 use Rattle.ra_richpresence.specs.Contents.{ScriptContents}
 use Rattle.ra_set.specs.Contents.{ItemContents, Unlocks, Ranks, SetContents}
@@ -22,7 +22,7 @@ number_beside [] numbers c = 0
 number_beside (d ∷ cells) numbers c =
     if same_cell d c then slice_index numbers 0 else number_beside cells (drop 1 numbers) c
 
--- the prior that an opening keeps for a mask
+-- the number beside a tracked mask, of masks and numbers in the same order; 0 for one that is not among them
 abbrev pub prior_beside : List Tracked → List ℕ → Tracked → ℕ
 prior_beside [] numbers t = 0
 prior_beside (s ∷ tracked) numbers t =
@@ -44,14 +44,14 @@ opened_achievement (OfBoard state hits numbers) = record { state = state_of stat
 abbrev pub kept_achievement : TriggerKept → KeptItem
 kept_achievement k = OfAchievement (state_byte k.state) k.measured k.hits
 
--- an item after a history
+-- what is kept of an item after a history, from what the opening keeps
 abbrev pub item_after : Start → History → ItemContents × KeptItem → KeptItem
 item_after start history (Unlocks id t, opened) =
     kept_achievement (achievement_after start t (opened_achievement opened) history)
 item_after start history (Ranks id format b, opened) =
     kept_board (board_after start b (opened_board b opened) history)
 
--- the presence after a history
+-- what is kept of a display that may be missing, after a history
 abbrev pub optional_presence : Start → History → Option ScriptContents → Option KeptPresence → Option KeptPresence
 optional_presence start history (Some script) (Some opened) = Some (presence_after start script opened history)
 optional_presence start history _ _ = None
@@ -72,16 +72,16 @@ snapshot set o history =
       presence = optional_presence start history set.script o.presence;
     }
 
--- nothing has happened: all waits, the last line is shown, and all numbers are 0
+-- what an item keeps that was never stepped: it waits, and all numbers are 0
 abbrev pub plain_item : ItemShape → KeptItem
 plain_item (shapes.Achievement hits) = OfAchievement 0 0 (replicate hits 0)
 plain_item (shapes.Leaderboard hits parts) = OfBoard 0 (replicate hits 0) (replicate parts 0)
 
--- the presence of a set that was never played: the last line, and all numbers 0
+-- what a display keeps that was never stepped: its last line, and all numbers 0
 abbrev pub plain_presence : PresenceShape → KeptPresence
 plain_presence shape = record { shown = shape.lines - 1; hits = replicate shape.hits 0; numbers = replicate shape.parts 0 }
 
--- the opening of a shape that was never played
+-- what a set of this shape keeps that was never played
 abbrev pub plain_of : ShapeContents → Opening
 plain_of shape = record {
   frames = 0;

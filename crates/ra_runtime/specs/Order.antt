@@ -1,4 +1,4 @@
--- The cells and tracked masks of a set in order of first occurrence, and the set's shape.
+-- The cells and tracked masks of a set, and its shape: docs/DEFINITIONS.md, "Order of first occurrence" and "Shape of a set".
 use Rattle.std.specs.Prelude.{ℕ, ◌+◌, Option, None, Some, option_map, unwrap_or, List, [], ◌∷◌, ◌++◌, length, map, sum_by}
 use Rattle.std.specs.List.{flat_map}
 use Rattle.ra_condition.specs.Contents.{TriggerContents, trigger_hits, PartContents, value_hits}
@@ -20,14 +20,14 @@ abbrev pub tests_in : Option TriggerContents → List TriggerContents
 tests_in None = []
 tests_in (Some test) = test ∷ []
 
--- a board's fields in the order start, cancel, submit, value, progress
+-- the trees of an item; those of a board in the order start, cancel, submit, value, progress
 abbrev pub trees_in_item : ItemContents → List Tree
 trees_in_item (Unlocks id t) = trees_in_trigger t
 trees_in_item (Ranks id format b) =
     trees_in_trigger b.start ++ trees_in_trigger b.cancel ++ trees_in_trigger b.submit
     ++ trees_in_value b.value ++ trees_in_value (optional_parts b.progress)
 
--- a line's test before its macros
+-- the trees of a line: those of its test, and then those of its macros
 abbrev pub trees_in_line : LineContents → List Tree
 trees_in_line line =
     flat_map trees_in_trigger (tests_in line.test) ++ flat_map trees_in_value (values_in_line line)
@@ -37,7 +37,7 @@ abbrev pub lines_in : Option ScriptContents → List LineContents
 lines_in None = []
 lines_in (Some script) = script.lines
 
--- items in set order, and then the presence script line by line
+-- the trees of a set: those of its items in set order, and then those of its script line by line
 abbrev pub trees_in_set : SetContents → List Tree
 trees_in_set set = flat_map trees_in_item set.items ++ flat_map trees_in_line (lines_in set.script)
 

@@ -1,4 +1,4 @@
--- What planning leaves in a pool, and how many nodes it takes at most.
+-- What planning leaves in a pool, and how many nodes it takes at most: docs/DEFINITIONS.md, "Trees, cells and tracked masks".
 use Rattle.std.specs.Prelude.{◌≡◌, ℕ, ◌+◌, ◌*◌, ◌≤◌, List, ◌++◌, length, map, sum_by}
 use Rattle.std.specs.List.{flat_map}
 use Rattle.ra_indirect.specs.declared.node.Node.{Node}

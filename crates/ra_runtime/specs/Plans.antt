@@ -1,4 +1,4 @@
--- Plans of items: pass orders, and nodes of a pool that spell the trees of their conditions.
+-- Plans of items: pass orders, and nodes that spell the trees of conditions: docs/DEFINITIONS.md, "Trees of a group".
 use Rattle.std.specs.Prelude.{◌≡◌, ℕ, Option, None, Some, List, [], ◌∷◌, map}
 use Rattle.std.specs.List.{flat_map}
 use Rattle.ra_condition.specs.declared.condition.Condition.{Condition}

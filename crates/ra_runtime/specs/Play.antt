@@ -1,4 +1,4 @@
--- What a set prints over the records of a trace, by the frames that lie behind each moment.
+-- What a set prints over the records of a trace: docs/DEFINITIONS.md, "Frames that lie behind" and "Printed lines".
 use Rattle.std.specs.Prelude.{ℕ, Option, None, Some, List, [], ◌∷◌, ◌++◌, length, replicate, zip, codes, decimal, slice_set, slice_index_or}
 use Rattle.std.specs.List.{flat_map}
 use Rattle.ra_set.specs.Contents.{ItemContents, Unlocks, Ranks, SetContents}

@@ -1,4 +1,4 @@
--- The presence after a history.
+-- The presence after a history: docs/DEFINITIONS.md, "Presence over frames".
 use Rattle.std.specs.Prelude.{ℕ, suc, Bool, true, false, Option, None, Some, List, [], ◌∷◌, ◌++◌, length, map, take, drop, sum_by, zip}
 use Rattle.std.specs.List.{flat_map}
 use Rattle.ra_condition.specs.Contents.{TriggerContents, trigger_hits, PartContents, value_hits}
@@ -16,12 +16,12 @@ pub record LineKept : Type 0 where
   pub test : List ℕ
   pub values : List ValueKept
 
--- a test that may be missing: no hits, and always true
+-- the hits of a line's test after a history; a line without a test has none
 abbrev pub line_test_hits : Start → Option TriggerContents → List ℕ → History → List ℕ
 line_test_hits start None opened history = opened
 line_test_hits start (Some t) opened history = test_hits start t opened history
 
--- whether the test of a line holds after a history; a line with no test always holds
+-- whether the test of a line holds at the last frame; a line without a test always holds
 abbrev pub line_truth : Start → Option TriggerContents → List ℕ → History → Bool
 line_truth start None opened history = true
 line_truth start (Some t) opened history = test_truth start t opened history
@@ -45,7 +45,7 @@ shown_line start script opened kept [] = opened
 shown_line start script opened kept (image ∷ earlier) =
     first_true (map (λ pair. line_truth start pair.0.test pair.1.test (image ∷ earlier)) (zip script.lines kept))
 
--- hits and numbers of a progress file, cut by values and by lines
+-- hits and numbers of a progress file, cut by the values of a line
 abbrev pub cut_values : List (List PartContents) → (hits numbers : List ℕ) → List ValueKept
 cut_values [] hits numbers = []
 cut_values (v ∷ vs) hits numbers =

@@ -1,4 +1,4 @@
--- How the lines of a display are kept and stepped.
+-- How the lines of a display are kept and stepped: docs/DEFINITIONS.md, "Presence over frames".
 use Rattle.std.specs.Prelude.{◌≡◌, ℕ, ◌<◌, Bool, true, Option, None, Some, option_map, List, [], ◌∷◌, length, map, zip}
 use Rattle.std.specs.List.{flat_map}
 use Rattle.ra_condition.specs.Contents.{TriggerContents, PartContents}
@@ -45,7 +45,7 @@ pub record IsPresenceRun (nodes : List Node) (script : ScriptContents) (run : Pr
   pub lines : AreLineRuns nodes script.lines run.lines.items
   pub shown : run.shown < length script.lines
 
--- the same of a script that may be missing
+-- a display that may be missing, with its plans
 abbrev pub IsOptionalPresence : List Node → Option ScriptContents → Option PresenceRun → Type 0
 IsOptionalPresence nodes None None = Unit {0}
 IsOptionalPresence nodes (Some script) (Some run) = IsPresenceRun nodes script run
@@ -68,7 +68,7 @@ presence_kept run = record {
   numbers = flat_map numbers_in (map line_kept run.lines.items);
 }
 
--- the same of a display that may be missing
+-- what an opening keeps for a display that may be missing
 abbrev pub optional_presence_kept : Option PresenceRun → Option KeptPresence
 optional_presence_kept run = option_map presence_kept run
 
@@ -108,7 +108,7 @@ abbrev pub StepsPresence : TableSeen → ScriptContents → (old new : PresenceR
 StepsPresence table script old new =
     (start : Start) (image : List ℕ) → HasValues table start (image ∷ []) → presence_kept new ≡ presence_after start script (presence_kept old) (image ∷ [])
 
--- the same of a display that may be missing
+-- one frame of a display that may be missing
 abbrev pub StepsOptional : TableSeen → Option ScriptContents → (old new : Option PresenceRun) → Type 0
 StepsOptional table None None None = Unit {0}
 StepsOptional table (Some script) (Some old) (Some new) = StepsPresence table script old new

@@ -1,4 +1,4 @@
--- What the conditions of some groups read at a frame, by the numbers of a table's nodes.
+-- What conditions read at a frame, by the numbers of a table's nodes: docs/DEFINITIONS.md, "Values at a frame".
 use Rattle.std.specs.Prelude.{ℕ, ◌<◌, Bool, Option, None, Some, List, [], ◌∷◌, length, map, slice_index, slice_index_or}
 use Rattle.std.specs.List.{flat_map}
 use Rattle.ra_operand.specs.declared.op.Op.{Op}
@@ -7,11 +7,11 @@ use Rattle.ra_condition.specs.declared.condition.Condition.{Condition}
 use Rattle.ra_indirect.specs.declared.node.Node.{Node}
 use Rattle.ra_indirect.specs.Pools.{IsValued, node_at}
 
--- the operators of the conditions of some groups
+-- the operator of each condition of a group
 abbrev pub ops_in : List Condition → List Op
 ops_in cs = map (λ c. c.op) cs
 
--- the comparisons of groups, in the order of their conditions
+-- the operators of the conditions of some groups, group after group
 abbrev pub ops_of : List (List Condition) → List Op
 ops_of groups = flat_map ops_in groups
 
@@ -19,7 +19,7 @@ ops_of groups = flat_map ops_in groups
 abbrev pub numbers_at : List ℕ → List ℕ → List ℕ
 numbers_at values nodes = map (λ n. slice_index values n) nodes
 
--- whether each comparison holds
+-- whether each comparison holds between the left and the right number beside it
 abbrev pub truths_by : List Op → (lefts rights : List ℕ) → List Bool
 truths_by (op ∷ ops) (x ∷ lefts) (y ∷ rights) = compared op x y ∷ truths_by ops lefts rights
 truths_by _ _ _ = []
@@ -34,7 +34,7 @@ abbrev pub sum_by_node : List ℕ → Option ℕ → ℕ
 sum_by_node values None = 0
 sum_by_node values (Some n) = slice_index values n
 
--- such a node has a value
+-- a node that may be missing has a value where it is there
 abbrev pub IsValuedSum : List Node → Option ℕ → Type 0
 IsValuedSum nodes None = Unit {0}
 IsValuedSum nodes (Some n) = (n < length nodes) × IsValued (node_at nodes n)

@@ -1,4 +1,4 @@
--- What runs keep after the bytes of a progress file are put back; all else of them stays.
+-- What runs keep after the bytes of a progress file are put back: docs/DEFINITIONS.md, "What a runtime keeps".
 use Rattle.std.specs.Prelude.{◌≡◌, ℕ, ◌+◌, ◌*◌, ◌<◌, Option, None, Some, option_map, List, [], ◌∷◌, length, slice_index}
 use Rattle.std.specs.List.{flat_map}
 use Rattle.ra_indirect.specs.declared.node.Node.{Node}
@@ -22,7 +22,7 @@ use Rattle.ra_runtime.specs.BoardRuns.{IsBoardRun, board_kept}
 use Rattle.ra_runtime.specs.ItemRuns.{IsItemRun, kept_run}
 use Rattle.ra_runtime.specs.Shapes.{board_run_shape, run_shape, optional_run_shape}
 
--- each item's first byte is a state's
+-- the first byte of each item, from a place on, is that of a state
 abbrev pub HaveStates : List ℕ → ℕ → List ItemShape → Type 0
 HaveStates bytes at [] = Unit {0}
 HaveStates bytes at (shape ∷ shapes) = (slice_index bytes at < 5) × HaveStates bytes (at + item_length shape) shapes
@@ -32,7 +32,7 @@ pub record PutsBackTest (bytes : List ℕ) (at : ℕ) (old new : TestRun) : Type
   pub hits : new.trigger.hits ≡ words_at bytes at (length old.trigger.hits)
   pub laid : new.laid ≡ old.laid
 
--- the hits and the numbers of a value are those at two places
+-- a value whose hits and numbers are those at two places
 abbrev pub value_at : List ℕ → (hits numbers : ℕ) → ValueKept → ValueKept
 value_at bytes hits numbers old = record {
   hits = words_at bytes hits (length old.hits);
@@ -44,7 +44,7 @@ pub record PutsBackValue (bytes : List ℕ) (hits numbers : ℕ) (old new : Valu
   pub value : new.value ≡ value_at bytes hits numbers old.value
   pub rest : new ≡ record old { value = new.value }
 
--- the same of a value that may be missing
+-- a value that may be missing is what stands at two places, where it is there
 abbrev pub PutsBackOptional : List ℕ → (hits numbers : ℕ) → (old new : Option ValueRun) → Type 0
 PutsBackOptional bytes hits numbers None None = Unit {0}
 PutsBackOptional bytes hits numbers (Some old) (Some new) = PutsBackValue bytes hits numbers old new

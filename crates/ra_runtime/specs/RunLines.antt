@@ -1,4 +1,4 @@
--- The lines of an item by the record of its last frame.
+-- The lines of an item by the record of its last frame: docs/DEFINITIONS.md, "Printed lines".
 use Rattle.std.specs.Prelude.{ℕ, ℤ, Bool, ◌&&◌, ◌||◌, not, Option, None, Some, List, [], ◌∷◌, ◌++◌, codes, decimal}
 use Rattle.std.specs.Fmt.{signed_decimal}
 use Rattle.ra_value_format.specs.declared.format.Format.{Format}
@@ -27,7 +27,7 @@ change_lines frame id change =
     ++ line_if (is_primed change.before && not (is_primed change.after)) (codes "unprimed" ∷ decimal frame ∷ decimal id ∷ [])
     ++ line_if (not (is_triggered change.before) && is_triggered change.after) (codes "unlock" ∷ decimal frame ∷ decimal id ∷ [])
 
--- the line of a tracked number, and that of a submitted value
+-- the line of a tracked number, where it is told
 abbrev pub track_line : Bool → (frame id : ℕ) → Format → ℤ → List ℕ
 track_line told frame id format tracked =
     line_if told (codes "track" ∷ decimal frame ∷ decimal id ∷ formatted format tracked ∷ [])

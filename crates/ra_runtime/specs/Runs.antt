@@ -1,4 +1,4 @@
--- How items are kept and stepped: the runs of a runtime, and what a frame of a table does to them.
+-- The runs of a runtime, and what a frame of a table does to them: docs/DEFINITIONS.md, "What a runtime keeps".
 use Rattle.std.specs.Prelude.{◌≡◌, ℕ, Bool, List, length, map}
 use Rattle.ra_condition.specs.declared.condition.Condition.{Condition}
 use Rattle.ra_condition.specs.Contents.{TriggerContents, groups_of, trigger_hits, PartContents, counted_in, value_hits}

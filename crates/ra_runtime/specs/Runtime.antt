@@ -1,4 +1,4 @@
--- What a runtime is seen as, what its calls do, and the law of cuts.
+-- What a runtime is seen as, what its calls do, and the law of cuts: docs/DEFINITIONS.md, "What a runtime keeps" and "The law of cuts".
 use Rattle.std.specs.Prelude.{◌≡◌, ◌≢◌, ℕ, Bool, true, false, List, [], ◌∷◌, ◌++◌, length, map, replicate}
 use Rattle.ra_set.specs.Contents.{SetContents}
 use Rattle.ra_memory.specs.Image.{History, AreImages, written}

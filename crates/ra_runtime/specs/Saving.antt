@@ -1,4 +1,4 @@
--- Numbers put behind others, and what `save` gives.
+-- Numbers put behind others, and what `save` gives: docs/DEFINITIONS.md, "Progress file".
 use Rattle.std.specs.Prelude.{◌≡◌, ℕ, ◌<◌, ◌^◌, Option, None, Some, List, ◌++◌}
 use Rattle.std.specs.List.{AllByRecursion}
 use Rattle.ra_set.specs.Contents.{SetContents}
@@ -20,7 +20,7 @@ pub record FitPresence (kept : KeptPresence) : Type 0 where
   pub hits : FitWords kept.hits
   pub numbers : FitWords kept.numbers
 
--- the same of a display that may be missing
+-- each number that is kept of a display that may be missing is of 32 bits
 abbrev pub FitOptional : Option KeptPresence → Type 0
 FitOptional None = Unit {0}
 FitOptional (Some kept) = FitPresence kept

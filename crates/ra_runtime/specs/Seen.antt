@@ -1,4 +1,4 @@
--- What a runtime is seen as, by its fields, and what its fields always have.
+-- What a runtime is seen as, by its fields, and what these always have: docs/DEFINITIONS.md, "What a runtime keeps".
 use Rattle.std.specs.Prelude.{◌≡◌, [], length, if◌then◌else◌}
 use Rattle.ra_memref.specs.Table.{Agrees}
 use Rattle.ra_set.specs.Contents.{set_contents}

@@ -1,4 +1,4 @@
--- How many numbers runs keep, and a table that is laid out for a set.
+-- How many numbers runs keep, and a table that is laid out for a set: docs/DEFINITIONS.md, "Shape of a set".
 use Rattle.std.specs.Prelude.{◌≡◌, ℕ, ◌+◌, ◌<◌, ◌≤◌, ◌^◌, Option, None, Some, option_map, List, length, map}
 use Rattle.ra_memref.specs.Table.{TableSeen, IsFresh}
 use Rattle.ra_set.specs.Contents.{SetContents}
@@ -37,11 +37,11 @@ presence_run_shape run = record {
   parts = length (presence_kept run).numbers;
 }
 
--- the same of a display that may be missing
+-- the shape of a display that may be missing, by the numbers that its run keeps
 abbrev pub optional_run_shape : Option PresenceRun → Option PresenceShape
 optional_run_shape run = option_map presence_run_shape run
 
--- the numbers of this shape, where there is one, are of 32 bits
+-- the counts of a display that may be missing are within the limits of a set
 abbrev pub IsSmallPresence : Option PresenceShape → Type 0
 IsSmallPresence None = Unit {0}
 IsSmallPresence (Some shape) = (shape.lines < 2 ^ 32) × (shape.hits ≤ 65536) × (shape.parts ≤ 65536)

@@ -1,4 +1,4 @@
--- What a display shows, by what its run keeps.
+-- What a display shows, by what its run keeps: docs/DEFINITIONS.md, "Presence over frames".
 use Rattle.std.specs.Prelude.{ℕ, ◌<◌, Option, Some, List, [], ◌∷◌, length, map, codes, decimal, ℤ, All}
 use Rattle.std.specs.List.{flat_map}
 use Rattle.ra_value.specs.Steps.{signed_greatest}
@@ -23,7 +23,7 @@ abbrev pub shown_text : (count : ℕ) → ScriptContents → PresenceRun → Lis
 shown_text count script run =
     line_of (codes "presence" ∷ decimal count ∷ line_text script run.shown (presence_numbers run) ∷ [])
 
--- the same where a set may have no script, and then it shows nothing
+-- the line that a set shows; nothing where it has no script
 abbrev pub optional_text : (count : ℕ) → Option ScriptContents → Option PresenceRun → List ℕ
 optional_text count (Some script) (Some run) = shown_text count script run
 optional_text count _ _ = []
