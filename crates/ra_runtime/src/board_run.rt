@@ -2,12 +2,13 @@ ghost use Rattle.std.specs.Prelude.{◌≡◌, true, IfOk, option_map};
 ghost use Rattle.ra_condition.specs.Contents.{value_contents};
 ghost use Rattle.ra_leaderboard.specs.Contents.{board_contents};
 ghost use Rattle.ra_runtime.specs.Order.{optional_parts};
-ghost use Rattle.ra_runtime.specs.Runs.{FollowsValue};
+ghost use Rattle.ra_runtime.specs.Runs.{FollowsValue, IsNewTest};
 ghost use Rattle.ra_runtime.specs.BoardRuns.{IsBoardRun, IsNewBoard, IsNewOptional, IsOptionalRun, PlansOptional, StepsBoard, optional_kept, tracked_by};
 
 use crate::plans::{BoardPlan, ValuePlan};
 use crate::test_run::TestRun;
 use crate::value_run::ValueRun;
+use ra_chain::GroupPlan;
 use ra_condition::ValueText;
 use ra_leaderboard::{Board, BoardChange, BoardState, BoardText};
 use ra_memref::Table;
@@ -34,15 +35,13 @@ impl BoardRun {
         requires { PlansOptional (board_contents text.now).progress plan.progress }
         ensures { IfOk result (IsNewBoard (board_contents text.now) plan) }
     {
-        let start = TestRun::new(alloc, &text.start, plan.start)?;
-        let cancel = TestRun::new(alloc, &text.cancel, plan.cancel)?;
-        let submit = TestRun::new(alloc, &text.submit, plan.submit)?;
+        let tests = new_tests(alloc, text, plan.start, plan.cancel, plan.submit)?;
         let value = ValueRun::new(alloc, &text.value, plan.value)?;
         let progress = optional_run(alloc, &text.progress, plan.progress)?;
         Ok(BoardRun {
-            start,
-            cancel,
-            submit,
+            start: tests.start,
+            cancel: tests.cancel,
+            submit: tests.submit,
             value,
             progress,
             board: Board::new(),
@@ -79,6 +78,36 @@ impl BoardRun {
             None => self.value.value.greatest(),
         }
     }
+}
+
+// The three triggers of a board.
+#[derive(Drop)]
+struct BoardTests {
+    start: TestRun,
+    cancel: TestRun,
+    submit: TestRun,
+}
+
+// The triggers of a board, of which nothing is kept yet.
+fn new_tests(
+    alloc: Global,
+    text: &BoardText,
+    start: GroupPlan,
+    cancel: GroupPlan,
+    submit: GroupPlan,
+) -> Result<BoardTests, OutOfMemory>
+    ensures start { IfOk result (λ tests. IsNewTest (board_contents text.now).start start tests.start) }
+    ensures cancel { IfOk result (λ tests. IsNewTest (board_contents text.now).cancel cancel tests.cancel) }
+    ensures submit { IfOk result (λ tests. IsNewTest (board_contents text.now).submit submit tests.submit) }
+{
+    let start = TestRun::new(alloc, &text.start, start)?;
+    let cancel = TestRun::new(alloc, &text.cancel, cancel)?;
+    let submit = TestRun::new(alloc, &text.submit, submit)?;
+    Ok(BoardTests {
+        start,
+        cancel,
+        submit,
+    })
 }
 
 // A value that may be missing, with all numbers 0.
