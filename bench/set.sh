@@ -1,35 +1,33 @@
 #!/bin/sh
 # How many instructions a byte of a set file costs: files of short lines, of one, two and four mebibytes.
-# usage: bench/set.sh PLAYER, where PLAYER is the built program ra_player
-# Each row: what the lines are, the bytes of the file, instructions in all, and for each byte. A reading that is linear has
-# about one number in the last column for each kind of lines; the ids of items add the logarithm of their number.
+# usage: bench/set.sh [PLAYER], where PLAYER is the built program; where it is not named it is found, or built
+# Each row: what the lines are, the bytes of the file, instructions in all, for each byte, and what `check` printed. A
+# reading that is linear has about one number in the fourth column for each kind of lines; the ids of items add the
+# logarithm of their number. A last line that would be cut is left out, so that each file is whole lines.
 set -eu
-player=${1:?usage: bench/set.sh PLAYER}
-if ! command -v valgrind >/dev/null; then
-    echo "valgrind is missing: nothing was measured"
-    exit 0
-fi
+. "$(dirname "$0")/player.sh"
+need valgrind
+find_player "${1:-}"
 folder=$(mktemp -d)
 trap 'rm -rf "$folder"' EXIT
 
-# lines KIND: short lines of this kind, without an end
+# lines KIND BYTES: as many whole short lines of this kind as these bytes hold
 lines() {
-    case $1 in
-    items) awk 'BEGIN { for (id = 0; ; id++) print "A " id " " }' ;;
-    comments) yes '#' ;;
-    empty) yes '' ;;
-    esac
+    awk -v kind="$1" -v bytes="$2" 'BEGIN {
+        for (id = 0; ; id++) {
+            line = kind == "items" ? "A " id " " : kind == "comments" ? "#" : ""
+            bytes -= length(line) + 1
+            if (bytes < 0) exit
+            print line
+        }
+    }'
 }
 
-# an empty trace: the mark, version 1, a memory of no bytes, and the end
-printf 'RATR\001\000\000\000\000E' >"$folder/trace"
 for kind in items comments empty; do
     for mebibytes in 1 2 4; do
-        bytes=$((mebibytes * 1048576))
-        lines "$kind" 2>/dev/null | head -c "$bytes" >"$folder/set" || true
-        valgrind --tool=callgrind --callgrind-out-file=/dev/null "$player" run "$folder/set" "$folder/trace" \
-            >"$folder/out" 2>"$folder/log" || true
-        all=$(awk '/Collected/ { print $NF }' "$folder/log")
-        echo "$kind $bytes $all $((all / bytes)) ($(tail -n 1 "$folder/out"))"
+        lines "$kind" $((mebibytes * 1048576)) >"$folder/set"
+        bytes=$(wc -c <"$folder/set")
+        all=$(instructions "$folder/out" check "$folder/set")
+        echo "$kind $bytes $all $((all / bytes)) ($(cat "$folder/out"))"
     done
 done
