@@ -29,7 +29,7 @@ row() {
     kilobytes=$(memory "$player" "$@")
     awk -v what="$what" -v count="$count" -v most="$kilobytes" -v floor="$floor" 'BEGIN {
         memory = most > 1.05 * floor ? sprintf("%.0f MB", most / 1e3) : sprintf("below %.0f MB", 1.05 * floor / 1e3)
-        printf "| %s | %.1f million | %s |\n", what, count / 1e6, memory
+        printf "| %s | %.0f million | %s |\n", what, count / 1e6, memory
     }'
 }
 
