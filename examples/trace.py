@@ -23,25 +23,28 @@ MARK = b"RATR\x01"
 MOST_SIZE = 134_217_728
 
 
-def record_of(words, size):
-    """The bytes of the record of a line."""
-    match words:
-        case ["F"]:
-            return b"F"
-        case ["F", count] if count.isdecimal():
-            return b"F" * int(count)
-        case ["S" | "R" as letter, slot] if slot.isdecimal() and int(slot) < 16:
-            return letter.encode() + bytes([int(slot)])
-        case ["P" | "E" as letter]:
-            return letter.encode()
-        case ["W", write]:
-            place, _, digits = write.partition("=")
-            at, written = int(place, 16), bytes.fromhex(digits)
-            if at + len(written) > size:
-                raise ValueError(f"the write passes the memory of {size} bytes")
-            if len(written) > 65535:
-                raise ValueError("a write has at most 65535 bytes")
-            return b"W" + at.to_bytes(4, "little") + len(written).to_bytes(2, "little") + written
+def write_of(at, written, size):
+    """The bytes of a write, where it fits."""
+    if at < 0 or at + len(written) > size:
+        raise ValueError(f"the write passes the memory of {size} bytes")
+    if len(written) > 65535:
+        raise ValueError("a write has at most 65535 bytes")
+    return b"W" + at.to_bytes(4, "little") + len(written).to_bytes(2, "little") + written
+
+
+def record_of(letter, rest, size):
+    """The bytes of the records of a line: its letter, and the words behind it."""
+    if letter in ("F", "P", "E") and not rest:
+        return letter.encode()
+    if len(rest) == 1:
+        word = rest[0]
+        if letter == "F" and word.isdecimal():
+            return b"F" * int(word)
+        if letter in ("S", "R") and word.isdecimal() and int(word) < 16:
+            return letter.encode() + bytes([int(word)])
+        if letter == "W" and "=" in word:
+            place, _, digits = word.partition("=")
+            return write_of(int(place, 16), bytes.fromhex(digits), size)
     raise ValueError("no such line")
 
 
@@ -52,12 +55,12 @@ def trace_of(text):
         words = line.partition("#")[0].split()
         try:
             if words and words[0] == "size":
-                if records or int(words[1]) > MOST_SIZE:
-                    raise ValueError(f"the size comes first, and is at most {MOST_SIZE}")
+                if records or len(words) != 2 or not words[1].isdecimal() or int(words[1]) > MOST_SIZE:
+                    raise ValueError(f"the size comes first, and is a number of at most {MOST_SIZE}")
                 size = int(words[1])
             elif words:
-                records.append(record_of(words, size))
-        except (ValueError, IndexError) as why:
+                records.append(record_of(words[0], words[1:], size))
+        except ValueError as why:
             sys.exit(f"line {number}: {line.strip()}: {why}")
     if not records or records[-1] != b"E":
         records.append(b"E")
@@ -113,17 +116,17 @@ def read(name):
 
 
 def main(words):
-    match words:
-        case ["write", text, "-"]:
-            sys.stdout.buffer.write(trace_of(read(text).decode()))
-        case ["write", text, trace]:
-            made = trace_of(read(text).decode())
-            with open(trace, "wb") as file:
+    if len(words) == 3 and words[0] == "write":
+        made = trace_of(read(words[1]).decode())
+        if words[2] == "-":
+            sys.stdout.buffer.write(made)
+        else:
+            with open(words[2], "wb") as file:
                 file.write(made)
-        case ["show", trace]:
-            print("\n".join(lines_of(read(trace))))
-        case _:
-            sys.exit(__doc__.strip())
+    elif len(words) == 2 and words[0] == "show":
+        print("\n".join(lines_of(read(words[1]))))
+    else:
+        sys.exit(__doc__.strip())
 
 
 main(sys.argv[1:])
