@@ -20,8 +20,6 @@ mod shapes;
 mod shown;
 mod state_bytes;
 mod test_run;
-#[cfg(test)]
-mod tests;
 mod value_run;
 mod written;
 

@@ -1,0 +1,261 @@
+//! What a display keeps and shows, and that a save and a restore keep it.
+
+use crate::steps::Step::{At, Close, Frame, Lines, Put, Restore, Save, Show, Words, Write};
+use crate::steps::{Step, told};
+use std::alloc::Global;
+use std::test::Fail;
+
+const TWICE: &str = "P\nDisplay:\n?0xH0010=5.2._R:0xH0010=9?Twice\nAt @Number(0xH0010)\n";
+
+// The shown line, the hits of both conditions, and the number of the macro; the last line is shown before any frame.
+const TWICE_WORDS: &str = "1 0 0 0 \n1 0 0 0 \n1 1 0 5 \n0 2 0 5 \n0 2 0 7 \n1 0 0 9 \n1 1 0 5 \n";
+
+#[test]
+fn a_test_keeps_its_hits(rt: HostRuntime) -> Result<(), Fail> {
+    let words = Words(33, 4);
+    let steps = [
+        words,
+        At(0),
+        words,
+        At(5),
+        words,
+        At(5),
+        words,
+        At(7),
+        words,
+        At(9),
+        words,
+        At(5),
+        words,
+    ];
+    let found = told(rt.alloc(), TWICE, &steps)?;
+    assert_eq!(rt; found.as_slice(), TWICE_WORDS.as_bytes());
+    Ok(())
+}
+
+const THREE_LINES: &str = "P
+Display:
+?0xH0010=1.2.?One @Number(0xH0010)
+?0xH0010=1.1.?Two @Number(0xH0010*2)
+Three @Number(0xH0010*3)
+";
+
+// The shown line, the hits of both tests, and the numbers of three macros.
+const THREE_WORDS: &str = "2 0 0 0 0 0 \n1 1 1 1 2 3 \n0 2 1 1 2 3 \n0 2 1 4 8 12 \n";
+
+#[test]
+fn the_first_line_that_holds_is_shown(rt: HostRuntime) -> Result<(), Fail> {
+    let words = Words(33, 6);
+    let steps = [At(0), words, At(1), words, At(1), words, At(4), words];
+    let found = told(rt.alloc(), THREE_LINES, &steps)?;
+    assert_eq!(rt; found.as_slice(), THREE_WORDS.as_bytes());
+    Ok(())
+}
+
+// A display of one line: what it keeps after a frame at which the byte is 4, with so many cells before it.
+fn words_of_line(alloc: Global, line: &str, cells: usize, count: usize) -> Result<Vec<u8>, Fail> {
+    let file = format!(in alloc; "P\nDisplay:\n{line}\n")?;
+    let place = 29usize.wrapping_add(cells.wrapping_mul(4));
+    told(alloc, &file, &[At(4), Words(place, count)])
+}
+
+#[test]
+fn macros_keep_their_hits_and_numbers(rt: HostRuntime) -> Result<(), Fail> {
+    for (line, cells, count, wanted) in [
+        ("@Number(v5$v-1)", 0, 3, "0 5 4294967295 \n"),
+        ("@Number(v-1$h80000000)", 0, 3, "0 4294967295 2147483648 \n"),
+        ("@Number(A:7/0_M:5)", 0, 4, "0 0 1 5 \n"),
+        ("@Number(B:1_M:0)", 0, 4, "0 0 1 4294967295 \n"),
+        ("@Number(0xH0010*3_v2)", 1, 2, "0 14 \n"),
+        ("@Number(A:0xH0010=9.3._M:1)", 1, 4, "0 0 1 5 \n"),
+        ("\\@@Foo(5)\\\\", 0, 2, "0 5 \n"),
+        ("@Number(1)@Number(0xH0010)", 1, 3, "0 1 4 \n"),
+    ] {
+        let found = words_of_line(rt.alloc(), line, cells, count)?;
+        assert_eq!(rt; found.as_slice(), wanted.as_bytes(), "{line}");
+    }
+    Ok(())
+}
+
+// A display whose last line shows this value, at a frame at which the byte is 4.
+fn value_shown(alloc: Global, value: &str) -> Result<Vec<u8>, Fail> {
+    let file = format!(in alloc; "P\nDisplay:\n?0=1?@Number(0xH0010)\n@Number({value})\n")?;
+    told(alloc, &file, &[At(4), Show])
+}
+
+#[test]
+fn values_are_shown_as_signed_numbers(rt: HostRuntime) -> Result<(), Fail> {
+    for (value, wanted) in [
+        ("v5$v-1", "presence 1 5\n"),
+        ("v-1$h80000000", "presence 1 -1\n"),
+        ("A:7/0_M:5", "presence 1 5\n"),
+        ("B:1_M:0", "presence 1 -1\n"),
+        ("0xH0010*3_v2", "presence 1 14\n"),
+        ("A:0xH0010=9.3._M:1", "presence 1 5\n"),
+    ] {
+        let found = value_shown(rt.alloc(), value)?;
+        assert_eq!(rt; found.as_slice(), wanted.as_bytes(), "{value}");
+    }
+    Ok(())
+}
+
+#[test]
+fn a_name_that_no_format_has_is_told(rt: HostRuntime) -> Result<(), Fail> {
+    let file = "P\nDisplay:\n\\@@Foo(5)\\\\\n";
+    let found = told(rt.alloc(), file, &[At(0), Show])?;
+    assert_eq!(rt;
+        found.as_slice(),
+        b"presence 1 @[Unknown macro]Foo\\\n".as_slice()
+    );
+    Ok(())
+}
+
+#[test]
+fn a_set_without_a_script_shows_nothing(rt: HostRuntime) -> Result<(), Fail> {
+    let found = told(rt.alloc(), "A 1 0xH0010=5\n", &[Show, At(5), Show])?;
+    assert_eq!(rt; found.as_slice(), b"".as_slice());
+    Ok(())
+}
+
+const REALISTIC: &str = "A 101 0xH00fe=3_d0xH0010=4_0xH0010=5S0xH0020=1S0xH0020=2
+L 9 FRAMES STA:0xH0010=1_d0xH0010=0::CAN:0xH00fe=0::SUB:0xH0010=2_d0xH0010=1::VAL:M:0xH00fe=3
+P
+Lookup:Stage
+0=Title
+1-4=Forest
+*=Castle
+
+Format:Pts
+FormatType=SCORE
+
+Display:
+?0xH00fe=0?In the menu
+@Stage(0xH0010) with @Pts(0x 0030) points // stage and points
+";
+
+const BEGINNING: &str = "presence 0 Title with 000000 points
+presence 1 In the menu
+start 1 9
+track 1 9 0:00.01
+presence 2 Forest with 000000 points
+track 2 9 0:00.03
+presence 3 Forest with 000000 points
+";
+
+const ENDING: &str = "submit 3 9 3 0:00.05
+presence 4 Forest with 000000 points
+presence 5 Forest with 000000 points
+unlock 5 101
+presence 6 Castle with 001000 points
+";
+
+const BEGIN: [Step; 11] = [
+    Show,
+    Frame,
+    Show,
+    Write(0xfe, 3),
+    Write(0x10, 1),
+    Write(0x20, 2),
+    Frame,
+    Show,
+    Frame,
+    Show,
+    Save,
+];
+
+const END: [Step; 8] = [
+    At(2),
+    Show,
+    At(4),
+    Show,
+    Write(0x30, 0xe8),
+    Write(0x31, 3),
+    At(5),
+    Show,
+];
+
+// The image stays as it is at a restore, so what the machine had there is written again.
+const BACK: [Step; 8] = [
+    Restore,
+    Lines,
+    Show,
+    Write(0xfe, 3),
+    Write(0x10, 1),
+    Write(0x20, 2),
+    Write(0x30, 0),
+    Write(0x31, 0),
+];
+
+#[test]
+fn a_restored_set_goes_on_as_the_uncut_one(rt: HostRuntime) -> Result<(), Fail> {
+    let mut steps = Vec::new(rt.alloc());
+    for part in [BEGIN.as_slice(), &END, &BACK, &END] {
+        steps.extend_from_slice(part)?;
+    }
+    let found = told(rt.alloc(), REALISTIC, &steps)?;
+    let back = "taken\npresence 3 Forest with 000000 points\n";
+    let wanted = format!(in rt.alloc(); "{BEGINNING}{ENDING}{back}{ENDING}")?;
+    assert_eq!(rt; found.as_slice(), wanted.as_bytes());
+    Ok(())
+}
+
+// A frame behind a save, the restore of it, a write that is not seen before the next frame, and that frame.
+fn frame_twice(alloc: Global, byte: u8) -> Result<Vec<u8>, Fail> {
+    let steps = [
+        At(5),
+        Save,
+        At(byte),
+        Show,
+        Restore,
+        Show,
+        Write(0x10, 3),
+        Show,
+        At(byte),
+        Show,
+    ];
+    told(alloc, TWICE, &steps)
+}
+
+#[test]
+fn a_restore_takes_back_line_hits_and_numbers(rt: HostRuntime) -> Result<(), Fail> {
+    for (byte, shown) in [(5, "Twice"), (7, "At 7"), (9, "At 9")] {
+        let found = frame_twice(rt.alloc(), byte)?;
+        let wanted = format!(in rt.alloc();
+            "presence 2 {shown}\ntaken\npresence 1 At 5\npresence 1 At 5\npresence 2 {shown}\n"
+        )?;
+        assert_eq!(rt; found.as_slice(), wanted.as_bytes(), "at {byte}");
+    }
+    Ok(())
+}
+
+const ANOTHER_LINE: &str = "BadState { at: 33, found: 2 }
+presence 2 Twice
+BadState { at: 33, found: 255 }
+presence 2 Twice
+taken
+presence 1 Twice
+";
+
+#[test]
+fn a_line_that_is_not_there_is_refused(rt: HostRuntime) -> Result<(), Fail> {
+    let steps = [
+        At(5),
+        Save,
+        At(5),
+        Put(33, 2),
+        Close,
+        Restore,
+        Show,
+        Put(33, 255),
+        Close,
+        Restore,
+        Show,
+        Put(33, 0),
+        Close,
+        Restore,
+        Show,
+    ];
+    let found = told(rt.alloc(), TWICE, &steps)?;
+    assert_eq!(rt; found.as_slice(), ANOTHER_LINE.as_bytes());
+    Ok(())
+}

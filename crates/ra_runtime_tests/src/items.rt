@@ -1,0 +1,58 @@
+//! Lines of achievements and leaderboards, and the shape of a set.
+
+use crate::played::set_of;
+use crate::steps::Step::{At, Shape};
+use crate::steps::{put_shape, told};
+use ra_runtime::shape_of;
+use std::alloc::Global;
+use std::test::Fail;
+
+const BOTH: &str = "A 1 0xH0010=5
+L 2 VALUE STA:0xH0010=5::CAN:0xH0010=9::SUB:0xH0010=7::VAL:0xH0010
+";
+
+const BOTH_LINES: &str = "unlock 1 1
+start 1 2
+track 1 2 5
+track 2 2 6
+submit 3 2 7 7
+start 5 2
+track 5 2 5
+cancel 6 2
+";
+
+#[test]
+fn items_print_in_set_order(rt: HostRuntime) -> Result<(), Fail> {
+    let steps = [At(0), At(5), At(6), At(7), At(0), At(5), At(9)];
+    let found = told(rt.alloc(), BOTH, &steps)?;
+    assert_eq!(rt; found.as_slice(), BOTH_LINES.as_bytes());
+    Ok(())
+}
+
+const BOTH_SHAPE: &str = "cells 1 priors 0
+Achievement { hits: 1 }
+Leaderboard { hits: 3, parts: 1 }
+None
+";
+
+#[test]
+fn a_byte_is_one_cell(rt: HostRuntime) -> Result<(), Fail> {
+    let found = told(rt.alloc(), BOTH, &[Shape])?;
+    assert_eq!(rt; found.as_slice(), BOTH_SHAPE.as_bytes());
+    Ok(())
+}
+
+fn shape_told(alloc: Global, file: &str) -> Result<Vec<u8>, Fail> {
+    let mut out = Vec::new(alloc);
+    let set = set_of(alloc, file)?;
+    let shape = shape_of(alloc, &set)?;
+    put_shape(alloc, &shape, &mut out)?;
+    Ok(out)
+}
+
+#[test]
+fn a_set_has_its_shape_before_it_is_played(rt: HostRuntime) -> Result<(), Fail> {
+    let found = shape_told(rt.alloc(), BOTH)?;
+    assert_eq!(rt; found.as_slice(), BOTH_SHAPE.as_bytes());
+    Ok(())
+}

@@ -1,0 +1,15 @@
+//! Tests of `ra_runtime` over its public calls: sets are played step by step over a small memory, and told.
+//!
+//! They stand apart so that `ra_runtime` is not proved once more with them.
+#![tactic(auto)]
+
+#[cfg(test)]
+mod displays;
+#[cfg(test)]
+mod items;
+#[cfg(test)]
+mod played;
+#[cfg(test)]
+mod progress;
+#[cfg(test)]
+mod steps;

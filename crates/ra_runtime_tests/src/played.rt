@@ -1,0 +1,124 @@
+//! A set that is played over a small memory.
+
+ghost use Rattle.std.specs.Prelude.{◌≡◌, ◌<◌, length, IfOk};
+ghost use Rattle.ra_set.specs.Contents.{set_contents};
+ghost use Rattle.ra_set.specs.Limits.{IsWithinLimits};
+ghost use Rattle.ra_set.specs.Spelled.{IsSpelled};
+
+use md5::{Digest, Md5};
+use ra_memory::Steps;
+use ra_progress::ProgressRefused;
+use ra_runtime::Runtime;
+use ra_set::{Set, parse_set};
+use ra_text::OutOfMemory;
+use std::alloc::Global;
+use std::marker::Brand;
+use std::sync::ledger::{Blank, Ledger};
+use std::test::Fail;
+
+/// The set of a file that is accepted.
+pub fn set_of(alloc: Global, file: &str) -> Result<Set, Fail>
+    ensures limits { IfOk result (λ set. IsWithinLimits (set_contents set)) }
+    ensures spelled { IfOk result (λ set. IsSpelled (set_contents set)) }
+{
+    match parse_set(alloc, file.as_bytes()) {
+        Ok(set) => Ok(set),
+        Err(_) => Err(Fail::from("no set")),
+    }
+}
+
+/// A runtime over 256 bytes, and the bytes of a progress file.
+#[derive(Drop)]
+pub struct Played {
+    runtime: Runtime,
+    kept: Vec<u8>,
+    ghost size: { length runtime.image ≡ 256 },
+}
+
+impl Played {
+    pub fn new(alloc: Global, file: &str) -> Result<Box<Played>, Fail> {
+        let set = set_of(alloc, file)?;
+        let runtime = Runtime::new(alloc, set, 256)?;
+        let kept = Vec::new(alloc);
+        let played = Box::new(alloc, Played { runtime, kept })?;
+        Ok(played)
+    }
+
+    pub fn runtime(&self) -> &Runtime {
+        &self.runtime
+    }
+
+    pub fn kept(&self) -> &[u8] {
+        self.kept.as_slice()
+    }
+
+    /// Writes one byte.
+    pub fn write(&mut self, at: u8, byte: u8) {
+        self.runtime.write(u32::from(at), &[byte]);
+    }
+
+    /// Takes a frame.
+    pub fn frame(&mut self) {
+        self.take_frame::<Brand>(Blank::new(1));
+    }
+
+    fn take_frame<L: Ledger>(&mut self, blank: Blank)
+        requires name { blank.name ≡ L.name }
+        requires parts { blank.parts ≡ L.parts }
+        requires held { 0 < blank.parts }
+    {
+        let mut steps = Steps::<L>::open(blank);
+        self.runtime.frame(&mut steps);
+    }
+
+    /// Keeps the bytes of a save.
+    pub fn save(&mut self, alloc: Global) -> Result<(), OutOfMemory> {
+        self.kept = self.runtime.save(alloc)?;
+        Ok(())
+    }
+
+    /// Replaces one of the kept bytes.
+    pub fn put(&mut self, at: usize, byte: u8) {
+        if let Some(place) = self.kept.get_mut(at) {
+            *place = byte;
+        }
+    }
+
+    /// Keeps so many of the kept bytes.
+    pub fn cut(&mut self, count: usize) {
+        self.kept.truncate(count);
+    }
+
+    /// Closes the kept bytes anew with their sum.
+    pub fn close(&mut self) -> Result<(), OutOfMemory> {
+        let before = self.kept.len().saturating_sub(16);
+        self.kept.truncate(before);
+        let sum = Md5::digest(self.kept.as_slice());
+        self.kept.extend_from_slice(&sum)?;
+        Ok(())
+    }
+
+    /// Restores the kept bytes.
+    pub fn restore(&mut self) -> Result<(), ProgressRefused> {
+        self.runtime.restore(self.kept.as_slice())
+    }
+
+    /// How many of the files with one bit of the kept bytes turned are accepted.
+    pub fn accepted_flips(&mut self) -> u32 {
+        let mut accepted = 0u32;
+        for at in 0..self.kept.len() {
+            self.flip(at);
+            if self.restore().is_ok() {
+                accepted = accepted.saturating_add(1);
+            }
+            self.flip(at);
+        }
+        accepted
+    }
+
+    fn flip(&mut self, at: usize) {
+        if let Some(place) = self.kept.get_mut(at) {
+            *place ^= 1;
+        }
+    }
+}
