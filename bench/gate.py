@@ -1,0 +1,111 @@
+#!/usr/bin/env python3
+"""Processor minutes of a run of `rt ci`, by crate and kind of work, user and system time together.
+
+    bench/gate.py             runs `rt ci --anew` with one job and prints the table
+    bench/gate.py NAME..      the same for these crates and those below them
+    bench/gate.py --watch PID prints the table of a run that goes on already, from now on
+
+Proofs are those of the crates, tests those of the crates with their tests; a seed is what the edits of a crate
+begin with, and the floor is the seconds of a check in which nothing is left to prove. The times of processes are
+read four times a second, so the last moment of each is missing.
+"""
+
+import os
+import re
+import subprocess
+import sys
+import time
+from collections import defaultdict
+
+TICKS = os.sysconf("SC_CLK_TCK")
+KINDS = ["proofs", "tests", "seeds", "edits"]
+
+
+def words_of(pid):
+    with open(f"/proc/{pid}/cmdline", "rb") as file:
+        return file.read().decode(errors="replace").split("\0")
+
+
+def kind_of(words):
+    """The crate and the kind of work of a command of the prover, or None."""
+    if "--crate-name" not in words:
+        return None
+    crate = words[words.index("--crate-name") + 1]
+    if "build" in words[:3]:
+        return crate, "tests" if "--test" in words else "proofs"
+    if "check" not in words[:3]:
+        return None
+    over = words[words.index("--incremental") + 1] if "--incremental" in words else ""
+    return crate, "seeds" if over.endswith("/seed") else "edits"
+
+
+def numbers_of(pid):
+    """The parent of a process, its processor seconds, and when it began."""
+    with open(f"/proc/{pid}/stat", encoding="utf-8", errors="replace") as file:
+        fields = re.sub(r"^.*\) ", "", file.read()).split()
+    return int(fields[1]), (int(fields[11]) + int(fields[12])) / TICKS, fields[19]
+
+
+def look(top, seen):
+    """Notes the processor seconds of each command of the prover below the process `top`."""
+    parents, found = {}, {}
+    for pid in filter(str.isdigit, os.listdir("/proc")):
+        try:
+            parent, seconds, begun = numbers_of(pid)
+            parents[int(pid)] = parent
+            found[int(pid)] = (seconds, begun)
+        except (OSError, IndexError, ValueError):
+            continue
+    for pid, (seconds, begun) in found.items():
+        above = pid
+        while above not in (0, 1, top):
+            above = parents.get(above, 0)
+        if above != top:
+            continue
+        key = (pid, begun)
+        if key not in seen:
+            try:
+                work = kind_of(words_of(pid))
+            except OSError:
+                continue
+            if work is None:
+                continue
+            seen[key] = [work, 0.0]
+        seen[key][1] = max(seen[key][1], seconds)
+
+
+def table(seen):
+    minutes, floors = defaultdict(float), {}
+    for (crate, kind), seconds in seen.values():
+        minutes[crate, kind] += seconds / 60
+        if kind == "seeds" and seconds > 1:
+            floors[crate] = min(seconds, floors.get(crate, seconds))
+    crates = sorted({crate for crate, _ in minutes})
+    print("| Crate | " + " | ".join(kind.capitalize() for kind in KINDS) + " | All | Floor, s |")
+    print("|---|" + "---|" * (len(KINDS) + 2))
+    for crate in crates + ["all"]:
+        row = [sum(minutes[it, kind] for it in (crates if crate == "all" else [crate])) for kind in KINDS]
+        floor = f"{floors[crate]:.0f}" if crate in floors else ""
+        print(f"| {crate} | " + " | ".join(f"{it:.1f}" for it in row) + f" | {sum(row):.1f} | {floor} |")
+
+
+def main(words):
+    seen = {}
+    if words[:1] == ["--watch"]:
+        top = int(words[1])
+        while os.path.exists(f"/proc/{top}"):
+            look(top, seen)
+            time.sleep(0.25)
+        table(seen)
+        return 0
+    environment = dict(os.environ, RT_JOBS=os.environ.get("RT_JOBS", "1"))
+    with subprocess.Popen(["rt", "ci", "--anew", *words], env=environment, stdout=subprocess.DEVNULL) as run:
+        while run.poll() is None:
+            look(run.pid, seen)
+            time.sleep(0.25)
+        table(seen)
+        return run.returncode
+
+
+if __name__ == "__main__":
+    sys.exit(main(sys.argv[1:]))
