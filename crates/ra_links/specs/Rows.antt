@@ -11,17 +11,17 @@ pub record Rows : Type 0 where
 abbrev pub holds : ℕ → List ℕ → Bool
 holds node row = list_any (λ x. x == node) row
 
--- the list of a number
+-- the list of this number, empty where there is none
 abbrev pub row_at : List (List ℕ) → ℕ → List ℕ
 row_at lists list = slice_index_or lists list []
 
--- the list that holds the node, if one does, where the first list has this number
+-- the number of the list that holds the node, if one does, counted from this number on
 abbrev pub holder_from : ℕ → List (List ℕ) → ℕ → Option ℕ
 holder_from number [] node = None
 holder_from number (row ∷ lists) node =
     if holds node row then Some number else holder_from (number + 1) lists node
 
--- the list that holds the node, if one does
+-- the number of the list that holds the node, if one does
 abbrev pub holder_of : List (List ℕ) → ℕ → Option ℕ
 holder_of lists node = holder_from 0 lists node
 

@@ -33,7 +33,7 @@ impl Model for Links {
 }
 
 impl Links {
-    /// Empty lists, and nodes that are on no list.
+    /// So many empty lists, and so many nodes that are on no list. Memory is the only refusal.
     pub fn new(alloc: Global, lists: u32, nodes: u32) -> Result<Links, OutOfMemory>
         requires few_lists { lists ≤ 2 ^ 31 }
         requires few_nodes { nodes ≤ 2 ^ 31 }
@@ -61,9 +61,12 @@ impl Links {
     }
 
     /// The first node of a list. None exactly where the list is empty.
+    ///
+    /// It also tells that each node stands at most once, for whoever goes along the list.
     pub fn first(&self, list: u32) -> Option<u32>
         requires { list < length self.now.lists }
-        ensures { result ≡ slice_get (row_at self.now.lists list) 0 }
+        ensures first { result ≡ slice_get (row_at self.now.lists list) 0 }
+        ensures once { IsOnce self.now }
     {
         some(self.firsts[list as usize])
     }
