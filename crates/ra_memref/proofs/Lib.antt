@@ -1,8 +1,9 @@
 pub mod AgreeLemmas
 pub mod Cuts
 pub mod Halfway
-pub mod Latest
+pub mod Holders
 pub mod LaidLemmas
+pub mod Latest
 pub mod LayoutLemmas
 pub mod MarkLemmas
 pub mod PassEnds
@@ -11,4 +12,5 @@ pub mod Passed
 pub mod PriorLemmas
 pub mod TableLemmas
 pub mod Vectors
+pub mod Walks
 pub mod WordLemmas

@@ -1,5 +1,6 @@
 pub mod Laws
 pub mod Layout
+pub mod Marking
 pub mod Marks
 pub mod Pass
 pub mod Seen
