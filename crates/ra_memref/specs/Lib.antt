@@ -6,4 +6,5 @@ pub mod Pass
 pub mod Seen
 pub mod Table
 pub mod Values
+pub mod Watches
 pub mod Words

@@ -10,6 +10,7 @@ mod pass;
 mod table;
 #[cfg(test)]
 mod tests;
+mod watches;
 mod words;
 
 pub use laws::looking_back_holds;

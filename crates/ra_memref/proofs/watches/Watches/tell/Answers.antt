@@ -1,0 +1,20 @@
+use Rattle.std.proofs.Common.{◌≡◌, ◌∙◌, ◌/◌, ◌+◌, ◌-◌, ◌<◌, length, arith, ap, subst, get_or, true, ◌||◌, ℕ, ◌*◌}
+use Rattle.ra_links.specs.Rows.{holder_of}
+use Rattle.ra_memref.specs.Marking.{is_at}
+use Rattle.ra_memref.proofs.Telling.{IsTelling, telling_more, told_all, told_nothing}
+use Rattle.ra_memref.proofs.watches.Watches.tell.Goals as goal
+
+pub returns-then-count-eq0 : goal.returns-then-count-eq0
+returns-then-count-eq0 c = told_nothing c.args.self.now c.args.at c.args.count c.if-count-eq0.true
+
+pub loop-page-preserved : goal.loop-page-preserved
+loop-page-preserved c =
+    let items : c.deref_mut.result.now ≡ c.loop-page.self-inside.marks.items = c.deref_mut.ensures.value in
+    telling_more c.self.inside c.loop-page.self-inside (c.args.at / 16) c.loop-page.page c.mark_page.new.marks c.loop-page.invariant c.self.invariant c.loop-page.auto.page (c.mark_page.auto.marks ∙ ap length items)
+    (subst (λ xs. (k : ℕ) → k < length xs → get_or c.mark_page.new.marks k true ≡ (get_or xs k true || (is_at (holder_of c.loop-page.self-inside.pages.lists (2 * k)) c.loop-page.page || is_at (holder_of c.loop-page.self-inside.pages.lists (2 * k + 1)) c.loop-page.page))) items c.mark_page.ensures.marked)
+
+pub returns : goal.returns
+returns c =
+    let some : 0 < c.args.count = omega (arith, c.if-count-eq0.false) in
+    let end : c.loop-page.page ≡ (c.args.at + c.args.count - 1) / 16 + 1 = omega (arith, c.loop-page-test.false, c.loop-page.auto.page-end, some) in
+    told_all c.self.inside c.loop-page.self-inside c.args.self.now c.args.at c.args.count c.self.view_is c.self.invariant some (subst (IsTelling c.self.inside c.loop-page.self-inside (c.args.at / 16)) end c.loop-page.invariant)

@@ -1,0 +1,52 @@
+-- Which cells watch which pages, by lists of nodes: docs/DEFINITIONS.md, "Marked and moved cells".
+use Rattle.std.specs.Prelude.{◌≡◌, ℕ, ◌+◌, ◌-◌, ◌*◌, ◌/◌, ◌<◌, ◌≤◌, ◌^◌, ◌==◌, Bool, not, ◌&&◌, ◌||◌, if◌then◌else◌, nat_lt, Option, None, Some, List, length, replicate, true, false, slice_index, slice_index_or}
+use Rattle.ra_memory.specs.Image.{IsReadWidth}
+use Rattle.ra_links.specs.Rows.{Rows, holder_of}
+use Rattle.ra_memref.specs.Marks.{page_of, is_watched}
+
+-- the watches of cells: the size of the image, and for each cell its width, its place and its mark
+pub record WatchesSeen : Type 0 where
+  pub size : ℕ
+  pub widths : List ℕ
+  pub places : List ℕ
+  pub marked : List Bool
+
+-- which cells are marked: all where the flag stands, and else each by its own mark
+abbrev pub marked_by : Bool → List Bool → List Bool
+marked_by true marks = replicate (length marks) true
+marked_by false marks = marks
+
+-- how many pages an image has
+abbrev pub pages_of : ℕ → ℕ
+pages_of size = (size + 15) / 16
+
+-- the page of a cell's first byte, where the image has that byte
+abbrev pub first_page : ℕ → ℕ → Option ℕ
+first_page size place = if nat_lt place size then Some (page_of place) else None
+
+-- the page of a cell's last byte, where it is another one and the image has it
+abbrev pub second_page : ℕ → ℕ → ℕ → Option ℕ
+second_page size place width =
+    if not (page_of (place + width - 1) == page_of place) && nat_lt (page_of (place + width - 1)) (pages_of size) then Some (page_of (place + width - 1)) else None
+
+-- the two nodes of a cell stand on the lists of these pages, and on no other
+pub record StandsAt (lists : List (List ℕ)) (size cell place width : ℕ) : Type 0 where
+  pub first : holder_of lists (2 * cell) ≡ first_page size place
+  pub second : holder_of lists (2 * cell + 1) ≡ second_page size place width
+
+-- each cell stands on the lists of the pages that it watches
+pub record IsIndexed (size : ℕ) (widths places : List ℕ) (marks : List Bool) (pages : Rows) : Type 0 where
+  pub small : size ≤ 2 ^ 27
+  pub few : length places < 2 ^ 30
+  pub widths_too : length widths ≡ length places
+  pub marks_too : length marks ≡ length places
+  pub wide : (k : ℕ) → k < length places → IsReadWidth (slice_index widths k)
+  pub lists : length pages.lists ≡ pages_of size
+  pub nodes : pages.nodes ≡ 2 * length places
+  pub stands : (k : ℕ) → k < length places → StandsAt pages.lists size k (slice_index places k) (slice_index widths k)
+
+-- a write is told: the cells that watch one of its pages are marked, and nothing else changes
+pub record MarksWatchers (old new : WatchesSeen) (at count : ℕ) : Type 0 where
+  pub rest : new ≡ record old { marked = new.marked }
+  pub long : length new.marked ≡ length old.marked
+  pub marked : (k : ℕ) → k < length old.places → slice_index_or new.marked k true ≡ (slice_index_or old.marked k true || is_watched old.size (slice_index old.places k) (slice_index old.widths k) at count)

@@ -1,0 +1,207 @@
+ghost use Rattle.std.specs.Prelude.{◌≡◌, ◌≢◌, ◌+◌, ◌-◌, ◌*◌, ◌<◌, ◌≤◌, ◌^◌, ◌==◌, ◌||◌, not, ℕ, true, false, length, replicate, slice_index, slice_index_or, slice_set, IfOk, IfSome, None};
+ghost use Rattle.ra_memory.specs.Image.{IsReadWidth};
+ghost use Rattle.ra_links.specs.Rows.{holder_of, row_at};
+ghost use Rattle.ra_memref.specs.Watches.{StandsAt, MarksWatchers, marked_by, pages_of, first_page, second_page};
+ghost use Rattle.ra_memref.specs.Marks.{page_of};
+ghost use Rattle.ra_memref.specs.Marking.{is_at};
+
+use ra_links::Links;
+use ra_text::OutOfMemory;
+use std::alloc::Global;
+use std::marker::Model;
+
+/// How many bytes stand on a page.
+const PAGE: u32 = 16;
+
+/// Where the cells lie, which are marked, and by lists which of them watch each page:
+/// docs/DEFINITIONS.md, "Marked and moved cells".
+///
+/// A cell has two nodes: one for the page of its first byte, one for that of its last. Where the flag
+/// `all` stands each cell is marked, and else each by its own mark. Only `new` takes memory.
+#[derive(Drop)]
+pub struct Watches {
+    size: u32,
+    widths: Vec<u8>,
+    places: Vec<u32>,
+    marks: Vec<bool>,
+    all: bool,
+    pages: Links,
+}
+
+impl Model for Watches {
+    ghost use Rattle.ra_memref.specs.Watches.{WatchesSeen, IsIndexed, marked_by};
+
+    ghost Value = { WatchesSeen };
+
+    ghost view = { λ w. record { size = w.size; widths = w.widths.items; places = w.places.items; marked = marked_by w.all w.marks.items } };
+
+    ghost invariant = { λ w. IsIndexed w.size w.widths.items w.places.items w.marks.items w.pages };
+}
+
+impl Watches {
+    ghost use Rattle.ra_memref.specs.Watches.{WatchesSeen};
+
+    /// Cells of these widths at these places, all marked, over an image of `size` bytes. Memory is the only
+    /// refusal.
+    pub fn new(
+        alloc: Global,
+        size: u32,
+        places: Vec<u32>,
+        widths: Vec<u8>,
+    ) -> Result<Watches, OutOfMemory>
+        requires size { size ≤ 2 ^ 27 }
+        requires few { length places.items < 2 ^ 30 }
+        requires widths { length widths.items ≡ length places.items }
+        requires wide { (k : ℕ) → k < length places.items → IsReadWidth (slice_index widths.items k) }
+        ensures { IfOk result (λ w. w ≡ record { size = size; widths = widths.items; places = places.items; marked = replicate (length places.items) true }) }
+    {
+        let marks = vec![in alloc; false; places.len()]?;
+        let mut pages = Links::new(alloc, size.div_ceil(PAGE), 2 * places.len() as u32)?;
+        for cell in 0..places.len() {
+            stand(&mut pages, size, cell as u32, places[cell], widths[cell]);
+        }
+        Ok(Watches {
+            size,
+            widths,
+            places,
+            marks,
+            all: true,
+            pages,
+        })
+    }
+
+    /// How many cells there are.
+    pub fn len(&self) -> usize
+        ensures { result ≡ length self.now.places }
+    {
+        self.places.len()
+    }
+
+    /// A cell is marked, or its place is another one.
+    pub fn is_due(&self, cell: usize, place: u32) -> bool
+        requires { cell < length self.now.places }
+        ensures { result ≡ (slice_index_or self.now.marked cell true || not (slice_index self.now.places cell == place)) }
+    {
+        self.all || self.marks[cell] || self.places[cell] != place
+    }
+
+    /// Unmarks a cell, and moves it to a place.
+    pub fn settle(&mut self, cell: usize, place: u32)
+        requires { cell < length self.old.places }
+        ensures { self.new ≡ record self.old {
+          places = slice_set self.old.places cell place;
+          marked = slice_set self.old.marked cell false;
+        } }
+    {
+        unmark(self.all, &mut self.marks, cell);
+        self.all = false;
+        if self.places[cell] != place {
+            let width = self.widths[cell];
+            stand(&mut self.pages, self.size, cell as u32, place, width);
+            self.places[cell] = place;
+        }
+    }
+
+    /// Marks all cells, in constant time.
+    pub fn mark_all(&mut self)
+        ensures { self.new ≡ record self.old { marked = replicate (length self.old.places) true } }
+    {
+        self.all = true;
+    }
+
+    /// Marks the cells that watch a page of one of `count` bytes from the address `at` on.
+    pub fn tell(&mut self, at: u32, count: u32)
+        requires within { at + count ≤ self.old.size }
+        requires small { self.old.size ≤ 2 ^ 27 }
+        ensures { MarksWatchers self.old self.new at count }
+    {
+        if count == 0 {
+            return;
+        }
+        for page in at / PAGE..(at + count - 1) / PAGE + 1 {
+            mark_page(&self.pages, &mut self.marks, page);
+        }
+    }
+}
+
+// Unmarks one cell, and leaves the others their own marks where a flag marked all.
+fn unmark(all: bool, marks: &mut [bool], cell: usize)
+    requires { cell < length marks.old }
+    ensures { marks.new ≡ slice_set (marked_by all marks.old) cell false }
+{
+    if all {
+        marks.fill(true);
+    }
+    marks[cell] = false;
+}
+
+// Marks the cells on the list of a page.
+fn mark_page(pages: &Links, marks: &mut [bool], page: u32)
+    requires page { page < length pages.now.lists }
+    requires nodes { pages.now.nodes ≤ 2 * length marks.old }
+    ensures marked { (k : ℕ) → k < length marks.old → slice_index_or marks.new k true
+        ≡ (slice_index_or marks.old k true
+        || (is_at (holder_of pages.now.lists (2 * k)) page || is_at (holder_of pages.now.lists (2 * k + 1)) page)) }
+{
+    let mut next = pages.first(page);
+    while let Some(node) = next {
+        marks[(node / 2) as usize] = true;
+        next = pages.next(node);
+    }
+}
+
+// Puts the two nodes of a cell on the lists of the pages that it watches.
+fn stand(pages: &mut Links, size: u32, cell: u32, place: u32, width: u8)
+    requires small { size ≤ 2 ^ 27 }
+    requires lists { length pages.old.lists ≡ pages_of size }
+    requires nodes { 2 * cell + 1 < pages.old.nodes }
+    requires few { pages.old.nodes ≤ 2 ^ 31 }
+    requires wide { IsReadWidth width }
+    ensures stands { StandsAt pages.new.lists size cell place width }
+    ensures others { (node : ℕ) → node ≢ 2 * cell → node ≢ 2 * cell + 1
+        → holder_of pages.new.lists node ≡ holder_of pages.old.lists node }
+    ensures lists { length pages.new.lists ≡ length pages.old.lists }
+    ensures nodes { pages.new.nodes ≡ pages.old.nodes }
+{
+    put(pages, 2 * cell, page_of_first(size, place));
+    put(pages, 2 * cell + 1, page_of_last(size, place, width));
+}
+
+// The page of a cell's first byte, where the image has that byte.
+fn page_of_first(size: u32, place: u32) -> Option<u32>
+    ensures { result ≡ first_page size place }
+{
+    if place < size {
+        Some(place / PAGE)
+    } else {
+        None
+    }
+}
+
+// The page of a cell's last byte, where it is another one and the image has it.
+fn page_of_last(size: u32, place: u32, width: u8) -> Option<u32>
+    requires wide { IsReadWidth width }
+    ensures { result ≡ second_page size place width }
+{
+    let page = (u64::from(place) + u64::from(width) - 1) / u64::from(PAGE);
+    if page != u64::from(place / PAGE) && page < u64::from(size.div_ceil(PAGE)) {
+        Some(page as u32)
+    } else {
+        None
+    }
+}
+
+// Puts a node on the list of a page, or on none.
+fn put(pages: &mut Links, node: u32, page: Option<u32>)
+    requires node { node < pages.old.nodes }
+    requires page { IfSome page (λ page. page < length pages.old.lists) }
+    ensures here { holder_of pages.new.lists node ≡ page }
+    ensures others { (other : ℕ) → other ≢ node → holder_of pages.new.lists other ≡ holder_of pages.old.lists other }
+    ensures lists { length pages.new.lists ≡ length pages.old.lists }
+    ensures nodes { pages.new.nodes ≡ pages.old.nodes }
+{
+    pages.unlink(node);
+    if let Some(page) = page {
+        pages.link(page, node);
+    }
+}
