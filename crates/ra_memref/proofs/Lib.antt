@@ -16,4 +16,5 @@ pub mod TableLemmas
 pub mod Telling
 pub mod Vectors
 pub mod Walks
+pub mod Widths
 pub mod WordLemmas

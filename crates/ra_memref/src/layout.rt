@@ -1,6 +1,7 @@
 //! Where a table keeps the number of each cell and of each tracked mask.
 
-ghost use Rattle.std.specs.Prelude.{◌≡◌, ◌<◌, ◌^◌, length, map, IfOk};
+ghost use Rattle.std.specs.Prelude.{◌≡◌, ◌<◌, ◌^◌, ℕ, length, map, slice_index, IfOk};
+ghost use Rattle.ra_memory.specs.Image.{IsReadWidth};
 ghost use Rattle.ra_indirect.specs.Pools.{cells_of, tracked_of};
 ghost use Rattle.ra_indirect.specs.Interned.{IsPool, Interns};
 ghost use Rattle.ra_memref.specs.Layout.{IsLaid, TakesSlot};
@@ -46,6 +47,21 @@ pub fn lay_out(alloc: Global, nodes: &[Node]) -> Result<Layout, OutOfMemory>
         places,
         masks,
     })
+}
+
+/// The width of each cell, in order of first occurrence.
+pub fn widths_of(alloc: Global, nodes: &[Node]) -> Result<Vec<u8>, OutOfMemory>
+    requires pool { IsPool nodes.now }
+    ensures widths { IfOk result (λ widths. widths.items ≡ map (λ c. c.width) (cells_of nodes.now)) }
+    ensures wide { IfOk result (λ widths. (k : ℕ) → k < length widths.items → IsReadWidth (slice_index widths.items k)) }
+{
+    let mut widths = Vec::new(alloc);
+    for node in nodes {
+        if let Node::Cell { width, .. } = node {
+            widths.push(*width)?;
+        }
+    }
+    Ok(widths)
 }
 
 // The slot that a node takes.
