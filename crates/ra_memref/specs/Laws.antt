@@ -1,4 +1,4 @@
--- What the definitions by looking back come to: a greatest frame, or none.
+-- What the definitions by looking back come to: a greatest frame, or none: docs/DEFINITIONS.md, "Values at a frame".
 use Rattle.std.specs.Prelude.{◌≡◌, ◌⊎◌, ℕ, Bool, true, false, [], ◌∷◌, ◌++◌}
 use Rattle.ra_memory.specs.Image.{History}
 use Rattle.ra_memref.specs.Values.{before, changes}

@@ -1,4 +1,4 @@
--- Where a table keeps the number of each cell and of each tracked mask.
+-- Where a table keeps the number of each cell and of each tracked mask: docs/DEFINITIONS.md, "Order of first occurrence".
 use Rattle.std.specs.Prelude.{◌≡◌, ℕ, suc, ◌<◌, List, [], ◌∷◌, ◌++◌, length, take, slice_index}
 use Rattle.std.specs.List.{flat_map}
 use Rattle.ra_operand.specs.declared.size.Size.{Size}
@@ -12,15 +12,15 @@ use Rattle.ra_indirect.specs.Interned.{Interns}
 use Rattle.ra_memref.specs.declared.layout.TrackedMask.{TrackedMask}
 use Rattle.ra_memref.specs.Table.{no_cell}
 
--- the cells and the tracked masks of so many nodes, in order of first occurrence
+-- the cells that the first so many nodes spell, in order of first occurrence
 abbrev pub cells_before : List Spelled → ℕ → List Cell
 cells_before spelled n = flat_map cell_in (take n spelled)
 
--- the masks with a prior among the nodes before this one
+-- the masks that the first so many nodes track, in order of first occurrence
 abbrev pub tracked_before : List Spelled → ℕ → List Tracked
 tracked_before spelled n = firsts same_tracked (flat_map tracked_at (take n spelled))
 
--- the cell that a node spells, if it is one
+-- the cell that a node spells; none where it spells a tree
 abbrev pub cell_there : Spelled → Cell
 cell_there (IsCell c) = c
 cell_there (IsTree tree) = no_cell

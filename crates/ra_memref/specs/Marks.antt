@@ -1,4 +1,4 @@
--- Which cells a table has to read at the next frame.
+-- Which cells a table has to read at the next frame: docs/DEFINITIONS.md, "Marked and moved cells".
 use Rattle.std.specs.Prelude.{ℕ, ◌+◌, ◌-◌, ◌/◌, ◌==◌, Bool, not, ◌&&◌, ◌||◌, if◌then◌else◌, nat_lt, nat_le, List, [], ◌∷◌}
 use Rattle.std.specs.List.{list_any, range_with_len}
 use Rattle.ra_indirect.specs.Trees.{Cell}
@@ -23,8 +23,12 @@ marks_after size (c ∷ cells) (place ∷ places) at count (mark ∷ marks) =
     (mark || is_watched size place c.width at count) ∷ marks_after size cells places at count marks
 marks_after size _ places at count marks = []
 
--- how many cells are marked or moved
+-- how often a frame reads a cell: once where it is marked or lies at another place than before, and else not
+abbrev pub read_of : Bool → ℕ → ℕ → ℕ
+read_of mark place place' = if mark || not (place == place') then 1 else 0
+
+-- how often it reads these cells together
 abbrev pub reads_of : List Bool → List ℕ → List ℕ → ℕ
 reads_of (mark ∷ marks) (place ∷ places) (place' ∷ places') =
-    (if mark || not (place == place') then 1 else 0) + reads_of marks places places'
+    read_of mark place place' + reads_of marks places places'
 reads_of _ places places' = 0

@@ -1,4 +1,4 @@
--- The value of a tree at a frame, by looking back over whole images.
+-- The value of a tree at a frame, by looking back over whole images: docs/DEFINITIONS.md, "Values at a frame".
 use Rattle.std.specs.Prelude.{ℕ, ◌+◌, ◌%◌, ◌^◌, ◌==◌, Bool, not, if◌then◌else◌, Option, None, Some, [], ◌∷◌, bit_and}
 use Rattle.ra_operand.specs.declared.kind.Kind.{Kind}
 use Rattle.ra_operand.specs.declared.kind.Kind.TheVariants.{Delta, Prior}
@@ -23,11 +23,11 @@ latest passes [] = None
 latest passes (image ∷ earlier) =
     if passes (image ∷ earlier) then Some (image ∷ earlier) else latest passes earlier
 
--- a number differs at the last frame from what it was at the frame before
+-- the number at the last frame is another one than at the frame before
 abbrev pub changes : (History → ℕ) → History → Bool
 changes number history = not (number history == number (before history))
 
--- the number at the frame before that one, and without such a frame the opening's
+-- the number at the frame before the one at which it changed; the opening's where it never did
 abbrev pub before_change : (History → ℕ) → ℕ → Option History → ℕ
 before_change number opened None = opened
 before_change number opened (Some changed) = number (before changed)
@@ -67,15 +67,15 @@ value_of start (view kind size pointer address) history =
     transformed kind size
     (view_of size (looked_at kind number (masked_by (mask_of size) number) (start.prior (record { cell = c; mask = mask_of size })) history))
 
--- the number of a cell at the last frame of a history, and where the cell lies there
+-- the number of a cell at the last frame of a history; the opening's before the first frame
 abbrev pub cell_number : Start → Cell → History → ℕ
 cell_number start c history = number_of (start.number c) (value_of start c.pointer) c.address c.width history
 
--- where a cell lies after a history
+-- where a cell lies at the last frame of a history
 abbrev pub cell_place : Start → Cell → History → ℕ
 cell_place start c history = moved_by c.address (value_of start c.pointer history)
 
--- the prior of a tracked mask
+-- the prior of a tracked mask after a history
 abbrev pub tracked_number : Start → Tracked → History → ℕ
 tracked_number start t history = prior_of (masked_by t.mask (cell_number start t.cell)) (start.prior t) history
 
