@@ -15,6 +15,7 @@ pub mod PriorLemmas
 pub mod TableLemmas
 pub mod Telling
 pub mod Vectors
+pub mod Visited
 pub mod Walks
 pub mod Widths
 pub mod WordLemmas

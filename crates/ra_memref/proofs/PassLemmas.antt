@@ -1,5 +1,5 @@
 -- A pass over the nodes of a pool, in order: one node more takes up the frame.
-use Rattle.std.proofs.Common.{◌≡◌, ℕ, suc, ◌+◌, ◌<◌, ◌≤◌, List, [], ◌∷◌, length, take, map, get_or, set, refl, ap, ap₂, sym, subst, ◌∙◌, ◌⊎◌, inl, inr, arith, length-append}
+use Rattle.std.proofs.Common.{◌≡◌, ℕ, suc, ◌<◌, ◌≤◌, List, [], ◌∷◌, length, take, map, get_or, set, refl, ap, ap₂, sym, subst, ◌∙◌, ◌⊎◌, inl, inr, arith, length-append}
 use Rattle.std.proofs.lemmas.List.{get_or-map, length-take, get_or-set_same, get_or-set_other}
 use Rattle.std.proofs.lemmas.Bool.{cases_eq}
 use Rattle.std.proofs.lemmas.Option.{get_or_from_slice_get, slice_get_within}
@@ -17,11 +17,11 @@ use Rattle.ra_indirect.specs.Pools.{Spelled, tree_in, cell_in, tracked_at, spell
 use Rattle.ra_indirect.specs.Interned.{Interns, IsPool}
 use Rattle.ra_indirect.proofs.Spelling.{spelled_of, length-spelled_by}
 use Rattle.ra_indirect.proofs.SpelledLemmas.{may_follow, names_below, NamesBelow, tree_at_valued, cell_at_cell}
-use Rattle.ra_memref.specs.declared.numbers.Numbers.{Numbers}
+use Rattle.ra_memref.specs.Numbers.{NumbersSeen}
 use Rattle.ra_memref.specs.Values.{Start, looked_at, moved_by, masked_by, value_of, cell_number, cell_place, tracked_number}
 use Rattle.ra_memref.specs.Table.{no_cell, spelled_value}
 use Rattle.ra_memref.specs.Layout.{cells_before, tracked_before, cell_there, tracked_there, HasSlot, IsLaid}
-use Rattle.ra_memref.specs.Pass.{prior_after, place_in, number_in, prior_in, looked_in, value_after, reads_at, IsWithin, IsSizedFor}
+use Rattle.ra_memref.specs.Pass.{prior_after, place_in, number_in, prior_in, looked_in, value_after, IsWithin, IsSizedFor}
 use Rattle.ra_memref.proofs.Halfway.{IsDone, IsHalfway, done_more, halfway_more, halfway_again}
 use Rattle.ra_memref.proofs.LaidLemmas.{cells_one, cells_same, tracked_same, cells_grow, tracked_grow, tracked_front, cell_stands, cells_all, tracked_all, none_tracked, is_cell_there}
 use Rattle.ra_memref.proofs.PriorLemmas.{tracked_number-more, prior_after-again}
@@ -85,7 +85,7 @@ module _ (nodes : List Node) (pool : IsPool nodes) (slots : List ℕ) (laid : Is
 
   module _ (k : ℕ) (within : k < length nodes) where
     -- one cell or one tracked mask more, or none
-    cell_node_slot : (pointer offset width : ℕ) → node_at nodes k ≡ CellNode pointer offset width → (get_or slots k 0 ≡ cell_count nodes k) × (cell_count nodes (suc k) ≡ suc (cell_count nodes k)) × (get_or (cells_of nodes) (get_or slots k 0) no_cell ≡ record { pointer = tree_in (spelled_at spelled pointer); address = offset; width = width })
+    pub cell_node_slot : (pointer offset width : ℕ) → node_at nodes k ≡ CellNode pointer offset width → (get_or slots k 0 ≡ cell_count nodes k) × (cell_count nodes (suc k) ≡ suc (cell_count nodes k)) × (get_or (cells_of nodes) (get_or slots k 0) no_cell ≡ record { pointer = tree_in (spelled_at spelled pointer); address = offset; width = width })
     cell_node_slot pointer offset width same =
         let is : spelled_at spelled k ≡ spelled_with spelled (CellNode pointer offset width) = spelled_of nodes pool k within ∙ ap (spelled_with spelled) same in
         let slot = cell_slot width k within (subst (IsCellOf width) (sym same) refl) in
@@ -95,7 +95,7 @@ module _ (nodes : List Node) (pool : IsPool nodes) (slots : List ℕ) (laid : Is
           slot.stands ∙ ap cell_there is,
         )
 
-    counts_same : (x : Spelled) → spelled_at spelled k ≡ x → cell_in x ≡ [] → cell_count nodes (suc k) ≡ cell_count nodes k
+    pub counts_same : (x : Spelled) → spelled_at spelled k ≡ x → cell_in x ≡ [] → cell_count nodes (suc k) ≡ cell_count nodes k
     counts_same x is none = ap length (cells_same spelled k x (inside k within) is none)
 
     tracked_counts_same : (x : Spelled) → spelled_at spelled k ≡ x → tracked_at x ≡ [] → tracked_count nodes (suc k) ≡ tracked_count nodes k
@@ -104,17 +104,7 @@ module _ (nodes : List Node) (pool : IsPool nodes) (slots : List ℕ) (laid : Is
     names : NamesBelow k (node_at nodes k)
     names = names_below k (take k nodes) (node_at nodes k) (omega (arith, length-take k nodes)) (pool.named k within)
 
-    -- how many reads a node takes
-    pub reads_more : (node : Node) → node ≡ node_at nodes k → cell_count nodes k + reads_at node ≡ cell_count nodes (suc k)
-    reads_more node same = by node (spelled_of nodes pool k within ∙ ap (spelled_with spelled) (sym same)) (sym same)
-      where
-        by : (node : Node) → spelled_at spelled k ≡ spelled_with spelled node → node_at nodes k ≡ node → cell_count nodes k + reads_at node ≡ cell_count nodes (suc k)
-        by (Const n) is same = omega (arith, counts_same _ is refl)
-        by (CellNode pointer offset width) is same = omega (arith, (cell_node_slot pointer offset width same).1)
-        by (View kind size c) is same = omega (arith, counts_same _ is refl)
-        by (Arith op left right) is same = omega (arith, counts_same _ is refl)
-
-    module _ (old : Numbers) (sized : IsSizedFor nodes old) where
+    module _ (old : NumbersSeen) (sized : IsSizedFor nodes old) where
       within_by : (node : Node) → node_at nodes k ≡ node → NamesBelow k node → MayFollow nodes node → HasSlot spelled k node (get_or slots k 0) → IsWithin node old slots k
       within_by (Const n) same below may has = tt
       within_by (CellNode pointer offset width) same below may has =
@@ -144,15 +134,15 @@ module _ (nodes : List Node) (pool : IsPool nodes) (slots : List ℕ) (laid : Is
         abbrev here : History
         here = image ∷ history
 
-        value_there : (n : ℕ) → n < k → IsValued (node_at nodes n) → get_or old.values.items n 0 ≡ value_of start (tree_in (spelled_at spelled n)) here
+        value_there : (n : ℕ) → n < k → IsValued (node_at nodes n) → get_or old.values n 0 ≡ value_of start (tree_in (spelled_at spelled n)) here
         value_there n below valued =
             passed.values n below ∙ value_of_tree start here (spelled_at spelled n) (tree_at_valued nodes pool n (omega arith) valued)
 
-        number_there : (width n : ℕ) → n < k → IsCellOf width (node_at nodes n) → get_or old.values.items n 0 ≡ cell_number start (cell_there (spelled_at spelled n)) here
+        number_there : (width n : ℕ) → n < k → IsCellOf width (node_at nodes n) → get_or old.values n 0 ≡ cell_number start (cell_there (spelled_at spelled n)) here
         number_there width n below is =
             passed.values n below ∙ number_of_cell start here width (spelled_at spelled n) (cell_at_cell nodes pool width n (omega arith) is)
 
-        earlier_there : (width c : ℕ) → c < k → IsCellOf width (node_at nodes c) → get_or old.earlier.items (get_or slots c 0) 0 ≡ cell_number start (cell_there (spelled_at spelled c)) history
+        earlier_there : (width c : ℕ) → c < k → IsCellOf width (node_at nodes c) → get_or old.earlier (get_or slots c 0) 0 ≡ cell_number start (cell_there (spelled_at spelled c)) history
         earlier_there width c below is =
             let slot = cell_slot width c (omega arith) is in
             passed.earlier.done (get_or slots c 0) (slot.below k below)
@@ -173,7 +163,7 @@ module _ (nodes : List Node) (pool : IsPool nodes) (slots : List ℕ) (laid : Is
           slot_of_prior : IsPriorSlot t k (get_or slots k 0)
           slot_of_prior = prior_slot t k (get_or slots k 0) within has
 
-          moved_by_numbers : (prior : ℕ) → prior_after (mask_of size) (get_or old.earlier.items (get_or slots c 0) 0) (get_or old.values.items c 0) prior ≡ prior_after (mask_of size) (cell_number start t.cell history) (cell_number start t.cell here) prior
+          moved_by_numbers : (prior : ℕ) → prior_after (mask_of size) (get_or old.earlier (get_or slots c 0) 0) (get_or old.values c 0) prior ≡ prior_after (mask_of size) (cell_number start t.cell history) (cell_number start t.cell here) prior
           moved_by_numbers prior =
               ap₂ (λ b n. prior_after (mask_of size) b n prior) (earlier_there (width_of size) c below is) (number_there (width_of size) c below is)
 
@@ -186,7 +176,7 @@ module _ (nodes : List Node) (pool : IsPool nodes) (slots : List ℕ) (laid : Is
               ∙ prior_after-again (mask_of size) (cell_number start t.cell history) (cell_number start t.cell here) (tracked_number start t history)
               ∙ sym (tracked_number-more start t image history)
 
-          prior_was : ((get_or slots k 0 < tracked_count nodes k) × (tracked_count nodes (suc k) ≡ tracked_count nodes k)) ⊎ ((get_or slots k 0 ≡ tracked_count nodes k) × (tracked_count nodes (suc k) ≡ suc (tracked_count nodes k))) → (get_or old.priors.items (get_or slots k 0) 0 ≡ tracked_number start t history) ⊎ (get_or old.priors.items (get_or slots k 0) 0 ≡ tracked_number start t here)
+          prior_was : ((get_or slots k 0 < tracked_count nodes k) × (tracked_count nodes (suc k) ≡ tracked_count nodes k)) ⊎ ((get_or slots k 0 ≡ tracked_count nodes k) × (tracked_count nodes (suc k) ≡ suc (tracked_count nodes k))) → (get_or old.priors (get_or slots k 0) 0 ≡ tracked_number start t history) ⊎ (get_or old.priors (get_or slots k 0) 0 ≡ tracked_number start t here)
           prior_was (inl again) =
               inr (passed.priors.done (get_or slots k 0) again.0 ∙ kept_prior t (get_or slots k 0) here slot_of_prior.within slot_of_prior.stands)
           prior_was (inr fresh) =
@@ -194,22 +184,22 @@ module _ (nodes : List Node) (pool : IsPool nodes) (slots : List ℕ) (laid : Is
 
           prior_is : prior_now ≡ tracked_number start t here
           prior_is =
-              moved_by_numbers (get_or old.priors.items (get_or slots k 0) 0)
-              ∙ moved_prior (get_or old.priors.items (get_or slots k 0) 0) (prior_was slot_of_prior.once)
+              moved_by_numbers (get_or old.priors (get_or slots k 0) 0)
+              ∙ moved_prior (get_or old.priors (get_or slots k 0) 0) (prior_was slot_of_prior.once)
 
           prior_done : prior_now ≡ get_or (kept_priors nodes start here) (get_or slots k 0) 0
           prior_done = prior_is ∙ sym (kept_prior t (get_or slots k 0) here slot_of_prior.within slot_of_prior.stands)
 
-          priors_by : ((get_or slots k 0 < tracked_count nodes k) × (tracked_count nodes (suc k) ≡ tracked_count nodes k)) ⊎ ((get_or slots k 0 ≡ tracked_count nodes k) × (tracked_count nodes (suc k) ≡ suc (tracked_count nodes k))) → IsHalfway (kept_priors nodes start history) (kept_priors nodes start here) (tracked_count nodes (suc k)) (set old.priors.items (get_or slots k 0) prior_now)
+          priors_by : ((get_or slots k 0 < tracked_count nodes k) × (tracked_count nodes (suc k) ≡ tracked_count nodes k)) ⊎ ((get_or slots k 0 ≡ tracked_count nodes k) × (tracked_count nodes (suc k) ≡ suc (tracked_count nodes k))) → IsHalfway (kept_priors nodes start history) (kept_priors nodes start here) (tracked_count nodes (suc k)) (set old.priors (get_or slots k 0) prior_now)
           priors_by (inl again) =
-              subst (λ j. IsHalfway (kept_priors nodes start history) (kept_priors nodes start here) j (set old.priors.items (get_or slots k 0) prior_now)) (sym again.1)
-              (halfway_again (kept_priors nodes start here) (tracked_count nodes k) old.priors.items prior_now (kept_priors nodes start history) (get_or slots k 0) again.0 (omega (arith, slot_of_prior.within, sized.priors)) prior_done passed.priors)
+              subst (λ j. IsHalfway (kept_priors nodes start history) (kept_priors nodes start here) j (set old.priors (get_or slots k 0) prior_now)) (sym again.1)
+              (halfway_again (kept_priors nodes start here) (tracked_count nodes k) old.priors prior_now (kept_priors nodes start history) (get_or slots k 0) again.0 (omega (arith, slot_of_prior.within, sized.priors)) prior_done passed.priors)
           priors_by (inr fresh) =
               let last : tracked_count nodes k ≡ get_or slots k 0 = sym fresh.0 in
-              subst (λ j. IsHalfway (kept_priors nodes start history) (kept_priors nodes start here) j (set old.priors.items (get_or slots k 0) prior_now)) (ap suc fresh.0 ∙ sym fresh.1)
-              (halfway_more (kept_priors nodes start here) (get_or slots k 0) old.priors.items prior_now (kept_priors nodes start history) (omega (arith, slot_of_prior.within, sized.priors)) prior_done (subst (λ j. IsHalfway (kept_priors nodes start history) (kept_priors nodes start here) j old.priors.items) last passed.priors))
+              subst (λ j. IsHalfway (kept_priors nodes start history) (kept_priors nodes start here) j (set old.priors (get_or slots k 0) prior_now)) (ap suc fresh.0 ∙ sym fresh.1)
+              (halfway_more (kept_priors nodes start here) (get_or slots k 0) old.priors prior_now (kept_priors nodes start history) (omega (arith, slot_of_prior.within, sized.priors)) prior_done (subst (λ j. IsHalfway (kept_priors nodes start history) (kept_priors nodes start here) j old.priors) last passed.priors))
 
-          priors_more : IsHalfway (kept_priors nodes start history) (kept_priors nodes start here) (tracked_count nodes (suc k)) (set old.priors.items (get_or slots k 0) prior_now)
+          priors_more : IsHalfway (kept_priors nodes start history) (kept_priors nodes start here) (tracked_count nodes (suc k)) (set old.priors (get_or slots k 0) prior_now)
           priors_more = priors_by slot_of_prior.once
 
         looked_is : (kind : Kind) (size : Size) (c : ℕ) → c < k → IsCellOf (width_of size) (node_at nodes c) → HasSlot spelled k (View kind size c) (get_or slots k 0) → looked_in kind old (mask_of size) (get_or slots k 0) (get_or slots c 0) c ≡ looked_at kind (cell_number start (cell_there (spelled_at spelled c))) (masked_by (mask_of size) (cell_number start (cell_there (spelled_at spelled c)))) (start.prior (record { cell = cell_there (spelled_at spelled c); mask = mask_of size })) here
@@ -228,35 +218,35 @@ module _ (nodes : List Node) (pool : IsPool nodes) (slots : List ℕ) (laid : Is
         value_is (Arith op left right) below may has =
             ap₂ (computed op) (value_there left below.0 may.1) (value_there right below.1 may.3)
 
-        module _ (new : Numbers) where
+        module _ (new : NumbersSeen) where
           either : (a b : ℕ) → (a ≡ b → ⊥) ⊎ (a ≡ b)
           either a b = elim (cases_eq a b) [ inl same ↦ inr same | inr other ↦ inl other ]
 
-          values_by : (v : ℕ) → new.values.items ≡ set old.values.items k v → v ≡ spelled_value start here (spelled_at spelled k) → (n : ℕ) → n < suc k → (n ≡ k → ⊥) ⊎ (n ≡ k) → get_or new.values.items n 0 ≡ spelled_value start here (spelled_at spelled n)
+          values_by : (v : ℕ) → new.values ≡ set old.values k v → v ≡ spelled_value start here (spelled_at spelled k) → (n : ℕ) → n < suc k → (n ≡ k → ⊥) ⊎ (n ≡ k) → get_or new.values n 0 ≡ spelled_value start here (spelled_at spelled n)
           values_by v grown is n below (inl other) =
-              ap (λ vs. get_or vs n 0) grown ∙ get_or-set_other old.values.items k n v 0 other ∙ passed.values n (omega (arith, other))
+              ap (λ vs. get_or vs n 0) grown ∙ get_or-set_other old.values k n v 0 other ∙ passed.values n (omega (arith, other))
           values_by v grown is n below (inr last) =
               ap (λ vs. get_or vs n 0) grown
-              ∙ ap (λ i. get_or (set old.values.items k v) i 0) last
-              ∙ get_or-set_same old.values.items k v 0 (omega (arith, sized.values, within))
+              ∙ ap (λ i. get_or (set old.values k v) i 0) last
+              ∙ get_or-set_same old.values k v 0 (omega (arith, sized.values, within))
               ∙ is ∙ ap (λ i. spelled_value start here (spelled_at spelled i)) (sym last)
 
           -- the numbers of a node that is no cell and no prior view
-          plain : cell_count nodes (suc k) ≡ cell_count nodes k → tracked_count nodes (suc k) ≡ tracked_count nodes k → new.cells.items ≡ old.cells.items → new.earlier.items ≡ old.earlier.items → new.places.items ≡ old.places.items → new.priors.items ≡ old.priors.items → ((n : ℕ) → n < suc k → get_or new.values.items n 0 ≡ spelled_value start here (spelled_at spelled n)) → IsPassed nodes start history image (suc k) new
+          plain : cell_count nodes (suc k) ≡ cell_count nodes k → tracked_count nodes (suc k) ≡ tracked_count nodes k → new.cells ≡ old.cells → new.earlier ≡ old.earlier → new.watches.places ≡ old.watches.places → new.priors ≡ old.priors → ((n : ℕ) → n < suc k → get_or new.values n 0 ≡ spelled_value start here (spelled_at spelled n)) → IsPassed nodes start history image (suc k) new
           plain cells tracked same_cells same_earlier same_places same_priors values = record {
-            cells = subst (λ j. IsHalfway (numbers_after nodes start history) (numbers_after nodes start here) j new.cells.items) (sym cells) (subst (IsHalfway (numbers_after nodes start history) (numbers_after nodes start here) (cell_count nodes k)) (sym same_cells) passed.cells);
-            earlier = subst (λ j. IsDone (numbers_after nodes start history) j new.earlier.items) (sym cells) (subst (IsDone (numbers_after nodes start history) (cell_count nodes k)) (sym same_earlier) passed.earlier);
-            places = subst (λ j. IsDone (places_at nodes start here) j new.places.items) (sym cells) (subst (IsDone (places_at nodes start here) (cell_count nodes k)) (sym same_places) passed.places);
-            priors = subst (λ j. IsHalfway (kept_priors nodes start history) (kept_priors nodes start here) j new.priors.items) (sym tracked) (subst (IsHalfway (kept_priors nodes start history) (kept_priors nodes start here) (tracked_count nodes k)) (sym same_priors) passed.priors);
+            cells = subst (λ j. IsHalfway (numbers_after nodes start history) (numbers_after nodes start here) j new.cells) (sym cells) (subst (IsHalfway (numbers_after nodes start history) (numbers_after nodes start here) (cell_count nodes k)) (sym same_cells) passed.cells);
+            earlier = subst (λ j. IsDone (numbers_after nodes start history) j new.earlier) (sym cells) (subst (IsDone (numbers_after nodes start history) (cell_count nodes k)) (sym same_earlier) passed.earlier);
+            places = subst (λ j. IsDone (places_at nodes start here) j new.watches.places) (sym cells) (subst (IsDone (places_at nodes start here) (cell_count nodes k)) (sym same_places) passed.places);
+            priors = subst (λ j. IsHalfway (kept_priors nodes start history) (kept_priors nodes start here) j new.priors) (sym tracked) (subst (IsHalfway (kept_priors nodes start history) (kept_priors nodes start here) (tracked_count nodes k)) (sym same_priors) passed.priors);
             values = values;
           }
 
           -- the numbers of a prior view
-          with_prior : cell_count nodes (suc k) ≡ cell_count nodes k → new.cells.items ≡ old.cells.items → new.earlier.items ≡ old.earlier.items → new.places.items ≡ old.places.items → IsHalfway (kept_priors nodes start history) (kept_priors nodes start here) (tracked_count nodes (suc k)) new.priors.items → ((n : ℕ) → n < suc k → get_or new.values.items n 0 ≡ spelled_value start here (spelled_at spelled n)) → IsPassed nodes start history image (suc k) new
+          with_prior : cell_count nodes (suc k) ≡ cell_count nodes k → new.cells ≡ old.cells → new.earlier ≡ old.earlier → new.watches.places ≡ old.watches.places → IsHalfway (kept_priors nodes start history) (kept_priors nodes start here) (tracked_count nodes (suc k)) new.priors → ((n : ℕ) → n < suc k → get_or new.values n 0 ≡ spelled_value start here (spelled_at spelled n)) → IsPassed nodes start history image (suc k) new
           with_prior cells same_cells same_earlier same_places priors values = record {
-            cells = subst (λ j. IsHalfway (numbers_after nodes start history) (numbers_after nodes start here) j new.cells.items) (sym cells) (subst (IsHalfway (numbers_after nodes start history) (numbers_after nodes start here) (cell_count nodes k)) (sym same_cells) passed.cells);
-            earlier = subst (λ j. IsDone (numbers_after nodes start history) j new.earlier.items) (sym cells) (subst (IsDone (numbers_after nodes start history) (cell_count nodes k)) (sym same_earlier) passed.earlier);
-            places = subst (λ j. IsDone (places_at nodes start here) j new.places.items) (sym cells) (subst (IsDone (places_at nodes start here) (cell_count nodes k)) (sym same_places) passed.places);
+            cells = subst (λ j. IsHalfway (numbers_after nodes start history) (numbers_after nodes start here) j new.cells) (sym cells) (subst (IsHalfway (numbers_after nodes start history) (numbers_after nodes start here) (cell_count nodes k)) (sym same_cells) passed.cells);
+            earlier = subst (λ j. IsDone (numbers_after nodes start history) j new.earlier) (sym cells) (subst (IsDone (numbers_after nodes start history) (cell_count nodes k)) (sym same_earlier) passed.earlier);
+            places = subst (λ j. IsDone (places_at nodes start here) j new.watches.places) (sym cells) (subst (IsDone (places_at nodes start here) (cell_count nodes k)) (sym same_places) passed.places);
             priors = priors;
             values = values;
           }
@@ -287,34 +277,34 @@ module _ (nodes : List Node) (pool : IsPool nodes) (slots : List ℕ) (laid : Is
             place : place_in old pointer offset ≡ get_or (places_at nodes start here) slot 0
             place = ap (moved_by offset) (value_there pointer below valued) ∙ of_cell (λ c. cell_place start c here)
 
-            number_before : get_or old.cells.items slot 0 ≡ get_or (numbers_after nodes start history) slot 0
+            number_before : get_or old.cells slot 0 ≡ get_or (numbers_after nodes start history) slot 0
             number_before = passed.cells.left slot (omega (arith, facts.0))
 
-            cells_done : IsHalfway (numbers_after nodes start history) (numbers_after nodes start here) (cell_count nodes (suc k)) (set old.cells.items slot (number_in old image pointer offset width))
+            cells_done : IsHalfway (numbers_after nodes start history) (numbers_after nodes start here) (cell_count nodes (suc k)) (set old.cells slot (number_in old image pointer offset width))
             cells_done =
-                subst (λ j. IsHalfway (numbers_after nodes start history) (numbers_after nodes start here) j (set old.cells.items slot (number_in old image pointer offset width))) next
-                (halfway_more (numbers_after nodes start here) slot old.cells.items (number_in old image pointer offset width) (numbers_after nodes start history) (omega (arith, inside_cells, sized.cells)) number (subst (λ j. IsHalfway (numbers_after nodes start history) (numbers_after nodes start here) j old.cells.items) (sym facts.0) passed.cells))
+                subst (λ j. IsHalfway (numbers_after nodes start history) (numbers_after nodes start here) j (set old.cells slot (number_in old image pointer offset width))) next
+                (halfway_more (numbers_after nodes start here) slot old.cells (number_in old image pointer offset width) (numbers_after nodes start history) (omega (arith, inside_cells, sized.cells)) number (subst (λ j. IsHalfway (numbers_after nodes start history) (numbers_after nodes start here) j old.cells) (sym facts.0) passed.cells))
 
-            earlier_done : IsDone (numbers_after nodes start history) (cell_count nodes (suc k)) (set old.earlier.items slot (get_or old.cells.items slot 0))
+            earlier_done : IsDone (numbers_after nodes start history) (cell_count nodes (suc k)) (set old.earlier slot (get_or old.cells slot 0))
             earlier_done =
-                subst (λ j. IsDone (numbers_after nodes start history) j (set old.earlier.items slot (get_or old.cells.items slot 0))) next
-                (done_more (numbers_after nodes start history) slot old.earlier.items (get_or old.cells.items slot 0) (omega (arith, inside_cells, sized.earlier)) number_before (subst (λ j. IsDone (numbers_after nodes start history) j old.earlier.items) (sym facts.0) passed.earlier))
+                subst (λ j. IsDone (numbers_after nodes start history) j (set old.earlier slot (get_or old.cells slot 0))) next
+                (done_more (numbers_after nodes start history) slot old.earlier (get_or old.cells slot 0) (omega (arith, inside_cells, sized.earlier)) number_before (subst (λ j. IsDone (numbers_after nodes start history) j old.earlier) (sym facts.0) passed.earlier))
 
-            places_done : IsDone (places_at nodes start here) (cell_count nodes (suc k)) (set old.places.items slot (place_in old pointer offset))
+            places_done : IsDone (places_at nodes start here) (cell_count nodes (suc k)) (set old.watches.places slot (place_in old pointer offset))
             places_done =
-                subst (λ j. IsDone (places_at nodes start here) j (set old.places.items slot (place_in old pointer offset))) next
-                (done_more (places_at nodes start here) slot old.places.items (place_in old pointer offset) (omega (arith, inside_cells, sized.places)) place (subst (λ j. IsDone (places_at nodes start here) j old.places.items) (sym facts.0) passed.places))
+                subst (λ j. IsDone (places_at nodes start here) j (set old.watches.places slot (place_in old pointer offset))) next
+                (done_more (places_at nodes start here) slot old.watches.places (place_in old pointer offset) (omega (arith, inside_cells, sized.places)) place (subst (λ j. IsDone (places_at nodes start here) j old.watches.places) (sym facts.0) passed.places))
 
-            with_cell_node : tracked_count nodes (suc k) ≡ tracked_count nodes k → new.cells.items ≡ set old.cells.items slot (number_in old image pointer offset width) → new.earlier.items ≡ set old.earlier.items slot (get_or old.cells.items slot 0) → new.places.items ≡ set old.places.items slot (place_in old pointer offset) → new.priors.items ≡ old.priors.items → ((n : ℕ) → n < suc k → get_or new.values.items n 0 ≡ spelled_value start here (spelled_at spelled n)) → IsPassed nodes start history image (suc k) new
+            with_cell_node : tracked_count nodes (suc k) ≡ tracked_count nodes k → new.cells ≡ set old.cells slot (number_in old image pointer offset width) → new.earlier ≡ set old.earlier slot (get_or old.cells slot 0) → new.watches.places ≡ set old.watches.places slot (place_in old pointer offset) → new.priors ≡ old.priors → ((n : ℕ) → n < suc k → get_or new.values n 0 ≡ spelled_value start here (spelled_at spelled n)) → IsPassed nodes start history image (suc k) new
             with_cell_node tracked cells earlier places priors values = record {
               cells = subst (IsHalfway (numbers_after nodes start history) (numbers_after nodes start here) (cell_count nodes (suc k))) (sym cells) cells_done;
               earlier = subst (IsDone (numbers_after nodes start history) (cell_count nodes (suc k))) (sym earlier) earlier_done;
               places = subst (IsDone (places_at nodes start here) (cell_count nodes (suc k))) (sym places) places_done;
-              priors = subst (λ j. IsHalfway (kept_priors nodes start history) (kept_priors nodes start here) j new.priors.items) (sym tracked) (subst (IsHalfway (kept_priors nodes start history) (kept_priors nodes start here) (tracked_count nodes k)) (sym priors) passed.priors);
+              priors = subst (λ j. IsHalfway (kept_priors nodes start history) (kept_priors nodes start here) j new.priors) (sym tracked) (subst (IsHalfway (kept_priors nodes start history) (kept_priors nodes start here) (tracked_count nodes k)) (sym priors) passed.priors);
               values = values;
             }
 
-          passed_by : (node : Node) → node_at nodes k ≡ node → spelled_at spelled k ≡ spelled_with spelled node → NamesBelow k node → MayFollow nodes node → HasSlot spelled k node (get_or slots k 0) → TakesNode node slots image k old new → ((n : ℕ) → n < suc k → get_or new.values.items n 0 ≡ spelled_value start here (spelled_at spelled n)) → IsPassed nodes start history image (suc k) new
+          passed_by : (node : Node) → node_at nodes k ≡ node → spelled_at spelled k ≡ spelled_with spelled node → NamesBelow k node → MayFollow nodes node → HasSlot spelled k node (get_or slots k 0) → TakesNode node slots image k old new → ((n : ℕ) → n < suc k → get_or new.values n 0 ≡ spelled_value start here (spelled_at spelled n)) → IsPassed nodes start history image (suc k) new
           passed_by (Const n) same is below may has takes values =
               plain (counts_same _ is refl) (tracked_counts_same _ is refl) takes.cells takes.earlier takes.places takes.priors values
           passed_by (CellNode pointer offset width) same is below may has takes values =

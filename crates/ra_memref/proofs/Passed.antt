@@ -7,11 +7,11 @@ use Rattle.ra_memory.specs.Image.{History}
 use Rattle.ra_indirect.specs.declared.node.Node.{Node}
 use Rattle.ra_indirect.specs.Pools.{Spelled, IsTree, IsCell, tree_in, view_in, spelled_at, spelled_by, cells_of, tracked_of}
 use Rattle.ra_indirect.proofs.SpelledLemmas.{GivesCell, GivesTree}
-use Rattle.ra_memref.specs.declared.numbers.Numbers.{Numbers}
+use Rattle.ra_memref.specs.Numbers.{NumbersSeen}
 use Rattle.ra_memref.specs.Values.{Start, looked_at, masked_by, value_of, cell_number, cell_place, tracked_number}
 use Rattle.ra_memref.specs.Table.{spelled_value}
 use Rattle.ra_memref.specs.Layout.{cells_before, tracked_before, cell_there}
-use Rattle.ra_memref.specs.Pass.{value_after, cells_after, earlier_after, places_after, priors_after}
+use Rattle.ra_memref.specs.Pass.{value_after, cells_after, earlier_after, places_after, marked_after, priors_after, after_node}
 use Rattle.ra_memref.proofs.Halfway.{IsDone, IsHalfway}
 use Rattle.ra_memref.proofs.LaidLemmas.{cell_of_there}
 
@@ -33,20 +33,34 @@ abbrev pub tracked_count : List Node → ℕ → ℕ
 tracked_count nodes k = length (tracked_before (spelled_by nodes) k)
 
 -- the nodes below k have taken up the frame
-pub record IsPassed (nodes : List Node) (start : Start) (history : History) (image : List ℕ) (k : ℕ) (numbers : Numbers) : Type 0 where
-  pub cells : IsHalfway (numbers_after nodes start history) (numbers_after nodes start (image ∷ history)) (cell_count nodes k) numbers.cells.items
-  pub earlier : IsDone (numbers_after nodes start history) (cell_count nodes k) numbers.earlier.items
-  pub places : IsDone (places_at nodes start (image ∷ history)) (cell_count nodes k) numbers.places.items
-  pub priors : IsHalfway (kept_priors nodes start history) (kept_priors nodes start (image ∷ history)) (tracked_count nodes k) numbers.priors.items
-  pub values : (n : ℕ) → n < k → get_or numbers.values.items n 0 ≡ spelled_value start (image ∷ history) (spelled_at (spelled_by nodes) n)
+pub record IsPassed (nodes : List Node) (start : Start) (history : History) (image : List ℕ) (k : ℕ) (numbers : NumbersSeen) : Type 0 where
+  pub cells : IsHalfway (numbers_after nodes start history) (numbers_after nodes start (image ∷ history)) (cell_count nodes k) numbers.cells
+  pub earlier : IsDone (numbers_after nodes start history) (cell_count nodes k) numbers.earlier
+  pub places : IsDone (places_at nodes start (image ∷ history)) (cell_count nodes k) numbers.watches.places
+  pub priors : IsHalfway (kept_priors nodes start history) (kept_priors nodes start (image ∷ history)) (tracked_count nodes k) numbers.priors
+  pub values : (n : ℕ) → n < k → get_or numbers.values n 0 ≡ spelled_value start (image ∷ history) (spelled_at (spelled_by nodes) n)
 
 -- the node of number k has taken up the frame
-pub record TakesNode (node : Node) (slots image : List ℕ) (k : ℕ) (old new : Numbers) : Type 0 where
-  pub values : new.values.items ≡ set old.values.items k (value_after node old image slots k)
-  pub cells : new.cells.items ≡ cells_after node old image (get_or slots k 0)
-  pub earlier : new.earlier.items ≡ earlier_after node old (get_or slots k 0)
-  pub places : new.places.items ≡ places_after node old (get_or slots k 0)
-  pub priors : new.priors.items ≡ priors_after node old slots k
+pub record TakesNode (node : Node) (slots image : List ℕ) (k : ℕ) (old new : NumbersSeen) : Type 0 where
+  pub values : new.values ≡ set old.values k (value_after node old image slots k)
+  pub cells : new.cells ≡ cells_after node old image (get_or slots k 0)
+  pub earlier : new.earlier ≡ earlier_after node old (get_or slots k 0)
+  pub places : new.watches.places ≡ places_after node old (get_or slots k 0)
+  pub priors : new.priors ≡ priors_after node old slots k
+  pub marked : new.watches.marked ≡ marked_after node old (get_or slots k 0)
+  pub widths : new.watches.widths ≡ old.watches.widths
+
+-- what the equation of a node says of each row
+pub takes_node : (node : Node) (slots image : List ℕ) (k : ℕ) (old new : NumbersSeen) → new ≡ after_node node old image slots k → TakesNode node slots image k old new
+takes_node node slots image k old new is = record {
+  values = ap (λ (n : NumbersSeen). n.values) is;
+  cells = ap (λ (n : NumbersSeen). n.cells) is;
+  earlier = ap (λ (n : NumbersSeen). n.earlier) is;
+  places = ap (λ (n : NumbersSeen). n.watches.places) is;
+  priors = ap (λ (n : NumbersSeen). n.priors) is;
+  marked = ap (λ (n : NumbersSeen). n.watches.marked) is;
+  widths = ap (λ (n : NumbersSeen). n.watches.widths) is;
+}
 
 -- what a tree and what a cell gives
 pub value_of_tree : (start : Start) (history : History) (a : Spelled) → GivesTree a → spelled_value start history a ≡ value_of start (tree_in a) history

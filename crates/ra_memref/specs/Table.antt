@@ -1,4 +1,4 @@
--- What a table is seen as, and what its calls do.
+-- What a table is seen as, and what its calls do: docs/DEFINITIONS.md, "Values at a frame" and "Marked and moved cells".
 use Rattle.std.specs.Prelude.{◌≡◌, ℕ, ◌+◌, ◌<◌, Bool, true, false, List, ◌∷◌, length, map, replicate, take, drop, slice_index, slice_index_or}
 use Rattle.ra_memory.specs.Image.{History, raw}
 use Rattle.ra_indirect.specs.declared.node.Node.{Node}
@@ -21,16 +21,16 @@ pub record TableSeen : Type 0 where
   pub marked : List Bool
   pub places : List ℕ
 
--- The kept numbers of these nodes are those after the history.
+-- the kept numbers of these nodes are those after the history
 pub record AreKept (start : Start) (history : History) (nodes : List Node) (cells priors : List ℕ) : Type 0 where
   pub numbers : cells ≡ map (λ c. cell_number start c history) (cells_of nodes)
   pub priors_too : priors ≡ map (λ t. tracked_number start t history) (tracked_of nodes)
 
--- no clause looks past the end of a list of cells
+-- the cell past the end of a list of cells, at which no clause looks
 abbrev pub no_cell : Cell
 no_cell = record { pointer = constant 0; address = 0; width = 1 }
 
--- Each cell that is not marked has the image's number at its place.
+-- each cell that is not marked has the image's number at its place
 abbrev pub Agrees : TableSeen → List ℕ → Type 0
 Agrees table image =
     (k : ℕ) → k < length table.cells → slice_index_or table.marked k true ≡ false →
@@ -41,11 +41,11 @@ abbrev pub spelled_value : Start → History → Spelled → ℕ
 spelled_value start history (IsTree tree) = value_of start tree history
 spelled_value start history (IsCell c) = cell_number start c history
 
--- Pool and size stay.
+-- pool and size stay
 abbrev pub SamePool : TableSeen → TableSeen → Type 0
 SamePool old new = (new.nodes ≡ old.nodes) × (new.size ≡ old.size)
 
--- A table over a pool: all numbers 0, each cell marked and at its address.
+-- a table over a pool: all numbers are 0, each cell is marked and lies at its address
 pub record IsFresh (nodes : List Node) (size : ℕ) (table : TableSeen) : Type 0 where
   pub pool : table.nodes ≡ nodes
   pub size_too : table.size ≡ size
@@ -55,7 +55,7 @@ pub record IsFresh (nodes : List Node) (size : ℕ) (table : TableSeen) : Type 0
   pub marked : table.marked ≡ replicate (length (cells_of nodes)) true
   pub places : table.places ≡ map (λ c. c.address) (cells_of nodes)
 
--- A sample takes up one frame: for every start and every history after which the kept numbers are old's.
+-- a sample takes up one frame, for every start and every history after which the kept numbers are old's
 pub record Samples (old new : TableSeen) (image : List ℕ) : Type 0 where
   pub pool : SamePool old new
   pub kept : (start : Start) (history : History) → AreKept start history old.nodes old.cells old.priors → AreKept start (image ∷ history) old.nodes new.cells new.priors
@@ -64,29 +64,24 @@ pub record Samples (old new : TableSeen) (image : List ℕ) : Type 0 where
   pub places : (start : Start) (history : History) → AreKept start history old.nodes old.cells old.priors → new.places ≡ map (λ c. cell_place start c (image ∷ history)) (cells_of old.nodes)
   pub agrees : Agrees new image
 
--- No cell is marked any more, and so many cells were read.
+-- each cell that was marked or has moved was read, once, and no other; no cell is marked any more
 pub record ReadsWanted (old new : TableSeen) (reads : ℕ) : Type 0 where
   pub unmarked : new.marked ≡ replicate (length (cells_of old.nodes)) false
   pub counted : reads ≡ reads_of old.marked old.places new.places
 
--- The same before pages are kept: each cell stays marked, and each is read.
-pub record ReadsAll (old new : TableSeen) (reads : ℕ) : Type 0 where
-  pub marked : new.marked ≡ replicate (length (cells_of old.nodes)) true
-  pub counted : reads ≡ length (cells_of old.nodes)
-
--- The images have one size and differ in the told bytes alone.
+-- the images have one size and differ in the told bytes alone
 pub record DifferWithin (at count : ℕ) (image image' : List ℕ) : Type 0 where
   pub size : length image' ≡ length image
   pub below : take at image' ≡ take at image
   pub above : drop (at + count) image' ≡ drop (at + count) image
 
--- A write is told: it marks, and changes nothing else.
+-- a write is told: it marks the cells that watch its pages, and changes nothing else
 pub record IsTold (old new : TableSeen) (at count : ℕ) : Type 0 where
   pub rest : new ≡ record old { marked = new.marked }
   pub marked : new.marked ≡ marks_after old.size (cells_of old.nodes) old.places at count old.marked
   pub agrees : (image image' : List ℕ) → length image ≡ old.size → DifferWithin at count image image' → Agrees old image → Agrees new image'
 
--- Kept numbers are put back: each cell is marked, and a sample is due before values count again. All else stays.
+-- kept numbers are put back: each cell is marked, and a sample is due before values count again; all else stays
 pub record IsPutBack (old new : TableSeen) (cells priors : List ℕ) : Type 0 where
   pub pool : SamePool old new
   pub cells_too : new.cells ≡ cells

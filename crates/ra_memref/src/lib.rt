@@ -1,4 +1,4 @@
-//! The memory reference table: each cell is read once a frame, and delta and prior are kept.
+//! The memory reference table: a frame reads each cell that is marked or moved, and delta and prior are kept.
 //!
 //! A table holds no image. Its caller does, and tells it which bytes were written.
 #![tactic(auto)]
@@ -6,7 +6,6 @@
 mod laws;
 mod layout;
 mod numbers;
-mod pass;
 mod table;
 #[cfg(test)]
 mod tests;

@@ -1,43 +1,247 @@
-ghost use Rattle.std.specs.Prelude.{◌≡◌, length, replicate, IfOk};
+ghost use Rattle.std.specs.Prelude.{◌≡◌, ◌+◌, ◌*◌, ◌<◌, ◌≤◌, ◌^◌, true, false, length, replicate, slice_index, slice_index_or, slice_set, IfOk};
+ghost use Rattle.ra_memory.specs.Image.{raw, IsReadWidth};
+ghost use Rattle.ra_operand.specs.Views.{mask_of};
+ghost use Rattle.ra_indirect.specs.declared.node.Node.TheVariants.{View};
+ghost use Rattle.ra_indirect.specs.Interned.{IsPool};
+ghost use Rattle.ra_memref.specs.Layout.{IsLaid};
+ghost use Rattle.ra_memref.specs.Marks.{read_of, reads_of};
+ghost use Rattle.ra_memref.specs.Pass.{prior_after, looked_in, priors_after, after_node, reads_at, IsWithin, IsAgreedIn, IsAgreedAt, IsAgreed, IsSizedFor, TakesFrame};
+ghost use Rattle.ra_memref.specs.Watches.{MarksWatchers};
+ghost use Rattle.ra_memref.specs.Words.{words_at};
 
+use crate::watches::Watches;
+use crate::words::put_words;
+use ra_indirect::Node;
+use ra_memory::Image;
+use ra_operand::{Kind, Size, compute, mask, transform, view};
 use ra_text::OutOfMemory;
 use std::alloc::Global;
+use std::marker::Model;
 
-/// The numbers of a table: for each cell its own, the one of the frame before and its place, for each
-/// tracked mask its prior, and for each node of the pool its value.
+/// The numbers of a table: for each cell its own and the one of the frame before, with its watches, for
+/// each tracked mask its prior, and for each node of the pool its value.
 #[derive(Drop)]
 pub struct Numbers {
-    pub cells: Vec<u32>,
-    pub earlier: Vec<u32>,
-    pub places: Vec<u32>,
-    pub priors: Vec<u32>,
-    pub values: Vec<u32>,
+    cells: Vec<u32>,
+    earlier: Vec<u32>,
+    watches: Watches,
+    priors: Vec<u32>,
+    values: Vec<u32>,
+}
+
+impl Model for Numbers {
+    ghost use Rattle.ra_memref.specs.Numbers.{NumbersSeen};
+
+    ghost Value = { NumbersSeen };
+
+    ghost use Rattle.ra_memref.specs.NumbersView.{numbers_seen, AreNumbers};
+
+    ghost view = { numbers_seen };
+
+    ghost invariant = { AreNumbers };
 }
 
 impl Numbers {
-    /// Zeros for so many tracked masks and nodes, and for cells that lie at these places.
+    /// Zeros for so many tracked masks and nodes, and for the cells of these watches.
     pub fn new(
         alloc: Global,
-        places: Vec<u32>,
+        watches: Watches,
         priors: usize,
         values: usize,
     ) -> Result<Numbers, OutOfMemory>
-        ensures cells { IfOk result (λ n. n.cells.items ≡ replicate (length places.items) 0) }
-        ensures earlier { IfOk result (λ n. n.earlier.items ≡ replicate (length places.items) 0) }
-        ensures places { IfOk result (λ n. n.places.items ≡ places.items) }
-        ensures priors { IfOk result (λ n. n.priors.items ≡ replicate priors 0) }
-        ensures values { IfOk result (λ n. n.values.items ≡ replicate values 0) }
+        requires { length watches.marked ≡ length watches.places }
+        ensures { IfOk result (λ n. n ≡ record {
+          cells = replicate (length watches.places) 0;
+          earlier = replicate (length watches.places) 0;
+          watches = watches;
+          priors = replicate priors 0;
+          values = replicate values 0;
+        }) }
     {
-        let cells = vec![in alloc; 0; places.len()]?;
-        let earlier = vec![in alloc; 0; places.len()]?;
+        let cells = vec![in alloc; 0; watches.len()]?;
+        let earlier = vec![in alloc; 0; watches.len()]?;
         let priors = vec![in alloc; 0; priors]?;
         let values = vec![in alloc; 0; values]?;
         Ok(Numbers {
             cells,
             earlier,
-            places,
+            watches,
             priors,
             values,
         })
+    }
+
+    /// The number of each cell.
+    pub fn cells(&self) -> &[u32]
+        ensures { result.now ≡ self.now.cells }
+    {
+        &self.cells
+    }
+
+    /// The prior of each tracked mask.
+    pub fn priors(&self) -> &[u32]
+        ensures { result.now ≡ self.now.priors }
+    {
+        &self.priors
+    }
+
+    /// The number of a node.
+    pub fn value(&self, node: usize) -> u32
+        requires { node < length self.now.values }
+        ensures { result ≡ slice_index self.now.values node }
+    {
+        self.values[node]
+    }
+
+    /// Marks the cells that watch a page of one of `count` bytes from the address `at` on.
+    pub fn tell(&mut self, at: u32, count: u32)
+        requires within { at + count ≤ self.old.watches.size }
+        requires small { self.old.watches.size ≤ 2 ^ 27 }
+        ensures marks { MarksWatchers self.old.watches self.new.watches at count }
+        ensures rest { self.new ≡ record self.old { watches = self.new.watches } }
+    {
+        self.watches.tell(at, count);
+    }
+
+    /// Takes the numbers of the cells and then the priors from little-endian words, and marks all cells.
+    pub fn put_back(&mut self, bytes: &[u8])
+        requires { length bytes.now ≡ 4 * (length self.old.cells + length self.old.priors) }
+        ensures { self.new ≡ record self.old {
+          cells = words_at bytes.now 0 (length self.old.cells);
+          priors = words_at bytes.now (4 * length self.old.cells) (length self.old.priors);
+          watches = record self.old.watches { marked = replicate (length self.old.cells) true };
+        } }
+    {
+        let priors_at = 4 * self.cells.len();
+        put_words(&mut self.cells, bytes, 0);
+        put_words(&mut self.priors, bytes, priors_at);
+        self.watches.mark_all();
+    }
+
+    /// Takes up one frame: each cell that is marked or moved is read, and each value follows from those
+    /// before it.
+    pub fn take_frame<I: Image>(&mut self, image: &mut I, nodes: &[Node], slots: &[u32])
+        requires pool { IsPool nodes.now }
+        requires laid { IsLaid nodes.now slots.now }
+        requires sized { IsSizedFor nodes.now self.old }
+        requires agreed { IsAgreed self.old (I.bytes image.old) }
+
+        ensures taken { TakesFrame nodes.now self.old self.new (I.bytes image.old) }
+
+        ensures bytes { I.bytes image.new ≡ I.bytes image.old }
+        ensures counter { I.counter image.new ≡ I.counter image.old }
+        ensures reads { I.reads image.new ≡ I.reads image.old + reads_of self.old.watches.marked self.old.watches.places self.new.watches.places }
+    {
+        for (number, node) in nodes.iter().enumerate() {
+            self.take_node(image, *node, slots, number);
+        }
+    }
+
+    /// Takes up one node of the pass.
+    pub fn take_node<I: Image>(&mut self, image: &mut I, node: Node, slots: &[u32], number: usize)
+        requires within { IsWithin node self.old slots.now number }
+        requires here { number < length self.old.values }
+        requires slots { length slots.now ≡ length self.old.values }
+        requires agreed { IsAgreedAt node self.old (I.bytes image.old) (slice_index slots.now number) }
+
+        ensures taken { self.new ≡ after_node node self.old (I.bytes image.old) slots.now number }
+
+        ensures bytes { I.bytes image.new ≡ I.bytes image.old }
+        ensures counter { I.counter image.new ≡ I.counter image.old }
+        ensures reads { I.reads image.new ≡ I.reads image.old + reads_at node self.old (slice_index slots.now number) }
+    {
+        self.values[number] = match node {
+            Node::Const(n) => n,
+            Node::Cell {
+                pointer,
+                offset,
+                width,
+            } => {
+                let place = offset.wrapping_add(self.values[pointer as usize]);
+                self.read_cell(image, slots[number] as usize, place, width)
+            }
+            Node::View { kind, size, cell } => {
+                let looked = self.looked_at(kind, size, slots, cell as usize, number);
+                transform(kind, size, view(size, looked))
+            }
+            Node::Arith { op, left, right } => {
+                compute(op, self.values[left as usize], self.values[right as usize])
+            }
+        };
+    }
+
+    // Reads the cell of a slot at its place of this frame where it is marked or moved, and keeps the
+    // number of the frame before.
+    fn read_cell<I: Image>(&mut self, image: &mut I, slot: usize, place: u32, width: u8) -> u32
+        requires slot { slot < length self.old.cells }
+        requires agreed { IsAgreedIn self.old (I.bytes image.old) slot width }
+        requires width { IsReadWidth width }
+
+        ensures number { result ≡ raw width (I.bytes image.old) place }
+        ensures taken { self.new ≡ record self.old {
+          cells = slice_set self.old.cells slot result;
+          earlier = slice_set self.old.earlier slot (slice_index self.old.cells slot);
+          watches = record self.old.watches {
+            places = slice_set self.old.watches.places slot place;
+            marked = slice_set self.old.watches.marked slot false;
+          };
+        } }
+
+        ensures bytes { I.bytes image.new ≡ I.bytes image.old }
+        ensures counter { I.counter image.new ≡ I.counter image.old }
+        ensures reads { I.reads image.new ≡ I.reads image.old
+            + read_of (slice_index_or self.old.watches.marked slot true) (slice_index self.old.watches.places slot) place }
+    {
+        self.earlier[slot] = self.cells[slot];
+        if self.watches.is_due(slot, place) {
+            self.watches.settle(slot, place);
+            self.cells[slot] = image.read(place, width);
+        }
+        self.cells[slot]
+    }
+
+    // The number that a view of the cell looks at, which moves the prior where it is one.
+    fn looked_at(
+        &mut self,
+        kind: Kind,
+        size: Size,
+        slots: &[u32],
+        cell: usize,
+        number: usize,
+    ) -> u32
+        requires within { IsWithin (View kind size cell) self.old slots.now number }
+        requires here { number < length slots.now }
+        requires slots { length slots.now ≡ length self.old.values }
+
+        ensures looked { result ≡ looked_in kind self.old (mask_of size) (slice_index slots.now number) (slice_index slots.now cell) cell }
+        ensures taken { self.new ≡ record self.old { priors = priors_after (View kind size cell) self.old slots.now number } }
+    {
+        let cell_slot = slots[cell] as usize;
+        match kind {
+            Kind::Delta => self.earlier[cell_slot],
+            Kind::Prior => {
+                let slot = slots[number] as usize;
+                let prior = moved_prior(
+                    self.priors[slot],
+                    self.earlier[cell_slot],
+                    self.values[cell],
+                    mask(size),
+                );
+                self.priors[slot] = prior;
+                prior
+            }
+            Kind::Mem | Kind::Bcd | Kind::Inverted => self.values[cell],
+        }
+    }
+}
+
+// The prior after a frame, from the numbers of the frame before and of this one.
+fn moved_prior(prior: u32, before: u32, now: u32, mask: u32) -> u32
+    ensures { result ≡ prior_after mask before now prior }
+{
+    if now & mask == before & mask {
+        prior
+    } else {
+        before & mask
     }
 }

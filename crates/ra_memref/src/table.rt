@@ -1,9 +1,9 @@
 ghost use Rattle.std.specs.Prelude.{◌≡◌, ◌+◌, ◌-◌, ◌*◌, ◌<◌, ◌≤◌, ◌^◌, length, slice_index, true, IfOk};
 ghost use Rattle.ra_indirect.specs.Interned.{IsPool};
 
-use crate::layout::lay_out;
+use crate::layout::{lay_out, widths_of};
 use crate::numbers::Numbers;
-use crate::words::put_words;
+use crate::watches::Watches;
 use ra_indirect::{Node, Pool};
 use ra_memory::Image;
 use ra_text::OutOfMemory;
@@ -19,7 +19,6 @@ pub struct Table {
     nodes: Vec<Node>,
     slots: Vec<u32>,
     numbers: Numbers,
-    size: u32,
     sampled: bool,
 }
 
@@ -37,12 +36,14 @@ impl Model for Table {
 
 impl Table {
     ghost use Rattle.ra_indirect.specs.Pools.{IsValued, node_at};
-    ghost use Rattle.ra_memref.specs.Table.{IsFresh, IsTold, IsPutBack, Samples, ReadsAll, Agrees};
+    ghost use Rattle.ra_memref.specs.Table.{IsFresh, IsTold, IsPutBack, Samples, ReadsWanted, Agrees};
     ghost use Rattle.ra_memref.specs.Words.{words_at};
 
-    /// A table over a pool and an image of `size` bytes: all numbers are 0, and no sample came.
+    /// A table over a pool and an image of `size` bytes: all numbers are 0, each cell is marked and lies
+    /// at its address, and no sample came.
     ///
-    /// On want of memory the pool is given up.
+    /// At most 134,217,728 bytes, and fewer than 2^30 nodes. Memory is the only refusal, and then the
+    /// pool is given up. No later call takes memory.
     pub fn new(alloc: Global, pool: Pool, size: u32) -> Result<Table, OutOfMemory>
         requires size { size ≤ 2 ^ 27 }
         requires few { length pool < 2 ^ 30 }
@@ -50,31 +51,40 @@ impl Table {
     {
         let nodes = nodes_of(alloc, &pool)?;
         let layout = lay_out(alloc, &nodes)?;
-        let numbers = Numbers::new(alloc, layout.places, layout.masks.len(), nodes.len())?;
+        let widths = widths_of(alloc, &nodes)?;
+        let watches = Watches::new(alloc, size, layout.places, widths)?;
+        let numbers = Numbers::new(alloc, watches, layout.masks.len(), nodes.len())?;
         Ok(Table {
             nodes,
             slots: layout.slots,
             numbers,
-            size,
             sampled: false,
         })
     }
 
-    /// Tells the table that `count` bytes from the address `at` on may have changed.
+    /// Tells the table that `count` bytes from the address `at` on may have changed:
+    /// docs/DEFINITIONS.md, "Marked and moved cells".
+    ///
+    /// The bytes lie within the size. The cells that watch a page of one of them are marked, and no kept
+    /// number changes. It looks at the lists of these pages alone.
     pub fn write(&mut self, at: u32, count: u32)
         requires { at + count ≤ self.old.size }
         ensures { IsTold self.old self.new at count }
     {
-        let _ = &self.nodes;
+        self.numbers.tell(at, count);
     }
 
     /// Takes up one frame of the image: docs/DEFINITIONS.md, "Values at a frame".
+    ///
+    /// The image has the table's size, and each cell that is not marked has its kept number there, as
+    /// after a sample of an image that differs from this one only in bytes that were told. It reads each
+    /// cell that is marked or has moved, once, and no other, and leaves none marked.
     pub fn sample<I: Image>(&mut self, image: &mut I)
         requires size { length (I.bytes image.old) ≡ self.old.size }
         requires agrees { Agrees self.old (I.bytes image.old) }
 
         ensures taken { Samples self.old self.new (I.bytes image.old) }
-        ensures reads { ReadsAll self.old self.new (I.reads image.new - I.reads image.old) }
+        ensures reads { ReadsWanted self.old self.new (I.reads image.new - I.reads image.old) }
         ensures counts { I.reads image.old ≤ I.reads image.new }
 
         ensures bytes { I.bytes image.new ≡ I.bytes image.old }
@@ -85,38 +95,41 @@ impl Table {
     }
 
     /// The value of a node's tree at the frame of the last sample.
+    ///
+    /// The node is one of the pool's that has a value, and a sample came since `new` or `put_back`.
     pub fn value(&self, node: u32) -> u32
         requires within { node < length self.now.nodes }
         requires valued { IsValued (node_at self.now.nodes node) }
         requires sampled { self.now.sampled ≡ true }
         ensures { result ≡ slice_index self.now.values node }
     {
-        self.numbers.values[node as usize]
+        self.numbers.value(node as usize)
     }
 
     /// The kept numbers of the cells, in order of first occurrence.
     pub fn cells(&self) -> &[u32]
         ensures { result.now ≡ self.now.cells }
     {
-        &self.numbers.cells
+        self.numbers.cells()
     }
 
     /// The kept numbers of the tracked masks, in order of first occurrence.
     pub fn priors(&self) -> &[u32]
         ensures { result.now ≡ self.now.priors }
     {
-        &self.numbers.priors
+        self.numbers.priors()
     }
 
     /// Sets the kept numbers from little-endian words, the cells first.
+    ///
+    /// There are four bytes for each cell and each tracked mask. Each cell is marked and keeps its place,
+    /// and a sample is due before values count again.
     pub fn put_back(&mut self, bytes: &[u8])
         requires { length bytes.now ≡ 4 * (length self.old.cells + length self.old.priors) }
         ensures { IsPutBack self.old self.new (words_at bytes.now 0 (length self.old.cells))
             (words_at bytes.now (4 * length self.old.cells) (length self.old.priors)) }
     {
-        let priors_at = 4 * self.numbers.cells.len();
-        put_words(&mut self.numbers.cells, bytes, 0);
-        put_words(&mut self.numbers.priors, bytes, priors_at);
+        self.numbers.put_back(bytes);
         self.sampled = false;
     }
 }

@@ -1,0 +1,38 @@
+use Rattle.std.proofs.Common.{◌≡◌, ◌∙◌, ap, sym, subst, length, replicate, false, arith, refl}
+use Rattle.std.proofs.lemmas.List.{length-map}
+use Rattle.ra_indirect.specs.Pools.{cells_of}
+use Rattle.ra_indirect.specs.Interned.{IsPool}
+use Rattle.ra_memref.specs.Table.{IsFresh}
+use Rattle.ra_memref.specs.Seen.{table_seen}
+use Rattle.ra_memref.specs.Watches.{WatchesSeen}
+use Rattle.ra_memref.specs.Numbers.{NumbersSeen}
+use Rattle.ra_memref.proofs.TableLemmas.{few_cells, made_sized, made_fresh}
+use Rattle.ra_memref.proofs.table.Table.new.Goals as goal
+
+pub new-requires-clause-few : goal.new-requires-clause-few
+new-requires-clause-few c = omega (arith, ap length c.in_ok-layout.ensures.places, length-map (cells_of c.deref.result.now) (λ d. d.address), few_cells c.deref.result.now, ap length c.deref.ensures.value, ap length c.in_ok-nodes.ensures.nodes, c.requires.few)
+
+pub new-requires-clause-wide : goal.new-requires-clause-wide
+new-requires-clause-wide c = λ k below. c.in_ok-widths.ensures.wide k (omega (arith, below, ap length c.in_ok-layout.ensures.places, length-map (cells_of c.deref.result.now) (λ d. d.address), ap length c.in_ok-widths.ensures.widths, length-map (cells_of c.deref-2.result.now) (λ d. d.width), ap (λ ns. length (cells_of ns)) c.deref.ensures.value, ap (λ ns. length (cells_of ns)) c.deref-2.ensures.value))
+
+pub invariant_of-result : goal.invariant_of-result
+invariant_of-result c =
+    let layout = rw c.deref.ensures.value at c.in_ok-layout.ensures in
+    let widths = rw c.deref-2.ensures.value at c.in_ok-widths.ensures in
+    let numbers = c.in_ok-numbers.ensures in
+    let count : c.len-2.result ≡ length c.in_ok-nodes.nodes.items = c.len-2.ensures ∙ c.in_ok-nodes.nodes.ok.0 in
+    let size : c.in_ok-numbers.numbers.watches.size ≡ c.args.size = ap (λ (w : WatchesSeen). w.size) (ap (λ (n : NumbersSeen). n.watches) numbers ∙ c.in_ok-watches.ensures) in
+    record {
+      pool = subst IsPool (sym c.in_ok-nodes.ensures.nodes) c.in_ok-nodes.ensures.pool;
+      few = omega (arith, ap length c.in_ok-nodes.ensures.nodes, c.requires.few);
+      laid = layout.slots;
+      small = omega (arith, size, c.requires.size);
+      sized = made_sized c.in_ok-nodes.nodes.items c.args.size _ c.in_ok-layout.layout.places.items c.in_ok-widths.widths.items c.in_ok-watches.watches c.in_ok-numbers.numbers layout.places widths.widths (c.len.ensures.len ∙ layout.masks) c.in_ok-watches.ensures (ap (λ (n : NumbersSeen). n.cells) numbers) (ap (λ (n : NumbersSeen). n.earlier) numbers) (ap (λ (n : NumbersSeen). n.watches) numbers) (ap (λ (n : NumbersSeen). n.priors) numbers) (ap (λ (n : NumbersSeen). n.values) numbers ∙ ap (λ n. replicate n 0) count);
+    }
+
+pub returns : goal.returns
+returns c =
+    let layout = rw c.deref.ensures.value at c.in_ok-layout.ensures in
+    let numbers = c.in_ok-numbers.ensures in
+    subst (λ ns. IsFresh ns c.args.size (table_seen (record { nodes = c.in_ok-nodes.nodes; slots = c.in_ok-layout.layout.slots; numbers = c.in_ok-numbers.numbers; sampled = false }))) c.in_ok-nodes.ensures.nodes
+    (made_fresh c.in_ok-nodes.nodes.items c.args.size _ c.in_ok-layout.layout.places.items c.in_ok-widths.widths.items c.in_ok-watches.watches (record { nodes = c.in_ok-nodes.nodes; slots = c.in_ok-layout.layout.slots; numbers = c.in_ok-numbers.numbers; sampled = false }) refl refl layout.places (c.len.ensures.len ∙ layout.masks) c.in_ok-watches.ensures (ap (λ (n : NumbersSeen). n.cells) numbers) (ap (λ (n : NumbersSeen). n.watches) numbers) (ap (λ (n : NumbersSeen). n.priors) numbers))
