@@ -1,9 +1,10 @@
 //! Tables over frames, from the rules.
 
-ghost use Rattle.std.specs.Prelude.{◌≡◌, ◌<◌, length, IsTrue};
+ghost use Rattle.std.specs.Prelude.{◌≡◌, ◌<◌, ◌≤◌, ◌^◌, length, IsTrue};
 ghost use Rattle.ra_indirect.specs.Pools.{MayFollow, IsValued, IsCellOf, node_at};
 
 mod machine;
+mod reads;
 
 use crate::tests::machine::Machine;
 use ra_indirect::{Node, Pool};
@@ -56,19 +57,21 @@ fn may_follow(pool: &Pool, node: Node) -> bool
     }
 }
 
-// A machine over these nodes, of 64 bytes.
-fn machine_of(alloc: Global, nodes: &[Node]) -> Result<Machine, Fail> {
+// A machine over these nodes, with a memory of so many bytes.
+fn machine_of(alloc: Global, size: u32, nodes: &[Node]) -> Result<Machine, Fail>
+    requires { size ≤ 2 ^ 27 }
+{
     let mut pool = Pool::new(alloc);
     for node in nodes {
-        if pool.len() > 99 || !may_follow(&pool, *node) {
+        if pool.len() > 99_999 || !may_follow(&pool, *node) {
             return Err(Fail::from("no pool"));
         }
         pool.intern(*node)?;
     }
-    if pool.len() > 99 {
+    if pool.len() > 99_999 {
         return Err(Fail::from("no pool"));
     }
-    let machine = Machine::new(alloc, pool)?;
+    let machine = Machine::new(alloc, pool, size)?;
     Ok(machine)
 }
 
@@ -96,6 +99,7 @@ fn view(kind: Kind, size: Size, cell: u32) -> Node {
 fn each_mask_has_a_prior_of_its_own(rt: HostRuntime) -> Result<(), Fail> {
     let mut machine = machine_of(
         rt.alloc(),
+        64,
         &[
             Node::Const(0),
             byte_cell(0, 0x10),
@@ -125,6 +129,7 @@ fn each_mask_has_a_prior_of_its_own(rt: HostRuntime) -> Result<(), Fail> {
 fn a_delta_is_what_the_old_pointer_gave(rt: HostRuntime) -> Result<(), Fail> {
     let mut machine = machine_of(
         rt.alloc(),
+        64,
         &[
             Node::Const(0),
             word_cell(0, 0x10),
@@ -152,6 +157,7 @@ fn a_delta_is_what_the_old_pointer_gave(rt: HostRuntime) -> Result<(), Fail> {
 fn a_pointer_wraps_and_the_end_is_zeros(rt: HostRuntime) -> Result<(), Fail> {
     let mut machine = machine_of(
         rt.alloc(),
+        64,
         &[
             Node::Const(0),
             word_cell(0, 0),
@@ -176,6 +182,7 @@ fn a_pointer_wraps_and_the_end_is_zeros(rt: HostRuntime) -> Result<(), Fail> {
 fn kept_numbers_are_put_back(rt: HostRuntime) -> Result<(), Fail> {
     let mut machine = machine_of(
         rt.alloc(),
+        64,
         &[
             Node::Const(0),
             byte_cell(0, 0x10),

@@ -1,34 +1,54 @@
-ghost use Rattle.std.specs.Prelude.{◌≡◌, ◌<◌, ◌^◌, length, true};
+ghost use Rattle.std.specs.Prelude.{◌≡◌, ◌<◌, ◌≤◌, ◌^◌, length, true};
 ghost use Rattle.ra_memref.specs.Table.{Agrees};
 
 use crate::Table;
 use crate::table::nodes_of;
 use ra_indirect::{Node, Pool};
-use ra_memory::{Counted, Memory, Steps};
+use ra_memory::{Counted, Image, Memory, Steps};
 use ra_text::OutOfMemory;
 use std::alloc::Global;
 use std::sync::ledger::{Blank, Ledger};
 
-/// A table with the memory that it samples, of 64 bytes.
+/// An image that also tells how often it was read.
+#[derive(Drop)]
+pub struct Tallied<'a, L: Ledger> {
+    pub image: Counted<'a, L>,
+    pub reads: u32,
+}
+
+impl<'a, L: Ledger> Image for Tallied<'a, L> {
+    ghost bytes = { λ t. t.image.memory.now };
+
+    ghost reads = { λ t. t.image.steps.now };
+
+    ghost counter = { λ t. t.image.steps.ghost_name };
+
+    fn read(&mut self, at: u32, width: u8) -> u32 {
+        self.reads = self.reads.wrapping_add(1);
+        self.image.read(at, width)
+    }
+}
+
+/// A table with the memory that it samples.
 #[derive(Drop)]
 pub struct Machine {
     nodes: Vec<Node>,
     table: Table,
     memory: Memory,
     ghost nodes_too: { table.nodes ≡ nodes.items },
-    ghost size: { table.size ≡ 64 },
-    ghost memory_size: { length memory ≡ 64 },
+    ghost size: { table.size ≡ length memory },
     ghost few: { length nodes.items < 2 ^ 30 },
     ghost agrees: { Agrees table memory },
 }
 
 impl Machine {
-    pub fn new(alloc: Global, pool: Pool) -> Result<Machine, OutOfMemory>
-        requires { length pool < 2 ^ 30 }
+    pub fn new(alloc: Global, pool: Pool, size: u32) -> Result<Machine, OutOfMemory>
+        requires few { length pool < 2 ^ 30 }
+        requires size { size ≤ 2 ^ 27 }
     {
         let nodes = nodes_of(alloc, &pool)?;
-        let table = Table::new(alloc, pool, 64)?;
-        let memory = Memory::new(alloc, 64)?;
+        let table = Table::new(alloc, pool, size)?;
+        let memory = Memory::new(alloc, size)?;
         Ok(Machine {
             nodes,
             table,
@@ -38,6 +58,7 @@ impl Machine {
 
     /// Writes bytes and tells the table; what does not fit is left out.
     pub fn write(&mut self, at: u32, bytes: &[u8]) {
+        let _size = self.memory.size();
         if let Ok(()) = self.memory.write(at, bytes) {
             self.table.write(at, bytes.len() as u32);
         }
@@ -56,6 +77,24 @@ impl Machine {
         };
         self.table.sample(&mut image);
         values_of(alloc, &self.table, &self.nodes)
+    }
+
+    /// Samples the memory, and tells how often that reads it.
+    pub fn reads<L: Ledger>(&mut self, blank: Blank) -> u32
+        requires name { blank.name ≡ L.name }
+        requires parts { blank.parts ≡ L.parts }
+        requires held { 0 < blank.parts }
+    {
+        let mut steps = Steps::<L>::open(blank);
+        let mut image = Tallied {
+            image: Counted {
+                memory: &self.memory,
+                steps: &mut steps,
+            },
+            reads: 0,
+        };
+        self.table.sample(&mut image);
+        image.reads
     }
 
     /// Puts the kept numbers back, where there are bytes for each.

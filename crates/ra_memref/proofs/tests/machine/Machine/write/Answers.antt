@@ -9,4 +9,4 @@ invariant_of-self-clause-agrees c =
     let memory = c.args.self.now.memory in
     let fits : c.args.at + length c.args.bytes.now ≤ length c.args.self.now.memory = elim (cases_lt (length c.args.self.now.memory) (c.args.at + length c.args.bytes.now)) [ inl less ↦ absurd (false≢true (c.in-Ok.ensures.refused.1 less)) | inr within ↦ within ] in
     let differ = subst (DifferWithin c.args.at (length c.args.bytes.now) c.args.self.now.memory) (sym c.in-Ok.ensures.ok) (DifferWithin-written memory c.args.bytes.now c.args.at fits) in
-    c.write-in-Ok.ensures.agrees memory _ (c.args.self.now.memory_size ∙ sym c.args.self.now.size) differ c.args.self.now.agrees
+    c.write-in-Ok.ensures.agrees memory _ (sym c.args.self.now.size) differ c.args.self.now.agrees
