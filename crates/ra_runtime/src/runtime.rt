@@ -1,4 +1,4 @@
-ghost use Rattle.std.specs.Prelude.{◌≡◌, ◌+◌, ◌≤◌, ◌^◌, None, Some, length, IfOk, IfErr, OnOk, OnErr};
+ghost use Rattle.std.specs.Prelude.{◌≡◌, ◌+◌, ◌-◌, ◌≤◌, ◌^◌, None, Some, length, IfOk, IfErr, OnOk, OnErr};
 ghost use Rattle.ra_set.specs.Contents.{set_contents};
 ghost use Rattle.ra_set.specs.Limits.{IsWithinLimits};
 ghost use Rattle.ra_progress.specs.Contents.{shape_contents};
@@ -57,7 +57,7 @@ impl Model for Runtime {
 }
 
 impl Runtime {
-    ghost use Rattle.ra_runtime.specs.Runtime.{IsMade, IsWritten, ShowsKept, TakesFrame, TakesUp};
+    ghost use Rattle.ra_runtime.specs.Runtime.{IsMade, IsWritten, ReadsFew, ShowsKept, TakesFrame, TakesUp};
 
     /// A set over a memory of `size` bytes, all 0, before the first frame: docs/DEFINITIONS.md, "What a
     /// runtime keeps".
@@ -152,7 +152,9 @@ impl Runtime {
 
     /// Takes one frame of every item: docs/DEFINITIONS.md, "What a runtime keeps". No memory is taken.
     pub fn frame<L: Ledger>(&mut self, steps: &mut Steps<L>)
-        ensures { TakesFrame self.old self.new }
+        ensures taken { TakesFrame self.old self.new }
+        ensures reads { ReadsFew self.old self.new (steps.new - steps.old) }
+        ensures counts { steps.old ≤ steps.new }
     {
         self.table.sample(&mut Counted {
             memory: &self.memory,

@@ -35,8 +35,8 @@ invariant_of-self g c =
       agrees = c.sample.ensures.taken.agrees;
     }
 
-pub returns : goal.returns
-returns g c =
+pub returns-clause-taken : goal.returns-clause-taken
+returns-clause-taken g c =
     let set = set_contents c.self.inside.set in
     let count = c.self.inside.count in
     let olds = c.self.inside.runs.items in
