@@ -7,10 +7,6 @@ mod order;
 mod plan;
 mod sides;
 mod terms;
-#[cfg(test)]
-mod tests;
-#[cfg(test)]
-mod tree_tests;
 mod trees;
 mod values_law;
 

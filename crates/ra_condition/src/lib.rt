@@ -19,8 +19,6 @@ mod setting;
 mod tables;
 mod tail;
 mod tails;
-#[cfg(test)]
-mod tests;
 mod trigger_text;
 mod value_text;
 mod values;

@@ -12,8 +12,6 @@ mod parse;
 mod state;
 mod tag;
 mod tag_set;
-#[cfg(test)]
-mod tests;
 
 pub use board::Board;
 pub use board_text::BoardText;

@@ -10,8 +10,6 @@ mod print;
 mod reading;
 mod size;
 mod tables;
-#[cfg(test)]
-mod tests;
 mod views;
 
 pub use kind::Kind;

@@ -20,17 +20,11 @@ mod piece;
 mod pieces;
 mod read;
 mod read_lookup;
-#[cfg(test)]
-mod read_tests;
 mod script;
 mod script_line;
 mod section;
 mod sections;
 mod shown_line;
-#[cfg(test)]
-mod shown_tests;
-#[cfg(test)]
-mod tests;
 mod text;
 
 pub use laws::one_script;

@@ -16,11 +16,7 @@ mod read_file;
 mod refused;
 mod row;
 mod runs;
-#[cfg(test)]
-mod script_tests;
 mod set;
-#[cfg(test)]
-mod tests;
 
 pub use counting::conditions;
 pub use item::Item;

@@ -5,8 +5,6 @@ mod base;
 mod cursor;
 mod read_numbers;
 mod refusals;
-#[cfg(test)]
-mod tests;
 
 pub use base::Base;
 pub use cursor::{Cursor, Stop};

@@ -5,8 +5,6 @@ mod change;
 mod gathered;
 mod laws;
 mod state;
-#[cfg(test)]
-mod tests;
 mod together;
 mod trigger;
 mod verdict;

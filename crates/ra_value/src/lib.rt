@@ -4,8 +4,6 @@
 mod greatest;
 mod laws;
 mod parts;
-#[cfg(test)]
-mod tests;
 mod value;
 
 pub use laws::value_holds;

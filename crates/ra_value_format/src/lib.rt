@@ -2,8 +2,6 @@
 #![tactic(auto)]
 
 mod format;
-#[cfg(test)]
-mod tests;
 mod texts;
 mod write;
 
