@@ -5,8 +5,8 @@ pub mod Lending
 pub mod Longer
 pub mod Looking
 pub mod MadeTrace
-pub mod Pieces
 pub mod Lying
+pub mod Windows
 pub mod SetLines
 pub mod TraceRecords
 pub mod Writes

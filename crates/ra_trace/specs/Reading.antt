@@ -1,5 +1,5 @@
 -- What a reader of a trace is seen as, and what stands next in a file: docs/DEFINITIONS.md, "Reading a trace".
-use Rattle.std.specs.Prelude.{◌≡◌, ℕ, ◌+◌, ◌-◌, ◌^◌, ◌≤◌, ⊤, true, if◌then◌else◌, nat_le, Option, option_map, is_some, None, Some, List, [], length, take, drop, replicate}
+use Rattle.std.specs.Prelude.{◌≡◌, ℕ, ◌+◌, ◌-◌, ◌^◌, ◌<◌, ◌≤◌, ◌⊎◌, ⊤, Bool, true, false, if◌then◌else◌, nat_le, ◌==◌, min, Option, option_map, is_some, None, Some, List, [], length, take, drop, replicate}
 use Rattle.ra_io.specs.Causes.{Rose}
 use Rattle.ra_trace.specs.declared.error.Why.{Why}
 use Rattle.ra_trace.specs.declared.error.Why.TheVariants.{Header, Cut}
@@ -23,17 +23,23 @@ pub record ReaderSeen : Type 0 where
 
 -- the most bytes that a reader takes
 abbrev pub most_bytes : ℕ
-most_bytes = 2 ^ 24
+most_bytes = 2 ^ 40
 
 -- a reader that has read nothing
 abbrev pub opened : List ℕ → ℕ → ReaderSeen
 opened name limit = record { name = name; limit = limit; size = None; last = 0; next = 0; taken = 0; held = [] }
 
--- a reader holds no more than its buffer has room for, and what it answered is among what it holds
-pub record IsInside (room held next : ℕ) : Type 0 where
-  pub limit : room ≤ most_bytes
-  pub within : held ≤ room
-  pub behind : next ≤ held
+-- what a reader has not answered yet is among the bytes that it holds, and those lie within its limit
+pub record IsInside (held limit taken next : ℕ) : Type 0 where
+  pub most : limit ≤ most_bytes
+  pub within : taken ≤ limit
+  pub fewer : held ≤ taken
+  pub behind : next ≤ taken
+  pub there : taken ≤ next + held
+
+-- the bytes that a reader holds of what it has not answered yet
+abbrev pub unanswered : ReaderSeen → List ℕ
+unanswered reader = drop (length reader.held - (reader.taken - reader.next)) reader.held
 
 -- the bytes that the reader holds are those of the file at their places
 pub record Holds (reader : ReaderSeen) (bytes : List ℕ) : Type 0 where
@@ -41,24 +47,30 @@ pub record Holds (reader : ReaderSeen) (bytes : List ℕ) : Type 0 where
   pub behind : length reader.held ≤ reader.taken
   pub held : reader.held ≡ take (length reader.held) (drop (reader.taken - length reader.held) bytes)
 
--- the buffer holds n bytes of the file from its front, if its first bytes did before, and fewer than fit where the file ends
-pub record Filled (content : Option (List ℕ)) (held : ℕ) (old : List ℕ) (n : ℕ) (new : List ℕ) : Type 0 where
-  pub long : length new ≡ length old
-  pub front : (bytes : List ℕ) → content ≡ Some bytes → take held old ≡ take held bytes → take n new ≡ take (length old) bytes
-
 -- name and limit of the reader stay
 pub record SameReader (old new : ReaderSeen) : Type 0 where
   pub name : new.name ≡ old.name
   pub limit : new.limit ≡ old.limit
 
--- the reader has read on to the end of what it may see of the file, and nothing else of it changed
-pub record ReadsOn (content : Option (List ℕ)) (old new : ReaderSeen) : Type 0 where
+-- the reader has read on, or nothing more may be seen of the file; what it has not answered yet stays before it
+pub record ReadsOn (content : Option (List ℕ)) (more : Bool) (old new : ReaderSeen) : Type 0 where
   pub same : SameReader old new
   pub sized : new.size ≡ old.size
   pub last : new.last ≡ old.last
   pub next : new.next ≡ old.next
+  pub inside : IsInside (length new.held) new.limit new.taken new.next
+  pub later : old.taken ≤ new.taken
+  pub on : more ≡ true → old.taken < new.taken
   pub holds : (bytes : List ℕ) → content ≡ Some bytes → Holds old bytes → Holds new bytes
-  pub all : (bytes : List ℕ) → content ≡ Some bytes → Holds old bytes → new.held ≡ take old.limit bytes
+  pub end : (bytes : List ℕ) → content ≡ Some bytes → Holds old bytes → more ≡ false → new.taken ≡ min new.limit (length bytes)
+
+-- the reader holds the front of the file: as long as a header, or all that may be seen of it
+pub record ReadsFront (content : Option (List ℕ)) (old new : ReaderSeen) : Type 0 where
+  pub same : SameReader old new
+  pub last : new.last ≡ 0
+  pub inside : IsInside (length new.held) new.limit new.taken 0
+  pub holds : (bytes : List ℕ) → content ≡ Some bytes → Holds new bytes
+  pub whole : (bytes : List ℕ) → content ≡ Some bytes → (9 ≤ length new.held) ⊎ (new.taken ≡ min new.limit (length bytes))
 
 -- what a reader with this limit may see of a file from a place on
 abbrev pub seen_from : ℕ → ℕ → List ℕ → List ℕ
@@ -88,6 +100,11 @@ pub record IsWhole (bytes : List ℕ) : Type 0 where
 -- the record that stands at a place
 abbrev pub next_entry : (limit at : ℕ) → List ℕ → Entry
 next_entry limit at bytes = front (seen_from limit at bytes)
+
+-- what a reader answers that knows why no record stands next: a cut one is past the limit where that was taken
+abbrev pub refused_as : ReaderSeen → Why → TraceError
+refused_as reader Cut = if reader.taken == reader.limit then errors.TooLong else errors.Refused reader.next Cut
+refused_as reader why = errors.Refused reader.next why
 
 -- the error is what a reader answers for a stop; a failed read is told by no stop
 abbrev pub IsStop : TraceError → Option Stop → Type 0
@@ -133,15 +150,14 @@ pub record Knows (content : Option (List ℕ)) (size : ℕ) (why : Option Why) (
   pub sized : new.size ≡ old.size
   pub last : new.last ≡ old.last
   pub next : new.next ≡ old.next
-  pub here : why ≡ refusal size (replicate 16 true) (drop old.next new.held)
+  pub here : why ≡ refusal size (replicate 16 true) (unanswered new)
   pub holds : (bytes : List ℕ) → content ≡ Some bytes → Holds old bytes → Holds new bytes
   pub told : (bytes : List ℕ) → content ≡ Some bytes → Holds old bytes → refusal size (replicate 16 true) (seen_from old.limit old.next bytes) ≡ why
-  pub entry : (bytes : List ℕ) → content ≡ Some bytes → Holds old bytes → why ≡ None → front (drop old.next new.held) ≡ next_entry old.limit old.next bytes
-  pub cut : (bytes : List ℕ) → content ≡ Some bytes → Holds old bytes → why ≡ Some Cut → new.held ≡ take old.limit bytes
+  pub entry : (bytes : List ℕ) → content ≡ Some bytes → Holds old bytes → why ≡ None → front (unanswered new) ≡ next_entry old.limit old.next bytes
+  pub cut : (bytes : List ℕ) → content ≡ Some bytes → Holds old bytes → why ≡ Some Cut → new.taken ≡ min old.limit (length bytes)
 
--- before a record is lent the reader is behind it, and holds its bytes
+-- before a record is lent the reader is behind it, and holds its bytes from this one of those that it holds on
 pub record Found (content : Option (List ℕ)) (at : ℕ) (old new : ReaderSeen) : Type 0 where
-  pub here : at ≡ old.next
   pub whole : IsWhole (drop at new.held)
   pub moved : IsBehindRecord (front (drop at new.held)) old new
   pub lies : (size : ℕ) → old.size ≡ Some size → LiesWithin size (front (drop at new.held))

@@ -1,6 +1,7 @@
 //! The header and the record at the front of bytes.
 
-ghost use Rattle.std.specs.Prelude.{◌≡◌, ◌≤◌, IfSome, true, length, replicate};
+ghost use Rattle.std.specs.Prelude.{◌≡◌, ◌<◌, ◌≤◌, IfSome, Some, true, length, replicate};
+ghost use Rattle.ra_trace.specs.declared.error.Why.TheVariants.{Cut};
 ghost use Rattle.ra_trace.specs.Entries.{entry_of, entry_bytes};
 ghost use Rattle.ra_trace.specs.Cutting.{header_size, write_refusal, save_refusal, restore_refusal, refusal, front};
 ghost use Rattle.ra_trace.specs.Reading.{IsWhole};
@@ -28,7 +29,8 @@ pub fn read_header(bytes: &[u8]) -> Option<u32>
 
 // Why no write stands behind its first byte.
 fn why_no_write(size: u32, rest: &[u8]) -> Option<Why>
-    ensures { result ≡ write_refusal size rest.now }
+    ensures why { result ≡ write_refusal size rest.now }
+    ensures short { result ≡ Some Cut → length rest.now < 65541 }
 {
     let [a, b, c, d, low, high, bytes @ ..] = rest else {
         return Some(Why::Cut);
@@ -48,6 +50,7 @@ fn why_no_write(size: u32, rest: &[u8]) -> Option<Why>
 fn why_no_slot(rest: &[u8]) -> Option<Why>
     ensures save { result ≡ save_refusal rest.now }
     ensures restore { result ≡ restore_refusal (replicate 16 true) rest.now }
+    ensures short { result ≡ Some Cut → length rest.now ≡ 0 }
 {
     match rest {
         [] => Some(Why::Cut),
@@ -56,9 +59,10 @@ fn why_no_slot(rest: &[u8]) -> Option<Why>
     }
 }
 
-/// Why no record stands at the front, every slot taken as filled.
+/// Why no record stands at the front, every slot taken as filled. What is cut is shorter than the longest record.
 pub fn why_no_record(size: u32, bytes: &[u8]) -> Option<Why>
-    ensures { result ≡ refusal size (replicate 16 true) bytes.now }
+    ensures why { result ≡ refusal size (replicate 16 true) bytes.now }
+    ensures short { result ≡ Some Cut → length bytes.now < 65542 }
 {
     match bytes {
         [] => Some(Why::Cut),

@@ -3,7 +3,6 @@
 
 mod draws;
 mod error;
-mod filling;
 mod four_digits;
 mod front;
 mod laws;
@@ -13,6 +12,7 @@ mod reader;
 mod record;
 #[cfg(test)]
 mod tests;
+mod window;
 mod writer;
 
 pub use error::{TraceError, Why};

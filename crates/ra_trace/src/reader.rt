@@ -1,59 +1,62 @@
 //! A trace file that is read record by record.
 
 use crate::error::{TraceError, Why};
-use crate::filling::fill;
 use crate::front::{front_record, read_header, record_length, why_no_record};
 use crate::record::Record;
+use crate::window::Window;
 use ra_io::Files;
 use ra_text::OutOfMemory;
 use std::alloc::Global;
 use std::marker::Model;
 
 // The length of a header.
-const HEADER_LENGTH: u64 = 9;
+const HEADER_LENGTH: usize = 9;
 
 /// A trace file that is read record by record: docs/DEFINITIONS.md, "Reading a trace".
 ///
 /// It is seen as its name, its limit of bytes, the memory size once the header was read, the places of its last and
 /// its next record, the place up to which it has read, and the bytes that it holds, which end there. Only `open`
-/// takes memory, and no call reads past the limit.
+/// takes memory, whatever the limit, no call reads past the limit, and each reads only while what it answers is not
+/// whole among the bytes that are held.
 #[derive(Drop)]
 pub struct Reader {
     name: String,
-    buffer: Vec<u8>,
-    held: usize,
+    window: Window,
+    limit: u64,
+    taken: u64,
     size: Option<u32>,
     last: u64,
     next: u64,
 }
 
 impl Model for Reader {
-    ghost use Rattle.std.specs.Prelude.{length, take};
+    ghost use Rattle.std.specs.Prelude.{length};
     ghost use Rattle.ra_trace.specs.Reading.{ReaderSeen, IsInside};
 
     ghost Value = { ReaderSeen };
 
     ghost view = { λ r. record {
       name = r.name.bytes.items;
-      limit = length r.buffer.items;
+      limit = r.limit;
       size = r.size;
       last = r.last;
       next = r.next;
-      taken = r.held;
-      held = take r.held r.buffer.items;
+      taken = r.taken;
+      held = r.window;
     } };
 
-    ghost invariant = { λ r. IsInside (length r.buffer.items) r.held r.next };
+    ghost invariant = { λ r. IsInside (length r.window) r.limit r.taken r.next };
 }
 
 impl Reader {
-    ghost use Rattle.std.specs.Prelude.{◌≡◌, ◌≤◌, Some, IfOk, IfErr, OnErr, IfSome, IsSome, OnOk, take};
+    ghost use Rattle.std.specs.Prelude.{◌≡◌, ◌≤◌, Some, IfOk, IfErr, OnErr, IfSome, IsSome, OnOk, length, drop, take, replicate, true, ◌<◌, ◌-◌};
     ghost use Rattle.std.specs.Borrow.{sem};
     ghost use Rattle.ra_io.specs.Causes.{Rose, NoneFell};
     ghost use Rattle.ra_io.specs.Files.{SameContent};
     ghost use Rattle.ra_trace.specs.Entries.{entry_of};
-    ghost use Rattle.ra_trace.specs.Cutting.{header_size};
-    ghost use Rattle.ra_trace.specs.Reading.{Holds, ReadsOn, Knows, Found, Stands, LiesWithin, StaysBefore, IsBehindHeader, opened, most_bytes, header_stop, next_stop, IsStop, ByFault};
+    ghost use Rattle.ra_trace.specs.Cutting.{header_size, refusal};
+    ghost use Rattle.ra_trace.specs.declared.error.Why.TheVariants.{Cut};
+    ghost use Rattle.ra_trace.specs.Reading.{Holds, ReadsFront, ReadsOn, Knows, Found, Stands, LiesWithin, StaysBefore, IsBehindHeader, IsInside, refused_as, opened, most_bytes, unanswered, header_stop, next_stop, IsStop, ByFault};
     ghost use Rattle.ra_trace.specs.Ending.{EndsAs};
 
     /// A reader of the file of this name that takes no more bytes than the limit, which is 9 to
@@ -64,11 +67,12 @@ impl Reader {
         ensures { IfOk result (λ reader. reader ≡ opened name.now limit) }
     {
         let name = String::from_str(alloc, name)?;
-        let buffer = vec![in alloc; 0u8; limit as usize]?;
+        let window = Window::new(alloc)?;
         Ok(Reader {
             name,
-            buffer,
-            held: 0,
+            window,
+            limit,
+            taken: 0,
             size: None,
             last: 0,
             next: 0,
@@ -91,21 +95,58 @@ impl Reader {
         ensures reads { NoneFell (F.read_faults files.old) (F.read_faults files.new) }
         ensures puts { NoneFell (F.put_faults files.old) (F.put_faults files.new) }
     {
-        self.read_on(files)?;
-        let Some(size) = read_header(&self.buffer[..self.held]) else {
+        self.read_front(files)?;
+        let Some(size) = read_header(self.window.bytes_from(0)) else {
             return Err(TraceError::Refused {
                 at: 0,
                 why: Why::Header,
             });
         };
         self.size = Some(size);
-        self.next = HEADER_LENGTH;
+        self.next = HEADER_LENGTH as u64;
         Ok(size)
     }
 
-    // Reads on, as far as the limit and the file go.
-    fn read_on<F: Files>(&mut self, files: &mut F) -> Result<(), TraceError>
-        ensures all { OnOk result (ReadsOn (F.content files.old self.old.name) self.old self.new) }
+    // Reads on until the bytes of a header are held, or no more come.
+    fn read_front<F: Files>(&mut self, files: &mut F) -> Result<(), TraceError>
+        requires { self.old ≡ opened self.old.name self.old.limit }
+        ensures read { OnOk result (ReadsFront (F.content files.old self.old.name) self.old self.new) }
+        ensures only { IfErr result (λ why. why ≡ TraceError.Read) }
+        ensures fault { OnErr result (Rose (F.read_faults files.old self.old.name) (F.read_faults files.new self.old.name)) }
+        ensures same { SameContent (F.content files.old) (F.content files.new) }
+        ensures reads { NoneFell (F.read_faults files.old) (F.read_faults files.new) }
+        ensures puts { NoneFell (F.put_faults files.old) (F.put_faults files.new) }
+    {
+        let mut more = true;
+        while self.window.len() < HEADER_LENGTH && more {
+            more = self.read_on(files)?;
+        }
+        Ok(())
+    }
+
+    // Where the next record starts among the bytes that are held.
+    fn front(&self) -> usize
+        ensures front { drop result self.now.held ≡ unanswered self.now }
+        ensures within { result ≤ length self.now.held }
+        ensures left { length self.now.held - result ≡ self.now.taken - self.now.next }
+    {
+        self.window.len() - (self.taken - self.next) as usize
+    }
+
+    // Why no record stands next among the bytes that are held.
+    fn why_no_record(&self, size: u32) -> Option<Why>
+        ensures why { result ≡ refusal size (replicate 16 true) (unanswered self.now) }
+        ensures short { result ≡ Some Cut → length (unanswered self.now) < 65542 }
+        ensures inside { IsInside (length self.now.held) self.now.limit self.now.taken self.now.next }
+    {
+        let front = self.front();
+        why_no_record(size, self.window.bytes_from(front))
+    }
+
+    // Reads on, and says whether bytes came.
+    fn read_on<F: Files>(&mut self, files: &mut F) -> Result<bool, TraceError>
+        requires { length (unanswered self.old) < 65542 }
+        ensures on { IfOk result (λ more. ReadsOn (F.content files.old self.old.name) more self.old self.new) }
         ensures only { IfErr result (λ why. why ≡ TraceError.Read) }
         ensures last { OnErr result (StaysBefore self.old self.new) }
         ensures fault { OnErr result (Rose (F.read_faults files.old self.old.name) (F.read_faults files.new self.old.name)) }
@@ -113,8 +154,17 @@ impl Reader {
         ensures reads { NoneFell (F.read_faults files.old) (F.read_faults files.new) }
         ensures puts { NoneFell (F.put_faults files.old) (F.put_faults files.new) }
     {
-        self.held = fill(&self.name, &mut self.buffer, self.held, files)?;
-        Ok(())
+        if self.taken == self.limit {
+            return Ok(false);
+        }
+        let front = self.front();
+        self.window.drop_front(front);
+        let most = self.limit - self.taken;
+        let Ok(more) = self.window.read_on(&self.name, self.taken, most, files) else {
+            return Err(TraceError::Read);
+        };
+        self.taken += more as u64;
+        Ok(more > 0)
     }
 
     // Reads on as far as the next record goes, and says why none stands there.
@@ -127,16 +177,26 @@ impl Reader {
         ensures reads { NoneFell (F.read_faults files.old) (F.read_faults files.new) }
         ensures puts { NoneFell (F.put_faults files.old) (F.put_faults files.new) }
     {
-        let at = self.next as usize;
-        let why = why_no_record(size, &self.buffer[at..self.held]);
-        let Some(Why::Cut) = why else {
-            return Ok(why);
-        };
-        self.read_on(files)?;
-        Ok(why_no_record(size, &self.buffer[at..self.held]))
+        let mut more = true;
+        let mut why = self.why_no_record(size);
+        while more && matches!(why, Some(Why::Cut)) {
+            more = self.read_on(files)?;
+            why = self.why_no_record(size);
+        }
+        Ok(why)
     }
 
-    // Moves to the next record, and says where it starts.
+    // What is answered where no record stands next: a cut one is past the limit where that was taken.
+    fn refused(&self, why: Why) -> TraceError
+        ensures { result ≡ refused_as self.now why }
+    {
+        match why {
+            Why::Cut if self.taken == self.limit => TraceError::TooLong,
+            _ => TraceError::Refused { at: self.next, why },
+        }
+    }
+
+    // Moves to the next record, and says where it starts among the bytes that are held.
     fn step<F: Files>(&mut self, files: &mut F) -> Result<usize, TraceError>
         requires { IsSome self.old.size }
         ensures found { IfOk result (λ at. Found (F.content files.old self.old.name) at self.old self.new) }
@@ -150,14 +210,13 @@ impl Reader {
         let size = self.size.unwrap_or(0);
         match self.look(size, files)? {
             None => {
-                let at = self.next;
-                let count = record_length(&self.buffer[at as usize..self.held]);
-                self.last = at;
-                self.next = at + count as u64;
-                Ok(at as usize)
+                let at = self.front();
+                let count = record_length(self.window.bytes_from(at));
+                self.last = self.next;
+                self.next += count as u64;
+                Ok(at)
             }
-            Some(Why::Cut) if self.held == self.buffer.len() => Err(TraceError::TooLong),
-            Some(why) => Err(TraceError::Refused { at: self.next, why }),
+            Some(why) => Err(self.refused(why)),
         }
     }
 
@@ -177,7 +236,7 @@ impl Reader {
         ensures* after { sem 𝓛 (EndsAs (F.content files.old self.old.name) self.entry result) }
     {
         let at = self.step(files)?;
-        Ok(front_record(&self.buffer[at..self.held]))
+        Ok(front_record(self.window.bytes_from(at)))
     }
 
     /// The place where the last record starts, in bytes from 0, and 0 where none was read.

@@ -1,20 +1,24 @@
-use Rattle.std.proofs.Common.{rules, subst, ap, refl, ◌∙◌}
-use Rattle.ra_trace.specs.Reading.{Knows}
-use Rattle.ra_trace.proofs.Looking.{knows_short, knows_read, between_seen}
-use Rattle.ra_trace.proofs.reader.Reader.look.Goals.{in_default-via-in-Some+in_default, in_default-via-in_default}
+use Rattle.std.proofs.Common.{rules}
+use Rattle.ra_trace.proofs.Looking.{knows_by, falls}
+use Rattle.ra_trace.proofs.reader.Reader.look.Goals.{in-Some-Cut, in_default, in_default-2}
 use Rattle.ra_trace.proofs.reader.Reader.look.Goals as goal
 
-pub returns-in_default-clause-knows : goal.returns-in_default-clause-knows
-returns-in_default-clause-knows g c =
-    let here = c.why_no_record-why.ensures ∙ between_seen c.args.size c.self.inside.next c.self.inside.next c.self.inside.held c.self.inside.buffer.items c.deref.result.now _ c.deref.ensures.value refl refl in
-    subst (λ s. Knows (g.F.Files.content c.args.files.now c.args.self.now.name) c.args.size c.why_no_record-why.result s s) c.self.view_is
-    (knows_short _ c.args.size _ _ _ c.self.inside.held _ _ c.self.inside.next c.self.invariant here
-    (elim c.in_default.branch [
-      | in_default-via-in-Some+in_default w ↦ λ cut. search rules
-      | in_default-via-in_default w ↦ λ cut. search rules
-    ]))
+pub loop-more-smaller : goal.loop-more-smaller
+loop-more-smaller g c =
+    let on = c.in_ok-more.ensures.on in
+    rw c.loop-more-test.true (falls c.loop-more.self.limit c.loop-more.self.taken c.read_on.new.self.limit c.read_on.new.self.taken c.in_ok-more.more on.same.limit on.inside.within on.later on.on)
 
-pub returns-clause-knows : goal.returns-clause-knows
-returns-clause-knows g c =
-    knows_read _ c.args.size _ c.args.self.now c.read_on.new.self c.in_ok-read_on.ensures.all
-    (c.why_no_record.ensures ∙ between_seen c.args.size c.self.inside.next c.args.self.now.next c.self-2.inside.held c.self-2.inside.buffer.items c.deref-2.result.now _ c.deref-2.ensures.value (ap (λ s. s.next) c.self.view_is) (ap (λ s. s.held) c.self-2.view_is))
+pub returns-else-matches-clause-knows : goal.returns-else-matches-clause-knows
+returns-else-matches-clause-knows g c =
+    let i = c.loop-more.invariant in
+    knows_by _ c.args.size c.loop-more.more c.loop-more.why c.args.self.now c.loop-more.self i.inside i.kept i.sized i.last i.next i.here i.holds i.end
+    (λ cut. elim c.match-matches.branch [
+      | in-Some-Cut w ↦ search rules
+      | in_default w ↦ search rules
+      | in_default-2 w ↦ search rules
+    ])
+
+pub returns-after-loop-more-clause-knows : goal.returns-after-loop-more-clause-knows
+returns-after-loop-more-clause-knows g c =
+    let i = c.loop-more.invariant in
+    knows_by _ c.args.size c.loop-more.more c.loop-more.why c.args.self.now c.loop-more.self i.inside i.kept i.sized i.last i.next i.here i.holds i.end (λ cut. search rules)

@@ -1,0 +1,26 @@
+use Rattle.std.proofs.Common.{◌≡◌, ℕ, ◌+◌, ◌-◌, ◌<◌, min, true, false, if◌then◌else◌, Some, List, length, replicate}
+use Rattle.ra_io.specs.Causes.{NoneFell}
+use Rattle.ra_io.specs.Files.{SameContent}
+use Rattle.ra_trace.specs.declared.error.Why.TheVariants.{Cut}
+use Rattle.ra_trace.specs.Cutting.{refusal}
+use Rattle.ra_trace.specs.Reading.{Holds, IsInside, SameReader, unanswered}
+use Rattle.ra_trace.proofs.reader.Reader.look.Given as goal
+
+abbrev pub invariant-loop-more : goal.invariant-loop-more
+invariant-loop-more g l = record {
+  kept : SameReader l.initial.self l.self;
+  sized : l.self.size ≡ l.initial.self.size;
+  last : l.self.last ≡ l.initial.self.last;
+  next : l.self.next ≡ l.initial.self.next;
+  inside : IsInside (length l.self.held) l.self.limit l.self.taken l.self.next;
+  here : l.why ≡ refusal l.size (replicate 16 true) (unanswered l.self);
+  short : l.why ≡ Some Cut → length (unanswered l.self) < 65542;
+  holds : (bytes : List ℕ) → g.F.Files.content l.initial.files l.initial.self.name ≡ Some bytes → Holds l.initial.self bytes → Holds l.self bytes;
+  end : (bytes : List ℕ) → g.F.Files.content l.initial.files l.initial.self.name ≡ Some bytes → Holds l.initial.self bytes → l.more ≡ false → l.self.taken ≡ min l.self.limit (length bytes);
+  same : SameContent (g.F.Files.content l.initial.files) (g.F.Files.content l.files);
+  reads : NoneFell (g.F.Files.read_faults l.initial.files) (g.F.Files.read_faults l.files);
+  puts : NoneFell (g.F.Files.put_faults l.initial.files) (g.F.Files.put_faults l.files);
+}
+
+abbrev pub decreases-loop-more : goal.decreases-loop-more
+decreases-loop-more g l = (l.self.limit - l.self.taken) + (if l.more then 1 else 0)
