@@ -247,7 +247,6 @@ pub if_some : {T : Type 0} (o : Option T) (P : T → Type 0) → ((x : T) → o 
 if_some None P h = tt
 if_some (Some x) P h = h x refl
 
-
 -- a header stands in the first nine bytes
 header_stays : (held more : List ℕ) → 9 ≤ length held → header_size (held ++ more) ≡ header_size held
 header_stays held more long =
@@ -273,4 +272,3 @@ header_seen r bytes inside holds whole =
 -- a bad header is told by what may be seen of the file
 pub header_refused : (limit : ℕ) (bytes : List ℕ) → header_size (take limit bytes) ≡ None → header_stop limit bytes ≡ Some (RefusedAt 0 Header)
 header_refused limit bytes none = ap (λ size. if is_some size then None else Some (RefusedAt 0 Header)) none
-

@@ -4,6 +4,7 @@ ghost use Rattle.std.specs.Prelude.{◌^◌, ◌≤◌};
 
 use crate::{Reader, Record, TraceError, Why, Writer, make_set, make_trace};
 use ra_io::{Failed, Files, PutFailed, SureFiles};
+use std::alloc::Global;
 use std::test::Fail;
 
 // A memory of 32 bytes: F, W 10=05, F, F, W 10=00, F, W 10=05, F, E.
@@ -67,10 +68,11 @@ fn a_write_of_most_bytes(rt: HostRuntime) -> Result<(), Fail> {
     Ok(())
 }
 
-// Files that give one byte a read.
+// Files that give this many bytes a read at most.
 #[derive(Drop)]
 struct SlowFiles {
     files: SureFiles,
+    most: usize,
 }
 
 impl Files for SlowFiles {
@@ -85,7 +87,7 @@ impl Files for SlowFiles {
     ghost put_faults = { λ _ _. 0 };
 
     fn read_at(&mut self, name: &str, at: u64, buf: &mut [u8]) -> Result<usize, Failed> {
-        let most = buf.len().min(1);
+        let most = buf.len().min(self.most.max(1));
         self.files.read_at(name, at, &mut buf[..most])
     }
 
@@ -94,50 +96,99 @@ impl Files for SlowFiles {
     }
 }
 
-#[test]
-fn the_worked_trace_is_read_byte_by_byte(rt: HostRuntime) -> Result<(), Fail> {
-    let mut files = SlowFiles {
-        files: SureFiles::new(rt.alloc())?,
-    };
+const WORKED_RECORDS: [(Record<'static>, u64); 9] = [
+    (Record::Frame, 9),
+    (
+        Record::Write {
+            at: 16,
+            bytes: &[5],
+        },
+        10,
+    ),
+    (Record::Frame, 18),
+    (Record::Frame, 19),
+    (
+        Record::Write {
+            at: 16,
+            bytes: &[0],
+        },
+        20,
+    ),
+    (Record::Frame, 28),
+    (
+        Record::Write {
+            at: 16,
+            bytes: &[5],
+        },
+        29,
+    ),
+    (Record::Frame, 37),
+    (Record::End, 38),
+];
+
+// Whether the worked trace is read as its size and its records, each at its place, from so many bytes a read.
+fn reads_worked(alloc: Global, most: usize) -> Result<bool, Fail> {
+    let files = SureFiles::new(alloc)?;
+    let mut files = SlowFiles { files, most };
     files.files.add("t", &WORKED)?;
-    let mut reader = Reader::open(rt.alloc(), "t", 39)?;
+    let mut reader = Reader::open(alloc, "t", 39)?;
     let Ok(size) = reader.header(&mut files) else {
-        return Err("a header")?;
+        return Ok(false);
     };
-    assert_eq!(rt; size, 32);
-    assert_eq!(rt; reader.place(), 0);
-    let records: [(Record, u64); 9] = [
-        (Record::Frame, 9),
-        (
-            Record::Write {
-                at: 16,
-                bytes: &[5],
-            },
-            10,
-        ),
-        (Record::Frame, 18),
-        (Record::Frame, 19),
-        (
-            Record::Write {
-                at: 16,
-                bytes: &[0],
-            },
-            20,
-        ),
-        (Record::Frame, 28),
-        (
-            Record::Write {
-                at: 16,
-                bytes: &[5],
-            },
-            29,
-        ),
-        (Record::Frame, 37),
-        (Record::End, 38),
-    ];
-    for (record, place) in records {
-        assert_eq!(rt; reader.next_record(&mut files), Ok(record));
-        assert_eq!(rt; reader.place(), place);
+    let mut same = size == 32 && reader.place() == 0;
+    for (record, place) in WORKED_RECORDS {
+        same = same && reader.next_record(&mut files) == Ok(record) && reader.place() == place;
+    }
+    Ok(same)
+}
+
+#[test]
+fn the_worked_trace_is_read_in_any_pieces(rt: HostRuntime) -> Result<(), Fail> {
+    for most in [1, 7, 65_536] {
+        assert!(rt; reads_worked(rt.alloc(), most)?, "{most} bytes a read");
+    }
+    Ok(())
+}
+
+// Three writes of the most bytes, a frame behind the first and the second.
+fn long_trace(alloc: Global) -> Result<Vec<u8>, Fail> {
+    let data = vec![in alloc; 5u8; 65535]?;
+    let mut writer = Writer::new(alloc, 131_072)?;
+    writer.write(0, &data)?;
+    writer.frame()?;
+    writer.write(0x10000, &data)?;
+    writer.frame()?;
+    writer.write(1, &data)?;
+    let bytes = writer.finish()?;
+    Ok(bytes)
+}
+
+// The places of the records of a trace up to its end, from so many bytes a read.
+fn places(alloc: Global, trace: &[u8], most: usize) -> Result<Vec<u64>, Fail> {
+    let files = SureFiles::new(alloc)?;
+    let mut files = SlowFiles { files, most };
+    files.files.add("t", trace)?;
+    let mut reader = Reader::open(alloc, "t", 1_099_511_627_776)?;
+    let mut places = Vec::new(alloc);
+    let Ok(_) = reader.header(&mut files) else {
+        return Ok(places);
+    };
+    for _ in 0..6 {
+        if reader.next_record(&mut files).is_ok() {
+            places.push(reader.place())?;
+        }
+    }
+    Ok(places)
+}
+
+// What is left of a record and a piece behind it may be more than there is room for.
+#[test]
+fn each_long_record_passes_the_front(rt: HostRuntime) -> Result<(), Fail> {
+    let trace = long_trace(rt.alloc())?;
+    for most in [1, 7, 65_535, 65_536] {
+        let found = places(rt.alloc(), &trace, most)?;
+        let wanted = [9, 65_551, 65_552, 131_094, 131_095, 196_637];
+        assert_eq!(rt; found.as_slice(), wanted.as_slice(), "{most} bytes a read");
     }
     Ok(())
 }
@@ -145,7 +196,7 @@ fn the_worked_trace_is_read_byte_by_byte(rt: HostRuntime) -> Result<(), Fail> {
 // The first answer of a file within a limit that is no record, behind this many frames.
 fn stops(rt: &HostRuntime, bytes: &[u8], limit: u64, frames: u32) -> Result<TraceError, Fail>
     requires least { 9 ≤ limit }
-    requires most { limit ≤ 2 ^ 24 }
+    requires most { limit ≤ 2 ^ 40 }
 {
     let mut files = SureFiles::new(rt.alloc())?;
     files.add("t", bytes)?;
