@@ -3,17 +3,17 @@ use Rattle.std.proofs.Common.{arith, ◌≡◌, ◌⊎◌, inl, inr, ap, sym, su
 use Rattle.std.specs.List.{concat, AllByRecursion}
 use Rattle.ra_io.specs.Causes.{Rose}
 use Rattle.ra_io.specs.Sink.{grown}
-use Rattle.ra_player.specs.Words.{Job, reads_of, puts_of, set_read, first_reads}
-use Rattle.ra_player.specs.JobWords.{job_of}
-use Rattle.ra_player.specs.Endings.{Ending, Done, NoMemory, NoJob, BadSet, ReadFault, SinkFault, BadProgress, BadTrace, LongTrace, SaveFault, status_of, last_line}
-use Rattle.ra_player.specs.Expected.{Expected, JobSays}
+use Rattle.ra_jobs.specs.Words.{Job, reads_of, puts_of, set_read, first_reads}
+use Rattle.ra_jobs.specs.JobWords.{job_of}
+use Rattle.ra_session.specs.Endings.{Ending, Done, NoMemory, NoJob, BadSet, ReadFault, SinkFault, BadProgress, BadTrace, LongTrace, SaveFault, status_of, last_line}
+use Rattle.ra_session.specs.Expected.{Expected, JobSays}
 use Rattle.ra_player.specs.Headline.{Outside, GrewBy, ReadsRose, PutsRose, SinkRose, PlaysAs, as_expected, no_memory}
-use Rattle.ra_player.specs.Closing.{Closes, Finishes, EndsBefore, ending_at}
-use Rattle.ra_player.specs.Running.{Ran, IsTold, deciding}
+use Rattle.ra_session.specs.Closing.{Closes, Finishes, EndsBefore, ending_at}
+use Rattle.ra_session.specs.Running.{Ran, IsTold, deciding}
 use Rattle.ra_player.specs.Statuses.{IsStatus, IsBadSet, IsBadProgress, IsBadTrace, EndsAsSaid, PlaysWords, Answers}
-use Rattle.ra_player.specs.declared.stop.Stop.{Stop}
-use Rattle.ra_player.specs.declared.stop.Stop.TheVariants as stop
-use Rattle.ra_player.proofs.Pieces.{grown-grown, grown-nil}
+use Rattle.ra_session.specs.declared.stop.Stop.{Stop}
+use Rattle.ra_session.specs.declared.stop.Stop.TheVariants as stop
+use Rattle.ra_session.proofs.Pieces.{grown-grown, grown-nil}
 use Rattle.ra_player.proofs.EndLemmas.{ends_with_line, no_job_ends}
 use Rattle.ra_player.proofs.WholeAnswers.{whole_of}
 
@@ -44,124 +44,50 @@ closes_in own line old new sink all status f (inr (inr fault)) = inr (inr (fault
 -- which ending has a status
 pub by_done : (P : Ending → Type 0) → P Done → (ending : Ending) → status_of ending ≡ 0 → P ending
 by_done P p Done is = p
-by_done P p NoMemory is = absurd (omega (arith, is))
-by_done P p NoJob is = absurd (omega (arith, is))
-by_done P p (BadSet why) is = absurd (omega (arith, is))
-by_done P p ReadFault is = absurd (omega (arith, is))
-by_done P p SinkFault is = absurd (omega (arith, is))
-by_done P p (BadProgress digest why) is = absurd (omega (arith, is))
-by_done P p (BadTrace at why) is = absurd (omega (arith, is))
-by_done P p LongTrace is = absurd (omega (arith, is))
-by_done P p SaveFault is = absurd (omega (arith, is))
+by_done P p _ is = absurd (omega (arith, is))
 
 by_set : (P : Ending → Type 0) → ((why : _) → P (BadSet why)) → (ending : Ending) → status_of ending ≡ 3 → P ending
-by_set P p Done is = absurd (omega (arith, is))
-by_set P p NoMemory is = absurd (omega (arith, is))
-by_set P p NoJob is = absurd (omega (arith, is))
 by_set P p (BadSet why) is = p why
-by_set P p ReadFault is = absurd (omega (arith, is))
-by_set P p SinkFault is = absurd (omega (arith, is))
-by_set P p (BadProgress digest why) is = absurd (omega (arith, is))
-by_set P p (BadTrace at why) is = absurd (omega (arith, is))
-by_set P p LongTrace is = absurd (omega (arith, is))
-by_set P p SaveFault is = absurd (omega (arith, is))
+by_set P p _ is = absurd (omega (arith, is))
 
 by_read : (P : Ending → Type 0) → P ReadFault → (ending : Ending) → status_of ending ≡ 4 → P ending
-by_read P p Done is = absurd (omega (arith, is))
-by_read P p NoMemory is = absurd (omega (arith, is))
-by_read P p NoJob is = absurd (omega (arith, is))
-by_read P p (BadSet why) is = absurd (omega (arith, is))
 by_read P p ReadFault is = p
-by_read P p SinkFault is = absurd (omega (arith, is))
-by_read P p (BadProgress digest why) is = absurd (omega (arith, is))
-by_read P p (BadTrace at why) is = absurd (omega (arith, is))
-by_read P p LongTrace is = absurd (omega (arith, is))
-by_read P p SaveFault is = absurd (omega (arith, is))
+by_read P p _ is = absurd (omega (arith, is))
 
 by_sink : (P : Ending → Type 0) → P SinkFault → (ending : Ending) → status_of ending ≡ 5 → P ending
-by_sink P p Done is = absurd (omega (arith, is))
-by_sink P p NoMemory is = absurd (omega (arith, is))
-by_sink P p NoJob is = absurd (omega (arith, is))
-by_sink P p (BadSet why) is = absurd (omega (arith, is))
-by_sink P p ReadFault is = absurd (omega (arith, is))
 by_sink P p SinkFault is = p
-by_sink P p (BadProgress digest why) is = absurd (omega (arith, is))
-by_sink P p (BadTrace at why) is = absurd (omega (arith, is))
-by_sink P p LongTrace is = absurd (omega (arith, is))
-by_sink P p SaveFault is = absurd (omega (arith, is))
+by_sink P p _ is = absurd (omega (arith, is))
 
 by_trace : (P : Ending → Type 0) → ((at : ℕ) (why : _) → P (BadTrace at why)) → (ending : Ending) → status_of ending ≡ 7 → P ending
-by_trace P p Done is = absurd (omega (arith, is))
-by_trace P p NoMemory is = absurd (omega (arith, is))
-by_trace P p NoJob is = absurd (omega (arith, is))
-by_trace P p (BadSet why) is = absurd (omega (arith, is))
-by_trace P p ReadFault is = absurd (omega (arith, is))
-by_trace P p SinkFault is = absurd (omega (arith, is))
-by_trace P p (BadProgress digest why) is = absurd (omega (arith, is))
 by_trace P p (BadTrace at why) is = p at why
-by_trace P p LongTrace is = absurd (omega (arith, is))
-by_trace P p SaveFault is = absurd (omega (arith, is))
+by_trace P p _ is = absurd (omega (arith, is))
 
 by_long : (P : Ending → Type 0) → P LongTrace → (ending : Ending) → status_of ending ≡ 8 → P ending
-by_long P p Done is = absurd (omega (arith, is))
-by_long P p NoMemory is = absurd (omega (arith, is))
-by_long P p NoJob is = absurd (omega (arith, is))
-by_long P p (BadSet why) is = absurd (omega (arith, is))
-by_long P p ReadFault is = absurd (omega (arith, is))
-by_long P p SinkFault is = absurd (omega (arith, is))
-by_long P p (BadProgress digest why) is = absurd (omega (arith, is))
-by_long P p (BadTrace at why) is = absurd (omega (arith, is))
 by_long P p LongTrace is = p
-by_long P p SaveFault is = absurd (omega (arith, is))
+by_long P p _ is = absurd (omega (arith, is))
 
 by_progress : (P : Ending → Type 0) → ((digest : _) (why : _) → P (BadProgress digest why)) → (ending : Ending) → status_of ending ≡ 6 → P ending
-by_progress P p Done is = absurd (omega (arith, is))
-by_progress P p NoMemory is = absurd (omega (arith, is))
-by_progress P p NoJob is = absurd (omega (arith, is))
-by_progress P p (BadSet why) is = absurd (omega (arith, is))
-by_progress P p ReadFault is = absurd (omega (arith, is))
-by_progress P p SinkFault is = absurd (omega (arith, is))
 by_progress P p (BadProgress digest why) is = p digest why
-by_progress P p (BadTrace at why) is = absurd (omega (arith, is))
-by_progress P p LongTrace is = absurd (omega (arith, is))
-by_progress P p SaveFault is = absurd (omega (arith, is))
+by_progress P p _ is = absurd (omega (arith, is))
 
 by_save : (P : Ending → Type 0) → P SaveFault → (ending : Ending) → status_of ending ≡ 9 → P ending
-by_save P p Done is = absurd (omega (arith, is))
-by_save P p NoMemory is = absurd (omega (arith, is))
-by_save P p NoJob is = absurd (omega (arith, is))
-by_save P p (BadSet why) is = absurd (omega (arith, is))
-by_save P p ReadFault is = absurd (omega (arith, is))
-by_save P p SinkFault is = absurd (omega (arith, is))
-by_save P p (BadProgress digest why) is = absurd (omega (arith, is))
-by_save P p (BadTrace at why) is = absurd (omega (arith, is))
-by_save P p LongTrace is = absurd (omega (arith, is))
 by_save P p SaveFault is = p
+by_save P p _ is = absurd (omega (arith, is))
 
 -- the endings of a run
 pub run_status : (r : Result (Unit {0}) Stop) → IsStatus (status_of (ending_at r)) × (status_of (ending_at r) ≡ 2 → ⊥)
 run_status (Ok done) = (omega arith, λ two. omega arith)
 run_status (Err stop.Memory) = (omega arith, λ two. omega arith)
-run_status (Err (stop.Set why)) = (omega arith, λ two. omega arith)
-run_status (Err (stop.Progress digest why)) = (omega arith, λ two. omega arith)
-run_status (Err stop.Read) = (omega arith, λ two. omega arith)
-run_status (Err stop.Write) = (omega arith, λ two. omega arith)
-run_status (Err (stop.Trace at why)) = (omega arith, λ two. omega arith)
-run_status (Err stop.TooLong) = (omega arith, λ two. omega arith)
-run_status (Err stop.Save) = (omega arith, λ two. omega arith)
+run_status (Err _) = (omega arith, λ two. omega arith)
 
 -- a job whose ending the files tell has printed all that it says
 told_text : (e : Expected) (reads puts sink : Type 0) (ending : Ending) (old mid : Option (List ℕ)) → IsTold ending → EndsBefore e reads puts sink ending old mid → mid ≡ grown old (concat e.pieces)
-told_text e reads puts sink Done old mid is before = before.1
 told_text e reads puts sink NoMemory old mid is before = absurd is
 told_text e reads puts sink NoJob old mid is before = absurd is
-told_text e reads puts sink (BadSet why) old mid is before = before.1
 told_text e reads puts sink ReadFault old mid is before = absurd is
 told_text e reads puts sink SinkFault old mid is before = absurd is
-told_text e reads puts sink (BadProgress digest why) old mid is before = before.1
-told_text e reads puts sink (BadTrace at why) old mid is before = before.1
-told_text e reads puts sink LongTrace old mid is before = before.1
 told_text e reads puts sink SaveFault old mid is before = absurd is
+told_text e reads puts sink _ old mid is before = before.1
 
 pub some_job : (job : Job) → None ≡ Some job → ⊥
 some_job job is = absurd (cc)
@@ -301,16 +227,8 @@ ran_in content job reads puts sink all ending old mid f ran = record {
 }
   where
     ends_in : (e : Expected) (reads puts sink all : Type 0) (ending : Ending) (old mid : Option (List ℕ)) → (sink → all) → EndsBefore e reads puts sink ending old mid → EndsBefore e reads puts all ending old mid
-    ends_in e reads puts sink all Done old mid f h = h
-    ends_in e reads puts sink all NoMemory old mid f h = h
-    ends_in e reads puts sink all NoJob old mid f h = h
-    ends_in e reads puts sink all (BadSet why) old mid f h = h
-    ends_in e reads puts sink all ReadFault old mid f h = h
     ends_in e reads puts sink all SinkFault old mid f h = (f h.0, h.1)
-    ends_in e reads puts sink all (BadProgress digest why) old mid f h = h
-    ends_in e reads puts sink all (BadTrace at why) old mid f h = h
-    ends_in e reads puts sink all LongTrace old mid f h = h
-    ends_in e reads puts sink all SaveFault old mid f h = h
+    ends_in e reads puts sink all _ old mid f h = h
 
 pub finishes_in : (ending : Ending) (old new : Option (List ℕ)) (sink all : Type 0) (status : ℕ) → (sink → all) → Finishes ending old new sink status → Finishes ending old new all status
 finishes_in ending old new sink all status f h = closes_in (status_of ending) (last_line ending) old new sink all status f h

@@ -2,17 +2,17 @@
 use Rattle.std.proofs.Common.{arith, ◌≡◌, ◌≢◌, inl, inr, ap, sym, subst, refl, ◌∙◌, ℕ, List, Option, Some, None, Result, Ok, Err, OnOk}
 use Rattle.std.specs.List.{AllByRecursion}
 use Rattle.ra_io.specs.Files.{SameContent}
-use Rattle.ra_player.specs.Words.{Job, puts_of, puts_in}
-use Rattle.ra_player.specs.JobWords.{job_of}
-use Rattle.ra_player.specs.Endings.{Ending, Done, status_of, last_line}
-use Rattle.ra_player.specs.Expected.{JobSays}
+use Rattle.ra_jobs.specs.Words.{Job, puts_of, puts_in}
+use Rattle.ra_jobs.specs.JobWords.{job_of}
+use Rattle.ra_session.specs.Endings.{Ending, Done, status_of, last_line}
+use Rattle.ra_session.specs.Expected.{JobSays}
 use Rattle.ra_player.specs.Headline.{Outside, PutsRose}
-use Rattle.ra_player.specs.Closing.{Finishes, ending_at}
-use Rattle.ra_player.specs.Running.{Leaves, HasSaved}
+use Rattle.ra_session.specs.Closing.{Finishes, ending_at}
+use Rattle.ra_session.specs.Running.{Leaves, HasSaved}
 use Rattle.ra_player.specs.Statuses.{LeavesFiles}
-use Rattle.ra_player.specs.declared.stop.Stop.{Stop}
+use Rattle.ra_session.specs.declared.stop.Stop.{Stop}
 use Rattle.ra_player.proofs.AnswerLemmas.{by_done, own_line}
-use Rattle.ra_player.proofs.StopLemmas.{stop_not_done}
+use Rattle.ra_session.proofs.StopLemmas.{stop_not_done}
 
 -- a call that left every name as it was
 pub leaves_same : (words : List (List ℕ)) (old new : Outside) (status : ℕ) → SameContent old.content new.content → ((job : Job) → job_of words ≡ Some job → status ≡ 0 → ⊥) → LeavesFiles words old new status

@@ -2,8 +2,8 @@
 use Rattle.std.proofs.Common.{◌≡◌, ◌⊎◌, inl, inr, ap, refl, ◌∙◌, ℕ, List, ◌++◌}
 use Rattle.std.specs.List.{concat}
 use Rattle.ra_io.specs.Sink.{grown}
-use Rattle.ra_player.specs.Endings.{Ending, status_of, last_line}
-use Rattle.ra_player.specs.Expected.{Expected}
+use Rattle.ra_session.specs.Endings.{Ending, status_of, last_line}
+use Rattle.ra_session.specs.Expected.{Expected}
 use Rattle.ra_player.specs.Headline.{Outside, Decides, as_expected, save_failed, read_failed, Ends, whole, sink_failed, no_memory}
 use Rattle.ra_player.specs.Statuses.{PlaysWords, IsWhole}
 

@@ -1,11 +1,11 @@
--- What a call of `play` leaves, by its status.
+-- What a call of `play` leaves, by its status: docs/DEFINITIONS.md, "What each status says".
 use Rattle.std.specs.Prelude.{◌≡◌, ℕ, Option, List, ◌++◌, take, Any}
 use Rattle.std.specs.List.{concat}
 use Rattle.ra_io.specs.Causes.{Rose}
 use Rattle.ra_io.specs.Sink.{grown}
-use Rattle.ra_player.specs.Words.{Job, reads_of, puts_of}
-use Rattle.ra_player.specs.Endings.{Ending, Done, NoJob, ReadFault, SaveFault, status_of, last_line}
-use Rattle.ra_player.specs.Expected.{Expected, IsReadBehind, prints_nothing}
+use Rattle.ra_jobs.specs.Words.{Job, reads_of, puts_of}
+use Rattle.ra_session.specs.Endings.{Ending, Done, NoJob, ReadFault, SaveFault, status_of, last_line}
+use Rattle.ra_session.specs.Expected.{Expected, IsReadBehind, prints_nothing}
 
 -- what is seen of the files and the sink
 pub record Outside : Type 0 where
@@ -60,7 +60,7 @@ PlaysAs job e old new status =
     (more : List ℕ) × GrewBy old new more
     × Ends e (ReadsRose (reads_of job) old new) (PutsRose (puts_of job) old new) (SinkRose old new) status more
 
--- Words that are no job.
+-- The words are no job: the text is the usage line, or a front of it.
 abbrev pub RefusesWords : Outside → Outside → ℕ → Type 0
 RefusesWords old new status =
     (more : List ℕ) × GrewBy old new more × Ends (prints_nothing NoJob) ⊥ ⊥ (SinkRose old new) status more

@@ -1,15 +1,2 @@
-pub mod Reading
-pub mod Writing
-pub mod Words
-pub mod Endings
-pub mod Expected
 pub mod Headline
 pub mod Statuses
-pub mod Closing
-pub mod Running
-pub mod Making
-pub mod Playing
-pub mod Loading
-pub mod JobCommand
-pub mod JobWords
-pub mod RunFiles

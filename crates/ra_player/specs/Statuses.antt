@@ -1,15 +1,15 @@
--- What each status of a call of `play` says: docs/DEFINITIONS.md, "Statuses".
+-- What each status of a call of `play` says: docs/DEFINITIONS.md, "What each status says".
 use Rattle.std.specs.Prelude.{◌≡◌, ◌≢◌, ◌⊎◌, ◌≤◌, ℕ, None, Some, List, ◌++◌}
 use Rattle.std.specs.List.{concat, AllByRecursion}
 use Rattle.ra_io.specs.Files.{SameContent}
-use Rattle.ra_player.specs.Words.{Job, reads_of, puts_of, puts_in, set_read, first_reads}
-use Rattle.ra_player.specs.JobWords.{job_of}
-use Rattle.ra_player.specs.Endings.{Ending, Done, NoJob, BadSet, BadProgress, BadTrace, LongTrace, status_of, last_line}
-use Rattle.ra_player.specs.Expected.{Expected, JobSays}
-use Rattle.ra_player.specs.Running.{AreTold, HasSaved}
+use Rattle.ra_jobs.specs.Words.{Job, reads_of, puts_of, puts_in, set_read, first_reads}
+use Rattle.ra_jobs.specs.JobWords.{job_of}
+use Rattle.ra_session.specs.Endings.{Ending, Done, NoJob, BadSet, BadProgress, BadTrace, LongTrace, status_of, last_line}
+use Rattle.ra_session.specs.Expected.{Expected, JobSays}
+use Rattle.ra_session.specs.Running.{AreTold, HasSaved}
 use Rattle.ra_player.specs.Headline.{Outside, GrewBy, ReadsRose, PutsRose, SinkRose, PlaysAs, RefusesWords}
 
--- the statuses so far
+-- the statuses that a call of `play` may answer
 abbrev pub IsStatus : ℕ → Type 0
 IsStatus s = s ≤ 9
 

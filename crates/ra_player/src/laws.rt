@@ -4,7 +4,7 @@ ghost use Rattle.std.specs.Prelude.{ℕ};
 ghost use Rattle.ra_set.specs.Accepted.{IsSet};
 ghost use Rattle.ra_set.specs.Contents.{SetContents};
 ghost use Rattle.ra_trace.specs.Workload.{made_set};
-ghost use Rattle.ra_player.specs.Expected.{Expected, MakeSays};
+ghost use Rattle.ra_session.specs.Expected.{Expected, MakeSays};
 
 /// The set of every workload is accepted, and so it keeps each limit; and `make` says something of every number:
 /// docs/DEFINITIONS.md, "Workload".

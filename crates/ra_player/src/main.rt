@@ -1,30 +1,10 @@
 //! The player: plays a trace against a set, and prints what happens.
 #![tactic(auto)]
 
-mod beginning;
-mod check_line;
-mod closing;
-mod counts;
-#[cfg(test)]
-mod file_tests;
-mod job_words;
-#[cfg(test)]
-mod large_tests;
 mod laws;
-mod loading;
-mod make;
 mod play;
-mod player;
-mod playing;
-#[cfg(test)]
-mod presence_tests;
-mod reading;
-mod run;
-mod run_files;
-mod stop;
 #[cfg(test)]
 mod tests;
-mod writing;
 
 use play::play;
 use ra_io::{RealFiles, RealSink};

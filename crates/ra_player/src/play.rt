@@ -4,12 +4,9 @@ ghost use Rattle.std.specs.Prelude.{map, string_bytes};
 ghost use Rattle.ra_player.specs.Headline.{outside_of};
 ghost use Rattle.ra_player.specs.Statuses.{Answers, LeavesFiles};
 
-use crate::closing::{finish, put_last};
-use crate::job_words::{Job, read_job};
-use crate::make::make_job;
-use crate::run::{check_job, run_job};
-use crate::run_files::RunFiles;
 use ra_io::{Files, Sink};
+use ra_jobs::{Job, read_job};
+use ra_session::{RunFiles, check_job, finish, make_job, put_last, run_job};
 use std::alloc::Global;
 
 const USAGE: &str =

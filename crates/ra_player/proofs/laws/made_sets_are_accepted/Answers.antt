@@ -1,6 +1,6 @@
-use Rattle.ra_player.specs.Expected.{made}
-use Rattle.ra_player.proofs.MadeLimits.{made_contents}
-use Rattle.ra_player.proofs.MadeSet.{made_set_is_accepted}
+use Rattle.ra_session.specs.Expected.{made}
+use Rattle.ra_session.proofs.MadeLimits.{made_contents}
+use Rattle.ra_session.proofs.MadeSet.{made_set_is_accepted}
 use Rattle.ra_player.proofs.laws.made_sets_are_accepted.Goals as goal
 
 pub returns-clause-set : goal.returns-clause-set

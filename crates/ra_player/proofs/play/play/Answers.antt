@@ -1,12 +1,12 @@
-use Rattle.std.proofs.Common.{sym, ap, arith, refl, None, Some, option_map, ◌∙◌}
-use Rattle.ra_player.specs.Closing.{ending_at}
-use Rattle.ra_player.specs.JobWords.{job_contents}
-use Rattle.ra_player.specs.RunFiles.{run_of}
-use Rattle.ra_player.specs.Words.{Check, Make}
+use Rattle.std.proofs.Common.{sym, ap, arith, refl, Some, option_map, ◌∙◌}
+use Rattle.ra_session.specs.Closing.{ending_at}
+use Rattle.ra_jobs.specs.JobWords.{job_contents}
+use Rattle.ra_session.specs.RunFiles.{run_of}
+use Rattle.ra_jobs.specs.Words.{Check, Make}
 use Rattle.ra_player.proofs.AnswerLemmas.{answers_no_job, answers_no_memory, answers_job, run_status, ran_in, finishes_in}
-use Rattle.ra_player.proofs.JobLemmas.{leaves_none}
+use Rattle.ra_session.proofs.JobLemmas.{leaves_none}
 use Rattle.ra_player.proofs.LeavesLemmas.{leaves_no_job, leaves_no_memory, leaves_job}
-use Rattle.ra_player.proofs.MakeLemmas.{ran_with_faults}
+use Rattle.ra_session.proofs.MakeLemmas.{ran_with_faults}
 use Rattle.ra_player.proofs.play.play.Goals as goal
 
 pub returns-in-Ok-None-clause-answers : goal.returns-in-Ok-None-clause-answers

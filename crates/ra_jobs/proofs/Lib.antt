@@ -1,0 +1,9 @@
+pub mod BothShape
+pub mod CheckShape
+pub mod CommandLemmas
+pub mod MakeShape
+pub mod NumberWords
+pub mod RestoreShape
+pub mod RunShape
+pub mod SaveShape
+pub mod Shapes

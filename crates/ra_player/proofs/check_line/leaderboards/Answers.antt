@@ -1,7 +1,0 @@
-use Rattle.std.proofs.Common.{rules}
-use Rattle.ra_player.proofs.CountLemmas.{boards_counted}
-use Rattle.ra_player.proofs.check_line.leaderboards.Goals as goal
-
-pub returns : goal.returns
-returns c =
-    boards_counted c.args.items.now c.loop-item.item-index c.loop-item.count (search rules) c.loop-item.invariant.0

@@ -1,0 +1,122 @@
+-- What a job prints, how it ends and what it saves, where nothing fails: docs/DEFINITIONS.md, "A run".
+use Rattle.std.specs.Prelude.{◌≡◌, ℕ, ◌+◌, ◌^◌, ◌<◌, ◌≤◌, ◌==◌, Bool, Option, None, Some, List, [], ◌∷◌, ◌++◌, length, take, codes, decimal, count_by, bytes_eq}
+use Rattle.std.specs.List.{join_with_byte, slice_split, concat}
+use Rattle.md5.specs.Md5.{md5}
+use Rattle.ra_set.specs.declared.refused.SetRefused.{SetRefused}
+use Rattle.ra_set.specs.Contents.{SetContents, ItemContents, Unlocks, Ranks}
+use Rattle.ra_set.specs.Limits.{set_conditions}
+use Rattle.ra_memory.specs.Image.{History, AreImages}
+use Rattle.ra_progress.specs.Contents.{Opening, IsOpening}
+use Rattle.ra_progress.specs.Spelling.{progress_bytes}
+use Rattle.ra_progress.specs.Reading.{length_of, refusal}
+use Rattle.ra_trace.specs.Entries.{Entry}
+use Rattle.ra_trace.specs.Cutting.{no_slots, trace_within}
+use Rattle.ra_trace.specs.Workload.{made_set, made_trace}
+use Rattle.ra_runtime.specs.Order.{set_cells, set_tracked, shape_of}
+use Rattle.ra_runtime.specs.Openings.{snapshot, plain_opening}
+use Rattle.ra_runtime.specs.Play.{Moment, moved, printed, first_moment, behind_end}
+use Rattle.ra_progress.specs.declared.refused.ProgressRefused.{ProgressRefused}
+use Rattle.ra_set.specs.Accepted.{IsSet}
+use Rattle.ra_set.specs.Refusals.{Refuses}
+use Rattle.ra_jobs.specs.Words.{Job, Run, Check, Make}
+use Rattle.ra_session.specs.Endings.{Ending, Done, BadSet, BadProgress, ending_of, hex}
+
+-- what a job says where nothing fails
+pub record Expected : Type 0 where
+  -- what each record prints, in order
+  pub pieces : List (List ℕ)
+  pub ending : Ending
+  -- the progress file at the end record
+  pub saved : List ℕ
+
+-- Behind so many records a read may come: there are as many, and the end record, behind which nothing is read, is not
+-- among them.
+pub record IsReadBehind (e : Expected) (records : ℕ) : Type 0 where
+  pub there : records ≤ length e.pieces
+  pub before_end : e.ending ≡ Done → records < length e.pieces
+
+-- a job that ends before it prints
+abbrev pub prints_nothing : Ending → Expected
+prints_nothing ending = record { pieces = []; ending = ending; saved = [] }
+
+-- the most bytes that a run takes of a trace
+abbrev pub trace_limit : ℕ
+trace_limit = 2 ^ 24
+
+-- the most bytes of a set
+abbrev pub set_limit : ℕ
+set_limit = 4194304
+
+-- what each of these records prints, played one after the other from a moment on
+abbrev pub pieces_from : SetContents → Opening → Moment → List Entry → List (List ℕ)
+pieces_from set o m [] = []
+pieces_from set o m (entry ∷ entries) =
+    printed set o entry (moved entry m) ∷ pieces_from set o (moved entry m) entries
+
+-- a run of a set over a trace file, where an opening and some frames lie before the first record
+abbrev pub played : SetContents → Opening → History → List ℕ → Expected
+played set o behind bytes =
+    let trace = trace_within trace_limit no_slots bytes in
+    record {
+      pieces = pieces_from set o (first_moment trace.size behind) trace.entries;
+      ending = ending_of trace.stop;
+      saved = progress_bytes set.digest (snapshot set o (behind_end behind trace.size trace.entries));
+    }
+
+-- What a run of these files says, where their bytes are told: it begins with the plain opening, or goes on from a
+-- progress file, for every opening and history that the file keeps.
+pub data RunSays (content : List ℕ → Option (List ℕ)) (set trace : List ℕ) : Option (List ℕ) → Expected → Type 0 where
+  refuses_set : {restore : Option (List ℕ)} (file : List ℕ) (why : SetRefused) → content set ≡ Some file
+      → Refuses (take (set_limit + 1) file) why → RunSays content set trace restore (prints_nothing (BadSet why))
+  refuses_file : (name set_file file : List ℕ) (s : SetContents) (why : ProgressRefused) → content set ≡ Some set_file → content name ≡ Some file
+      → IsSet set_file s → refusal (shape_of s) (take (length_of (shape_of s) + 1) file) ≡ Some why → RunSays content set trace (Some name) (prints_nothing (BadProgress s.digest why))
+  begins : (set_file trace_file : List ℕ) (s : SetContents) → content set ≡ Some set_file → content trace ≡ Some trace_file
+      → IsSet set_file s → RunSays content set trace None (played s (plain_opening s) [] trace_file)
+  goes_on : (name set_file trace_file : List ℕ) (s : SetContents) (o : Opening) (behind : History) → content set ≡ Some set_file → content trace ≡ Some trace_file
+      → content name ≡ Some (progress_bytes s.digest (snapshot s o behind)) → IsSet set_file s → IsOpening (shape_of s) o → AreImages behind
+      → RunSays content set trace (Some name) (played s o behind trace_file)
+
+-- how many achievements a set has
+abbrev pub achievements_in : List ItemContents → ℕ
+achievements_in [] = 0
+achievements_in (Unlocks id t ∷ items) = achievements_in items + 1
+achievements_in (Ranks id format b ∷ items) = achievements_in items
+
+-- how many leaderboards a set has
+abbrev pub boards_in : List ItemContents → ℕ
+boards_in [] = 0
+boards_in (Unlocks id t ∷ items) = boards_in items
+boards_in (Ranks id format b ∷ items) = boards_in items + 1
+
+-- the line of `check`
+abbrev pub check_line : SetContents → List ℕ
+check_line set =
+    join_with_byte 32 (codes "achievements" ∷ decimal (achievements_in set.items) ∷ codes "leaderboards" ∷ decimal (boards_in set.items)
+    ∷ codes "conditions" ∷ decimal (set_conditions set) ∷ codes "cells" ∷ decimal (length (set_cells set))
+    ∷ codes "priors" ∷ decimal (length (set_tracked set)) ∷ codes "md5" ∷ hex set.digest ∷ []) ++ 10 ∷ []
+
+-- What `check` of this file says, where its bytes are told.
+pub data CheckSays (content : List ℕ → Option (List ℕ)) (set : List ℕ) : Expected → Type 0 where
+  refuses_set : (file : List ℕ) (why : SetRefused) → content set ≡ Some file → Refuses (take (set_limit + 1) file) why → CheckSays content set (prints_nothing (BadSet why))
+  counts : (file : List ℕ) (s : SetContents) → content set ≡ Some file → IsSet file s → CheckSays content set (record { pieces = check_line s ∷ []; ending = Done; saved = [] })
+
+-- a line of an unlock
+abbrev pub is_unlock : List ℕ → Bool
+is_unlock line = bytes_eq (take 7 line) (codes "unlock ")
+
+-- the line of `make`: the lines of a text, those of unlocks, and its digest
+abbrev pub make_line : ℕ → List ℕ → List ℕ
+make_line number text =
+    join_with_byte 32 (codes "made" ∷ decimal number ∷ codes "lines" ∷ decimal (count_by (λ c. c == 10) text)
+    ∷ codes "unlocks" ∷ decimal (count_by is_unlock (slice_split (λ c. c == 10) text))
+    ∷ codes "md5" ∷ hex (md5 text) ∷ []) ++ 10 ∷ []
+
+-- What `make` of a number says.
+pub data MakeSays (number : ℕ) : Expected → Type 0 where
+  made : (s : SetContents) → IsSet (made_set number) s → MakeSays number (record { pieces = make_line number (concat (played s (plain_opening s) [] (made_trace number)).pieces) ∷ []; ending = Done; saved = [] })
+
+-- what a job says over files whose bytes are told
+abbrev pub JobSays : (content : List ℕ → Option (List ℕ)) → Job → Expected → Type 0
+JobSays content (Run set trace restore save) e = RunSays content set trace restore e
+JobSays content (Check set) e = CheckSays content set e
+JobSays content (Make number) e = MakeSays number e

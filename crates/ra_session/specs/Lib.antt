@@ -1,0 +1,10 @@
+pub mod Reading
+pub mod Writing
+pub mod Endings
+pub mod Expected
+pub mod Closing
+pub mod Running
+pub mod Making
+pub mod Playing
+pub mod Loading
+pub mod RunFiles

@@ -1,0 +1,123 @@
+-- What a player keeps at a moment of a trace: docs/DEFINITIONS.md, "Save slots".
+use Rattle.std.specs.Prelude.{◌≡◌, ℕ, suc, ◌≤◌, ⊤, nat_le, Bool, true, false, Result, Ok, Err, Option, None, Some, is_some, option_map, List, [], ◌∷◌, length, map, slice_index_or}
+use Rattle.std.specs.Global.{Vec}
+use Rattle.ra_io.specs.Sink.{grown}
+use Rattle.ra_memory.specs.Image.{History, AreBytes, AreImages}
+use Rattle.ra_progress.specs.Contents.{Opening, IsOpening}
+use Rattle.ra_progress.specs.Laws.{IsDigest}
+use Rattle.ra_progress.specs.Spelling.{progress_bytes}
+use Rattle.ra_set.specs.Contents.{SetContents}
+use Rattle.ra_set.specs.Limits.{IsWithinLimits}
+use Rattle.ra_set.specs.Spelled.{IsSpelled}
+use Rattle.ra_trace.specs.Entries.{Entry, Restored, Ended}
+use Rattle.ra_trace.specs.Cutting.{Pieces, Reached, cut, with_entry, stop_within}
+use Rattle.ra_trace.specs.Reading.{ReaderSeen, Holds, seen_from}
+use Rattle.ra_runtime.specs.Runtime.{RuntimeSeen, TakesUp}
+use Rattle.ra_runtime.specs.Order.{shape_of}
+use Rattle.ra_runtime.specs.Openings.{snapshot}
+use Rattle.ra_runtime.specs.Play.{Moment, moved, printed}
+use Rattle.ra_session.specs.Endings.{ending_of}
+use Rattle.ra_session.specs.Expected.{Expected, pieces_from, trace_limit}
+use Rattle.ra_session.specs.Closing.{EndsBefore, ending_of_stop}
+use Rattle.ra_session.specs.declared.stop.Stop.{Stop}
+use Rattle.ra_session.specs.declared.stop.Stop.TheVariants as stop
+
+-- a set that a runtime can be made for: it is within the limits, and some file spells it
+pub record IsPlayable (set : SetContents) : Type 0 where
+  pub limits : IsWithinLimits set
+  pub spelled : IsSpelled set
+  pub digest : IsDigest set.digest
+
+-- a slot holds the progress bytes of the frames that it has kept, and nothing where it is empty
+abbrev pub HoldsKept : SetContents → Opening → Option History → Option (List ℕ) → Type 0
+HoldsKept set o None None = Unit {0}
+HoldsKept set o (Some kept) (Some bytes) = AreImages kept × (bytes ≡ progress_bytes set.digest (snapshot set o kept))
+HoldsKept set o _ _ = ⊥
+
+-- each slot holds what it has kept
+abbrev pub HoldEachKept : SetContents → Opening → List (Option History) → List (Option (List ℕ)) → Type 0
+HoldEachKept set o [] [] = Unit {0}
+HoldEachKept set o (kept ∷ more) (bytes ∷ slots) = HoldsKept set o kept bytes × HoldEachKept set o more slots
+HoldEachKept set o _ _ = ⊥
+
+-- A runtime and the slots stand at a moment: the image is the moment's, and what is kept is what the frames behind it leave.
+pub record StandsAt (set : SetContents) (o : Opening) (m : Moment) (runtime : RuntimeSeen) (slots : List (Option (List ℕ))) : Type 0 where
+  pub same : runtime.set ≡ set
+  pub playable : IsPlayable set
+  pub opening : IsOpening (shape_of set) o
+  pub image : runtime.image ≡ m.image
+  pub bytes : AreBytes m.image
+  pub behind : AreImages m.behind
+  pub kept : runtime.kept ≡ snapshot set o m.behind
+  pub held : HoldEachKept set o m.slots slots
+
+-- a runtime takes up progress bytes, and stays as it is where there are none
+abbrev pub TakesUpFrom : Option (List ℕ) → RuntimeSeen → RuntimeSeen → Type 0
+TakesUpFrom None old new = new ≡ old
+TakesUpFrom (Some bytes) old new = TakesUp old new bytes
+
+-- the progress bytes of what a runtime keeps
+abbrev pub kept_bytes : RuntimeSeen → List ℕ
+kept_bytes runtime = progress_bytes runtime.set.digest runtime.kept
+
+-- the bytes in each slot
+abbrev pub slots_of : List (Option (Vec ℕ)) → List (Option (List ℕ))
+slots_of slots = map (option_map (λ bytes. bytes.items)) slots
+
+-- the record is a restore of a slot that is empty at the moment
+abbrev pub TakesEmpty : Entry → Moment → Type 0
+TakesEmpty (Restored slot) m = slice_index_or m.slots slot None ≡ None
+TakesEmpty _ m = ⊥
+
+-- A record takes the player to the moment after it, and prints what the set does there.
+pub record Plays (set : SetContents) (o : Opening) (entry : Entry) (m : Moment) (runtime : RuntimeSeen) (slots : List (Option (List ℕ))) (text : List ℕ) : Type 0 where
+  pub filled : TakesEmpty entry m → ⊥
+  pub stands : StandsAt set o (moved entry m) runtime slots
+  pub prints : text ≡ printed set o entry (moved entry m)
+
+-- what a trace says from a moment on, where these records are left of it
+abbrev pub says_from : (bytes : List ℕ) → SetContents → Opening → Moment → Pieces → Expected
+says_from bytes set o m left = record {
+  pieces = pieces_from set o m left.entries;
+  ending = ending_of (stop_within (nat_le trace_limit (length bytes)) left.stop);
+  saved = [];
+}
+
+-- These records are left of the trace at a moment, from where the reader stands.
+pub record IsLeft (bytes : List ℕ) (m : Moment) (reader : ReaderSeen) (left : Pieces) : Type 0 where
+  pub size : ℕ
+  pub sized : reader.size ≡ Some size
+  pub limit : reader.limit ≡ trace_limit
+  pub holds : Holds reader bytes
+  pub more : ℕ
+  pub enough : length (seen_from trace_limit reader.next bytes) ≤ more
+  pub is : left ≡ cut (suc more) size (map is_some m.slots) reader.next (seen_from trace_limit reader.next bytes)
+
+-- One record of those that are left was played, and it was not the end.
+pub record GoesOn (bytes : List ℕ) (set : SetContents) (o : Opening) (m : Moment) (left : Pieces) (reader : ReaderSeen) (runtime : RuntimeSeen) (slots : List (Option (List ℕ))) (old new : Option (List ℕ)) : Type 0 where
+  pub entry : Entry
+  pub rest : Pieces
+  pub first : left ≡ with_entry entry rest
+  pub behind : IsLeft bytes (moved entry m) reader rest
+  pub stands : StandsAt set o (moved entry m) runtime slots
+  pub text : new ≡ grown old (printed set o entry (moved entry m))
+
+-- The end record was played: nothing is left behind it.
+pub record IsAtEnd (set : SetContents) (o : Opening) (m : Moment) (left : Pieces) (runtime : RuntimeSeen) (slots : List (Option (List ℕ))) (old new : Option (List ℕ)) : Type 0 where
+  pub at : ℕ
+  pub last : left ≡ record { entries = Ended ∷ []; stop = Reached at }
+  pub stands : StandsAt set o m runtime slots
+  pub text : new ≡ old
+
+-- what reading and playing the next record does: it goes on, it was the end, or it stops as the trace says
+abbrev pub TakesNext : (bytes : List ℕ) → SetContents → Opening → Moment → Pieces → ReaderSeen → RuntimeSeen → List (Option (List ℕ)) → (old new : Option (List ℕ)) → Result Bool Stop → Type 0
+TakesNext bytes set o m left reader runtime slots old new (Ok true) = IsAtEnd set o m left runtime slots old new
+TakesNext bytes set o m left reader runtime slots old new (Ok false) = GoesOn bytes set o m left reader runtime slots old new
+TakesNext bytes set o m left reader runtime slots old new (Err stop) = EndsBefore (says_from bytes set o m left) ⊤ ⊤ ⊤ (ending_of_stop stop) old new
+
+-- the stop is none of a set, of a progress file, or of a put
+abbrev pub IsOfTrace : Stop → Type 0
+IsOfTrace (stop.Set why) = ⊥
+IsOfTrace (stop.Progress digest why) = ⊥
+IsOfTrace stop.Save = ⊥
+IsOfTrace _ = ⊤

@@ -1,0 +1,23 @@
+//! A job from its files to its last line: a set is loaded, a trace played, a progress file put, a set counted, and a
+//! workload made.
+#![tactic(auto)]
+
+mod beginning;
+mod check_line;
+mod closing;
+mod counts;
+mod loading;
+mod make;
+mod player;
+mod playing;
+mod reading;
+mod run;
+mod run_files;
+mod stop;
+mod writing;
+
+pub use closing::{finish, put_last};
+pub use make::make_job;
+pub use run::{check_job, run_job};
+pub use run_files::RunFiles;
+pub use stop::Stop;

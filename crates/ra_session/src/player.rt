@@ -1,0 +1,173 @@
+//! A runtime that plays the records of a trace.
+
+ghost use Rattle.std.specs.Prelude.{◌≡◌, ◌≤◌, ◌<◌, ◌+◌, ◌^◌, None, Some, length, option_map, slice_index_or, IfSome, IfOk, IfErr, OnOk, OnErr};
+ghost use Rattle.ra_memory.specs.Image.{AreBytes, History};
+ghost use Rattle.ra_progress.specs.Contents.{Opening};
+ghost use Rattle.ra_progress.specs.Reading.{refusal};
+ghost use Rattle.ra_set.specs.Contents.{SetContents, set_contents};
+ghost use Rattle.ra_trace.specs.Entries.{entry_of, Saved, Restored};
+ghost use Rattle.ra_trace.specs.Reading.{LiesWithin};
+ghost use Rattle.ra_runtime.specs.Order.{shape_of};
+ghost use Rattle.ra_runtime.specs.Play.{Moment, moved, first_moment};
+ghost use Rattle.ra_runtime.specs.Runtime.{IsWritten, TakesFrame};
+ghost use Rattle.ra_session.specs.Loading.{AreAccepted, BeginsAt, progress_in};
+ghost use Rattle.ra_session.specs.Playing.{StandsAt, IsPlayable, TakesEmpty, TakesUpFrom, Plays, kept_bytes, slots_of};
+
+use crate::beginning::Beginning;
+use ra_memory::Steps;
+use ra_runtime::Runtime;
+use ra_text::OutOfMemory;
+use ra_trace::Record;
+use std::alloc::Global;
+use std::marker::Brand;
+use std::sync::ledger::{Blank, Ledger};
+
+// How many save slots there are.
+const SLOTS: usize = 16;
+
+/// Why a record is not played.
+#[derive(Clone, Copy, Debug, PartialEq, Eq)]
+pub enum Unplayed {
+    EmptySlot,
+    Memory,
+}
+
+/// A runtime, and the progress bytes in each save slot: docs/DEFINITIONS.md, "Save slots".
+#[derive(Drop)]
+pub struct Player {
+    runtime: Runtime,
+    slots: Vec<Option<Vec<u8>>>,
+}
+
+impl From<OutOfMemory> for Unplayed {
+    ghost use Rattle.ra_session.specs.declared.player.Unplayed.TheVariants as unplayed;
+
+    ghost from_gives = { λ _ e. e ≡ unplayed.Memory };
+
+    fn from(_error: OutOfMemory) -> Unplayed {
+        Unplayed::Memory
+    }
+}
+
+// Takes one frame, and counts no steps.
+fn take_frame<L: Ledger>(runtime: &mut Runtime, blank: Blank)
+    requires name { blank.name ≡ L.name }
+    requires parts { blank.parts ≡ L.parts }
+    requires held { 0 < blank.parts }
+    ensures { TakesFrame runtime.old runtime.new }
+{
+    let mut steps = Steps::<L>::open(blank);
+    runtime.frame(&mut steps);
+}
+
+// Takes up progress bytes of the runtime's set, where there are some.
+fn take_up(runtime: &mut Runtime, progress: &Option<Vec<u8>>)
+    requires { IfSome progress.now (λ bytes. refusal (shape_of runtime.old.set) bytes.items ≡ None) }
+    ensures { TakesUpFrom (option_map (λ bytes. bytes.items) progress.now) runtime.old runtime.new }
+{
+    if let Some(bytes) = progress {
+        let _ = runtime.restore(bytes.as_slice());
+    }
+}
+
+// The progress bytes in a slot; none where it is empty.
+fn bytes_in(slots: &[Option<Vec<u8>>], slot: u8) -> Option<&[u8]>
+    ensures { option_map (λ bytes. bytes.now) result ≡ slice_index_or (slots_of slots.now) slot None }
+{
+    match slots.get(usize::from(slot)) {
+        Some(Some(bytes)) => Some(bytes.as_slice()),
+        _ => None,
+    }
+}
+
+impl Player {
+    /// The moment before the first record, over an image of zeros; every slot is empty.
+    ///
+    /// Behind it lie the frames whose progress bytes the run goes on from, where there are some.
+    pub fn new(alloc: Global, beginning: Beginning, size: u32) -> Result<Player, OutOfMemory>
+        requires playable { IsPlayable (set_contents beginning.set) }
+        requires accepted { AreAccepted (set_contents beginning.set) (progress_in beginning) }
+        requires size { size ≤ 2 ^ 27 }
+        ensures stands { IfOk result (λ p. (o : Opening) (behind : History) → BeginsAt (set_contents beginning.set) (progress_in beginning) o behind
+            → StandsAt (set_contents beginning.set) o (first_moment size behind) p.runtime (slots_of p.slots.items)) }
+        ensures image { IfOk result (λ p. length p.runtime.image ≡ size) }
+    {
+        let mut slots = Vec::new(alloc);
+        while slots.len() < SLOTS {
+            slots.push(None)?;
+        }
+        let mut runtime = Runtime::new(alloc, beginning.set, size)?;
+        take_up(&mut runtime, &beginning.progress);
+        Ok(Player { runtime, slots })
+    }
+
+    /// The progress bytes of what the runtime keeps.
+    pub fn progress(&self, alloc: Global) -> Result<Vec<u8>, OutOfMemory>
+        ensures { IfOk result (λ bytes. bytes.items ≡ kept_bytes self.now.runtime) }
+    {
+        self.runtime.save(alloc)
+    }
+
+    // Writes bytes into the image.
+    fn write(&mut self, at: u32, bytes: &[u8])
+        requires { at + length bytes.now ≤ length self.old.runtime.image }
+        ensures written { IsWritten self.old.runtime self.new.runtime at bytes.now }
+        ensures bytes { AreBytes bytes.now }
+        ensures slots { self.new.slots ≡ self.old.slots }
+    {
+        self.runtime.write(at, bytes);
+    }
+
+    // Keeps the progress bytes in a slot.
+    fn save(&mut self, alloc: Global, slot: u8) -> Result<(), Unplayed>
+        ensures saved { OnOk result ((set : SetContents) (o : Opening) (m : Moment) → StandsAt set o m self.old.runtime (slots_of self.old.slots.items)
+            → StandsAt set o (moved (Saved slot) m) self.new.runtime (slots_of self.new.slots.items)) }
+        ensures image { self.new.runtime.image ≡ self.old.runtime.image }
+        ensures only { IfErr result (λ e. e ≡ Unplayed.Memory) }
+    {
+        let bytes = self.runtime.save(alloc)?;
+        if let Some(kept) = self.slots.get_mut(usize::from(slot)) {
+            *kept = Some(bytes);
+        }
+        Ok(())
+    }
+
+    // Takes up the progress bytes of a slot.
+    fn restore(&mut self, slot: u8) -> Result<(), Unplayed>
+        ensures restored { OnOk result ((set : SetContents) (o : Opening) (m : Moment) → StandsAt set o m self.old.runtime (slots_of self.old.slots.items)
+            → StandsAt set o (moved (Restored slot) m) self.new.runtime (slots_of self.new.slots.items) × (TakesEmpty (Restored slot) m → ⊥)) }
+        ensures empty { OnErr result ((set : SetContents) (o : Opening) (m : Moment) → StandsAt set o m self.old.runtime (slots_of self.old.slots.items) → TakesEmpty (Restored slot) m) }
+        ensures image { self.new.runtime.image ≡ self.old.runtime.image }
+        ensures only { IfErr result (λ e. e ≡ Unplayed.EmptySlot) }
+    {
+        let Some(bytes) = bytes_in(self.slots.as_slice(), slot) else {
+            return Err(Unplayed::EmptySlot);
+        };
+        match self.runtime.restore(bytes) {
+            Ok(()) => Ok(()),
+            Err(_) => Err(Unplayed::EmptySlot),
+        }
+    }
+
+    /// Plays a record, and answers what it prints. `EmptySlot` where it restores an empty slot.
+    pub fn play(&mut self, alloc: Global, entry: &Record<'_>) -> Result<Vec<u8>, Unplayed>
+        requires { LiesWithin (length self.old.runtime.image) (entry_of entry.now) }
+        ensures played { IfOk result (λ text. (set : SetContents) (o : Opening) (m : Moment) → StandsAt set o m self.old.runtime (slots_of self.old.slots.items)
+            → Plays set o (entry_of entry.now) m self.new.runtime (slots_of self.new.slots.items) text.items) }
+        ensures empty { IfErr result (λ e. e ≡ Unplayed.EmptySlot → (set : SetContents) (o : Opening) (m : Moment) → StandsAt set o m self.old.runtime (slots_of self.old.slots.items) → TakesEmpty (entry_of entry.now) m) }
+        ensures image { length self.new.runtime.image ≡ length self.old.runtime.image }
+    {
+        match entry {
+            Record::Write { at, bytes } => self.write(*at, bytes),
+            Record::Frame => {
+                take_frame::<Brand>(&mut self.runtime, Blank::new(1));
+                return Ok(self.runtime.lines(alloc)?);
+            }
+            Record::Save { slot } => self.save(alloc, *slot)?,
+            Record::Restore { slot } => self.restore(*slot)?,
+            Record::Show => return Ok(self.runtime.show(alloc)?),
+            Record::End => {}
+        }
+        Ok(Vec::new(alloc))
+    }
+}

@@ -1,0 +1,96 @@
+//! The records of a trace, played one after the other.
+
+ghost use Rattle.std.specs.Prelude.{◌≡◌, ◌⊎◌, ◌≤◌, ◌<◌, ⊤, ℕ, List, Some, true, length, IfOk, IfErr, OnOk, OnErr};
+ghost use Rattle.ra_io.specs.Causes.{Rose, NoneFell};
+ghost use Rattle.ra_io.specs.Files.{SameContent};
+ghost use Rattle.ra_io.specs.Sink.{grown};
+ghost use Rattle.ra_set.specs.Contents.{SetContents};
+ghost use Rattle.ra_progress.specs.Contents.{Opening};
+ghost use Rattle.ra_trace.specs.Cutting.{Pieces};
+ghost use Rattle.ra_runtime.specs.Play.{Moment, moment_after};
+ghost use Rattle.ra_session.specs.Closing.{EndsBefore, ending_at, ending_of_stop};
+ghost use Rattle.ra_session.specs.Endings.{ReadFault, SinkFault};
+ghost use Rattle.ra_session.specs.Playing.{StandsAt, IsLeft, IsOfTrace, TakesNext, says_from, slots_of};
+
+use crate::player::{Player, Unplayed};
+use crate::stop::Stop;
+use crate::writing::write_all;
+use ra_io::{Files, Sink};
+use ra_trace::{Reader, Record, Why};
+use std::alloc::Global;
+
+// Reads and plays the next record, and writes what it prints. Answers whether it is the end record.
+fn play_next<F: Files, K: Sink>(
+    alloc: Global,
+    reader: &mut Reader,
+    player: &mut Player,
+    files: &mut F,
+    out: &mut K,
+) -> Result<bool, Stop>
+    requires { reader.old.size ≡ Some (length player.old.runtime.image) }
+
+    // What was played and printed, where the bytes of the trace are told.
+    ensures next { (bytes : List ℕ) (set : SetContents) (o : Opening) (m : Moment) (left : Pieces) → F.content files.old reader.old.name ≡ Some bytes
+        → StandsAt set o m player.old.runtime (slots_of player.old.slots.items) → IsLeft bytes m reader.old left
+        → TakesNext bytes set o m left reader.new player.new.runtime (slots_of player.new.slots.items) (K.text out.old) (K.text out.new) result }
+
+    // What stays, and why it stops.
+    ensures size { IfOk result (λ end. reader.new.size ≡ Some (length player.new.runtime.image)) }
+    ensures name { reader.new.name ≡ reader.old.name }
+    ensures further { IfOk result (λ end. (reader.old.next < reader.new.next) × (reader.new.next ≤ reader.new.limit) × (reader.new.limit ≡ reader.old.limit)) }
+    ensures read { IfErr result (λ stop. stop ≡ Stop.Read → Rose (F.read_faults files.old reader.old.name) (F.read_faults files.new reader.old.name)) }
+    ensures write { IfErr result (λ stop. stop ≡ Stop.Write → Rose (K.faults out.old) (K.faults out.new)) }
+    ensures kinds { IfErr result IsOfTrace }
+    ensures same { SameContent (F.content files.old) (F.content files.new) }
+    ensures reads { NoneFell (F.read_faults files.old) (F.read_faults files.new) }
+    ensures puts { NoneFell (F.put_faults files.old) (F.put_faults files.new) }
+    ensures later { K.faults out.old ≤ K.faults out.new }
+{
+    let record = reader.next_record(files)?;
+    let end = matches!(record, Record::End);
+    match player.play(alloc, &record) {
+        Ok(text) => {
+            write_all(text.as_slice(), out)?;
+            Ok(end)
+        }
+        Err(Unplayed::EmptySlot) => Err(Stop::Trace {
+            at: reader.place(),
+            why: Why::EmptySlot,
+        }),
+        Err(Unplayed::Memory) => Err(Stop::Memory),
+    }
+}
+
+/// Plays the records up to the end record, and writes what each prints before the next is read.
+///
+/// It stops at a record that is refused, behind the last byte that the limit lets be read, at a read or a write that
+/// failed, and for want of memory. No file changes.
+pub fn play_records<F: Files, K: Sink>(
+    alloc: Global,
+    reader: &mut Reader,
+    player: &mut Player,
+    files: &mut F,
+    out: &mut K,
+) -> Result<(), Stop>
+    requires { reader.old.size ≡ Some (length player.old.runtime.image) }
+
+    // What was printed, where the bytes of the trace are told.
+    ensures printed { (bytes : List ℕ) (set : SetContents) (o : Opening) (m : Moment) (left : Pieces) → F.content files.old reader.old.name ≡ Some bytes
+        → StandsAt set o m player.old.runtime (slots_of player.old.slots.items) → IsLeft bytes m reader.old left
+        → EndsBefore (says_from bytes set o m left) ⊤ ⊤ ⊤ (ending_at result) (K.text out.old) (K.text out.new) }
+    ensures ends { OnOk result ((bytes : List ℕ) (set : SetContents) (o : Opening) (m : Moment) (left : Pieces) → F.content files.old reader.old.name ≡ Some bytes
+        → StandsAt set o m player.old.runtime (slots_of player.old.slots.items) → IsLeft bytes m reader.old left
+        → StandsAt set o (moment_after m left.entries) player.new.runtime (slots_of player.new.slots.items)) }
+
+    // Why it stops, and what stays.
+    ensures read { IfErr result (λ stop. stop ≡ Stop.Read → Rose (F.read_faults files.old reader.old.name) (F.read_faults files.new reader.old.name)) }
+    ensures write { IfErr result (λ stop. stop ≡ Stop.Write → Rose (K.faults out.old) (K.faults out.new)) }
+    ensures kinds { IfErr result IsOfTrace }
+    ensures same { SameContent (F.content files.old) (F.content files.new) }
+    ensures reads { NoneFell (F.read_faults files.old) (F.read_faults files.new) }
+    ensures puts { NoneFell (F.put_faults files.old) (F.put_faults files.new) }
+    ensures later { K.faults out.old ≤ K.faults out.new }
+{
+    while !play_next(alloc, reader, player, files, out)? {}
+    Ok(())
+}

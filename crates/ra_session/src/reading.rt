@@ -1,0 +1,63 @@
+//! Files that are read whole, up to a limit.
+
+ghost use Rattle.std.specs.Prelude.{◌≡◌, ◌⊎◌, ℕ, ◌^◌, ◌<◌, ◌≤◌, take, vec_len, IfOk, IfErr, IfSome};
+ghost use Rattle.ra_io.specs.Causes.{Rose, NoneFell};
+ghost use Rattle.ra_io.specs.Files.{SameContent};
+ghost use Rattle.ra_session.specs.Reading.{ReadsOn};
+
+use crate::stop::Stop;
+use ra_io::{Failed, Files};
+use std::alloc::Global;
+
+// The most bytes of one read.
+const CHUNK: usize = 4096;
+
+// Reads on behind the bytes that are there, and says whether more may come.
+fn read_on<F: Files>(
+    name: &str,
+    limit: usize,
+    bytes: &mut Vec<u8>,
+    files: &mut F,
+) -> Result<bool, Stop>
+    requires room { vec_len bytes.old < limit }
+    requires limit { limit ≤ 2 ^ 40 }
+    ensures ok { IfOk result (λ more. (n : ℕ) × ReadsOn (F.content files.old name.now) bytes.old.items bytes.new.items more n × (vec_len bytes.new ≤ limit)) }
+    ensures same { SameContent (F.content files.old) (F.content files.new) }
+    ensures reads { NoneFell (F.read_faults files.old) (F.read_faults files.new) }
+    ensures puts { NoneFell (F.put_faults files.old) (F.put_faults files.new) }
+    ensures stop { IfErr result (λ e. (e ≡ Stop.Memory) ⊎ ((e ≡ Stop.Read) × Rose (F.read_faults files.old name.now) (F.read_faults files.new name.now))) }
+{
+    let mut buf = [0u8; CHUNK];
+    let room = CHUNK.min(limit - bytes.len());
+    let read = files.read_at(name, bytes.len() as u64, &mut buf[..room]);
+    match read {
+        Ok(n) => {
+            bytes.extend_from_slice(&buf[..n])?;
+            Ok(0 < n)
+        }
+        Err(Failed) => Err(Stop::Read),
+    }
+}
+
+/// The bytes of a file, up to a limit. It stops at a read that failed, and for want of memory; no file changes.
+pub fn read_whole<F: Files>(
+    alloc: Global,
+    name: &str,
+    limit: usize,
+    files: &mut F,
+) -> Result<Vec<u8>, Stop>
+    requires { limit ≤ 2 ^ 40 }
+    ensures ok { IfOk result (λ bytes. IfSome (F.content files.old name.now) (λ all. bytes.items ≡ take limit all)) }
+    ensures same { SameContent (F.content files.old) (F.content files.new) }
+    ensures reads { NoneFell (F.read_faults files.old) (F.read_faults files.new) }
+    ensures puts { NoneFell (F.put_faults files.old) (F.put_faults files.new) }
+    ensures stop { IfErr result (λ e. (e ≡ Stop.Memory) ⊎ ((e ≡ Stop.Read) × Rose (F.read_faults files.old name.now) (F.read_faults files.new name.now))) }
+{
+    let mut bytes = Vec::new(alloc);
+    while bytes.len() < limit {
+        if !read_on(name, limit, &mut bytes, files)? {
+            return Ok(bytes);
+        }
+    }
+    Ok(bytes)
+}
