@@ -22,3 +22,4 @@ pub mod MadeScript
 pub mod MadeLimits
 pub mod MadeSet
 pub mod MakeLemmas
+pub mod TextLemmas

@@ -10,7 +10,7 @@ use Rattle.ra_progress.specs.Contents.{Opening, IsOpening}
 use Rattle.ra_progress.specs.Spelling.{progress_bytes}
 use Rattle.ra_progress.specs.Reading.{length_of, refusal}
 use Rattle.ra_trace.specs.Entries.{Entry}
-use Rattle.ra_trace.specs.Cutting.{no_slots, trace_within}
+use Rattle.ra_trace.specs.Cutting.{Trace, no_slots, trace_within}
 use Rattle.ra_trace.specs.Workload.{made_set, made_trace}
 use Rattle.ra_runtime.specs.Order.{set_cells, set_tracked, shape_of}
 use Rattle.ra_runtime.specs.Openings.{snapshot, plain_opening}
@@ -41,7 +41,7 @@ prints_nothing ending = record { pieces = []; ending = ending; saved = [] }
 
 -- the most bytes that a run takes of a trace
 abbrev pub trace_limit : ℕ
-trace_limit = 2 ^ 24
+trace_limit = 2 ^ 40
 
 -- the most bytes of a set
 abbrev pub set_limit : ℕ
@@ -52,6 +52,10 @@ abbrev pub pieces_from : SetContents → Opening → Moment → List Entry → L
 pieces_from set o m [] = []
 pieces_from set o m (entry ∷ entries) =
     printed set o entry (moved entry m) ∷ pieces_from set o (moved entry m) entries
+
+-- the trace that a run sees in a file
+abbrev pub trace_in : List ℕ → Trace
+trace_in bytes = trace_within trace_limit no_slots bytes
 
 -- a run of a set over a trace file, where an opening and some frames lie before the first record
 abbrev pub played : SetContents → Opening → History → List ℕ → Expected

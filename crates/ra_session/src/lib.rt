@@ -6,6 +6,7 @@ mod beginning;
 mod check_line;
 mod closing;
 mod counts;
+mod laws;
 mod loading;
 mod make;
 mod player;
@@ -17,6 +18,7 @@ mod stop;
 mod writing;
 
 pub use closing::{finish, put_last};
+pub use laws::runs_print_their_texts;
 pub use make::make_job;
 pub use run::{check_job, run_job};
 pub use run_files::RunFiles;

@@ -30,7 +30,7 @@ use ra_trace::Reader;
 use std::alloc::Global;
 
 // The most bytes of a trace.
-const TRACE_LIMIT: u64 = 16_777_216;
+const TRACE_LIMIT: u64 = 1_099_511_627_776;
 
 /// Plays a trace from what a run begins with, and answers the player at its end.
 ///

@@ -60,7 +60,7 @@ impl Reader {
     ghost use Rattle.ra_trace.specs.Ending.{EndsAs};
 
     /// A reader of the file of this name that takes no more bytes than the limit, which is 9 to
-    /// 16,777,216. It holds none yet.
+    /// 1,099,511,627,776. It holds none yet.
     pub fn open(alloc: Global, name: &str, limit: u64) -> Result<Reader, OutOfMemory>
         requires least { 9 ≤ limit }
         requires most { limit ≤ most_bytes }
