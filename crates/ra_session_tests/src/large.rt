@@ -1,0 +1,102 @@
+//! Deep sets, long traces, and all save slots.
+
+use crate::jobs::{check_ends_so, run_ends_so};
+use ra_text::OutOfMemory;
+use std::alloc::Global;
+use std::fmt::Write;
+
+// A trigger of 65,534 pointers, each of which moves the next, and one comparison.
+fn pointers(alloc: Global) -> Result<String, OutOfMemory> {
+    let mut set = String::from_str(alloc, "A 1 ")?;
+    for _ in 0..65_534 {
+        set.push_str("I:0xX0000_")?;
+    }
+    set.push_str("0xH0000=1\n")?;
+    Ok(set)
+}
+
+#[test]
+fn checks_a_deep_set(rt: HostRuntime) -> Result<(), OutOfMemory> {
+    let set = pointers(rt.alloc())?;
+    let line =
+        b"achievements 1 leaderboards 0 conditions 65535 cells 65535 priors 0 md5 ac4c792c032c6818aa6a6ed3933cadbf\n";
+    assert!(rt; check_ends_so(rt.alloc(), set.as_bytes(), 0, line)?);
+    Ok(())
+}
+
+#[test]
+fn plays_a_deep_chain_of_pointers(rt: HostRuntime) -> Result<(), OutOfMemory> {
+    let set = pointers(rt.alloc())?;
+    let trace = b"RATR\x01\x40\0\0\0FW\0\0\0\0\x01\0\x01FE";
+    assert!(rt; run_ends_so(rt.alloc(), set.as_bytes(), trace, 0, b"unlock 1 1\n")?);
+    Ok(())
+}
+
+// Values each of which is the one before it twice.
+fn doubled(alloc: Global) -> Result<String, OutOfMemory> {
+    let mut set = String::from_str(alloc, "A 1 K:0xH0010")?;
+    for _ in 0..31 {
+        set.push_str("_K:{recall}+{recall}")?;
+    }
+    set.push_str("_{recall}=2147483648\n")?;
+    Ok(set)
+}
+
+#[test]
+fn plays_a_deep_chain_of_values(rt: HostRuntime) -> Result<(), OutOfMemory> {
+    let set = doubled(rt.alloc())?;
+    let trace = b"RATR\x01\x40\0\0\0FW\x10\0\0\0\x01\0\x01FE";
+    assert!(rt; run_ends_so(rt.alloc(), set.as_bytes(), trace, 0, b"unlock 1 1\n")?);
+    Ok(())
+}
+
+// 257 writes of 65,535 bytes are more than a run takes of a trace.
+fn long_trace(alloc: Global) -> Result<Vec<u8>, OutOfMemory> {
+    let mut trace = b"RATR\x01\xff\xff\0\0".to_vec(alloc)?;
+    let bytes = vec![in alloc; 0; 65_535]?;
+    for _ in 0..257 {
+        trace.extend_from_slice(b"W\0\0\0\0\xff\xff")?;
+        trace.extend_from_slice(bytes.as_slice())?;
+    }
+    Ok(trace)
+}
+
+#[test]
+fn a_trace_past_the_limit_is_too_long(rt: HostRuntime) -> Result<(), OutOfMemory> {
+    let trace = long_trace(rt.alloc())?;
+    assert!(rt; run_ends_so(rt.alloc(), b"", trace.as_slice(), 8, b"trace too long\n")?);
+    Ok(())
+}
+
+// Each slot is saved a frame behind the one before it, and the first before any frame. They are restored the other way
+// round.
+fn all_slots(alloc: Global) -> Result<Vec<u8>, OutOfMemory> {
+    let mut trace = b"RATR\x01\0\0\0\0S\0R\0P".to_vec(alloc)?;
+    for slot in 0..16u8 {
+        trace.extend_from_slice(&[b'S', slot, b'F'])?;
+    }
+    for back in 0..16u8 {
+        trace.extend_from_slice(&[b'R', 15 - back, b'P'])?;
+    }
+    trace.push(b'E')?;
+    Ok(trace)
+}
+
+// The display at each of these restores: the frames behind it.
+fn slot_lines(alloc: Global) -> Result<String, OutOfMemory> {
+    let mut text = String::from_str(alloc, "presence 0 0\n")?;
+    for back in 0..16u8 {
+        let frames = 15 - back;
+        writeln!(text, "presence {frames} {frames}")?;
+    }
+    Ok(text)
+}
+
+#[test]
+fn restores_from_all_slots(rt: HostRuntime) -> Result<(), OutOfMemory> {
+    let trace = all_slots(rt.alloc())?;
+    let text = slot_lines(rt.alloc())?;
+    let set = b"P\nDisplay:\n@Number(M:0=0)\n";
+    assert!(rt; run_ends_so(rt.alloc(), set, trace.as_slice(), 0, text.as_bytes())?);
+    Ok(())
+}

@@ -1,0 +1,20 @@
+//! Worked jobs over the calls of `ra_session`, and their faults. It has tests alone, so that what they call is proved
+//! once.
+#![tactic(auto)]
+
+#[cfg(test)]
+mod checks;
+#[cfg(test)]
+mod displays;
+#[cfg(test)]
+mod faults;
+#[cfg(test)]
+mod jobs;
+#[cfg(test)]
+mod large;
+#[cfg(test)]
+mod progress;
+#[cfg(test)]
+mod refusals;
+#[cfg(test)]
+mod runs;

@@ -1,0 +1,298 @@
+//! Worked runs that go on from a progress file, and that put one.
+
+use crate::displays::{FOREST, FOREST_TRACE};
+use crate::jobs::{FIVES, THREE_HITS, ends_so, files_of, status_of};
+use ra_io::{Files, SureFiles, SureSink};
+use ra_session::RunFiles;
+use ra_text::OutOfMemory;
+use std::alloc::Global;
+
+/// A run that puts the file p.
+pub const SAVE: RunFiles<'static> = RunFiles {
+    set: "S",
+    trace: "T",
+    restore: None,
+    save: Some("p"),
+};
+
+/// A run that goes on from the file p.
+pub const RESTORE: RunFiles<'static> = RunFiles {
+    set: "S",
+    trace: "T",
+    restore: Some("p"),
+    save: None,
+};
+
+// What is kept of the fives: mark and version, digest, 5 frames, the cell 5, triggered, measured 0, 3 hits, sum.
+const KEPT: &[u8; 58] =
+    b"RAPG\x01\x95\xc3\x20\x26\xa3\xa7\xb6\xfc\x1a\xa5\x3d\x35\x5d\x82\xba\x02\x05\0\0\0\0\0\0\0\x05\0\0\0\x04\0\0\0\0\x03\0\0\0\x38\x7d\x76\x84\x89\x35\xcb\x04\xa4\x62\x48\xfe\xdd\xd5\x9e\xa9";
+
+// The same trace against a set that wants the byte to be 6.
+const KEPT_OF_SIXES: &[u8] =
+    b"RAPG\x01\x6e\x7d\x24\xea\x6f\xa9\xd6\x18\x6f\xf4\x05\x4d\x2e\x60\xac\x14\x05\0\0\0\0\0\0\0\x05\0\0\0\x01\0\0\0\0\0\0\0\0\x5a\x0c\x56\x37\xd5\xcb\x89\x46\x34\x7d\x87\xf9\xb7\x0a\x8a\x59";
+
+// The state byte at 33 is 7, and the sum is that of the bytes.
+const BAD_STATE: &[u8] =
+    b"RAPG\x01\x95\xc3\x20\x26\xa3\xa7\xb6\xfc\x1a\xa5\x3d\x35\x5d\x82\xba\x02\x05\0\0\0\0\0\0\0\x05\0\0\0\x07\0\0\0\0\x03\0\0\0\x7f\x39\x8f\x95\x52\x2a\x98\x95\x41\xae\xab\xfa\xf5\xfb\x0d\xc0";
+
+// Whether a file has these bytes.
+fn has(files: &mut SureFiles, name: &str, bytes: &[u8]) -> bool {
+    let mut buf = [0; 128];
+    match files.read_at(name, 0, &mut buf) {
+        Ok(read) => &buf[..read] == bytes,
+        Err(_) => false,
+    }
+}
+
+// Whether a run of a set over a trace prints this text, and leaves a file these bytes.
+fn puts(
+    alloc: Global,
+    set: &[u8],
+    trace: &[u8],
+    save: &str,
+    text: &[u8],
+    kept: &[u8],
+) -> Result<bool, OutOfMemory> {
+    let mut files = files_of(alloc, set, trace)?;
+    files.add("p", b"an older file")?;
+    let run = RunFiles {
+        set: "S",
+        trace: "T",
+        restore: None,
+        save: Some(save),
+    };
+    Ok(ends_so(alloc, &run, &mut files, 0, text) && has(&mut files, save, kept))
+}
+
+// A file that the job reads may be the one that it puts: it is read before.
+#[test]
+fn puts_what_is_kept_at_the_end(rt: HostRuntime) -> Result<(), OutOfMemory> {
+    let rows: [(&[u8], &[u8], &str, &[u8], &[u8]); 4] = [
+        (THREE_HITS, FIVES, "p", b"unlock 4 1\n", KEPT),
+        (THREE_HITS, FIVES, "S", b"unlock 4 1\n", KEPT),
+        (THREE_HITS, FIVES, "T", b"unlock 4 1\n", KEPT),
+        (
+            b"A 1 P:0xH0001=1.2._0xH0002=1.2.\n",
+            b"RATR\x01\x40\0\0\0W\x01\0\0\0\x02\0\x01\x01FW\x01\0\0\0\x02\0\0\0FW\x01\0\0\0\x02\0\x01\x01FW\x01\0\0\0\x02\0\0\0FW\x01\0\0\0\x02\0\x01\x01FE",
+            "p",
+            b"",
+            b"RAPG\x01\xe3\xfe\xbd\x0c\x71\x96\x92\xfa\xb6\x2c\x18\x79\x33\xcf\xe6\x4a\x05\0\0\0\0\0\0\0\x01\0\0\0\x01\0\0\0\x02\0\0\0\0\x02\0\0\0\x01\0\0\0\xe7\x51\x3f\xaf\xd5\x75\x0f\x46\xe5\x8c\x62\x1e\xd6\x76\x5b\x67",
+        ),
+    ];
+    for (set, trace, save, text, kept) in rows {
+        assert!(rt;
+            puts(rt.alloc(), set, trace, save, text, kept)?,
+            "{save} of {set:?}"
+        );
+    }
+    Ok(())
+}
+
+// A run that goes on from the file p, and puts it again.
+const GO_ON: RunFiles<'static> = RunFiles {
+    set: "S",
+    trace: "T",
+    restore: Some("p"),
+    save: Some("p"),
+};
+
+// Whether a run that goes on from these bytes prints nothing, and puts these.
+fn goes_on(
+    alloc: Global,
+    set: &[u8],
+    trace: &[u8],
+    before: &[u8],
+    after: &[u8],
+) -> Result<bool, OutOfMemory> {
+    let mut files = files_of(alloc, set, trace)?;
+    files.add("p", before)?;
+    Ok(ends_so(alloc, &GO_ON, &mut files, 0, b"") && has(&mut files, "p", after))
+}
+
+// The count of frames and a hit stand at the last number, and a saved file is taken up by the next run.
+#[test]
+fn goes_on_at_the_last_numbers(rt: HostRuntime) -> Result<(), OutOfMemory> {
+    let went = goes_on(
+        rt.alloc(),
+        b"A 1 0xH0010=1S0xH0010=0_0xH0011=1.2.\n",
+        b"RATR\x01\x40\0\0\0W\x10\0\0\0\x01\0\x01FE",
+        b"RAPG\x01\x05\xf3\x35\xab\xac\x3e\xc4\x7b\x4e\x37\x81\x9b\x90\x94\x1e\x99\xff\xff\xff\xff\xff\xff\xff\xff\0\0\0\0\0\0\0\0\x01\0\0\0\0\0\0\0\0\0\0\0\0\xff\xff\xff\xff\x26\x68\x00\x59\x5d\xf6\xea\x7e\xef\x14\x59\x61\xbf\x09\x16\x1e",
+        b"RAPG\x01\x05\xf3\x35\xab\xac\x3e\xc4\x7b\x4e\x37\x81\x9b\x90\x94\x1e\x99\xff\xff\xff\xff\xff\xff\xff\xff\x01\0\0\0\0\0\0\0\x01\0\0\0\0\x01\0\0\0\0\0\0\0\xff\xff\xff\xff\xbc\x1a\x9a\x54\xbe\xcc\x5c\x82\xa9\x96\x18\x1e\x1c\xfb\x47\xfa",
+    )?;
+    assert!(rt; went);
+    Ok(())
+}
+
+// Whether a progress file is refused by the set of three hits, for this reason.
+fn is_refused(alloc: Global, kept: &[u8], why: &[u8]) -> Result<bool, OutOfMemory> {
+    let mut files = files_of(alloc, THREE_HITS, b"no trace")?;
+    files.add("p", kept)?;
+    let mut text = b"progress refused: ".to_vec(alloc)?;
+    text.extend_from_slice(why)?;
+    Ok(ends_so(alloc, &RESTORE, &mut files, 6, text.as_slice()))
+}
+
+// Each change of the file of three hits is refused, with both values.
+#[test]
+fn refuses_progress_files(rt: HostRuntime) -> Result<(), OutOfMemory> {
+    let mut version = *KEPT;
+    version[4] = 9;
+    let mut hits = *KEPT;
+    hits[40] = 1;
+    let mut mark = *KEPT;
+    mark[0] = 0;
+    let rows: [(&[u8], &[u8]); 7] = [
+        (&KEPT[..57], b"length 57 wanted 58\n"),
+        (&[0; 99], b"length 59 wanted 58\n"),
+        (&version, b"version 9 wanted 1\n"),
+        (
+            &hits,
+            b"sum 387d76848935cb04a46248feddd59ea9 is f4f5cfaf08ad5ba5f03727c704af780b\n",
+        ),
+        (
+            KEPT_OF_SIXES,
+            b"set 6e7d24ea6fa9d6186ff4054d2e60ac14 wanted 95c32026a3a7b6fc1aa53d355d82ba02\n",
+        ),
+        (BAD_STATE, b"state 7 at 33\n"),
+        (&mark, b"mark 00415047 wanted 52415047\n"),
+    ];
+    for (kept, why) in rows {
+        assert!(rt; is_refused(rt.alloc(), kept, why)?, "{why:?}");
+    }
+    Ok(())
+}
+
+const MEASURED: &[u8] = b"A 1 M:0xH0001=1.4._Q:0xH0002=0_P:0xH0003=1\n";
+
+// Five frames, the first two of them, and the last three over an image that is written again.
+const UNCUT: &[u8] =
+    b"RATR\x01\x40\0\0\0W\x01\0\0\0\x01\0\x01FW\x02\0\0\0\x01\0\x01FW\x02\0\0\0\x01\0\0FW\x03\0\0\0\x01\0\x01FW\x03\0\0\0\x01\0\0FE";
+
+const FIRST: &[u8] = b"RATR\x01\x40\0\0\0W\x01\0\0\0\x01\0\x01FW\x02\0\0\0\x01\0\x01FE";
+
+const LATER: &[u8] =
+    b"RATR\x01\x40\0\0\0W\x01\0\0\0\x02\0\x01\0FW\x03\0\0\0\x01\0\x01FW\x03\0\0\0\x01\0\0FE";
+
+// The first three frames of the forest, and the others behind writes of what the image had.
+const FOREST_FIRST: &[u8] =
+    b"RATR\x01\0\0 \0FPW\xfe\0\0\0\x01\0\x03W\x10\0\0\0\x01\0\x01W \0\0\0\x01\0\x02FFE";
+
+const FOREST_LATER: &[u8] =
+    b"RATR\x01\0\0 \0W\xfe\0\0\0\x01\0\x03W\x10\0\0\0\x01\0\x01W \0\0\0\x01\0\x02W\x10\0\0\0\x01\0\x02FW\x10\0\0\0\x01\0\x04FW\x10\0\0\0\x01\0\x05W0\0\0\0\x02\0\xe8\x03FPE";
+
+// A set and a trace of it, the same frames in two traces, and what each of these two prints.
+#[derive(Clone, Copy, Debug)]
+struct Cut<'a> {
+    set: &'a [u8],
+    trace: &'a [u8],
+    first: &'a [u8],
+    later: &'a [u8],
+    early: &'a [u8],
+    late: &'a [u8],
+}
+
+// A run of the trace U that goes on from the file p, and puts it again.
+const LATER_RUN: RunFiles<'static> = RunFiles {
+    set: "S",
+    trace: "U",
+    restore: Some("p"),
+    save: Some("p"),
+};
+
+// Whether the two runs of a cut trace print what they are to.
+fn both_end_so(alloc: Global, files: &mut SureFiles, cut: &Cut<'_>) -> bool {
+    ends_so(alloc, &SAVE, files, 0, cut.early) && ends_so(alloc, &LATER_RUN, files, 0, cut.late)
+}
+
+// Whether the uncut run prints what the two print, one behind the other.
+fn whole_ends_so(alloc: Global, files: &mut SureFiles, cut: &Cut<'_>) -> Result<bool, OutOfMemory> {
+    let mut text = cut.early.to_vec(alloc)?;
+    text.extend_from_slice(cut.late)?;
+    Ok(ends_so(alloc, &SAVE, files, 0, text.as_slice()))
+}
+
+// Whether two of the files p have the same bytes.
+fn agree(one: &mut SureFiles, other: &mut SureFiles) -> bool {
+    let mut buf = [0; 128];
+    match one.read_at("p", 0, &mut buf) {
+        Ok(read) => has(other, "p", &buf[..read]),
+        Err(_) => false,
+    }
+}
+
+// Whether the runs of a cut trace print and keep what the run of the whole one does.
+fn is_gone_on(alloc: Global, cut: &Cut<'_>) -> Result<bool, OutOfMemory> {
+    let mut whole = files_of(alloc, cut.set, cut.trace)?;
+    let mut both = files_of(alloc, cut.set, cut.first)?;
+    both.add("U", cut.later)?;
+    Ok(
+        whole_ends_so(alloc, &mut whole, cut)?
+            && both_end_so(alloc, &mut both, cut)
+            && agree(&mut whole, &mut both),
+    )
+}
+
+#[test]
+fn goes_on_where_a_run_was_cut(rt: HostRuntime) -> Result<(), OutOfMemory> {
+    let rows = [
+        Cut {
+            set: MEASURED,
+            trace: UNCUT,
+            first: FIRST,
+            later: LATER,
+            early: b"measured 0 1 1\nmeasured 1 1 0\n",
+            late: b"measured 2 1 3\nmeasured 4 1 4\nunlock 4 1\n",
+        },
+        Cut {
+            set: FOREST,
+            trace: FOREST_TRACE,
+            first: FOREST_FIRST,
+            later: FOREST_LATER,
+            early: b"presence 1 In the menu\nstart 1 9\ntrack 1 9 0:00.01\ntrack 2 9 0:00.03\n",
+            late: b"submit 3 9 3 0:00.05\nunlock 5 101\npresence 6 Castle with 001000 points\n",
+        },
+    ];
+    for cut in &rows {
+        assert!(rt; is_gone_on(rt.alloc(), cut)?, "{:?}", cut.set);
+    }
+    Ok(())
+}
+
+// Whether a run that is to end so, from the file q and into p, leaves p.
+fn leaves(
+    alloc: Global,
+    set: &[u8],
+    trace: &[u8],
+    kept: &[u8],
+    wanted: u8,
+) -> Result<bool, OutOfMemory> {
+    let mut files = files_of(alloc, set, trace)?;
+    files.add("q", kept)?;
+    files.add("p", b"an older file")?;
+    let run = RunFiles {
+        set: "S",
+        trace: "T",
+        restore: Some("q"),
+        save: Some("p"),
+    };
+    let mut out = SureSink::new(alloc);
+    let status = status_of(alloc, &run, &mut files, &mut out);
+    Ok(status == wanted && has(&mut files, "p", b"an older file"))
+}
+
+// A set, a progress file or a trace that is refused leaves the file to save into.
+#[test]
+fn puts_nothing_before_the_end(rt: HostRuntime) -> Result<(), OutOfMemory> {
+    let rows: [(&[u8], &[u8], &[u8], u8); 3] = [
+        (b"A 1\n", FIVES, KEPT, 3),
+        (THREE_HITS, FIVES, b"", 6),
+        (THREE_HITS, &FIVES[..38], KEPT, 7),
+    ];
+    for (set, trace, kept, status) in rows {
+        assert!(rt;
+            leaves(rt.alloc(), set, trace, kept, status)?,
+            "status {status}"
+        );
+    }
+    Ok(())
+}
