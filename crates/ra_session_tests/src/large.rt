@@ -1,4 +1,4 @@
-//! Deep sets, long traces, and all save slots.
+//! Deep sets, and all save slots.
 
 use crate::jobs::{check_ends_so, run_ends_so};
 use ra_text::OutOfMemory;
@@ -47,24 +47,6 @@ fn plays_a_deep_chain_of_values(rt: HostRuntime) -> Result<(), OutOfMemory> {
     let set = doubled(rt.alloc())?;
     let trace = b"RATR\x01\x40\0\0\0FW\x10\0\0\0\x01\0\x01FE";
     assert!(rt; run_ends_so(rt.alloc(), set.as_bytes(), trace, 0, b"unlock 1 1\n")?);
-    Ok(())
-}
-
-// 257 writes of 65,535 bytes are more than a run takes of a trace.
-fn long_trace(alloc: Global) -> Result<Vec<u8>, OutOfMemory> {
-    let mut trace = b"RATR\x01\xff\xff\0\0".to_vec(alloc)?;
-    let bytes = vec![in alloc; 0; 65_535]?;
-    for _ in 0..257 {
-        trace.extend_from_slice(b"W\0\0\0\0\xff\xff")?;
-        trace.extend_from_slice(bytes.as_slice())?;
-    }
-    Ok(trace)
-}
-
-#[test]
-fn a_trace_past_the_limit_is_too_long(rt: HostRuntime) -> Result<(), OutOfMemory> {
-    let trace = long_trace(rt.alloc())?;
-    assert!(rt; run_ends_so(rt.alloc(), b"", trace.as_slice(), 8, b"trace too long\n")?);
     Ok(())
 }
 

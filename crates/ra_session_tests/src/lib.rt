@@ -13,6 +13,8 @@ mod jobs;
 #[cfg(test)]
 mod large;
 #[cfg(test)]
+mod pieces;
+#[cfg(test)]
 mod progress;
 #[cfg(test)]
 mod refusals;
