@@ -39,4 +39,8 @@ row '`make 0`: 257 items and a display over 4,096 frames with 8 writes of one by
 row '`check` of a set file of 4 MiB with 65,536 conditions' check "$folder/large.set"
 row "4,000 achievements of 8 conditions over $frames frames with 4 writes of one byte each" \
     run "$folder/many.set" "$folder/many.trace"
+row "the same set over $frames frames with no write" run "$folder/many.set" "$folder/still.trace"
+row 'no items over 1,048,576 frames' run "$folder/none.set" "$folder/frames.trace"
+row 'no items over 1,048,576 writes of one byte' run "$folder/none.set" "$folder/writes.trace"
+row 'no items over a trace of 16 MiB of frames' run "$folder/none.set" "$folder/long.trace"
 row 'one frame of no items over an image of 128 MiB' run "$folder/none.set" "$folder/great.trace"
