@@ -1,8 +1,13 @@
 //! Progress files by name: what a set keeps between runs, in three versions.
+//!
+//! Version 3 is written, and versions 1, 2 and 3 are read. All but `order_of`, `encode` and `decode`
+//! take no memory.
 #![tactic(auto)]
 
 mod layout;
 mod named;
+mod order;
+mod range;
 mod refused;
 mod shape;
 mod snapshot;
@@ -10,6 +15,8 @@ mod words;
 
 pub use layout::{cell_count, entry_after, entry_count, first_entry, prior_count};
 pub use named::Named;
+pub use order::order_of;
+pub use range::matches;
 pub use refused::ProgressRefused;
 pub use shape::{ItemShape, PresenceShape, Shape};
 pub use snapshot::{ItemKept, PresenceKept, Snapshot};
