@@ -1,5 +1,6 @@
 pub mod Needs
 pub mod Orders
+pub mod Owns
 pub mod Pairs
 pub mod Usable
 pub mod Walks

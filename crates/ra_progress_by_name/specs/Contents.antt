@@ -1,6 +1,8 @@
 -- What a snapshot and a shape contain. The contents of a snapshot are an opening: what stands before the first frame.
-use Rattle.std.specs.Prelude.{◌≡◌, ℕ, ◌-◌, ◌<◌, ◌≤◌, ◌^◌, Bool, true, false, Option, None, Some, option_map, List, [], ◌∷◌, ◌++◌, length, map, replicate}
+use Rattle.std.specs.Prelude.{◌≡◌, ℕ, ◌-◌, ◌<◌, ◌≤◌, ◌^◌, Bool, true, false, Option, None, Some, option_map, List, [], ◌∷◌, ◌++◌, length, map, replicate, slice_index_or}
 use Rattle.std.specs.List.{AllByRecursion}
+use Rattle.ra_progress_by_name.specs.declared.own.OwnShape.{OwnShape}
+use Rattle.ra_progress_by_name.specs.declared.own.OwnShape.TheVariants as owned
 use Rattle.ra_progress_by_name.specs.declared.shape.ItemShape.{ItemShape}
 use Rattle.ra_progress_by_name.specs.declared.shape.ItemShape.TheVariants as shapes
 use Rattle.ra_progress_by_name.specs.declared.shape.PresenceShape.{PresenceShape}
@@ -41,6 +43,11 @@ pub data EntryShape : Type 0 where
   OfItem : ItemShape → EntryShape
   OfPresence : PresenceShape → EntryShape
 
+-- what the code's own shape stands for
+abbrev pub entry_shape : OwnShape → EntryShape
+entry_shape (owned.Item shape) = OfItem shape
+entry_shape (owned.Presence shape) = OfPresence shape
+
 -- an own entry: one that the set writes
 pub record Own : Type 0 where
   pub name : Name
@@ -59,6 +66,10 @@ own_presence _ _ = []
 -- the own entries of a set: the items in set order, then the script
 abbrev pub own_entries : ShapeContents → List Own
 own_entries shape = own_items shape.item_names shape.items ++ own_presence shape.presence_name shape.presence
+
+-- the own entry of a number; behind the last one stands one without a name and without hits
+abbrev pub own_at : List Own → ℕ → Own
+own_at owns number = slice_index_or owns number (record { name = []; shape = OfItem (shapes.Achievement 0) })
 
 -- what is kept of an item: a state byte, an achievement's measured number or a board's kept numbers, and hits; and whether an achievement is earned
 pub data KeptItem : Type 0 where

@@ -1,9 +1,10 @@
 -- Where the fields of a progress file stand, and how long it has to be.
-use Rattle.std.specs.Prelude.{ℕ, zero, suc, ◌+◌, ◌-◌, ◌*◌, ◌==◌, if◌then◌else◌, nat_lt, List, [], ◌∷◌, length, map, take, drop, slice_index, sum_by}
+use Rattle.std.specs.Prelude.{ℕ, zero, suc, ◌+◌, ◌-◌, ◌*◌, ◌==◌, if◌then◌else◌, nat_lt, Option, None, Some, List, [], ◌∷◌, length, map, take, drop, slice_index, sum_by}
 use Rattle.std.specs.List.{range_with_len}
 use Rattle.std.specs.Int.{w32, w64, from_le_bytes}
 use Rattle.ra_progress_by_name.specs.declared.shape.ItemShape.{ItemShape}
 use Rattle.ra_progress_by_name.specs.declared.shape.ItemShape.TheVariants as shapes
+use Rattle.ra_progress_by_name.specs.declared.shape.PresenceShape.{PresenceShape}
 use Rattle.ra_progress_by_name.specs.Contents.{Name, ShapeContents, EntryShape, OfItem, OfPresence, Own, own_entries}
 
 -- a word of four bytes at a place, and so many in a row
@@ -47,6 +48,11 @@ item_length (shapes.Leaderboard hits parts) = 1 + 4 * (hits + parts)
 abbrev pub block_length : EntryShape → ℕ
 block_length (OfItem shape) = item_length shape
 block_length (OfPresence p) = 4 + 4 * (p.hits + p.parts)
+
+-- the bytes that the block of the script takes, where there is one
+abbrev pub script_length : Option PresenceShape → ℕ
+script_length None = 0
+script_length (Some p) = block_length (OfPresence p)
 
 -- the bytes that the block of an own entry takes
 abbrev pub own_length : Own → ℕ

@@ -7,6 +7,8 @@
 mod layout;
 mod named;
 mod order;
+mod own;
+mod places;
 mod range;
 mod refused;
 mod shape;
@@ -16,6 +18,7 @@ mod words;
 pub use layout::{cell_count, entry_after, entry_count, first_entry, prior_count};
 pub use named::Named;
 pub use order::order_of;
+pub use places::{item_at, length, length_1, presence_at};
 pub use range::matches;
 pub use refused::ProgressRefused;
 pub use shape::{ItemShape, PresenceShape, Shape};
