@@ -2,5 +2,6 @@ pub mod Needs
 pub mod Orders
 pub mod Owns
 pub mod Pairs
+pub mod Sizes
 pub mod Usable
 pub mod Walks
