@@ -1,3 +1,4 @@
+pub mod Blocks
 pub mod Needs
 pub mod Orders
 pub mod Owns

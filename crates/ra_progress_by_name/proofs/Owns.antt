@@ -1,9 +1,9 @@
 -- The own entries of a set, by their numbers.
-use Rattle.std.proofs.Common.{◌≡◌, ℕ, zero, suc, ◌+◌, ◌<◌, ◌≤◌, Option, None, Some, List, [], ◌∷◌, ◌++◌, length, length-append, take, map, sum_by, get_or, is_some, option_to_list, refl, sym, ◌∙◌, ap, arith}
+use Rattle.std.proofs.Common.{◌≡◌, ℕ, zero, suc, ◌+◌, ◌<◌, ◌≤◌, Option, None, Some, List, [], ◌∷◌, ◌++◌, length, length-append, take, sum_by, get_or, is_some, option_to_list, refl, sym, ◌∙◌, ap, arith}
 use Rattle.std.proofs.lemmas.List.Sums.{sum_by-cons}
 use Rattle.ra_progress_by_name.specs.declared.shape.ItemShape.{ItemShape}
 use Rattle.ra_progress_by_name.specs.declared.shape.PresenceShape.{PresenceShape}
-use Rattle.ra_progress_by_name.specs.Contents.{Name, ShapeContents, EntryShape, OfItem, OfPresence, Own, own_items, own_presence, own_entries, own_at}
+use Rattle.ra_progress_by_name.specs.Contents.{Name, ShapeContents, OfItem, OfPresence, Own, own_items, own_presence, own_entries, own_at}
 use Rattle.ra_progress_by_name.specs.Layout.{item_length, own_length, script_length}
 use Rattle.ra_progress_by_name.specs.Names.{IsPaired, entry_names}
 
@@ -77,6 +77,12 @@ presence_sum None (Some p) same = absurd (cc same)
 presence_sum (Some name) None same = absurd (cc same)
 presence_sum (Some name) (Some p) same = omega arith
 
+script_names : (name : Option Name) (shape : Option PresenceShape) → is_some name ≡ is_some shape → length (option_to_list name) ≡ script_count shape
+script_names None None same = refl
+script_names None (Some p) same = absurd (cc same)
+script_names (Some name) None same = absurd (cc same)
+script_names (Some name) (Some p) same = refl
+
 module _ (shape : ShapeContents) (is : IsPaired shape) where
   -- how many own entries there are
   pub own_count : length (own_entries shape) ≡ length shape.items + script_count shape.presence
@@ -100,3 +106,10 @@ module _ (shape : ShapeContents) (is : IsPaired shape) where
   own_total =
       items_total shape.item_names shape.items (own_presence shape.presence_name shape.presence) is.items
       ∙ ap (λ n. sum_by item_length shape.items + n) (presence_sum shape.presence_name shape.presence is.presence)
+
+  -- as many as there are names
+  pub names_count : length (own_entries shape) ≡ length (entry_names shape)
+  names_count =
+      own_count ∙ sym (length-append shape.item_names (option_to_list shape.presence_name)
+      ∙ ap (λ n. n + length (option_to_list shape.presence_name)) is.items
+      ∙ ap (λ n. length shape.items + n) (script_names shape.presence_name shape.presence is.presence))

@@ -15,6 +15,7 @@ mod relation;
 mod shape;
 mod snapshot;
 mod words;
+mod writing;
 
 pub use layout::{cell_count, entry_after, entry_count, first_entry, prior_count};
 pub use named::Named;
@@ -26,3 +27,4 @@ pub use relation::of_this_set;
 pub use shape::{ItemShape, PresenceShape, Shape};
 pub use snapshot::{ItemKept, PresenceKept, Snapshot};
 pub use words::{name_at, word_at};
+pub use writing::encode;

@@ -1,4 +1,4 @@
-use Rattle.std.proofs.Common.{◌≡◌, ◌+◌, ◌∙◌, sym, ap, length, arith}
+use Rattle.std.proofs.Common.{◌+◌, ◌∙◌, ap, length, arith}
 use Rattle.ra_progress_by_name.specs.Contents.{shape_contents}
 use Rattle.ra_progress_by_name.proofs.Owns.{own_count, script_count}
 use Rattle.ra_progress_by_name.proofs.own.own_count.Goals as goal

@@ -1,4 +1,4 @@
-use Rattle.std.proofs.Common.{◌≡◌, ◌+◌, ◌<◌, ◌≤◌, ◌∙◌, sym, ap, length, arith}
+use Rattle.std.proofs.Common.{◌≡◌, ◌+◌, ◌<◌, ◌∙◌, sym, ap, length, arith}
 use Rattle.ra_progress_by_name.specs.Contents.{shape_contents, OfItem, own_entries, own_at}
 use Rattle.ra_progress_by_name.proofs.Owns.{own_count, own_item, own_script, script_count}
 use Rattle.ra_progress_by_name.proofs.own.own_shape.Goals as goal

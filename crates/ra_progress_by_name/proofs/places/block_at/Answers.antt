@@ -1,4 +1,4 @@
-use Rattle.std.proofs.Common.{◌≡◌, ◌+◌, ◌*◌, ◌∙◌, sym, ap, refl, arith, take, sum_by}
+use Rattle.std.proofs.Common.{◌≡◌, ◌∙◌, sym, refl, take, sum_by}
 use Rattle.std.proofs.lemmas.Bool.{ne_eqb}
 use Rattle.ra_progress_by_name.specs.Contents.{shape_contents, own_entries}
 use Rattle.ra_progress_by_name.specs.Layout.{own_length}

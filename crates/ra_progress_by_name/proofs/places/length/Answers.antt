@@ -1,4 +1,4 @@
-use Rattle.std.proofs.Common.{◌≡◌, ◌+◌, ◌∙◌, sym, ap, sum_by, arith}
+use Rattle.std.proofs.Common.{◌≡◌, ◌+◌, sym, sum_by, arith}
 use Rattle.ra_progress_by_name.specs.Contents.{shape_contents, own_entries}
 use Rattle.ra_progress_by_name.specs.Layout.{item_length, own_length}
 use Rattle.ra_progress_by_name.proofs.Owns.{own_total}

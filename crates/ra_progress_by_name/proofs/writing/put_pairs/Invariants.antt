@@ -1,0 +1,7 @@
+use Rattle.std.proofs.Common.{◌≡◌, ◌++◌, take}
+use Rattle.ra_progress_by_name.specs.Spelling.{named_words}
+use Rattle.ra_progress_by_name.proofs.writing.put_pairs.Given as goal
+
+-- the names so far with their numbers
+abbrev pub invariant-loop-k : goal.invariant-loop-k
+invariant-loop-k l = l.bytes.items ≡ l.initial.bytes.items ++ named_words (take l.k l.names) (take l.k l.numbers)
