@@ -14,6 +14,8 @@ mod refused;
 mod relation;
 mod shape;
 mod snapshot;
+#[cfg(test)]
+mod tests;
 mod words;
 mod writing;
 
