@@ -1,4 +1,5 @@
 pub mod Blocks
+pub mod Bytes
 pub mod Needs
 pub mod Orders
 pub mod Owns

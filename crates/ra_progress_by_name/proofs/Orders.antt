@@ -20,7 +20,7 @@ before a b = is_lt (slice_cmp nat_cmp a b)
 pub names_ranked : IsStrictWeakOrder before
 names_ranked = ranks_by (lists_total nat_cmp_total) (λ n. n)
 
-places_total : (names : List Name) → IsTotalOrder (place_cmp names)
+pub places_total : (names : List Name) → IsTotalOrder (place_cmp names)
 places_total names = then_total (on_total (named_by names) (lists_total nat_cmp_total)) nat_cmp_total
 
 first_decides : (r s : Ordering) → is_lt (ordering_then r s) ≡ false → is_lt r ≡ false

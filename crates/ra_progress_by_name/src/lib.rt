@@ -22,7 +22,7 @@ mod writing;
 pub use layout::{cell_count, entry_after, entry_count, first_entry, prior_count};
 pub use named::Named;
 pub use order::order_of;
-pub use places::{item_at, length, length_1, presence_at};
+pub use places::{frames_at, item_at, length, length_1, presence_at};
 pub use range::matches;
 pub use refused::ProgressRefused;
 pub use relation::of_this_set;

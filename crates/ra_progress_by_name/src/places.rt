@@ -26,6 +26,17 @@ pub fn length_1(shape: &Shape) -> u64
     blocks_at_1(shape) + blocks + 16
 }
 
+/// The frame count that the bytes keep, of which there are at least 29: docs/DEFINITIONS.md,
+/// "Progress file".
+pub fn frames_at(bytes: &[u8]) -> u64
+    requires { 29 ≤ length_of_list bytes.now }
+    ensures { result ≡ layout.frames_at bytes.now }
+{
+    u64::from_le_bytes([
+        bytes[21], bytes[22], bytes[23], bytes[24], bytes[25], bytes[26], bytes[27], bytes[28],
+    ])
+}
+
 /// Where the block of an item stands in the set's own bytes of a version, in bytes from the start:
 /// docs/DEFINITIONS.md, "Progress file". Items are counted from 0.
 pub fn item_at(shape: &Shape, version: u8, item: u32) -> u64

@@ -4,8 +4,8 @@ ghost use Rattle.std.specs.Prelude.{◌≤◌, ◌+◌};
 
 use crate::layout::need;
 use crate::{
-    ItemKept, ItemShape, Named, Shape, Snapshot, encode, item_at, length, length_1, matches,
-    name_at, order_of, word_at,
+    ItemKept, ItemShape, Named, Shape, Snapshot, encode, frames_at, item_at, length, length_1,
+    matches, name_at, order_of, word_at,
 };
 use std::test::Fail;
 
@@ -79,6 +79,7 @@ fn names_stand_in_the_file(rt: HostRuntime) -> Result<(), Fail> {
     assert_eq!(rt; name_at(&FILE, 33), CELL);
     assert_eq!(rt; name_at(&FILE, 61), ITEM);
     assert_eq!(rt; word_at(&FILE, 49), 5);
+    assert_eq!(rt; frames_at(&FILE), 5);
     Ok(())
 }
 
