@@ -1,5 +1,6 @@
 pub mod CutBack
 pub mod FirstLine
+pub mod HeadLemmas
 pub mod HexDigits
 pub mod Lending
 pub mod Longer

@@ -1,6 +1,7 @@
 pub mod Cutting
 pub mod Ending
 pub mod Entries
+pub mod Heads
 pub mod Window
 pub mod Reading
 pub mod Rules

@@ -1,13 +1,13 @@
 //! The header and the record at the front of bytes.
 
-ghost use Rattle.std.specs.Prelude.{◌≡◌, ◌<◌, ◌≤◌, IfSome, Some, true, length, replicate};
+ghost use Rattle.std.specs.Prelude.{◌≡◌, ◌+◌, ◌<◌, ◌≤◌, IfOk, IfSome, Err, true, length, replicate, slice_index};
 ghost use Rattle.ra_trace.specs.declared.error.Why.TheVariants.{Cut};
-ghost use Rattle.ra_trace.specs.Entries.{entry_of, entry_bytes};
-ghost use Rattle.ra_trace.specs.Cutting.{header_size, write_refusal, save_refusal, restore_refusal, refusal, front};
-ghost use Rattle.ra_trace.specs.Reading.{IsWhole};
+ghost use Rattle.ra_trace.specs.declared.head.Head.TheVariants as heads;
+ghost use Rattle.ra_trace.specs.Cutting.{header_size, place_in, count_in, write_refusal, save_refusal, restore_refusal, refusal, front};
+ghost use Rattle.ra_trace.specs.Heads.{head_length, head_of, why_of};
 
 use crate::error::Why;
-use crate::record::Record;
+use crate::head::Head;
 
 // The most bytes of a memory.
 const SIZE_LIMIT: u32 = 134_217_728;
@@ -27,79 +27,64 @@ pub fn read_header(bytes: &[u8]) -> Option<u32>
     if size <= SIZE_LIMIT { Some(size) } else { None }
 }
 
-// Why no write stands behind its first byte.
-fn why_no_write(size: u32, rest: &[u8]) -> Option<Why>
-    ensures why { result ≡ write_refusal size rest.now }
-    ensures short { result ≡ Some Cut → length rest.now < 65541 }
+// The head of the write behind its first byte, or why none stands there.
+fn write_head(size: u32, rest: &[u8]) -> Result<Head, Why>
+    ensures why { why_of result ≡ write_refusal size rest.now }
+    ensures head { IfOk result (λ head. head ≡ heads.Write (place_in rest.now) (count_in rest.now)) }
+    ensures long { IfOk result (λ head. 6 + count_in rest.now ≤ length rest.now) }
+    ensures short { result ≡ Err Cut → length rest.now < 65541 }
 {
     let [a, b, c, d, low, high, bytes @ ..] = rest else {
-        return Some(Why::Cut);
+        return Err(Why::Cut);
     };
     let at = u32::from_le_bytes([*a, *b, *c, *d]);
     let count = u16::from_le_bytes([*low, *high]);
     if bytes.len() < usize::from(count) {
-        Some(Why::Cut)
+        Err(Why::Cut)
     } else if u64::from(size) < u64::from(at) + u64::from(count) {
-        Some(Why::PastMemory)
+        Err(Why::PastMemory)
     } else {
-        None
+        Ok(Head::Write { at, count })
     }
 }
 
-// Why no slot stands behind the first byte of a save or a restore.
-fn why_no_slot(rest: &[u8]) -> Option<Why>
-    ensures save { result ≡ save_refusal rest.now }
-    ensures restore { result ≡ restore_refusal (replicate 16 true) rest.now }
-    ensures short { result ≡ Some Cut → length rest.now ≡ 0 }
+// The slot behind the first byte of a save or a restore, or why none stands there.
+fn slot_at(rest: &[u8]) -> Result<u8, Why>
+    ensures save { why_of result ≡ save_refusal rest.now }
+    ensures restore { why_of result ≡ restore_refusal (replicate 16 true) rest.now }
+    ensures slot { IfOk result (λ slot. slot ≡ slice_index rest.now 0) }
+    ensures there { IfOk result (λ slot. 1 ≤ length rest.now) }
+    ensures short { result ≡ Err Cut → length rest.now ≡ 0 }
 {
     match rest {
-        [] => Some(Why::Cut),
-        [slot, ..] if *slot > SLOT_LIMIT => Some(Why::Slot),
-        _ => None,
+        [] => Err(Why::Cut),
+        [slot, ..] if *slot > SLOT_LIMIT => Err(Why::Slot),
+        [slot, ..] => Ok(*slot),
     }
 }
 
-/// Why no record stands at the front, every slot taken as filled. What is cut is shorter than the longest record.
-pub fn why_no_record(size: u32, bytes: &[u8]) -> Option<Why>
-    ensures why { result ≡ refusal size (replicate 16 true) bytes.now }
-    ensures short { result ≡ Some Cut → length bytes.now < 65542 }
+/// The head of the record at the front, every slot taken as filled, or why none stands there. What is cut is shorter
+/// than the longest record.
+pub fn front_head(size: u32, bytes: &[u8]) -> Result<Head, Why>
+    ensures why { why_of result ≡ refusal size (replicate 16 true) bytes.now }
+    ensures head { IfOk result (λ head. head ≡ head_of (front bytes.now)) }
+    ensures long { IfOk result (λ head. head_length head ≤ length bytes.now) }
+    ensures short { result ≡ Err Cut → length bytes.now < 65542 }
 {
     match bytes {
-        [] => Some(Why::Cut),
-        [b'W', rest @ ..] => why_no_write(size, rest),
-        [b'S' | b'R', rest @ ..] => why_no_slot(rest),
-        [b'F' | b'P' | b'E', ..] => None,
-        _ => Some(Why::Kind),
-    }
-}
-
-/// How many bytes the record at the front takes.
-pub fn record_length(bytes: &[u8]) -> usize
-    requires { IsWhole bytes.now }
-    ensures length { result ≡ length (entry_bytes (front bytes.now)) }
-    ensures within { result ≤ length bytes.now }
-{
-    match bytes {
-        [b'W', _, _, _, _, low, high, ..] => 7 + usize::from(u16::from_le_bytes([*low, *high])),
-        [b'S' | b'R', ..] => 2,
-        _ => 1,
-    }
-}
-
-/// The record at the front.
-pub fn front_record<'a>(bytes: &'a [u8]) -> Record<'a>
-    requires { IsWhole bytes.now }
-    ensures { entry_of result ≡ front bytes.now }
-{
-    match bytes {
-        [b'W', a, b, c, d, low, high, rest @ ..] => Record::Write {
-            at: u32::from_le_bytes([*a, *b, *c, *d]),
-            bytes: &rest[..usize::from(u16::from_le_bytes([*low, *high]))],
+        [] => Err(Why::Cut),
+        [b'W', rest @ ..] => write_head(size, rest),
+        [b'S', rest @ ..] => match slot_at(rest) {
+            Ok(slot) => Ok(Head::Save { slot }),
+            Err(why) => Err(why),
         },
-        [b'S', slot, ..] => Record::Save { slot: *slot },
-        [b'R', slot, ..] => Record::Restore { slot: *slot },
-        [b'F', ..] => Record::Frame,
-        [b'P', ..] => Record::Show,
-        _ => Record::End,
+        [b'R', rest @ ..] => match slot_at(rest) {
+            Ok(slot) => Ok(Head::Restore { slot }),
+            Err(why) => Err(why),
+        },
+        [b'F', ..] => Ok(Head::Frame),
+        [b'P', ..] => Ok(Head::Show),
+        [b'E', ..] => Ok(Head::End),
+        _ => Err(Why::Kind),
     }
 }

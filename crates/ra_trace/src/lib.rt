@@ -5,6 +5,7 @@ mod draws;
 mod error;
 mod four_digits;
 mod front;
+mod head;
 mod laws;
 mod made_set;
 mod made_trace;

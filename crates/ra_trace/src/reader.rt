@@ -1,7 +1,8 @@
 //! A trace file that is read record by record.
 
 use crate::error::{TraceError, Why};
-use crate::front::{front_record, read_header, record_length, why_no_record};
+use crate::front::{front_head, read_header};
+use crate::head::Head;
 use crate::record::Record;
 use crate::window::Window;
 use ra_io::Files;
@@ -49,12 +50,13 @@ impl Model for Reader {
 }
 
 impl Reader {
-    ghost use Rattle.std.specs.Prelude.{◌≡◌, ◌≤◌, Some, IfOk, IfErr, OnErr, IfSome, IsSome, OnOk, length, drop, take, replicate, true, ◌<◌, ◌-◌};
+    ghost use Rattle.std.specs.Prelude.{◌≡◌, ◌≤◌, Some, IfOk, IfErr, OnErr, IfSome, IsSome, OnOk, length, drop, take, replicate, true, Err, ◌<◌, ◌-◌};
     ghost use Rattle.std.specs.Borrow.{sem};
     ghost use Rattle.ra_io.specs.Causes.{Rose, NoneFell};
     ghost use Rattle.ra_io.specs.Files.{SameContent};
     ghost use Rattle.ra_trace.specs.Entries.{entry_of};
-    ghost use Rattle.ra_trace.specs.Cutting.{header_size, refusal};
+    ghost use Rattle.ra_trace.specs.Cutting.{header_size, refusal, front};
+    ghost use Rattle.ra_trace.specs.Heads.{head_length, head_of, why_of};
     ghost use Rattle.ra_trace.specs.declared.error.Why.TheVariants.{Cut};
     ghost use Rattle.ra_trace.specs.Reading.{Holds, ReadsFront, ReadsOn, Knows, Found, Stands, LiesWithin, StaysBefore, IsBehindHeader, IsInside, refused_as, opened, most_bytes, unanswered, header_stop, next_stop, IsStop, ByFault};
     ghost use Rattle.ra_trace.specs.Ending.{EndsAs};
@@ -133,14 +135,16 @@ impl Reader {
         self.window.len() - (self.taken - self.next) as usize
     }
 
-    // Why no record stands next among the bytes that are held.
-    fn why_no_record(&self, size: u32) -> Option<Why>
-        ensures why { result ≡ refusal size (replicate 16 true) (unanswered self.now) }
-        ensures short { result ≡ Some Cut → length (unanswered self.now) < 65542 }
+    // The head of the next record among the bytes that are held, or why none stands there.
+    fn next_head(&self, size: u32) -> Result<Head, Why>
+        ensures why { why_of result ≡ refusal size (replicate 16 true) (unanswered self.now) }
+        ensures head { IfOk result (λ head. head ≡ head_of (front (unanswered self.now))) }
+        ensures long { IfOk result (λ head. head_length head ≤ length (unanswered self.now)) }
+        ensures short { result ≡ Err Cut → length (unanswered self.now) < 65542 }
         ensures inside { IsInside (length self.now.held) self.now.limit self.now.taken self.now.next }
     {
         let front = self.front();
-        why_no_record(size, self.window.bytes_from(front))
+        front_head(size, self.window.bytes_from(front))
     }
 
     // Reads on, and says whether bytes came.
@@ -167,9 +171,11 @@ impl Reader {
         Ok(more > 0)
     }
 
-    // Reads on as far as the next record goes, and says why none stands there.
-    fn look<F: Files>(&mut self, size: u32, files: &mut F) -> Result<Option<Why>, TraceError>
-        ensures knows { IfOk result (λ why. Knows (F.content files.old self.old.name) size why self.old self.new) }
+    // Reads on as far as the next record goes, and answers its head, or why none stands there.
+    fn look<F: Files>(&mut self, size: u32, files: &mut F) -> Result<Result<Head, Why>, TraceError>
+        ensures knows { IfOk result (λ found. Knows (F.content files.old self.old.name) size (why_of found) self.old self.new) }
+        ensures head { IfOk result (λ found. IfOk found (λ head. head ≡ head_of (front (unanswered self.new)))) }
+        ensures long { IfOk result (λ found. IfOk found (λ head. head_length head ≤ length (unanswered self.new))) }
         ensures only { IfErr result (λ why. why ≡ TraceError.Read) }
         ensures last { OnErr result (StaysBefore self.old self.new) }
         ensures fault { OnErr result (Rose (F.read_faults files.old self.old.name) (F.read_faults files.new self.old.name)) }
@@ -178,12 +184,12 @@ impl Reader {
         ensures puts { NoneFell (F.put_faults files.old) (F.put_faults files.new) }
     {
         let mut more = true;
-        let mut why = self.why_no_record(size);
-        while more && matches!(why, Some(Why::Cut)) {
+        let mut found = self.next_head(size);
+        while more && matches!(found, Err(Why::Cut)) {
             more = self.read_on(files)?;
-            why = self.why_no_record(size);
+            found = self.next_head(size);
         }
-        Ok(why)
+        Ok(found)
     }
 
     // What is answered where no record stands next: a cut one is past the limit where that was taken.
@@ -196,10 +202,12 @@ impl Reader {
         }
     }
 
-    // Moves to the next record, and says where it starts among the bytes that are held.
-    fn step<F: Files>(&mut self, files: &mut F) -> Result<usize, TraceError>
+    // Moves to the next record, and answers where it starts among the bytes that are held, and its head.
+    fn step<F: Files>(&mut self, files: &mut F) -> Result<(usize, Head), TraceError>
         requires { IsSome self.old.size }
-        ensures found { IfOk result (λ at. Found (F.content files.old self.old.name) at self.old self.new) }
+        ensures found { IfOk result (λ next. Found (F.content files.old self.old.name) next.0 self.old self.new) }
+        ensures head { IfOk result (λ next. next.1 ≡ head_of (front (drop next.0 self.new.held))) }
+        ensures long { IfOk result (λ next. head_length next.1 ≤ length (drop next.0 self.new.held)) }
         ensures err { IfErr result (λ why. IfSome (F.content files.old self.old.name) (λ bytes. Holds self.old bytes → IfSome self.old.size (λ size. IsStop why (next_stop self.old.limit size self.old.next bytes)))) }
         ensures last { OnErr result (StaysBefore self.old self.new) }
         ensures fault { IfErr result (λ why. ByFault why (F.read_faults files.old self.old.name) (F.read_faults files.new self.old.name)) }
@@ -209,14 +217,13 @@ impl Reader {
     {
         let size = self.size.unwrap_or(0);
         match self.look(size, files)? {
-            None => {
+            Ok(head) => {
                 let at = self.front();
-                let count = record_length(self.window.bytes_from(at));
                 self.last = self.next;
-                self.next += count as u64;
-                Ok(at)
+                self.next += head.length() as u64;
+                Ok((at, head))
             }
-            Some(why) => Err(self.refused(why)),
+            Err(why) => Err(self.refused(why)),
         }
     }
 
@@ -235,8 +242,8 @@ impl Reader {
         ensures puts { NoneFell (F.put_faults files.old) (F.put_faults files.new) }
         ensures* after { sem 𝓛 (EndsAs (F.content files.old self.old.name) self.entry result) }
     {
-        let at = self.step(files)?;
-        Ok(front_record(self.window.bytes_from(at)))
+        let (at, head) = self.step(files)?;
+        Ok(head.record(self.window.bytes_from(at)))
     }
 
     /// The place where the last record starts, in bytes from 0, and 0 where none was read.

@@ -1,6 +1,7 @@
 use Rattle.std.proofs.Common.{rules}
+use Rattle.ra_trace.specs.Heads.{why_of}
 use Rattle.ra_trace.proofs.Looking.{knows_by, falls}
-use Rattle.ra_trace.proofs.reader.Reader.look.Goals.{in-Some-Cut, in_default, in_default-2}
+use Rattle.ra_trace.proofs.reader.Reader.look.Goals.{in-Err-Cut, in_default, in_default-2}
 use Rattle.ra_trace.proofs.reader.Reader.look.Goals as goal
 
 pub loop-more-smaller : goal.loop-more-smaller
@@ -11,9 +12,9 @@ loop-more-smaller g c =
 pub returns-else-matches-clause-knows : goal.returns-else-matches-clause-knows
 returns-else-matches-clause-knows g c =
     let i = c.loop-more.invariant in
-    knows_by _ c.args.size c.loop-more.more c.loop-more.why c.args.self.now c.loop-more.self i.inside i.kept i.sized i.last i.next i.here i.holds i.end
+    knows_by _ c.args.size c.loop-more.more (why_of c.loop-more.found) c.args.self.now c.loop-more.self i.inside i.kept i.sized i.last i.next i.here i.holds i.end
     (λ cut. elim c.match-matches.branch [
-      | in-Some-Cut w ↦ search rules
+      | in-Err-Cut w ↦ search rules
       | in_default w ↦ search rules
       | in_default-2 w ↦ search rules
     ])
@@ -21,4 +22,4 @@ returns-else-matches-clause-knows g c =
 pub returns-after-loop-more-clause-knows : goal.returns-after-loop-more-clause-knows
 returns-after-loop-more-clause-knows g c =
     let i = c.loop-more.invariant in
-    knows_by _ c.args.size c.loop-more.more c.loop-more.why c.args.self.now c.loop-more.self i.inside i.kept i.sized i.last i.next i.here i.holds i.end (λ cut. search rules)
+    knows_by _ c.args.size c.loop-more.more (why_of c.loop-more.found) c.args.self.now c.loop-more.self i.inside i.kept i.sized i.last i.next i.here i.holds i.end (λ cut. search rules)

@@ -1,8 +1,9 @@
-use Rattle.std.proofs.Common.{◌≡◌, ℕ, ◌+◌, ◌-◌, ◌<◌, min, true, false, if◌then◌else◌, Some, List, length, replicate}
+use Rattle.std.proofs.Common.{Err, IfOk, ◌≤◌, ◌≡◌, ℕ, ◌+◌, ◌-◌, ◌<◌, min, true, false, if◌then◌else◌, Some, List, length, replicate}
 use Rattle.ra_io.specs.Causes.{NoneFell}
 use Rattle.ra_io.specs.Files.{SameContent}
 use Rattle.ra_trace.specs.declared.error.Why.TheVariants.{Cut}
-use Rattle.ra_trace.specs.Cutting.{refusal}
+use Rattle.ra_trace.specs.Cutting.{refusal, front}
+use Rattle.ra_trace.specs.Heads.{head_length, head_of, why_of}
 use Rattle.ra_trace.specs.Reading.{Holds, IsInside, SameReader, unanswered}
 use Rattle.ra_trace.proofs.reader.Reader.look.Given as goal
 
@@ -13,8 +14,10 @@ invariant-loop-more g l = record {
   last : l.self.last ≡ l.initial.self.last;
   next : l.self.next ≡ l.initial.self.next;
   inside : IsInside (length l.self.held) l.self.limit l.self.taken l.self.next;
-  here : l.why ≡ refusal l.size (replicate 16 true) (unanswered l.self);
-  short : l.why ≡ Some Cut → length (unanswered l.self) < 65542;
+  here : why_of l.found ≡ refusal l.size (replicate 16 true) (unanswered l.self);
+  head : IfOk l.found (λ head. head ≡ head_of (front (unanswered l.self)));
+  long : IfOk l.found (λ head. head_length head ≤ length (unanswered l.self));
+  short : l.found ≡ Err Cut → length (unanswered l.self) < 65542;
   holds : (bytes : List ℕ) → g.F.Files.content l.initial.files l.initial.self.name ≡ Some bytes → Holds l.initial.self bytes → Holds l.self bytes;
   end : (bytes : List ℕ) → g.F.Files.content l.initial.files l.initial.self.name ≡ Some bytes → Holds l.initial.self bytes → l.more ≡ false → l.self.taken ≡ min l.self.limit (length bytes);
   same : SameContent (g.F.Files.content l.initial.files) (g.F.Files.content l.files);

@@ -1,0 +1,23 @@
+-- Heads of records.
+use Rattle.std.proofs.Common.{arith, ◌≡◌, ap, sym, refl, ℕ, ◌+◌, ◌≤◌, List, length, take, drop}
+use Rattle.std.proofs.lemmas.List.{length-take-le, length-drop}
+use Rattle.ra_trace.specs.declared.head.Head.TheVariants as heads
+use Rattle.ra_trace.specs.Entries.{Entry, Written, Framed, Saved, Restored, Shown, Ended, entry_bytes}
+use Rattle.ra_trace.specs.Cutting.{place_in, count_in}
+use Rattle.ra_trace.specs.Heads.{head_length, head_of}
+
+-- a head is as long as its record
+pub entry_length : (entry : Entry) → head_length (head_of entry) ≡ length (entry_bytes entry)
+entry_length (Written at bytes) = omega arith
+entry_length Framed = refl
+entry_length (Saved slot) = refl
+entry_length (Restored slot) = refl
+entry_length Shown = refl
+entry_length Ended = refl
+
+-- the head of a write of which all bytes are there
+pub written_head : (rest : List ℕ) → 6 + count_in rest ≤ length rest
+    → heads.Write (place_in rest) (count_in rest) ≡ head_of (Written (place_in rest) (take (count_in rest) (drop 6 rest)))
+written_head rest long =
+    let there : length (take (count_in rest) (drop 6 rest)) ≡ count_in rest = length-take-le (count_in rest) (drop 6 rest) (omega (arith, long, length-drop 6 rest)) in
+    ap (heads.Write (place_in rest)) (sym there)
