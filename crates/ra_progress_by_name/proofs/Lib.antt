@@ -1,9 +1,12 @@
 pub mod Blocks
 pub mod Bytes
+pub mod Checks
 pub mod Needs
 pub mod Orders
+pub mod OwnNames
 pub mod Owns
 pub mod Pairs
+pub mod Segments
 pub mod Sizes
 pub mod Usable
 pub mod Walks
