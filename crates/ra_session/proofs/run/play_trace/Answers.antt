@@ -7,7 +7,7 @@ use Rattle.ra_trace.specs.Reading.{IsStop, header_stop}
 use Rattle.ra_session.specs.Closing.{stop_of_trace, ending_of_stop}
 use Rattle.ra_session.specs.Endings.{Done}
 use Rattle.ra_session.specs.Expected.{played, trace_limit}
-use Rattle.ra_session.specs.Playing.{slots_of}
+use Rattle.ra_session.specs.Playing.{IsOfTrace, slots_of}
 use Rattle.ra_session.proofs.NextLemmas.{told}
 use Rattle.ra_session.proofs.LeftLemmas.{left_whole, pieces_of}
 use Rattle.ra_session.specs.declared.stop.Stop.TheVariants as stop
@@ -84,3 +84,8 @@ pub returns-in_err-play_records-clause-write : goal.returns-in_err-play_records-
 returns-in_err-play_records-clause-write g c =
     if_err_by c.from_residual-in_err-play_records.result c.in_err-play_records.field-0.0 (λ e. e ≡ stop.Write → Rose (g.K.Sink.faults c.args.out.now) (g.K.Sink.faults c.play_records.new.out)) c.from_residual-in_err-play_records.ensures.1
     c.in_err-play_records.ensures.write
+
+pub returns-in_err-play_records-clause-kinds : goal.returns-in_err-play_records-clause-kinds
+returns-in_err-play_records-clause-kinds g c =
+    if_err_by c.from_residual-in_err-play_records.result c.in_err-play_records.field-0.0 IsOfTrace c.from_residual-in_err-play_records.ensures.1
+    c.in_err-play_records.ensures.kinds
