@@ -1,1 +1,4 @@
+pub mod Breadth
+pub mod FaultLemmas
 pub mod FieldLemmas
+pub mod TokenBreadth

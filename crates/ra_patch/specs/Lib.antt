@@ -1,3 +1,5 @@
+pub mod Answers
+pub mod Checks
 pub mod Faults
 pub mod Fields
 pub mod Lines

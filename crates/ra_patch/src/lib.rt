@@ -1,6 +1,7 @@
 //! Sets from JSON: the set file that a document gives, after the service's form.
 #![tactic(auto)]
 
+mod check;
 mod fields;
 mod refused;
 mod root;
