@@ -1,3 +1,4 @@
+pub mod AnswerLemmas
 pub mod Breadth
 pub mod FaultLemmas
 pub mod FieldLemmas

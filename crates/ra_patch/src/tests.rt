@@ -1,0 +1,323 @@
+//! Documents, and what they give.
+
+use crate::{PatchField, PatchList, PatchRefused, import, set_of};
+use ra_set::{SetRefused, Which};
+use std::alloc::Global;
+use std::test::Fail;
+
+// Whether the document gives this set file.
+fn gives(alloc: Global, document: &str, text: &str) -> bool {
+    match set_of(alloc, document.as_bytes()) {
+        Ok(given) => given.as_slice() == text.as_bytes(),
+        Err(_) => false,
+    }
+}
+
+// Whether the document gives a set of so many items, with a presence script or without.
+fn gives_set(alloc: Global, document: &str, items: usize, has_script: bool) -> bool {
+    match import(alloc, document.as_bytes()) {
+        Ok(given) => given.set.items.len() == items && given.set.script.is_some() == has_script,
+        Err(_) => false,
+    }
+}
+
+// Why the document gives none.
+fn refusal(alloc: Global, document: &[u8]) -> Option<PatchRefused> {
+    set_of(alloc, document).err()
+}
+
+#[test]
+fn a_whole_document_gives_its_lines(rt: HostRuntime) {
+    let document =
+        "{\"Success\":true,\"PatchData\":{\"Title\":\"Demo\",\"Achievements\":[{\"ID\":7,\"MemAddr\":\"0xH0010=5.3.\",\"Points\":5}],\
+        \"Leaderboards\":[{\"ID\":9,\"Mem\":\"STA:0=1::CAN:0=1::SUB:0=1::VAL:0xH0001\",\"Format\":\"VALUE\"}],\
+        \"RichPresencePatch\":\"Display:\\r\\nHi\\r\\n\"}}";
+    let text =
+        "A 7 0xH0010=5.3.\nL 9 VALUE STA:0=1::CAN:0=1::SUB:0=1::VAL:0xH0001\nP\nDisplay:\r\nHi\r\n";
+    assert!(rt; gives(rt.alloc(), document, text));
+}
+
+#[test]
+fn a_document_gives_the_set_of_its_lines(rt: HostRuntime) {
+    for (document, items, has_script) in [
+        ("{\"PatchData\":{\"Achievements\":[]}}", 0, false),
+        (
+            "{\"PatchData\":{\"Achievements\":[{\"ID\":7,\"MemAddr\":\"\"},{\"ID\":8,\"MemAddr\":\"0=1\"}],\
+            \"RichPresencePatch\":\"Display:\\nHi\"}}",
+            2,
+            true,
+        ),
+    ] {
+        assert!(rt;
+            gives_set(rt.alloc(), document, items, has_script),
+            "{document}"
+        );
+    }
+}
+
+#[test]
+fn what_may_be_missing_gives_nothing(rt: HostRuntime) {
+    for (document, text) in [
+        ("{\"PatchData\":{\"Achievements\":[]}}", ""),
+        (
+            "{\"PatchData\":{\"Achievements\":[],\"RichPresencePatch\":null}}",
+            "",
+        ),
+        (
+            "{\"PatchData\":{\"Achievements\":[],\"RichPresencePatch\":\"\"}}",
+            "",
+        ),
+        (
+            "{\"PatchData\":{\"Achievements\":[],\"Leaderboards\":[]}}",
+            "",
+        ),
+    ] {
+        assert!(rt; gives(rt.alloc(), document, text), "{document}");
+    }
+}
+
+#[test]
+fn the_last_of_a_repeated_name_counts(rt: HostRuntime) {
+    for (document, text) in [
+        (
+            "{\"PatchData\":{\"Achievements\":[{\"ID\":1,\"\\u0049\\u0044\":9,\"MemAddr\":\"0=1\"}]}}",
+            "A 9 0=1\n",
+        ),
+        (
+            "{\"PatchData\":{\"Achievements\":[{\"ID\":null,\"MemAddr\":\"0=1\",\"ID\":4294967295}]}}",
+            "A 4294967295 0=1\n",
+        ),
+        (
+            "{\"PatchData\":7,\"PatchData\":{\"Achievements\":7,\"Achievements\":[{\"ID\":0,\"MemAddr\":\"\"}]}}",
+            "A 0 \n",
+        ),
+    ] {
+        assert!(rt; gives(rt.alloc(), document, text), "{document}");
+    }
+}
+
+#[test]
+fn what_is_no_json_is_refused(rt: HostRuntime) {
+    for document in [
+        &b""[..],
+        b"\xef\xbb\xbf{}",
+        b"{\"a\":\"\xff\"}",
+        b"{\"a\":\"\\ud800\"}",
+        b"{\"a\":1}{}",
+        b"{\"a\":01}",
+    ] {
+        assert_eq!(rt; refusal(rt.alloc(), document), Some(PatchRefused::NotJson));
+    }
+}
+
+#[test]
+fn a_field_of_the_root_that_is_wrong_is_refused(rt: HostRuntime) {
+    for (document, field) in [
+        ("[]", PatchField::PatchData),
+        ("{}", PatchField::PatchData),
+        ("{\"PatchData\":[]}", PatchField::PatchData),
+        ("{\"PatchData\":{}}", PatchField::Achievements),
+        (
+            "{\"PatchData\":{\"Achievements\":{}}}",
+            PatchField::Achievements,
+        ),
+        (
+            "{\"PatchData\":{\"Achievements\":[7],\"Leaderboards\":null}}",
+            PatchField::Leaderboards,
+        ),
+        (
+            "{\"PatchData\":{\"Achievements\":[7],\"RichPresencePatch\":0}}",
+            PatchField::RichPresencePatch,
+        ),
+    ] {
+        let why = PatchRefused::Field {
+            list: PatchList::Root,
+            index: 0,
+            field,
+        };
+        assert_eq!(rt;
+            refusal(rt.alloc(), document.as_bytes()),
+            Some(why),
+            "{document}"
+        );
+    }
+}
+
+// The document of one achievement with this id.
+fn with_id(alloc: Global, id: &str) -> Result<String, Fail> {
+    Ok(format!(in alloc;
+        "{{\"PatchData\":{{\"Achievements\":[{{\"MemAddr\":\"\",\"ID\":{id}}}]}}}}"
+    )?)
+}
+
+#[test]
+fn an_id_is_a_whole_number_of_32_bits(rt: HostRuntime) -> Result<(), Fail> {
+    let why = PatchRefused::Field {
+        list: PatchList::Achievements,
+        index: 0,
+        field: PatchField::Id,
+    };
+    for id in [
+        "7.0",
+        "7e0",
+        "-0",
+        "-1",
+        "4294967296",
+        "\"7\"",
+        "null",
+        "18446744073709551616",
+    ] {
+        let document = with_id(rt.alloc(), id)?;
+        assert_eq!(rt; refusal(rt.alloc(), document.as_bytes()), Some(why), "{id}");
+    }
+    Ok(())
+}
+
+#[test]
+fn fields_of_items_come_before_their_texts(rt: HostRuntime) {
+    let achievements = PatchList::Achievements;
+    let leaderboards = PatchList::Leaderboards;
+    for (document, list, index, field) in [
+        (
+            "{\"PatchData\":{\"Achievements\":[{\"MemAddr\":\"\"}]}}",
+            achievements,
+            0,
+            PatchField::Id,
+        ),
+        (
+            "{\"PatchData\":{\"Achievements\":[{\"ID\":1,\"MemAddr\":\"0=1\\n\"},{\"ID\":2}]}}",
+            achievements,
+            1,
+            PatchField::MemAddr,
+        ),
+        (
+            "{\"PatchData\":{\"Achievements\":[{\"ID\":1,\"MemAddr\":\"\\r\"}],\"Leaderboards\":[{\"ID\":1,\"Format\":\"\"}]}}",
+            leaderboards,
+            0,
+            PatchField::Mem,
+        ),
+        (
+            "{\"PatchData\":{\"Achievements\":[],\"Leaderboards\":[7]}}",
+            leaderboards,
+            0,
+            PatchField::Id,
+        ),
+        (
+            "{\"PatchData\":{\"Achievements\":[],\"Leaderboards\":[{\"ID\":1,\"Mem\":\"\"}]}}",
+            leaderboards,
+            0,
+            PatchField::Format,
+        ),
+    ] {
+        let why = PatchRefused::Field { list, index, field };
+        assert_eq!(rt;
+            refusal(rt.alloc(), document.as_bytes()),
+            Some(why),
+            "{document}"
+        );
+    }
+}
+
+#[test]
+fn a_text_that_would_end_its_line_is_refused(rt: HostRuntime) {
+    let achievements = PatchList::Achievements;
+    let leaderboards = PatchList::Leaderboards;
+    for (document, list, index) in [
+        (
+            "{\"PatchData\":{\"Achievements\":[{\"ID\":1,\"MemAddr\":\"\"},{\"ID\":2,\"MemAddr\":\"0=1\\r\"}]}}",
+            achievements,
+            1,
+        ),
+        (
+            "{\"PatchData\":{\"Achievements\":[],\"Leaderboards\":[{\"ID\":1,\"Mem\":\"\",\"Format\":\"\"}]}}",
+            leaderboards,
+            0,
+        ),
+        (
+            "{\"PatchData\":{\"Achievements\":[],\"Leaderboards\":[{\"ID\":1,\"Mem\":\"\",\"Format\":\"A B\"}]}}",
+            leaderboards,
+            0,
+        ),
+        (
+            "{\"PatchData\":{\"Achievements\":[],\"Leaderboards\":[{\"ID\":1,\"Mem\":\"\\n\",\"Format\":\"A\"}]}}",
+            leaderboards,
+            0,
+        ),
+    ] {
+        let why = PatchRefused::Break { list, index };
+        assert_eq!(rt;
+            refusal(rt.alloc(), document.as_bytes()),
+            Some(why),
+            "{document}"
+        );
+    }
+}
+
+#[test]
+fn a_format_is_any_one_word(rt: HostRuntime) {
+    let document =
+        "{\"PatchData\":{\"Achievements\":[],\"Leaderboards\":[{\"ID\":1,\"Mem\":\"STA:0=1::CAN:0=1::SUB:0=1::VAL:0\",\"Format\":\"A\\tB\"}]}}";
+    let text = "L 1 A\tB STA:0=1::CAN:0=1::SUB:0=1::VAL:0\n";
+    assert!(rt; gives(rt.alloc(), document, text));
+}
+
+#[test]
+fn a_set_file_that_is_refused_is_told(rt: HostRuntime) {
+    for (document, cause) in [
+        (
+            "{\"PatchData\":{\"Achievements\":[{\"ID\":1,\"MemAddr\":\"0=1\"},{\"ID\":1,\"MemAddr\":\"0=1\"}]}}",
+            SetRefused::DuplicateId { id: 1, line: 2 },
+        ),
+        (
+            "{\"PatchData\":{\"Achievements\":[{\"ID\":1,\"MemAddr\":\"x\"}]}}",
+            SetRefused::Syntax { at: 4 },
+        ),
+        (
+            "{\"PatchData\":{\"Achievements\":[],\"RichPresencePatch\":\"Foo\"}}",
+            SetRefused::Syntax { at: 2 },
+        ),
+    ] {
+        let why = PatchRefused::Set(cause);
+        assert_eq!(rt;
+            refusal(rt.alloc(), document.as_bytes()),
+            Some(why),
+            "{document}"
+        );
+    }
+}
+
+// The document of so many achievements with an empty trigger.
+fn achievements(alloc: Global, count: u32) -> Result<String, Fail> {
+    let mut document = String::from_str(alloc, "{\"PatchData\":{\"Achievements\":[")?;
+    for id in 0..count {
+        write!(document, "{{\"ID\":{id},\"MemAddr\":\"\"}},")?;
+    }
+    document.push_str("{\"ID\":16384,\"MemAddr\":\"\"}]}}")?;
+    Ok(document)
+}
+
+#[test]
+fn a_set_of_too_many_items_is_told(rt: HostRuntime) -> Result<(), Fail> {
+    let document = achievements(rt.alloc(), 16_384)?;
+    let why = PatchRefused::Set(SetRefused::Limit {
+        which: Which::Items,
+        found: 16_385,
+    });
+    assert_eq!(rt; refusal(rt.alloc(), document.as_bytes()), Some(why));
+    Ok(())
+}
+
+#[test]
+fn a_document_of_many_brackets_is_refused(rt: HostRuntime) -> Result<(), Fail> {
+    let document = vec![in rt.alloc(); b'['; 16_777_216]?;
+    assert_eq!(rt; refusal(rt.alloc(), &document), Some(PatchRefused::NotJson));
+    Ok(())
+}
+
+#[test]
+fn a_document_of_too_many_bytes_is_refused(rt: HostRuntime) -> Result<(), Fail> {
+    let document = vec![in rt.alloc(); b' '; 16_777_217]?;
+    let why = PatchRefused::Bytes { found: 16_777_217 };
+    assert_eq!(rt; refusal(rt.alloc(), &document), Some(why));
+    Ok(())
+}
