@@ -47,36 +47,40 @@ def numbers_of(pid):
 
 
 def look(top, seen):
-    """Notes the processor seconds of each command of the prover below the process `top`."""
+    """Notes the processor seconds of each command of the prover below the process `top`; its copies count with it."""
     parents, found = {}, {}
-    for pid in filter(str.isdigit, os.listdir("/proc")):
+    for pid in map(int, filter(str.isdigit, os.listdir("/proc"))):
         try:
-            parent, seconds, begun = numbers_of(pid)
-            parents[int(pid)] = parent
-            found[int(pid)] = (seconds, begun)
+            parents[pid], seconds, begun = numbers_of(pid)
+            found[pid] = seconds, begun
         except (OSError, IndexError, ValueError):
             continue
     for pid, (seconds, begun) in found.items():
-        above = pid
-        while above not in (0, 1, top):
-            above = parents.get(above, 0)
-        if above != top:
+        above = [pid]
+        while above[-1] in parents and above[-1] != top:
+            above.append(parents[above[-1]])
+        if above[-1] != top:
             continue
-        key = (pid, begun)
+        key = pid, begun
         if key not in seen:
             try:
-                work = kind_of(words_of(pid))
+                works = [(it, kind_of(words_of(it))) for it in above[:-1]]
             except OSError:
                 continue
-            if work is None:
+            commands = [it for it in works if it[1]]
+            if not commands or commands[0][0] != pid:
                 continue
-            seen[key] = [work, 0.0]
-        seen[key][1] = max(seen[key][1], seconds)
+            first = commands[-1]
+            seen[key] = [(first[0], found[first[0]][1]), first[1], 0.0]
+        seen[key][2] = max(seen[key][2], seconds)
 
 
 def table(seen):
+    commands = defaultdict(float)
+    for command, work, seconds in seen.values():
+        commands[command, work] += seconds
     minutes, floors = defaultdict(float), {}
-    for (crate, kind), seconds in seen.values():
+    for (_, (crate, kind)), seconds in commands.items():
         minutes[crate, kind] += seconds / 60
         if kind == "seeds" and seconds > 1:
             floors[crate] = min(seconds, floors.get(crate, seconds))
