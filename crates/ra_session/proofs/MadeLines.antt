@@ -1,7 +1,6 @@
 -- The lines of a workload's set, and the items that they spell.
-use Rattle.std.proofs.Common.{◌≡◌, ℕ, zero, suc, ◌+◌, ◌*◌, ◌%◌, ◌<◌, ◌^◌, Bool, true, false, get_or, List, [], ◌∷◌, ◌++◌, map, Some, refl, sym, subst, arith, lit<, codes, append_assoc, append-nil, mod-lt, inl, inr}
+use Rattle.std.proofs.Common.{◌≡◌, ℕ, zero, suc, ◌+◌, ◌*◌, ◌%◌, ◌<◌, ◌^◌, List, [], ◌∷◌, ◌++◌, map, Some, refl, sym, subst, arith, lit<, codes, append_assoc, mod-lt, inl, inr}
 use Rattle.std.specs.Fmt.{decimal, digits}
-use Rattle.std.proofs.lemmas.Fmt.{decimal_is_IsNumeral, first_decimal}
 use Rattle.ra_condition.specs.Canonical.{trigger_text}
 use Rattle.ra_condition.specs.Contents.{TriggerContents}
 use Rattle.ra_condition.specs.Grammar.{trigger}
@@ -11,95 +10,20 @@ use Rattle.ra_leaderboard.specs.Grammar.{board}
 use Rattle.ra_leaderboard.proofs.BoardStructure.{board_text, board-spelled}
 use Rattle.ra_value_format.specs.declared.format.Format.TheVariants.{Value}
 use Rattle.ra_set.specs.Contents.{ItemContents, Unlocks, Ranks}
-use Rattle.ra_set.specs.Grammar.{Line, ExactId, format_name, head, line, ended_line}
-use Rattle.ra_set.specs.Runs.{many, run_of, any_but}
-use Rattle.ra_set.proofs.RunLemmas.{only-byte}
-use Rattle.ra_text.specs.declared.base.Base.TheVariants.{Ten}
-use Rattle.ra_text.specs.Form.{Form, Spell, One, Then}
-use Rattle.ra_text.specs.Number as number
-use Rattle.ra_text.specs.Reading.{begins}
-use Rattle.ra_text.specs.Table.{lookup, is_in, only}
-use Rattle.ra_text.proofs.Numerals.{numeral-spelled}
+use Rattle.ra_set.specs.Grammar.{Line, format_name, line, ended_line}
+use Rattle.ra_set.specs.Runs.{many}
+use Rattle.ra_set.proofs.SetSpelling.{head_text, head-spelled, run-spelled, with-end}
+use Rattle.ra_text.proofs.Items.{changed, one-byte}
 use Rattle.ra_trace.specs.Workload.{drawn, given, drawn_times, hex4, achievement_line, drawn_line, achievement_lines}
 use Rattle.ra_session.proofs.MadeItems.{made_trigger, made_board, made_trigger_text, is_made_trigger, is_made_board}
 
--- ---- ids
-
-first_not_zero : (t : List ℕ) → 48 < get_or t 0 0 → begins (is_in (only (codes "0"))) t ≡ false
-first_not_zero [] more = refl
-first_not_zero (c ∷ t) more = cases (is_in (only (codes "0")) c) refl where
-  cases : (b : Bool) → is_in (only (codes "0")) c ≡ b → b ≡ false
-  cases true e = absurd (let same : c ≡ 48 = only-byte 48 c e in omega (arith, more))
-  cases false e = refl
-
--- the decimal digits of a number are an id
-id_spelled : (n : ℕ) → 0 < n → n < 2 ^ 32 → ExactId (decimal n) n
-id_spelled n some small =
-    let d = decimal_is_IsNumeral n (omega arith) in
-    record { number = subst (λ m. number.numeral (lookup number.digits) 10 (decimal n) m) d.1 (numeral-spelled Ten (decimal n) d.0); exact = λ longer. first_not_zero (decimal n) (first_decimal n some (omega arith)); fits = small }
-
-one_byte : (byte : ℕ) → only (byte ∷ []) byte ≡ Some tt → One (only (byte ∷ [])) (byte ∷ []) tt
-one_byte byte listed = record { symbol = byte; alone = refl; listed = listed }
-
--- a letter, a space, an id and a space
-abbrev head_text : ℕ → ℕ → List ℕ
-head_text letter id = letter ∷ (32 ∷ (decimal id ++ codes " "))
-
-head_spelled : (letter id : ℕ) → only (letter ∷ []) letter ≡ Some tt → 0 < id → id < 2 ^ 32 → head letter (head_text letter id) id
-head_spelled letter id listed some small = record {
-  front = letter ∷ [];
-  behind = 32 ∷ (decimal id ++ codes " ");
-  v = tt;
-  parts = refl;
-  of_first = one_byte letter listed;
-  of_next = record {
-    front = codes " ";
-    behind = decimal id ++ codes " ";
-    v = tt;
-    parts = refl;
-    of_first = one_byte 32 refl;
-    of_next = record {
-      front = decimal id;
-      behind = codes " ";
-      v = id;
-      parts = refl;
-      of_first = id_spelled id some small;
-      of_next = record { front = codes " "; behind = []; v = tt; parts = refl; of_first = one_byte 32 refl; of_next = record { empty = refl; is = refl } };
-    };
-  };
-}
-
--- ---- lines
-
--- what a form spells, changed
-changed : {V W : Type 0} (form : Form ℕ V) (of_it : V → W) (text : List ℕ) (v : V) → form text v → Then form (λ v. Spell (of_it v)) text (of_it v)
-changed form of_it text v h = record { front = text; behind = []; v = v; parts = sym (append-nil text); of_first = h; of_next = record { empty = refl; is = refl } }
-
--- a line with its end
-with_end : (t : List ℕ) (l : Line) → line t l → ended_line (t ++ codes "\n") l
-with_end t l h = record {
-  front = t;
-  behind = codes "\n";
-  v = l;
-  parts = refl;
-  of_first = h;
-  of_next = record {
-    front = codes "\n";
-    behind = [];
-    v = tt;
-    parts = refl;
-    of_first = record { front = []; behind = codes "\n"; v = tt; parts = refl; of_first = inr (record { empty = refl; is = refl }); of_next = one_byte 10 refl };
-    of_next = record { empty = refl; is = refl };
-  };
-}
-
-unlocks_spelled : (id : ℕ) (t : TriggerContents) → 0 < id → id < 2 ^ 32 → IsTrigger t → line (head_text 65 id ++ trigger_text t) (Some (Unlocks id t))
-unlocks_spelled id t some small is = inr (inl (record {
+unlocks_spelled : (id : ℕ) (t : TriggerContents) → id < 2 ^ 32 → IsTrigger t → line (head_text 65 id ++ trigger_text t) (Some (Unlocks id t))
+unlocks_spelled id t small is = inr (inl (record {
   front = head_text 65 id;
   behind = trigger_text t;
   v = id;
   parts = refl;
-  of_first = head_spelled 65 id refl some small;
+  of_first = head-spelled 65 id refl small;
   of_next = changed trigger (λ t. Some (Unlocks id t)) (trigger_text t) t (trigger-spelled t is);
 }))
 
@@ -124,8 +48,8 @@ unfolding drawn_line
 drawn_line_spelled id x some small =
     let a = given (drawn x) in let b = given (drawn_times 2 x) in let c = given (drawn_times 3 x) in let target = 1 + given (drawn_times 4 x) % 8 in
     subst (λ t. ended_line t (Some (drawn_item id x))) (sym (line_text id a b c target (given_small x) (given_small (drawn x)) (given_small (drawn_times 2 x)) (omega arith)))
-    (with_end (head_text 65 id ++ trigger_text (made_trigger a b c target)) (Some (drawn_item id x))
-    (unlocks_spelled id (made_trigger a b c target) some small (is_made_trigger a b c target (given_small x) (given_small (drawn x)) (given_small (drawn_times 2 x)) (let low : given (drawn_times 4 x) % 8 < 8 = mod-lt (given (drawn_times 4 x)) (lit< tt) in omega (arith, low)))))
+    (with-end (head_text 65 id ++ trigger_text (made_trigger a b c target)) (Some (drawn_item id x))
+    (unlocks_spelled id (made_trigger a b c target) small (is_made_trigger a b c target (given_small x) (given_small (drawn x)) (given_small (drawn_times 2 x)) (let low : given (drawn_times 4 x) % 8 < 8 = mod-lt (given (drawn_times 4 x)) (lit< tt) in omega (arith, low)))))
 
 -- the items of so many achievements, from an id on
 abbrev pub drawn_items : ℕ → ℕ → ℕ → List ItemContents
@@ -144,10 +68,6 @@ board_line = codes "L 1 VALUE STA:0xH0000>d0xH0000::CAN:0xH0001=0::SUB:0xH0002>d
 abbrev pub made_items : ℕ → List ItemContents
 made_items number = drawn_items 256 1 number ++ board_item ∷ []
 
--- a byte of a name, and what comes behind it
-named_more : (byte : ℕ) (behind others : List ℕ) → any_but (codes " \n") byte ≡ Some byte → run_of (any_but (codes " \n")) behind others → run_of (any_but (codes " \n")) (byte ∷ behind) (byte ∷ others)
-named_more byte behind others is h = record { symbol = byte; tag = byte; front = []; behind = behind; parts = refl; separated = is; of_item = record { empty = refl; is = refl }; of_others = h }
-
 value_named : format_name (codes "VALUE") Value
 value_named = record {
   front = codes "V";
@@ -155,14 +75,7 @@ value_named = record {
   v = 86;
   parts = refl;
   of_first = record { symbol = 86; alone = refl; listed = refl };
-  of_next = record {
-    front = codes "ALUE";
-    behind = [];
-    v = codes "ALUE";
-    parts = refl;
-    of_first = named_more 65 (codes "LUE") (codes "LUE") refl (named_more 76 (codes "UE") (codes "UE") refl (named_more 85 (codes "E") (codes "E") refl (named_more 69 [] [] refl (refl, refl))));
-    of_next = record { empty = refl; is = refl };
-  };
+  of_next = record { front = codes "ALUE"; behind = []; v = codes "ALUE"; parts = refl; of_first = run-spelled (codes "ALUE") refl; of_next = record { empty = refl; is = refl } };
 }
 
 ranks_spelled : line (head_text 76 1 ++ (codes "VALUE " ++ board_text made_board)) (Some board_item)
@@ -171,14 +84,14 @@ ranks_spelled = inr (inr (inl (record {
   behind = codes "VALUE " ++ board_text made_board;
   v = 1;
   parts = refl;
-  of_first = head_spelled 76 1 refl (lit< tt) (lit< tt);
+  of_first = head-spelled 76 1 refl (lit< tt);
   of_next = record {
     front = codes "VALUE";
     behind = 32 ∷ board_text made_board;
     v = Value;
     parts = refl;
     of_first = value_named;
-    of_next = record { front = codes " "; behind = board_text made_board; v = tt; parts = refl; of_first = one_byte 32 refl; of_next = changed board (λ b. Some (Ranks 1 Value b)) (board_text made_board) made_board (board-spelled made_board is_made_board) };
+    of_next = record { front = codes " "; behind = board_text made_board; v = tt; parts = refl; of_first = one-byte 32 refl; of_next = changed board (λ b. Some (Ranks 1 Value b)) (board_text made_board) made_board (board-spelled made_board is_made_board) };
   };
 })))
 
@@ -188,7 +101,7 @@ board_line_text = refl
 
 -- the line of the board spells its item
 pub board_line_spelled : ended_line board_line (Some board_item)
-board_line_spelled = subst (λ t. ended_line t (Some board_item)) board_line_text (with_end (head_text 76 1 ++ (codes "VALUE " ++ board_text made_board)) (Some board_item) ranks_spelled)
+board_line_spelled = subst (λ t. ended_line t (Some board_item)) board_line_text (with-end (head_text 76 1 ++ (codes "VALUE " ++ board_text made_board)) (Some board_item) ranks_spelled)
 
 -- the lines spell the items, and behind them what spells others
 lines_spelled : (count id x : ℕ) → 0 < id → id + count < 2 ^ 32 → (behind : List ℕ) (others : List Line) → many ended_line behind others
