@@ -86,7 +86,7 @@ none_accepted shape bytes none =
     let b = passes (bytes_eq (take 4 bytes) mark) (WrongMark (take 4 bytes)) _ a.1 in
     let c = passes (slice_index bytes 4 == 1) (WrongVersion (slice_index bytes 4)) _ b.1 in
     let d = passes (bytes_eq (sum_in bytes) (md5 (summed_in bytes))) (WrongSum (sum_in bytes) (md5 (summed_in bytes))) _ c.1 in
-    let e = passes (bytes_eq (digest_in bytes) shape.digest) (OtherSet (digest_in bytes)) _ d.1 in
+    let e = passes (bytes_eq (digest_in bytes) shape.digest) (OtherSet shape.digest (digest_in bytes)) _ d.1 in
     record {
       as_long = eqb-true (length bytes) (length_of shape) a.0;
       marked = (bytes_eq-Decides (take 4 bytes) mark).0 b.0;

@@ -2,4 +2,6 @@ pub mod Again
 pub mod Bytes
 pub mod ComesBack
 pub mod Fields
+pub mod HexDigits
+pub mod Said
 pub mod Stands

@@ -10,6 +10,10 @@ use Rattle.ra_progress.specs.declared.snapshot.ItemKept.TheVariants as kept
 use Rattle.ra_progress.specs.declared.snapshot.PresenceKept.{PresenceKept}
 use Rattle.ra_progress.specs.declared.snapshot.Snapshot.{Snapshot}
 
+-- the most items that a shape has, which are those of a set
+abbrev pub most_items : ℕ
+most_items = 16384
+
 -- the shape of a set: its digest, and how many numbers of each kind its progress has
 pub record ShapeContents : Type 0 where
   pub digest : List ℕ

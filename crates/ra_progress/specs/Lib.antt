@@ -1,4 +1,5 @@
 pub mod Contents
 pub mod Laws
+pub mod Refusals
 pub mod Reading
 pub mod Spelling

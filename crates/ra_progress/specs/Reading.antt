@@ -100,7 +100,7 @@ refusal shape bytes =
     else if not (bytes_eq (take 4 bytes) mark) then Some (WrongMark (take 4 bytes))
     else if not (slice_index bytes 4 == 1) then Some (WrongVersion (slice_index bytes 4))
     else if not (bytes_eq (sum_in bytes) (md5 (summed_in bytes))) then Some (WrongSum (sum_in bytes) (md5 (summed_in bytes)))
-    else if not (bytes_eq (digest_in bytes) shape.digest) then Some (OtherSet (digest_in bytes))
+    else if not (bytes_eq (digest_in bytes) shape.digest) then Some (OtherSet shape.digest (digest_in bytes))
     else bad_state (find (λ field. not (nat_lt field.found field.bound)) (states_in shape bytes))
 
 -- the item that the bytes at a place say

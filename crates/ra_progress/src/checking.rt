@@ -2,7 +2,7 @@
 
 ghost use Rattle.std.specs.Prelude.{◌≡◌, ◌+◌, ◌≤◌, ◌↔◌, length as length_of_list, take, drop, find, not, nat_lt, None, Some, IsOk, IfErr, MatchResult};
 ghost use Rattle.md5.specs.Md5.{md5};
-ghost use Rattle.ra_progress.specs.Contents.{shape_contents};
+ghost use Rattle.ra_progress.specs.Contents.{most_items, shape_contents};
 ghost use Rattle.ra_progress.specs.Reading as spec;
 
 use crate::places::{item_length, items_end, items_start, length};
@@ -17,7 +17,7 @@ use md5::{Digest, Md5};
 /// closing sum, digest, then state bytes and shown index in file order. The shape has at most
 /// 16,384 items.
 pub fn check(shape: &Shape, bytes: &[u8]) -> Result<(), ProgressRefused>
-    requires { length_of_list shape.now.items.items ≤ 16384 }
+    requires { length_of_list shape.now.items.items ≤ most_items }
     ensures ok { IsOk result ↔ spec.IsAccepted (shape_contents shape.now) bytes.now }
     ensures err { IfErr result (λ why. spec.refusal (shape_contents shape.now) bytes.now ≡ Some why) }
 {
@@ -26,7 +26,7 @@ pub fn check(shape: &Shape, bytes: &[u8]) -> Result<(), ProgressRefused>
 
 /// The same, by the first refusal alone.
 fn refusal(shape: &Shape, bytes: &[u8]) -> Result<(), ProgressRefused>
-    requires { length_of_list shape.now.items.items ≤ 16384 }
+    requires { length_of_list shape.now.items.items ≤ most_items }
     ensures { MatchResult result
         (λ _. spec.refusal (shape_contents shape.now) bytes.now ≡ None)
         (λ why. spec.refusal (shape_contents shape.now) bytes.now ≡ Some why) }
@@ -50,7 +50,10 @@ fn refusal(shape: &Shape, bytes: &[u8]) -> Result<(), ProgressRefused>
     }
     let digest = kept_digest(bytes);
     if digest != shape.digest {
-        return Err(ProgressRefused::OtherSet { found: digest });
+        return Err(ProgressRefused::OtherSet {
+            wanted: shape.digest,
+            found: digest,
+        });
     }
     match bad_state(shape, bytes) {
         Some(refused) => Err(refused),
@@ -94,7 +97,7 @@ fn sixteen(bytes: &[u8], at: usize) -> [u8; 16]
 
 /// The first state byte or shown index that is not in its table.
 fn bad_state(shape: &Shape, bytes: &[u8]) -> Option<ProgressRefused>
-    requires few { length_of_list shape.now.items.items ≤ 16384 }
+    requires few { length_of_list shape.now.items.items ≤ most_items }
     requires long { length_of_list bytes.now ≡ spec.length_of (shape_contents shape.now) }
     ensures { result ≡ spec.bad_state (find (λ field. not (nat_lt field.found field.bound))
         (spec.states_in (shape_contents shape.now) bytes.now)) }
@@ -107,7 +110,7 @@ fn bad_state(shape: &Shape, bytes: &[u8]) -> Option<ProgressRefused>
 
 /// The first state byte of an item that is not in its table.
 fn bad_item(shape: &Shape, bytes: &[u8]) -> Option<ProgressRefused>
-    requires few { length_of_list shape.now.items.items ≤ 16384 }
+    requires few { length_of_list shape.now.items.items ≤ most_items }
     requires long { length_of_list bytes.now ≡ spec.length_of (shape_contents shape.now) }
     ensures { result ≡ spec.bad_state (find (λ field. not (nat_lt field.found field.bound))
         (spec.states_from bytes.now (spec.item_at (shape_contents shape.now) 0) shape.now.items.items)) }
@@ -128,7 +131,7 @@ fn bad_item(shape: &Shape, bytes: &[u8]) -> Option<ProgressRefused>
 
 /// The shown index where it is not in its table.
 fn bad_shown(shape: &Shape, bytes: &[u8]) -> Option<ProgressRefused>
-    requires few { length_of_list shape.now.items.items ≤ 16384 }
+    requires few { length_of_list shape.now.items.items ≤ most_items }
     requires long { length_of_list bytes.now ≡ spec.length_of (shape_contents shape.now) }
     ensures { result ≡ spec.bad_state (find (λ field. not (nat_lt field.found field.bound))
         (spec.shown_field bytes.now (spec.presence_at (shape_contents shape.now)) shape.now.presence)) }

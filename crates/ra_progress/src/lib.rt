@@ -4,6 +4,7 @@
 #![tactic(auto)]
 
 mod checking;
+mod hex;
 mod laws;
 mod places;
 mod reading;
@@ -16,6 +17,7 @@ mod words;
 mod writing;
 
 pub use checking::check;
+pub use hex::Hex;
 pub use laws::both_ways;
 pub use places::{frames_at, item_at, length, presence_at};
 pub use reading::decode;

@@ -1,14 +1,14 @@
 //! Where the fields of a progress file stand, in bytes from its start.
 
 ghost use Rattle.std.specs.Prelude.{◌≡◌, ◌+◌, ◌*◌, ◌<◌, ◌≤◌, ◌^◌, sum_by, IsSome, length as length_of_list};
-ghost use Rattle.ra_progress.specs.Contents.{shape_contents};
+ghost use Rattle.ra_progress.specs.Contents.{most_items, shape_contents};
 ghost use Rattle.ra_progress.specs.Reading as spec;
 
 use crate::shape::{ItemShape, PresenceShape, Shape};
 
 /// How many bytes a progress file of the shape has: docs/DEFINITIONS.md, "Progress file".
 pub fn length(shape: &Shape) -> u64
-    requires { length_of_list shape.now.items.items ≤ 16384 }
+    requires { length_of_list shape.now.items.items ≤ most_items }
     ensures { result ≡ spec.length_of (shape_contents shape.now) }
 {
     items_end(shape) + presence_length(&shape.presence) + 16
@@ -28,7 +28,7 @@ pub fn frames_at(bytes: &[u8]) -> u64
 /// Where an item stands, its state byte and then its numbers, in bytes from the start:
 /// docs/DEFINITIONS.md, "Progress file". Items are counted from 0.
 pub fn item_at(shape: &Shape, item: u32) -> u64
-    requires few { length_of_list shape.now.items.items ≤ 16384 }
+    requires few { length_of_list shape.now.items.items ≤ most_items }
     requires item { item < length_of_list shape.now.items.items }
     ensures { result ≡ spec.item_at (shape_contents shape.now) item }
 {
@@ -38,7 +38,7 @@ pub fn item_at(shape: &Shape, item: u32) -> u64
 /// Where the presence stands, the index of the shown line and then its numbers, in bytes from the
 /// start: docs/DEFINITIONS.md, "Progress file".
 pub fn presence_at(shape: &Shape) -> u64
-    requires few { length_of_list shape.now.items.items ≤ 16384 }
+    requires few { length_of_list shape.now.items.items ≤ most_items }
     requires some { IsSome shape.now.presence }
     ensures { result ≡ spec.presence_at (shape_contents shape.now) }
 {
@@ -55,7 +55,7 @@ pub(crate) fn items_start(shape: &Shape) -> u64
 
 /// Where the items end.
 pub(crate) fn items_end(shape: &Shape) -> u64
-    requires { length_of_list shape.now.items.items ≤ 16384 }
+    requires { length_of_list shape.now.items.items ≤ most_items }
     ensures place { result ≡ spec.presence_at (shape_contents shape.now) }
     ensures most { result < 2 ^ 52 }
 {
@@ -64,7 +64,7 @@ pub(crate) fn items_end(shape: &Shape) -> u64
 
 /// How many bytes some items take.
 fn items_length(items: &[ItemShape]) -> u64
-    requires { length_of_list items.now ≤ 16384 }
+    requires { length_of_list items.now ≤ most_items }
     ensures sum { result ≡ sum_by spec.item_length items.now }
     ensures most { result ≤ 2 ^ 50 }
 {

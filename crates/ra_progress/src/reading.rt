@@ -1,7 +1,7 @@
 //! What a progress file says.
 
 ghost use Rattle.std.specs.Prelude.{◌≡◌, ◌+◌, ◌≤◌, length as length_of_list, map, option_map, IfOk};
-ghost use Rattle.ra_progress.specs.Contents.{shape_contents, snapshot_contents, kept_item, kept_presence};
+ghost use Rattle.ra_progress.specs.Contents.{most_items, shape_contents, snapshot_contents, kept_item, kept_presence};
 ghost use Rattle.ra_progress.specs.Reading as spec;
 
 use crate::places::{frames_at, item_length, items_end, items_start};
@@ -14,7 +14,7 @@ use std::alloc::Global;
 /// The snapshot whose numbers stand in bytes that `check` accepts: docs/DEFINITIONS.md, "Progress
 /// file".
 pub fn decode(alloc: Global, shape: &Shape, bytes: &[u8]) -> Result<Snapshot, OutOfMemory>
-    requires few { length_of_list shape.now.items.items ≤ 16384 }
+    requires few { length_of_list shape.now.items.items ≤ most_items }
     requires accepted { spec.IsAccepted (shape_contents shape.now) bytes.now }
     ensures { IfOk result (λ snapshot. snapshot_contents snapshot ≡ spec.says (shape_contents shape.now) bytes.now) }
 {
@@ -34,7 +34,7 @@ pub fn decode(alloc: Global, shape: &Shape, bytes: &[u8]) -> Result<Snapshot, Ou
 
 /// What the bytes keep of each item.
 fn said_items(alloc: Global, shape: &Shape, bytes: &[u8]) -> Result<Vec<ItemKept>, OutOfMemory>
-    requires few { length_of_list shape.now.items.items ≤ 16384 }
+    requires few { length_of_list shape.now.items.items ≤ most_items }
     requires long { length_of_list bytes.now ≡ spec.length_of (shape_contents shape.now) }
     ensures { IfOk result (λ items. map kept_item items.items
         ≡ spec.said_items bytes.now (spec.item_at (shape_contents shape.now) 0) shape.now.items.items) }
@@ -79,7 +79,7 @@ fn said_presence(
     shape: &Shape,
     bytes: &[u8],
 ) -> Result<Option<PresenceKept>, OutOfMemory>
-    requires few { length_of_list shape.now.items.items ≤ 16384 }
+    requires few { length_of_list shape.now.items.items ≤ most_items }
     requires long { length_of_list bytes.now ≡ spec.length_of (shape_contents shape.now) }
     ensures { IfOk result (λ presence. option_map kept_presence presence
         ≡ option_map (spec.said_presence bytes.now (spec.presence_at (shape_contents shape.now))) shape.now.presence) }

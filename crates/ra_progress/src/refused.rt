@@ -1,3 +1,7 @@
+use crate::hex::Hex;
+use std::error::Error;
+use std::fmt;
+
 /// Why progress bytes are refused: docs/DEFINITIONS.md, "Progress file".
 #[derive(Clone, Copy, Debug, PartialEq, Eq)]
 pub enum ProgressRefused {
@@ -10,8 +14,42 @@ pub enum ProgressRefused {
     /// The sum that the file keeps is not the MD5 found of its other bytes.
     WrongSum { kept: [u8; 16], found: [u8; 16] },
     /// The digest in the file is not that of the shape.
-    OtherSet { found: [u8; 16] },
+    OtherSet { wanted: [u8; 16], found: [u8; 16] },
     /// The first state byte or shown index that is not in its table, with its place in bytes from
     /// 0.
     BadState { at: u64, found: u32 },
 }
+
+/// Written in the words of docs/DEFINITIONS.md, "Statuses".
+impl fmt::Display for ProgressRefused {
+    ghost use Rattle.std.specs.Prelude.{Some};
+    ghost use Rattle.ra_progress.specs.Refusals.{progress_words};
+
+    ghost output = { λ refused. Some (progress_words refused) };
+
+    fn fmt<W: fmt::Write>(&self, f: &mut fmt::Formatter<W>) -> fmt::Result {
+        match self {
+            ProgressRefused::WrongLength { wanted, found } => {
+                write!(f, "length {found} wanted {wanted}")
+            }
+            ProgressRefused::WrongMark { found } => {
+                let mark = Hex(found);
+                write!(f, "mark {mark} wanted 52415047")
+            }
+            ProgressRefused::WrongVersion { found } => write!(f, "version {found} wanted 1"),
+            ProgressRefused::WrongSum { kept, found } => {
+                let said = Hex(kept);
+                let sum = Hex(found);
+                write!(f, "sum {said} is {sum}")
+            }
+            ProgressRefused::OtherSet { wanted, found } => {
+                let own = Hex(wanted);
+                let other = Hex(found);
+                write!(f, "set {other} wanted {own}")
+            }
+            ProgressRefused::BadState { at, found } => write!(f, "state {found} at {at}"),
+        }
+    }
+}
+
+impl Error for ProgressRefused {}

@@ -2,7 +2,7 @@
 
 ghost use Rattle.std.specs.Prelude.{◌≡◌, ◌++◌, ◌≤◌, ◌∷◌, length as length_of_list, map, option_map, IfOk, OnOk};
 ghost use Rattle.std.specs.List.{flat_map};
-ghost use Rattle.ra_progress.specs.Contents.{shape_contents, snapshot_contents, kept_item, kept_presence, IsOpening};
+ghost use Rattle.ra_progress.specs.Contents.{most_items, shape_contents, snapshot_contents, kept_item, kept_presence, IsOpening};
 ghost use Rattle.ra_progress.specs.Spelling.{words, item_bytes, presence_bytes, body_bytes, progress_bytes};
 
 use crate::places::length;
@@ -16,7 +16,7 @@ use std::alloc::Global;
 /// The bytes of a snapshot of the shape, with their closing sum: docs/DEFINITIONS.md, "Progress
 /// file". The shape has at most 16,384 items.
 pub fn encode(alloc: Global, shape: &Shape, snapshot: &Snapshot) -> Result<Vec<u8>, OutOfMemory>
-    requires few { length_of_list shape.now.items.items ≤ 16384 }
+    requires few { length_of_list shape.now.items.items ≤ most_items }
     requires fits { IsOpening (shape_contents shape.now) (snapshot_contents snapshot.now) }
     ensures { IfOk result (λ bytes. bytes.items ≡ progress_bytes shape.now.digest (snapshot_contents snapshot.now)) }
 {
