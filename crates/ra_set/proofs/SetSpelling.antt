@@ -1,5 +1,5 @@
 -- A file for each set that has its structure, and the structure of what files spell.
-use Rattle.std.proofs.Common.{◌≡◌, ℕ, zero, suc, ◌<◌, ◌≤◌, ◌^◌, Bool, true, false, not, List, [], ◌∷◌, ◌++◌, length, map, if◌then◌else◌, get_or, Option, Some, None, option_to_list, refl, sym, ap, subst, arith, lit<, codes, append-nil, inl, inr}
+use Rattle.std.proofs.Common.{◌≡◌, ℕ, zero, suc, ◌<◌, ◌≤◌, ◌^◌, Bool, true, false, not, List, [], ◌∷◌, ◌++◌, length, map, if◌then◌else◌, get_or, Some, None, option_to_list, refl, sym, ap, subst, arith, lit<, codes, append-nil, inl, inr}
 use Rattle.std.specs.Fmt.{decimal}
 use Rattle.std.specs.List.{AllByRecursion}
 use Rattle.std.specs.Prelude.{All}
@@ -15,7 +15,7 @@ use Rattle.ra_value_format.specs.declared.format.Format.TheVariants.{Value, Scor
 use Rattle.ra_value_format.specs.Formats.{HasDigits, format_of_name}
 use Rattle.ra_set.specs.Contents.{ItemContents, Unlocks, Ranks, SetContents}
 use Rattle.ra_set.specs.Grammar.{Line, ExactId, format_name, head, line, ended_line, items_of, SetFile}
-use Rattle.ra_set.specs.Runs.{many, run_of, any_but}
+use Rattle.ra_set.specs.Runs.{many, run_of}
 use Rattle.ra_set.specs.Spelled.{IsItem, HasSmallId, IsSpelled, OptionalScript}
 use Rattle.ra_set.proofs.ContentsLemmas.{lines-of_file}
 use Rattle.ra_set.proofs.FileReaders.{empty-line}
@@ -24,7 +24,6 @@ use Rattle.ra_set.proofs.LineReaders.{in_name}
 use Rattle.ra_set.proofs.RunLemmas.{only-byte}
 use Rattle.ra_set.proofs.SetStructure.{contents-items}
 use Rattle.ra_text.specs.declared.base.Base.TheVariants.{Ten}
-use Rattle.ra_text.specs.Form.{Form, Spell, One, Then}
 use Rattle.ra_text.specs.Number.{digits, numeral}
 use Rattle.ra_text.specs.Reading.{begins}
 use Rattle.ra_text.specs.Table.{lookup, is_in, only}

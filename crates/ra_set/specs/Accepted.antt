@@ -4,7 +4,7 @@ use Rattle.std.specs.List.{IsDistinct}
 use Rattle.md5.specs.Md5.{md5}
 use Rattle.ra_set.specs.Contents.{ItemContents, Unlocks, Ranks, SetContents}
 use Rattle.ra_set.specs.Grammar.{SetFile}
-use Rattle.ra_set.specs.Limits.{IsWithinLimits}
+use Rattle.ra_set.specs.Limits.{most_bytes, IsWithinLimits}
 
 -- two items of one letter have one id
 abbrev pub repeats : ItemContents → ItemContents → Bool
@@ -14,7 +14,7 @@ repeats _ _ = false
 
 -- the file is a set: it spells this set, no id of one letter stands twice, and each limit is kept
 pub record IsSet (file : List ℕ) (set : SetContents) : Type 0 where
-  pub size : length file ≤ 4194304
+  pub size : length file ≤ most_bytes
   pub spelled : SetFile file set
   pub ids : IsDistinct repeats set.items
   pub limits : IsWithinLimits set

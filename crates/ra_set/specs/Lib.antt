@@ -11,3 +11,4 @@ pub mod Refusals
 pub mod Runs
 pub mod ScriptLimits
 pub mod Spelled
+pub mod Words

@@ -5,10 +5,43 @@ use Rattle.ra_condition.specs.Contents.{TriggerContents, trigger_hits, PartConte
 use Rattle.ra_richpresence.specs.Contents.{LineContents, LookupContents, ScriptContents, values_in_line}
 use Rattle.ra_richpresence.specs.Grammar.{ScriptParts, script_of}
 use Rattle.ra_richpresence.specs.Texts.{first_over, kept_texts}
-use Rattle.ra_set.specs.declared.refused.Which.TheVariants.{Items, Conditions, Macros, Lookup}
+use Rattle.ra_set.specs.declared.refused.Which.{Which}
+use Rattle.ra_set.specs.declared.refused.Which.TheVariants.{Bytes, Items, Conditions, Macros, Lookup}
 use Rattle.ra_set.specs.declared.refused.SetRefused.{SetRefused}
 use Rattle.ra_set.specs.declared.refused.SetRefused.TheVariants.{Limit}
 use Rattle.ra_set.specs.Contents.{ItemContents, Unlocks, Ranks, SetContents}
+
+-- ---- the limits
+
+-- the most bytes of a file
+abbrev pub most_bytes : ℕ
+most_bytes = 4194304
+
+-- the most items of a set
+abbrev pub most_items : ℕ
+most_items = 16384
+
+-- the most conditions of a set
+abbrev pub most_conditions : ℕ
+most_conditions = 65536
+
+-- the most macros of a display line
+abbrev pub most_macros : ℕ
+most_macros = 256
+
+-- the most bytes of a lookup text
+abbrev pub most_text : ℕ
+most_text = 1024
+
+-- the most that each limit allows
+abbrev pub most_of : Which → ℕ
+most_of Bytes = most_bytes
+most_of Items = most_items
+most_of Conditions = most_conditions
+most_of Macros = most_macros
+most_of Lookup = most_text
+
+-- ---- what is counted
 
 -- how many conditions a part has, or how many legacy terms
 abbrev pub part_conditions : PartContents → ℕ
@@ -58,8 +91,8 @@ text_lengths l = rest_length l.rest (map (λ k. length k.text) l.keys)
 
 -- each display line has few enough macros, and each lookup text few enough bytes
 pub record ScriptFits (script : ScriptContents) : Type 0 where
-  pub macros : AllByRecursion (λ line. length (values_in_line line) ≤ 256) script.lines
-  pub texts : AllByRecursion (λ n. n ≤ 1024) (flat_map text_lengths script.lookups)
+  pub macros : AllByRecursion (λ line. length (values_in_line line) ≤ most_macros) script.lines
+  pub texts : AllByRecursion (λ n. n ≤ most_text) (flat_map text_lengths script.lookups)
 
 -- a script keeps its limits, if there is one
 abbrev pub OptionalScriptFits : Option ScriptContents → Type 0
@@ -68,8 +101,8 @@ OptionalScriptFits (Some script) = ScriptFits script
 
 -- the set is within the limits
 pub record IsWithinLimits (set : SetContents) : Type 0 where
-  pub items : length set.items ≤ 16384
-  pub conditions : set_conditions set ≤ 65536
+  pub items : length set.items ≤ most_items
+  pub conditions : set_conditions set ≤ most_conditions
   pub script : OptionalScriptFits set.script
 
 -- ---- the first limit that is passed
@@ -90,19 +123,19 @@ kept_lengths (Some parts) = map length (kept_texts parts)
 
 -- items and a script, if there is one, keep each limit
 pub record KeepsLimits (held : List ItemContents) (script : Option ScriptParts) : Type 0 where
-  pub items : length held ≤ 16384
-  pub conditions : all_conditions held script ≤ 65536
-  pub macros : first_over 256 (macro_counts script) ≡ None
-  pub texts : first_over 1024 (kept_lengths script) ≡ None
+  pub items : length held ≤ most_items
+  pub conditions : all_conditions held script ≤ most_conditions
+  pub macros : first_over most_macros (macro_counts script) ≡ None
+  pub texts : first_over most_text (kept_lengths script) ≡ None
 
 -- the first limit that items and a script pass, with how much was found; of lines and of texts that of the first over it
 abbrev pub PassesLimit : List ItemContents → Option ScriptParts → SetRefused → Type 0
-PassesLimit items script (Limit Items found) = (16384 < length items) × (found ≡ length items)
+PassesLimit items script (Limit Items found) = (most_items < length items) × (found ≡ length items)
 PassesLimit items script (Limit Conditions found) =
-    (length items ≤ 16384) × (65536 < all_conditions items script) × (found ≡ all_conditions items script)
+    (length items ≤ most_items) × (most_conditions < all_conditions items script) × (found ≡ all_conditions items script)
 PassesLimit items script (Limit Macros found) =
-    (length items ≤ 16384) × (all_conditions items script ≤ 65536) × (first_over 256 (macro_counts script) ≡ Some found)
+    (length items ≤ most_items) × (all_conditions items script ≤ most_conditions) × (first_over most_macros (macro_counts script) ≡ Some found)
 PassesLimit items script (Limit Lookup found) =
-    (length items ≤ 16384) × (all_conditions items script ≤ 65536) × (first_over 256 (macro_counts script) ≡ None)
-    × (first_over 1024 (kept_lengths script) ≡ Some found)
+    (length items ≤ most_items) × (all_conditions items script ≤ most_conditions) × (first_over most_macros (macro_counts script) ≡ None)
+    × (first_over most_text (kept_lengths script) ≡ Some found)
 PassesLimit items script _ = ⊥

@@ -9,6 +9,7 @@ use Rattle.ra_set.specs.declared.refused.SetRefused.{SetRefused}
 use Rattle.ra_set.specs.declared.refused.SetRefused.TheVariants.{Syntax}
 use Rattle.ra_set.specs.Contents.{item_contents}
 use Rattle.ra_set.specs.Grammar.{FileContents, items_of}
+use Rattle.ra_set.specs.Limits.{most_text}
 use Rattle.ra_set.specs.Refusals.{HasDistinct}
 use Rattle.ra_set.specs.ScriptLimits.{IsReadOf}
 
@@ -18,7 +19,7 @@ script_read read = option_map (λ r. script_contents r.script) read
 
 -- the text behind a line "P" was read as a script, or there is no such line
 abbrev pub IsReadBehind : Bool → List ℕ → Option ReadScript → Type 0
-IsReadBehind true text (Some read) = IsRead text 1024 read
+IsReadBehind true text (Some read) = IsRead text most_text read
 IsReadBehind false text None = Unit {0}
 IsReadBehind _ text _ = ⊥
 

@@ -7,7 +7,7 @@ use Rattle.ra_set.specs.declared.refused.SetRefused.TheVariants.{Syntax, Duplica
 use Rattle.ra_set.specs.Accepted.{repeats}
 use Rattle.ra_set.specs.Contents.{ItemContents, Unlocks, Ranks}
 use Rattle.ra_set.specs.Grammar.{Line, FileContents, set_file, items_of}
-use Rattle.ra_set.specs.Limits.{PassesLimit}
+use Rattle.ra_set.specs.Limits.{most_bytes, PassesLimit}
 use Rattle.ra_set.specs.Places.{IsFileOutside}
 
 -- the id of an item
@@ -35,7 +35,7 @@ pub record FirstRepeat (lines : List Line) (id number : ℕ) : Type 0 where
 
 -- the file is no longer than a set may be, and this is what it contains
 pub record HasContents (file : List ℕ) (contents : FileContents) : Type 0 where
-  pub size : length file ≤ 4194304
+  pub size : length file ≤ most_bytes
   pub spelled : set_file file contents
 
 -- the file contains this, and no two lines of one letter have one id
@@ -45,8 +45,8 @@ pub record HasDistinct (file : List ℕ) (contents : FileContents) : Type 0 wher
 
 -- how a file is refused: the first of these that comes, in the order of the cases; want of memory is no refusal of a file
 abbrev pub Refuses : List ℕ → SetRefused → Type 0
-Refuses file (Limit Bytes found) = (4194304 < length file) × (found ≡ length file)
-Refuses file (Syntax at) = (length file ≤ 4194304) × IsFileOutside file at
+Refuses file (Limit Bytes found) = (most_bytes < length file) × (found ≡ length file)
+Refuses file (Syntax at) = (length file ≤ most_bytes) × IsFileOutside file at
 Refuses file (DuplicateId id number) = (contents : FileContents) × HasContents file contents × FirstRepeat contents.lines id number
 Refuses file (Limit which found) = (contents : FileContents) × HasDistinct file contents × PassesLimit (items_of contents.lines) contents.script (Limit which found)
 Refuses file Memory = ⊥

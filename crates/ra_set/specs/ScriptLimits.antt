@@ -4,15 +4,15 @@ use Rattle.ra_richpresence.specs.Contents.{LineContents, script_contents, values
 use Rattle.ra_richpresence.specs.Grammar.{ScriptParts}
 use Rattle.ra_richpresence.specs.Texts.{IsScriptOf, first_over}
 use Rattle.ra_richpresence.specs.declared.read.ReadScript.{ReadScript}
-use Rattle.ra_set.specs.Limits.{script_conditions}
+use Rattle.ra_set.specs.Limits.{most_macros, most_text, script_conditions}
 use Rattle.ra_set.specs.declared.refused.Which.TheVariants.{Macros, Lookup}
 use Rattle.ra_set.specs.declared.refused.SetRefused.{SetRefused}
 use Rattle.ra_set.specs.declared.refused.SetRefused.TheVariants.{Limit}
 
--- what was read, if anything, is the script of these parts, with its first text of more than 1,024 bytes
+-- what was read, if anything, is the script of these parts, with its first text that is too long
 abbrev pub IsReadOf : Option ScriptParts → Option ReadScript → Type 0
 IsReadOf None None = Unit {0}
-IsReadOf (Some parts) (Some read) = IsScriptOf 1024 parts read
+IsReadOf (Some parts) (Some read) = IsScriptOf most_text parts read
 IsReadOf None (Some read) = ⊥
 IsReadOf (Some parts) None = ⊥
 
@@ -26,7 +26,7 @@ macros_of lines = map (λ line. length (values_in_line line)) lines
 
 -- the limit of macros or of texts that these lines and the first long text, if there is one, pass first, or none
 abbrev pub ChecksScript : Result (Unit {0}) SetRefused → List LineContents → Option ℕ → Type 0
-ChecksScript (Ok done) lines long = (first_over 256 (macros_of lines) ≡ None) × (long ≡ None)
-ChecksScript (Err (Limit Macros found)) lines long = first_over 256 (macros_of lines) ≡ Some found
-ChecksScript (Err (Limit Lookup found)) lines long = (first_over 256 (macros_of lines) ≡ None) × (long ≡ Some found)
+ChecksScript (Ok done) lines long = (first_over most_macros (macros_of lines) ≡ None) × (long ≡ None)
+ChecksScript (Err (Limit Macros found)) lines long = first_over most_macros (macros_of lines) ≡ Some found
+ChecksScript (Err (Limit Lookup found)) lines long = (first_over most_macros (macros_of lines) ≡ None) × (long ≡ Some found)
 ChecksScript (Err _) lines long = ⊥

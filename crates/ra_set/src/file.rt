@@ -4,14 +4,14 @@ ghost use Rattle.std.specs.Prelude.{◌≡◌, ◌⊎◌, ◌+◌, ◌-◌, ◌�
 ghost use Rattle.ra_richpresence.specs.Contents.{script_contents};
 ghost use Rattle.ra_richpresence.specs.Spelled.{IsScript};
 ghost use Rattle.ra_richpresence.specs.Texts.{IsRead};
+ghost use Rattle.ra_set.specs.Limits.{most_bytes, most_text};
 ghost use Rattle.ra_set.specs.Read.{IsBadScript, IsBadText, IsReadBehind, IsReadFile, script_read};
 ghost use Rattle.ra_set.specs.Refusals.{Refuses};
 ghost use Rattle.ra_set.specs.Spelled.{OptionalScript};
 
-use crate::limits::MOST_TEXT;
 use crate::lines::take_lines;
 use crate::read_file::ReadFile;
-use crate::refused::SetRefused;
+use crate::refused::{SetRefused, Which};
 use ra_condition::{Fault, Refused};
 use ra_richpresence::{ReadScript, read_script};
 use ra_text::Cursor;
@@ -19,7 +19,7 @@ use std::alloc::Global;
 
 // The items of a file, of which none repeats an id of its own letter, and its script.
 pub fn read_file(alloc: Global, bytes: &[u8]) -> Result<ReadFile, SetRefused>
-    requires { length bytes.now ≤ 4194304 }
+    requires { length bytes.now ≤ most_bytes }
     ensures ok { IfOk result (λ read. IsReadFile bytes.now read) }
     ensures structure { IfOk result (λ read. OptionalScript (script_read read.script)) }
     ensures err { IfErr result (λ why. why ≡ SetRefused.Memory ⊎ Refuses bytes.now why) }
@@ -47,7 +47,7 @@ fn read_behind(
     cursor: &Cursor<'_>,
     has_script: bool,
 ) -> Result<Option<ReadScript>, SetRefused>
-    requires size { length bytes.now ≤ 4194304 }
+    requires size { length bytes.now ≤ most_bytes }
     requires within { length cursor.now.rest.now ≤ length bytes.now }
     ensures ok { IfOk result (λ read. IsReadBehind has_script cursor.now.rest.now read) }
     ensures structure { IfOk result (λ read. OptionalScript (script_read read)) }
@@ -64,12 +64,12 @@ fn read_behind(
 
 // The script that the text from this place on is.
 fn read_at(alloc: Global, text: &[u8], start: usize) -> Result<ReadScript, SetRefused>
-    requires { start + length text.now ≤ 4194304 }
-    ensures ok { IfOk result (λ read. IsRead text.now 1024 read) }
+    requires { start + length text.now ≤ most_bytes }
+    ensures ok { IfOk result (λ read. IsRead text.now most_text read) }
     ensures structure { IfOk result (λ read. IsScript (script_contents read.script)) }
     ensures err { IfErr result (λ why. why ≡ SetRefused.Memory ⊎ IsBadText text.now start why) }
 {
-    match read_script(alloc, text, MOST_TEXT) {
+    match read_script(alloc, text, Which::Lookup.most()) {
         Ok(read) => Ok(read),
         Err(Refused::Syntax { at }) => Err(SetRefused::Syntax { at: start + at }),
         Err(Refused::Memory) => Err(SetRefused::Memory),

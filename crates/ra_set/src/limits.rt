@@ -7,7 +7,7 @@ ghost use Rattle.ra_richpresence.specs.Contents.{line_contents, piece_contents, 
 ghost use Rattle.ra_richpresence.specs.Grammar.{ScriptParts};
 ghost use Rattle.ra_richpresence.specs.Texts.{first_over};
 ghost use Rattle.ra_set.specs.Contents.{item_contents};
-ghost use Rattle.ra_set.specs.Limits.{KeepsLimits, PassesLimit, item_conditions};
+ghost use Rattle.ra_set.specs.Limits.{most_macros, KeepsLimits, PassesLimit, item_conditions};
 ghost use Rattle.ra_set.specs.ScriptLimits.{ChecksScript, IsReadOf, macros_of, read_conditions};
 
 use crate::counting::{in_items, in_lines};
@@ -15,34 +15,22 @@ use crate::item::Item;
 use crate::refused::{SetRefused, Which};
 use ra_richpresence::{Line, Piece, ReadScript};
 
-// The most items of a set.
-const MOST_ITEMS: usize = 16_384;
-
-// The most conditions of a set.
-const MOST_CONDITIONS: u64 = 65_536;
-
-// The most macros of a display line.
-const MOST_MACROS: u64 = 256;
-
-/// The most bytes of a lookup text.
-pub const MOST_TEXT: u64 = 1_024;
-
 /// Whether items and a script, if there is one, keep their limits: items, conditions, macros of each
 /// display line, texts of the lookups that are kept. Else the first of these that is passed. The
-/// script was read with the limit `MOST_TEXT`.
+/// script was read with the limit of its texts.
 pub fn check_limits(items: &[Item], script: Option<&ReadScript>) -> Result<(), SetRefused>
     requires { sum_by item_conditions (map item_contents items.now) + read_conditions (option_copied script) < 2 ^ 64 }
     ensures ok { (parts : Option ScriptParts) → IsReadOf parts (option_copied script.entry) → OnOk result (KeepsLimits (map item_contents items.now) parts) }
     ensures err { (parts : Option ScriptParts) → IsReadOf parts (option_copied script.entry) → IfErr result (λ why. PassesLimit (map item_contents items.now) parts why) }
 {
-    if items.len() > MOST_ITEMS {
+    if items.len() as u64 > Which::Items.most() {
         return Err(SetRefused::Limit {
             which: Which::Items,
             found: items.len() as u64,
         });
     }
     let found = in_items(items) + in_read(script);
-    if found > MOST_CONDITIONS {
+    if found > Which::Conditions.most() {
         return Err(SetRefused::Limit {
             which: Which::Conditions,
             found,
@@ -86,11 +74,11 @@ fn check_script(read: &ReadScript) -> Result<(), SetRefused>
 
 // How many macros the first line has that has too many.
 fn crowded_line(lines: &[Line]) -> Option<u64>
-    ensures { result ≡ first_over 256 (macros_of (map line_contents lines.now)) }
+    ensures { result ≡ first_over most_macros (macros_of (map line_contents lines.now)) }
 {
     for line in lines {
         let found = macros_in(&line.pieces);
-        if found > MOST_MACROS {
+        if found > Which::Macros.most() {
             return Some(found);
         }
     }

@@ -2,6 +2,7 @@
 
 ghost use Rattle.std.specs.Prelude.{◌≤◌, length};
 ghost use Rattle.ra_set.specs.Kept.{KeepsUnlessFull};
+ghost use Rattle.ra_set.specs.Limits.{most_bytes};
 ghost use Rattle.ra_set.specs.Reading.{end_at, front_at, lines_in, script_end_at, script_line_at};
 ghost use Rattle.ra_text.specs.Moves.{Moves};
 
@@ -14,7 +15,7 @@ use std::alloc::Global;
 
 // The lines of a file: all, each with its end but the last, or those up to a line `P` and that line.
 pub fn take_lines(alloc: Global, cursor: &mut Cursor<'_>) -> Result<FileLines, Fault>
-    requires { length cursor.old.rest.now ≤ 4194304 }
+    requires { length cursor.old.rest.now ≤ most_bytes }
     ensures { KeepsUnlessFull result cursor.new.rest.now (lines_in (front_at cursor.old.rest.now)) }
 {
     let mut kept = KeptLines::none(alloc);

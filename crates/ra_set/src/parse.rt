@@ -14,9 +14,6 @@ use md5::{Digest, Md5};
 use ra_richpresence::{ReadScript, Script};
 use std::alloc::Global;
 
-// The most bytes of a set.
-const MOST_BYTES: usize = 4_194_304;
-
 /// The set that a file spells, with the MD5 of the file: docs/DEFINITIONS.md, "Set file".
 ///
 /// Of several reasons why the file is none the first is told, in this order ("Limits of a set"):
@@ -34,7 +31,7 @@ pub fn parse_set(alloc: Global, bytes: &[u8]) -> Result<Set, SetRefused>
         → MatchResult result (λ s. set_contents s ≡ set) (λ why. why ≡ SetRefused.Memory) }
     ensures refused { (why : SetRefused) → Refuses bytes.now why → IsErrAnd result (λ e. e ≡ SetRefused.Memory ⊎ e ≡ why) }
 {
-    if bytes.len() > MOST_BYTES {
+    if bytes.len() as u64 > Which::Bytes.most() {
         return Err(SetRefused::Limit {
             which: Which::Bytes,
             found: bytes.len() as u64,
