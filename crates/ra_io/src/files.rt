@@ -1,8 +1,8 @@
 //! Files by name, and how a call on them fails.
 
-ghost use Rattle.std.specs.Prelude.{◌≡◌, ℕ, ◌+◌, ◌^◌, ◌≤◌, Option, List, length, Some, IfOk, OnOk, OnErr, IfSome, IsErrOf};
+ghost use Rattle.std.specs.Prelude.{◌≡◌, ℕ, ◌+◌, ◌≤◌, Option, List, length, Some, IfOk, OnOk, OnErr, IfSome, IsErrOf};
 ghost use Rattle.ra_io.specs.Causes.{Rose, NoneFell};
-ghost use Rattle.ra_io.specs.Files.{ReadsAt, SameContent, SameBut};
+ghost use Rattle.ra_io.specs.Files.{ReadsAt, OnlyRead, SameContent, SameBut, most_place};
 
 /// A read failed.
 #[derive(Clone, Copy, Debug, PartialEq, Eq)]
@@ -37,7 +37,7 @@ pub trait Files {
     /// name was counted. What stands in the buffer behind the bytes that were read is left open,
     /// and so is all of it after an error.
     fn read_at(&mut self, name: &str, at: u64, buf: &mut [u8]) -> Result<usize, Failed>
-        requires { at + length buf.old ≤ 2 ^ 41 }
+        requires { at + length buf.old ≤ most_place }
 
         // What was read.
         ensures bound { IfOk result (λ n. n ≤ length buf.new) }
@@ -47,9 +47,7 @@ pub trait Files {
         ensures failed { OnErr result (Rose (read_faults self.old name.now) (read_faults self.new name.now)) }
 
         // What stays.
-        ensures same { SameContent (content self.old) (content self.new) }
-        ensures reads { NoneFell (read_faults self.old) (read_faults self.new) }
-        ensures puts { NoneFell (put_faults self.old) (put_faults self.new) };
+        ensures stays { OnlyRead content read_faults put_faults self.old self.new };
 
     /// Replaces the whole content of one name; every other name stays.
     ///

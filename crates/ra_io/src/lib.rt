@@ -10,6 +10,7 @@ mod files;
 mod mem_files;
 mod mem_sink;
 mod real_files;
+mod real_put;
 mod real_sink;
 mod sink;
 mod sure_files;

@@ -1,6 +1,6 @@
 ghost use Rattle.std.specs.Prelude.{◌≡◌, ◌⊎◌, ◌↔◌, ◌+◌, ◌-◌, ◌^◌, ◌≤◌, ℕ, List, [], None, Some, IsNone, IsErr, OnOk, OnErr, IfOk, IsErrOf, is_err, length, min};
 ghost use Rattle.ra_io.specs.Causes.{Rose, NoneFell};
-ghost use Rattle.ra_io.specs.Files.{ReadsAt, SameContent};
+ghost use Rattle.ra_io.specs.Files.{ReadsAt, SameContent, most_place};
 ghost use Rattle.ra_io.specs.Held.{SetsName, IsListed, bytes_under, no_calls, counted, put_failed};
 
 use crate::calls::Calls;
@@ -71,7 +71,7 @@ impl Files for MemFiles {
     /// Fails exactly where the call is listed or the name is not there; else it gives as many
     /// bytes as there are and as there is room for.
     fn read_at(&mut self, name: &str, at: u64, buf: &mut [u8]) -> Result<usize, Failed>
-        requires { at + length buf.old ≤ 2 ^ 41 }
+        requires { at + length buf.old ≤ most_place }
 
         // What was read.
         ensures bound { IfOk result (λ n. n ≤ length buf.new) }

@@ -1,6 +1,7 @@
 ghost use Rattle.std.specs.Prelude.{◌≡◌, ◌≤◌, length, None, IfOk};
 ghost use Rattle.ra_io.specs.Held.{FaultsSeen};
 
+use crate::real_put::put_file;
 use crate::{Failed, Files, PutFailed};
 use std::alloc::Alloc;
 use std::io::{Read, Seek, SeekFrom};
@@ -18,7 +19,9 @@ struct Opened<R: std::rt::Files + Alloc> {
 /// The files of the system, a thin adapter: docs/DEFINITIONS.md, "Files in memory".
 ///
 /// A read that goes on where the last one of its file ended reads on from it, so that a pipe can be read;
-/// every other one opens its file anew. It tells no content. Each error of the system is counted as a fault.
+/// every other one opens its file anew. A put that fails leaves what stood under the name, where that is a regular file or
+/// nothing: the bytes are written into a file beside it, which takes the name once they are all there. A link, a device
+/// or a pipe is written in place. It tells no content. Each error of the system is counted as a fault.
 #[derive(Drop)]
 pub struct RealFiles<'a, R: std::rt::Files + Alloc> {
     rt: &'a R,
@@ -93,12 +96,10 @@ impl<R: std::rt::Files + Alloc> Files for RealFiles<'_, R> {
 
     fn put(&mut self, name: &str, bytes: &[u8]) -> Result<(), PutFailed> {
         self.last = None;
-        match fs::write(self.rt, name, bytes) {
-            Ok(()) => Ok(()),
-            Err(_) => {
-                self.puts = self.puts.saturating_add(1);
-                Err(PutFailed::Failed)
-            }
+        let answer = put_file(self.rt, name, bytes);
+        if answer == Err(PutFailed::Failed) {
+            self.puts = self.puts.saturating_add(1);
         }
+        answer
     }
 }

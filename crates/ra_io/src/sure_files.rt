@@ -1,5 +1,5 @@
 ghost use Rattle.std.specs.Prelude.{◌≡◌, ◌+◌, ◌-◌, ◌^◌, ◌≤◌, ℕ, List, None, Some, IsOk, IsOkUnless, OnOk, OnErr, IfOk, is_some, length, min};
-ghost use Rattle.ra_io.specs.Files.{ReadsAt, SameContent};
+ghost use Rattle.ra_io.specs.Files.{ReadsAt, SameContent, most_place};
 ghost use Rattle.ra_io.specs.Held.{SetsName, bytes_under};
 
 use crate::copies::copy_at;
@@ -71,7 +71,7 @@ impl Files for SureFiles {
 
     /// Never fails, and gives as many bytes as there are and as there is room for.
     fn read_at(&mut self, name: &str, at: u64, buf: &mut [u8]) -> Result<usize, Failed>
-        requires { at + length buf.old ≤ 2 ^ 41 }
+        requires { at + length buf.old ≤ most_place }
         ensures bound { IfOk result (λ n. n ≤ length buf.new) }
         ensures bytes { IfOk result (λ n. ReadsAt (bytes_under (names_of self.old) name.now) at n buf.new) }
         ensures exact { IsOk result }

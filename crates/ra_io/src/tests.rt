@@ -2,6 +2,7 @@ use crate::{
     Failed, Files, MemFiles, MemSink, PutFailed, RealFiles, RealSink, Sink, SinkFailed, SureFiles,
     SureSink,
 };
+use std::fs;
 use std::test::Fail;
 
 // The second read has no room and counts, the fourth is listed.
@@ -106,4 +107,32 @@ fn the_adapters_read_and_write(rt: HostRuntime) {
     let mut out = RealSink::new(&rt);
     assert_eq!(rt; out.write(b""), Ok(0));
     assert_eq!(rt; out.write(b"\n"), Ok(1));
+}
+
+// A shorter content takes the place of a longer one, and nothing is left beside it.
+#[test]
+fn a_put_takes_the_place_of_a_file(rt: HostRuntime) -> Result<(), Fail> {
+    let mut files = RealFiles::new(&rt);
+    let mut buf = [0u8; 8];
+    assert_eq!(rt; files.put("placed.bin", b"hello"), Ok(()));
+    assert_eq!(rt; files.put("placed.bin", b"one"), Ok(()));
+    assert_eq!(rt; files.read_at("placed.bin", 0, &mut buf), Ok(3));
+    assert_eq!(rt; fs::exists(&rt, "ra_put.0")?, false);
+    Ok(())
+}
+
+// Every name beside the file is taken, so the put fails, and the file is as it was.
+#[test]
+fn a_put_that_fails_leaves_the_file(rt: HostRuntime) -> Result<(), Fail> {
+    let mut files = RealFiles::new(&rt);
+    let mut buf = [0u8; 8];
+    fs::create_dir(&rt, "full")?;
+    assert_eq!(rt; files.put("full/kept.bin", b"hello"), Ok(()));
+    for number in 0..1_000 {
+        let beside = format!(in rt.alloc(); "full/ra_put.{number}")?;
+        fs::write(&rt, beside.as_str(), b"")?;
+    }
+    assert_eq!(rt; files.put("full/kept.bin", b"one"), Err(PutFailed::Failed));
+    assert_eq!(rt; files.read_at("full/kept.bin", 0, &mut buf), Ok(5));
+    Ok(())
 }
