@@ -3,7 +3,7 @@ use Rattle.std.specs.Prelude.{ℕ, zero, suc, ◌+◌, ◌&&◌, Bool, true, fal
 use Rattle.std.specs.Int.{w16, w32, from_le_bytes}
 use Rattle.ra_trace.specs.declared.error.Why.{Why}
 use Rattle.ra_trace.specs.declared.error.Why.TheVariants.{Header, Kind, Cut, PastMemory, Slot, EmptySlot}
-use Rattle.ra_trace.specs.Entries.{Entry, Written, Framed, Saved, Restored, Shown, Ended, entry_bytes}
+use Rattle.ra_trace.specs.Entries.{Entry, Written, Framed, Saved, Restored, Shown, Ended, entry_bytes, last_slot, most_memory}
 
 -- where a trace stops: its end record, a refusal with its place and reason, or the limit of the reader
 pub data Stop : Type 0 where
@@ -20,7 +20,7 @@ pub record Trace : Type 0 where
 -- the memory size that a header says, if it is a good one
 abbrev pub header_size : List ℕ → Option ℕ
 header_size bytes =
-    if bytes_eq (take 5 bytes) (codes "RATR" ++ 1 ∷ []) && (nat_le 9 (length bytes) && nat_le (from_le_bytes w32 (take 4 (drop 5 bytes))) 134217728)
+    if bytes_eq (take 5 bytes) (codes "RATR" ++ 1 ∷ []) && (nat_le 9 (length bytes) && nat_le (from_le_bytes w32 (take 4 (drop 5 bytes))) most_memory)
     then Some (from_le_bytes w32 (take 4 (drop 5 bytes)))
     else None
 
@@ -43,13 +43,13 @@ write_refusal size rest =
 -- why no save record stands here, behind its letter
 abbrev pub save_refusal : List ℕ → Option Why
 save_refusal [] = Some Cut
-save_refusal (slot ∷ rest) = if nat_lt 15 slot then Some Slot else None
+save_refusal (slot ∷ rest) = if nat_lt last_slot slot then Some Slot else None
 
 -- why no restore record stands here, behind its letter, by the slots that are filled
 abbrev pub restore_refusal : List Bool → List ℕ → Option Why
 restore_refusal filled [] = Some Cut
 restore_refusal filled (slot ∷ rest) =
-    if nat_lt 15 slot then Some Slot else if slice_index_or filled slot false then None else Some EmptySlot
+    if nat_lt last_slot slot then Some Slot else if slice_index_or filled slot false then None else Some EmptySlot
 
 -- why no record stands at the front of these bytes, by their letter
 abbrev pub refusal : ℕ → List Bool → List ℕ → Option Why

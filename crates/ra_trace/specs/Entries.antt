@@ -1,9 +1,17 @@
 -- The records of a trace and their bytes: docs/DEFINITIONS.md, "Trace file".
-use Rattle.std.specs.Prelude.{ℕ, List, [], ◌∷◌, ◌++◌, length, codes}
+use Rattle.std.specs.Prelude.{ℕ, ◌^◌, List, [], ◌∷◌, ◌++◌, length, codes}
 use Rattle.std.specs.List.{flat_map}
 use Rattle.std.specs.Int.{w16, w32, to_le_bytes}
 use Rattle.ra_trace.specs.declared.record.Record.{Record}
 use Rattle.ra_trace.specs.declared.record.Record.TheVariants.{Write, Frame, Save, Restore, Show, End}
+
+-- the most bytes of a memory
+abbrev pub most_memory : ℕ
+most_memory = 2 ^ 27
+
+-- the greatest number of a slot
+abbrev pub last_slot : ℕ
+last_slot = 15
 
 -- a record of a trace
 pub data Entry : Type 0 where

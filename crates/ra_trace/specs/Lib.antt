@@ -4,6 +4,7 @@ pub mod Entries
 pub mod Heads
 pub mod Window
 pub mod Reading
+pub mod Refusals
 pub mod Rules
 pub mod Workload
 pub mod Writing

@@ -5,7 +5,7 @@ use Rattle.ra_trace.specs.declared.error.Why.{Why}
 use Rattle.ra_trace.specs.declared.error.Why.TheVariants.{Header, Cut}
 use Rattle.ra_trace.specs.declared.error.TraceError.{TraceError}
 use Rattle.ra_trace.specs.declared.error.TraceError.TheVariants as errors
-use Rattle.ra_trace.specs.Entries.{Entry, Written, Saved, Restored, entry_bytes}
+use Rattle.ra_trace.specs.Entries.{Entry, Written, Saved, Restored, entry_bytes, last_slot}
 use Rattle.ra_trace.specs.Cutting.{Stop, RefusedAt, PastLimit, header_size, refusal, front, stop_within}
 
 -- what a caller sees of a reader: the name of its file, its limit, and how far it is
@@ -67,6 +67,7 @@ pub record ReadsOn (content : Option (List ℕ)) (more : Bool) (old new : Reader
 -- the reader holds the front of the file: as long as a header, or all that may be seen of it
 pub record ReadsFront (content : Option (List ℕ)) (old new : ReaderSeen) : Type 0 where
   pub same : SameReader old new
+  pub sized : new.size ≡ None
   pub last : new.last ≡ 0
   pub inside : IsInside (length new.held) new.limit new.taken 0
   pub holds : (bytes : List ℕ) → content ≡ Some bytes → Holds new bytes
@@ -88,8 +89,8 @@ next_stop limit size at bytes =
 -- the record lies within a memory of this size and the sixteen slots
 abbrev pub LiesWithin : ℕ → Entry → Type 0
 LiesWithin size (Written at bytes) = at + length bytes ≤ size
-LiesWithin size (Saved slot) = slot ≤ 15
-LiesWithin size (Restored slot) = slot ≤ 15
+LiesWithin size (Saved slot) = slot ≤ last_slot
+LiesWithin size (Restored slot) = slot ≤ last_slot
 LiesWithin size _ = ⊤
 
 -- a record stands at the front of these bytes, over a memory of some size

@@ -1,14 +1,14 @@
 -- The records that a trace may hold before its end, and the trace that they are: docs/DEFINITIONS.md, "Trace file".
 use Rattle.std.specs.Prelude.{◌≡◌, ℕ, ◌+◌, ◌≤◌, ⊤, Bool, true, false, List, [], ◌∷◌, ◌++◌, length, slice_index_or}
-use Rattle.ra_trace.specs.Entries.{Entry, Written, Framed, Saved, Restored, Shown, Ended, trace_bytes}
+use Rattle.ra_trace.specs.Entries.{Entry, Written, Framed, Saved, Restored, Shown, Ended, trace_bytes, last_slot}
 use Rattle.ra_trace.specs.Cutting.{Trace, Reached, filled_after}
 
 -- the record is no end and keeps the rules: a write fits the memory, and a slot is one of the sixteen
 abbrev pub Fits : ℕ → Entry → Type 0
 Fits size (Written at bytes) = (at + length bytes ≤ size) × (length bytes ≤ 65535)
 Fits size Framed = ⊤
-Fits size (Saved slot) = slot ≤ 15
-Fits size (Restored slot) = slot ≤ 15
+Fits size (Saved slot) = slot ≤ last_slot
+Fits size (Restored slot) = slot ≤ last_slot
 Fits size Shown = ⊤
 Fits size Ended = ⊥
 

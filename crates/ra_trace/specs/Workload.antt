@@ -65,6 +65,10 @@ frames (suc more) f x = writes 8 x (Framed ∷ after_frame f (frames more (f + 1
 unfoldable pub made_entries : ℕ → List Entry
 made_entries number = frames 4096 0 ((number + 1) % 2 ^ 32)
 
+-- the memory size of a workload
+abbrev pub made_size : ℕ
+made_size = 65536
+
 -- the trace file of a workload
 unfoldable pub made_trace : ℕ → List ℕ
-made_trace number = trace_bytes 65536 (made_entries number)
+made_trace number = trace_bytes made_size (made_entries number)

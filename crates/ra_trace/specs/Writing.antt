@@ -1,7 +1,7 @@
 -- What a writer of a trace is seen as, and the records that it wrote: docs/DEFINITIONS.md, "Trace file".
-use Rattle.std.specs.Prelude.{◌≡◌, ℕ, ◌≤◌, ◌^◌, List, [], ◌∷◌, ◌++◌, All}
+use Rattle.std.specs.Prelude.{◌≡◌, ℕ, ◌≤◌, List, [], ◌∷◌, ◌++◌, All}
 use Rattle.std.specs.List.{flat_map}
-use Rattle.ra_trace.specs.Entries.{Entry, entry_bytes, trace_bytes}
+use Rattle.ra_trace.specs.Entries.{Entry, entry_bytes, trace_bytes, most_memory}
 use Rattle.ra_trace.specs.Rules.{Fits}
 
 -- what a caller sees of a writer: the memory size, and the bytes so far
@@ -19,7 +19,7 @@ with_records old entries = record old { bytes = old.bytes ++ flat_map entry_byte
 
 -- a writer has written these records, each within the rules
 pub record Wrote (writer : WriterSeen) (entries : List Entry) : Type 0 where
-  pub small : writer.size ≤ 2 ^ 27
+  pub small : writer.size ≤ most_memory
   pub fit : All (Fits writer.size) entries
   pub bytes : writer.bytes ≡ trace_bytes writer.size entries
 

@@ -1,5 +1,8 @@
 //! Why a trace is refused.
 
+use std::error::Error;
+use std::fmt;
+
 /// The reason of a refusal: docs/DEFINITIONS.md, "Trace file".
 #[derive(Clone, Copy, Debug, PartialEq, Eq)]
 pub enum Why {
@@ -16,6 +19,27 @@ pub enum Why {
     /// A restore takes a slot that no save has filled.
     EmptySlot,
 }
+
+/// Written as the word of docs/DEFINITIONS.md, "Trace file".
+impl fmt::Display for Why {
+    ghost use Rattle.std.specs.Prelude.{Some};
+    ghost use Rattle.ra_trace.specs.Refusals.{trace_word};
+
+    ghost output = { λ why. Some (trace_word why) };
+
+    fn fmt<W: fmt::Write>(&self, f: &mut fmt::Formatter<W>) -> fmt::Result {
+        match self {
+            Why::Header => write!(f, "header"),
+            Why::Kind => write!(f, "kind"),
+            Why::Cut => write!(f, "cut"),
+            Why::PastMemory => write!(f, "memory"),
+            Why::Slot => write!(f, "slot"),
+            Why::EmptySlot => write!(f, "empty"),
+        }
+    }
+}
+
+impl Error for Why {}
 
 /// Why no record is answered: docs/DEFINITIONS.md, "Reading a trace".
 #[derive(Clone, Copy, Debug, PartialEq, Eq)]

@@ -4,6 +4,7 @@ ghost use Rattle.std.specs.Prelude.{◌≡◌, ◌+◌, ◌<◌, ◌≤◌, IfOk
 ghost use Rattle.ra_trace.specs.declared.error.Why.TheVariants.{Cut};
 ghost use Rattle.ra_trace.specs.declared.head.Head.TheVariants as heads;
 ghost use Rattle.ra_trace.specs.Cutting.{header_size, place_in, count_in, write_refusal, save_refusal, restore_refusal, refusal, front};
+ghost use Rattle.ra_trace.specs.Entries.{most_memory};
 ghost use Rattle.ra_trace.specs.Heads.{head_length, head_of, why_of};
 
 use crate::error::Why;
@@ -18,7 +19,7 @@ const SLOT_LIMIT: u8 = 15;
 /// The memory size in a good header.
 pub fn read_header(bytes: &[u8]) -> Option<u32>
     ensures size { result ≡ header_size bytes.now }
-    ensures most { IfSome result (λ size. size ≤ 134217728) }
+    ensures most { IfSome result (λ size. size ≤ most_memory) }
 {
     let [b'R', b'A', b'T', b'R', 1, a, b, c, d, ..] = bytes else {
         return None;

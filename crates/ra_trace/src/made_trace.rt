@@ -2,7 +2,7 @@
 
 ghost use Rattle.std.specs.Prelude.{◌≡◌, ◌+◌, ◌*◌, [], ◌∷◌, IfOk, OnOk};
 ghost use Rattle.ra_trace.specs.Entries.{Framed};
-ghost use Rattle.ra_trace.specs.Workload.{writes, after_frame, drawn_times, made_trace};
+ghost use Rattle.ra_trace.specs.Workload.{writes, after_frame, drawn_times, made_size, made_trace};
 ghost use Rattle.ra_trace.specs.Writing.{with_records};
 
 use crate::draws::Draws;
@@ -21,7 +21,7 @@ const FRAMES: u32 = 4_096;
 
 // Writes so many drawn bytes.
 fn write_bytes(writer: &mut Writer, count: u32, draws: &mut Draws) -> Result<(), OutOfMemory>
-    requires { writer.old.size ≡ 65536 }
+    requires { writer.old.size ≡ made_size }
     ensures records { OnOk result (writer.new ≡ with_records writer.old (writes count draws.old [])) }
     ensures draws { OnOk result (draws.new ≡ drawn_times (2 * count) draws.old) }
 {

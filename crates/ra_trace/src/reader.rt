@@ -52,9 +52,9 @@ impl Model for Reader {
 impl Reader {
     ghost use Rattle.std.specs.Prelude.{◌≡◌, ◌≤◌, Some, IfOk, IfErr, OnErr, IfSome, IsSome, OnOk, length, drop, take, replicate, true, Err, ◌<◌, ◌-◌};
     ghost use Rattle.std.specs.Borrow.{sem};
-    ghost use Rattle.ra_io.specs.Causes.{Rose, NoneFell};
-    ghost use Rattle.ra_io.specs.Files.{SameContent};
-    ghost use Rattle.ra_trace.specs.Entries.{entry_of};
+    ghost use Rattle.ra_io.specs.Causes.{Rose};
+    ghost use Rattle.ra_io.specs.Files.{OnlyRead};
+    ghost use Rattle.ra_trace.specs.Entries.{entry_of, most_memory};
     ghost use Rattle.ra_trace.specs.Cutting.{header_size, refusal, front};
     ghost use Rattle.ra_trace.specs.Heads.{head_length, head_of, why_of};
     ghost use Rattle.ra_trace.specs.declared.error.Why.TheVariants.{Cut};
@@ -84,18 +84,17 @@ impl Reader {
     /// The memory size that the header says. The first call on a reader.
     ///
     /// `Refused` at 0 exactly where a told file begins with no good header, and `Read` only where a
-    /// fault was counted.
+    /// fault was counted. An error leaves the place 0.
     pub fn header<F: Files>(&mut self, files: &mut F) -> Result<u32, TraceError>
         requires { self.old ≡ opened self.old.name self.old.limit }
         ensures ok { IfOk result (λ size. IfSome (F.content files.old self.old.name) (λ bytes. header_size (take self.old.limit bytes) ≡ Some size)) }
-        ensures most { IfOk result (λ size. size ≤ 134217728) }
+        ensures most { IfOk result (λ size. size ≤ most_memory) }
         ensures seen { IfOk result (λ size. IsBehindHeader size self.old self.new) }
         ensures held { IfOk result (λ size. IfSome (F.content files.old self.old.name) (Holds self.new)) }
         ensures err { IfErr result (λ why. IfSome (F.content files.old self.old.name) (λ bytes. IsStop why (header_stop self.old.limit bytes))) }
+        ensures last { OnErr result (StaysBefore self.old self.new) }
         ensures fault { IfErr result (λ why. ByFault why (F.read_faults files.old self.old.name) (F.read_faults files.new self.old.name)) }
-        ensures same { SameContent (F.content files.old) (F.content files.new) }
-        ensures reads { NoneFell (F.read_faults files.old) (F.read_faults files.new) }
-        ensures puts { NoneFell (F.put_faults files.old) (F.put_faults files.new) }
+        ensures stays { OnlyRead F.content F.read_faults F.put_faults files.old files.new }
     {
         self.read_front(files)?;
         let Some(size) = read_header(self.window.bytes_from(0)) else {
@@ -114,10 +113,9 @@ impl Reader {
         requires { self.old ≡ opened self.old.name self.old.limit }
         ensures read { OnOk result (ReadsFront (F.content files.old self.old.name) self.old self.new) }
         ensures only { IfErr result (λ why. why ≡ TraceError.Read) }
+        ensures last { OnErr result (StaysBefore self.old self.new) }
         ensures fault { OnErr result (Rose (F.read_faults files.old self.old.name) (F.read_faults files.new self.old.name)) }
-        ensures same { SameContent (F.content files.old) (F.content files.new) }
-        ensures reads { NoneFell (F.read_faults files.old) (F.read_faults files.new) }
-        ensures puts { NoneFell (F.put_faults files.old) (F.put_faults files.new) }
+        ensures stays { OnlyRead F.content F.read_faults F.put_faults files.old files.new }
     {
         let mut more = true;
         while self.window.len() < HEADER_LENGTH && more {
@@ -154,9 +152,7 @@ impl Reader {
         ensures only { IfErr result (λ why. why ≡ TraceError.Read) }
         ensures last { OnErr result (StaysBefore self.old self.new) }
         ensures fault { OnErr result (Rose (F.read_faults files.old self.old.name) (F.read_faults files.new self.old.name)) }
-        ensures same { SameContent (F.content files.old) (F.content files.new) }
-        ensures reads { NoneFell (F.read_faults files.old) (F.read_faults files.new) }
-        ensures puts { NoneFell (F.put_faults files.old) (F.put_faults files.new) }
+        ensures stays { OnlyRead F.content F.read_faults F.put_faults files.old files.new }
     {
         if self.taken == self.limit {
             return Ok(false);
@@ -179,9 +175,7 @@ impl Reader {
         ensures only { IfErr result (λ why. why ≡ TraceError.Read) }
         ensures last { OnErr result (StaysBefore self.old self.new) }
         ensures fault { OnErr result (Rose (F.read_faults files.old self.old.name) (F.read_faults files.new self.old.name)) }
-        ensures same { SameContent (F.content files.old) (F.content files.new) }
-        ensures reads { NoneFell (F.read_faults files.old) (F.read_faults files.new) }
-        ensures puts { NoneFell (F.put_faults files.old) (F.put_faults files.new) }
+        ensures stays { OnlyRead F.content F.read_faults F.put_faults files.old files.new }
     {
         let mut more = true;
         let mut found = self.next_head(size);
@@ -211,9 +205,7 @@ impl Reader {
         ensures err { IfErr result (λ why. IfSome (F.content files.old self.old.name) (λ bytes. Holds self.old bytes → IfSome self.old.size (λ size. IsStop why (next_stop self.old.limit size self.old.next bytes)))) }
         ensures last { OnErr result (StaysBefore self.old self.new) }
         ensures fault { IfErr result (λ why. ByFault why (F.read_faults files.old self.old.name) (F.read_faults files.new self.old.name)) }
-        ensures same { SameContent (F.content files.old) (F.content files.new) }
-        ensures reads { NoneFell (F.read_faults files.old) (F.read_faults files.new) }
-        ensures puts { NoneFell (F.put_faults files.old) (F.put_faults files.new) }
+        ensures stays { OnlyRead F.content F.read_faults F.put_faults files.old files.new }
     {
         let size = self.size.unwrap_or(0);
         match self.look(size, files)? {
@@ -237,9 +229,7 @@ impl Reader {
         ensures lies { IfOk result (λ found. IfSome self.old.size (λ size. LiesWithin size (entry_of found))) }
         ensures err { IfErr result (λ why. IfSome (F.content files.old self.old.name) (λ bytes. Holds self.old bytes → IfSome self.old.size (λ size. IsStop why (next_stop self.old.limit size self.old.next bytes)))) }
         ensures fault { IfErr result (λ why. ByFault why (F.read_faults files.old self.old.name) (F.read_faults files.new self.old.name)) }
-        ensures same { SameContent (F.content files.old) (F.content files.new) }
-        ensures reads { NoneFell (F.read_faults files.old) (F.read_faults files.new) }
-        ensures puts { NoneFell (F.put_faults files.old) (F.put_faults files.new) }
+        ensures stays { OnlyRead F.content F.read_faults F.put_faults files.old files.new }
         ensures* after { sem 𝓛 (EndsAs (F.content files.old self.old.name) self.entry result) }
     {
         let (at, head) = self.step(files)?;

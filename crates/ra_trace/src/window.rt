@@ -1,9 +1,9 @@
 //! The bytes of a file that are held for its next records.
 
 ghost use Rattle.std.specs.Prelude.{◌≡◌, ◌+◌, ◌≤◌, ◌^◌, [], length, drop, IfOk, OnErr};
-ghost use Rattle.ra_io.specs.Causes.{Rose, NoneFell};
-ghost use Rattle.ra_io.specs.Files.{SameContent};
-ghost use Rattle.ra_trace.specs.Window.{ReadsBehind};
+ghost use Rattle.ra_io.specs.Causes.{Rose};
+ghost use Rattle.ra_io.specs.Files.{OnlyRead, most_place};
+ghost use Rattle.ra_trace.specs.Window.{ReadsBehind, room_of};
 
 use ra_io::{Failed, Files};
 use ra_text::OutOfMemory;
@@ -45,7 +45,7 @@ impl Window {
     /// How many bytes it holds.
     pub fn len(&self) -> usize
         ensures length { result ≡ length self.now }
-        ensures most { result ≤ 131072 }
+        ensures most { result ≤ room_of }
     {
         self.held
     }
@@ -79,13 +79,11 @@ impl Window {
         most: u64,
         files: &mut F,
     ) -> Result<usize, Failed>
-        requires { at + most ≤ 2 ^ 41 }
+        requires { at + most ≤ most_place }
         ensures read { IfOk result (λ n. ReadsBehind (F.content files.old name.now) at most n self.old self.new) }
         ensures err { OnErr result (self.new ≡ self.old) }
         ensures failed { OnErr result (Rose (F.read_faults files.old name.now) (F.read_faults files.new name.now)) }
-        ensures same { SameContent (F.content files.old) (F.content files.new) }
-        ensures reads { NoneFell (F.read_faults files.old) (F.read_faults files.new) }
-        ensures puts { NoneFell (F.put_faults files.old) (F.put_faults files.new) }
+        ensures stays { OnlyRead F.content F.read_faults F.put_faults files.old files.new }
     {
         let room = PIECE.min(ROOM - self.held) as u64;
         let end = self.held + room.min(most) as usize;

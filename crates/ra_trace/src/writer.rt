@@ -22,7 +22,7 @@ impl Model for Writer {
 
 impl Writer {
     ghost use Rattle.std.specs.Prelude.{◌≡◌, ◌+◌, ◌≤◌, ◌^◌, [], ◌++◌, true, length, replicate, List, IfOk, OnOk, OnErr};
-    ghost use Rattle.ra_trace.specs.Entries.{Entry, Written, Framed, Saved, Restored, Shown, Ended, header_bytes, entry_bytes};
+    ghost use Rattle.ra_trace.specs.Entries.{Entry, Written, Framed, Saved, Restored, Shown, Ended, header_bytes, entry_bytes, last_slot, most_memory};
     ghost use Rattle.ra_trace.specs.Cutting.{trace_with};
     ghost use Rattle.ra_trace.specs.Rules.{whole_trace};
     ghost use Rattle.ra_trace.specs.Writing.{with_record, Wrote, Adds};
@@ -30,7 +30,7 @@ impl Writer {
     /// The header of a trace over a memory of `size` bytes, at most 134,217,728.
     #[tactic(auto, using(crate::proofs::Writes::wrote_none))]
     pub fn new(alloc: Global, size: u32) -> Result<Writer, OutOfMemory>
-        requires { size ≤ 2 ^ 27 }
+        requires { size ≤ most_memory }
         ensures ok { IfOk result (λ writer. writer ≡ record { size = size; bytes = header_bytes size }) }
         ensures wrote { IfOk result (λ writer. Wrote writer []) }
     {
@@ -72,7 +72,7 @@ impl Writer {
     /// Adds a save to a slot, 0 to 15.
     #[tactic(auto, using(crate::proofs::Writes::wrote_more))]
     pub fn save(&mut self, slot: u8) -> Result<(), OutOfMemory>
-        requires { slot ≤ 15 }
+        requires { slot ≤ last_slot }
         ensures ok { OnOk result (self.new ≡ with_record self.old (Saved slot)) }
         ensures wrote { OnOk result (Adds (Saved slot) self.old self.new) }
         ensures err { OnErr result (self.new ≡ self.old) }
@@ -84,7 +84,7 @@ impl Writer {
     /// Adds a restore of a slot, 0 to 15.
     #[tactic(auto, using(crate::proofs::Writes::wrote_more))]
     pub fn restore(&mut self, slot: u8) -> Result<(), OutOfMemory>
-        requires { slot ≤ 15 }
+        requires { slot ≤ last_slot }
         ensures ok { OnOk result (self.new ≡ with_record self.old (Restored slot)) }
         ensures wrote { OnOk result (Adds (Restored slot) self.old self.new) }
         ensures err { OnErr result (self.new ≡ self.old) }

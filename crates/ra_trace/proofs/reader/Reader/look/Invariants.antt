@@ -1,6 +1,5 @@
 use Rattle.std.proofs.Common.{Err, IfOk, ◌≤◌, ◌≡◌, ℕ, ◌+◌, ◌-◌, ◌<◌, min, true, false, if◌then◌else◌, Some, List, length, replicate}
-use Rattle.ra_io.specs.Causes.{NoneFell}
-use Rattle.ra_io.specs.Files.{SameContent}
+use Rattle.ra_io.specs.Files.{OnlyRead}
 use Rattle.ra_trace.specs.declared.error.Why.TheVariants.{Cut}
 use Rattle.ra_trace.specs.Cutting.{refusal, front}
 use Rattle.ra_trace.specs.Heads.{head_length, head_of, why_of}
@@ -20,9 +19,7 @@ invariant-loop-more g l = record {
   short : l.found ≡ Err Cut → length (unanswered l.self) < 65542;
   holds : (bytes : List ℕ) → g.F.Files.content l.initial.files l.initial.self.name ≡ Some bytes → Holds l.initial.self bytes → Holds l.self bytes;
   end : (bytes : List ℕ) → g.F.Files.content l.initial.files l.initial.self.name ≡ Some bytes → Holds l.initial.self bytes → l.more ≡ false → l.self.taken ≡ min l.self.limit (length bytes);
-  same : SameContent (g.F.Files.content l.initial.files) (g.F.Files.content l.files);
-  reads : NoneFell (g.F.Files.read_faults l.initial.files) (g.F.Files.read_faults l.files);
-  puts : NoneFell (g.F.Files.put_faults l.initial.files) (g.F.Files.put_faults l.files);
+  stays : OnlyRead g.F.Files.content g.F.Files.read_faults g.F.Files.put_faults l.initial.files l.files;
 }
 
 abbrev pub decreases-loop-more : goal.decreases-loop-more

@@ -19,9 +19,7 @@ returns g c =
         lies = lies_by content c.in_ok-at.at c.args.self.now now c.record.result found lent;
         err = tt;
         fault = tt;
-        same = e.same;
-        reads = e.reads;
-        puts = e.puts;
+        stays = e.stays;
         after = tt;
       },
     )
