@@ -1,6 +1,6 @@
 //! The canonical text of operands: docs/DEFINITIONS.md, "Canonical text".
 
-ghost use Rattle.std.specs.Prelude.{◌≡◌, ◌++◌, IfOk, OnOk, string_bytes};
+ghost use Rattle.std.specs.Prelude.{◌≡◌, ◌++◌, IfOk, OnErr, OnOk, string_bytes};
 ghost use Rattle.ra_operand.specs.Canonical.{letter_of, operand_text, prefix_of};
 ghost use Rattle.ra_operand.specs.Fitting.{Fits32};
 ghost use Rattle.ra_operand.specs.Grammar as grammar;
@@ -10,7 +10,6 @@ use crate::operand::Operand;
 use crate::size::Size;
 use ra_text::OutOfMemory;
 use std::alloc::{AllocError, Global};
-use std::fmt::Write;
 
 // The prefix of a kind.
 fn prefix(kind: Kind) -> &'static str
@@ -51,19 +50,29 @@ fn letter(size: Size) -> &'static str
     }
 }
 
-/// Writes the canonical text of an operand at the end of a text: docs/DEFINITIONS.md, "Canonical
-/// text". It fails only for want of memory.
-pub fn write_operand(text: &mut String, operand: &Operand) -> Result<(), AllocError>
-    ensures text { OnOk result (string_bytes text.new ≡ string_bytes text.old ++ operand_text operand.now) }
+// The canonical text of an operand.
+fn text_of(alloc: Global, operand: &Operand) -> Result<String, AllocError>
+    ensures text { IfOk result (λ text. string_bytes text ≡ operand_text operand.now) }
     ensures number { Fits32 operand.now }
 {
     match *operand {
         Operand::Cell(kind, size, address) => {
-            write!(text, "{}0x{}{address:04x}", prefix(kind), letter(size))
+            format!(in alloc; "{}0x{}{address:04x}", prefix(kind), letter(size))
         }
-        Operand::Const(number) => write!(text, "{number}"),
-        Operand::Recall => text.push_str("{recall}"),
+        Operand::Const(number) => format!(in alloc; "{number}"),
+        Operand::Recall => String::from_str(alloc, "{recall}"),
     }
+}
+
+/// Writes the canonical text of an operand at the end of a text: docs/DEFINITIONS.md, "Canonical
+/// text". It fails only for want of memory, and then the text stays as it was.
+pub fn write_operand(text: &mut String, operand: &Operand) -> Result<(), AllocError>
+    ensures text { OnOk result (string_bytes text.new ≡ string_bytes text.old ++ operand_text operand.now) }
+    ensures err { OnErr result (string_bytes text.new ≡ string_bytes text.old) }
+    ensures number { Fits32 operand.now }
+{
+    let own = text_of(*text.allocator(), operand)?;
+    text.push_str(own.as_str())
 }
 
 /// The canonical text of an operand: docs/DEFINITIONS.md, "Canonical text". It spells the operand.
@@ -71,7 +80,6 @@ pub fn print_operand(alloc: Global, operand: &Operand) -> Result<Vec<u8>, OutOfM
     ensures text { IfOk result (λ text. text.items ≡ operand_text operand.now) }
     ensures spelled { IfOk result (λ text. grammar.operand text.items operand.now) }
 {
-    let mut text = String::new(alloc);
-    write_operand(&mut text, operand)?;
+    let text = text_of(alloc, operand)?;
     Ok(text.into_bytes())
 }
