@@ -7,6 +7,7 @@ pub mod ItemRuns
 pub mod Lines
 pub mod NewPresence
 pub mod Openings
+pub mod OpeningLaws
 pub mod Order
 pub mod Planning
 pub mod Plans

@@ -2,6 +2,7 @@
 
 ghost use Rattle.ra_set.specs.Contents.{SetContents};
 ghost use Rattle.ra_runtime.specs.Calls.{CallsSucceed};
+ghost use Rattle.ra_runtime.specs.OpeningLaws.{HasOpenings};
 ghost use Rattle.ra_runtime.specs.Runtime.{CutsAnywhere};
 
 /// A history may be cut at any frame: docs/DEFINITIONS.md, "The law of cuts".
@@ -17,4 +18,13 @@ pub fn histories_may_be_cut()
 /// A law: it does nothing.
 pub fn calls_succeed()
     ensures { (set : SetContents) → CallsSucceed set }
+{}
+
+/// The plain opening of a set is an opening of it, and so is the snapshot after each history, which after none is the
+/// opening before it. What accepted bytes say is an opening, and its bytes are they: docs/DEFINITIONS.md, "Openings and
+/// snapshots" and "Progress file".
+///
+/// A law: it does nothing. It holds for every set; of the first two for every one that some file spells.
+pub fn openings_stand()
+    ensures { (set : SetContents) → HasOpenings set }
 {}

@@ -23,6 +23,6 @@ mod test_run;
 mod value_run;
 mod written;
 
-pub use laws::{calls_succeed, histories_may_be_cut};
+pub use laws::{calls_succeed, histories_may_be_cut, openings_stand};
 pub use runtime::Runtime;
 pub use shapes::shape_of;
