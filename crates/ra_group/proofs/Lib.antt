@@ -10,5 +10,4 @@ mod PausesLemmas
 pub mod TallyLemmas
 mod TurnLemmas
 mod Turns
-pub mod WordLemmas
 pub mod Vectors

@@ -4,7 +4,7 @@ use Rattle.std.specs.List.{list_any, list_all, filter}
 use Rattle.std.proofs.lemmas.List.Folds.{list_any-append, list_all-append}
 use Rattle.std.proofs.Math.Bool.{or-false, and-true}
 use Rattle.ra_condition.specs.declared.flag.Flag.{Flag}
-use Rattle.ra_condition.specs.declared.flag.Flag.TheVariants.{AddSource, SubSource, AddAddress, Remember, Plain, PauseIf, ResetIf, AddHits, SubHits, AndNext, OrNext, Measured, MeasuredPercent, MeasuredIf, TriggerIf, ResetNextIf}
+use Rattle.ra_condition.specs.declared.flag.Flag.TheVariants.{AddSource, SubSource, AddAddress, Remember}
 use Rattle.ra_condition.specs.declared.condition.Condition.{Condition}
 use Rattle.ra_condition.specs.Flags.{hands_on, is_pause, is_reset, is_measured, is_measured_if, is_wanted, is_required}
 use Rattle.ra_condition.specs.Contents.{condition_at}

@@ -7,4 +7,3 @@ pub mod Laws
 pub mod Outcome
 pub mod OutcomeLaws
 pub mod Tallies
-pub mod Words

@@ -11,7 +11,6 @@ mod settled;
 mod tally;
 #[cfg(test)]
 mod tests;
-mod words;
 
 pub use along::step_at;
 pub use form::Form;
@@ -19,4 +18,3 @@ pub use laws::{equations_hold, handed_on_holds, outcome_holds};
 pub use outcome::Outcome;
 pub use pass::step;
 pub use tally::{counts_hits, larger};
-pub use words::put_words;

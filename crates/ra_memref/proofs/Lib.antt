@@ -18,4 +18,3 @@ pub mod Vectors
 pub mod Visited
 pub mod Walks
 pub mod Widths
-pub mod WordLemmas

@@ -16,8 +16,8 @@ use Rattle.ra_memref.specs.Watches.{WatchesSeen, MarksWatchers}
 use Rattle.ra_memref.specs.Pass.{IsSizedFor}
 use Rattle.ra_memref.specs.Table.{IsFresh, IsTold, IsPutBack, DifferWithin, Agrees, no_cell}
 use Rattle.ra_memref.specs.Seen.{table_seen, IsTable}
-use Rattle.ra_memref.specs.Words.{words_at}
-use Rattle.ra_memref.proofs.WordLemmas.{length-words_at}
+use Rattle.ra_words.specs.Words.{words_at}
+use Rattle.ra_words.proofs.Rows.{length-words_at}
 use Rattle.ra_memref.proofs.Pages.{in_range_found}
 
 -- the mark of each cell after a write

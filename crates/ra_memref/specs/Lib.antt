@@ -9,4 +9,3 @@ pub mod Seen
 pub mod Table
 pub mod Values
 pub mod Watches
-pub mod Words

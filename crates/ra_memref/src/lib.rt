@@ -10,7 +10,6 @@ mod table;
 #[cfg(test)]
 mod tests;
 mod watches;
-mod words;
 
 pub use laws::looking_back_holds;
 pub use table::Table;

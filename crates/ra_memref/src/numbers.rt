@@ -7,14 +7,14 @@ ghost use Rattle.ra_memref.specs.Layout.{IsLaid};
 ghost use Rattle.ra_memref.specs.Marks.{read_of, reads_of};
 ghost use Rattle.ra_memref.specs.Pass.{prior_after, looked_in, priors_after, after_node, reads_at, IsWithin, IsAgreedIn, IsAgreedAt, IsAgreed, IsSizedFor, TakesFrame};
 ghost use Rattle.ra_memref.specs.Watches.{MarksWatchers};
-ghost use Rattle.ra_memref.specs.Words.{words_at};
+ghost use Rattle.ra_words.specs.Words.{words_at};
 
 use crate::watches::Watches;
-use crate::words::put_words;
 use ra_indirect::Node;
 use ra_memory::Image;
 use ra_operand::{Kind, Size, compute, mask, transform, view};
 use ra_text::OutOfMemory;
+use ra_words::read_words;
 use std::alloc::Global;
 use std::marker::Model;
 
@@ -112,9 +112,9 @@ impl Numbers {
           watches = record self.old.watches { marked = replicate (length self.old.cells) true };
         } }
     {
-        let priors_at = 4 * self.cells.len();
-        put_words(&mut self.cells, bytes, 0);
-        put_words(&mut self.priors, bytes, priors_at);
+        let priors_at = 4 * self.cells.len() as u64;
+        read_words(&mut self.cells, bytes, 0);
+        read_words(&mut self.priors, bytes, priors_at);
         self.watches.mark_all();
     }
 

@@ -37,7 +37,7 @@ impl Model for Table {
 impl Table {
     ghost use Rattle.ra_indirect.specs.Pools.{IsValued, node_at};
     ghost use Rattle.ra_memref.specs.Table.{IsFresh, IsTold, IsPutBack, Samples, ReadsWanted, Agrees};
-    ghost use Rattle.ra_memref.specs.Words.{words_at};
+    ghost use Rattle.ra_words.specs.Words.{words_at};
 
     /// A table over a pool and an image of `size` bytes: all numbers are 0, each cell is marked and lies
     /// at its address, and no sample came.

@@ -10,9 +10,10 @@ use Rattle.ra_progress.specs.declared.shape.ItemShape.{ItemShape}
 use Rattle.ra_progress.specs.declared.shape.ItemShape.TheVariants.{Achievement, Leaderboard}
 use Rattle.ra_progress.specs.declared.shape.PresenceShape.{PresenceShape}
 use Rattle.ra_progress.specs.Contents.{ShapeContents}
-use Rattle.ra_progress.specs.Spelling.{words, item_bytes, presence_bytes, mark, body_bytes, progress_bytes}
-use Rattle.ra_progress.specs.Reading.{word_at, words_at, item_length, presence_length, item_at, presence_at, frames_at, said_item, said_items, said_presence, says, IsAccepted}
-use Rattle.ra_progress.proofs.Stands.{piece, joined, length_piece, piece_below, words_again}
+use Rattle.ra_words.specs.Words.{word_at, words_at, words}
+use Rattle.ra_progress.specs.Spelling.{item_bytes, presence_bytes, mark, body_bytes, progress_bytes}
+use Rattle.ra_progress.specs.Reading.{item_length, presence_length, item_at, presence_at, frames_at, said_item, said_items, said_presence, says, IsAccepted}
+use Rattle.ra_words.proofs.Pieces.{piece, joined, length_piece, piece_below, words_again}
 
 module _ (bytes : List ℕ) (fit : AllByRecursion (λ b. b < 256) bytes) where
   one_byte : (at : ℕ) → at < length bytes → slice_index bytes at ∷ [] ≡ piece bytes at 1

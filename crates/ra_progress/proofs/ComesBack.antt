@@ -12,10 +12,11 @@ use Rattle.ra_progress.specs.declared.shape.ItemShape.{ItemShape}
 use Rattle.ra_progress.specs.declared.shape.ItemShape.TheVariants.{Achievement, Leaderboard}
 use Rattle.ra_progress.specs.declared.shape.PresenceShape.{PresenceShape}
 use Rattle.ra_progress.specs.Contents.{ShapeContents, KeptItem, OfAchievement, OfBoard, KeptPresence, Opening, ItemFits, ItemsFit, PresenceFits, IsOpening}
-use Rattle.ra_progress.specs.Spelling.{words, item_bytes, presence_bytes, body_bytes, progress_bytes}
-use Rattle.ra_progress.specs.Reading.{word_at, words_at, item_length, presence_length, item_at, presence_at, length_of, summed_in, frames_at, Bounded, states_from, shown_field, said_item, said_items, said_presence, says, IsAccepted}
+use Rattle.ra_words.specs.Words.{word_at, words_at, words}
+use Rattle.ra_progress.specs.Spelling.{item_bytes, presence_bytes, body_bytes, progress_bytes}
+use Rattle.ra_progress.specs.Reading.{item_length, presence_length, item_at, presence_at, length_of, summed_in, frames_at, Bounded, states_from, shown_field, said_item, said_items, said_presence, says, IsAccepted}
 use Rattle.ra_progress.specs.Laws.{IsShape, ComesBack}
-use Rattle.ra_progress.proofs.Stands.{Stands, stands_first, stands_next, stands_take, stands_byte, stands_word, stands_words, length_words}
+use Rattle.ra_words.proofs.Pieces.{Stands, stands_first, stands_next, stands_take, stands_byte, stands_word, stands_words, length_words}
 
 abbrev InTable : Bounded → Type 0
 InTable field = field.found < field.bound

@@ -4,4 +4,3 @@ pub mod ComesBack
 pub mod Fields
 pub mod HexDigits
 pub mod Said
-pub mod Stands

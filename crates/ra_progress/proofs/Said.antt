@@ -5,9 +5,10 @@ use Rattle.std.specs.Int.{w32, w64, from_le_bytes}
 use Rattle.ra_progress.specs.declared.shape.ItemShape.{ItemShape}
 use Rattle.ra_progress.specs.declared.shape.ItemShape.TheVariants.{Achievement, Leaderboard}
 use Rattle.ra_progress.specs.declared.shape.PresenceShape.{PresenceShape}
-use Rattle.ra_progress.specs.Contents.{ShapeContents, AreWords, ItemsFit, PresenceFits, IsOpening}
-use Rattle.ra_progress.specs.Reading.{Bounded, word_at, words_at, item_at, item_length, presence_at, said_items, said_presence, says, states_from, shown_field, IsAccepted}
-use Rattle.ra_progress.proofs.Stands.{piece_below}
+use Rattle.ra_words.specs.Words.{word_at, words_at, AreWords}
+use Rattle.ra_progress.specs.Contents.{ShapeContents, ItemsFit, PresenceFits, IsOpening}
+use Rattle.ra_progress.specs.Reading.{Bounded, item_at, item_length, presence_at, said_items, said_presence, says, states_from, shown_field, IsAccepted}
+use Rattle.ra_words.proofs.Pieces.{piece_below}
 
 below_4 : (a b c d : ℕ) → a < 256 → b < 256 → c < 256 → d < 256 → a + b * 256 + c * 65536 + d * 16777216 < 2 ^ 32
 below_4 a b c d a' b' c' d' = omega arith

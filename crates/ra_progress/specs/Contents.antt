@@ -1,6 +1,5 @@
 -- What a snapshot and a shape contain: docs/DEFINITIONS.md, "Openings and snapshots" and "Shape of a set".
-use Rattle.std.specs.Prelude.{◌≡◌, ℕ, ◌<◌, ◌≤◌, ◌^◌, Option, None, Some, option_map, List, [], ◌∷◌, length, map}
-use Rattle.std.specs.List.{AllByRecursion}
+use Rattle.std.specs.Prelude.{ℕ, ◌<◌, ◌≤◌, ◌^◌, Option, None, Some, option_map, List, [], ◌∷◌, map}
 use Rattle.ra_progress.specs.declared.shape.ItemShape.{ItemShape}
 use Rattle.ra_progress.specs.declared.shape.ItemShape.TheVariants as shapes
 use Rattle.ra_progress.specs.declared.shape.PresenceShape.{PresenceShape}
@@ -9,6 +8,7 @@ use Rattle.ra_progress.specs.declared.snapshot.ItemKept.{ItemKept}
 use Rattle.ra_progress.specs.declared.snapshot.ItemKept.TheVariants as kept
 use Rattle.ra_progress.specs.declared.snapshot.PresenceKept.{PresenceKept}
 use Rattle.ra_progress.specs.declared.snapshot.Snapshot.{Snapshot}
+use Rattle.ra_words.specs.Words.{AreWords}
 
 -- the most items that a shape has, which are those of a set
 abbrev pub most_items : ℕ
@@ -69,11 +69,6 @@ snapshot_contents s = record {
   items = map kept_item s.items.items;
   presence = option_map kept_presence s.presence;
 }
-
--- there are so many numbers, and each is of 32 bits
-pub record AreWords (count : ℕ) (numbers : List ℕ) : Type 0 where
-  pub as_many : length numbers ≡ count
-  pub fit : AllByRecursion (λ n. n < 2 ^ 32) numbers
 
 -- what is kept has the counts of the shape, its state is in its table, and each number is of 32 bits
 abbrev pub ItemFits : ItemShape → KeptItem → Type 0

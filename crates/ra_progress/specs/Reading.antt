@@ -1,7 +1,7 @@
 -- Which bytes are a progress file of a shape, why others are none, and what accepted ones say: docs/DEFINITIONS.md, "Progress file".
-use Rattle.std.specs.Prelude.{◌≡◌, ℕ, ◌+◌, ◌-◌, ◌*◌, ◌<◌, ◌==◌, not, if◌then◌else◌, nat_lt, Option, None, Some, option_map, List, [], ◌∷◌, ◌++◌, length, map, take, drop, find, bytes_eq, slice_index, sum_by}
-use Rattle.std.specs.List.{range_with_len, AllByRecursion}
-use Rattle.std.specs.Int.{w32, w64, from_le_bytes}
+use Rattle.std.specs.Prelude.{◌≡◌, ℕ, ◌+◌, ◌-◌, ◌*◌, ◌<◌, ◌==◌, not, if◌then◌else◌, nat_lt, Option, None, Some, option_map, List, [], ◌∷◌, ◌++◌, length, take, drop, find, bytes_eq, slice_index, sum_by}
+use Rattle.std.specs.List.{AllByRecursion}
+use Rattle.std.specs.Int.{w64, from_le_bytes}
 use Rattle.md5.specs.Md5.{md5}
 use Rattle.ra_progress.specs.declared.shape.ItemShape.{ItemShape}
 use Rattle.ra_progress.specs.declared.shape.ItemShape.TheVariants as shapes
@@ -10,14 +10,7 @@ use Rattle.ra_progress.specs.declared.refused.ProgressRefused.{ProgressRefused}
 use Rattle.ra_progress.specs.declared.refused.ProgressRefused.TheVariants.{WrongLength, WrongMark, WrongVersion, WrongSum, OtherSet, BadState}
 use Rattle.ra_progress.specs.Contents.{ShapeContents, KeptItem, OfAchievement, OfBoard, KeptPresence, Opening}
 use Rattle.ra_progress.specs.Spelling.{mark}
-
--- the number of the four bytes at a place
-abbrev pub word_at : List ℕ → ℕ → ℕ
-word_at bytes at = from_le_bytes w32 (take 4 (drop at bytes))
-
--- the numbers of so many words in a row, from a place on
-abbrev pub words_at : List ℕ → ℕ → ℕ → List ℕ
-words_at bytes at count = map (λ k. word_at bytes (at + 4 * k)) (range_with_len 0 count)
+use Rattle.ra_words.specs.Words.{word_at, words_at}
 
 -- the frame count of a file
 abbrev pub frames_at : List ℕ → ℕ

@@ -1,13 +1,10 @@
 -- The bytes of a progress file: docs/DEFINITIONS.md, "Progress file".
 use Rattle.std.specs.Prelude.{ℕ, Option, None, Some, List, [], ◌∷◌, ◌++◌, codes}
 use Rattle.std.specs.List.{flat_map}
-use Rattle.std.specs.Int.{w32, w64, to_le_bytes}
+use Rattle.std.specs.Int.{w64, to_le_bytes}
 use Rattle.md5.specs.Md5.{md5}
 use Rattle.ra_progress.specs.Contents.{KeptItem, OfAchievement, OfBoard, KeptPresence, Opening}
-
--- the bytes of numbers, four for each, the least first
-abbrev pub words : List ℕ → List ℕ
-words numbers = flat_map (to_le_bytes w32) numbers
+use Rattle.ra_words.specs.Words.{words}
 
 -- the bytes of an item
 abbrev pub item_bytes : KeptItem → List ℕ

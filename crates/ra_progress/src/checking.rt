@@ -8,8 +8,8 @@ ghost use Rattle.ra_progress.specs.Reading as spec;
 use crate::places::{item_length, items_end, items_start, length};
 use crate::refused::ProgressRefused;
 use crate::shape::Shape;
-use crate::words::word_at;
 use md5::{Digest, Md5};
+use ra_words::word_at;
 
 /// Whether the bytes are a progress file of the shape: docs/DEFINITIONS.md, "Progress file".
 ///

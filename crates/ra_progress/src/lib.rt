@@ -13,7 +13,6 @@ mod shape;
 mod snapshot;
 #[cfg(test)]
 mod tests;
-mod words;
 mod writing;
 
 pub use checking::check;
@@ -24,5 +23,5 @@ pub use reading::decode;
 pub use refused::ProgressRefused;
 pub use shape::{ItemShape, PresenceShape, Shape};
 pub use snapshot::{ItemKept, PresenceKept, Snapshot};
-pub use words::word_at;
+pub use ra_words::word_at;
 pub use writing::encode;

@@ -7,8 +7,8 @@ ghost use Rattle.ra_progress.specs.Reading as spec;
 use crate::places::{frames_at, item_length, items_end, items_start};
 use crate::shape::{ItemShape, Shape};
 use crate::snapshot::{ItemKept, PresenceKept, Snapshot};
-use crate::words::{word_at, words_at};
 use ra_text::OutOfMemory;
+use ra_words::{word_at, words_at};
 use std::alloc::Global;
 
 /// The snapshot whose numbers stand in bytes that `check` accepts: docs/DEFINITIONS.md, "Progress

@@ -3,14 +3,15 @@
 ghost use Rattle.std.specs.Prelude.{◌≡◌, ◌++◌, ◌≤◌, ◌∷◌, length as length_of_list, map, option_map, IfOk, OnOk};
 ghost use Rattle.std.specs.List.{flat_map};
 ghost use Rattle.ra_progress.specs.Contents.{most_items, shape_contents, snapshot_contents, kept_item, kept_presence, IsOpening};
-ghost use Rattle.ra_progress.specs.Spelling.{words, item_bytes, presence_bytes, body_bytes, progress_bytes};
+ghost use Rattle.ra_words.specs.Words.{words};
+ghost use Rattle.ra_progress.specs.Spelling.{item_bytes, presence_bytes, body_bytes, progress_bytes};
 
 use crate::places::length;
 use crate::shape::Shape;
 use crate::snapshot::{ItemKept, PresenceKept, Snapshot};
-use crate::words::put_words;
 use md5::{Digest, Md5};
 use ra_text::OutOfMemory;
+use ra_words::write_words;
 use std::alloc::Global;
 
 /// The bytes of a snapshot of the shape, with their closing sum: docs/DEFINITIONS.md, "Progress
@@ -34,8 +35,8 @@ fn put_body(bytes: &mut Vec<u8>, digest: &[u8; 16], snapshot: &Snapshot) -> Resu
     bytes.extend_from_slice(b"RAPG\x01")?;
     bytes.extend_from_slice(digest)?;
     bytes.extend_from_slice(&snapshot.frames.to_le_bytes())?;
-    put_words(bytes, &snapshot.cells)?;
-    put_words(bytes, &snapshot.priors)?;
+    write_words(bytes, &snapshot.cells)?;
+    write_words(bytes, &snapshot.priors)?;
     put_items(bytes, &snapshot.items)?;
     put_presence(bytes, &snapshot.presence)
 }
@@ -61,13 +62,13 @@ fn put_item(bytes: &mut Vec<u8>, item: &ItemKept) -> Result<(), OutOfMemory>
             hits,
         } => {
             bytes.push(*state)?;
-            put_words(bytes, &[*measured])?;
-            put_words(bytes, hits)
+            write_words(bytes, &[*measured])?;
+            write_words(bytes, hits)
         }
         ItemKept::Leaderboard { state, hits, kept } => {
             bytes.push(*state)?;
-            put_words(bytes, hits)?;
-            put_words(bytes, kept)
+            write_words(bytes, hits)?;
+            write_words(bytes, kept)
         }
     }
 }
@@ -77,9 +78,9 @@ fn put_presence(bytes: &mut Vec<u8>, presence: &Option<PresenceKept>) -> Result<
     ensures { OnOk result (bytes.new.items ≡ bytes.old.items ++ presence_bytes (option_map kept_presence presence.now)) }
 {
     if let Some(kept) = presence {
-        put_words(bytes, &[kept.shown])?;
-        put_words(bytes, &kept.hits)?;
-        put_words(bytes, &kept.kept)?;
+        write_words(bytes, &[kept.shown])?;
+        write_words(bytes, &kept.hits)?;
+        write_words(bytes, &kept.kept)?;
     }
     Ok(())
 }

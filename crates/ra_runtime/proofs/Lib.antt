@@ -38,7 +38,6 @@ pub mod ShownLines
 pub mod SideBySide
 pub mod TakenUp
 pub mod WaitingLemmas
-pub mod WordLemmas
 pub mod PlainOpening
 pub mod PresenceWords
 pub mod Snapshots

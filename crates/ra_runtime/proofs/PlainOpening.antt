@@ -6,7 +6,8 @@ use Rattle.ra_set.specs.Contents.{SetContents}
 use Rattle.ra_progress.specs.declared.shape.ItemShape.{ItemShape}
 use Rattle.ra_progress.specs.declared.shape.ItemShape.TheVariants.{Achievement, Leaderboard}
 use Rattle.ra_progress.specs.declared.shape.PresenceShape.{PresenceShape}
-use Rattle.ra_progress.specs.Contents.{AreWords, ItemFits, ItemsFit, PresenceFits, IsOpening}
+use Rattle.ra_words.specs.Words.{AreWords}
+use Rattle.ra_progress.specs.Contents.{ItemFits, ItemsFit, PresenceFits, IsOpening}
 use Rattle.ra_runtime.specs.Order.{presence_shape, shape_of}
 use Rattle.ra_runtime.specs.Openings.{plain_item, plain_presence, plain_opening}
 use Rattle.ra_runtime.proofs.Each.{each_replicate}

@@ -5,9 +5,9 @@ use Rattle.std.proofs.Math.Seq.{drop-cons}
 use Rattle.std.proofs.lemmas.List.{append-nil, take_more, take_more_set, take_all, get_or-drop, get_or_default, drop-set-lt}
 use Rattle.std.proofs.lemmas.List.Concat.{flat_map-append}
 use Rattle.ra_value.specs.Steps.{ValueKept}
-use Rattle.ra_progress.specs.Reading.{words_at}
+use Rattle.ra_words.specs.Words.{words_at}
 use Rattle.ra_runtime.specs.Restoring.{PutsBackEach}
-use Rattle.ra_runtime.proofs.WordLemmas.{words_row}
+use Rattle.ra_words.proofs.Rows.{words_row}
 
 -- what follows the same is the same
 same_at : {A : Type 0} (runs olds : List A) (k : ℕ) (d : A) → drop k runs ≡ drop k olds → get_or runs k d ≡ get_or olds k d

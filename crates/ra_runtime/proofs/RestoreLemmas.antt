@@ -9,7 +9,7 @@ use Rattle.ra_leaderboard.specs.States.{board_byte, board_state_of}
 use Rattle.ra_leaderboard.specs.Contents.{BoardContents}
 use Rattle.ra_set.specs.Contents.{ItemContents, Unlocks, Ranks}
 use Rattle.ra_progress.specs.Contents.{OfAchievement, OfBoard}
-use Rattle.ra_progress.specs.Reading.{word_at, words_at}
+use Rattle.ra_words.specs.Words.{word_at, words_at}
 use Rattle.ra_runtime.specs.declared.test_run.TestRun.{TestRun}
 use Rattle.ra_runtime.specs.declared.value_run.ValueRun.{ValueRun}
 use Rattle.ra_runtime.specs.declared.achievement_run.AchievementRun.{AchievementRun}
@@ -21,7 +21,7 @@ use Rattle.ra_runtime.specs.Runs.{IsLaid, IsTestRun, IsValueRun}
 use Rattle.ra_runtime.specs.BoardRuns.{IsOptionalRun, IsBoardRun, optional_kept}
 use Rattle.ra_runtime.specs.ItemRuns.{IsItemRun}
 use Rattle.ra_runtime.specs.Restoring.{PutsBackTest, value_at, PutsBackValue, PutsBackOptional, PutsBackBoard, PutsBackItem}
-use Rattle.ra_runtime.proofs.WordLemmas.{length_words, words_row}
+use Rattle.ra_words.proofs.Rows.{length-words_at, words_row}
 
 -- the state of a state's byte has that byte
 state_again : (byte : ℕ) → byte < 5 → state_byte (state_of byte) ≡ byte
@@ -45,7 +45,7 @@ module _ (bytes : List ℕ) (at : ℕ) (small : slice_index bytes at < 5) where
     achievement_run : (nodes : List Node) (item : ItemContents) → IsItemRun nodes item (Achievement old) → IsItemRun nodes item (Achievement new)
     achievement_run nodes (Unlocks id t) is = record {
       laid = subst (IsLaid nodes (groups_of t)) (sym laid) is.laid;
-      hits = ap (λ (k : TriggerKept). length k.hits) trigger ∙ length_words bytes (at + 5) (length old.trigger.hits) ∙ is.hits;
+      hits = ap (λ (k : TriggerKept). length k.hits) trigger ∙ length-words_at bytes (at + 5) (length old.trigger.hits) ∙ is.hits;
     }
     achievement_run nodes (Ranks id format b) is = absurd is
 
@@ -58,7 +58,7 @@ module _ (bytes : List ℕ) (at : ℕ) (small : slice_index bytes at < 5) where
 pub test_run : (bytes : List ℕ) (at : ℕ) (old new : TestRun) → PutsBackTest bytes at old new → (nodes : List Node) (t : TriggerContents) → IsTestRun nodes t old → IsTestRun nodes t new
 test_run bytes at old new back nodes t is = record {
   laid = subst (IsLaid nodes (groups_of t)) (sym back.laid) is.laid;
-  hits = ap length back.hits ∙ length_words bytes at (length old.trigger.hits) ∙ is.hits;
+  hits = ap length back.hits ∙ length-words_at bytes at (length old.trigger.hits) ∙ is.hits;
 }
 
 pub value_run : (bytes : List ℕ) (hits numbers : ℕ) (old new : ValueRun) → PutsBackValue bytes hits numbers old new → (nodes : List Node) (parts : List PartContents) → IsValueRun nodes parts old → IsValueRun nodes parts new
@@ -66,8 +66,8 @@ value_run bytes hits numbers old new back nodes parts is = record {
   laid = subst (IsLaid nodes (map counted_in parts)) (sym (ap (λ r. r.laid) back.rest)) is.laid;
   nodes_too = subst (λ ns. AreSums nodes parts ns) (sym (ap (λ r. r.nodes.items) back.rest)) is.nodes_too;
   sums = ap (λ r. length r.sums.items) back.rest ∙ is.sums;
-  hits = ap (λ (k : ValueKept). length k.hits) back.value ∙ length_words bytes hits (length old.value.hits) ∙ is.hits;
-  numbers = ap (λ (k : ValueKept). length k.numbers) back.value ∙ length_words bytes numbers (length old.value.numbers) ∙ is.numbers;
+  hits = ap (λ (k : ValueKept). length k.hits) back.value ∙ length-words_at bytes hits (length old.value.hits) ∙ is.hits;
+  numbers = ap (λ (k : ValueKept). length k.numbers) back.value ∙ length-words_at bytes numbers (length old.value.numbers) ∙ is.numbers;
 }
 
 optional_run : (bytes : List ℕ) (hits numbers : ℕ) (old new : Option ValueRun) → PutsBackOptional bytes hits numbers old new → (nodes : List Node) (parts : Option (List PartContents)) → IsOptionalRun nodes parts old → IsOptionalRun nodes parts new

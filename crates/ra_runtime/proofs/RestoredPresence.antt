@@ -5,7 +5,8 @@ use Rattle.ra_condition.specs.Contents.{TriggerContents, PartContents}
 use Rattle.ra_indirect.specs.declared.node.Node.{Node}
 use Rattle.ra_richpresence.specs.Contents.{LineContents, ScriptContents, values_in_line}
 use Rattle.ra_value.specs.Steps.{ValueKept}
-use Rattle.ra_progress.specs.Reading.{word_at, words_at, said_presence}
+use Rattle.ra_words.specs.Words.{word_at, words_at}
+use Rattle.ra_progress.specs.Reading.{said_presence}
 use Rattle.ra_runtime.specs.declared.line_run.LineRun.{LineRun}
 use Rattle.ra_runtime.specs.declared.presence_run.PresenceRun.{PresenceRun}
 use Rattle.ra_runtime.specs.declared.test_run.TestRun.{TestRun}
@@ -18,7 +19,7 @@ use Rattle.ra_runtime.proofs.DisplayRows.{values_hits, values_numbers, line_hits
 use Rattle.ra_runtime.proofs.PutBackLemmas.{row_hits, row_numbers}
 use Rattle.ra_runtime.proofs.RestoreLemmas.{test_run, value_run}
 use Rattle.ra_runtime.proofs.SideBySide.{beside_length}
-use Rattle.ra_runtime.proofs.WordLemmas.{words_row}
+use Rattle.ra_words.proofs.Rows.{words_row}
 
 module _ (bytes : List ℕ) where
   optional_test_run : (at : ℕ) (old new : Option TestRun) → PutsBackOptionalTest bytes at old new → (nodes : List Node) (test : Option TriggerContents) → IsOptionalTest nodes test old → IsOptionalTest nodes test new

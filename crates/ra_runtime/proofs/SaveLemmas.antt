@@ -7,7 +7,8 @@ use Rattle.ra_memref.specs.Table.{TableSeen}
 use Rattle.ra_set.specs.Contents.{SetContents}
 use Rattle.ra_progress.specs.declared.shape.ItemShape.{ItemShape}
 use Rattle.ra_progress.specs.declared.snapshot.ItemKept.{ItemKept}
-use Rattle.ra_progress.specs.Contents.{KeptItem, kept_item, AreWords, ItemFits, ItemsFit, PresenceFits, Opening, IsOpening}
+use Rattle.ra_words.specs.Words.{AreWords}
+use Rattle.ra_progress.specs.Contents.{KeptItem, kept_item, ItemFits, ItemsFit, PresenceFits, Opening, IsOpening}
 use Rattle.ra_runtime.specs.declared.item_run.ItemRun.{ItemRun}
 use Rattle.ra_runtime.specs.declared.presence_run.PresenceRun.{PresenceRun}
 use Rattle.ra_runtime.specs.Order.{set_cells, set_tracked, presence_shape, shape_of}

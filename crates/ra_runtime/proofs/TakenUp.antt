@@ -3,7 +3,8 @@ use Rattle.std.proofs.Common.{◌≡◌, ℕ, ◌+◌, ◌*◌, true, Option, Li
 use Rattle.ra_indirect.specs.Pools.{cells_of, tracked_of}
 use Rattle.ra_memref.specs.Table.{TableSeen, IsPutBack}
 use Rattle.ra_set.specs.Contents.{SetContents}
-use Rattle.ra_progress.specs.Reading.{words_at, frames_at, item_at, presence_at, said_items, said_presence, says}
+use Rattle.ra_words.specs.Words.{words_at}
+use Rattle.ra_progress.specs.Reading.{frames_at, item_at, presence_at, said_items, said_presence, says}
 use Rattle.ra_runtime.specs.declared.item_run.ItemRun.{ItemRun}
 use Rattle.ra_runtime.specs.declared.presence_run.PresenceRun.{PresenceRun}
 use Rattle.ra_runtime.specs.Order.{set_cells, set_tracked, item_shape, presence_shape, shape_of}
@@ -13,7 +14,7 @@ use Rattle.ra_runtime.specs.PresenceRuns.{IsOptionalPresence, optional_presence_
 use Rattle.ra_runtime.specs.Restoring.{PutsBackPresence}
 use Rattle.ra_runtime.specs.Shapes.{run_shape}
 use Rattle.ra_runtime.proofs.ShapeLemmas.{runs_shaped, presence_shaped}
-use Rattle.ra_runtime.proofs.WordLemmas.{length_words, words_piece}
+use Rattle.ra_words.proofs.Rows.{length-words_at, words_piece}
 
 module _ (set : SetContents) (table after : TableSeen) (over : IsOver set table) (bytes : List ℕ) (n : ℕ) (long : n ≡ 4 * (length table.cells + length table.priors))
     (put_back : IsPutBack table after (words_at (take n (drop 29 bytes)) 0 (length table.cells)) (words_at (take n (drop 29 bytes)) (4 * length table.cells) (length table.priors)))
@@ -22,14 +23,14 @@ module _ (set : SetContents) (table after : TableSeen) (over : IsOver set table)
     cells = words_at (take n (drop 29 bytes)) 0 (length table.cells)
 
     cells_many : length cells ≡ length (set_cells set)
-    cells_many = length_words (take n (drop 29 bytes)) 0 (length table.cells) ∙ over.cells_many
+    cells_many = length-words_at (take n (drop 29 bytes)) 0 (length table.cells) ∙ over.cells_many
 
     pub over_restored : IsOver set after
     over_restored = record {
       cells = ap cells_of put_back.pool.0 ∙ over.cells;
       tracked = ap tracked_of put_back.pool.0 ∙ over.tracked;
       cells_many = ap length put_back.cells_too ∙ cells_many;
-      priors_many = ap length put_back.priors_too ∙ length_words (take n (drop 29 bytes)) (4 * length table.cells) (length table.priors) ∙ over.priors_many;
+      priors_many = ap length put_back.priors_too ∙ length-words_at (take n (drop 29 bytes)) (4 * length table.cells) (length table.priors) ∙ over.priors_many;
     }
 
     pub marked_restored : after.marked ≡ replicate (length (set_cells set)) true

@@ -8,7 +8,8 @@ use Rattle.ra_set.specs.Contents.{ItemContents}
 use Rattle.ra_richpresence.specs.Contents.{ScriptContents}
 use Rattle.ra_progress.specs.declared.shape.ItemShape.{ItemShape}
 use Rattle.ra_progress.specs.declared.shape.PresenceShape.{PresenceShape}
-use Rattle.ra_progress.specs.Reading.{word_at, words_at, item_length, said_item, said_presence}
+use Rattle.ra_words.specs.Words.{word_at, words_at}
+use Rattle.ra_progress.specs.Reading.{item_length, said_item, said_presence}
 use Rattle.ra_runtime.specs.declared.test_run.TestRun.{TestRun}
 use Rattle.ra_runtime.specs.declared.value_run.ValueRun.{ValueRun}
 use Rattle.ra_runtime.specs.declared.board_run.BoardRun.{BoardRun}

@@ -8,12 +8,13 @@ use Rattle.ra_set.specs.Contents.{SetContents}
 use Rattle.ra_progress.specs.declared.shape.ItemShape.{ItemShape}
 use Rattle.ra_progress.specs.declared.shape.ItemShape.TheVariants.{Achievement, Leaderboard}
 use Rattle.ra_progress.specs.declared.shape.PresenceShape.{PresenceShape}
-use Rattle.ra_progress.specs.Contents.{ShapeContents, AreWords, ItemsFit, PresenceFits, IsOpening}
+use Rattle.ra_words.specs.Words.{word_at, words_at, AreWords}
+use Rattle.ra_progress.specs.Contents.{ShapeContents, ItemsFit, PresenceFits, IsOpening}
 use Rattle.ra_progress.specs.Spelling.{progress_bytes}
-use Rattle.ra_progress.specs.Reading.{Bounded, word_at, words_at, item_at, item_length, presence_at, said_items, said_presence, says, states_from, shown_field, length_of, refusal, IsAccepted}
+use Rattle.ra_progress.specs.Reading.{Bounded, item_at, item_length, presence_at, said_items, said_presence, says, states_from, shown_field, length_of, refusal, IsAccepted}
 use Rattle.ra_progress.proofs.Again.{again}
 use Rattle.ra_progress.proofs.Fields.{none_accepted}
-use Rattle.ra_progress.proofs.Stands.{piece_below}
+use Rattle.ra_words.proofs.Pieces.{piece_below}
 use Rattle.ra_runtime.specs.Order.{shape_of}
 use Rattle.ra_runtime.proofs.Snapshots.{snapshot_none}
 use Rattle.ra_session.specs.Loading.{AreAccepted, BeginsAt}

@@ -2,8 +2,8 @@ use crate::change::Change;
 use crate::state::State;
 use crate::together::step_groups;
 use ra_condition::TriggerText;
-use ra_group::put_words;
 use ra_text::OutOfMemory;
+use ra_words::read_words;
 use std::alloc::Global;
 use std::marker::Model;
 
@@ -27,7 +27,7 @@ impl Model for Trigger {
 impl Trigger {
     ghost use Rattle.std.specs.Prelude.{◌≡◌, ◌*◌, length, IfOk};
     ghost use Rattle.ra_condition.specs.Contents.{trigger_contents, trigger_hits};
-    ghost use Rattle.ra_group.specs.Words.{words_at};
+    ghost use Rattle.ra_words.specs.Words.{words_at};
     ghost use Rattle.ra_trigger.specs.Kept.{no_trigger, orders_of, change_between};
     ghost use Rattle.ra_trigger.specs.Steps.{step, truth, hits_after_truth};
 
@@ -161,6 +161,6 @@ impl Trigger {
     {
         self.state = state;
         self.measured = measured;
-        put_words(&mut self.hits, hits);
+        read_words(&mut self.hits, hits, 0);
     }
 }

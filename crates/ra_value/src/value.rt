@@ -1,8 +1,8 @@
 use crate::greatest::greatest_of;
 use crate::parts::step_value;
 use ra_condition::{Part, ValueText};
-use ra_group::put_words;
 use ra_text::OutOfMemory;
+use ra_words::read_words;
 use std::alloc::Global;
 use std::marker::Model;
 
@@ -25,7 +25,7 @@ impl Model for Value {
 impl Value {
     ghost use Rattle.std.specs.Prelude.{◌≡◌, ◌*◌, length, IfOk};
     ghost use Rattle.ra_condition.specs.Contents.{value_contents, value_hits};
-    ghost use Rattle.ra_group.specs.Words.{words_at};
+    ghost use Rattle.ra_words.specs.Words.{words_at};
     ghost use Rattle.ra_value.specs.Kept.{orders_of, cleared};
     ghost use Rattle.ra_value.specs.Steps.{no_value, signed_greatest, step};
 
@@ -125,7 +125,7 @@ impl Value {
           numbers = words_at kept.now 0 (length self.old.numbers);
         } }
     {
-        put_words(&mut self.hits, hits);
-        put_words(&mut self.kept, kept);
+        read_words(&mut self.hits, hits, 0);
+        read_words(&mut self.kept, kept, 0);
     }
 }

@@ -2,7 +2,7 @@ use Rattle.std.proofs.Common.{◌+◌, ◌-◌, ◌*◌, length, refl, sym, ◌�
 use Rattle.ra_runtime.specs.declared.item_run.ItemRun.{ItemRun}
 use Rattle.ra_runtime.specs.declared.item_run.ItemRun.TheVariants.{Achievement}
 use Rattle.ra_runtime.specs.Restoring.{PutsBackItem}
-use Rattle.ra_runtime.proofs.WordLemmas.{words_piece}
+use Rattle.ra_words.proofs.Rows.{words_piece}
 use Rattle.ra_runtime.proofs.RestoreLemmas.{achievement_back}
 use Rattle.ra_runtime.proofs.restored.put_back_item.Goals as goal
 

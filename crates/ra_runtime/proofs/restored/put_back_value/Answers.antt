@@ -1,5 +1,5 @@
 use Rattle.std.proofs.Common.{◌+◌, ◌-◌, ◌*◌, length, refl, ◌∙◌, ap, arith}
-use Rattle.ra_runtime.proofs.WordLemmas.{words_piece}
+use Rattle.ra_words.proofs.Rows.{words_piece}
 use Rattle.ra_runtime.proofs.restored.put_back_value.Goals as goal
 
 pub returns-clause-value : goal.returns-clause-value

@@ -3,7 +3,8 @@ use Rattle.std.specs.List.{flat_map}
 use Rattle.std.specs.Vec.{with_items}
 use Rattle.std.proofs.lemmas.List.{with_items_is}
 use Rattle.ra_progress.specs.declared.shape.PresenceShape.{PresenceShape}
-use Rattle.ra_progress.specs.Reading.{word_at, presence_length}
+use Rattle.ra_words.specs.Words.{word_at}
+use Rattle.ra_progress.specs.Reading.{presence_length}
 use Rattle.ra_runtime.specs.declared.line_run.LineRun.{LineRun}
 use Rattle.ra_runtime.specs.declared.presence_run.PresenceRun.{PresenceRun}
 use Rattle.ra_runtime.specs.Restoring.{HasShown, hits_in_shape, all_in_line, PutsBackLines, PutsBackPresence}

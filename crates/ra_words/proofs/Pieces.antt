@@ -1,12 +1,11 @@
--- Pieces that stand at places of a file.
+-- Pieces that stand at places of bytes, and words read there and written again.
 use Rattle.std.proofs.Common.{◌≡◌, ℕ, suc, zero, ◌+◌, ◌*◌, ◌<◌, ◌≤◌, ◌^◌, List, [], ◌∷◌, ◌++◌, length, map, take, drop, get_or, slice_index, refl, sym, ◌∙◌, ap, subst, arith, append_assoc, lit<}
 use Rattle.std.specs.List.{AllByRecursion, range_with_len}
 use Rattle.std.specs.Int.{w32, to_le_bytes}
 use Rattle.std.proofs.lemmas.Nat.{from_le_bytes-to_le_bytes_4, le_bytes_4}
 use Rattle.std.proofs.lemmas.List.{drop-drop, get_or-drop, length-take-le, length-drop}
 use Rattle.std.proofs.Math.Seq.{drop-append_seam, take-append_seam, take-add}
-use Rattle.ra_progress.specs.Spelling.{words}
-use Rattle.ra_progress.specs.Reading.{word_at, words_at}
+use Rattle.ra_words.specs.Words.{word_at, words_at, words}
 
 -- the bytes go on with the piece at the place
 pub record Stands (bytes : List ℕ) (at : ℕ) (piece : List ℕ) : Type 0 where

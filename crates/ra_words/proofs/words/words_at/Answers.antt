@@ -1,7 +1,7 @@
 use Rattle.std.proofs.Common.{◌+◌, ◌*◌, arith}
 use Rattle.std.proofs.lemmas.List.FromFn.{map-range_with_len_more}
-use Rattle.ra_progress.specs.Reading.{word_at}
-use Rattle.ra_progress.proofs.words.words_at.Goals as goal
+use Rattle.ra_words.specs.Words.{word_at}
+use Rattle.ra_words.proofs.words.words_at.Goals as goal
 
 pub loop-k-preserved : goal.loop-k-preserved
 loop-k-preserved c =
