@@ -2,6 +2,7 @@ pub mod JoinLemmas
 mod LawLemmas
 mod Marks
 pub mod OrderPlaces
+mod Pauses
 pub mod PlantLemmas
 pub mod SideLemmas
 pub mod TakeLemmas

@@ -54,3 +54,17 @@ fn push_places(order: &mut Vec<u32>, marks: &[bool], marked: bool) -> Result<(),
     }
     Ok(())
 }
+
+/// How many places of the pass order stand in pause chains: those up to its last PauseIf.
+pub fn pause_places(conditions: &[Condition], order: &[u32]) -> usize
+    requires { order.now ≡ pass_order conditions.now }
+    ensures { result ≡ length (filter (in_pause_chain conditions.now) (places conditions.now)) }
+{
+    let mut pauses = 0;
+    for (turn, place) in order.iter().enumerate() {
+        if conditions[*place as usize].flag.is_pause() {
+            pauses = turn + 1;
+        }
+    }
+    pauses
+}

@@ -23,6 +23,7 @@ pub fn elaborate_terms(alloc: Global, terms: &[Term], pool: &mut Pool) -> Result
     ensures kept { IsKept pool.old pool.new (12 * length terms.now + 1) (2 * length terms.now) (2 * length terms.now) }
 {
     let _ = alloc;
+    // This call tells that the nodes are those of a pool, which the proof needs.
     let _ = pool.len();
     let sum = summed_node(pool, terms)?;
     match sum {

@@ -1,9 +1,9 @@
 //! The trees of a group's conditions, as nodes of a pool.
 
-ghost use Rattle.std.specs.Prelude.{◌≡◌, ℕ, ◌+◌, ◌*◌, ◌<◌, ◌≤◌, ◌^◌, List, Some, None, if◌then◌else◌, length, IfOk, OnOk};
+ghost use Rattle.std.specs.Prelude.{◌≡◌, ℕ, ◌+◌, ◌*◌, ◌<◌, ◌≤◌, ◌^◌, List, [], ◌∷◌, Some, None, if◌then◌else◌, filter, length, IfOk, OnOk};
 ghost use Rattle.ra_condition.specs.Contents.{condition_at, group_contents};
 ghost use Rattle.ra_condition.specs.Flags.{is_remember};
-ghost use Rattle.ra_condition.specs.Chains.{pass_order};
+ghost use Rattle.ra_condition.specs.Chains.{in_pause_chain, places, pass_order};
 ghost use Rattle.ra_indirect.specs.declared.node.Node.{Node};
 ghost use Rattle.ra_indirect.specs.Interned.{IsPool};
 ghost use Rattle.ra_indirect.specs.Growing.{GrowsBy};
@@ -14,7 +14,7 @@ ghost use Rattle.ra_chain.specs.Elaborates.{SpellsEach, AllJoin};
 ghost use Rattle.ra_chain.specs.Sides.{JoinsValues, IsSized, IsKnownBefore, TakesCondition};
 
 use crate::nodes::{operand_node, sum_node};
-use crate::order::order_of;
+use crate::order::{order_of, pause_places};
 use crate::plan::GroupPlan;
 use crate::sides::{Named, sides_node};
 use ra_condition::{Condition, Flag, Group};
@@ -34,6 +34,8 @@ pub fn elaborate(alloc: Global, group: &Group, pool: &mut Pool) -> Result<GroupP
     requires joins { AllJoin (group_contents group.now) }
 
     ensures order { IfOk result (λ plan. plan.order.items ≡ pass_order (group_contents group.now)) }
+    ensures pauses { IfOk result (λ plan. plan.pauses.items
+        ≡ length (filter (in_pause_chain (group_contents group.now)) (places (group_contents group.now))) ∷ []) }
     ensures lefts { IfOk result (λ plan. SpellsEach pool.new plan.lefts.items
         (length (group_contents group.now)) (left_of (group_contents group.now))) }
     ensures rights { IfOk result (λ plan. SpellsEach pool.new plan.rights.items
@@ -44,13 +46,17 @@ pub fn elaborate(alloc: Global, group: &Group, pool: &mut Pool) -> Result<GroupP
     ensures kept { IsKept pool.old pool.new (12 * length (group_contents group.now))
         (2 * length (group_contents group.now)) (2 * length (group_contents group.now)) }
 {
+    // This call tells that the nodes are those of a pool, which the proof needs.
     let _ = pool.len();
     let order = order_of(alloc, group)?;
+    let pauses = pause_places(&group.conditions, &order) as u32;
+    let pauses = vec![in alloc; pauses; 1]?;
     let mut passed = Passed::new(alloc, group.conditions.len())?;
     take_conditions(&mut passed, pool, &group.conditions, &order)?;
     let Passed { lefts, rights, .. } = passed;
     Ok(GroupPlan {
         order,
+        pauses,
         lefts,
         rights,
     })

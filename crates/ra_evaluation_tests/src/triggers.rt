@@ -61,7 +61,7 @@ fn a_pause_stays_by_its_hits(rt: HostRuntime) -> Result<(), Fail> {
         (false, State::Paused, [2, 1]),
         (true, State::Paused, [2, 1]),
     ] {
-        let change = trigger.step(&text, &[0, 1], &[truth, truth], &[0, 0]);
+        let change = trigger.step(&text, &[0, 1], &[1], &[truth, truth], &[0, 0]);
         assert_eq!(rt; change.after, state);
         assert_eq!(rt; trigger.state(), state);
         assert_eq!(rt; trigger.hits(), hits.as_slice());
@@ -86,7 +86,7 @@ fn an_alt_resets_the_core(rt: HostRuntime) -> Result<(), Fail> {
         (false, State::Triggered, [3, 0]),
         (true, State::Triggered, [3, 0]),
     ] {
-        let change = trigger.step(&text, &[0, 0], &[true, resets], &[0, 0]);
+        let change = trigger.step(&text, &[0, 0], &[0, 0], &[true, resets], &[0, 0]);
         assert_eq!(rt; change.after, state);
         assert_eq!(rt; trigger.hits(), hits.as_slice());
     }
@@ -110,7 +110,13 @@ fn a_paused_trigger_keeps_its_number(rt: HostRuntime) -> Result<(), Fail> {
         (true, false, State::Triggered, Some(4), 4),
         (true, false, State::Triggered, None, 4),
     ] {
-        let change = trigger.step(&text, &[2, 0, 1], &[true, counts, pauses], &[0, 0, 0]);
+        let change = trigger.step(
+            &text,
+            &[2, 0, 1],
+            &[1],
+            &[true, counts, pauses],
+            &[0, 0, 0],
+        );
         assert_eq!(rt; change.after, state);
         assert_eq!(rt; change.measured, changed);
         assert_eq!(rt; trigger.measured(), measured);
@@ -134,7 +140,7 @@ fn states_follow_one_another(rt: HostRuntime) -> Result<(), Fail> {
         ([false, true], State::Active, State::Primed),
         ([true, true], State::Primed, State::Triggered),
     ] {
-        let change = trigger.step(&text, &[0, 1], &truths, &[0, 0]);
+        let change = trigger.step(&text, &[0, 1], &[0], &truths, &[0, 0]);
         assert_eq!(rt; change.before, before);
         assert_eq!(rt; change.after, after);
     }
@@ -149,7 +155,7 @@ fn kept_hits_may_pass_the_target(rt: HostRuntime) -> Result<(), Fail> {
     let bytes = [7, 0, 0, 0, 0, 0, 0, 0, 255, 255, 255, 255];
     trigger.put_back(State::Active, 9, &bytes);
     assert_eq!(rt; trigger.measured(), 9);
-    let change = trigger.step(&text, &[0, 0, 1], &[true, false, true], &[0, 0, 0]);
+    let change = trigger.step(&text, &[0, 0, 1], &[0, 0], &[true, false, true], &[0, 0, 0]);
     assert_eq!(rt; change.after, State::Active);
     assert_eq!(rt; trigger.hits(), [8, 0, 4_294_967_295].as_slice());
     Ok(())
@@ -166,7 +172,7 @@ fn a_trigger_without_states_is_false_on_a_reset(rt: HostRuntime) -> Result<(), F
         (true, false, [0, 0]),
         (false, false, [1, 0]),
     ] {
-        let answer = trigger.truth(&text, &[0, 1], &[true, resets], &[0, 0]);
+        let answer = trigger.truth(&text, &[0, 1], &[0], &[true, resets], &[0, 0]);
         assert_eq!(rt; answer, truth);
         assert_eq!(rt; trigger.state(), State::Waiting);
         assert_eq!(rt; trigger.hits(), hits.as_slice());

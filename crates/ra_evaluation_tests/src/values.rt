@@ -61,7 +61,7 @@ fn the_greatest_is_a_signed_number(rt: HostRuntime) -> Result<(), Fail> {
         ([2_147_483_648, 2_147_483_648], -2_147_483_648),
         ([2_147_483_647, 2_147_483_648], 2_147_483_647),
     ] {
-        let answer = value.step(&text, &[], &[], &[], &sums);
+        let answer = value.step(&text, &[], &[0, 0], &[], &[], &sums);
         assert_eq!(rt; answer, greatest);
         assert_eq!(rt; value.greatest(), greatest);
         assert_eq!(rt; value.kept(), sums.as_slice());
@@ -94,6 +94,7 @@ fn a_paused_part_keeps_its_number(rt: HostRuntime) -> Result<(), Fail> {
     ] {
         let answer = value.step(
             &text,
+            &[1, 0, 0],
             &[1, 0, 0],
             &[met, pauses, true],
             &[0, 0, left],
@@ -128,6 +129,7 @@ fn a_reset_clears_all_parts(rt: HostRuntime) -> Result<(), Fail> {
         let answer = value.step(
             &text,
             &[0, 1, 0],
+            &[0, 0, 0],
             &[true, reset, true],
             &[6, 0, 0],
             &[0, 0, 7],

@@ -6,7 +6,6 @@ pub mod HandedLemmas
 mod LawLemmas
 mod OutcomeLemmas
 mod PassLemmas
-mod PausesLemmas
 pub mod TallyLemmas
 mod TurnLemmas
 mod Turns

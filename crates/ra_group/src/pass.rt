@@ -1,8 +1,9 @@
 //! The pass over a group, in pass order, with running values.
 
-ghost use Rattle.std.specs.Prelude.{◌≡◌, ◌↔◌, ◌⊎◌, None, true, length, filter};
+ghost use Rattle.std.specs.Prelude.{◌≡◌, ◌↔◌, ◌⊎◌, None, true, length};
 ghost use Rattle.ra_condition.specs.Contents.{group_contents};
-ghost use Rattle.ra_condition.specs.Chains.{in_pause_chain, places, pass_order};
+ghost use Rattle.ra_condition.specs.Chains.{pass_order};
+ghost use Rattle.ra_group.specs.Along.{pause_count};
 ghost use Rattle.ra_group.specs.Equations.{frame_of};
 ghost use Rattle.ra_group.specs.Outcome.{outcome_of, next_hits};
 ghost use Rattle.ra_group.specs.OutcomeLaws.{NoneMeasured};
@@ -11,22 +12,24 @@ use crate::form::Form;
 use crate::outcome::Outcome;
 use crate::settled::Settled;
 use crate::tally::Tally;
-use ra_condition::{Condition, Group};
+use ra_condition::Group;
 
 /// Steps a group by a frame: docs/DEFINITIONS.md, "Group outcome".
 ///
-/// `order` is the pass order of the group, as places in its text. `truths`, `lefts` and `hits` have
-/// an entry for each condition in text order: its comparison, its left value, and its hits, which
-/// are then the next ones.
+/// `order` is the pass order of the group, as places in its text, of which the first `pauses` stand
+/// in pause chains. `truths`, `lefts` and `hits` have an entry for each condition in text order: its
+/// comparison, its left value, and its hits, which are then the next ones.
 pub fn step(
     group: &Group,
     form: Form,
     order: &[u32],
+    pauses: u32,
     truths: &[bool],
     lefts: &[u32],
     hits: &mut [u32],
 ) -> Outcome
     requires order { order.now ≡ pass_order (group_contents group.now) }
+    requires pauses { pauses ≡ pause_count (group_contents group.now) }
     requires truths { length truths.now ≡ length (group_contents group.now) }
     requires lefts { length lefts.now ≡ length (group_contents group.now) }
     requires hits { length hits.old ≡ length (group_contents group.now) }
@@ -39,7 +42,6 @@ pub fn step(
         ⊎ NoneMeasured (frame_of (group_contents group.now) truths.now lefts.now hits.old)) }
 {
     let conditions = group.conditions.as_slice();
-    let pauses = pause_places(conditions, order);
     let mut before = None;
     let mut tally = Tally::new();
     for (turn, place) in order.iter().enumerate() {
@@ -50,7 +52,7 @@ pub fn step(
         }
         let settled = Settled::of(condition, truths[place], hits[place], before);
         // Past the pause chains it is known whether the group is paused, and then its hits stay.
-        let frozen = tally.paused && turn >= pauses;
+        let frozen = tally.paused && turn >= pauses as usize;
         tally.note(form, condition, &settled, lefts[place]);
         if !frozen {
             hits[place] = settled.hit;
@@ -58,18 +60,4 @@ pub fn step(
         before = settled.seen_next();
     }
     tally.outcome()
-}
-
-// How many places of the order stand in pause chains: those up to its last PauseIf.
-fn pause_places(conditions: &[Condition], order: &[u32]) -> usize
-    requires { order.now ≡ pass_order conditions.now }
-    ensures { result ≡ length (filter (in_pause_chain conditions.now) (places conditions.now)) }
-{
-    let mut pauses = 0;
-    for (turn, place) in order.iter().enumerate() {
-        if conditions[*place as usize].flag.is_pause() {
-            pauses = turn + 1;
-        }
-    }
-    pauses
 }

@@ -1,5 +1,5 @@
 -- Plans over a pool that grows.
-use Rattle.std.proofs.Common.{◌≡◌, ℕ, suc, ◌+◌, ◌<◌, ◌≤◌, Option, None, Some, List, [], ◌∷◌, ◌++◌, length, map, get_or, sym, ◌∙◌, ap, subst, arith}
+use Rattle.std.proofs.Common.{◌≡◌, ℕ, suc, ◌+◌, ◌<◌, ◌≤◌, Option, None, Some, List, [], ◌∷◌, ◌++◌, length, map, get_or, sym, ◌∙◌, ap, subst, arith, Vec, Global}
 use Rattle.std.specs.List.{flat_map, range_with_len}
 use Rattle.std.proofs.lemmas.List.{append-nil, map-append}
 use Rattle.std.proofs.lemmas.List.Concat.{flat_map-append}
@@ -15,6 +15,7 @@ use Rattle.ra_chain.specs.declared.plan.GroupPlan.{GroupPlan}
 use Rattle.ra_chain.specs.Elaboration.{left_of, right_of, lefts_of, rights_of, terms_tree}
 use Rattle.ra_chain.specs.Elaborates.{SpellsEach}
 use Rattle.ra_chain.proofs.PlantLemmas.{spells_more, grows_none, grows_through}
+use Rattle.ra_group.specs.Along.{pause_count}
 use Rattle.ra_runtime.specs.declared.plans.ValuePlan.{ValuePlan}
 use Rattle.ra_runtime.specs.Plans.{AreSpelled, IsPlan, AreSums, IsValuePlan}
 use Rattle.ra_runtime.specs.Planning.{GrowsWithin}
@@ -64,14 +65,16 @@ one_more f xs x = flat_map-append f xs (x ∷ []) ∙ ap (λ l. flat_map f xs ++
 pub plan_more : (old new : List Node) (groups : List (List Condition)) (plan : GroupPlan) → IsFront old new → IsPlan old groups plan → IsPlan new groups plan
 plan_more old new groups plan front is = record {
   order = is.order;
+  pauses = is.pauses;
   lefts = spelled_more old new plan.lefts.items (flat_map lefts_of groups) front is.lefts;
   rights = spelled_more old new plan.rights.items (flat_map rights_of groups) front is.rights;
 }
 
 -- a plan of no groups
-pub plan_none : (nodes : List Node) (plan : GroupPlan) → plan.order.items ≡ [] → plan.lefts.items ≡ [] → plan.rights.items ≡ [] → IsPlan nodes [] plan
-plan_none nodes plan order lefts rights = record {
+pub plan_none : (nodes : List Node) (plan : GroupPlan) → plan.order.items ≡ [] → plan.pauses.items ≡ [] → plan.lefts.items ≡ [] → plan.rights.items ≡ [] → IsPlan nodes [] plan
+plan_none nodes plan order pauses lefts rights = record {
   order = order;
+  pauses = pauses;
   lefts = subst (λ ns. AreSpelled nodes ns []) (sym lefts) tt;
   rights = subst (λ ns. AreSpelled nodes ns []) (sym rights) tt;
 }
@@ -79,11 +82,12 @@ plan_none nodes plan order lefts rights = record {
 -- a group behind others
 module _ (old new : List Node) (front : IsFront old new) (cs : List Condition) (before added after : GroupPlan) where
   pub plan_added :
-      added.order.items ≡ pass_order cs → SpellsEach new added.lefts.items (length cs) (left_of cs) → SpellsEach new added.rights.items (length cs) (right_of cs)
-      → after.order.items ≡ before.order.items ++ added.order.items → after.lefts.items ≡ before.lefts.items ++ added.lefts.items → after.rights.items ≡ before.rights.items ++ added.rights.items
+      added.order.items ≡ pass_order cs → added.pauses.items ≡ pause_count cs ∷ [] → SpellsEach new added.lefts.items (length cs) (left_of cs) → SpellsEach new added.rights.items (length cs) (right_of cs)
+      → after.order.items ≡ before.order.items ++ added.order.items → after.pauses.items ≡ before.pauses.items ++ added.pauses.items → after.lefts.items ≡ before.lefts.items ++ added.lefts.items → after.rights.items ≡ before.rights.items ++ added.rights.items
       → (groups : List (List Condition)) → IsPlan old groups before → IsPlan new (groups ++ cs ∷ []) after
-  plan_added order lefts rights orders all_lefts all_rights groups is = record {
+  plan_added order pause lefts rights orders pauses all_lefts all_rights groups is = record {
     order = orders ∙ (λ i. is.order i ++ order i) ∙ sym (one_more pass_order groups cs);
+    pauses = pauses ∙ (λ i. is.pauses i ++ pause i) ∙ sym (map-append pause_count groups (cs ∷ []));
     lefts =
         subst (λ ns. AreSpelled new ns (flat_map lefts_of (groups ++ cs ∷ []))) (sym all_lefts)
         (subst (AreSpelled new (before.lefts.items ++ added.lefts.items)) (sym (one_more lefts_of groups cs))
@@ -95,8 +99,9 @@ module _ (old new : List Node) (front : IsFront old new) (cs : List Condition) (
   }
 
 -- a legacy part has no conditions
-pub plan_empty : (nodes : List Node) (groups : List (List Condition)) (plan : GroupPlan) → IsPlan nodes groups plan → IsPlan nodes (groups ++ [] ∷ []) plan
-plan_empty nodes groups plan is = record {
+pub plan_empty : (nodes : List Node) (groups : List (List Condition)) (plan : GroupPlan) (pauses : Vec ℕ Global) → pauses.items ≡ plan.pauses.items ++ 0 ∷ [] → IsPlan nodes groups plan → IsPlan nodes (groups ++ [] ∷ []) (record plan { pauses = pauses })
+plan_empty nodes groups plan pauses more is = record {
+  pauses = more ∙ ap (λ ns. ns ++ 0 ∷ []) is.pauses ∙ sym (map-append pause_count groups ([] ∷ []));
   order = is.order ∙ sym (append-nil (flat_map pass_order groups)) ∙ sym (one_more pass_order groups []);
   lefts = subst (AreSpelled nodes plan.lefts.items) (sym (append-nil (flat_map lefts_of groups)) ∙ sym (one_more lefts_of groups [])) is.lefts;
   rights = subst (AreSpelled nodes plan.rights.items) (sym (append-nil (flat_map rights_of groups)) ∙ sym (one_more rights_of groups [])) is.rights;

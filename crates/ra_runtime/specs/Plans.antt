@@ -9,6 +9,7 @@ use Rattle.ra_indirect.specs.Trees.{Tree}
 use Rattle.ra_indirect.specs.Pools.{Spells}
 use Rattle.ra_chain.specs.declared.plan.GroupPlan.{GroupPlan}
 use Rattle.ra_chain.specs.Elaboration.{lefts_of, rights_of, terms_tree}
+use Rattle.ra_group.specs.Along.{pause_count}
 use Rattle.ra_leaderboard.specs.Contents.{BoardContents}
 use Rattle.ra_set.specs.Contents.{ItemContents, Unlocks, Ranks}
 use Rattle.ra_runtime.specs.declared.plans.ValuePlan.{ValuePlan}
@@ -25,6 +26,7 @@ AreSpelled nodes _ _ = ⊥
 -- the plan of some groups, one after the other
 pub record IsPlan (nodes : List Node) (groups : List (List Condition)) (plan : GroupPlan) : Type 0 where
   pub order : plan.order.items ≡ flat_map pass_order groups
+  pub pauses : plan.pauses.items ≡ map pause_count groups
   pub lefts : AreSpelled nodes plan.lefts.items (flat_map lefts_of groups)
   pub rights : AreSpelled nodes plan.rights.items (flat_map rights_of groups)
 

@@ -52,6 +52,7 @@ impl AchievementRun {
         self.change = self.trigger.step(
             text,
             &self.laid.plan.order,
+            &self.laid.plan.pauses,
             &self.laid.truths,
             &self.laid.lefts,
         );

@@ -69,6 +69,7 @@ fn new_test(
             Ok(Some(run))
         }
         None => {
+            // This call tells that the nodes are those of a pool, which the proof needs.
             let _ = pool.len();
             Ok(None)
         }
@@ -88,6 +89,7 @@ fn new_values(
         (filter_map value_in (map piece_contents pieces.now)) runs.items) }
 {
     let mut runs = Vec::new(alloc);
+    // This call tells that the nodes are those of a pool, which the proof needs.
     let _ = pool.len();
     for piece in pieces {
         put_piece(alloc, &mut runs, piece, pool)?;

@@ -94,11 +94,13 @@ pub(crate) fn trigger_plan(
 // The plan of no groups.
 fn no_groups(alloc: Global) -> GroupPlan
     ensures order { result.order.items ≡ [] }
+    ensures pauses { result.pauses.items ≡ [] }
     ensures lefts { result.lefts.items ≡ [] }
     ensures rights { result.rights.items ≡ [] }
 {
     GroupPlan {
         order: Vec::new(alloc),
+        pauses: Vec::new(alloc),
         lefts: Vec::new(alloc),
         rights: Vec::new(alloc),
     }
@@ -120,6 +122,7 @@ fn put_group(
 {
     let added = elaborate(alloc, group, pool)?;
     plan.order.extend_from_slice(&added.order)?;
+    plan.pauses.extend_from_slice(&added.pauses)?;
     plan.lefts.extend_from_slice(&added.lefts)?;
     plan.rights.extend_from_slice(&added.rights)?;
     Ok(())
@@ -144,6 +147,7 @@ fn optional_plan(
             Ok(Some(plan))
         }
         None => {
+            // This call tells that the nodes are those of a pool, which the proof needs.
             let _ = pool.len();
             Ok(None)
         }
@@ -166,6 +170,7 @@ pub(crate) fn value_plan(
         groups: no_groups(alloc),
         sums: Vec::new(alloc),
     };
+    // This call tells that the nodes are those of a pool, which the proof needs.
     let _ = pool.len();
     for part in &text.parts {
         put_part(alloc, &mut plan, part, pool)?;
@@ -190,6 +195,7 @@ fn put_part(
     match part {
         Part::Terms(terms) => {
             let sum = elaborate_terms(alloc, terms, pool)?;
+            plan.groups.pauses.push(0)?;
             plan.sums.push(Some(sum))?;
             Ok(())
         }

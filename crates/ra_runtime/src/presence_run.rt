@@ -51,6 +51,7 @@ pub(crate) fn new_presence(
             Ok(Some(PresenceRun { lines, shown }))
         }
         None => {
+            // This call tells that the nodes are those of a pool, which the proof needs.
             let _ = pool.len();
             Ok(None)
         }
@@ -64,6 +65,7 @@ fn new_lines(alloc: Global, lines: &[Line], pool: &mut Pool) -> Result<Vec<LineR
     ensures { IfOk result (λ runs. AreNewLines pool.old pool.new (map line_contents lines.now) runs.items) }
 {
     let mut runs = Vec::new(alloc);
+    // This call tells that the nodes are those of a pool, which the proof needs.
     let _ = pool.len();
     for line in lines {
         let run = LineRun::new(alloc, line, pool)?;

@@ -28,6 +28,7 @@ pub(crate) fn new_runs(
     ensures { IfOk result (λ runs. AreWaiting pool.old pool.new (map item_contents items.now) runs.items) }
 {
     let mut runs = Vec::new(alloc);
+    // This call tells that the nodes are those of a pool, which the proof needs.
     let _ = pool.len();
     for item in items {
         let plan = item_plan(alloc, item, pool)?;

@@ -43,6 +43,7 @@ impl TestRun {
         self.trigger.truth(
             text,
             &self.laid.plan.order,
+            &self.laid.plan.pauses,
             &self.laid.truths,
             &self.laid.lefts,
         )

@@ -62,6 +62,7 @@ impl ValueRun {
         let _greatest = self.value.step(
             text,
             &self.laid.plan.order,
+            &self.laid.plan.pauses,
             &self.laid.truths,
             &self.laid.lefts,
             &self.sums,

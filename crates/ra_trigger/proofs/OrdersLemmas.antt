@@ -7,6 +7,7 @@ use Rattle.ra_condition.specs.declared.condition.Condition.{Condition}
 use Rattle.ra_condition.specs.declared.group.Group.{Group}
 use Rattle.ra_condition.specs.Contents.{group_contents}
 use Rattle.ra_condition.specs.Chains.{pass_order}
+use Rattle.ra_group.specs.Along.{pause_count}
 use Rattle.ra_group.proofs.AlongLemmas.{flat_map-part, length-flat_map, length-pass_order}
 
 module _ (core : List Condition) (alts : List Group) (orders : List ℕ) (are_orders : orders ≡ flat_map pass_order (core ∷ map group_contents alts)) where
@@ -30,6 +31,13 @@ module _ (core : List Condition) (alts : List Group) (orders : List ℕ) (are_or
         ∙ ap (λ cs. take (length cs) (drop (sum_by length (take (suc k) (core ∷ map group_contents alts))) (flat_map pass_order (core ∷ map group_contents alts)))) (sym contents_here)
         ∙ flat_map-part pass_order length length-pass_order (core ∷ map group_contents alts) (suc k) core (omega (arith, length-map alts group_contents))
         ∙ ap pass_order contents_here
+
+    pub pauses_alt : (pauses : List ℕ) → pauses ≡ map pause_count (core ∷ map group_contents alts) → get_or pauses (k + 1) 0 ≡ pause_count (group_contents alt)
+    pauses_alt pauses is =
+        let next : k + 1 ≡ suc k = omega arith in
+        ap (λ xs. get_or xs (k + 1) 0) is ∙ ap (λ n. get_or (map pause_count (core ∷ map group_contents alts)) n 0) next
+        ∙ get_or-map pause_count (core ∷ map group_contents alts) (suc k) core 0 (omega (arith, length-map alts group_contents))
+        ∙ ap pause_count contents_here
 
     pub within_alt : start + length (group_contents alt) ≤ sum_by length (core ∷ map group_contents alts)
     within_alt = omega (arith, start_here, ap length contents_here, sum_by_more_le length (core ∷ map group_contents alts) (suc k) core (omega (arith, length-map alts group_contents)))

@@ -28,7 +28,7 @@ impl Trigger {
     ghost use Rattle.std.specs.Prelude.{◌≡◌, ◌*◌, length, IfOk};
     ghost use Rattle.ra_condition.specs.Contents.{trigger_contents, trigger_hits};
     ghost use Rattle.ra_words.specs.Words.{words_at};
-    ghost use Rattle.ra_trigger.specs.Kept.{no_trigger, orders_of, change_between};
+    ghost use Rattle.ra_trigger.specs.Kept.{no_trigger, orders_of, pauses_of, change_between};
     ghost use Rattle.ra_trigger.specs.Steps.{step, truth, hits_after_truth};
 
     /// A trigger that waits, with all numbers 0.
@@ -49,16 +49,19 @@ impl Trigger {
     /// Steps an achievement by a frame: docs/DEFINITIONS.md, "Achievement states".
     ///
     /// `truths` and `lefts` have an entry for each condition, the core group first and then the alt
-    /// groups, and `orders` is the pass order of each group, one after the other. A triggered
-    /// achievement is left as it is.
+    /// groups, `orders` is the pass order of each group, one after the other, and `pauses` has for
+    /// each group how many of its conditions stand in pause chains. A triggered achievement is left
+    /// as it is.
     pub fn step(
         &mut self,
         text: &TriggerText,
         orders: &[u32],
+        pauses: &[u32],
         truths: &[bool],
         lefts: &[u32],
     ) -> Change
         requires orders { orders.now ≡ orders_of (trigger_contents text.now) }
+        requires pauses { pauses.now ≡ pauses_of (trigger_contents text.now) }
         requires truths { length truths.now ≡ trigger_hits (trigger_contents text.now) }
         requires lefts { length lefts.now ≡ trigger_hits (trigger_contents text.now) }
         requires hits { length self.old.hits ≡ trigger_hits (trigger_contents text.now) }
@@ -76,7 +79,7 @@ impl Trigger {
                 measured: None,
             };
         }
-        let now = step_groups(text, orders, truths, lefts, &mut self.hits);
+        let now = step_groups(text, orders, pauses, truths, lefts, &mut self.hits);
         let clears = before.is_cleared(&now);
         if clears {
             self.hits.fill(0);
@@ -107,10 +110,12 @@ impl Trigger {
         &mut self,
         text: &TriggerText,
         orders: &[u32],
+        pauses: &[u32],
         truths: &[bool],
         lefts: &[u32],
     ) -> bool
         requires orders { orders.now ≡ orders_of (trigger_contents text.now) }
+        requires pauses { pauses.now ≡ pauses_of (trigger_contents text.now) }
         requires truths { length truths.now ≡ trigger_hits (trigger_contents text.now) }
         requires lefts { length lefts.now ≡ trigger_hits (trigger_contents text.now) }
         requires hits { length self.old.hits ≡ trigger_hits (trigger_contents text.now) }
@@ -121,7 +126,7 @@ impl Trigger {
         } }
         ensures count { length self.new.hits ≡ length self.old.hits }
     {
-        let now = step_groups(text, orders, truths, lefts, &mut self.hits);
+        let now = step_groups(text, orders, pauses, truths, lefts, &mut self.hits);
         if now.reset {
             self.hits.fill(0);
         }

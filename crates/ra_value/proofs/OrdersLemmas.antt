@@ -5,8 +5,9 @@ use Rattle.std.proofs.lemmas.List.Sums.{sum_by_more_le}
 use Rattle.ra_condition.specs.declared.part.Part.{Part}
 use Rattle.ra_condition.specs.Contents.{PartContents, part_contents, counted_in, value_hits}
 use Rattle.ra_condition.specs.Chains.{pass_order}
+use Rattle.ra_group.specs.Along.{pause_count}
 use Rattle.ra_group.proofs.AlongLemmas.{flat_map-part, length-flat_map, length-pass_order}
-use Rattle.ra_value.specs.Kept.{orders_of}
+use Rattle.ra_value.specs.Kept.{orders_of, pauses_of}
 
 -- the conditions of a part
 abbrev size_of : PartContents → ℕ
@@ -30,6 +31,13 @@ module _ (parts : List Part) (orders : List ℕ) (are_orders : orders ≡ orders
         ∙ ap (λ p. take (size_of p) (drop (value_hits (take k (map part_contents parts))) (orders_of (map part_contents parts)))) (sym contents_here)
         ∙ flat_map-part (λ p. pass_order (counted_in p)) size_of (λ p. length-pass_order (counted_in p)) (map part_contents parts) k (part_contents part) (omega (arith, length-map parts part_contents))
         ∙ ap (λ p. pass_order (counted_in p)) contents_here
+
+    pub pauses_part : (pauses : List ℕ) → pauses ≡ pauses_of (map part_contents parts) → get_or pauses k 0 ≡ pause_count (counted_in (part_contents part))
+    pauses_part pauses is =
+        let many : k < length (map part_contents parts) = omega (arith, length-map parts part_contents) in
+        ap (λ xs. get_or xs k 0) is
+        ∙ get_or-map pause_count (map counted_in (map part_contents parts)) k [] 0 (omega (arith, length-map (map part_contents parts) counted_in))
+        ∙ ap pause_count (get_or-map counted_in (map part_contents parts) k (part_contents part) [] many ∙ ap counted_in contents_here)
 
     pub within_part : start + size_of (part_contents part) ≤ value_hits (map part_contents parts)
     within_part = omega (arith, start_here, ap size_of contents_here, sum_by_more_le size_of (map part_contents parts) k (part_contents part) (omega (arith, length-map parts part_contents)))

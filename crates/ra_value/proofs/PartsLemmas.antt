@@ -1,5 +1,5 @@
 -- The parts of a value, one part after the other.
-use Rattle.std.proofs.Common.{◌≡◌, ℕ, suc, ◌+◌, ◌<◌, Bool, true, false, ◌||◌, unwrap_or, List, [], ◌∷◌, ◌++◌, length, get_or, set, take, drop, map, slice_index, refl, sym, ap, ◌∙◌, arith, append_assoc, length-append}
+use Rattle.std.proofs.Common.{◌≡◌, ℕ, suc, ◌+◌, ◌<◌, Bool, false, ◌||◌, unwrap_or, List, [], ◌∷◌, ◌++◌, length, get_or, set, take, drop, map, slice_index, refl, sym, ap, ◌∙◌, arith, append_assoc, length-append}
 use Rattle.std.specs.List.{flat_map, list_any}
 use Rattle.std.proofs.lemmas.List.{drop-drop, take_at, drop_at, set_at, append-nil, map_push, drop_all, drop_more, length-map, take-append-drop, get_or-append-add, length_push}
 use Rattle.std.proofs.lemmas.List.Sums.{sum_by-cons, sum_by-append}

@@ -3,6 +3,7 @@ use Rattle.std.specs.Prelude.{ℕ, Bool, false, if◌then◌else◌, List, lengt
 use Rattle.std.specs.List.{flat_map, range_with_len}
 use Rattle.ra_condition.specs.Chains.{pass_order}
 use Rattle.ra_condition.specs.Contents.{PartContents, Legacy, Grouped, counted_in}
+use Rattle.ra_group.specs.Along.{pause_count}
 use Rattle.ra_group.specs.declared.form.Form.TheVariants.{InValue}
 use Rattle.ra_group.specs.Counting.{counts_hits}
 use Rattle.ra_value.specs.Steps.{ValueKept}
@@ -10,6 +11,10 @@ use Rattle.ra_value.specs.Steps.{ValueKept}
 -- the pass order of each part, one part after the other
 abbrev pub orders_of : List PartContents → List ℕ
 orders_of parts = flat_map (λ part. pass_order (counted_in part)) parts
+
+-- how many conditions of each part stand in pause chains, none of a legacy part
+abbrev pub pauses_of : List PartContents → List ℕ
+pauses_of parts = map pause_count (map counted_in parts)
 
 -- what is kept, with each hit and each number set to 0
 abbrev pub cleared : ValueKept → ValueKept

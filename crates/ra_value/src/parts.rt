@@ -3,17 +3,18 @@
 ghost use Rattle.std.specs.Prelude.{◌≡◌, length, map};
 ghost use Rattle.std.specs.List.{list_any, flat_map};
 ghost use Rattle.ra_condition.specs.Contents.{part_contents, value_contents, value_hits};
-ghost use Rattle.ra_value.specs.Kept.{orders_of, part_counts, uncounted};
+ghost use Rattle.ra_value.specs.Kept.{orders_of, pauses_of, part_counts, uncounted};
 ghost use Rattle.ra_value.specs.Steps.{part_steps, step};
 
 use ra_condition::{Part, ValueText};
 use ra_group::{Form, counts_hits, step_at};
 
-/// Steps the parts of a value by a frame. The first three slices and `hits` run over the conditions
-/// of all parts, `sums` and `numbers` over the parts.
+/// Steps the parts of a value by a frame. `orders`, `truths`, `lefts` and `hits` run over the
+/// conditions of all parts, `pauses`, `sums` and `numbers` over the parts.
 pub fn step_value(
     text: &ValueText,
     orders: &[u32],
+    pauses: &[u32],
     truths: &[bool],
     lefts: &[u32],
     sums: &[u32],
@@ -21,6 +22,7 @@ pub fn step_value(
     numbers: &mut [u32],
 )
     requires orders { orders.now ≡ orders_of (value_contents text.now) }
+    requires pauses { pauses.now ≡ pauses_of (value_contents text.now) }
     requires truths { length truths.now ≡ value_hits (value_contents text.now) }
     requires lefts { length lefts.now ≡ value_hits (value_contents text.now) }
     requires hits { length hits.old ≡ value_hits (value_contents text.now) }
@@ -32,7 +34,7 @@ pub fn step_value(
     ensures numbers { numbers.new ≡ (step (value_contents text.now) truths.now lefts.now sums.now
         (record { hits = hits.old; numbers = numbers.old })).numbers }
 {
-    if step_parts(text, orders, truths, lefts, sums, hits, numbers) {
+    if step_parts(text, orders, pauses, truths, lefts, sums, hits, numbers) {
         hits.fill(0);
         clear_counted(text, numbers);
     }
@@ -42,6 +44,7 @@ pub fn step_value(
 fn step_parts(
     text: &ValueText,
     orders: &[u32],
+    pauses: &[u32],
     truths: &[bool],
     lefts: &[u32],
     sums: &[u32],
@@ -49,6 +52,7 @@ fn step_parts(
     numbers: &mut [u32],
 ) -> bool
     requires orders { orders.now ≡ orders_of (value_contents text.now) }
+    requires pauses { pauses.now ≡ pauses_of (value_contents text.now) }
     requires truths { length truths.now ≡ value_hits (value_contents text.now) }
     requires lefts { length lefts.now ≡ value_hits (value_contents text.now) }
     requires hits { length hits.old ≡ value_hits (value_contents text.now) }
@@ -68,7 +72,8 @@ fn step_parts(
         match part {
             Part::Terms(_) => numbers[place] = sums[place],
             Part::Conditions(group) => {
-                let outcome = step_at(group, Form::InValue, start, orders, truths, lefts, hits);
+                let (form, pauses) = (Form::InValue, pauses[place]);
+                let outcome = step_at(group, form, start, orders, pauses, truths, lefts, hits);
                 resets |= outcome.reset;
                 numbers[place] = outcome.measured.unwrap_or(numbers[place]);
                 start += group.conditions.len();

@@ -26,7 +26,7 @@ impl Value {
     ghost use Rattle.std.specs.Prelude.{◌≡◌, ◌*◌, length, IfOk};
     ghost use Rattle.ra_condition.specs.Contents.{value_contents, value_hits};
     ghost use Rattle.ra_words.specs.Words.{words_at};
-    ghost use Rattle.ra_value.specs.Kept.{orders_of, cleared};
+    ghost use Rattle.ra_value.specs.Kept.{orders_of, pauses_of, cleared};
     ghost use Rattle.ra_value.specs.Steps.{no_value, signed_greatest, step};
 
     /// A value with all numbers 0.
@@ -51,16 +51,19 @@ impl Value {
     /// frames".
     ///
     /// `orders`, `truths` and `lefts` run over the conditions of the condition parts, `orders` with
-    /// the pass order of each part. `sums` has an entry for each part, 0 for a condition part.
+    /// the pass order of each part. `pauses` and `sums` have an entry for each part: how many of its
+    /// conditions stand in pause chains, 0 for a legacy part, and its legacy sum, 0 for a condition part.
     pub fn step(
         &mut self,
         text: &ValueText,
         orders: &[u32],
+        pauses: &[u32],
         truths: &[bool],
         lefts: &[u32],
         sums: &[u32],
     ) -> i32
         requires orders { orders.now ≡ orders_of (value_contents text.now) }
+        requires pauses { pauses.now ≡ pauses_of (value_contents text.now) }
         requires truths { length truths.now ≡ value_hits (value_contents text.now) }
         requires lefts { length lefts.now ≡ value_hits (value_contents text.now) }
         requires sums { length sums.now ≡ length (value_contents text.now) }
@@ -77,6 +80,7 @@ impl Value {
         step_value(
             text,
             orders,
+            pauses,
             truths,
             lefts,
             sums,

@@ -5,6 +5,7 @@ use Rattle.ra_condition.specs.declared.condition.Condition.{Condition}
 use Rattle.ra_condition.specs.Contents.{group_contents}
 use Rattle.ra_condition.specs.Chains.{pass_order}
 use Rattle.ra_condition.proofs.OrderLemmas.{pausing, place_below}
+use Rattle.ra_group.specs.Along.{pause_count}
 use Rattle.ra_group.specs.Equations.{Frame, frame_of}
 use Rattle.ra_group.specs.declared.outcome.Outcome.{Outcome}
 use Rattle.ra_group.specs.Outcome.{outcome_of, next_hits}
@@ -61,7 +62,7 @@ loop-turn-preserved c =
     let contents = c.as_slice-conditions.ensures.value in
     let passes = c.requires.order ∙ ap pass_order (sym contents) in
     let late = leb (length (pausing f.conditions)) turn in
-    let same_late = ap (λ n. leb n turn) c.pause_places-pauses.ensures in
+    let same_late = ap (λ n. leb n turn) (c.requires.pauses ∙ ap pause_count (sym contents)) in
     let is_frozen : c.if-tally.frozen ≡ (c.loop-turn.tally.paused && late) =
     elim c.if-tally.branch [
       | then-tally w ↦ frozen_paused _ _ late w.if-tally.true (w.frozen-is ∙ same_late)

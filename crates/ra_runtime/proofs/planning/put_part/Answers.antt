@@ -5,16 +5,18 @@ use Rattle.ra_runtime.specs.Plans.{IsValuePlan}
 use Rattle.ra_runtime.proofs.PlanLemmas.{part_added, plan_empty, plan_more}
 use Rattle.ra_runtime.proofs.planning.put_part.Goals as goal
 
-pub returns-in_ok-push-in-Terms-clause-plan : goal.returns-in_ok-push-in-Terms-clause-plan
-returns-in_ok-push-in-Terms-clause-plan c =
+pub returns-in_ok-push-in-Terms-2-clause-plan : goal.returns-in_ok-push-in-Terms-2-clause-plan
+returns-in_ok-push-in-Terms-2-clause-plan c =
     let old = c.args.pool.now in
     let new = c.elaborate_terms.new.pool in
     let plan = c.args.plan.now in
-    let after : ValuePlan = record { groups = plan.groups; sums = c.push.new.self } in
+    let pauses = c.push.new.self in
+    let after : ValuePlan = record { groups = record plan.groups { pauses = pauses }; sums = c.push-in-Terms.new.self } in
     let e = c.in_ok-sum-in-Terms.ensures in
     let part : part_contents c.args.part.now ≡ Legacy c.deref.result.now = ap part_contents c.in-Terms.is ∙ ap Legacy (sym c.deref.ensures.value) in
     subst (λ p. (parts : List PartContents) → IsValuePlan old parts plan → IsValuePlan new (parts ++ p ∷ []) after) (sym part)
-    (part_added old new (Legacy c.deref.result.now) (Some c.in_ok-sum-in-Terms.sum) plan after e.kept.front (λ groups is. plan_empty new groups plan.groups (plan_more old new groups plan.groups e.kept.front is)) (e.ok.spells, tt) c.in_ok-push-in-Terms.ensures.items)
+    (part_added old new (Legacy c.deref.result.now) (Some c.in_ok-sum-in-Terms.sum) plan after e.kept.front (λ groups is. plan_empty new groups plan.groups pauses c.in_ok-push-in-Terms.ensures.items (plan_more old new groups plan.groups e.kept.front is))
+    (e.ok.spells, tt) c.in_ok-push-in-Terms-2.ensures.items)
 
 pub returns-in_ok-push-in-Conditions-clause-plan : goal.returns-in_ok-push-in-Conditions-clause-plan
 returns-in_ok-push-in-Conditions-clause-plan c =

@@ -19,7 +19,7 @@ loop-alt-init c =
     let n = c.no_groups-plan.ensures in
     let core = group_contents c.args.text.now.core in
     record {
-      plan = e.plan [] (plan_none c.args.pool.now c.no_groups-plan.result n.order n.lefts n.rights);
+      plan = e.plan [] (plan_none c.args.pool.now c.no_groups-plan.result n.order n.pauses n.lefts n.rights);
       grows = within_as c.args.pool.now c.put_group.new.pool (trees_in_group core) (trees_in_group core ++ []) (13 * length core) (13 * (0 + length core)) (sym (append-nil (trees_in_group core))) (omega arith) e.grows;
     }
 

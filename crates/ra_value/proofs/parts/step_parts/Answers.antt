@@ -3,8 +3,9 @@ use Rattle.std.proofs.lemmas.List.{length-map}
 use Rattle.ra_condition.specs.declared.part.Part.{Part}
 use Rattle.ra_condition.specs.Contents.{part_contents, group_contents, counted_in, value_hits}
 use Rattle.ra_condition.specs.Chains.{pass_order}
+use Rattle.ra_group.specs.Along.{pause_count}
 use Rattle.ra_group.specs.declared.outcome.Outcome.{Outcome}
-use Rattle.ra_value.proofs.OrdersLemmas.{length-orders, order_part, within_part, parts_more, parts_before}
+use Rattle.ra_value.proofs.OrdersLemmas.{length-orders, order_part, pauses_part, within_part, parts_more, parts_before}
 use Rattle.ra_value.proofs.TurnLemmas.{turn_terms, turn_group}
 use Rattle.ra_value.proofs.parts.step_parts.Goals as goal
 use Rattle.ra_value.proofs.parts.step_parts.Goals.{in-Terms, in-Conditions}
@@ -15,6 +16,15 @@ step_at-outcome-requires-clause-order c =
     let place = c.loop-place.place in
     let order = order_part c.args.text.now.parts.items c.args.orders.now c.requires.orders place c.part-item.result c.loop-place.start (omega (arith, ap length items)) (c.part-item.is ∙ ap (λ xs. get_or xs place c.part-item.result) items) c.loop-place.invariant.starts in
     subst (λ (p : Part). take (length (counted_in (part_contents p))) (drop c.loop-place.start c.args.orders.now) ≡ pass_order (counted_in (part_contents p))) c.in-Conditions.is order
+
+pub step_at-outcome-requires-clause-pauses : goal.step_at-outcome-requires-clause-pauses
+step_at-outcome-requires-clause-pauses c =
+    let items = c.deref-part-items.ensures.value in
+    let place = c.loop-place.place in
+    let here = c.part-item.is ∙ ap (λ xs. get_or xs place c.part-item.result) items in
+    let pauses = pauses_part c.args.text.now.parts.items c.args.orders.now c.requires.orders place c.part-item.result c.loop-place.start
+        (omega (arith, ap length items)) here c.loop-place.invariant.starts c.args.pauses.now c.requires.pauses in
+    subst (λ (p : Part). get_or c.args.pauses.now place 0 ≡ pause_count (counted_in (part_contents p))) c.in-Conditions.is pauses
 
 pub step_at-outcome-requires-clause-within : goal.step_at-outcome-requires-clause-within
 step_at-outcome-requires-clause-within c =

@@ -25,21 +25,27 @@ step-greatest-requires-clause-orders c =
     let again : IsLaid c.args.table.now.nodes (map counted_in parts) c.read.new.self.laid = laid_again _ _ _ _ _ c.requires.run.laid c.read.ensures.laid in
     c.deref.ensures.value ∙ again.plan.order ∙ flat_map-map pass_order counted_in parts
 
+pub step-greatest-requires-clause-pauses : goal.step-greatest-requires-clause-pauses
+step-greatest-requires-clause-pauses c =
+    let parts = value_contents c.args.text.now in
+    let again : IsLaid c.args.table.now.nodes (map counted_in parts) c.read.new.self.laid = laid_again _ _ _ _ _ c.requires.run.laid c.read.ensures.laid in
+    c.deref-2.ensures.value ∙ again.plan.pauses
+
 pub step-greatest-requires-clause-truths : goal.step-greatest-requires-clause-truths
 step-greatest-requires-clause-truths c =
     let parts = value_contents c.args.text.now in
     let again : IsLaid c.args.table.now.nodes (map counted_in parts) c.read.new.self.laid = laid_again _ _ _ _ _ c.requires.run.laid c.read.ensures.laid in
-    ap length c.deref-2.ensures.value ∙ (length_laid _ _ _ again).0 ∙ sums_grouped parts
+    ap length c.deref-3.ensures.value ∙ (length_laid _ _ _ again).0 ∙ sums_grouped parts
 
 pub step-greatest-requires-clause-lefts : goal.step-greatest-requires-clause-lefts
 step-greatest-requires-clause-lefts c =
     let parts = value_contents c.args.text.now in
     let again : IsLaid c.args.table.now.nodes (map counted_in parts) c.read.new.self.laid = laid_again _ _ _ _ _ c.requires.run.laid c.read.ensures.laid in
-    ap length c.deref-3.ensures.value ∙ (length_laid _ _ _ again).1 ∙ sums_grouped parts
+    ap length c.deref-4.ensures.value ∙ (length_laid _ _ _ again).1 ∙ sums_grouped parts
 
 pub step-greatest-requires-clause-sums : goal.step-greatest-requires-clause-sums
 step-greatest-requires-clause-sums c =
-    ap length (c.deref-4.ensures.value ∙ c.read.ensures.sums) ∙ length-map c.args.self.now.nodes.items (sum_by_node c.args.table.now.values) ∙ length_sums c.args.table.now.nodes (value_contents c.args.text.now) c.args.self.now.nodes.items c.requires.run.nodes_too
+    ap length (c.deref-5.ensures.value ∙ c.read.ensures.sums) ∙ length-map c.args.self.now.nodes.items (sum_by_node c.args.table.now.values) ∙ length_sums c.args.table.now.nodes (value_contents c.args.text.now) c.args.self.now.nodes.items c.requires.run.nodes_too
 
 pub returns-clause-run : goal.returns-clause-run
 returns-clause-run c =
@@ -57,7 +63,7 @@ pub returns-clause-steps : goal.returns-clause-steps
 returns-clause-steps c = λ start h has.
     let nodes = c.args.table.now.nodes in
     let parts = value_contents c.args.text.now in
-    let truths = c.deref-2.ensures.value ∙ truths_read _ _ start h has (map counted_in parts) _ _ c.requires.run.laid c.read.ensures.laid in
-    let lefts = c.deref-3.ensures.value ∙ lefts_read _ _ start h has (map counted_in parts) _ _ c.requires.run.laid c.read.ensures.laid in
-    let sums = c.deref-4.ensures.value ∙ c.read.ensures.sums ∙ read_sums_of nodes c.args.table.now.values start h has parts c.args.self.now.nodes.items c.requires.run.nodes_too in
+    let truths = c.deref-3.ensures.value ∙ truths_read _ _ start h has (map counted_in parts) _ _ c.requires.run.laid c.read.ensures.laid in
+    let lefts = c.deref-4.ensures.value ∙ lefts_read _ _ start h has (map counted_in parts) _ _ c.requires.run.laid c.read.ensures.laid in
+    let sums = c.deref-5.ensures.value ∙ c.read.ensures.sums ∙ read_sums_of nodes c.args.table.now.values start h has parts c.args.self.now.nodes.items c.requires.run.nodes_too in
     c.step-greatest.ensures.kept ∙ (λ i. step parts (truths i) (lefts i) (sums i) (c.read.ensures.value i))

@@ -1,5 +1,5 @@
-use Rattle.ra_group.proofs.PausesLemmas.{EndsPauses}
-use Rattle.ra_group.proofs.pass.pause_places.Given as goal
+use Rattle.ra_chain.proofs.Pauses.{EndsPauses}
+use Rattle.ra_chain.proofs.order.pause_places.Given as goal
 
 -- the last PauseIf so far
 abbrev pub invariant-loop-turn : goal.invariant-loop-turn

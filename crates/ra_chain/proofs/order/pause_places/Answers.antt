@@ -1,8 +1,8 @@
 use Rattle.std.proofs.Common.{ℕ, ◌+◌, sym, ◌∙◌, subst, arith}
 use Rattle.ra_condition.proofs.OrderLemmas.{place_below}
-use Rattle.ra_group.proofs.PausesLemmas.{EndsPauses, pauses_here, pauses_there, pauses_all, pauses_none}
-use Rattle.ra_group.proofs.pass.pause_places.Goals as goal
-use Rattle.ra_group.proofs.pass.pause_places.Goals.{then-is_pause, else-is_pause}
+use Rattle.ra_chain.proofs.Pauses.{EndsPauses, pauses_here, pauses_there, pauses_all, pauses_none}
+use Rattle.ra_chain.proofs.order.pause_places.Goals as goal
+use Rattle.ra_chain.proofs.order.pause_places.Goals.{then-is_pause, else-is_pause}
 
 pub bounds-conditions-place : goal.bounds-conditions-place
 bounds-conditions-place c = place_below c.args.conditions.now c.args.order.now c.loop-turn.turn c.requires c.loop-turn-test.true
