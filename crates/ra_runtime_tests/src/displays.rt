@@ -228,9 +228,9 @@ fn a_restore_takes_back_line_hits_and_numbers(rt: HostRuntime) -> Result<(), Fai
     Ok(())
 }
 
-const ANOTHER_LINE: &str = "BadState { at: 33, found: 2 }
+const ANOTHER_LINE: &str = "state 2 at 33
 presence 2 Twice
-BadState { at: 33, found: 255 }
+state 255 at 33
 presence 2 Twice
 taken
 presence 1 Twice

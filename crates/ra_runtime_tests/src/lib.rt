@@ -4,6 +4,8 @@
 #![tactic(auto)]
 
 #[cfg(test)]
+mod damaged;
+#[cfg(test)]
 mod displays;
 #[cfg(test)]
 mod items;

@@ -116,7 +116,8 @@ impl Played {
         accepted
     }
 
-    fn flip(&mut self, at: usize) {
+    /// Turns the lowest bit of one of the kept bytes.
+    pub fn flip(&mut self, at: usize) {
         if let Some(place) = self.kept.get_mut(at) {
             *place ^= 1;
         }

@@ -52,11 +52,11 @@ fn refused_bytes_change_nothing(rt: HostRuntime) -> Result<(), Fail> {
     Ok(())
 }
 
-const REFUSALS: &str = "WrongLength { wanted: 58, found: 57 }
-WrongMark { found: [0, 65, 80, 71] }
-WrongVersion { found: 9 }
-OtherSet { found: [0, 195, 32, 38, 163, 167, 182, 252, 26, 165, 61, 53, 93, 130, 186, 2] }
-BadState { at: 33, found: 7 }
+const REFUSALS: &str = "length 57 wanted 58
+mark 00415047 wanted 52415047
+version 9 wanted 1
+set 00c32026a3a7b6fc1aa53d355d82ba02 wanted 95c32026a3a7b6fc1aa53d355d82ba02
+state 7 at 33
 taken
 ";
 

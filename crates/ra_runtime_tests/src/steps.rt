@@ -157,18 +157,28 @@ fn tell_words(
 ) -> Result<(), OutOfMemory> {
     let bytes = played.runtime().save(alloc)?;
     for place in 0..count {
-        let word = word_at(&bytes, at.wrapping_add(place.wrapping_mul(4)));
-        let text = format!(in alloc; "{word} ")?;
-        put(out, text.as_bytes())?;
+        put_word(alloc, &bytes, at.wrapping_add(place.wrapping_mul(4)), out)?;
     }
     put(out, b"\n")
+}
+
+/// The number at a place of bytes, with a blank behind it.
+pub fn put_word(
+    alloc: Global,
+    bytes: &[u8],
+    at: usize,
+    out: &mut Vec<u8>,
+) -> Result<(), OutOfMemory> {
+    let word = word_at(bytes, at);
+    let text = format!(in alloc; "{word} ")?;
+    put(out, text.as_bytes())
 }
 
 fn tell_restore(alloc: Global, played: &mut Played, out: &mut Vec<u8>) -> Result<(), OutOfMemory> {
     match played.restore() {
         Ok(()) => put(out, b"taken\n"),
         Err(refused) => {
-            let text = format!(in alloc; "{refused:?}\n")?;
+            let text = format!(in alloc; "{refused}\n")?;
             put(out, text.as_bytes())
         }
     }
