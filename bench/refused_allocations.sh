@@ -1,9 +1,9 @@
 #!/bin/sh
 # Refuses each allocation of a job in turn: the n-th call of malloc or realloc answers none, for each n until a run makes
-# no such call any more. Prints for each job how many runs there were, and how many ended so:
+# no such call. Prints for each job how many runs there were, and how many ended so:
 #   1      status 1, and what was printed is a front of the whole text
 #   13     status 13: the system did not give the program its words
-#   same   the status and the text of the job without a refusal
+#   same   the status and the text of the job without a refusal: it did without the memory
 #   other  anything else, or a file of --save that changed though the status is not 0: there has to be none
 # usage: bench/refused_allocations.sh [PLAYER], where PLAYER is the built program; where it is not named it is found, or built
 set -eu
@@ -16,20 +16,25 @@ cat >"$folder/refuse.c" <<'C'
 #define _GNU_SOURCE
 #include <dlfcn.h>
 #include <stdlib.h>
-static long left(void) {
-    static long count = -1;
-    if (count < 0) { const char *words = getenv("REFUSE"); count = words ? atol(words) : 0; }
-    return count > 0 ? count-- : 0;
+#include <unistd.h>
+static int refused(void) {
+    static long left = -1;
+    if (left < 0) {
+        const char *words = getenv("REFUSE");
+        left = words ? atol(words) : 0;
+    }
+    if (left == 0 || --left > 0) return 0;
+    return write(2, "refused", 7) == 7;
 }
 void *malloc(size_t size) {
     static void *(*next)(size_t);
     if (!next) next = (void *(*)(size_t))dlsym(RTLD_NEXT, "malloc");
-    return left() == 1 ? 0 : next(size);
+    return refused() ? 0 : next(size);
 }
 void *realloc(void *old, size_t size) {
     static void *(*next)(void *, size_t);
     if (!next) next = (void *(*)(void *, size_t))dlsym(RTLD_NEXT, "realloc");
-    return left() == 1 ? 0 : next(old, size);
+    return refused() ? 0 : next(old, size);
 }
 C
 cc -O2 -shared -fPIC -o "$folder/refuse.so" "$folder/refuse.c" -ldl
@@ -48,8 +53,8 @@ def content(name):
 
 def run(words, refuse):
     environment = dict(os.environ, REFUSE=str(refuse), LD_PRELOAD=place("refuse.so"))
-    done = subprocess.run([player] + words, cwd=folder, env=environment, stdout=subprocess.PIPE, timeout=60)
-    return done.returncode, done.stdout
+    done = subprocess.run([player] + words, cwd=folder, env=environment, capture_output=True, timeout=60)
+    return done.returncode, done.stdout, done.stderr
 
 shutil.copy(os.path.join(examples, "small.set"), place("s"))
 shutil.copy(os.path.join(examples, "small.trace"), place("t"))
@@ -61,26 +66,22 @@ wrong = 0
 for words in ["run s t --save p", "run s t --restore old", "run s t --restore old --save p", "check s"]:
     whole = run(words.split(), 0)
     counts = {"1": 0, "13": 0, "same": 0, "other": 0}
-    refuse = 0
-    while True:
-        refuse += 1
+    for refuse in range(1, 100000):
         shutil.copy(place("kept"), place("p"))
-        found = run(words.split(), refuse)
-        kept = found[0] == 0 or content("p") == content("kept")
-        if found == whole:
+        status, text, told = run(words.split(), refuse)
+        if told != b"refused":
+            break
+        kept = status == 0 or content("p") == content("kept")
+        if (status, text) == whole[:2]:
             counts["same"] += 1
-        elif found[0] == 1 and whole[1].startswith(found[1]) and kept:
+        elif status == 1 and whole[1].startswith(text) and kept:
             counts["1"] += 1
-        elif found == (13, b""):
+        elif status == 13 and text == b"" and kept:
             counts["13"] += 1
         else:
             counts["other"] += 1
-            print("other:", words, "refused", refuse, "status", found[0])
-        # A run that goes as usual made fewer calls, or did without this one: three such in a row end the job.
-        counts_same = counts["same"]
-        if counts_same >= 3 or refuse >= 100000:
-            break
+            print("other:", words, "refused", refuse, "status", status)
     wrong += counts["other"]
-    print(f'{words}, {refuse}: {counts["1"]}, {counts["13"]}, {counts["same"]}, {counts["other"]}')
+    print(f'{words}, {refuse - 1}: {counts["1"]}, {counts["13"]}, {counts["same"]}, {counts["other"]}')
 sys.exit(1 if wrong else 0)
 P
