@@ -118,6 +118,7 @@ fn a_put_takes_the_place_of_a_file(rt: HostRuntime) -> Result<(), Fail> {
     assert_eq!(rt; files.put("placed.bin", b"one"), Ok(()));
     assert_eq!(rt; files.read_at("placed.bin", 0, &mut buf), Ok(3));
     assert_eq!(rt; fs::exists(&rt, "ra_put.0")?, false);
+    fs::remove_file(&rt, "placed.bin")?;
     Ok(())
 }
 
@@ -126,6 +127,7 @@ fn a_put_takes_the_place_of_a_file(rt: HostRuntime) -> Result<(), Fail> {
 fn a_put_that_fails_leaves_the_file(rt: HostRuntime) -> Result<(), Fail> {
     let mut files = RealFiles::new(&rt);
     let mut buf = [0u8; 8];
+    let _ = fs::remove_dir_all(&rt, "full");
     fs::create_dir(&rt, "full")?;
     assert_eq!(rt; files.put("full/kept.bin", b"hello"), Ok(()));
     for number in 0..1_000 {
@@ -134,5 +136,6 @@ fn a_put_that_fails_leaves_the_file(rt: HostRuntime) -> Result<(), Fail> {
     }
     assert_eq!(rt; files.put("full/kept.bin", b"one"), Err(PutFailed::Failed));
     assert_eq!(rt; files.read_at("full/kept.bin", 0, &mut buf), Ok(5));
+    fs::remove_dir_all(&rt, "full")?;
     Ok(())
 }
