@@ -278,7 +278,7 @@ pub fn read_job<'a>(alloc: Global, words: &'a [String]) -> Result<Option<Job<'a>
     match matches_of(alloc, words) {
         Ok(matches) => Ok(job_read(&matches)),
         Err(error) if error.kind() == ErrorKind::OutOfMemory => Err(OutOfMemory),
-        Err(_) => Ok(None),
+        Err(_) => unreachable!(),
     }
 }
 

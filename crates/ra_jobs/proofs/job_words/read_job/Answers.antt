@@ -11,8 +11,8 @@ returns-in-Ok c =
     let job : is_some (job_of (map string_bytes c.args.words.now)) ≡ true = search rules in
     c.job_read.ensures ∙ ap (option_and_then (λ found. job_given found.0 found.1)) c.in-Ok.ensures.found ∙ (job_taken (map string_bytes c.args.words.now) job).read
 
-pub returns : goal.returns
-returns c =
+pub unreachable-requires : goal.unreachable-requires
+unreachable-requires c =
     let job : is_some (job_of (map string_bytes c.args.words.now)) ≡ true = search rules in
     let kind = c.kind.ensures ∙ c.in-Err.ensures.passes (job_taken (map string_bytes c.args.words.now) job).taken in
     let same : c.eq.result ≡ true = c.eq.ensures ∙ rw kind refl in
