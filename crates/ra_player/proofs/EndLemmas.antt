@@ -3,7 +3,9 @@ use Rattle.std.proofs.Common.{◌∷◌, ◌≡◌, ◌⊎◌, inl, inr, ap, sym
 use Rattle.std.specs.List.{concat}
 use Rattle.ra_io.specs.Sink.{grown}
 use Rattle.ra_session.specs.Writing.{GrewByPart}
-use Rattle.ra_session.specs.Endings.{Ending, Done, NoMemory, NoJob, BadSet, ReadFault, SinkFault, BadProgress, BadTrace, LongTrace, SaveFault, status_of, last_line}
+use Rattle.ra_session.specs.Endings.{status_of, last_line}
+use Rattle.ra_session.specs.declared.ending.Ending.{Ending}
+use Rattle.ra_session.specs.declared.ending.Ending.TheVariants.{Done, NoMemory, NoJob, BadSet, ReadFault, SinkFault, BadProgress, BadTrace, LongTrace, SaveFault}
 use Rattle.ra_session.specs.Expected.{Expected, prints_nothing}
 use Rattle.ra_player.specs.Headline.{Decides, as_expected, save_failed, read_failed, Ends, whole, sink_failed, no_memory, IsFront}
 use Rattle.ra_session.specs.Closing.{Closes, Finishes, EndsBefore}
@@ -87,7 +89,7 @@ module _ (e : Expected) (reads puts sink : Type 0) (old mid new : Option (List �
   ends_with_line Done before finishes = as_told Done before.0 before.1 finishes
   ends_with_line NoJob before finishes = as_told NoJob before.0 before.1 finishes
   ends_with_line (BadSet why) before finishes = as_told (BadSet why) before.0 before.1 finishes
-  ends_with_line (BadProgress digest why) before finishes = as_told (BadProgress digest why) before.0 before.1 finishes
+  ends_with_line (BadProgress why) before finishes = as_told (BadProgress why) before.0 before.1 finishes
   ends_with_line (BadTrace at why) before finishes = as_told (BadTrace at why) before.0 before.1 finishes
   ends_with_line LongTrace before finishes = as_told LongTrace before.0 before.1 finishes
 

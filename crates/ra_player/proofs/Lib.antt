@@ -1,4 +1,4 @@
 pub mod EndLemmas
 pub mod AnswerLemmas
-pub mod WholeAnswers
+pub mod StatusLemmas
 pub mod LeavesLemmas

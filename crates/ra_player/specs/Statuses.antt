@@ -4,10 +4,13 @@ use Rattle.std.specs.List.{concat, AllByRecursion}
 use Rattle.ra_io.specs.Files.{SameContent}
 use Rattle.ra_jobs.specs.Words.{Job, reads_of, puts_of, puts_in, set_read, first_reads}
 use Rattle.ra_jobs.specs.JobWords.{job_of}
-use Rattle.ra_session.specs.Endings.{Ending, Done, NoJob, BadSet, BadProgress, BadTrace, LongTrace, status_of, last_line}
+use Rattle.ra_session.specs.Endings.{status_of, last_line}
 use Rattle.ra_session.specs.Expected.{Expected, JobSays}
-use Rattle.ra_session.specs.Running.{AreTold, HasSaved}
-use Rattle.ra_player.specs.Headline.{Outside, GrewBy, ReadsRose, PutsRose, SinkRose, PlaysAs, RefusesWords}
+use Rattle.ra_session.specs.Outside.{Outside, GrewBy, ReadsRose, PutsRose, SinkRose, AreTold}
+use Rattle.ra_session.specs.Running.{HasSaved, deciding}
+use Rattle.ra_session.specs.declared.ending.Ending.{Ending}
+use Rattle.ra_session.specs.declared.ending.Ending.TheVariants.{Done, NoMemory, NoJob, BadSet, ReadFault, SinkFault, BadProgress, BadTrace, LongTrace, SaveFault}
+use Rattle.ra_player.specs.Headline.{PlaysAs, RefusesWords}
 
 -- the statuses that a call of `play` may answer
 abbrev pub IsStatus : ℕ → Type 0
@@ -20,7 +23,7 @@ IsBadSet _ = ⊥
 
 -- the progress file was refused
 abbrev pub IsBadProgress : Ending → Type 0
-IsBadProgress (BadProgress digest why) = Unit {0}
+IsBadProgress (BadProgress why) = Unit {0}
 IsBadProgress _ = ⊥
 
 -- the trace was refused at its first bad record
@@ -37,44 +40,69 @@ module _ (words : List (List ℕ)) (old new : Outside) where
     pub said : AreTold old.content (deciding job)
         → (e : Expected) × JobSays old.content job e × Ends e.ending × GrewBy old new (concat e.pieces ++ last_line e.ending)
 
-  -- 2: the words are no job.
+  -- The words are no job.
   pub record IsNoJob : Type 0 where
     pub no_job : job_of words ≡ None
     pub text : GrewBy old new (last_line NoJob)
 
-  -- 4: a read of a file that the job reads failed.
+  -- A read of a file that the job reads failed, and one that decides how the job would have ended.
   pub record MeetsReadFault : Type 0 where
     pub job : Job
     pub is_job : job_of words ≡ Some job
     pub rose : ReadsRose (reads_of job) old new
+    pub decided : (e : Expected) → JobSays old.content job e → ReadsRose (deciding e.ending job) old new
 
-  -- 9: a put of the file that the job puts failed.
+  -- A put of the file that the job puts failed.
   pub record MeetsSaveFault : Type 0 where
     pub job : Job
     pub is_job : job_of words ≡ Some job
     pub rose : PutsRose (puts_of job) old new
 
-  -- What the words and the told files say is what is printed, whatever the status.
-  pub record PlaysWords (status : ℕ) : Type 0 where
-    pub no_job : job_of words ≡ None → RefusesWords old new status
-    pub job : (job : Job) (e : Expected) → job_of words ≡ Some job → JobSays old.content job e → PlaysAs job e old new status
+  -- The cause of each ending.
+  abbrev pub Cause : Ending → Type 0
+  Cause NoMemory = Unit {0}
+  Cause NoJob = IsNoJob
+  Cause ReadFault = MeetsReadFault
+  Cause SinkFault = SinkRose old new
+  Cause SaveFault = MeetsSaveFault
+  Cause ending = EndsAsSaid (deciding ending) (λ said. said ≡ ending)
 
-  -- No read of the files of the job failed in the call, no put of its file, and no write.
-  pub record MeetsNoFault (job : Job) : Type 0 where
-    pub read : ReadsRose (reads_of job) old new → ⊥
-    pub put : PutsRose (puts_of job) old new → ⊥
+  -- What the words and the told files say is what is printed, whatever the status.
+  pub record PlaysWords (deciding : Ending → Job → List (List ℕ)) (status : ℕ) : Type 0 where
+    pub no_job : job_of words ≡ None → RefusesWords old new status
+    pub job : (job : Job) (e : Expected) → job_of words ≡ Some job → JobSays old.content job e → PlaysAs deciding job e old new status
+
+  -- What a call that answers this status did: there is an ending of this status that has its cause.
+  pub record Answers (status : ℕ) : Type 0 where
+    pub ending : Ending
+    pub is : status ≡ status_of ending
+    pub cause : Cause ending
+    pub printed : PlaysWords deciding status
+
+  -- What a call that answers this status leaves of the files: no name changes but the one that the words put, and that
+  -- one only where the job was done, and then it has the bytes of what is kept; or where a put of it failed.
+  pub record LeavesFiles (status : ℕ) : Type 0 where
+    pub others : (name : List ℕ) → AllByRecursion (λ put. name ≢ put) (puts_in (job_of words)) → new.content name ≡ old.content name
+    pub only : (status ≡ 0) ⊎ (PutsRose (puts_in (job_of words)) old new ⊎ SameContent old.content new.content)
+    pub saved : status ≡ 0 → (job : Job) (e : Expected) → job_of words ≡ Some job → JobSays old.content job e → HasSaved job e old.content new.content
+
+  -- No read of these files failed in the call, no put of the job's file where the job would be done, and no write.
+  pub record MeetsNoFault (reads : List (List ℕ)) (job : Job) (e : Expected) : Type 0 where
+    pub read : ReadsRose reads old new → ⊥
+    pub put : e.ending ≡ Done → PutsRose (puts_of job) old new → ⊥
     pub write : SinkRose old new → ⊥
 
-  -- Without a fault a job is done as the told files say, and all of it is printed, unless memory was wanting.
-  abbrev pub IsWhole : ℕ → Type 0
-  IsWhole status = (job : Job) (e : Expected) → job_of words ≡ Some job → JobSays old.content job e → MeetsNoFault job
+  -- Without a fault of what decides a job is done as the told files say, and all of it is printed, unless memory was
+  -- wanting.
+  abbrev pub IsWhole : (deciding : Ending → Job → List (List ℕ)) → ℕ → Type 0
+  IsWhole deciding status = (job : Job) (e : Expected) → job_of words ≡ Some job → JobSays old.content job e → MeetsNoFault (deciding e.ending job) job e
       → (status ≡ 1) ⊎ ((status ≡ status_of e.ending) × GrewBy old new (concat e.pieces ++ last_line e.ending))
 
-  -- What a call that answers this status did.
-  pub record Answers (status : ℕ) : Type 0 where
+  -- The same, status by status.
+  pub record SaysEachStatus (status : ℕ) : Type 0 where
     pub known : IsStatus status
-    pub printed : PlaysWords status
-    pub whole : IsWhole status
+    pub printed : PlaysWords (λ ending. reads_of) status
+    pub whole : IsWhole (λ ending. reads_of) status
     pub done : status ≡ 0 → EndsAsSaid reads_of (λ ending. ending ≡ Done)
     pub no_job : status ≡ 2 → IsNoJob
     pub set : status ≡ 3 → EndsAsSaid set_read IsBadSet
@@ -84,10 +112,3 @@ module _ (words : List (List ℕ)) (old new : Outside) where
     pub trace : status ≡ 7 → EndsAsSaid reads_of IsBadTrace
     pub long : status ≡ 8 → EndsAsSaid reads_of (λ ending. ending ≡ LongTrace)
     pub save : status ≡ 9 → MeetsSaveFault
-
-  -- What a call that answers this status leaves of the files: no name changes but the one that the words put, and that
-  -- one only where the job was done, and then it has the bytes of what is kept; or where a put of it failed.
-  pub record LeavesFiles (status : ℕ) : Type 0 where
-    pub others : (name : List ℕ) → AllByRecursion (λ put. name ≢ put) (puts_in (job_of words)) → new.content name ≡ old.content name
-    pub only : (status ≡ 0) ⊎ (PutsRose (puts_in (job_of words)) old new ⊎ SameContent old.content new.content)
-    pub saved : status ≡ 0 → (job : Job) (e : Expected) → job_of words ≡ Some job → JobSays old.content job e → HasSaved job e old.content new.content

@@ -1,16 +1,47 @@
 //! The top call: does what the words say, over any files and any output.
 
-ghost use Rattle.std.specs.Prelude.{map, string_bytes};
-ghost use Rattle.ra_player.specs.Headline.{outside_of};
+ghost use Rattle.std.specs.Prelude.{◌≤◌, map, string_bytes};
+ghost use Rattle.ra_jobs.specs.JobWords.{job_contents};
+ghost use Rattle.ra_session.specs.Outside.{outside_of};
+ghost use Rattle.ra_session.specs.Running.{Leaves, Ran};
 ghost use Rattle.ra_player.specs.Statuses.{Answers, LeavesFiles};
 
 use ra_io::{Files, Sink};
 use ra_jobs::{Job, read_job};
-use ra_session::{RunFiles, check_job, finish, make_job, put_last, run_job};
+use ra_session::{Ending, RunFiles, check_job, finish, make_job, run_job};
 use std::alloc::Global;
 
-const USAGE: &str =
-    "usage: ra_player run SET TRACE [--restore FILE] [--save FILE] | check SET | make N\n";
+// Does a job, up to its last line.
+fn do_job<F: Files, K: Sink>(alloc: Global, job: &Job<'_>, files: &mut F, out: &mut K) -> Ending
+    ensures ran { Ran (job_contents job.now)
+        (outside_of (F.content files.old) (F.read_faults files.old) (F.put_faults files.old) (K.text out.old) (K.faults out.old))
+        (outside_of (F.content files.new) (F.read_faults files.new) (F.put_faults files.new) (K.text out.new) (K.faults out.new))
+        result }
+    ensures leaves { Leaves (job_contents job.now)
+        (outside_of (F.content files.old) (F.read_faults files.old) (F.put_faults files.old) (K.text out.old) (K.faults out.old))
+        (outside_of (F.content files.new) (F.read_faults files.new) (F.put_faults files.new) (K.text out.new) (K.faults out.new))
+        result }
+    ensures later { K.faults out.old ≤ K.faults out.new }
+{
+    match *job {
+        Job::Run {
+            set,
+            trace,
+            restore,
+            save,
+        } => {
+            let run = RunFiles {
+                set,
+                trace,
+                restore,
+                save,
+            };
+            run_job(alloc, &run, files, out)
+        }
+        Job::Check { set } => check_job(alloc, set, files, out),
+        Job::Make { number } => make_job(alloc, number, out),
+    }
+}
 
 /// Does what the words after the program's name say, and answers the status:
 /// docs/DEFINITIONS.md, "Statuses".
@@ -27,34 +58,12 @@ pub fn play<F: Files, K: Sink>(alloc: Global, words: &[String], files: &mut F, o
         (outside_of (F.content files.new) (F.read_faults files.new) (F.put_faults files.new) (K.text out.new) (K.faults out.new))
         result }
 {
-    let job = match read_job(alloc, words) {
-        Ok(Some(job)) => job,
-        Ok(None) => return put_last(2, USAGE, out),
-        Err(_) => return 1,
-    };
-    match job {
-        Job::Run {
-            set,
-            trace,
-            restore,
-            save,
-        } => {
-            let run = RunFiles {
-                set,
-                trace,
-                restore,
-                save,
-            };
-            let ending = run_job(alloc, &run, files, out);
+    match read_job(alloc, words) {
+        Ok(Some(job)) => {
+            let ending = do_job(alloc, &job, files, out);
             finish(alloc, ending, out)
         }
-        Job::Check { set } => {
-            let ending = check_job(alloc, set, files, out);
-            finish(alloc, ending, out)
-        }
-        Job::Make { number } => {
-            let ending = make_job(alloc, number, out);
-            finish(alloc, ending, out)
-        }
+        Ok(None) => finish(alloc, Ending::NoJob, out),
+        Err(_) => 1,
     }
 }

@@ -1,129 +1,101 @@
--- A check of a set, up to its last line.
-use Rattle.std.proofs.Common.{◌≡◌, ◌⊎◌, inl, inr, ap, sym, subst, refl, ◌∙◌, ℕ, ◌+◌, take, List, [], ◌∷◌, append-nil, true, Option, Some, is_some, Result, Ok, Err, OnOk, IfErr}
-use Rattle.std.specs.List.{concat, AllByRecursion}
-use Rattle.std.specs.Result.{IsErrAnd}
-use Rattle.ra_io.specs.Sink.{grown}
-use Rattle.ra_set.specs.declared.refused.SetRefused.{SetRefused}
-use Rattle.ra_set.specs.Accepted.{IsSet}
+-- A job that prints one line: a check of a set, and a workload.
+use Rattle.std.proofs.Common.{◌≡◌, ap, sym, subst, refl, ◌∙◌, ℕ, take, List, [], ◌∷◌}
+use Rattle.std.specs.List.{concat}
+use Rattle.ra_set.proofs.AnswerLemmas.{one-refusal, set-not_refused, same-set}
 use Rattle.ra_set.specs.Contents.{SetContents}
-use Rattle.ra_set.specs.Refusals.{Refuses}
-use Rattle.ra_jobs.specs.Words.{Check}
-use Rattle.ra_session.specs.Endings.{Done, BadSet, ReadFault, SinkFault, SaveFault}
-use Rattle.ra_session.specs.Expected.{Expected, JobSays, CheckSays, refuses_set, counts, check_line, prints_nothing, set_limit}
-use Rattle.ra_session.specs.Closing.{EndsBefore, ending_at, ending_of_stop}
-use Rattle.ra_session.specs.Running.{Ran, IsTold, deciding}
-use Rattle.ra_session.specs.Writing.{GrewByPart}
-use Rattle.ra_session.specs.declared.stop.Stop.{Stop as Stopped}
-use Rattle.ra_session.specs.declared.stop.Stop.TheVariants as stop
+use Rattle.ra_jobs.specs.Words.{Job, Check}
+use Rattle.ra_session.specs.Expected.{Expected, JobSays, CheckSays, refuses_set, counts, check_line, prints_line, prints_nothing}
+use Rattle.ra_session.specs.Closing.{EndsBefore}
+use Rattle.ra_session.specs.Failures.{ending_of_set}
+use Rattle.ra_session.specs.Loading.{HasNoSet, IsTaken}
+use Rattle.ra_session.specs.Outside.{Outside, ReadsRose, SinkRose, AreTold}
+use Rattle.ra_io.specs.Causes.{Rose}
+use Rattle.ra_session.specs.Running.{Ran, IsTold, IsCounted, PrintsSoFar, deciding}
+use Rattle.ra_session.specs.declared.ending.Ending.{Ending}
+use Rattle.ra_session.specs.declared.ending.Ending.TheVariants.{NoMemory, NoJob, BadSet, ReadFault, SinkFault, BadProgress, SaveFault}
+use Rattle.ra_session.specs.declared.failures.SetFailed.{SetFailed}
+use Rattle.ra_session.specs.declared.failures.SetFailed.TheVariants as set_failed
 use Rattle.ra_session.proofs.Pieces.{grown-nil}
 use Rattle.ra_session.proofs.Parts.{part_none}
 use Rattle.ra_session.proofs.ReadLemmas.{check_read}
-use Rattle.ra_session.proofs.RunLemmas.{StoppedAtSet, cut_at, file_of}
-use Rattle.ra_session.proofs.StopLemmas.{read_stop, write_stop, save_stop, set_not_write, set_not_save}
+use Rattle.ra_session.proofs.LoadLemmas.{never_bad}
+use Rattle.ra_session.proofs.RunLemmas.{any_first, file_of, set_read_of}
 
-module _ (content : List ℕ → Option (List ℕ)) (set : List ℕ) (reads puts sink : Type 0) (old : Option (List ℕ)) where
-  check_says : (e : Expected) (s : Stopped) → StoppedAtSet content set reads s → CheckSays content set e → EndsBefore e reads puts sink (ending_of_stop s) old old
-  check_says e s at (refuses_set file why told refuses) = elim (at.bad file why told refuses) [
-    | inl memory ↦ cut_at e reads puts sink old s (check_read content set e (refuses_set file why told refuses)) at.read (inl memory)
-    | inr rest ↦ elim rest [
-      | inl fault ↦ cut_at e reads puts sink old s (check_read content set e (refuses_set file why told refuses)) at.read (inr fault)
-      | inr is ↦ subst (λ (k : Stopped). EndsBefore e reads puts sink (ending_of_stop k) old old) (sym is) (refl, sym (grown-nil old))
-    ]
-  ]
-  check_says e s at (counts file c told is) = cut_at e reads puts sink old s (check_read content set e (counts file c told is)) at.read (at.accepted file c told is)
+-- ---- a line that is all that a job prints
 
-  check_said : (s : Stopped) → StoppedAtSet content set reads s → IsTold (ending_of_stop s) → AllByRecursion (λ name. is_some (content name) ≡ true) (deciding (ending_of_stop s) (Check set))
-      → (e : Expected) × JobSays content (Check set) e × (e.ending ≡ ending_of_stop s)
-  check_said (stop.Set why) at is told = let file = file_of content set told.0 in (prints_nothing (BadSet why), refuses_set file.0 why file.1 (at.refused why refl file.0 file.1), refl)
-  check_said (stop.Trace place why) at is told = absurd at.kind
-  check_said stop.TooLong at is told = absurd at.kind
-  check_said (stop.Progress digest why) at is told = absurd at.kind
-  check_said _ at is told = absurd is
+module _ (job : Job) (old new : Outside) (line : List ℕ) where
+  -- what is counted of it, whatever the job counts
+  line_counted : (ending : Ending) → EndsBefore (prints_line line) ⊥ ⊥ (SinkRose old new) ending old.text new.text → IsCounted job old new ending
+  line_counted ReadFault before = absurd before.0
+  line_counted SaveFault before = absurd before.0
+  line_counted SinkFault before = before.0
+  line_counted NoJob before = absurd (let bad = before.0 in cc)
+  line_counted _ before = tt
 
-  -- a check that was stopped at its set
-  pub checked_at_set : (s : Stopped) (r : Result (Unit {0}) Stopped) → IsErrAnd r (λ k. k ≡ s) → StoppedAtSet content set reads s → Ran content (Check set) reads puts sink (ending_at r) old old
-  checked_at_set s (Ok done) is at = absurd is
-  checked_at_set s (Err k) is at = subst (λ (k : Stopped). Ran content (Check set) reads puts sink (ending_of_stop k) old old) (sym is) (record {
-    printed = λ e says. check_says e s at says;
-    said = λ told files. check_said s at told files;
-    read = λ end. at.read (read_stop s end);
-    wrote = λ end. absurd (set_not_write s at.kind (write_stop s end));
-    put = λ end. absurd (set_not_save s at.kind (save_stop s end));
-  })
+  line_prints : (e : Expected) (ending : Ending) → e ≡ prints_line line → EndsBefore (prints_line line) ⊥ ⊥ (SinkRose old new) ending old.text new.text → PrintsSoFar job old new ending e
+  line_prints e ending is before = subst (PrintsSoFar job old new ending) (sym is) (with_faults ending before)
+    where
+      with_faults : (ending : Ending) → EndsBefore (prints_line line) ⊥ ⊥ (SinkRose old new) ending old.text new.text → PrintsSoFar job old new ending (prints_line line)
+      with_faults ReadFault before = absurd before.0
+      with_faults SaveFault before = absurd before.0
+      with_faults _ before = before
 
-  -- What was printed of a set that was accepted.
-  pub record CountedSet (c : SetContents) (new : Option (List ℕ)) (r : Result (Unit {0}) Stopped) : Type 0 where
-    pub is_set : (file : List ℕ) → content set ≡ Some file → IsSet file c
-    pub one : (file : List ℕ) (d : SetContents) → content set ≡ Some file → IsSet file d → c ≡ d
-    pub good : (file : List ℕ) (why : SetRefused) → content set ≡ Some file → Refuses (take (set_limit + 1) file) why → ⊥
-    pub whole : OnOk r (new ≡ grown old (check_line c))
-    pub part : GrewByPart old new (check_line c)
-    pub why : IfErr r (λ s. (s ≡ stop.Memory) ⊎ ((s ≡ stop.Write) × sink))
-
-  abbrev line_of_set : SetContents → Expected
-  line_of_set c = record { pieces = check_line c ∷ []; ending = Done; saved = [] }
-
-  one_piece : (c : SetContents) → concat (check_line c ∷ []) ≡ check_line c
-  one_piece c = append-nil (check_line c)
-
-  line_ends : (c : SetContents) (new : Option (List ℕ)) (r : Result (Unit {0}) Stopped) → CountedSet c new r → EndsBefore (line_of_set c) reads puts sink (ending_at r) old new
-  line_ends c new (Ok done) p = (refl, p.whole ∙ ap (grown old) (sym (one_piece c)))
-  line_ends c new (Err s) p =
-      let part : GrewByPart old new (concat (check_line c ∷ [])) = subst (GrewByPart old new) (sym (one_piece c)) p.part in
-      elim p.why [
-        | inl memory ↦ subst (λ (k : Stopped). EndsBefore (line_of_set c) reads puts sink (ending_of_stop k) old new) (sym memory) part
-        | inr write ↦ subst (λ (k : Stopped). EndsBefore (line_of_set c) reads puts sink (ending_of_stop k) old new) (sym write.0) (write.1, part)
-      ]
-
-  line_says : (c : SetContents) (new : Option (List ℕ)) (r : Result (Unit {0}) Stopped) → CountedSet c new r → (e : Expected) → CheckSays content set e → EndsBefore e reads puts sink (ending_at r) old new
-  line_says c new r p e (refuses_set file why told refuses) = absurd (p.good file why told refuses)
-  line_says c new r p e (counts file d told is) = subst (λ (k : SetContents). EndsBefore (line_of_set k) reads puts sink (ending_at r) old new) (p.one file d told is) (line_ends c new r p)
-
-  line_said : (c : SetContents) (new : Option (List ℕ)) (r : Result (Unit {0}) Stopped) → CountedSet c new r → IsTold (ending_at r) → AllByRecursion (λ name. is_some (content name) ≡ true) (deciding (ending_at r) (Check set))
-      → (e : Expected) × JobSays content (Check set) e × (e.ending ≡ ending_at r)
-  line_said c new (Ok done) p is told = let file = file_of content set told.0 in (line_of_set c, counts file.0 c file.1 (p.is_set file.0 file.1), refl)
-  line_said c new (Err (stop.Set why)) p is told = elim p.why [ inl memory ↦ absurd (cc) | inr write ↦ let bad = write.0 in absurd (cc) ]
-  line_said c new (Err (stop.Trace at why)) p is told = elim p.why [ inl memory ↦ absurd (cc) | inr write ↦ let bad = write.0 in absurd (cc) ]
-  line_said c new (Err (stop.Progress digest why)) p is told = elim p.why [ inl memory ↦ absurd (cc) | inr write ↦ let bad = write.0 in absurd (cc) ]
-  line_said c new (Err stop.TooLong) p is told = elim p.why [ inl memory ↦ absurd (cc) | inr write ↦ let bad = write.0 in absurd (cc) ]
-  line_said c new _ p is told = absurd is
-
-  -- why a line was not written
-  line_why : (s : Stopped) → (s ≡ stop.Memory) ⊎ ((s ≡ stop.Write) × sink) → (k : Stopped) → s ≡ k → (k ≡ stop.Memory → ⊥) → (k ≡ stop.Write → ⊥) → ⊥
-  line_why s why k is no_memory no_write = elim why [ inl memory ↦ no_memory (sym is ∙ memory) | inr write ↦ no_write (sym is ∙ write.0) ]
-
-  never_read : (r : Result (Unit {0}) Stopped) → IfErr r (λ s. (s ≡ stop.Memory) ⊎ ((s ≡ stop.Write) × sink)) → ending_at r ≡ ReadFault → ⊥
-  never_read (Ok done) why is = absurd (cc)
-  never_read (Err s) why is = line_why s why stop.Read (read_stop s is) (λ bad. absurd (cc)) (λ bad. absurd (cc))
-
-  never_put : (r : Result (Unit {0}) Stopped) → IfErr r (λ s. (s ≡ stop.Memory) ⊎ ((s ≡ stop.Write) × sink)) → ending_at r ≡ SaveFault → ⊥
-  never_put (Ok done) why is = absurd (cc)
-  never_put (Err s) why is = line_why s why stop.Save (save_stop s is) (λ bad. absurd (cc)) (λ bad. absurd (cc))
-
-  wrote_rose : (r : Result (Unit {0}) Stopped) → IfErr r (λ s. (s ≡ stop.Memory) ⊎ ((s ≡ stop.Write) × sink)) → ending_at r ≡ SinkFault → sink
-  wrote_rose (Ok done) why is = absurd (cc)
-  wrote_rose (Err s) why is = elim why [
-    | inl memory ↦ let bad : stop.Memory ≡ stop.Write = sym memory ∙ write_stop s is in absurd (cc)
-    | inr write ↦ write.1
-  ]
-
-  -- a check whose set was accepted
-  pub checked : (c : SetContents) (new : Option (List ℕ)) (r : Result (Unit {0}) Stopped) → CountedSet c new r → Ran content (Check set) reads puts sink (ending_at r) old new
-  checked c new r p = record {
-    printed = λ e says. line_says c new r p e says;
-    said = λ told files. line_said c new r p told files;
-    read = λ is. absurd (never_read r p.why is);
-    wrote = λ is. wrote_rose r p.why is;
-    put = λ is. absurd (never_put r p.why is);
+  -- a job of which its line was written, or a front of it
+  pub ran_line : (ending : Ending) → ((e : Expected) → JobSays old.content job e → e ≡ prints_line line) → (AreTold old.content (deciding ending job) → (e : Expected) × JobSays old.content job e) → EndsBefore (prints_line line) ⊥ ⊥ (SinkRose old new) ending old.text new.text → Ran job old new ending
+  ran_line ending says said before = record {
+    printed = λ e is. line_prints e ending (says e is) before;
+    said = λ told files. said files;
+    counted = line_counted ending before;
   }
 
-  -- a check that had no memory for its line
-  pub checked_no_memory : (c : SetContents) (r : Result (Unit {0}) Stopped) → IsErrAnd r (λ k. k ≡ stop.Memory) → Ran content (Check set) reads puts sink (ending_at r) old old
-  checked_no_memory c (Ok done) is = absurd is
-  checked_no_memory c (Err k) is = subst (λ (k : Stopped). Ran content (Check set) reads puts sink (ending_of_stop k) old old) (sym is) (record {
-    printed = λ e says. part_none old old (concat e.pieces) refl;
-    said = λ told files. absurd told;
-    read = λ is. absurd (cc);
-    wrote = λ is. absurd (cc);
-    put = λ is. absurd (cc);
+-- a job that wanted memory before it printed
+pub ran_without_memory : (job : Job) (old new : Outside) → new.text ≡ old.text → Ran job old new NoMemory
+ran_without_memory job old new same = record {
+  printed = λ e says. part_none old.text new.text (concat e.pieces) same;
+  said = λ told. absurd told;
+  counted = tt;
+}
+
+-- ---- a check
+
+module _ (set : List ℕ) (old new : Outside) where
+  -- the set decides each ending of a check
+  check_decides : (ending : Ending) → deciding ending (Check set) ≡ set ∷ []
+  check_decides (BadSet why) = refl
+  check_decides (BadProgress why) = refl
+  check_decides _ = refl
+
+  no_set_prints : (e : Expected) (failed : SetFailed) → HasNoSet (old.content set) (Rose (old.read_faults set) (new.read_faults set)) failed → CheckSays old.content set e → new.text ≡ old.text → PrintsSoFar (Check set) old new (ending_of_set failed) e
+  no_set_prints e set_failed.Memory lacks says same = part_none old.text new.text (concat e.pieces) same
+  no_set_prints e set_failed.Read lacks says same =
+      (subst (λ names. ReadsRose names old new) (sym (check_decides e.ending)) (any_first _ set [] lacks), (0, check_read old.content set e says, same ∙ sym (grown-nil old.text)))
+  no_set_prints e (set_failed.Refused why) lacks (refuses_set file found told refuses) same = (ap BadSet (one-refusal (take 4194305 file) found why refuses (lacks file told)), same ∙ sym (grown-nil old.text))
+  no_set_prints e (set_failed.Refused why) lacks (counts file c told is) same = absurd (set-not_refused (take 4194305 file) c why (set_read_of (take 4194305 file) file c refl is) (lacks file told))
+
+  no_set_said : (failed : SetFailed) → HasNoSet (old.content set) (Rose (old.read_faults set) (new.read_faults set)) failed → IsTold (ending_of_set failed) → AreTold old.content (deciding (ending_of_set failed) (Check set)) → (e : Expected) × CheckSays old.content set e
+  no_set_said (set_failed.Refused why) lacks is told = let file = file_of old.content set told.0 in (prints_nothing (BadSet why), refuses_set file.0 why file.1 (lacks file.0 file.1))
+  no_set_said set_failed.Memory lacks is told = absurd is
+  no_set_said set_failed.Read lacks is told = absurd is
+
+  no_set_counted : (failed : SetFailed) → HasNoSet (old.content set) (Rose (old.read_faults set) (new.read_faults set)) failed → IsCounted (Check set) old new (ending_of_set failed)
+  no_set_counted set_failed.Read lacks = any_first _ set [] lacks
+  no_set_counted set_failed.Memory lacks = tt
+  no_set_counted (set_failed.Refused why) lacks = tt
+
+  -- a check that has lacks set
+  pub checked_no_set : (failed : SetFailed) (ending : Ending) → ending ≡ ending_of_set failed → HasNoSet (old.content set) (Rose (old.read_faults set) (new.read_faults set)) failed → new.text ≡ old.text → Ran (Check set) old new ending
+  checked_no_set failed ending is lacks same = subst (Ran (Check set) old new) (sym is) (record {
+    printed = λ e says. no_set_prints e failed lacks says same;
+    said = λ told files. no_set_said failed lacks told files;
+    counted = no_set_counted failed lacks;
   })
+
+  check_says : (c : SetContents) → IsTaken (old.content set) c → (e : Expected) → CheckSays old.content set e → e ≡ prints_line (check_line c)
+  check_says c taken e (refuses_set file why told refuses) = absurd (never_bad (old.content set) c taken file why told refuses)
+  check_says c taken e (counts file d told is) = ap (λ (s : SetContents). prints_line (check_line s)) (same-set file d c is (taken.is_set file told))
+
+  -- a check whose set was accepted
+  pub checked : (c : SetContents) (ending : Ending) → IsTaken (old.content set) c → EndsBefore (prints_line (check_line c)) ⊥ ⊥ (SinkRose old new) ending old.text new.text → Ran (Check set) old new ending
+  checked c ending taken before = ran_line (Check set) old new (check_line c) ending (check_says c taken) (λ told.
+      let file = file_of old.content set (subst (AreTold old.content) (check_decides ending) told).0 in
+      (prints_line (check_line c), counts file.0 c file.1 (taken.is_set file.0 file.1))) before

@@ -1,13 +1,10 @@
--- Counts of the items of a set, and hexadecimal digits.
-use Rattle.std.proofs.Common.{ℕ, ◌≡◌, ◌<◌, ◌/◌, ◌%◌, ◌==◌, ◌≤◌, ◌∙◌, take, ap, List, [], ◌∷◌, map, sum_by, length, slice_index, suc, true, refl, arith, ap₂}
-use Rattle.std.proofs.lemmas.Bool.{agree_below_at, eqb-true}
+-- Counts of the items of a set.
+use Rattle.std.proofs.Common.{ℕ, ◌≡◌, ◌≤◌, ◌∙◌, take, ap, List, [], ◌∷◌, map, sum_by, length, refl, arith}
 use Rattle.std.proofs.lemmas.List.{take_all}
 use Rattle.std.proofs.lemmas.List.Sums.{sum_by-cons}
-use Rattle.hex.specs.Hex.{encode_lower, encode_with, lower_digits}
 use Rattle.ra_set.specs.Contents.{ItemContents, Unlocks, Ranks, item_contents}
 use Rattle.ra_set.specs.declared.item.Item.{Item}
 use Rattle.ra_set.specs.declared.item.Item.TheVariants as item
-use Rattle.ra_session.specs.Endings.{hex, hex_digit}
 use Rattle.ra_session.specs.Expected.{achievements_in, boards_in}
 
 -- 1 for an achievement
@@ -40,15 +37,3 @@ module _ (items : List Item) (index count : ℕ) (end : length items ≤ index) 
 
   pub boards_counted : count ≡ sum_by (λ item. ranks (item_contents item)) (take index items) → count ≡ boards_in (map item_contents items)
   boards_counted h = h ∙ ap (sum_by (λ item. ranks (item_contents item))) all_items ∙ boards_sum items
-
--- a digit by its table
-digit_is : (d : ℕ) → d < 16 → slice_index lower_digits d ≡ hex_digit d
-digit_is d h = eqb-true _ _ (agree_below_at (λ n. slice_index lower_digits n == hex_digit n) (λ n. true) 16 d refl h)
-
--- two digits a byte
-pub hex_text : (bytes : List ℕ) → ((i : ℕ) → slice_index bytes i < 256) → encode_lower bytes ≡ hex bytes
-unfolding encode_with
-hex_text [] small = refl
-hex_text (b ∷ bytes) small =
-    let b_small : b < 256 = small 0 in
-    ap₂ (λ (d : ℕ) (ds : List ℕ). d ∷ ds) (digit_is (b / 16) (omega (arith, b_small))) (ap₂ (λ (d : ℕ) (ds : List ℕ). d ∷ ds) (digit_is (b % 16) (omega arith)) (hex_text bytes (λ i. small (suc i))))

@@ -13,7 +13,7 @@ use Rattle.ra_runtime.specs.Play.{Moment, moved, first_moment}
 use Rattle.ra_session.specs.Endings.{ending_of}
 use Rattle.ra_session.specs.Expected.{trace_limit}
 use Rattle.ra_session.specs.Playing.{IsLeft, TakesEmpty}
-use Rattle.ra_session.specs.Closing.{stop_of_trace, ending_of_stop}
+use Rattle.ra_session.specs.Failures.{ending_of_trace, trace_failed}
 use Rattle.ra_session.proofs.SlotRefusals.{by_slots}
 
 abbrev Next : Type 0
@@ -68,7 +68,7 @@ some_same : {A : Type 0} (x y : A) → Some x ≡ Some y → x ≡ y
 some_same x y same = cc
 
 -- how a reader is stopped, and how the trace ends there
-stopped_as : (why : TraceError) (stop : Stop) → IsStop why (Some stop) → (why ≡ errors.Read → ⊥) → ending_of stop ≡ ending_of_stop (stop_of_trace why)
+stopped_as : (why : TraceError) (stop : Stop) → IsStop why (Some stop) → (why ≡ errors.Read → ⊥) → ending_of stop ≡ ending_of_trace (trace_failed why)
 stopped_as (errors.Refused at why) stop is other = ap ending_of (some_same stop (RefusedAt at why) is)
 stopped_as errors.TooLong stop is other = ap ending_of (some_same stop PastLimit is)
 stopped_as errors.Read stop is other = absurd (other refl)
@@ -92,14 +92,14 @@ module _ (bytes : List ℕ) (m : Moment) (reader : ReaderSeen) (left : Pieces) (
   bad_left why some = is.is ∙ cut_bad (cut is.more is.size) (refusal is.size filled seen) why filled reader.next seen some
 
   refused_by : (why : TraceError) (refused : Option Why) → refusal is.size (replicate 16 true) seen ≡ refused → IsStop why (option_map (λ w. stop_within full (RefusedAt reader.next w)) refused) → (why ≡ errors.Read → ⊥)
-      → (left.entries ≡ []) × (ending_of (stop_within full left.stop) ≡ ending_of_stop (stop_of_trace why))
+      → (left.entries ≡ []) × (ending_of (stop_within full left.stop) ≡ ending_of_trace (trace_failed why))
   refused_by why None here stop other = absurd (never_none why stop other)
   refused_by why (Some w) here stop other =
       let bad = bad_left w ((by_slots is.size m seen).refused w here) in
       (ap (λ (p : Pieces). p.entries) bad, ap (λ (p : Pieces). ending_of (stop_within full p.stop)) bad ∙ stopped_as why (stop_within full (RefusedAt reader.next w)) stop other)
 
   -- a reader that is stopped is stopped as the trace says
-  pub left_refused : (why : TraceError) → IsStop why (next_stop trace_limit is.size reader.next bytes) → (why ≡ errors.Read → ⊥) → (left.entries ≡ []) × (ending_of (stop_within full left.stop) ≡ ending_of_stop (stop_of_trace why))
+  pub left_refused : (why : TraceError) → IsStop why (next_stop trace_limit is.size reader.next bytes) → (why ≡ errors.Read → ⊥) → (left.entries ≡ []) × (ending_of (stop_within full left.stop) ≡ ending_of_trace (trace_failed why))
   left_refused why stop other = refused_by why (refusal is.size (replicate 16 true) seen) refl stop other
 
   module _ (entry : Entry) (stands : Stands trace_limit is.size reader.next entry bytes) where

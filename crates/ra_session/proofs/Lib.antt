@@ -1,12 +1,12 @@
 pub mod Whole
 pub mod Pieces
+pub mod Stays
 pub mod Parts
 pub mod SlotRefusals
 pub mod LeftLemmas
 pub mod TraceLemmas
 pub mod StandLemmas
 pub mod NextLemmas
-pub mod StopLemmas
 pub mod ReadLemmas
 pub mod SaysLemmas
 pub mod LengthLemmas

@@ -1,165 +1,175 @@
 -- What a run begins with, and what its files then say.
-use Rattle.std.proofs.Common.{◌≡◌, ◌⊎◌, inl, inr, ap, sym, subst, refl, ◌∙◌, ℕ, ◌+◌, take, List, [], ◌∷◌, Option, Some, None}
+use Rattle.std.proofs.Common.{◌≡◌, ap, sym, subst, refl, ◌∙◌, ℕ, ◌+◌, take, List, [], ◌∷◌, Option, Some, None}
+use Rattle.std.specs.List.{concat}
 use Rattle.std.proofs.lemmas.Option.{none-some}
+use Rattle.ra_io.specs.Causes.{Rose}
 use Rattle.ra_io.specs.Files.{SameContent}
 use Rattle.ra_memory.specs.Image.{History, AreImages}
 use Rattle.ra_set.specs.declared.refused.SetRefused.{SetRefused}
 use Rattle.ra_set.specs.Accepted.{IsSet}
 use Rattle.ra_set.specs.Contents.{SetContents}
 use Rattle.ra_set.specs.Refusals.{Refuses}
+use Rattle.ra_set.proofs.AnswerLemmas.{one-refusal, set-not_refused, same-set}
 use Rattle.ra_progress.specs.declared.refused.ProgressRefused.{ProgressRefused}
 use Rattle.ra_progress.specs.Contents.{Opening, IsOpening}
 use Rattle.ra_progress.specs.Spelling.{progress_bytes}
 use Rattle.ra_progress.specs.Reading.{length_of, refusal, says}
+use Rattle.ra_trace.specs.Cutting.{Stop, Reached, RefusedAt, PastLimit}
 use Rattle.ra_runtime.specs.Order.{shape_of}
 use Rattle.ra_runtime.specs.Openings.{snapshot, plain_opening}
-use Rattle.ra_jobs.specs.Words.{Run, file_in}
-use Rattle.ra_session.specs.Endings.{BadSet, BadProgress}
+use Rattle.ra_jobs.specs.Words.{Job, Run, file_in, reads_of}
+use Rattle.ra_session.specs.Endings.{ending_of}
 use Rattle.ra_session.specs.Expected.{Expected, RunSays, refuses_set, refuses_file, begins, goes_on, played, prints_nothing, set_limit}
-use Rattle.ra_session.specs.Closing.{ending_of_stop}
-use Rattle.ra_session.specs.Loading.{BeginsAt, AreAccepted, AreOfFile, IsRefusal, RefusesFile, StopsAtFile, IsLoaded, IsOfLoading, EndsSoonAs, StopsLoading}
-use Rattle.ra_session.specs.Playing.{IsPlayable}
-use Rattle.ra_session.specs.Running.{AreTold, IsTold, deciding}
-use Rattle.ra_session.specs.declared.stop.Stop.{Stop}
-use Rattle.ra_session.specs.declared.stop.Stop.TheVariants as stop
-use Rattle.ra_session.proofs.RunLemmas.{StoppedAtSet, file_of}
+use Rattle.ra_session.specs.Failures.{ending_of_load}
+use Rattle.ra_session.specs.Loading.{BeginsAt, AreAccepted, AreOfFile, RefusesFile, IsTaken, HasNoProgress, IsLoaded, IsNotLoaded}
+use Rattle.ra_session.specs.Outside.{Outside, AnyRose, AreTold}
+use Rattle.ra_session.specs.Running.{IsTold, deciding, PrintsSoFar, IsCounted, Ran}
+use Rattle.ra_session.specs.declared.ending.Ending.{Ending}
+use Rattle.ra_session.specs.declared.ending.Ending.TheVariants.{BadSet, BadProgress}
+use Rattle.ra_session.specs.declared.failures.SetFailed.TheVariants as no_set
+use Rattle.ra_session.specs.declared.failures.ProgressFailed.{ProgressFailed}
+use Rattle.ra_session.specs.declared.failures.ProgressFailed.TheVariants as no_file
+use Rattle.ra_session.specs.declared.failures.LoadFailed.{LoadFailed}
+use Rattle.ra_session.specs.declared.failures.LoadFailed.TheVariants as load
+use Rattle.ra_session.proofs.Parts.{part_none}
+use Rattle.ra_session.proofs.Pieces.{grown-nil}
+use Rattle.ra_session.proofs.ReadLemmas.{run_read}
+use Rattle.ra_session.proofs.RunLemmas.{any_first, any_later, file_of, set_read_of}
 use Rattle.ra_session.proofs.StandLemmas.{comes_back_of}
-use Rattle.ra_session.proofs.StopLemmas.{set_is_loading}
 use Rattle.ra_session.proofs.SaysLemmas.{says_begins, whole_accepted}
 
 same_in : {T : Type 0} (x y : T) → Some x ≡ Some y → x ≡ y
 same_in x y same = cc
 
-module _ (content : List ℕ → Option (List ℕ)) (set : List ℕ) where
-  -- the set of a run stopped it
-  cut_soon : (e : Expected) (s : Stop) → (s ≡ stop.Memory) ⊎ (s ≡ stop.Read) → EndsSoonAs e s
-  cut_soon e s (inl memory) = inl memory
-  cut_soon e s (inr read) = inr (inl read)
+-- a set that was accepted is not refused
+pub never_bad : (file : Option (List ℕ)) (c : SetContents) → IsTaken file c → (bytes : List ℕ) (why : SetRefused) → file ≡ Some bytes → Refuses (take (set_limit + 1) bytes) why → ⊥
+never_bad file c taken bytes why told refuses =
+    set-not_refused (take 4194305 bytes) c why (set_read_of (take 4194305 bytes) bytes c refl (taken.is_set bytes told)) refuses
 
-  refused_soon : (why : SetRefused) (s : Stop) → (s ≡ stop.Memory) ⊎ ((s ≡ stop.Read) ⊎ (s ≡ stop.Set why)) → EndsSoonAs (prints_nothing (BadSet why)) s
-  refused_soon why s (inl memory) = inl memory
-  refused_soon why s (inr (inl read)) = inr (inl read)
-  refused_soon why s (inr (inr is)) = inr (inr (ap ending_of_stop (sym is), refl))
+-- What a run says whose set is this one.
+pub data SaysOf (content : List ℕ → Option (List ℕ)) (trace : List ℕ) (c : SetContents) : Option (List ℕ) → Expected → Type 0 where
+  bad_file : (name file : List ℕ) (why : ProgressRefused) → content name ≡ Some file → refusal (shape_of c) (take (length_of (shape_of c) + 1) file) ≡ Some why → SaysOf content trace c (Some name) (prints_nothing (BadProgress why))
+  anew : (file : List ℕ) → content trace ≡ Some file → SaysOf content trace c None (played c (plain_opening c) [] file)
+  again : (name file : List ℕ) (o : Opening) (behind : History) → content trace ≡ Some file → content name ≡ Some (progress_bytes c.digest (snapshot c o behind)) → IsOpening (shape_of c) o → AreImages behind → SaysOf content trace c (Some name) (played c o behind file)
 
-  set_says : (reads : Type 0) (trace : List ℕ) (restore : Option (List ℕ)) (e : Expected) (s : Stop) → StoppedAtSet content set reads s → RunSays content set trace restore e → EndsSoonAs e s
-  set_says reads trace restore e s at (refuses_set file why told refuses) = refused_soon why s (at.bad file why told refuses)
-  set_says reads trace restore e s at (refuses_file name set_file file c why told_set told_file is refused) = cut_soon e s (at.accepted set_file c told_set is)
-  set_says reads trace restore e s at (begins set_file trace_file c told_set told_trace is) = cut_soon e s (at.accepted set_file c told_set is)
-  set_says reads trace restore e s at (goes_on name set_file trace_file c o behind told_set told_trace told_file is opening images) = cut_soon e s (at.accepted set_file c told_set is)
+pub says_of : (content : List ℕ → Option (List ℕ)) (set trace : List ℕ) (restore : Option (List ℕ)) (c : SetContents) (e : Expected) → IsTaken (content set) c → RunSays content set trace restore e → SaysOf content trace c restore e
+says_of content set trace restore c e taken (refuses_set file why told refuses) = absurd (never_bad (content set) c taken file why told refuses)
+says_of content set trace restore c e taken (refuses_file name set_file file d why told_set told_file is refused) =
+    subst (λ (s : SetContents). refusal (shape_of s) (take (length_of (shape_of s) + 1) file) ≡ Some why → SaysOf content trace c (Some name) (prints_nothing (BadProgress why)))
+    (same-set set_file c d (taken.is_set set_file told_set) is) (λ lacks. bad_file name file why told_file lacks) refused
+says_of content set trace restore c e taken (begins set_file trace_file d told_set told_trace is) =
+    subst (λ (s : SetContents). SaysOf content trace c None (played s (plain_opening s) [] trace_file)) (same-set set_file c d (taken.is_set set_file told_set) is) (anew trace_file told_trace)
+says_of content set trace restore c e taken (goes_on name set_file trace_file d o behind told_set told_trace told_file is opening images) =
+    subst (λ (s : SetContents). content name ≡ Some (progress_bytes s.digest (snapshot s o behind)) → IsOpening (shape_of s) o → SaysOf content trace c (Some name) (played s o behind trace_file))
+    (same-set set_file c d (taken.is_set set_file told_set) is) (λ told fits. again name trace_file o behind told_trace told fits images) told_file opening
 
-  set_said : (reads : Type 0) (trace : List ℕ) (restore save : Option (List ℕ)) (s : Stop) → StoppedAtSet content set reads s → IsTold (ending_of_stop s) → AreTold content (deciding (ending_of_stop s) (Run set trace restore save))
-      → (e : Expected) × RunSays content set trace restore e × (e.ending ≡ ending_of_stop s)
-  set_said reads trace restore save (stop.Set why) at is told = let file = file_of content set told.0 in (prints_nothing (BadSet why), refuses_set file.0 why file.1 (at.refused why refl file.0 file.1), refl)
-  set_said reads trace restore save (stop.Progress digest why) at is told = absurd at.kind
-  set_said reads trace restore save (stop.Trace place why) at is told = absurd at.kind
-  set_said reads trace restore save stop.TooLong at is told = absurd at.kind
-  set_said reads trace restore save _ at is told = absurd is
+-- all files of a job decide how its trace ends
+pub stop_decides : (s : Stop) (job : Job) → deciding (ending_of s) job ≡ reads_of job
+stop_decides (Reached at) job = refl
+stop_decides (RefusedAt at why) job = refl
+stop_decides PastLimit job = refl
 
-  pub stopped_at_set : (reads : Type 0) (restore : Option (List ℕ)) (s : Stop) → StoppedAtSet content set reads s → StopsLoading content set restore reads s
-  stopped_at_set reads restore s at = record {
-    kind = set_is_loading s at.kind;
-    says = λ trace e says. set_says reads trace restore e s at says;
-    said = λ trace save is told. set_said reads trace restore save s at is told;
-    read = at.read;
-  }
+module _ (set trace : List ℕ) (save : Option (List ℕ)) (old new : Outside) where
+  abbrev job : Option (List ℕ) → Job
+  job restore = Run set trace restore save
 
-  -- A set that was accepted.
-  pub record IsTaken (c : SetContents) : Type 0 where
-    pub playable : IsPlayable c
-    pub is_set : (file : List ℕ) → content set ≡ Some file → IsSet file c
-    pub one : (file : List ℕ) (d : SetContents) → content set ≡ Some file → IsSet file d → c ≡ d
-    pub good : (file : List ℕ) (why : SetRefused) → content set ≡ Some file → Refuses (take (set_limit + 1) file) why → ⊥
+  abbrev Rises : List (List ℕ) → Type 0
+  Rises names = AnyRose old.read_faults new.read_faults names
 
-  -- its progress file stopped the run
-  refused_as : (c d : SetContents) (name file : List ℕ) (why : ProgressRefused) (s : Stop) → c ≡ d → content name ≡ Some file → refusal (shape_of d) (take (length_of (shape_of d) + 1) file) ≡ Some why
-      → StopsAtFile c content (Some name) s → EndsSoonAs (prints_nothing (BadProgress d.digest why)) s
-  refused_as c d name file why stop.Memory same told refused at = inl refl
-  refused_as c d name file why stop.Read same told refused at = inr (inl refl)
-  refused_as c d name file why (stop.Progress digest found) same told refused at =
-      let named : name ≡ at.name = same_in name at.name at.named in
-      let here : refusal (shape_of c) (take (length_of (shape_of c) + 1) file) ≡ Some found = at.refused file (ap content (sym named) ∙ told) in
-      let there : refusal (shape_of c) (take (length_of (shape_of c) + 1) file) ≡ Some why = ap (λ (s : SetContents). refusal (shape_of s) (take (length_of (shape_of s) + 1) file)) same ∙ refused in
-      let own : d.digest ≡ digest = ap (λ (s : SetContents). s.digest) (sym same) ∙ sym at.own in
-      let why_same : why ≡ found = same_in why found (sym there ∙ here) in
-      inr (inr ((λ i. BadProgress (own i) (why_same i)), refl))
-  refused_as c d name file why _ same told refused at = absurd at
+  -- the set decides each ending
+  set_decides : (restore : Option (List ℕ)) (ending : Ending) → Rose (old.read_faults set) (new.read_faults set) → Rises (deciding ending (job restore))
+  set_decides restore (BadSet why) rose = any_first _ set [] rose
+  set_decides restore (BadProgress why) rose = any_first _ set (file_in restore) rose
+  set_decides restore _ rose = any_first _ set (trace ∷ file_in restore) rose
 
-  -- a file that is accepted, or none, stops no run
-  never_stopped : (c : SetContents) (restore : Option (List ℕ)) (e : Expected) (s : Stop) → ((digest : List ℕ) (why : ProgressRefused) → RefusesFile c content restore digest why → ⊥) → StopsAtFile c content restore s → EndsSoonAs e s
-  never_stopped c restore e stop.Memory never at = inl refl
-  never_stopped c restore e stop.Read never at = inr (inl refl)
-  never_stopped c restore e (stop.Progress digest why) never at = absurd (never digest why at)
-  never_stopped c restore e _ never at = absurd at
+  -- and so does the progress file, where the set is accepted
+  file_decides : (c : SetContents) (restore : Option (List ℕ)) (e : Expected) → SaysOf old.content trace c restore e → Rises (file_in restore) → Rises (deciding e.ending (job restore))
+  file_decides c _ e (bad_file name file why told refused) rose = any_later _ set (file_in (Some name)) rose
+  file_decides c _ e (anew file told) rose = subst Rises (sym (stop_decides _ (job None))) (any_later _ set (trace ∷ []) (any_later _ trace [] rose))
+  file_decides c _ e (again name file o behind told kept opening images) rose = subst Rises (sym (stop_decides _ (job (Some name)))) (any_later _ set (trace ∷ name ∷ []) (any_later _ trace (name ∷ []) rose))
 
-  kept_accepted : (c d : SetContents) (o : Opening) (behind : History) → c ≡ d → IsPlayable c → IsOpening (shape_of d) o → AreImages behind → refusal (shape_of c) (progress_bytes d.digest (snapshot d o behind)) ≡ None
-  kept_accepted c d o behind same playable opening images =
-      let own : IsOpening (shape_of c) o = subst (λ (s : SetContents). IsOpening (shape_of s) o) (sym same) opening in
-      ap (λ (s : SetContents). refusal (shape_of c) (progress_bytes s.digest (snapshot s o behind))) (sym same) ∙ (comes_back_of c o behind playable own images).accepted
+  -- why bytes are refused has one answer
+  refused_so : (c : SetContents) (restore : Option (List ℕ)) (e : Expected) (found : ProgressRefused) → IsTaken (old.content set) c → SaysOf old.content trace c restore e → RefusesFile c old.content restore found → new.text ≡ old.text → PrintsSoFar (job restore) old new (BadProgress found) e
+  refused_so c _ e found taken (bad_file name file why told refused) at same =
+      let here = at.refused file (ap old.content (sym (same_in name at.name at.named)) ∙ told) in
+      (ap BadProgress (same_in why found (sym refused ∙ here)), same ∙ sym (grown-nil old.text))
+  refused_so c _ e found taken (anew file told) at same = absurd (none-some at.name at.named)
+  refused_so c _ e found taken (again name file o behind told kept opening images) at same =
+      let good = whole_accepted c _ (comes_back_of c o behind taken.playable opening images).accepted in
+      absurd (none-some found (sym good ∙ at.refused _ (ap old.content (sym (same_in name at.name at.named)) ∙ kept)))
 
-  never_kept : (c : SetContents) (name file : List ℕ) → content name ≡ Some file → refusal (shape_of c) file ≡ None → (digest : List ℕ) (why : ProgressRefused) → RefusesFile c content (Some name) digest why → ⊥
-  never_kept c name file told none digest why at =
-      let named : name ≡ at.name = same_in name at.name at.named in
-      none-some why (sym (whole_accepted c file none) ∙ at.refused file (ap content (sym named) ∙ told))
+  never_set : (file : List ℕ) (d : SetContents) (why : SetRefused) → old.content set ≡ Some file → IsSet file d → Refuses (take (set_limit + 1) file) why → ⊥
+  never_set file d why told is refuses = set-not_refused (take 4194305 file) d why (set_read_of (take 4194305 file) file d refl is) refuses
 
-  file_says : (trace : List ℕ) (restore : Option (List ℕ)) (c : SetContents) (e : Expected) (s : Stop) → IsTaken c → StopsAtFile c content restore s → RunSays content set trace restore e → EndsSoonAs e s
-  file_says trace restore c e s taken at (refuses_set file why told refuses) = absurd (taken.good file why told refuses)
-  file_says trace restore c e s taken at (refuses_file name set_file file d why told_set told_file is refused) = refused_as c d name file why s (taken.one set_file d told_set is) told_file refused at
-  file_says trace restore c e s taken at (begins set_file trace_file d told_set told_trace is) = never_stopped c None e s (λ digest why refused. none-some refused.name refused.named) at
-  file_says trace restore c e s taken at (goes_on name set_file trace_file d o behind told_set told_trace told_file is opening images) =
-      never_stopped c (Some name) e s (never_kept c name _ told_file (kept_accepted c d o behind (taken.one set_file d told_set is) taken.playable opening images)) at
+  abbrev Lacks : Option (List ℕ) → LoadFailed → Type 0
+  Lacks restore failed = IsNotLoaded old.content old.read_faults new.read_faults set restore failed
 
-  file_said : (trace : List ℕ) (restore save : Option (List ℕ)) (c : SetContents) (s : Stop) → IsTaken c → StopsAtFile c content restore s → IsTold (ending_of_stop s) → AreTold content (deciding (ending_of_stop s) (Run set trace restore save))
-      → (e : Expected) × RunSays content set trace restore e × (e.ending ≡ ending_of_stop s)
-  file_said trace restore save c (stop.Progress digest why) taken at is told =
-      let set_file = file_of content set told.0 in
-      let named = subst (λ (r : Option (List ℕ)). AreTold content (file_in r)) at.named told.1 in
-      let file = file_of content at.name named.0 in (
-        prints_nothing (BadProgress c.digest why),
-        subst (λ (r : Option (List ℕ)). RunSays content set trace r (prints_nothing (BadProgress c.digest why))) (sym at.named)
+  -- what a run has printed that has no set
+  no_set_prints : (restore : Option (List ℕ)) (e : Expected) (why : SetRefused) → Lacks restore (load.Set (no_set.Refused why)) → RunSays old.content set trace restore e → new.text ≡ old.text → PrintsSoFar (job restore) old new (BadSet why) e
+  no_set_prints restore e why lacks (refuses_set file found told refuses) same = (ap BadSet (one-refusal (take 4194305 file) found why refuses (lacks file told)), same ∙ sym (grown-nil old.text))
+  no_set_prints restore e why lacks (refuses_file name set_file file d found told_set told_file is refused) same = absurd (never_set set_file d why told_set is (lacks set_file told_set))
+  no_set_prints restore e why lacks (begins set_file trace_file d told_set told_trace is) same = absurd (never_set set_file d why told_set is (lacks set_file told_set))
+  no_set_prints restore e why lacks (goes_on name set_file trace_file d o behind told_set told_trace told_file is opening images) same = absurd (never_set set_file d why told_set is (lacks set_file told_set))
+
+  -- what a run has printed that did not begin
+  not_begun : (restore : Option (List ℕ)) (e : Expected) (failed : LoadFailed) → Lacks restore failed → RunSays old.content set trace restore e → new.text ≡ old.text → PrintsSoFar (job restore) old new (ending_of_load failed) e
+  not_begun restore e (load.Set no_set.Memory) lacks says same = part_none old.text new.text (concat e.pieces) same
+  not_begun restore e (load.Set no_set.Read) lacks says same = (set_decides restore e.ending lacks, (0, run_read old.content set trace restore e says, same ∙ sym (grown-nil old.text)))
+  not_begun restore e (load.Set (no_set.Refused why)) lacks says same = no_set_prints restore e why lacks says same
+  not_begun restore e (load.Progress no_file.Memory) lacks says same = part_none old.text new.text (concat e.pieces) same
+  not_begun restore e (load.Progress no_file.Read) lacks says same =
+      (file_decides lacks.0 restore e (says_of old.content set trace restore lacks.0 e lacks.1 says) lacks.2, (0, run_read old.content set trace restore e says, same ∙ sym (grown-nil old.text)))
+  not_begun restore e (load.Progress (no_file.Refused why)) lacks says same =
+      refused_so lacks.0 restore e why lacks.1 (says_of old.content set trace restore lacks.0 e lacks.1 says) lacks.2 same
+
+  -- its files say so
+  not_begun_said : (restore : Option (List ℕ)) (failed : LoadFailed) → Lacks restore failed → IsTold (ending_of_load failed) → AreTold old.content (deciding (ending_of_load failed) (job restore)) → (e : Expected) × RunSays old.content set trace restore e
+  not_begun_said restore (load.Set (no_set.Refused why)) lacks is told =
+      let file = file_of old.content set told.0 in
+      (prints_nothing (BadSet why), refuses_set file.0 why file.1 (lacks file.0 file.1))
+  not_begun_said restore (load.Progress (no_file.Refused why)) lacks is told =
+      let (c, taken, at) = lacks in
+      let set_file = file_of old.content set told.0 in
+      let named = subst (λ (r : Option (List ℕ)). AreTold old.content (file_in r)) at.named told.1 in
+      let file = file_of old.content at.name named.0 in (
+        prints_nothing (BadProgress why),
+        subst (λ (r : Option (List ℕ)). RunSays old.content set trace r (prints_nothing (BadProgress why))) (sym at.named)
             (refuses_file at.name set_file.0 file.0 c why set_file.1 file.1 (taken.is_set set_file.0 set_file.1) (at.refused file.0 file.1)),
-        ap (λ d. BadProgress d why) (sym at.own),
       )
-  file_said trace restore save c (stop.Set w) taken at is told = absurd at
-  file_said trace restore save c (stop.Trace place w) taken at is told = absurd at
-  file_said trace restore save c stop.TooLong taken at is told = absurd at
-  file_said trace restore save c _ taken at is told = absurd is
+  not_begun_said restore (load.Set no_set.Memory) lacks is told = absurd is
+  not_begun_said restore (load.Set no_set.Read) lacks is told = absurd is
+  not_begun_said restore (load.Progress no_file.Memory) lacks is told = absurd is
+  not_begun_said restore (load.Progress no_file.Read) lacks is told = absurd is
 
-  file_is_loading : (c : SetContents) (restore : Option (List ℕ)) (s : Stop) → StopsAtFile c content restore s → IsOfLoading s
-  file_is_loading c restore stop.Memory at = tt
-  file_is_loading c restore (stop.Progress digest why) at = tt
-  file_is_loading c restore stop.Read at = tt
-  file_is_loading c restore _ at = absurd at
+  not_begun_counted : (restore : Option (List ℕ)) (failed : LoadFailed) → Lacks restore failed → IsCounted (job restore) old new (ending_of_load failed)
+  not_begun_counted restore (load.Set no_set.Memory) lacks = tt
+  not_begun_counted restore (load.Set no_set.Read) lacks = any_first _ set (trace ∷ file_in restore) lacks
+  not_begun_counted restore (load.Set (no_set.Refused why)) lacks = tt
+  not_begun_counted restore (load.Progress no_file.Memory) lacks = tt
+  not_begun_counted restore (load.Progress no_file.Read) lacks = any_later _ set (trace ∷ file_in restore) (any_later _ trace (file_in restore) lacks.2)
+  not_begun_counted restore (load.Progress (no_file.Refused why)) lacks = tt
 
-  pub stopped_at_file : (reads : Type 0) (restore : Option (List ℕ)) (c : SetContents) (s : Stop) → IsTaken c → StopsAtFile c content restore s → (s ≡ stop.Read → reads) → StopsLoading content set restore reads s
-  stopped_at_file reads restore c s taken at read = record {
-    kind = file_is_loading c restore s at;
-    says = λ trace e says. file_says trace restore c e s taken at says;
-    said = λ trace save is told. file_said trace restore save c s taken at is told;
-    read = read;
-  }
+  -- a run that did not begin
+  pub ran_not_begun : (restore : Option (List ℕ)) (failed : LoadFailed) (ending : Ending) → ending ≡ ending_of_load failed → Lacks restore failed → new.text ≡ old.text → Ran (job restore) old new ending
+  ran_not_begun restore failed ending is lacks same = subst (Ran (job restore) old new) (sym is) (record {
+    printed = λ e says. not_begun restore e failed lacks says same;
+    said = λ told files. not_begun_said restore failed lacks told files;
+    counted = not_begun_counted restore failed lacks;
+  })
 
 -- what judged bytes say of their file
-pub refused_at : (content : List ℕ → Option (List ℕ)) (c : SetContents) (name bytes : List ℕ) (s : Stop) → IsRefusal c bytes s → ((file : List ℕ) → content name ≡ Some file → bytes ≡ take (length_of (shape_of c) + 1) file) → StopsAtFile c content (Some name) s
-refused_at content c name bytes (stop.Progress digest why) is read = record {
+pub refused_at : (content : List ℕ → Option (List ℕ)) (c : SetContents) (name bytes : List ℕ) (why : ProgressRefused) → refusal (shape_of c) bytes ≡ Some why → ((file : List ℕ) → content name ≡ Some file → bytes ≡ take (length_of (shape_of c) + 1) file) → RefusesFile c content (Some name) why
+refused_at content c name bytes why is read = record {
   name = name;
   named = refl;
-  own = is.0;
-  refused = λ file told. ap (refusal (shape_of c)) (sym (read file told)) ∙ is.1;
+  refused = λ file told. ap (refusal (shape_of c)) (sym (read file told)) ∙ is;
 }
-refused_at content c name bytes stop.Memory is read = absurd is
-refused_at content c name bytes (stop.Set w) is read = absurd is
-refused_at content c name bytes stop.Read is read = absurd is
-refused_at content c name bytes stop.Write is read = absurd is
-refused_at content c name bytes (stop.Trace place w) is read = absurd is
-refused_at content c name bytes stop.TooLong is read = absurd is
-refused_at content c name bytes stop.Save is read = absurd is
 
 -- the contents after a read are those before
-pub stops_since : (a b : List ℕ → Option (List ℕ)) (c : SetContents) (restore : Option (List ℕ)) (s : Stop) → SameContent a b → StopsAtFile c b restore s → StopsAtFile c a restore s
-stops_since a b c restore (stop.Progress digest why) same at = record { name = at.name; named = at.named; own = at.own; refused = λ file told. at.refused file (same.each at.name ∙ told) }
-stops_since a b c restore stop.Memory same at = at
-stops_since a b c restore stop.Read same at = at
-stops_since a b c restore _ same at = absurd at
+pub not_progress_since : (a b : List ℕ → Option (List ℕ)) (c : SetContents) (restore : Option (List ℕ)) (some all : Type 0) (failed : ProgressFailed) → SameContent a b → (some → all) → HasNoProgress c b restore some failed → HasNoProgress c a restore all failed
+not_progress_since a b c restore some all no_file.Memory same f lacks = lacks
+not_progress_since a b c restore some all no_file.Read same f lacks = f lacks
+not_progress_since a b c restore some all (no_file.Refused why) same f lacks = record { name = lacks.name; named = lacks.named; refused = λ file told. lacks.refused file (same.each lacks.name ∙ told) }
 
 pub of_file_since : (a b : List ℕ → Option (List ℕ)) (restore progress : Option (List ℕ)) → SameContent a b → AreOfFile b restore progress → AreOfFile a restore progress
 of_file_since a b None progress same of_file = of_file
@@ -179,46 +189,32 @@ pub begins_somewhere : (c : SetContents) (progress : Option (List ℕ)) → AreA
 begins_somewhere c None accepted = (plain_opening c, [], (refl, refl))
 begins_somewhere c (Some bytes) accepted = (says (shape_of c) bytes, [], says_begins c bytes accepted)
 
+-- what the files of a run say whose set and progress file were accepted
+plays_from : (content : List ℕ → Option (List ℕ)) (trace : List ℕ) (restore : Option (List ℕ)) (c : SetContents) (progress : Option (List ℕ)) (e : Expected) → SaysOf content trace c restore e → AreAccepted c progress → AreOfFile content restore progress → PlaysFrom content trace c progress e
+plays_from content trace _ c progress e (bad_file name file why told refused) accepted (bytes, is, whole) =
+    let own : AreAccepted c (Some bytes) = subst (AreAccepted c) is accepted in
+    let none : refusal (shape_of c) file ≡ None = ap (refusal (shape_of c)) (sym (whole file told)) ∙ own.1 in
+    absurd (none-some why (sym (whole_accepted c file none) ∙ refused))
+plays_from content trace _ c progress e (anew file told) accepted none = record {
+  opening = plain_opening c;
+  behind = [];
+  file = file;
+  at = subst (λ (p : Option (List ℕ)). BeginsAt c p (plain_opening c) []) (sym none) (refl, refl);
+  told = told;
+  is = refl;
+}
+plays_from content trace _ c progress e (again name file o behind told kept opening images) accepted (bytes, is, whole) = record {
+  opening = o;
+  behind = behind;
+  file = file;
+  at = subst (λ (p : Option (List ℕ)). BeginsAt c p o behind) (sym is) (opening, images, whole _ kept);
+  told = told;
+  is = refl;
+}
+
 module _ (content : List ℕ → Option (List ℕ)) (set trace : List ℕ) where
-  file_accepted : (c d : SetContents) (name file : List ℕ) (progress : Option (List ℕ)) → c ≡ d → content name ≡ Some file → AreAccepted c progress → AreOfFile content (Some name) progress → refusal (shape_of d) (take (length_of (shape_of d) + 1) file) ≡ None
-  file_accepted c d name file progress same told accepted (bytes, is, whole) =
-      let own : AreAccepted c (Some bytes) = subst (AreAccepted c) is accepted in
-      let none : refusal (shape_of d) file ≡ None = ap (λ (s : SetContents). refusal (shape_of s) file) (sym same) ∙ ap (refusal (shape_of c)) (sym (whole file told)) ∙ own.1 in
-      whole_accepted d file none
-
-  goes_from : (c d : SetContents) (name trace_file : List ℕ) (o : Opening) (behind : History) (progress : Option (List ℕ)) → c ≡ d → content trace ≡ Some trace_file → content name ≡ Some (progress_bytes d.digest (snapshot d o behind)) → IsOpening (shape_of d) o → AreImages behind
-      → AreOfFile content (Some name) progress → PlaysFrom content trace c progress (played d o behind trace_file)
-  goes_from c d name trace_file o behind progress same told_trace told opening images (bytes, is, whole) = record {
-    opening = o;
-    behind = behind;
-    file = trace_file;
-    at = subst (λ (p : Option (List ℕ)). BeginsAt c p o behind) (sym is) (
-      subst (λ (s : SetContents). IsOpening (shape_of s) o) (sym same) opening,
-      images,
-      whole _ told ∙ ap (λ (s : SetContents). progress_bytes s.digest (snapshot s o behind)) (sym same),
-    );
-    told = told_trace;
-    is = ap (λ (s : SetContents). played s o behind trace_file) (sym same);
-  }
-
-  begins_from : (c d : SetContents) (trace_file : List ℕ) (progress : Option (List ℕ)) → c ≡ d → content trace ≡ Some trace_file → progress ≡ None → PlaysFrom content trace c progress (played d (plain_opening d) [] trace_file)
-  begins_from c d trace_file progress same told none = record {
-    opening = plain_opening c;
-    behind = [];
-    file = trace_file;
-    at = subst (λ (p : Option (List ℕ)). BeginsAt c p (plain_opening c) []) (sym none) (refl, refl);
-    told = told;
-    is = ap (λ (s : SetContents). played s (plain_opening s) [] trace_file) (sym same);
-  }
-
-  -- what the files of a run say whose set and progress file were accepted
   pub loaded_says : (restore : Option (List ℕ)) (c : SetContents) (progress : Option (List ℕ)) (e : Expected) → IsLoaded content set restore c progress → RunSays content set trace restore e → PlaysFrom content trace c progress e
-  loaded_says restore c progress e loaded (refuses_set file why told refuses) = absurd (loaded.good file why told refuses)
-  loaded_says restore c progress e loaded (refuses_file name set_file file d why told_set told_file is refused) =
-      absurd (none-some why (sym (file_accepted c d name file progress (loaded.one set_file d told_set is) told_file loaded.accepted loaded.of_file) ∙ refused))
-  loaded_says restore c progress e loaded (begins set_file trace_file d told_set told_trace is) = begins_from c d trace_file progress (loaded.one set_file d told_set is) told_trace loaded.of_file
-  loaded_says restore c progress e loaded (goes_on name set_file trace_file d o behind told_set told_trace told_file is opening images) =
-      goes_from c d name trace_file o behind progress (loaded.one set_file d told_set is) told_trace told_file opening images loaded.of_file
+  loaded_says restore c progress e loaded says = plays_from content trace restore c progress e (says_of content set trace restore c e loaded.taken says) loaded.accepted loaded.of_file
 
   -- and what is played is said by them
   pub loaded_said : (restore : Option (List ℕ)) (c : SetContents) (progress : Option (List ℕ)) (o : Opening) (behind : History) (trace_file : List ℕ) → IsLoaded content set restore c progress → AreTold content (set ∷ trace ∷ file_in restore) → content trace ≡ Some trace_file
@@ -227,7 +223,7 @@ module _ (content : List ℕ → Option (List ℕ)) (set trace : List ℕ) where
       let set_file = file_of content set told.0 in
       let none : progress ≡ None = loaded.of_file in
       let plain : BeginsAt c None o behind = subst (λ (p : Option (List ℕ)). BeginsAt c p o behind) none at in
-      let says : RunSays content set trace None (played c (plain_opening c) [] trace_file) = begins set_file.0 trace_file c set_file.1 told_trace (loaded.is_set set_file.0 set_file.1) in
+      let says : RunSays content set trace None (played c (plain_opening c) [] trace_file) = begins set_file.0 trace_file c set_file.1 told_trace (loaded.taken.is_set set_file.0 set_file.1) in
       subst (λ (k : Opening). RunSays content set trace None (played c k behind trace_file)) (sym plain.0)
       (subst (λ (h : History). RunSays content set trace None (played c (plain_opening c) h trace_file)) (sym plain.1) says)
   loaded_said (Some name) c progress o behind trace_file loaded told told_trace at =
@@ -235,4 +231,4 @@ module _ (content : List ℕ → Option (List ℕ)) (set trace : List ℕ) where
       let (bytes, is, whole) = loaded.of_file in
       let file = file_of content name told.1.1.0 in
       let kept : BeginsAt c (Some bytes) o behind = subst (λ (p : Option (List ℕ)). BeginsAt c p o behind) is at in
-      goes_on name set_file.0 trace_file c o behind set_file.1 told_trace (file.1 ∙ ap Some (sym (whole file.0 file.1) ∙ kept.2)) (loaded.is_set set_file.0 set_file.1) kept.0 kept.1
+      goes_on name set_file.0 trace_file c o behind set_file.1 told_trace (file.1 ∙ ap Some (sym (whole file.0 file.1) ∙ kept.2)) (loaded.taken.is_set set_file.0 set_file.1) kept.0 kept.1

@@ -1,5 +1,5 @@
 -- What reading and playing the next record does.
-use Rattle.std.proofs.Common.{◌≡◌, ap, sym, subst, refl, ◌∙◌, ℕ, length, nat_le, List, [], ◌++◌, Bool, true, false, Option, Some, IfSome, Result, Ok, Err, IfOk, ◌⊎◌, inl, inr}
+use Rattle.std.proofs.Common.{◌≡◌, ap, sym, subst, refl, ◌∙◌, ℕ, length, nat_le, List, [], ◌++◌, Bool, true, false, Option, Some, IfSome, Result, Ok, Err, IfOk}
 use Rattle.std.specs.Bool.{⊤}
 use Rattle.std.specs.List.{concat}
 use Rattle.std.specs.Result.{IsErrAnd}
@@ -16,13 +16,16 @@ use Rattle.ra_trace.specs.Cutting.{Pieces, RefusedAt, stop_within}
 use Rattle.ra_trace.specs.Reading.{ReaderSeen, Holds, Stands, IsBehindRecord, IsStop, next_stop}
 use Rattle.ra_runtime.specs.Runtime.{RuntimeSeen}
 use Rattle.ra_runtime.specs.Play.{Moment, moved, printed}
-use Rattle.ra_session.specs.Endings.{BadTrace, ending_of}
+use Rattle.ra_session.specs.Endings.{ending_of}
+use Rattle.ra_session.specs.declared.ending.Ending.TheVariants.{BadTrace}
 use Rattle.ra_session.specs.Expected.{pieces_from, trace_limit}
-use Rattle.ra_session.specs.Closing.{EndsBefore, stop_of_trace, ending_of_stop}
+use Rattle.ra_session.specs.Closing.{EndsBefore}
+use Rattle.ra_session.specs.Failures.{ending_of_trace, trace_failed, trace_unwritten}
+use Rattle.ra_io.specs.declared.sink.SinkFailed.{SinkFailed}
+use Rattle.ra_io.specs.declared.sink.SinkFailed.TheVariants as write
 use Rattle.ra_session.specs.Playing.{StandsAt, IsLeft, Plays, TakesEmpty, TakesNext, GoesOn, IsAtEnd, says_from}
 use Rattle.ra_session.specs.Writing.{GrewByPart}
-use Rattle.ra_session.specs.declared.stop.Stop.{Stop}
-use Rattle.ra_session.specs.declared.stop.Stop.TheVariants as stop
+use Rattle.ra_session.specs.declared.failures.TraceFailed.{TraceFailed}
 use Rattle.ra_session.proofs.Pieces.{grown-nil}
 use Rattle.ra_session.proofs.Parts.{part_after}
 use Rattle.ra_session.proofs.ReadLemmas.{left_read}
@@ -53,7 +56,7 @@ module _ (bytes : List ℕ) (set : SetContents) (o : Opening) (m : Moment) (left
   abbrev full : Bool
   full = nat_le trace_limit (length bytes)
 
-  stopped : (why : TraceError) (old : Option (List ℕ)) → IsStop why (next_stop trace_limit is.size reader.next bytes) → EndsBefore (says_from bytes set o m left) ⊤ ⊤ ⊤ (ending_of_stop (stop_of_trace why)) old old
+  stopped : (why : TraceError) (old : Option (List ℕ)) → IsStop why (next_stop trace_limit is.size reader.next bytes) → EndsBefore (says_from bytes set o m left) ⊤ ⊤ ⊤ (ending_of_trace (trace_failed why)) old old
   stopped errors.Read old stop = (tt, (0, left_read bytes set o m left reader is, sym (grown-nil old)))
   stopped (errors.Refused at why) old stop =
       let refused = left_refused bytes m reader left is (errors.Refused at why) stop (λ read. absurd (cc)) in
@@ -63,13 +66,13 @@ module _ (bytes : List ℕ) (set : SetContents) (o : Opening) (m : Moment) (left
       (refused.1, sym (grown-nil old) ∙ ap (λ es. grown old (concat (pieces_from set o m es))) (sym refused.0))
 
   -- no record was read
-  pub next_refused : (content : Option (List ℕ)) (new : ReaderSeen) (runtime : RuntimeSeen) (slots : List (Option (List ℕ))) (old : Option (List ℕ)) (why : TraceError) (r : Result Bool Stop) → content ≡ Some bytes
-      → IfSome content (λ bytes. Holds reader bytes → IfSome reader.size (λ size. IsStop why (next_stop reader.limit size reader.next bytes))) → IsErrAnd r (λ e. e ≡ stop_of_trace why) → TakesNext bytes set o m left new runtime slots old old r
+  pub next_refused : (content : Option (List ℕ)) (new : ReaderSeen) (runtime : RuntimeSeen) (slots : List (Option (List ℕ))) (old : Option (List ℕ)) (why : TraceError) (r : Result Bool TraceFailed) → content ≡ Some bytes
+      → IfSome content (λ bytes. Holds reader bytes → IfSome reader.size (λ size. IsStop why (next_stop reader.limit size reader.next bytes))) → IsErrAnd r (λ e. e ≡ trace_failed why) → TakesNext bytes set o m left new runtime slots old old r
   next_refused content new runtime slots old why (Ok end) is_told err res = absurd res
   next_refused content new runtime slots old why (Err e) is_told err res =
       let at = told reader.size (λ size. IsStop why (next_stop reader.limit size reader.next bytes)) is.size is.sized (told content _ bytes is_told err is.holds) in
       let stop = subst (λ limit. IsStop why (next_stop limit is.size reader.next bytes)) is.limit at in
-      subst (λ (s : Stop). EndsBefore (says_from bytes set o m left) ⊤ ⊤ ⊤ (ending_of_stop s) old old) (sym res) (stopped why old stop)
+      subst (λ (s : TraceFailed). EndsBefore (says_from bytes set o m left) ⊤ ⊤ ⊤ (ending_of_trace s) old old) (sym res) (stopped why old stop)
 
   module _ (entry : Entry) (content : Option (List ℕ)) (is_told : content ≡ Some bytes) (ok : IfSome content (λ bytes. Holds reader bytes → IfSome reader.size (λ size. Stands reader.limit size reader.next entry bytes))) where
     stands_there : Stands trace_limit is.size reader.next entry bytes
@@ -127,10 +130,13 @@ module _ (bytes : List ℕ) (set : SetContents) (o : Opening) (m : Moment) (left
       cut_by new old now behind holds part false is = next_part new old now (not_end entry (sym is)) behind holds part
 
       -- its text was cut short
-      pub next_cut : (new : ReaderSeen) (old now : Option (List ℕ)) → IsBehindRecord entry reader new → Holds new bytes → GrewByPart old now text → (s : Stop) (r : Result Bool Stop) → IsErrAnd r (λ e. e ≡ s) → (s ≡ stop.Memory) ⊎ (s ≡ stop.Write) → TakesNext bytes set o m left new runtime slots old now r
-      next_cut new old now behind holds part s (Ok end) is why = absurd is
-      next_cut new old now behind holds part s (Err e) is (inl memory) = subst (λ (k : Stop). EndsBefore (says_from bytes set o m left) ⊤ ⊤ ⊤ (ending_of_stop k) old now) (sym (is ∙ memory)) (cut_by new old now behind holds part _ refl)
-      next_cut new old now behind holds part s (Err e) is (inr write) = subst (λ (k : Stop). EndsBefore (says_from bytes set o m left) ⊤ ⊤ ⊤ (ending_of_stop k) old now) (sym (is ∙ write)) (tt, cut_by new old now behind holds part _ refl)
+      cut_so : (new : ReaderSeen) (old now : Option (List ℕ)) → IsBehindRecord entry reader new → Holds new bytes → GrewByPart old now text → (s : SinkFailed) → EndsBefore (says_from bytes set o m left) ⊤ ⊤ ⊤ (ending_of_trace (trace_unwritten s)) old now
+      cut_so new old now behind holds part write.Memory = cut_by new old now behind holds part _ refl
+      cut_so new old now behind holds part write.Failed = (tt, cut_by new old now behind holds part _ refl)
+
+      pub next_cut : (new : ReaderSeen) (old now : Option (List ℕ)) → IsBehindRecord entry reader new → Holds new bytes → GrewByPart old now text → (s : SinkFailed) (r : Result Bool TraceFailed) → IsErrAnd r (λ e. e ≡ trace_unwritten s) → TakesNext bytes set o m left new runtime slots old now r
+      next_cut new old now behind holds part s (Ok end) is = absurd is
+      next_cut new old now behind holds part s (Err e) is = subst (λ (k : TraceFailed). EndsBefore (says_from bytes set o m left) ⊤ ⊤ ⊤ (ending_of_trace k) old now) (sym is) (cut_so new old now behind holds part s)
 
 pub ok_at : {T E : Type 0} (r : Result T E) (P : T → Type 0) (x : T) → r ≡ Ok x → IfOk r P → P x
 ok_at {T} {E} r P x is h = subst (λ (r : Result T E). IfOk r P) is h

@@ -10,7 +10,8 @@ use Rattle.ra_trace.specs.Cutting.{Stop, RefusedAt, Pieces, cut, cut_unless, cut
 use Rattle.ra_trace.specs.Reading.{ReaderSeen, seen_from}
 use Rattle.ra_runtime.specs.Openings.{plain_opening}
 use Rattle.ra_runtime.specs.Play.{Moment, first_moment}
-use Rattle.ra_session.specs.Endings.{Done, BadTrace, LongTrace, ending_of}
+use Rattle.ra_session.specs.Endings.{ending_of}
+use Rattle.ra_session.specs.declared.ending.Ending.TheVariants.{Done, BadTrace, LongTrace}
 use Rattle.ra_session.specs.Expected.{Expected, IsReadBehind, RunSays, refuses_set, refuses_file, begins, goes_on, CheckSays, counts, played, pieces_from, trace_limit}
 use Rattle.ra_session.specs.Playing.{IsLeft, says_from}
 

@@ -1,5 +1,5 @@
 -- A set and a trace that are read, and a job that is stopped there.
-use Rattle.std.proofs.Common.{arith, ◌≡◌, ◌≤◌, ◌⊎◌, inl, inr, ap, sym, subst, refl, ◌∙◌, ℕ, zero, suc, ◌+◌, slice_index, nat_le, if◌then◌else◌, length, take, List, ◌∷◌, true, false, Option, Some, None, is_some, Result, Ok, Err, IfErr, Any}
+use Rattle.std.proofs.Common.{arith, ◌≡◌, ◌≤◌, ap, sym, subst, refl, ◌∙◌, ℕ, zero, suc, slice_index, nat_le, if◌then◌else◌, length, take, List, ◌∷◌, true, false, Option, Some, None, is_some, Result, Ok, Err, IfErr, Any}
 use Rattle.std.specs.Bool.{⊤}
 use Rattle.std.specs.Int.{w32, to_le_bytes}
 use Rattle.md5.specs.Md5.{md5, digest_bytes}
@@ -9,14 +9,11 @@ use Rattle.ra_memory.specs.Image.{History, AreBytes}
 use Rattle.ra_progress.specs.Laws.{IsDigest}
 use Rattle.ra_session.proofs.StandLemmas.{append_bytes}
 use Rattle.std.specs.List.{concat}
-use Rattle.std.specs.Result.{IsErrAnd}
+use Rattle.std.specs.Result.{IsErrAnd, IsErrOf}
 use Rattle.std.proofs.lemmas.List.{take_all, length-take}
 use Rattle.ra_io.specs.Sink.{grown}
-use Rattle.ra_set.specs.declared.refused.SetRefused.{SetRefused}
-use Rattle.ra_set.specs.declared.refused.SetRefused.TheVariants as refused
 use Rattle.ra_set.specs.Accepted.{IsSet}
 use Rattle.ra_set.specs.Contents.{SetContents}
-use Rattle.ra_set.specs.Refusals.{Refuses}
 use Rattle.ra_progress.specs.Contents.{Opening}
 use Rattle.ra_progress.specs.Spelling.{progress_bytes}
 use Rattle.ra_trace.specs.declared.error.Why.TheVariants.{Header}
@@ -27,18 +24,20 @@ use Rattle.ra_trace.specs.Reading.{IsStop, header_stop}
 use Rattle.ra_runtime.specs.Runtime.{RuntimeSeen}
 use Rattle.ra_runtime.specs.Openings.{snapshot}
 use Rattle.ra_runtime.specs.Play.{first_moment, moment_after, behind_end}
-use Rattle.ra_session.specs.Endings.{Ending, Done, NoMemory, NoJob, BadSet, ReadFault, SinkFault, BadProgress, BadTrace, LongTrace, SaveFault, ending_of}
-use Rattle.ra_session.specs.Expected.{Expected, IsReadBehind, played, pieces_from, trace_limit, set_limit}
-use Rattle.ra_session.specs.Closing.{EndsBefore, ending_at, ending_of_stop, stop_of_set, stop_of_trace}
+use Rattle.ra_session.specs.Endings.{ending_of}
+use Rattle.ra_session.specs.declared.ending.Ending.{Ending}
+use Rattle.ra_session.specs.declared.ending.Ending.TheVariants.{Done, NoMemory, NoJob, BadSet, ReadFault, SinkFault, BadProgress, BadTrace, LongTrace, SaveFault}
+use Rattle.ra_session.specs.Expected.{Expected, played, pieces_from, trace_limit}
+use Rattle.ra_session.specs.Closing.{EndsBefore}
+use Rattle.ra_session.specs.Failures.{ending_at, ending_of_trace, trace_failed}
+use Rattle.ra_session.specs.declared.failures.TraceFailed.{TraceFailed}
+use Rattle.ra_session.specs.declared.failures.TraceFailed.TheVariants as failed
 use Rattle.ra_session.specs.Playing.{StandsAt, kept_bytes, says_from}
-use Rattle.ra_session.specs.Running.{AnyRose, IsOfSet}
-use Rattle.ra_session.specs.declared.stop.Stop.{Stop as Stopped}
-use Rattle.ra_session.specs.declared.stop.Stop.TheVariants as stop
+use Rattle.ra_session.specs.Outside.{AnyRose}
 use Rattle.ra_session.proofs.Pieces.{grown-nil}
 use Rattle.ra_session.proofs.Parts.{part_none}
 use Rattle.ra_session.proofs.LeftLemmas.{pieces_of}
 use Rattle.ra_session.proofs.ReadLemmas.{played_read}
-use Rattle.ra_session.proofs.StopLemmas.{read_stop, write_stop}
 
 -- a set that is not too long was read whole
 pub read_all : (bytes file : List ℕ) → bytes ≡ take 4194305 file → length bytes ≤ 4194304 → bytes ≡ file
@@ -67,7 +66,7 @@ ends_same a b reads puts sink ending old new pieces end before =
     same_saved (BadSet why) h = h
     same_saved ReadFault h = (h.0, (h.1.0, record { there = h.1.1.there; before_end = h.1.1.before_end }, h.1.2))
     same_saved SinkFault h = h
-    same_saved (BadProgress digest why) h = h
+    same_saved (BadProgress why) h = h
     same_saved (BadTrace at why) h = h
     same_saved LongTrace h = h
     same_saved SaveFault h = h
@@ -85,7 +84,7 @@ some_same : (x y : Stop) → Some x ≡ Some y → x ≡ y
 some_same x y same = cc
 
 -- a header that is refused
-pub bad_header : (set : SetContents) (o : Opening) (behind : History) (bytes : List ℕ) (why : TraceError) (old : Option (List ℕ)) → IsStop why (header_stop trace_limit bytes) → EndsBefore (played set o behind bytes) ⊤ ⊤ ⊤ (ending_of_stop (stop_of_trace why)) old old
+pub bad_header : (set : SetContents) (o : Opening) (behind : History) (bytes : List ℕ) (why : TraceError) (old : Option (List ℕ)) → IsStop why (header_stop trace_limit bytes) → EndsBefore (played set o behind bytes) ⊤ ⊤ ⊤ (ending_of_trace (trace_failed why)) old old
 bad_header set o behind bytes why old stop = by_header why (header_size (take trace_limit bytes)) refl stop
   where
     stop_by : Option ℕ → Option Stop
@@ -98,7 +97,7 @@ bad_header set o behind bytes why old stop = by_header why (header_size (take tr
           sym (grown-nil old) ∙ ap (λ header. grown old (concat (pieces_from set o (first_moment (trace_behind no_slots header seen).size behind) (trace_behind no_slots header seen).entries))) (sym none),
         )
 
-    by_header : (why : TraceError) (header : Option ℕ) → header_size (take trace_limit bytes) ≡ header → IsStop why (stop_by header) → EndsBefore (played set o behind bytes) ⊤ ⊤ ⊤ (ending_of_stop (stop_of_trace why)) old old
+    by_header : (why : TraceError) (header : Option ℕ) → header_size (take trace_limit bytes) ≡ header → IsStop why (stop_by header) → EndsBefore (played set o behind bytes) ⊤ ⊤ ⊤ (ending_of_trace (trace_failed why)) old old
     by_header errors.Read header is stop = (tt, (0, played_read set o behind bytes, sym (grown-nil old)))
     by_header (errors.Refused at w) None is stop = subst (λ (k : Stop). EndsBefore (played set o behind bytes) ⊤ ⊤ ⊤ (ending_of k) old old) (some_same (RefusedAt 0 Header) (RefusedAt at w) stop) (none_here is)
     by_header errors.TooLong None is stop = absurd (cc)
@@ -113,35 +112,22 @@ saved_behind set o behind bytes size slots runtime is stands =
     ap (λ (s : SetContents). progress_bytes s.digest runtime.kept) stands.same ∙ ap (progress_bytes set.digest) stands.kept
     ∙ ap (λ header. progress_bytes set.digest (snapshot set o (behind_end behind (trace_behind no_slots header seen).size (trace_behind no_slots header seen).entries))) (sym is)
 
--- a run that was stopped, by its stop
-pub stopped_on : {T : Type 0} (e : Expected) (s : Stopped) (r : Result T Stopped) (old new : Option (List ℕ)) → IsErrAnd r (λ k. k ≡ s) → EndsBefore e ⊤ ⊤ ⊤ (ending_of_stop s) old new → EndsBefore e ⊤ ⊤ ⊤ (ending_at r) old new
-stopped_on e s (Ok done) old new is before = absurd is
-stopped_on e s (Err k) old new is before = subst (λ (k : Stopped). EndsBefore e ⊤ ⊤ ⊤ (ending_of_stop k) old new) (sym is) before
+-- what is known of the error that a `?` hands on
+pub err_by : {T E : Type 0} (r : Result T E) (x : E) (P : E → Type 0) → IsErrAnd r (λ k. k ≡ x) → P x → IfErr r P
+err_by (Ok done) x P is p = tt
+err_by (Err k) x P is p = subst P (sym is) p
 
--- what is known of the error of a stopped run
-pub if_err_by : {T : Type 0} (r : Result T Stopped) (s : Stopped) (P : Stopped → Type 0) → IsErrAnd r (λ k. k ≡ s) → P s → IfErr r P
-if_err_by (Ok done) s P is p = tt
-if_err_by (Err k) s P is p = subst P (sym is) p
+pub err_from : {T U E : Type 0} (x e : E) (P : Type 0) (r : Result T E) → IsErrAnd r (λ k. k ≡ x) → (IsErrOf {T = U} (Err x) e → P) → IsErrOf r e → P
+err_from x e P (Ok done) is f of = absurd is
+err_from x e P (Err k) is f of = let same : k ≡ e = cc of in f (ap Err (sym is ∙ same))
 
--- a run that was stopped before it printed
-pub stopped_by : {T : Type 0} (e : Expected) (s : Stopped) (r : Result T Stopped) (old : Option (List ℕ)) → IsErrAnd r (λ k. k ≡ s) → EndsBefore e ⊤ ⊤ ⊤ (ending_of_stop s) old old → EndsBefore e ⊤ ⊤ ⊤ (ending_at r) old old
-stopped_by e s r old is before = stopped_on e s r old old is before
+-- what a run has printed that was stopped in its trace
+pub ends_by : {T : Type 0} (e : Expected) (s : TraceFailed) (r : Result T TraceFailed) (old new : Option (List ℕ)) → IsErrAnd r (λ k. k ≡ s) → EndsBefore e ⊤ ⊤ ⊤ (ending_of_trace s) old new → EndsBefore e ⊤ ⊤ ⊤ (ending_at r) old new
+ends_by e s (Ok done) old new is before = absurd is
+ends_by e s (Err k) old new is before = subst (λ (k : TraceFailed). EndsBefore e ⊤ ⊤ ⊤ (ending_of_trace k) old new) (sym is) before
 
-pub no_memory_left : {T : Type 0} (e : Expected) (r : Result T Stopped) (old : Option (List ℕ)) → IsErrAnd r (λ k. k ≡ stop.Memory) → EndsBefore e ⊤ ⊤ ⊤ (ending_at r) old old
-no_memory_left e r old is = stopped_by e stop.Memory r old is (part_none old old (concat e.pieces) refl)
-
--- What the set of a job was read as, where it was stopped there.
-pub record StoppedAtSet (content : List ℕ → Option (List ℕ)) (set : List ℕ) (reads : Type 0) (s : Stopped) : Type 0 where
-  pub kind : IsOfSet s
-  pub refused : (why : SetRefused) → s ≡ stop.Set why → (file : List ℕ) → content set ≡ Some file → Refuses (take (set_limit + 1) file) why
-  pub accepted : (file : List ℕ) (c : SetContents) → content set ≡ Some file → IsSet file c → (s ≡ stop.Memory) ⊎ (s ≡ stop.Read)
-  pub bad : (file : List ℕ) (why : SetRefused) → content set ≡ Some file → Refuses (take (set_limit + 1) file) why → (s ≡ stop.Memory) ⊎ ((s ≡ stop.Read) ⊎ (s ≡ stop.Set why))
-  pub read : s ≡ stop.Read → reads
-
--- a job that was stopped for want of memory or at a read, before it printed
-pub cut_at : (e : Expected) (reads puts sink : Type 0) (old : Option (List ℕ)) (s : Stopped) → IsReadBehind e 0 → (s ≡ stop.Read → reads) → (s ≡ stop.Memory) ⊎ (s ≡ stop.Read) → EndsBefore e reads puts sink (ending_of_stop s) old old
-cut_at e reads puts sink old s first read (inl memory) = subst (λ (k : Stopped). EndsBefore e reads puts sink (ending_of_stop k) old old) (sym memory) (part_none old old (concat e.pieces) refl)
-cut_at e reads puts sink old s first read (inr fault) = subst (λ (k : Stopped). EndsBefore e reads puts sink (ending_of_stop k) old old) (sym fault) (read fault, (0, first, sym (grown-nil old)))
+pub no_memory_left : {T : Type 0} (e : Expected) (r : Result T TraceFailed) (old : Option (List ℕ)) → IsErrAnd r (λ k. k ≡ failed.Memory) → EndsBefore e ⊤ ⊤ ⊤ (ending_at r) old old
+no_memory_left e r old is = ends_by e failed.Memory r old old is (part_none old old (concat e.pieces) refl)
 
 -- the bytes of a name that is told
 pub file_of : (content : List ℕ → Option (List ℕ)) (name : List ℕ) → is_some (content name) ≡ true → (file : List ℕ) × (content name ≡ Some file)
@@ -151,19 +137,6 @@ file_of content name told = some_of (content name) told
     some_of None told = let bad : false ≡ true = told in absurd (cc)
     some_of (Some file) told = (file, refl)
 
--- a read that failed is one that was counted
-pub read_end : {T : Type 0} (r : Result T Stopped) (reads : Type 0) → IfErr r (λ s. s ≡ stop.Read → reads) → ending_at r ≡ ReadFault → reads
-read_end (Ok done) reads read is = absurd (cc)
-read_end (Err s) reads read is = read (read_stop s is)
-
-pub write_end : {T : Type 0} (r : Result T Stopped) (sink : Type 0) → IfErr r (λ s. s ≡ stop.Write → sink) → ending_at r ≡ SinkFault → sink
-write_end (Ok done) sink wrote is = absurd (cc)
-write_end (Err s) sink wrote is = wrote (write_stop s is)
-
--- want of memory of a set is that of a run
-pub stop_by_set : (why : SetRefused) → why ≡ refused.Memory → stop_of_set why ≡ stop.Memory
-stop_by_set why is = ap stop_of_set is
-
 -- one of a name and others
 pub any_first : (P : List ℕ → Type 0) (a : List ℕ) (rest : List (List ℕ)) → P a → Any P (a ∷ rest)
 any_first P a rest p = (0, a, omega arith, refl, p)
@@ -171,28 +144,12 @@ any_first P a rest p = (0, a, omega arith, refl, p)
 pub any_later : (P : List ℕ → Type 0) (a : List ℕ) (rest : List (List ℕ)) → Any P rest → Any P (a ∷ rest)
 any_later P a rest (k, x, below, is, p) = (suc k, x, omega (arith, below), is, p)
 
--- and of more names
-pub any_between : (P : List ℕ → Type 0) (a b : List ℕ) (rest : List (List ℕ)) → Any P (a ∷ rest) → Any P (a ∷ b ∷ rest)
-any_between P a b rest (zero, x, below, is, p) = (zero, x, omega arith, is, p)
-any_between P a b rest (suc k, x, below, is, p) = (suc (suc k), x, omega (arith, below), is, p)
-
 pub any_map : (P Q : List ℕ → Type 0) (names : List (List ℕ)) → ((name : List ℕ) → P name → Q name) → Any P names → Any Q names
 any_map P Q names f (k, x, below, is, p) = (k, x, below, is, f x p)
 
 -- a count that rose since later rose since before
 pub rose_before : (a b c : List ℕ → ℕ) (names : List (List ℕ)) → NoneFell a b → AnyRose b c names → AnyRose a c names
 rose_before a b c names fell rose = any_map _ _ names (λ name later. omega (arith, fell.each name, later)) rose
-
-pub rose_after : (a b c : List ℕ → ℕ) (names : List (List ℕ)) → NoneFell b c → AnyRose a b names → AnyRose a c names
-rose_after a b c names fell rose = any_map _ _ names (λ name before. omega (arith, fell.each name, before)) rose
-
--- what a stopped run says of its error
-pub err_at : {T E : Type 0} (r : Result T E) (P : E → Type 0) (e : E) → r ≡ Err e → IfErr r P → P e
-err_at {T} {E} r P e is h = subst (λ (r : Result T E). IfErr r P) is h
-
-pub map_err : {T E : Type 0} (r : Result T E) (P Q : E → Type 0) → ((e : E) → P e → Q e) → IfErr r P → IfErr r Q
-map_err (Ok x) P Q f h = tt
-map_err (Err e) P Q f h = f e h
 
 -- the digest of a file is sixteen bytes
 le_bytes : (n : ℕ) → AreBytes (to_le_bytes w32 n)

@@ -1,5 +1,5 @@
 -- The pieces that records print are the text of these records.
-use Rattle.std.proofs.Common.{◌≡◌, ap, refl, ℕ, List, [], ◌∷◌, ◌++◌}
+use Rattle.std.proofs.Common.{◌≡◌, ap, refl, List, [], ◌∷◌, ◌++◌}
 use Rattle.std.specs.List.{concat}
 use Rattle.ra_set.specs.Contents.{SetContents}
 use Rattle.ra_progress.specs.Contents.{Opening}

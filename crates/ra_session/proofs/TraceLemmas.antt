@@ -5,8 +5,6 @@ use Rattle.std.specs.Bool.{⊤}
 use Rattle.std.proofs.lemmas.List.Folds.{concat-append}
 use Rattle.std.proofs.Math.Seq.{take-append-add}
 use Rattle.std.specs.Result.{IsErrAnd}
-use Rattle.ra_io.specs.Causes.{NoneFell}
-use Rattle.ra_io.specs.Files.{SameContent}
 use Rattle.ra_io.specs.Sink.{grown}
 use Rattle.ra_set.specs.Contents.{SetContents}
 use Rattle.ra_progress.specs.Contents.{Opening}
@@ -15,12 +13,15 @@ use Rattle.ra_trace.specs.Cutting.{Pieces, Reached, stop_within}
 use Rattle.ra_trace.specs.Reading.{ReaderSeen}
 use Rattle.ra_runtime.specs.Runtime.{RuntimeSeen}
 use Rattle.ra_runtime.specs.Play.{Moment, moved, moment_after, printed}
-use Rattle.ra_session.specs.Endings.{Ending, Done, NoMemory, ReadFault, SinkFault, SaveFault, ending_of}
+use Rattle.ra_session.specs.Endings.{ending_of}
+use Rattle.ra_session.specs.declared.ending.Ending.{Ending}
+use Rattle.ra_session.specs.declared.ending.Ending.TheVariants.{Done, NoMemory, ReadFault, SinkFault, SaveFault}
 use Rattle.ra_session.specs.Expected.{Expected, IsReadBehind, pieces_from, trace_limit}
-use Rattle.ra_session.specs.Closing.{EndsBefore, ending_at, ending_of_stop}
+use Rattle.ra_session.specs.Closing.{EndsBefore}
+use Rattle.ra_session.specs.Failures.{ending_at, ending_of_trace}
 use Rattle.ra_session.specs.Playing.{StandsAt, IsLeft, GoesOn, IsAtEnd, TakesNext, says_from}
 use Rattle.ra_session.specs.Writing.{GrewByPart}
-use Rattle.ra_session.specs.declared.stop.Stop.{Stop as Stopped}
+use Rattle.ra_session.specs.declared.failures.TraceFailed.{TraceFailed}
 use Rattle.ra_session.proofs.Pieces.{grown-grown, grown-nil}
 use Rattle.ra_session.proofs.Parts.{part_after}
 
@@ -124,13 +125,6 @@ module _ (bytes : List ℕ) (set : SetContents) (o : Opening) (m : Moment) (all 
   stands_with reader' runtime' slots' new false is next = let bad : false ≡ true = is in absurd (cc)
 
   -- the run was stopped at the next record
-  pub stops_with : {T : Type 0} (s : Stopped) (r : Result T Stopped) → IsErrAnd r (λ e. e ≡ s) → (new : Option (List ℕ)) → EndsBefore (says_from bytes set o to.moment to.rest) ⊤ ⊤ ⊤ (ending_of_stop s) now new → EndsBefore (says_from bytes set o m all) ⊤ ⊤ ⊤ (ending_at r) first new
+  pub stops_with : {T : Type 0} (s : TraceFailed) (r : Result T TraceFailed) → IsErrAnd r (λ e. e ≡ s) → (new : Option (List ℕ)) → EndsBefore (says_from bytes set o to.moment to.rest) ⊤ ⊤ ⊤ (ending_of_trace s) now new → EndsBefore (says_from bytes set o m all) ⊤ ⊤ ⊤ (ending_at r) first new
   stops_with s (Ok done) is new before = absurd is
-  stops_with s (Err e) is new before = ends_after (ending_of_stop e) new (subst (λ (k : Stopped). EndsBefore (says_from bytes set o to.moment to.rest) ⊤ ⊤ ⊤ (ending_of_stop k) now new) (sym is) before)
-
--- content that stayed twice stayed
-pub same_after : (a b c : List ℕ → Option (List ℕ)) → SameContent a b → SameContent b c → SameContent a c
-same_after a b c first then = record { each = λ name. then.each name ∙ first.each name }
-
-pub none_after : (a b c : List ℕ → ℕ) → NoneFell a b → NoneFell b c → NoneFell a c
-none_after a b c first then = record { each = λ name. omega (arith, first.each name, then.each name) }
+  stops_with s (Err e) is new before = ends_after (ending_of_trace e) new (subst (λ (k : TraceFailed). EndsBefore (says_from bytes set o to.moment to.rest) ⊤ ⊤ ⊤ (ending_of_trace k) now new) (sym is) before)

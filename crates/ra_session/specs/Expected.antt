@@ -4,11 +4,12 @@ use Rattle.std.specs.List.{join_with_byte, slice_split, concat}
 use Rattle.md5.specs.Md5.{md5}
 use Rattle.ra_set.specs.declared.refused.SetRefused.{SetRefused}
 use Rattle.ra_set.specs.Contents.{SetContents, ItemContents, Unlocks, Ranks}
-use Rattle.ra_set.specs.Limits.{set_conditions}
+use Rattle.ra_set.specs.Limits.{most_bytes, set_conditions}
 use Rattle.ra_memory.specs.Image.{History, AreImages}
 use Rattle.ra_progress.specs.Contents.{Opening, IsOpening}
 use Rattle.ra_progress.specs.Spelling.{progress_bytes}
 use Rattle.ra_progress.specs.Reading.{length_of, refusal}
+use Rattle.ra_progress.specs.Refusals.{hex}
 use Rattle.ra_trace.specs.Entries.{Entry}
 use Rattle.ra_trace.specs.Cutting.{Trace, no_slots, trace_within}
 use Rattle.ra_trace.specs.Workload.{made_set, made_trace}
@@ -19,7 +20,9 @@ use Rattle.ra_progress.specs.declared.refused.ProgressRefused.{ProgressRefused}
 use Rattle.ra_set.specs.Accepted.{IsSet}
 use Rattle.ra_set.specs.Refusals.{Refuses}
 use Rattle.ra_jobs.specs.Words.{Job, Run, Check, Make}
-use Rattle.ra_session.specs.Endings.{Ending, Done, BadSet, BadProgress, ending_of, hex}
+use Rattle.ra_session.specs.Endings.{ending_of}
+use Rattle.ra_session.specs.declared.ending.Ending.{Ending}
+use Rattle.ra_session.specs.declared.ending.Ending.TheVariants.{Done, BadSet, BadProgress}
 
 -- what a job says where nothing fails
 pub record Expected : Type 0 where
@@ -39,13 +42,17 @@ pub record IsReadBehind (e : Expected) (records : ℕ) : Type 0 where
 abbrev pub prints_nothing : Ending → Expected
 prints_nothing ending = record { pieces = []; ending = ending; saved = [] }
 
+-- a job whose line is all that it prints
+abbrev pub prints_line : List ℕ → Expected
+prints_line line = record { pieces = line ∷ []; ending = Done; saved = [] }
+
 -- the most bytes that a run takes of a trace
 abbrev pub trace_limit : ℕ
 trace_limit = 2 ^ 40
 
 -- the most bytes of a set
 abbrev pub set_limit : ℕ
-set_limit = 4194304
+set_limit = most_bytes
 
 -- what each of these records prints, played one after the other from a moment on
 abbrev pub pieces_from : SetContents → Opening → Moment → List Entry → List (List ℕ)
@@ -73,7 +80,7 @@ pub data RunSays (content : List ℕ → Option (List ℕ)) (set trace : List �
   refuses_set : {restore : Option (List ℕ)} (file : List ℕ) (why : SetRefused) → content set ≡ Some file
       → Refuses (take (set_limit + 1) file) why → RunSays content set trace restore (prints_nothing (BadSet why))
   refuses_file : (name set_file file : List ℕ) (s : SetContents) (why : ProgressRefused) → content set ≡ Some set_file → content name ≡ Some file
-      → IsSet set_file s → refusal (shape_of s) (take (length_of (shape_of s) + 1) file) ≡ Some why → RunSays content set trace (Some name) (prints_nothing (BadProgress s.digest why))
+      → IsSet set_file s → refusal (shape_of s) (take (length_of (shape_of s) + 1) file) ≡ Some why → RunSays content set trace (Some name) (prints_nothing (BadProgress why))
   begins : (set_file trace_file : List ℕ) (s : SetContents) → content set ≡ Some set_file → content trace ≡ Some trace_file
       → IsSet set_file s → RunSays content set trace None (played s (plain_opening s) [] trace_file)
   goes_on : (name set_file trace_file : List ℕ) (s : SetContents) (o : Opening) (behind : History) → content set ≡ Some set_file → content trace ≡ Some trace_file
@@ -102,7 +109,7 @@ check_line set =
 -- What `check` of this file says, where its bytes are told.
 pub data CheckSays (content : List ℕ → Option (List ℕ)) (set : List ℕ) : Expected → Type 0 where
   refuses_set : (file : List ℕ) (why : SetRefused) → content set ≡ Some file → Refuses (take (set_limit + 1) file) why → CheckSays content set (prints_nothing (BadSet why))
-  counts : (file : List ℕ) (s : SetContents) → content set ≡ Some file → IsSet file s → CheckSays content set (record { pieces = check_line s ∷ []; ending = Done; saved = [] })
+  counts : (file : List ℕ) (s : SetContents) → content set ≡ Some file → IsSet file s → CheckSays content set (prints_line (check_line s))
 
 -- a line of an unlock
 abbrev pub is_unlock : List ℕ → Bool
@@ -117,7 +124,7 @@ make_line number text =
 
 -- What `make` of a number says.
 pub data MakeSays (number : ℕ) : Expected → Type 0 where
-  made : (s : SetContents) → IsSet (made_set number) s → MakeSays number (record { pieces = make_line number (concat (played s (plain_opening s) [] (made_trace number)).pieces) ∷ []; ending = Done; saved = [] })
+  made : (s : SetContents) → IsSet (made_set number) s → MakeSays number (prints_line (make_line number (concat (played s (plain_opening s) [] (made_trace number)).pieces)))
 
 -- what a job says over files whose bytes are told
 abbrev pub JobSays : (content : List ℕ → Option (List ℕ)) → Job → Expected → Type 0

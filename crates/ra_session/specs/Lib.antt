@@ -1,6 +1,8 @@
 pub mod Reading
 pub mod Writing
+pub mod Failures
 pub mod Endings
+pub mod Outside
 pub mod Expected
 pub mod Closing
 pub mod Running

@@ -1,7 +1,6 @@
 -- What a run begins with, and why it ends before its trace: docs/DEFINITIONS.md, "A run".
-use Rattle.std.specs.Prelude.{◌≡◌, ◌⊎◌, ℕ, ⊤, ◌+◌, Option, None, Some, option_map, List, [], take}
+use Rattle.std.specs.Prelude.{◌≡◌, ℕ, ⊤, ◌+◌, Option, None, Some, option_map, List, [], take}
 use Rattle.ra_memory.specs.Image.{History, AreBytes, AreImages}
-use Rattle.ra_set.specs.declared.refused.SetRefused.{SetRefused}
 use Rattle.ra_set.specs.Accepted.{IsSet}
 use Rattle.ra_set.specs.Contents.{SetContents}
 use Rattle.ra_set.specs.Refusals.{Refuses}
@@ -11,14 +10,18 @@ use Rattle.ra_progress.specs.Spelling.{progress_bytes}
 use Rattle.ra_progress.specs.Reading.{length_of, refusal}
 use Rattle.ra_runtime.specs.Order.{shape_of}
 use Rattle.ra_runtime.specs.Openings.{snapshot, plain_opening}
-use Rattle.ra_jobs.specs.Words.{Run}
-use Rattle.ra_session.specs.Expected.{Expected, RunSays, set_limit}
-use Rattle.ra_session.specs.Closing.{ending_of_stop}
-use Rattle.ra_session.specs.Running.{AreTold, IsTold, deciding}
+use Rattle.ra_io.specs.Causes.{Rose}
+use Rattle.ra_jobs.specs.Words.{file_in}
+use Rattle.ra_session.specs.Expected.{set_limit}
+use Rattle.ra_session.specs.Outside.{AnyRose}
 use Rattle.ra_session.specs.Playing.{IsPlayable}
 use Rattle.ra_session.specs.declared.beginning.Beginning.{Beginning}
-use Rattle.ra_session.specs.declared.stop.Stop.{Stop}
-use Rattle.ra_session.specs.declared.stop.Stop.TheVariants as stop
+use Rattle.ra_session.specs.declared.failures.SetFailed.{SetFailed}
+use Rattle.ra_session.specs.declared.failures.SetFailed.TheVariants as set
+use Rattle.ra_session.specs.declared.failures.ProgressFailed.{ProgressFailed}
+use Rattle.ra_session.specs.declared.failures.ProgressFailed.TheVariants as progress
+use Rattle.ra_session.specs.declared.failures.LoadFailed.{LoadFailed}
+use Rattle.ra_session.specs.declared.failures.LoadFailed.TheVariants as load
 
 -- the progress bytes that a run goes on from, where there are some
 abbrev pub progress_in : Beginning → Option (List ℕ)
@@ -39,50 +42,37 @@ abbrev pub AreOfFile : (content : List ℕ → Option (List ℕ)) → (restore p
 AreOfFile content None progress = progress ≡ None
 AreOfFile content (Some name) progress = (bytes : List ℕ) × (progress ≡ Some bytes) × ((file : List ℕ) → content name ≡ Some file → bytes ≡ file)
 
--- the stop tells why bytes are no progress file of a set
-abbrev pub IsRefusal : SetContents → (bytes : List ℕ) → Stop → Type 0
-IsRefusal set bytes (stop.Progress digest why) = (digest ≡ set.digest) × (refusal (shape_of set) bytes ≡ Some why)
-IsRefusal set bytes _ = ⊥
-
 -- What is read of the file that is named, at most a byte more than a progress file of the set has, is refused so.
-pub record RefusesFile (set : SetContents) (content : List ℕ → Option (List ℕ)) (restore : Option (List ℕ)) (digest : List ℕ) (why : ProgressRefused) : Type 0 where
+pub record RefusesFile (set : SetContents) (content : List ℕ → Option (List ℕ)) (restore : Option (List ℕ)) (why : ProgressRefused) : Type 0 where
   pub name : List ℕ
   pub named : restore ≡ Some name
-  pub own : digest ≡ set.digest
   pub refused : (file : List ℕ) → content name ≡ Some file → refusal (shape_of set) (take (length_of (shape_of set) + 1) file) ≡ Some why
 
--- why no progress file of a set was read: memory was wanting, a read failed, or the file is refused
-abbrev pub StopsAtFile : SetContents → (content : List ℕ → Option (List ℕ)) → (restore : Option (List ℕ)) → Stop → Type 0
-StopsAtFile set content restore stop.Memory = ⊤
-StopsAtFile set content restore stop.Read = ⊤
-StopsAtFile set content restore (stop.Progress digest why) = RefusesFile set content restore digest why
-StopsAtFile set content restore _ = ⊥
+-- What the file of a set tells of one that was accepted, where its bytes are told.
+pub record IsTaken (file : Option (List ℕ)) (c : SetContents) : Type 0 where
+  pub playable : IsPlayable c
+  pub is_set : (bytes : List ℕ) → file ≡ Some bytes → IsSet bytes c
+
+-- why there is no set: memory was wanting, a read of its file failed, or the file is refused, where its bytes are told
+abbrev pub HasNoSet : (file : Option (List ℕ)) → (rose : Type 0) → SetFailed → Type 0
+HasNoSet file rose set.Memory = ⊤
+HasNoSet file rose set.Read = rose
+HasNoSet file rose (set.Refused why) = (bytes : List ℕ) → file ≡ Some bytes → Refuses (take (set_limit + 1) bytes) why
+
+-- why there are no progress bytes of a set: memory was wanting, a read of their file failed, or the file is refused
+abbrev pub HasNoProgress : SetContents → (content : List ℕ → Option (List ℕ)) → (restore : Option (List ℕ)) → (rose : Type 0) → ProgressFailed → Type 0
+HasNoProgress c content restore rose progress.Memory = ⊤
+HasNoProgress c content restore rose progress.Read = rose
+HasNoProgress c content restore rose (progress.Refused why) = RefusesFile c content restore why
 
 -- A set was accepted, and so was its progress file.
 pub record IsLoaded (content : List ℕ → Option (List ℕ)) (set : List ℕ) (restore : Option (List ℕ)) (c : SetContents) (progress : Option (List ℕ)) : Type 0 where
-  pub playable : IsPlayable c
+  pub taken : IsTaken (content set) c
   pub accepted : AreAccepted c progress
   pub of_file : AreOfFile content restore progress
-  pub is_set : (file : List ℕ) → content set ≡ Some file → IsSet file c
-  pub one : (file : List ℕ) (d : SetContents) → content set ≡ Some file → IsSet file d → c ≡ d
-  pub good : (file : List ℕ) (why : SetRefused) → content set ≡ Some file → Refuses (take (set_limit + 1) file) why → ⊥
 
--- the stop is one of a set or of a progress file that is read
-abbrev pub IsOfLoading : Stop → Type 0
-IsOfLoading stop.Memory = ⊤
-IsOfLoading (stop.Set why) = ⊤
-IsOfLoading stop.Read = ⊤
-IsOfLoading (stop.Progress digest why) = ⊤
-IsOfLoading _ = ⊥
-
--- a job that says this ends before it prints, and so; or memory was wanting, or a read failed
-abbrev pub EndsSoonAs : Expected → Stop → Type 0
-EndsSoonAs e s = (s ≡ stop.Memory) ⊎ ((s ≡ stop.Read) ⊎ ((e.ending ≡ ending_of_stop s) × (e.pieces ≡ [])))
-
--- A run was stopped before its trace: so do its files say, whatever trace and file to put are named; or a read failed.
-pub record StopsLoading (content : List ℕ → Option (List ℕ)) (set : List ℕ) (restore : Option (List ℕ)) (reads : Type 0) (s : Stop) : Type 0 where
-  pub kind : IsOfLoading s
-  pub says : (trace : List ℕ) (e : Expected) → RunSays content set trace restore e → EndsSoonAs e s
-  pub said : (trace : List ℕ) (save : Option (List ℕ)) → IsTold (ending_of_stop s) → AreTold content (deciding (ending_of_stop s) (Run set trace restore save))
-      → (e : Expected) × RunSays content set trace restore e × (e.ending ≡ ending_of_stop s)
-  pub read : s ≡ stop.Read → reads
+-- why a run does not begin: there is no set; or there is one, and no progress bytes of it
+abbrev pub IsNotLoaded : (content : List ℕ → Option (List ℕ)) → (before now : List ℕ → ℕ) → (set : List ℕ) → (restore : Option (List ℕ)) → LoadFailed → Type 0
+IsNotLoaded content before now set restore (load.Set failed) = HasNoSet (content set) (Rose (before set) (now set)) failed
+IsNotLoaded content before now set restore (load.Progress failed) =
+    (c : SetContents) × IsTaken (content set) c × HasNoProgress c content restore (AnyRose before now (file_in restore)) failed

@@ -18,9 +18,9 @@ use Rattle.ra_runtime.specs.Openings.{snapshot}
 use Rattle.ra_runtime.specs.Play.{Moment, moved, printed}
 use Rattle.ra_session.specs.Endings.{ending_of}
 use Rattle.ra_session.specs.Expected.{Expected, pieces_from, trace_limit}
-use Rattle.ra_session.specs.Closing.{EndsBefore, ending_of_stop}
-use Rattle.ra_session.specs.declared.stop.Stop.{Stop}
-use Rattle.ra_session.specs.declared.stop.Stop.TheVariants as stop
+use Rattle.ra_session.specs.Closing.{EndsBefore}
+use Rattle.ra_session.specs.Failures.{ending_of_trace}
+use Rattle.ra_session.specs.declared.failures.TraceFailed.{TraceFailed}
 
 -- a set that a runtime can be made for: it is within the limits, and some file spells it
 pub record IsPlayable (set : SetContents) : Type 0 where
@@ -50,6 +50,13 @@ pub record StandsAt (set : SetContents) (o : Opening) (m : Moment) (runtime : Ru
   pub behind : AreImages m.behind
   pub kept : runtime.kept ≡ snapshot set o m.behind
   pub held : HoldEachKept set o m.slots slots
+
+-- A runtime and the slots stand at some moment of a set and an opening.
+pub record StandsSomewhere (runtime : RuntimeSeen) (slots : List (Option (List ℕ))) : Type 0 where
+  pub set : SetContents
+  pub opening : Opening
+  pub moment : Moment
+  pub stands : StandsAt set opening moment runtime slots
 
 -- a runtime takes up progress bytes, and stays as it is where there are none
 abbrev pub TakesUpFrom : Option (List ℕ) → RuntimeSeen → RuntimeSeen → Type 0
@@ -110,14 +117,7 @@ pub record IsAtEnd (set : SetContents) (o : Opening) (m : Moment) (left : Pieces
   pub text : new ≡ old
 
 -- what reading and playing the next record does: it goes on, it was the end, or it stops as the trace says
-abbrev pub TakesNext : (bytes : List ℕ) → SetContents → Opening → Moment → Pieces → ReaderSeen → RuntimeSeen → List (Option (List ℕ)) → (old new : Option (List ℕ)) → Result Bool Stop → Type 0
+abbrev pub TakesNext : (bytes : List ℕ) → SetContents → Opening → Moment → Pieces → ReaderSeen → RuntimeSeen → List (Option (List ℕ)) → (old new : Option (List ℕ)) → Result Bool TraceFailed → Type 0
 TakesNext bytes set o m left reader runtime slots old new (Ok true) = IsAtEnd set o m left runtime slots old new
 TakesNext bytes set o m left reader runtime slots old new (Ok false) = GoesOn bytes set o m left reader runtime slots old new
-TakesNext bytes set o m left reader runtime slots old new (Err stop) = EndsBefore (says_from bytes set o m left) ⊤ ⊤ ⊤ (ending_of_stop stop) old new
-
--- the stop is none of a set, of a progress file, or of a put
-abbrev pub IsOfTrace : Stop → Type 0
-IsOfTrace (stop.Set why) = ⊥
-IsOfTrace (stop.Progress digest why) = ⊥
-IsOfTrace stop.Save = ⊥
-IsOfTrace _ = ⊤
+TakesNext bytes set o m left reader runtime slots old new (Err failed) = EndsBefore (says_from bytes set o m left) ⊤ ⊤ ⊤ (ending_of_trace failed) old new

@@ -1,24 +1,23 @@
 //! The job `make`: a workload is made in memory, played, and told in one line.
 
-ghost use Rattle.std.specs.Prelude.{◌≡◌, ◌⊎◌, ◌≤◌, ℕ, List, Option, Some, IfOk, IfErr, string_bytes};
-ghost use Rattle.ra_io.specs.Causes.{Rose};
+ghost use Rattle.std.specs.Prelude.{◌≡◌, ◌≤◌, ℕ, List, Option, Some, IfOk, IfErr, string_bytes};
 ghost use Rattle.ra_io.specs.SureFiles.{names_of};
 ghost use Rattle.ra_trace.specs.Workload.{made_set, made_trace};
-ghost use Rattle.ra_session.specs.Closing.{ending_at};
 ghost use Rattle.ra_session.specs.Expected.{make_line};
 ghost use Rattle.ra_session.specs.Making.{IsMadeText, set_name, trace_name};
+ghost use Rattle.ra_session.specs.Outside.{outside_of};
 ghost use Rattle.ra_session.specs.Running.{Ran};
 ghost use Rattle.ra_jobs.specs.Words.{Make};
 
 use crate::beginning::Beginning;
-use crate::check_line::hex_of;
 use crate::counts::{lines_in, unlocks_in};
+use crate::ending::Ending;
 use crate::loading::load_set;
 use crate::run::play_trace;
-use crate::stop::Stop;
-use crate::writing::write_all;
+use crate::writing::print_line;
 use md5::{Digest, Md5};
 use ra_io::{Sink, SureFiles, SureSink};
+use ra_progress::Hex;
 use ra_text::OutOfMemory;
 use ra_trace::{make_set, make_trace};
 use std::alloc::Global;
@@ -43,9 +42,9 @@ fn made_files(alloc: Global, number: u32) -> Result<SureFiles, OutOfMemory>
 }
 
 // What a run of the set of a number over its trace prints. It fails for want of memory alone.
-fn made_text(alloc: Global, number: u32) -> Result<SureSink, Stop>
+fn made_text(alloc: Global, number: u32) -> Result<SureSink, Ending>
     ensures text { IfOk result (λ text. IsMadeText number text) }
-    ensures memory { IfErr result (λ e. e ≡ Stop.Memory) }
+    ensures memory { IfErr result (λ e. e ≡ Ending.NoMemory) }
 {
     let mut files = made_files(alloc, number)?;
     let set = load_set(alloc, SET, &mut files)?;
@@ -64,7 +63,8 @@ fn made_line(alloc: Global, number: u32, text: &[u8]) -> Result<String, OutOfMem
 {
     let lines = lines_in(text);
     let unlocks = unlocks_in(text);
-    let digest = hex_of(alloc, &Md5::digest(text))?;
+    let sum = Md5::digest(text);
+    let digest = Hex(&sum);
     let mut line = String::new(alloc);
     writeln!(
         line,
@@ -75,13 +75,20 @@ fn made_line(alloc: Global, number: u32, text: &[u8]) -> Result<String, OutOfMem
 
 /// Makes the workload of a number, plays it, and tells the text in one line.
 ///
-/// It is done whole, or stops for want of memory or at a write that failed.
-pub fn make_job<K: Sink>(alloc: Global, number: u32, out: &mut K) -> Result<(), Stop>
-    ensures ran { (content : List ℕ → Option (List ℕ)) → Ran content (Make number) ⊥ ⊥ (Rose (K.faults out.old) (K.faults out.new)) (ending_at result) (K.text out.old) (K.text out.new) }
-    ensures kinds { IfErr result (λ e. (e ≡ Stop.Memory) ⊎ (e ≡ Stop.Write)) }
+/// It is done whole, or ends for want of memory or at a write that failed.
+pub fn make_job<K: Sink>(alloc: Global, number: u32, out: &mut K) -> Ending
+    ensures ran { (content : List ℕ → Option (List ℕ)) (reads puts : List ℕ → ℕ) → Ran (Make number)
+        (outside_of content reads puts (K.text out.old) (K.faults out.old))
+        (outside_of content reads puts (K.text out.new) (K.faults out.new))
+        result }
     ensures later { K.faults out.old ≤ K.faults out.new }
 {
-    let text = made_text(alloc, number)?;
-    let line = made_line(alloc, number, text.taken())?;
-    write_all(line.as_bytes(), out)
+    let text = match made_text(alloc, number) {
+        Ok(text) => text,
+        Err(ending) => return ending,
+    };
+    match made_line(alloc, number, text.taken()) {
+        Ok(line) => print_line(line.as_str(), out),
+        Err(_) => Ending::NoMemory,
+    }
 }

@@ -11,7 +11,7 @@ ghost use Rattle.ra_runtime.specs.Order.{shape_of};
 ghost use Rattle.ra_runtime.specs.Play.{Moment, moved, first_moment};
 ghost use Rattle.ra_runtime.specs.Runtime.{IsWritten, TakesFrame};
 ghost use Rattle.ra_session.specs.Loading.{AreAccepted, BeginsAt, progress_in};
-ghost use Rattle.ra_session.specs.Playing.{StandsAt, IsPlayable, TakesEmpty, TakesUpFrom, Plays, kept_bytes, slots_of};
+ghost use Rattle.ra_session.specs.Playing.{StandsAt, StandsSomewhere, IsPlayable, TakesEmpty, TakesUpFrom, Plays, kept_bytes, slots_of};
 
 use crate::beginning::Beginning;
 use ra_memory::Steps;
@@ -132,8 +132,9 @@ impl Player {
         Ok(())
     }
 
-    // Takes up the progress bytes of a slot.
+    // Takes up the progress bytes of a slot. The runtime never refuses them, since it gave them out itself.
     fn restore(&mut self, slot: u8) -> Result<(), Unplayed>
+        requires { StandsSomewhere self.old.runtime (slots_of self.old.slots.items) }
         ensures restored { OnOk result ((set : SetContents) (o : Opening) (m : Moment) → StandsAt set o m self.old.runtime (slots_of self.old.slots.items)
             → StandsAt set o (moved (Restored slot) m) self.new.runtime (slots_of self.new.slots.items) × (TakesEmpty (Restored slot) m → ⊥)) }
         ensures empty { OnErr result ((set : SetContents) (o : Opening) (m : Moment) → StandsAt set o m self.old.runtime (slots_of self.old.slots.items) → TakesEmpty (Restored slot) m) }
@@ -145,13 +146,14 @@ impl Player {
         };
         match self.runtime.restore(bytes) {
             Ok(()) => Ok(()),
-            Err(_) => Err(Unplayed::EmptySlot),
+            Err(_) => unreachable!(),
         }
     }
 
     /// Plays a record, and answers what it prints. `EmptySlot` where it restores an empty slot.
     pub fn play(&mut self, alloc: Global, entry: &Record<'_>) -> Result<Vec<u8>, Unplayed>
-        requires { LiesWithin (length self.old.runtime.image) (entry_of entry.now) }
+        requires lies { LiesWithin (length self.old.runtime.image) (entry_of entry.now) }
+        requires stands { StandsSomewhere self.old.runtime (slots_of self.old.slots.items) }
         ensures played { IfOk result (λ text. (set : SetContents) (o : Opening) (m : Moment) → StandsAt set o m self.old.runtime (slots_of self.old.slots.items)
             → Plays set o (entry_of entry.now) m self.new.runtime (slots_of self.new.slots.items) text.items) }
         ensures empty { IfErr result (λ e. e ≡ Unplayed.EmptySlot → (set : SetContents) (o : Opening) (m : Moment) → StandsAt set o m self.old.runtime (slots_of self.old.slots.items) → TakesEmpty (entry_of entry.now) m) }

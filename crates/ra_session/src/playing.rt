@@ -1,19 +1,18 @@
 //! The records of a trace, played one after the other.
 
-ghost use Rattle.std.specs.Prelude.{◌≡◌, ◌⊎◌, ◌≤◌, ◌<◌, ⊤, ℕ, List, Some, true, length, IfOk, IfErr, OnOk, OnErr};
-ghost use Rattle.ra_io.specs.Causes.{Rose, NoneFell};
-ghost use Rattle.ra_io.specs.Files.{SameContent};
-ghost use Rattle.ra_io.specs.Sink.{grown};
+ghost use Rattle.std.specs.Prelude.{◌≡◌, ◌≤◌, ◌<◌, ⊤, ℕ, List, Some, length, IfOk, IsErrOf, OnOk};
+ghost use Rattle.ra_io.specs.Causes.{Rose};
+ghost use Rattle.ra_io.specs.Files.{OnlyRead};
 ghost use Rattle.ra_set.specs.Contents.{SetContents};
 ghost use Rattle.ra_progress.specs.Contents.{Opening};
 ghost use Rattle.ra_trace.specs.Cutting.{Pieces};
 ghost use Rattle.ra_runtime.specs.Play.{Moment, moment_after};
-ghost use Rattle.ra_session.specs.Closing.{EndsBefore, ending_at, ending_of_stop};
-ghost use Rattle.ra_session.specs.Endings.{ReadFault, SinkFault};
-ghost use Rattle.ra_session.specs.Playing.{StandsAt, IsLeft, IsOfTrace, TakesNext, says_from, slots_of};
+ghost use Rattle.ra_session.specs.Closing.{EndsBefore};
+ghost use Rattle.ra_session.specs.Failures.{ending_at};
+ghost use Rattle.ra_session.specs.Playing.{StandsAt, StandsSomewhere, IsLeft, TakesNext, says_from, slots_of};
 
+use crate::failures::TraceFailed;
 use crate::player::{Player, Unplayed};
-use crate::stop::Stop;
 use crate::writing::write_all;
 use ra_io::{Files, Sink};
 use ra_trace::{Reader, Record, Why};
@@ -26,8 +25,9 @@ fn play_next<F: Files, K: Sink>(
     player: &mut Player,
     files: &mut F,
     out: &mut K,
-) -> Result<bool, Stop>
-    requires { reader.old.size ≡ Some (length player.old.runtime.image) }
+) -> Result<bool, TraceFailed>
+    requires size { reader.old.size ≡ Some (length player.old.runtime.image) }
+    requires stands { StandsSomewhere player.old.runtime (slots_of player.old.slots.items) }
 
     // What was played and printed, where the bytes of the trace are told.
     ensures next { (bytes : List ℕ) (set : SetContents) (o : Opening) (m : Moment) (left : Pieces) → F.content files.old reader.old.name ≡ Some bytes
@@ -36,14 +36,12 @@ fn play_next<F: Files, K: Sink>(
 
     // What stays, and why it stops.
     ensures size { IfOk result (λ end. reader.new.size ≡ Some (length player.new.runtime.image)) }
+    ensures stands { IfOk result (λ end. StandsSomewhere player.new.runtime (slots_of player.new.slots.items)) }
     ensures name { reader.new.name ≡ reader.old.name }
     ensures further { IfOk result (λ end. (reader.old.next < reader.new.next) × (reader.new.next ≤ reader.new.limit) × (reader.new.limit ≡ reader.old.limit)) }
-    ensures read { IfErr result (λ stop. stop ≡ Stop.Read → Rose (F.read_faults files.old reader.old.name) (F.read_faults files.new reader.old.name)) }
-    ensures write { IfErr result (λ stop. stop ≡ Stop.Write → Rose (K.faults out.old) (K.faults out.new)) }
-    ensures kinds { IfErr result IsOfTrace }
-    ensures same { SameContent (F.content files.old) (F.content files.new) }
-    ensures reads { NoneFell (F.read_faults files.old) (F.read_faults files.new) }
-    ensures puts { NoneFell (F.put_faults files.old) (F.put_faults files.new) }
+    ensures read { IsErrOf result TraceFailed.Read → Rose (F.read_faults files.old reader.old.name) (F.read_faults files.new reader.old.name) }
+    ensures write { IsErrOf result TraceFailed.Write → Rose (K.faults out.old) (K.faults out.new) }
+    ensures stays { OnlyRead F.content F.read_faults F.put_faults files.old files.new }
     ensures later { K.faults out.old ≤ K.faults out.new }
 {
     let record = reader.next_record(files)?;
@@ -53,11 +51,11 @@ fn play_next<F: Files, K: Sink>(
             write_all(text.as_slice(), out)?;
             Ok(end)
         }
-        Err(Unplayed::EmptySlot) => Err(Stop::Trace {
+        Err(Unplayed::EmptySlot) => Err(TraceFailed::Refused {
             at: reader.place(),
             why: Why::EmptySlot,
         }),
-        Err(Unplayed::Memory) => Err(Stop::Memory),
+        Err(Unplayed::Memory) => Err(TraceFailed::Memory),
     }
 }
 
@@ -71,8 +69,9 @@ pub fn play_records<F: Files, K: Sink>(
     player: &mut Player,
     files: &mut F,
     out: &mut K,
-) -> Result<(), Stop>
-    requires { reader.old.size ≡ Some (length player.old.runtime.image) }
+) -> Result<(), TraceFailed>
+    requires size { reader.old.size ≡ Some (length player.old.runtime.image) }
+    requires stands { StandsSomewhere player.old.runtime (slots_of player.old.slots.items) }
 
     // What was printed, where the bytes of the trace are told.
     ensures printed { (bytes : List ℕ) (set : SetContents) (o : Opening) (m : Moment) (left : Pieces) → F.content files.old reader.old.name ≡ Some bytes
@@ -83,12 +82,9 @@ pub fn play_records<F: Files, K: Sink>(
         → StandsAt set o (moment_after m left.entries) player.new.runtime (slots_of player.new.slots.items)) }
 
     // Why it stops, and what stays.
-    ensures read { IfErr result (λ stop. stop ≡ Stop.Read → Rose (F.read_faults files.old reader.old.name) (F.read_faults files.new reader.old.name)) }
-    ensures write { IfErr result (λ stop. stop ≡ Stop.Write → Rose (K.faults out.old) (K.faults out.new)) }
-    ensures kinds { IfErr result IsOfTrace }
-    ensures same { SameContent (F.content files.old) (F.content files.new) }
-    ensures reads { NoneFell (F.read_faults files.old) (F.read_faults files.new) }
-    ensures puts { NoneFell (F.put_faults files.old) (F.put_faults files.new) }
+    ensures read { IsErrOf result TraceFailed.Read → Rose (F.read_faults files.old reader.old.name) (F.read_faults files.new reader.old.name) }
+    ensures write { IsErrOf result TraceFailed.Write → Rose (K.faults out.old) (K.faults out.new) }
+    ensures stays { OnlyRead F.content F.read_faults F.put_faults files.old files.new }
     ensures later { K.faults out.old ≤ K.faults out.new }
 {
     while !play_next(alloc, reader, player, files, out)? {}

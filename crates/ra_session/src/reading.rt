@@ -1,11 +1,11 @@
 //! Files that are read whole, up to a limit.
 
-ghost use Rattle.std.specs.Prelude.{◌≡◌, ◌⊎◌, ℕ, ◌^◌, ◌<◌, ◌≤◌, take, vec_len, IfOk, IfErr, IfSome};
-ghost use Rattle.ra_io.specs.Causes.{Rose, NoneFell};
-ghost use Rattle.ra_io.specs.Files.{SameContent};
+ghost use Rattle.std.specs.Prelude.{◌≡◌, ℕ, ◌^◌, ◌<◌, ◌≤◌, take, vec_len, IfOk, IsErrOf, IfSome};
+ghost use Rattle.ra_io.specs.Causes.{Rose};
+ghost use Rattle.ra_io.specs.Files.{OnlyRead};
 ghost use Rattle.ra_session.specs.Reading.{ReadsOn};
 
-use crate::stop::Stop;
+use crate::failures::ReadFailed;
 use ra_io::{Failed, Files};
 use std::alloc::Global;
 
@@ -18,14 +18,12 @@ fn read_on<F: Files>(
     limit: usize,
     bytes: &mut Vec<u8>,
     files: &mut F,
-) -> Result<bool, Stop>
+) -> Result<bool, ReadFailed>
     requires room { vec_len bytes.old < limit }
     requires limit { limit ≤ 2 ^ 40 }
     ensures ok { IfOk result (λ more. (n : ℕ) × ReadsOn (F.content files.old name.now) bytes.old.items bytes.new.items more n × (vec_len bytes.new ≤ limit)) }
-    ensures same { SameContent (F.content files.old) (F.content files.new) }
-    ensures reads { NoneFell (F.read_faults files.old) (F.read_faults files.new) }
-    ensures puts { NoneFell (F.put_faults files.old) (F.put_faults files.new) }
-    ensures stop { IfErr result (λ e. (e ≡ Stop.Memory) ⊎ ((e ≡ Stop.Read) × Rose (F.read_faults files.old name.now) (F.read_faults files.new name.now))) }
+    ensures stays { OnlyRead F.content F.read_faults F.put_faults files.old files.new }
+    ensures failed { IsErrOf result ReadFailed.Failed → Rose (F.read_faults files.old name.now) (F.read_faults files.new name.now) }
 {
     let mut buf = [0u8; CHUNK];
     let room = CHUNK.min(limit - bytes.len());
@@ -35,7 +33,7 @@ fn read_on<F: Files>(
             bytes.extend_from_slice(&buf[..n])?;
             Ok(0 < n)
         }
-        Err(Failed) => Err(Stop::Read),
+        Err(Failed) => Err(ReadFailed::Failed),
     }
 }
 
@@ -45,13 +43,11 @@ pub fn read_whole<F: Files>(
     name: &str,
     limit: usize,
     files: &mut F,
-) -> Result<Vec<u8>, Stop>
+) -> Result<Vec<u8>, ReadFailed>
     requires { limit ≤ 2 ^ 40 }
     ensures ok { IfOk result (λ bytes. IfSome (F.content files.old name.now) (λ all. bytes.items ≡ take limit all)) }
-    ensures same { SameContent (F.content files.old) (F.content files.new) }
-    ensures reads { NoneFell (F.read_faults files.old) (F.read_faults files.new) }
-    ensures puts { NoneFell (F.put_faults files.old) (F.put_faults files.new) }
-    ensures stop { IfErr result (λ e. (e ≡ Stop.Memory) ⊎ ((e ≡ Stop.Read) × Rose (F.read_faults files.old name.now) (F.read_faults files.new name.now))) }
+    ensures stays { OnlyRead F.content F.read_faults F.put_faults files.old files.new }
+    ensures failed { IsErrOf result ReadFailed.Failed → Rose (F.read_faults files.old name.now) (F.read_faults files.new name.now) }
 {
     let mut bytes = Vec::new(alloc);
     while bytes.len() < limit {

@@ -1,6 +1,7 @@
-use Rattle.std.proofs.Common.{◌∙◌, ap, sym, subst, inl, inr}
+use Rattle.std.proofs.Common.{◌∙◌, ap, sym, subst}
 use Rattle.ra_io.specs.Sink.{grown}
 use Rattle.ra_trace.specs.Entries.{entry_of}
+use Rattle.ra_runtime.specs.Play.{moved}
 use Rattle.ra_session.specs.Writing.{GrewByPart}
 use Rattle.ra_session.proofs.NextLemmas.{next_refused, next_empty, next_played, next_cut, ok_at, end_is, other_is}
 use Rattle.ra_session.proofs.playing.play_next.Goals as goal
@@ -17,7 +18,6 @@ returns-in_err-write_all-in-Ok-clause-next g c = λ bytes set o m left is_told s
     c.next_record.follows.lender-at-none (g.K.Sink.text c.args.out.now) (g.K.Sink.text c.write_all.new.out) (ok_at _ _ c.in_ok-record.record c.in_ok-record.was ends.moved) (ok_at _ _ c.in_ok-record.record c.in_ok-record.was ends.holds bytes is_told is.holds)
     (subst (GrewByPart (g.K.Sink.text c.args.out.now) (g.K.Sink.text c.write_all.new.out)) c.as_slice.ensures.value c.in_err-write_all-in-Ok.ensures.part)
     c.in_err-write_all-in-Ok.field-0.0 c.from_residual-in_err-write_all-in-Ok.result c.from_residual-in_err-write_all-in-Ok.ensures.1
-    (elim c.in_err-write_all-in-Ok.ensures.stop [ inl memory ↦ inl memory | inr write ↦ inr write.0 ])
 
 pub returns-in_ok-write_all-in-Ok-clause-next : goal.returns-in_ok-write_all-in-Ok-clause-next
 returns-in_ok-write_all-in-Ok-clause-next g c = λ bytes set o m left is_told stands is.
@@ -31,3 +31,8 @@ pub returns-in-Err-EmptySlot-clause-next : goal.returns-in-Err-EmptySlot-clause-
 returns-in-Err-EmptySlot-clause-next g c = λ bytes set o m left is_told stands is.
     let moved = ok_at _ _ c.in_ok-record.record c.in_ok-record.was c.next_record.follows.holds-at-none.moved in
     next_empty bytes set o m left c.args.reader.now is (entry_of c.in_ok-record.record) (g.F.Files.content c.args.files.now c.args.reader.now.name) is_told c.in_ok-record.ensures.ok (g.K.Sink.text c.args.out.now) c.place.result (c.place.ensures ∙ moved.last) (c.in-Err-EmptySlot.ensures.empty c.in-Err-EmptySlot.field-0-is set o m stands)
+
+pub returns-in_ok-write_all-in-Ok-clause-stands : goal.returns-in_ok-write_all-in-Ok-clause-stands
+returns-in_ok-write_all-in-Ok-clause-stands g c =
+    let at = c.requires.stands in
+    record { set = at.set; opening = at.opening; moment = moved (entry_of c.in_ok-record.record) at.moment; stands = (c.in-Ok.ensures.played at.set at.opening at.moment at.stands).stands }

@@ -1,11 +1,10 @@
 use Rattle.std.proofs.Common.{◌≡◌, ◌-◌, ◌≤◌, ℕ, List, Some, length}
-use Rattle.ra_io.specs.Causes.{NoneFell}
-use Rattle.ra_io.specs.Files.{SameContent}
+use Rattle.ra_io.specs.Files.{OnlyRead}
 use Rattle.ra_set.specs.Contents.{SetContents}
 use Rattle.ra_progress.specs.Contents.{Opening}
 use Rattle.ra_trace.specs.Cutting.{Pieces}
 use Rattle.ra_runtime.specs.Play.{Moment}
-use Rattle.ra_session.specs.Playing.{StandsAt, IsLeft, slots_of}
+use Rattle.ra_session.specs.Playing.{StandsAt, StandsSomewhere, IsLeft, slots_of}
 use Rattle.ra_session.proofs.TraceLemmas.{PlayedTo}
 use Rattle.ra_session.proofs.playing.play_records.Given as goal
 
@@ -14,11 +13,10 @@ invariant-loop g l = record {
   to : (bytes : List ℕ) (set : SetContents) (o : Opening) (m : Moment) (left : Pieces) → g.F.Files.content l.initial.files l.initial.reader.name ≡ Some bytes
       → StandsAt set o m l.initial.player.runtime (slots_of l.initial.player.slots.items) → IsLeft bytes m l.initial.reader left
       → PlayedTo bytes set o m left l.reader l.player.runtime (slots_of l.player.slots.items) (g.K.Sink.text l.initial.out) (g.K.Sink.text l.out);
+  somewhere : StandsSomewhere l.player.runtime (slots_of l.player.slots.items);
   size : l.reader.size ≡ Some (length l.player.runtime.image);
   name : l.reader.name ≡ l.initial.reader.name;
-  same : SameContent (g.F.Files.content l.initial.files) (g.F.Files.content l.files);
-  reads : NoneFell (g.F.Files.read_faults l.initial.files) (g.F.Files.read_faults l.files);
-  puts : NoneFell (g.F.Files.put_faults l.initial.files) (g.F.Files.put_faults l.files);
+  stays : OnlyRead g.F.Files.content g.F.Files.read_faults g.F.Files.put_faults l.initial.files l.files;
   later : g.K.Sink.faults l.initial.out ≤ g.K.Sink.faults l.out;
 }
 

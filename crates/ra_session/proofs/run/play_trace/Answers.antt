@@ -4,14 +4,16 @@ use Rattle.ra_set.specs.Contents.{set_contents}
 use Rattle.ra_runtime.specs.Play.{first_moment}
 use Rattle.ra_trace.specs.Cutting.{header_size}
 use Rattle.ra_trace.specs.Reading.{IsStop, header_stop}
-use Rattle.ra_session.specs.Closing.{stop_of_trace, ending_of_stop}
-use Rattle.ra_session.specs.Endings.{Done}
+use Rattle.ra_session.specs.Failures.{ending_of_trace, trace_failed}
+use Rattle.ra_session.specs.declared.ending.Ending.TheVariants.{Done}
 use Rattle.ra_session.specs.Expected.{played, trace_limit}
-use Rattle.ra_session.specs.Playing.{IsOfTrace, slots_of}
+use Rattle.ra_session.specs.Playing.{slots_of}
+use Rattle.ra_session.specs.Loading.{progress_in}
+use Rattle.ra_session.proofs.LoadLemmas.{begins_somewhere}
 use Rattle.ra_session.proofs.NextLemmas.{told}
 use Rattle.ra_session.proofs.LeftLemmas.{left_whole, pieces_of}
-use Rattle.ra_session.specs.declared.stop.Stop.TheVariants as stop
-use Rattle.ra_session.proofs.RunLemmas.{played_behind, saved_behind, bad_header, stopped_by, stopped_on, if_err_by, no_memory_left}
+use Rattle.ra_session.specs.declared.failures.TraceFailed.TheVariants as failed
+use Rattle.ra_session.proofs.RunLemmas.{played_behind, saved_behind, bad_header, ends_by, err_from, no_memory_left}
 use Rattle.ra_session.proofs.run.play_trace.Goals as goal
 
 pub returns-in_err-reader-clause-printed : goal.returns-in_err-reader-clause-printed
@@ -23,7 +25,7 @@ returns-in_err-size-clause-printed g c = λ bytes o behind is_told at.
     let name : c.in_ok-reader.reader.name ≡ c.args.trace.now = ap (λ r. r.name) c.in_ok-reader.ensures in
     let limit : c.in_ok-reader.reader.limit ≡ trace_limit = ap (λ r. r.limit) c.in_ok-reader.ensures in
     let said : IsStop c.in_err-size.field-0.0 (header_stop c.in_ok-reader.reader.limit bytes) = told _ _ bytes (ap (g.F.Files.content c.args.files.now) name ∙ is_told) c.in_err-size.ensures.err in
-    stopped_by (played set o behind bytes) (stop_of_trace c.in_err-size.field-0.0) c.from_residual-in_err-size.result (g.K.Sink.text c.args.out.now) c.from_residual-in_err-size.ensures.1
+    ends_by (played set o behind bytes) (trace_failed c.in_err-size.field-0.0) c.from_residual-in_err-size.result (g.K.Sink.text c.args.out.now) (g.K.Sink.text c.args.out.now) c.from_residual-in_err-size.ensures.1
     (bad_header set o behind bytes c.in_err-size.field-0.0 (g.K.Sink.text c.args.out.now) (subst (λ l. IsStop c.in_err-size.field-0.0 (header_stop l bytes)) limit said))
 
 pub new-requires-clause-size : goal.new-requires-clause-size
@@ -31,6 +33,12 @@ new-requires-clause-size g c = omega (arith, c.in_ok-size.ensures.most)
 
 pub returns-in_err-player-clause-printed : goal.returns-in_err-player-clause-printed
 returns-in_err-player-clause-printed g c = λ bytes o behind is_told at. no_memory_left (played (set_contents c.args.beginning.set) o behind bytes) c.from_residual-in_err-player.result (g.K.Sink.text c.args.out.now) c.from_residual-in_err-player.ensures.1
+
+pub play_records-requires-clause-stands : goal.play_records-requires-clause-stands
+play_records-requires-clause-stands g c =
+    let set = set_contents c.args.beginning.set in
+    let (o, behind, at) = begins_somewhere set (progress_in c.args.beginning) c.requires.accepted in
+    record { set = set; opening = o; moment = first_moment c.in_ok-size.size behind; stands = c.in_ok-player.ensures.stands o behind at }
 
 pub returns-in_err-play_records-clause-printed : goal.returns-in_err-play_records-clause-printed
 returns-in_err-play_records-clause-printed g c = λ bytes o behind is_told at.
@@ -40,10 +48,10 @@ returns-in_err-play_records-clause-printed g c = λ bytes o behind is_told at.
     let there : g.F.Files.content c.args.files.now c.in_ok-reader.reader.name ≡ Some bytes = ap (g.F.Files.content c.args.files.now) name ∙ is_told in
     let header = told _ _ bytes there c.in_ok-size.ensures.ok in
     let left = left_whole bytes c.in_ok-size.size behind c.in_ok-reader.reader c.header.new.self limit c.in_ok-size.ensures.seen (told _ _ bytes there c.in_ok-size.ensures.held) in
-    stopped_on (played set o behind bytes) c.in_err-play_records.field-0.0 c.from_residual-in_err-play_records.result (g.K.Sink.text c.args.out.now) (g.K.Sink.text c.play_records.new.out) c.from_residual-in_err-play_records.ensures.1
-    (played_behind set o behind bytes c.in_ok-size.size (ending_of_stop c.in_err-play_records.field-0.0) (g.K.Sink.text c.args.out.now) (g.K.Sink.text c.play_records.new.out) (subst (λ l. header_size (take l bytes) ≡ Some c.in_ok-size.size) limit header)
+    ends_by (played set o behind bytes) c.in_err-play_records.field-0.0 c.from_residual-in_err-play_records.result (g.K.Sink.text c.args.out.now) (g.K.Sink.text c.play_records.new.out) c.from_residual-in_err-play_records.ensures.1
+    (played_behind set o behind bytes c.in_ok-size.size (ending_of_trace c.in_err-play_records.field-0.0) (g.K.Sink.text c.args.out.now) (g.K.Sink.text c.play_records.new.out) (subst (λ l. header_size (take l bytes) ≡ Some c.in_ok-size.size) limit header)
     (c.in_err-play_records.ensures.printed bytes set o (first_moment c.in_ok-size.size behind) (pieces_of c.in_ok-size.size bytes)
-    (ap (g.F.Files.content c.header.new.files) c.in_ok-size.ensures.seen.same.name ∙ c.in_ok-size.ensures.same.each c.in_ok-reader.reader.name ∙ there) (c.in_ok-player.ensures.stands o behind at) left))
+    (ap (g.F.Files.content c.header.new.files) c.in_ok-size.ensures.seen.same.name ∙ c.in_ok-size.ensures.stays.same.each c.in_ok-reader.reader.name ∙ there) (c.in_ok-player.ensures.stands o behind at) left))
 
 pub returns-clause-printed : goal.returns-clause-printed
 returns-clause-printed g c = λ bytes o behind is_told at.
@@ -55,7 +63,7 @@ returns-clause-printed g c = λ bytes o behind is_told at.
     let left = left_whole bytes c.in_ok-size.size behind c.in_ok-reader.reader c.header.new.self limit c.in_ok-size.ensures.seen (told _ _ bytes there c.in_ok-size.ensures.held) in
     played_behind set o behind bytes c.in_ok-size.size Done (g.K.Sink.text c.args.out.now) (g.K.Sink.text c.play_records.new.out) (subst (λ l. header_size (take l bytes) ≡ Some c.in_ok-size.size) limit header)
     (c.in_ok-play_records.ensures.printed bytes set o (first_moment c.in_ok-size.size behind) (pieces_of c.in_ok-size.size bytes)
-    (ap (g.F.Files.content c.header.new.files) c.in_ok-size.ensures.seen.same.name ∙ c.in_ok-size.ensures.same.each c.in_ok-reader.reader.name ∙ there) (c.in_ok-player.ensures.stands o behind at) left)
+    (ap (g.F.Files.content c.header.new.files) c.in_ok-size.ensures.seen.same.name ∙ c.in_ok-size.ensures.stays.same.each c.in_ok-reader.reader.name ∙ there) (c.in_ok-player.ensures.stands o behind at) left)
 
 pub returns-clause-kept : goal.returns-clause-kept
 returns-clause-kept g c = λ bytes o behind is_told at.
@@ -67,7 +75,7 @@ returns-clause-kept g c = λ bytes o behind is_told at.
     let left = left_whole bytes c.in_ok-size.size behind c.in_ok-reader.reader c.header.new.self limit c.in_ok-size.ensures.seen (told _ _ bytes there c.in_ok-size.ensures.held) in
     saved_behind set o behind bytes c.in_ok-size.size (slots_of c.play_records.new.player.slots.items) c.play_records.new.player.runtime (subst (λ l. header_size (take l bytes) ≡ Some c.in_ok-size.size) limit header)
     (c.in_ok-play_records.ensures.ends bytes set o (first_moment c.in_ok-size.size behind) (pieces_of c.in_ok-size.size bytes)
-    (ap (g.F.Files.content c.header.new.files) c.in_ok-size.ensures.seen.same.name ∙ c.in_ok-size.ensures.same.each c.in_ok-reader.reader.name ∙ there) (c.in_ok-player.ensures.stands o behind at) left)
+    (ap (g.F.Files.content c.header.new.files) c.in_ok-size.ensures.seen.same.name ∙ c.in_ok-size.ensures.stays.same.each c.in_ok-reader.reader.name ∙ there) (c.in_ok-player.ensures.stands o behind at) left)
 
 pub returns-in_err-play_records-clause-read : goal.returns-in_err-play_records-clause-read
 returns-in_err-play_records-clause-read g c =
@@ -75,17 +83,7 @@ returns-in_err-play_records-clause-read g c =
     let mid : List ℕ → ℕ = g.F.Files.read_faults c.header.new.files in
     let after : List ℕ → ℕ = g.F.Files.read_faults c.play_records.new.files in
     let name : c.header.new.self.name ≡ c.args.trace.now = c.in_ok-size.ensures.seen.same.name ∙ ap (λ r. r.name) c.in_ok-reader.ensures in
-    if_err_by c.from_residual-in_err-play_records.result c.in_err-play_records.field-0.0 (λ e. e ≡ stop.Read → Rose (before c.args.trace.now) (after c.args.trace.now)) c.from_residual-in_err-play_records.ensures.1
+    err_from c.in_err-play_records.field-0.0 failed.Read _ c.from_residual-in_err-play_records.result c.from_residual-in_err-play_records.ensures.1
     (λ is.
     let rose : Rose (mid c.args.trace.now) (after c.args.trace.now) = subst (λ n. Rose (mid n) (after n)) name (c.in_err-play_records.ensures.read is) in
-    omega (arith, rose, c.in_ok-size.ensures.reads.each c.args.trace.now))
-
-pub returns-in_err-play_records-clause-write : goal.returns-in_err-play_records-clause-write
-returns-in_err-play_records-clause-write g c =
-    if_err_by c.from_residual-in_err-play_records.result c.in_err-play_records.field-0.0 (λ e. e ≡ stop.Write → Rose (g.K.Sink.faults c.args.out.now) (g.K.Sink.faults c.play_records.new.out)) c.from_residual-in_err-play_records.ensures.1
-    c.in_err-play_records.ensures.write
-
-pub returns-in_err-play_records-clause-kinds : goal.returns-in_err-play_records-clause-kinds
-returns-in_err-play_records-clause-kinds g c =
-    if_err_by c.from_residual-in_err-play_records.result c.in_err-play_records.field-0.0 IsOfTrace c.from_residual-in_err-play_records.ensures.1
-    c.in_err-play_records.ensures.kinds
+    omega (arith, rose, c.in_ok-size.ensures.stays.reads.each c.args.trace.now))

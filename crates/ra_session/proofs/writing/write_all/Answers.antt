@@ -11,12 +11,7 @@ loop-rest-preserved g c =
       later = omega (arith, c.loop-rest.invariant.later, c.in-Ok.ensures.later);
     }
 
-pub returns-in-Err-Failed-clause-part : goal.returns-in-Err-Failed-clause-part
-returns-in-Err-Failed-clause-part g c =
+pub returns-in-Err-clause-part : goal.returns-in-Err-clause-part
+returns-in-Err-clause-part g c =
     part_written (g.K.Sink.text c.args.out.now) (g.K.Sink.text c.write.new.self) c.args.bytes.now _
-    (more_written (g.K.Sink.text c.args.out.now) (g.K.Sink.text c.loop-rest.out) (g.K.Sink.text c.write.new.self) c.args.bytes.now c.loop-rest.rest.now 0 c.loop-rest.invariant.written (omega arith) c.in-Err-Failed.ensures.text)
-
-pub returns-in-Err-Memory-clause-part : goal.returns-in-Err-Memory-clause-part
-returns-in-Err-Memory-clause-part g c =
-    part_written (g.K.Sink.text c.args.out.now) (g.K.Sink.text c.write.new.self) c.args.bytes.now _
-    (more_written (g.K.Sink.text c.args.out.now) (g.K.Sink.text c.loop-rest.out) (g.K.Sink.text c.write.new.self) c.args.bytes.now c.loop-rest.rest.now 0 c.loop-rest.invariant.written (omega arith) c.in-Err-Memory.ensures.text)
+    (more_written (g.K.Sink.text c.args.out.now) (g.K.Sink.text c.loop-rest.out) (g.K.Sink.text c.write.new.self) c.args.bytes.now c.loop-rest.rest.now 0 c.loop-rest.invariant.written (omega arith) c.in-Err.ensures.text)

@@ -1,0 +1,93 @@
+ghost use Rattle.std.specs.Prelude.{◌≡◌};
+ghost use Rattle.ra_session.specs.Failures.{ending_of_load, ending_of_put, ending_of_set, ending_of_trace};
+ghost use Rattle.ra_session.specs.declared.ending.Ending.TheVariants as ends;
+
+use crate::failures::{LoadFailed, ProgressFailed, SetFailed, TraceFailed};
+use ra_io::PutFailed;
+use ra_progress::ProgressRefused;
+use ra_set::SetRefused;
+use ra_text::OutOfMemory;
+use ra_trace::Why;
+
+/// How a job ends: docs/DEFINITIONS.md, "Statuses".
+#[derive(Clone, Copy, Debug, PartialEq, Eq)]
+pub enum Ending {
+    /// The job was done.
+    Done,
+    /// There was no memory.
+    NoMemory,
+    /// The words are no job.
+    NoJob,
+    /// The set is refused.
+    BadSet(SetRefused),
+    /// A read of a file failed.
+    ReadFault,
+    /// A write to the output failed.
+    SinkFault,
+    /// The progress file is refused.
+    BadProgress(ProgressRefused),
+    /// The trace is refused: the place of its header or of its first bad record, and the reason.
+    BadTrace { at: u64, why: Why },
+    /// The trace has no end record within the limit.
+    LongTrace,
+    /// A put of the file to save into failed.
+    SaveFault,
+}
+
+impl From<OutOfMemory> for Ending {
+    ghost from_gives = { λ _ e. e ≡ ends.NoMemory };
+
+    fn from(_error: OutOfMemory) -> Ending {
+        Ending::NoMemory
+    }
+}
+
+impl From<SetFailed> for Ending {
+    ghost from_gives = { λ failed e. e ≡ ending_of_set failed };
+
+    fn from(failed: SetFailed) -> Ending {
+        match failed {
+            SetFailed::Memory => Ending::NoMemory,
+            SetFailed::Read => Ending::ReadFault,
+            SetFailed::Refused(why) => Ending::BadSet(why),
+        }
+    }
+}
+
+impl From<LoadFailed> for Ending {
+    ghost from_gives = { λ failed e. e ≡ ending_of_load failed };
+
+    fn from(failed: LoadFailed) -> Ending {
+        match failed {
+            LoadFailed::Set(failed) => Ending::from(failed),
+            LoadFailed::Progress(ProgressFailed::Memory) => Ending::NoMemory,
+            LoadFailed::Progress(ProgressFailed::Read) => Ending::ReadFault,
+            LoadFailed::Progress(ProgressFailed::Refused(why)) => Ending::BadProgress(why),
+        }
+    }
+}
+
+impl From<TraceFailed> for Ending {
+    ghost from_gives = { λ failed e. e ≡ ending_of_trace failed };
+
+    fn from(failed: TraceFailed) -> Ending {
+        match failed {
+            TraceFailed::Memory => Ending::NoMemory,
+            TraceFailed::Read => Ending::ReadFault,
+            TraceFailed::Write => Ending::SinkFault,
+            TraceFailed::Refused { at, why } => Ending::BadTrace { at, why },
+            TraceFailed::TooLong => Ending::LongTrace,
+        }
+    }
+}
+
+impl From<PutFailed> for Ending {
+    ghost from_gives = { λ failed e. e ≡ ending_of_put failed };
+
+    fn from(failed: PutFailed) -> Ending {
+        match failed {
+            PutFailed::Failed => Ending::SaveFault,
+            PutFailed::Memory => Ending::NoMemory,
+        }
+    }
+}
