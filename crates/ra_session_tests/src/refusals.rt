@@ -1,10 +1,10 @@
 //! Sets and traces that are refused, and how.
 
-use crate::displays::{FOREST, FOREST_TEXT, FOREST_TRACE};
-use crate::jobs::{FIVES, RUN, THREE_HITS, files_of, other_run, run_ends_so, status_of};
-use ra_io::SureSink;
+use crate::displays::FOREST_TRACE;
+use crate::jobs::{FIVES, check_ends_so, other_run, run_ends_so};
 use ra_text::OutOfMemory;
 use std::alloc::Global;
+use std::fmt::Write;
 
 #[test]
 fn refuses_sets_at_their_first_bad_place(rt: HostRuntime) -> Result<(), OutOfMemory> {
@@ -57,38 +57,85 @@ fn repeated(
     Ok(all)
 }
 
+// A set of so many achievements.
+fn items(alloc: Global, count: u32) -> Result<String, OutOfMemory> {
+    let mut set = String::new(alloc);
+    for id in 1..=count {
+        writeln!(set, "A {id} 0=1")?;
+    }
+    Ok(set)
+}
+
+// Whether a check counts a set at its limit in this line, and a check and a run refuse one that is past it.
+fn is_limit(
+    alloc: Global,
+    most: &str,
+    over: &str,
+    line: &[u8],
+    why: &[u8],
+) -> Result<bool, OutOfMemory> {
+    Ok(
+        check_ends_so(alloc, most.as_bytes(), 0, line)?
+            && check_ends_so(alloc, over.as_bytes(), 3, why)?
+            && run_ends_so(alloc, over.as_bytes(), FIVES, 3, why)?,
+    )
+}
+
 #[test]
 fn refuses_sets_past_their_limits(rt: HostRuntime) -> Result<(), OutOfMemory> {
-    let rows: [(&str, &str, u32, &str, &[u8]); 3] = [
+    let rows: [(&str, &str, u32, &str, &[u8], &[u8]); 3] = [
         (
-            "",
-            "#",
-            4_194_305,
-            "",
-            b"set refused: bytes 4194305 over 4194304\n",
+            "A 1 0=1",
+            "_0=1",
+            65_535,
+            "\n",
+            b"achievements 1 leaderboards 0 conditions 65536 cells 0 priors 0 md5 96a1dbd7072801fc940afc5af54b4c2f\n",
+            b"set refused: conditions 65537 over 65536\n",
         ),
         (
             "P\nDisplay:\n",
             "@Number(v1)",
-            257,
+            256,
             "",
+            b"achievements 0 leaderboards 0 conditions 256 cells 0 priors 0 md5 2206942a6dc6a181559a28b38d5750e3\n",
             b"set refused: macros 257 over 256\n",
         ),
         (
             "P\nLookup:L\n0=",
             "a",
-            1025,
+            1_024,
             "\nDisplay:\nx\n",
+            b"achievements 0 leaderboards 0 conditions 0 cells 0 priors 0 md5 914bc8a4a975d1af3e96f897f6fe1dc4\n",
             b"set refused: lookup 1025 over 1024\n",
         ),
     ];
-    for (front, text, times, back, why) in rows {
-        let set = repeated(rt.alloc(), front, text, times, back)?;
+    for (front, text, times, back, line, why) in rows {
+        let most = repeated(rt.alloc(), front, text, times, back)?;
+        let over = repeated(rt.alloc(), front, text, times + 1, back)?;
         assert!(rt;
-            run_ends_so(rt.alloc(), set.as_bytes(), FIVES, 3, why)?,
+            is_limit(rt.alloc(), most.as_str(), over.as_str(), line, why)?,
             "{why:?}"
         );
     }
+    Ok(())
+}
+
+#[test]
+fn refuses_a_set_of_too_many_items(rt: HostRuntime) -> Result<(), OutOfMemory> {
+    let most = items(rt.alloc(), 16_384)?;
+    let over = items(rt.alloc(), 16_385)?;
+    let line =
+        b"achievements 16384 leaderboards 0 conditions 16384 cells 0 priors 0 md5 1c2f9ae79011b6a3dd593efac64395f0\n";
+    let why = b"set refused: items 16385 over 16384\n";
+    assert!(rt; is_limit(rt.alloc(), most.as_str(), over.as_str(), line, why)?);
+    Ok(())
+}
+
+#[test]
+fn refuses_a_set_past_its_bytes(rt: HostRuntime) -> Result<(), OutOfMemory> {
+    let set = repeated(rt.alloc(), "", "#", 4_194_305, "")?;
+    let why = b"set refused: bytes 4194305 over 4194304\n";
+    assert!(rt; run_ends_so(rt.alloc(), set.as_bytes(), FIVES, 3, why)?);
     Ok(())
 }
 
@@ -120,44 +167,5 @@ fn refuses_traces_at_their_first_bad_record(rt: HostRuntime) -> Result<(), OutOf
         ),
     ];
     assert_eq!(rt; other_run(rt.alloc(), 7, &rows)?, None);
-    Ok(())
-}
-
-// Whether a trace is refused, and the text begins with all that its records print just where nothing but the end record
-// is missing.
-fn is_cut_so(
-    alloc: Global,
-    set: &[u8],
-    trace: &[u8],
-    last: bool,
-    text: &[u8],
-) -> Result<bool, OutOfMemory> {
-    let mut files = files_of(alloc, set, trace)?;
-    let mut out = SureSink::new(alloc);
-    let status = status_of(alloc, &RUN, &mut files, &mut out);
-    Ok(status == 7 && out.taken().starts_with(text) == last)
-}
-
-// What the records before the cut print stays.
-#[test]
-fn refuses_traces_that_are_cut(rt: HostRuntime) -> Result<(), OutOfMemory> {
-    let rows: [(&[u8], &[u8], &[u8]); 3] = [
-        (THREE_HITS, FIVES, b"unlock 4 1\n"),
-        (
-            b"A 1 d0xH0010=1_0xH0010=2\n",
-            b"RATR\x01\x40\0\0\0W\x10\0\0\0\x01\0\x01FS\0W\x10\0\0\0\x01\0\x05FW\x10\0\0\0\x01\0\x02R\0FE",
-            b"unlock 1 1\n",
-        ),
-        (FOREST, FOREST_TRACE, FOREST_TEXT),
-    ];
-    for (set, trace, text) in rows {
-        for len in 0..trace.len() {
-            let last = len + 1 == trace.len();
-            assert!(rt;
-                is_cut_so(rt.alloc(), set, &trace[..len], last, text)?,
-                "{len} bytes of {set:?}"
-            );
-        }
-    }
     Ok(())
 }

@@ -1,0 +1,120 @@
+//! Traces that are cut at every byte.
+
+use crate::displays::{FOREST, FOREST_TEXT, FOREST_TRACE};
+use crate::jobs::{FIVES, THREE_HITS, run_ends_so};
+use ra_text::OutOfMemory;
+use std::alloc::Global;
+use std::fmt::Write;
+
+// A set, a trace and its text, and where each record starts, with how much is printed before it.
+#[derive(Clone, Copy, Debug)]
+struct Cuts<'a> {
+    set: &'a [u8],
+    trace: &'a [u8],
+    text: &'a [u8],
+    records: &'a [(usize, usize)],
+}
+
+// The text of a run over the first bytes of the trace: below nine it has no header, and then the last record that
+// starts there is cut.
+fn cut_text(alloc: Global, cuts: &Cuts<'_>, len: usize) -> Result<Vec<u8>, OutOfMemory> {
+    let mut line = String::from_str(alloc, "trace refused at 0: header\n")?;
+    let mut printed = 0;
+    for (at, before) in cuts.records {
+        if *at <= len {
+            line.clear();
+            writeln!(line, "trace refused at {at}: cut")?;
+            printed = *before;
+        }
+    }
+    let mut text = cuts
+        .text
+        .iter()
+        .take(printed)
+        .copied()
+        .collect::<Vec<u8>>(alloc)?;
+    text.extend_from_slice(line.as_bytes())?;
+    Ok(text)
+}
+
+// The first length at which the cut trace does not end so.
+fn other_cut(alloc: Global, cuts: &Cuts<'_>) -> Result<Option<usize>, OutOfMemory> {
+    for (len, _) in cuts.trace.iter().enumerate() {
+        let text = cut_text(alloc, cuts, len)?;
+        let front = cuts
+            .trace
+            .iter()
+            .take(len)
+            .copied()
+            .collect::<Vec<u8>>(alloc)?;
+        if !run_ends_so(alloc, cuts.set, front.as_slice(), 7, text.as_slice())? {
+            return Ok(Some(len));
+        }
+    }
+    Ok(None)
+}
+
+#[test]
+fn a_cut_trace_prints_what_lies_before_the_cut(rt: HostRuntime) -> Result<(), OutOfMemory> {
+    let rows = [
+        Cuts {
+            set: THREE_HITS,
+            trace: FIVES,
+            text: b"unlock 4 1\n",
+            records: &[
+                (9, 0),
+                (10, 0),
+                (18, 0),
+                (19, 0),
+                (20, 0),
+                (28, 0),
+                (29, 0),
+                (37, 0),
+                (38, 11),
+            ],
+        },
+        Cuts {
+            set: b"A 1 d0xH0010=1_0xH0010=2\n",
+            trace: b"RATR\x01\x40\0\0\0W\x10\0\0\0\x01\0\x01FS\0W\x10\0\0\0\x01\0\x05FW\x10\0\0\0\x01\0\x02R\0FE",
+            text: b"unlock 1 1\n",
+            records: &[
+                (9, 0),
+                (17, 0),
+                (18, 0),
+                (20, 0),
+                (28, 0),
+                (29, 0),
+                (37, 0),
+                (39, 0),
+                (40, 11),
+            ],
+        },
+        Cuts {
+            set: FOREST,
+            trace: FOREST_TRACE,
+            text: FOREST_TEXT,
+            records: &[
+                (9, 0),
+                (10, 0),
+                (11, 23),
+                (19, 23),
+                (27, 23),
+                (35, 23),
+                (36, 51),
+                (37, 69),
+                (45, 69),
+                (46, 90),
+                (54, 90),
+                (55, 90),
+                (63, 90),
+                (72, 90),
+                (73, 103),
+                (74, 140),
+            ],
+        },
+    ];
+    for cuts in &rows {
+        assert_eq!(rt; other_cut(rt.alloc(), cuts)?, None, "{:?}", cuts.set);
+    }
+    Ok(())
+}
