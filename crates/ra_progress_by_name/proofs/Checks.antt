@@ -1,13 +1,12 @@
 -- Accepted bytes are those that no check refuses.
-use Rattle.std.proofs.Common.{◌≡◌, ℕ, ◌<◌, ◌≤◌, ◌==◌, ◌&&◌, ◌||◌, not, Bool, true, false, if◌then◌else◌, nat_lt, Option, None, Some, List, [], ◌∷◌, length, take, bytes_eq, Result, Ok, Err, IsOk, MatchResult, ◌↔◌, refl, sym, ◌∙◌, ap, arith}
+use Rattle.std.proofs.Common.{◌≡◌, ℕ, ◌==◌, not, Bool, true, false, if◌then◌else◌, nat_lt, Option, None, Some, List, [], ◌∷◌, length, take, bytes_eq, Result, Ok, Err, IsOk, MatchResult, ◌↔◌, refl, sym, ◌∙◌}
 use Rattle.std.specs.List.{AllByRecursion}
 use Rattle.std.proofs.lemmas.Bool.{ltb-false, le-ltb, eq-eqb, eqb-true}
 use Rattle.std.proofs.lemmas.Slice.Eq.{bytes_eq-Decides}
 use Rattle.md5.specs.Md5.{md5}
 use Rattle.ra_progress_by_name.specs.declared.refused.ProgressRefused.{ProgressRefused}
-use Rattle.ra_progress_by_name.specs.declared.refused.ProgressRefused.TheVariants.{WrongLength, WrongMark, WrongVersion, WrongSum, OtherSet}
 use Rattle.ra_progress_by_name.specs.Contents.{ShapeContents, Own, own_entries}
-use Rattle.ra_progress_by_name.specs.Layout.{Entry, version_in, digest_in, sum_in, summed_in, entries_in}
+use Rattle.ra_progress_by_name.specs.Layout.{Entry, version_in, sum_in, summed_in, entries_in}
 use Rattle.ra_progress_by_name.specs.Spelling.{mark}
 use Rattle.ra_progress_by_name.specs.Reading.{most_bytes, fewest_bytes, is_version, wanted_length, is_related, by_places, or_later, bad_entry, bad_entries, Block, bad_state, bad_states, blocks_in, refusal, IsAccepted}
 
@@ -19,7 +18,7 @@ passes false why rest none = (refl, none)
 passed : {A : Type 0} (b : Bool) (why : A) (rest : Option A) → b ≡ false → rest ≡ None → (if b then Some why else rest) ≡ None
 passed b why rest holds none = rw (holds, none) refl
 
-holds : (b : Bool) → not b ≡ false → b ≡ true
+pub holds : (b : Bool) → not b ≡ false → b ≡ true
 holds true not_it = refl
 holds false not_it = absurd (cc not_it)
 
@@ -76,11 +75,13 @@ none_accepted shape bytes none =
     let g = passes (not (is_related shape bytes)) _ _ f.1 in
     let h = neither_is (if by_places shape bytes then None else bad_entries (own_entries shape) (entries_in bytes)) (bad_states bytes (blocks_in shape bytes)) g.1 in
     record {
-      fewest = ltb-false (length bytes) fewest_bytes b.0;
-      most = ltb-false most_bytes (length bytes) a.0;
-      marked = (bytes_eq-Decides (take 4 bytes) mark).0 (holds _ c.0);
-      version = holds _ d.0;
-      as_long = eqb-true (length bytes) (wanted_length shape bytes) (holds _ e.0);
+      whole = record {
+        fewest = ltb-false (length bytes) fewest_bytes b.0;
+        most = ltb-false most_bytes (length bytes) a.0;
+        marked = (bytes_eq-Decides (take 4 bytes) mark).0 (holds _ c.0);
+        version = holds _ d.0;
+        as_long = eqb-true (length bytes) (wanted_length shape bytes) (holds _ e.0);
+      };
       sum = (bytes_eq-Decides (sum_in bytes) (md5 (summed_in bytes))).0 (holds _ f.0);
       related = holds _ g.0;
       entries = λ by_names. all_entries (own_entries shape) (entries_in bytes) (unless (by_places shape bytes) _ h.0 by_names);
@@ -89,11 +90,11 @@ none_accepted shape bytes none =
 
 pub accepted_none : (shape : ShapeContents) (bytes : List ℕ) → IsAccepted shape bytes → refusal shape bytes ≡ None
 accepted_none shape bytes ok =
-    passed (nat_lt most_bytes (length bytes)) _ _ (le-ltb most_bytes (length bytes) ok.most)
-    (passed (nat_lt (length bytes) fewest_bytes) _ _ (le-ltb (length bytes) fewest_bytes ok.fewest)
-    (passed (not (bytes_eq (take 4 bytes) mark)) _ _ (not_holds _ ((bytes_eq-Decides (take 4 bytes) mark).1 ok.marked))
-    (passed (not (is_version (version_in bytes))) _ _ (not_holds _ ok.version)
-    (passed (not (length bytes == wanted_length shape bytes)) _ _ (not_holds _ (eq-eqb (length bytes) (wanted_length shape bytes) ok.as_long))
+    passed (nat_lt most_bytes (length bytes)) _ _ (le-ltb most_bytes (length bytes) ok.whole.most)
+    (passed (nat_lt (length bytes) fewest_bytes) _ _ (le-ltb (length bytes) fewest_bytes ok.whole.fewest)
+    (passed (not (bytes_eq (take 4 bytes) mark)) _ _ (not_holds _ ((bytes_eq-Decides (take 4 bytes) mark).1 ok.whole.marked))
+    (passed (not (is_version (version_in bytes))) _ _ (not_holds _ ok.whole.version)
+    (passed (not (length bytes == wanted_length shape bytes)) _ _ (not_holds _ (eq-eqb (length bytes) (wanted_length shape bytes) ok.whole.as_long))
     (passed (not (bytes_eq (sum_in bytes) (md5 (summed_in bytes)))) _ _ (not_holds _ ((bytes_eq-Decides (sum_in bytes) (md5 (summed_in bytes))).1 ok.sum))
     (passed (not (is_related shape bytes)) _ _ (not_holds _ ok.related)
     (none_is _ _ (but (by_places shape bytes) _ (λ by_names. no_entry (own_entries shape) (entries_in bytes) (ok.entries by_names)))

@@ -3,9 +3,11 @@ pub mod Bytes
 pub mod Checks
 pub mod Needs
 pub mod Orders
+pub mod OwnOrder
 pub mod OwnNames
 pub mod Owns
 pub mod Pairs
+pub mod Passes
 pub mod Segments
 pub mod Sizes
 pub mod Usable

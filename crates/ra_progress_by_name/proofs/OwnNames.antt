@@ -1,9 +1,9 @@
 -- The own entries have the names that are looked up.
-use Rattle.std.proofs.Common.{◌≡◌, ℕ, ◌+◌, Option, None, Some, List, [], ◌∷◌, ◌++◌, length, map, is_some, option_to_list, refl, sym, ◌∙◌, ap, ap₂, arith}
+use Rattle.std.proofs.Common.{◌≡◌, Option, None, Some, List, [], ◌∷◌, ◌++◌, length, map, is_some, option_to_list, refl, ◌∙◌, ap, ap₂, arith}
 use Rattle.std.proofs.lemmas.List.{map-append}
 use Rattle.ra_progress_by_name.specs.declared.shape.ItemShape.{ItemShape}
 use Rattle.ra_progress_by_name.specs.declared.shape.PresenceShape.{PresenceShape}
-use Rattle.ra_progress_by_name.specs.Contents.{Name, ShapeContents, Own, own_items, own_presence, own_entries}
+use Rattle.ra_progress_by_name.specs.Contents.{Name, ShapeContents, own_items, own_presence, own_entries}
 use Rattle.ra_progress_by_name.specs.Names.{IsPaired, entry_names}
 
 items_names : (names : List Name) (shapes : List ItemShape) → length names ≡ length shapes → map (λ own. own.name) (own_items names shapes) ≡ names

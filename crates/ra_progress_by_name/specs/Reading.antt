@@ -91,10 +91,13 @@ abbrev pub blocks_beside : List Own → List Entry → List Block
 blocks_beside (own ∷ owns) (entry ∷ entries) = record { at = entry.at + 20; shape = own.shape } ∷ blocks_beside owns entries
 blocks_beside _ _ = []
 
--- the blocks of entries by their names: each is read as every own entry of its name
+-- the blocks that an entry is read as: one for every own entry of its name
+abbrev pub blocks_of_entry : List Own → Entry → List Block
+blocks_of_entry owns entry = map (λ own. record { at = entry.at + 20; shape = own.shape }) (owns_named entry.name owns)
+
+-- the blocks of entries by their names
 abbrev pub blocks_named : List Own → List Entry → List Block
-blocks_named owns entries =
-    flat_map (λ entry. map (λ own. record { at = entry.at + 20; shape = own.shape }) (owns_named entry.name owns)) entries
+blocks_named owns entries = flat_map (blocks_of_entry owns) entries
 
 -- the blocks that are looked at, in the order of the file
 abbrev pub blocks_in : ShapeContents → List ℕ → List Block
@@ -121,6 +124,17 @@ abbrev pub bad_states : List ℕ → List Block → Option ProgressRefused
 bad_states bytes [] = None
 bad_states bytes (block ∷ blocks) = or_later (bad_state bytes block) (bad_states bytes blocks)
 
+-- the first refusal of an entry or a block, where there is one
+abbrev pub bad_contents : ShapeContents → List ℕ → Option ProgressRefused
+bad_contents shape bytes =
+    or_later (if by_places shape bytes then None else bad_entries (own_entries shape) (entries_in bytes))
+    (bad_states bytes (blocks_in shape bytes))
+
+-- the first refusal of a file whole in itself: it is of another set, or something in it does not fit this one
+abbrev pub misfit : ShapeContents → List ℕ → Option ProgressRefused
+misfit shape bytes =
+    if not (is_related shape bytes) then Some (OtherSet (digest_in bytes)) else bad_contents shape bytes
+
 -- why a file is refused: the first of eight checks that fails
 abbrev pub refusal : ShapeContents → List ℕ → Option ProgressRefused
 refusal shape bytes =
@@ -130,9 +144,7 @@ refusal shape bytes =
     else if not (is_version (version_in bytes)) then Some (WrongVersion (version_in bytes))
     else if not (length bytes == wanted_length shape bytes) then Some (WrongLength (wanted_length shape bytes) (length bytes))
     else if not (bytes_eq (sum_in bytes) (md5 (summed_in bytes))) then Some (WrongSum (sum_in bytes) (md5 (summed_in bytes)))
-    else if not (is_related shape bytes) then Some (OtherSet (digest_in bytes))
-    else or_later (if by_places shape bytes then None else bad_entries (own_entries shape) (entries_in bytes))
-    (bad_states bytes (blocks_in shape bytes))
+    else misfit shape bytes
 
 -- the bytes have a layout with names: version 2 or 3, with the length that their counts and lengths ask for
 pub record HasLayout (bytes : List ℕ) : Type 0 where
@@ -142,13 +154,17 @@ pub record HasLayout (bytes : List ℕ) : Type 0 where
   pub version : (version_in bytes ≡ 2) ⊎ (version_in bytes ≡ 3)
   pub as_long : length bytes ≡ need_of bytes
 
--- the bytes are a progress file that the shape accepts
-pub record IsAccepted (shape : ShapeContents) (bytes : List ℕ) : Type 0 where
+-- the bytes have the mark, a version that is read, and the length that it asks for
+pub record IsWhole (shape : ShapeContents) (bytes : List ℕ) : Type 0 where
   pub fewest : fewest_bytes ≤ length bytes
   pub most : length bytes ≤ most_bytes
   pub marked : take 4 bytes ≡ mark
   pub version : is_version (version_in bytes) ≡ true
   pub as_long : length bytes ≡ wanted_length shape bytes
+
+-- the bytes are a progress file that the shape accepts
+pub record IsAccepted (shape : ShapeContents) (bytes : List ℕ) : Type 0 where
+  pub whole : IsWhole shape bytes
   pub sum : sum_in bytes ≡ md5 (summed_in bytes)
   pub related : is_related shape bytes ≡ true
   pub entries : by_places shape bytes ≡ false → AllByRecursion (λ entry. bad_entry (own_entries shape) entry ≡ None) (entries_in bytes)

@@ -4,6 +4,8 @@
 //! take no memory.
 #![tactic(auto)]
 
+mod checking;
+mod entries;
 mod layout;
 mod named;
 mod order;
@@ -14,11 +16,13 @@ mod refused;
 mod relation;
 mod shape;
 mod snapshot;
+mod states;
 #[cfg(test)]
 mod tests;
 mod words;
 mod writing;
 
+pub use checking::check;
 pub use layout::{cell_count, entry_after, entry_count, first_entry, prior_count};
 pub use named::Named;
 pub use order::order_of;

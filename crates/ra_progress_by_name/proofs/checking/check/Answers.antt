@@ -1,0 +1,7 @@
+use Rattle.ra_progress_by_name.specs.Contents.{shape_contents}
+use Rattle.ra_progress_by_name.proofs.Checks.{is_ok-by}
+use Rattle.ra_progress_by_name.proofs.checking.check.Goals as goal
+
+pub returns-clause-ok : goal.returns-clause-ok
+returns-clause-ok c =
+    is_ok-by (shape_contents c.args.shape.now) c.args.bytes.now c.refusal.result c.refusal.ensures

@@ -1,0 +1,16 @@
+use Rattle.std.proofs.Common.{◌≡◌}
+use Rattle.ra_progress_by_name.specs.Contents.{shape_contents, own_entries}
+use Rattle.ra_progress_by_name.specs.Layout.{entries_from, entries_in}
+use Rattle.ra_progress_by_name.specs.Reading.{bad_entries}
+use Rattle.ra_progress_by_name.proofs.Walks.{IsWalk}
+use Rattle.ra_progress_by_name.proofs.entries.bad_entries.Given as goal
+
+-- what is left to look at
+abbrev pub invariant-loop-left : goal.invariant-loop-left
+invariant-loop-left l = record {
+  walk : IsWalk l.bytes l.left l.at;
+  rest : bad_entries (own_entries (shape_contents l.shape)) (entries_from l.bytes l.left l.at) ≡ bad_entries (own_entries (shape_contents l.shape)) (entries_in l.bytes);
+}
+
+abbrev pub decreases-loop-left : goal.decreases-loop-left
+decreases-loop-left l = l.left
