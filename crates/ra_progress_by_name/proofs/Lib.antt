@@ -1,4 +1,5 @@
 pub mod Blocks
+pub mod ByName
 pub mod Bytes
 pub mod Checks
 pub mod Needs
@@ -8,6 +9,7 @@ pub mod OwnNames
 pub mod Owns
 pub mod Pairs
 pub mod Passes
+pub mod Placed
 pub mod Segments
 pub mod Sizes
 pub mod Usable

@@ -6,12 +6,15 @@
 
 mod checking;
 mod entries;
+mod entry_places;
 mod layout;
 mod named;
+mod numbers;
 mod order;
 mod own;
 mod places;
 mod range;
+mod reading;
 mod refused;
 mod relation;
 mod shape;
@@ -28,6 +31,7 @@ pub use named::Named;
 pub use order::order_of;
 pub use places::{frames_at, item_at, length, length_1, presence_at};
 pub use range::matches;
+pub use reading::decode;
 pub use refused::ProgressRefused;
 pub use relation::of_this_set;
 pub use shape::{ItemShape, PresenceShape, Shape};

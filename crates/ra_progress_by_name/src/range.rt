@@ -1,6 +1,6 @@
 //! Names that are looked up.
 
-ghost use Rattle.std.specs.Prelude.{◌≡◌, ◌++◌, ◌≤◌, ◌<◌, ◌^◌, length, option_to_list, ◌↔◌, ℕ, true, false, slice_index};
+ghost use Rattle.std.specs.Prelude.{◌≡◌, ◌++◌, ◌≤◌, ◌<◌, ◌^◌, length, option_to_list, ◌↔◌, ℕ, true, false, slice_index, slice_index_or};
 ghost use Rattle.std.specs.Ordering.{is_lt, nat_cmp};
 ghost use Rattle.std.specs.Cmp.Lexicographic.{slice_cmp};
 ghost use Rattle.ra_progress_by_name.specs.Contents.{shape_contents};
@@ -25,6 +25,31 @@ pub fn matches(shape: &Shape, named: Named, name: &[u8; 16]) -> (u32, u32)
             &shape.entry_order,
             name,
         ),
+    }
+}
+
+/// The order of such names.
+pub(crate) fn order_of_names(shape: &Shape, named: Named) -> &[u32]
+    ensures { result.now ≡ order_in named shape.now }
+{
+    match named {
+        Named::Cell => &shape.cell_order,
+        Named::Prior => &shape.prior_order,
+        Named::Entry => &shape.entry_order,
+    }
+}
+
+/// Gives a value to each number in a range of an order.
+pub(crate) fn put_all<T: Copy>(values: &mut Vec<T>, order: &[u32], range: (u32, u32), value: T)
+    requires rising { range.0 ≤ range.1 }
+    requires most { range.1 ≤ length order.now }
+    requires numbers { (k : ℕ) → k < length order.now → slice_index order.now k < length values.old.items }
+    ensures long { length values.new.items ≡ length values.old.items }
+    ensures there { (k : ℕ) (d : T) → range.0 ≤ k → k < range.1 → slice_index_or values.new.items (slice_index order.now k) d ≡ value }
+    ensures kept { (n : ℕ) (d : T) → ((k : ℕ) → range.0 ≤ k → k < range.1 → slice_index order.now k ≡ n → ⊥) → slice_index_or values.new.items n d ≡ slice_index_or values.old.items n d }
+{
+    for place in range.0..range.1 {
+        values[order[place as usize] as usize] = value;
     }
 }
 
