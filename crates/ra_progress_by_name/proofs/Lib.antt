@@ -1,10 +1,13 @@
+pub mod Again
 pub mod Blocks
 pub mod ByName
 pub mod Bytes
 pub mod Checks
+pub mod ComesBack
 pub mod Needs
 pub mod Orders
 pub mod OwnOrder
+pub mod OwnFile
 pub mod OwnNames
 pub mod Owns
 pub mod Pairs
@@ -12,5 +15,6 @@ pub mod Passes
 pub mod Placed
 pub mod Segments
 pub mod Sizes
+pub mod Stands
 pub mod Usable
 pub mod Walks

@@ -7,6 +7,7 @@
 mod checking;
 mod entries;
 mod entry_places;
+mod laws;
 mod layout;
 mod named;
 mod numbers;
@@ -26,6 +27,7 @@ mod words;
 mod writing;
 
 pub use checking::check;
+pub use laws::both_ways;
 pub use layout::{cell_count, entry_after, entry_count, first_entry, prior_count};
 pub use named::Named;
 pub use order::order_of;

@@ -1,0 +1,12 @@
+use Rattle.ra_progress_by_name.proofs.Again.{again}
+use Rattle.ra_progress_by_name.proofs.ComesBack.{comes_back, own}
+use Rattle.ra_progress_by_name.proofs.laws.both_ways.Goals as goal
+
+pub returns-clause-from_openings : goal.returns-clause-from_openings
+returns-clause-from_openings c = λ shape o is_shape fits. comes_back shape o is_shape fits
+
+pub returns-clause-own : goal.returns-clause-own
+returns-clause-own c = λ shape o is_shape fits. own shape o is_shape fits
+
+pub returns-clause-from_bytes : goal.returns-clause-from_bytes
+returns-clause-from_bytes c = λ shape bytes fit is_shape ok is_own. again bytes fit shape is_shape ok is_own

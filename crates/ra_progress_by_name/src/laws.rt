@@ -1,0 +1,20 @@
+//! Laws on the definitions, for whoever reads them.
+
+ghost use Rattle.std.specs.Prelude.{◌≡◌, ℕ, ◌<◌, List};
+ghost use Rattle.std.specs.List.{AllByRecursion};
+ghost use Rattle.ra_progress_by_name.specs.Contents.{ShapeContents, Opening, IsOpening};
+ghost use Rattle.ra_progress_by_name.specs.Spelling.{progress_bytes};
+ghost use Rattle.ra_progress_by_name.specs.Reading.{IsAccepted};
+ghost use Rattle.ra_progress_by_name.specs.Saying.{says};
+ghost use Rattle.ra_progress_by_name.specs.Laws.{IsShape, ComesBack, IsOwn};
+
+/// The bytes of an opening are accepted, say it again and are the set's own:
+/// docs/DEFINITIONS.md, "Progress file".
+///
+/// A law: it does nothing.
+pub fn both_ways()
+    ensures from_openings { (shape : ShapeContents) (o : Opening) → IsShape shape → IsOpening shape o → ComesBack shape o }
+    ensures own { (shape : ShapeContents) (o : Opening) → IsShape shape → IsOpening shape o → IsOwn shape (progress_bytes shape o) }
+    ensures from_bytes { (shape : ShapeContents) (bytes : List ℕ) → AllByRecursion (λ b. b < 256) bytes
+        → IsShape shape → IsAccepted shape bytes → IsOwn shape bytes → progress_bytes shape (says shape bytes) ≡ bytes }
+{}
