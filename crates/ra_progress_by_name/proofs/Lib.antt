@@ -13,6 +13,7 @@ pub mod Owns
 pub mod Pairs
 pub mod Passes
 pub mod Placed
+pub mod SaysOpening
 pub mod Segments
 pub mod Sizes
 pub mod Stands

@@ -19,6 +19,10 @@ pub record IsShape (shape : ShapeContents) : Type 0 where
   pub lines : (presence : PresenceShape) → shape.presence ≡ Some presence → presence.lines < 2 ^ 32
   pub short : length_of shape ≤ 8388608
 
+-- a script has a line
+abbrev pub HasLines : ShapeContents → Type 0
+HasLines shape = (presence : PresenceShape) → shape.presence ≡ Some presence → 0 < presence.lines
+
 -- the bytes of an opening are accepted, and say it again
 pub record ComesBack (shape : ShapeContents) (o : Opening) : Type 0 where
   pub accepted : IsAccepted shape (progress_bytes shape o)
