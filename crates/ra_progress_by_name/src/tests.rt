@@ -624,6 +624,41 @@ fn the_most_bytes(rt: HostRuntime) -> Result<(), Fail> {
     Ok(())
 }
 
+// A file of the most bytes: entries of a foreign name, and one of nine bytes.
+fn longest(alloc: Global, last: &[u8; 16]) -> Result<Vec<u8>, OutOfMemory> {
+    let mut bytes = Vec::new(alloc);
+    bytes.extend_from_slice(b"RAPG\x03")?;
+    bytes.extend_from_slice(&OTHER)?;
+    bytes.extend_from_slice(&FRAMES)?;
+    bytes.extend_from_slice(&[0; 8])?;
+    bytes.extend_from_slice(&[0x63, 0x66, 6, 0])?;
+    for _ in 0..419425 {
+        bytes.extend_from_slice(&FOREIGN)?;
+        bytes.extend_from_slice(&NONE)?;
+    }
+    bytes.extend_from_slice(&FOREIGN)?;
+    bytes.extend_from_slice(&[2, 0, 0, 0, 0, 0])?;
+    bytes.extend_from_slice(last)?;
+    bytes.extend_from_slice(&NINE)?;
+    bytes.push(1)?;
+    bytes.extend_from_slice(&BLOCK)?;
+    let sum = Md5::digest(bytes.as_slice());
+    bytes.extend_from_slice(&sum)?;
+    Ok(bytes)
+}
+
+#[test]
+fn a_file_of_the_most_bytes(rt: HostRuntime) -> Result<(), Fail> {
+    let shape = row_1(rt.alloc())?;
+    let foreign = longest(rt.alloc(), &FOREIGN)?;
+    let other = ProgressRefused::OtherSet { found: OTHER };
+    assert_eq!(rt; foreign.len(), 8388608);
+    assert_eq!(rt; check(&shape, &foreign), Err(other));
+    let own = longest(rt.alloc(), &ITEM)?;
+    assert_eq!(rt; check(&shape, &own), Ok(()));
+    Ok(())
+}
+
 #[test]
 fn the_worked_file(rt: HostRuntime) -> Result<(), Fail> {
     let shape = Shape {

@@ -11,8 +11,10 @@ returns-in-Some c =
     let owns = own_entries (shape_contents c.args.shape.now) in
     let bytes = c.args.bytes.now in
     let later = bad_entries owns (entries_from bytes (c.loop-left.left - 1) (entry_after bytes c.loop-left.at)) in
-    sym (sym c.loop-left.invariant.rest ∙ entries_next owns bytes c.loop-left.left c.loop-left.at c.loop-left-test.true
-    ∙ first_is (bad_entry owns (entry_at bytes c.loop-left.at)) later c.in-Some.refused (sym c.bad_entry.ensures ∙ c.in-Some.is))
+    sym (sym c.loop-left.invariant.rest
+    ∙ entries_next owns bytes c.loop-left.left c.loop-left.at c.loop-left-test.true
+    ∙ first_is (bad_entry owns (entry_at bytes c.loop-left.at)) later c.in-Some.refused
+    (sym c.bad_entry.ensures ∙ c.in-Some.is))
 
 pub loop-left-preserved : goal.loop-left-preserved
 loop-left-preserved c =
@@ -20,7 +22,8 @@ loop-left-preserved c =
     let bytes = c.args.bytes.now in
     let later = bad_entries owns (entries_from bytes (c.loop-left.left - 1) (entry_after bytes c.loop-left.at)) in
     let next = walk_next bytes c.loop-left.left c.loop-left.at c.loop-left-test.true c.loop-left.invariant.walk in
-    let on = entries_next owns bytes c.loop-left.left c.loop-left.at c.loop-left-test.true ∙ later_is (bad_entry owns (entry_at bytes c.loop-left.at)) later (sym c.bad_entry.ensures ∙ c.in_default.is) in
+    let on = entries_next owns bytes c.loop-left.left c.loop-left.at c.loop-left-test.true ∙ later_is
+    (bad_entry owns (entry_at bytes c.loop-left.at)) later (sym c.bad_entry.ensures ∙ c.in_default.is) in
     record {
       walk = rw c.entry_after-at.ensures next.1;
       rest = rw c.entry_after-at.ensures (sym on ∙ c.loop-left.invariant.rest);

@@ -13,9 +13,12 @@ returns-then-wanted-from c =
     let p : Own → Bool = λ own. not (own_length own == c.args.size) in
     let left = take (c.args.to - (c.loop-place.place + 1)) (drop (c.loop-place.place + 1) order) in
     let step = between_step order c.loop-place.place c.args.to c.loop-place-test.true c.requires.most in
-    let long : c.block_length-wanted.result ≡ own_length own = c.block_length-wanted.ensures.length ∙ ap block_length c.own_in_order.ensures in
-    let other : p own ≡ true = ap not (ne_eqb (own_length own) c.args.size (λ same. c.if-wanted-from.true (long ∙ same ∙ sym c.from.ensures))) in
-    ap Some long ∙ sym (ap (option_map own_length) (sym c.loop-place.invariant ∙ ap (λ xs. find p (map (own_at owns) xs)) step)
+    let long : c.block_length-wanted.result ≡ own_length own = c.block_length-wanted.ensures.length
+    ∙ ap block_length c.own_in_order.ensures in
+    let other : p own ≡ true = ap not
+    (ne_eqb (own_length own) c.args.size (λ same. c.if-wanted-from.true (long ∙ same ∙ sym c.from.ensures))) in
+    ap Some long ∙ sym (ap (option_map own_length)
+    (sym c.loop-place.invariant ∙ ap (λ xs. find p (map (own_at owns) xs)) step)
     ∙ find_here own_length p own (map (own_at owns) left) other)
 
 pub loop-place-preserved : goal.loop-place-preserved
@@ -26,6 +29,9 @@ loop-place-preserved c =
     let p : Own → Bool = λ own. not (own_length own == c.args.size) in
     let left = take (c.args.to - (c.loop-place.place + 1)) (drop (c.loop-place.place + 1) order) in
     let step = between_step order c.loop-place.place c.args.to c.loop-place-test.true c.requires.most in
-    let long : c.block_length-wanted.result ≡ own_length own = c.block_length-wanted.ensures.length ∙ ap block_length c.own_in_order.ensures in
-    let same : p own ≡ false = ap not (eq-eqb (own_length own) c.args.size (sym long ∙ c.if-wanted-from.false ∙ c.from.ensures)) in
-    sym (find_on p own (map (own_at owns) left) same) ∙ sym (ap (λ xs. find p (map (own_at owns) xs)) step) ∙ c.loop-place.invariant
+    let long : c.block_length-wanted.result ≡ own_length own = c.block_length-wanted.ensures.length
+    ∙ ap block_length c.own_in_order.ensures in
+    let same : p own ≡ false = ap not
+    (eq-eqb (own_length own) c.args.size (sym long ∙ c.if-wanted-from.false ∙ c.from.ensures)) in
+    sym (find_on p own (map (own_at owns) left) same) ∙ sym (ap (λ xs. find p (map (own_at owns) xs)) step)
+    ∙ c.loop-place.invariant

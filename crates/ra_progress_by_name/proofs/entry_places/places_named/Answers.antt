@@ -16,17 +16,21 @@ loop-left-init c =
     let owns = own_entries (shape_contents c.args.shape.now) in
     let none : c.in_ok-places.places.items ≡ replicate (length owns) None = search rules in
     record {
-      walk = rw (c.first_entry-at.ensures, c.entry_count-left.ensures) (walk_first c.args.bytes.now c.requires.layout);
+      walk = rw (c.first_entry-at.ensures, c.entry_count-left.ensures)
+          (walk_first c.args.bytes.now c.requires.layout);
       many = ap length none ∙ length-replicate (length owns) None;
       rest = λ n less.
-          let plain : slice_index_or c.in_ok-places.places.items n None ≡ None = ap (λ places. slice_index_or places n None) none ∙ get_or-replicate (length owns) n None None less in
+          let plain : slice_index_or c.in_ok-places.places.items n None ≡ None = ap
+          (λ places. slice_index_or places n None) none ∙ get_or-replicate (length owns) n None None less in
           rw (c.first_entry-at.ensures, c.entry_count-left.ensures, plain) refl;
     }
 
 pub put_all-requires-clause-numbers : goal.put_all-requires-clause-numbers
 put_all-requires-clause-numbers c =
-    subst (λ order. (k : ℕ) → k < length order → slice_index order k < length c.loop-left.places.items) (sym c.deref.ensures.value)
-    (λ k less. let below = number_within c.args.shape.now c.requires.usable k less in omega (arith, below, c.loop-left.invariant.many))
+    subst (λ order. (k : ℕ) → k < length order → slice_index order k < length c.loop-left.places.items)
+    (sym c.deref.ensures.value)
+    (λ k less. let below = number_within c.args.shape.now c.requires.usable k less in omega
+    (arith, below, c.loop-left.invariant.many))
 
 pub loop-left-preserved : goal.loop-left-preserved
 loop-left-preserved c =
@@ -39,18 +43,24 @@ loop-left-preserved c =
     let paired = c.requires.usable.searchable.paired in
     let same : c.deref.result.now ≡ c.args.shape.now.entry_order.items = c.deref.ensures.value in
     let is = subst (IsOrder names) (sym same) c.requires.usable.searchable.entries in
-    let range = subst (λ order. IsRange names order c.name_at.result c.matches-range.result.0 c.matches-range.result.1) (sym same) c.matches-range.ensures in
+    let range = subst
+    (λ order. IsRange names order c.name_at.result c.matches-range.result.0 c.matches-range.result.1)
+    (sym same) c.matches-range.ensures in
     record {
-      walk = rw c.entry_after-at.ensures (walk_next bytes left at c.loop-left-test.true c.loop-left.invariant.walk).1;
+      walk = rw c.entry_after-at.ensures
+          (walk_next bytes left at c.loop-left-test.true c.loop-left.invariant.walk).1;
       many = c.put_all.ensures.long ∙ c.loop-left.invariant.many;
       rest = λ n less.
           let own = own_at owns n in
           let old = slice_index_or c.loop-left.places.items n None in
           let below : n < length names = omega (arith, less, names_count shape paired) in
           let put = put_by_name names c.deref.result.now c.name_at.result c.matches-range.result.0 c.matches-range.result.1 c.loop-left.places.items c.put_all.new.values.items (Some (at + 20)) is range c.put_all.ensures.there c.put_all.ensures.kept n None below in
-          let named : slice_index_or c.put_all.new.values.items n None ≡ (if bytes_eq (name_at bytes at) own.name then Some (at + 20) else old) =
-          put ∙ ap₂ (λ (x y : Name). if bytes_eq x y then Some (at + 20) else old) c.name_at.ensures (own_name shape paired n) in
-          rw c.entry_after-at.ensures (ap (last_block own.name (entries_from bytes (left - 1) (entry_after bytes at))) named
+          let named : slice_index_or c.put_all.new.values.items n None ≡
+          (if bytes_eq (name_at bytes at) own.name then Some (at + 20) else old) =
+          put ∙ ap₂ (λ (x y : Name). if bytes_eq x y then Some (at + 20) else old) c.name_at.ensures
+          (own_name shape paired n) in
+          rw c.entry_after-at.ensures
+          (ap (last_block own.name (entries_from bytes (left - 1) (entry_after bytes at))) named
           ∙ sym (block_next bytes own.name left at old c.loop-left-test.true)
           ∙ c.loop-left.invariant.rest n less);
     }
@@ -59,5 +69,7 @@ pub returns : goal.returns
 returns c =
     let owns = own_entries (shape_contents c.args.shape.now) in
     let none : c.loop-left.left ≡ 0 = omega (arith, c.loop-left-test.false) in
-    by_index (λ own. last_block own.name (entries_in c.args.bytes.now) None) owns c.loop-left.places.items (own_at [] 0) None c.loop-left.invariant.many
-    (λ n less. sym (ap (λ left. last_block (own_at owns n).name (entries_from c.args.bytes.now left c.loop-left.at) (slice_index_or c.loop-left.places.items n None)) none) ∙ c.loop-left.invariant.rest n less)
+    by_index (λ own. last_block own.name (entries_in c.args.bytes.now) None) owns c.loop-left.places.items
+    (own_at [] 0) None c.loop-left.invariant.many
+    (λ n less. sym (ap (λ left. last_block (own_at owns n).name (entries_from c.args.bytes.now left c.loop-left.at)
+    (slice_index_or c.loop-left.places.items n None)) none) ∙ c.loop-left.invariant.rest n less)

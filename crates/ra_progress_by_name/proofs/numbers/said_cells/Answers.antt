@@ -11,6 +11,10 @@ returns-else-of_this_set c =
     let bytes = c.args.bytes.now in
     let cells = c.args.shape.now.cells.items in
     let other = ne_eqb (version_in bytes) 1 c.if-bytes-eq1.false in
-    let said = said_by_name (shape_contents c.args.shape.now) bytes 29 cells (cells_in bytes) other (sym c.of_this_set.ensures ∙ c.if-of_this_set.false) in
+    let said = said_by_name (shape_contents c.args.shape.now) bytes 29 cells (cells_in bytes) other
+    (sym c.of_this_set.ensures ∙ c.if-of_this_set.false) in
     subst (λ (l : List ℕ). IfOk c.numbers_named.result (λ numbers. numbers.items ≡ l)) (sym said)
-    (subst (λ count. IfOk c.numbers_named.result (λ numbers. numbers.items ≡ map (λ name. last_number name (numbered_at bytes 33 count) 0) cells)) c.cell_count-else-of_this_set.ensures c.numbers_named.ensures)
+    (subst (λ count. IfOk c.numbers_named.result
+    (λ numbers. numbers.items ≡ map
+    (λ name. last_number name
+    (numbered_at bytes 33 count) 0) cells)) c.cell_count-else-of_this_set.ensures c.numbers_named.ensures)

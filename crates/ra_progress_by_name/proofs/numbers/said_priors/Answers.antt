@@ -11,8 +11,14 @@ returns-else-of_this_set c =
     let bytes = c.args.bytes.now in
     let priors = c.args.shape.now.priors.items in
     let other = ne_eqb (version_in bytes) 1 c.if-bytes-eq1.false in
-    let said = said_by_name (shape_contents c.args.shape.now) bytes (29 + 4 * length c.args.shape.now.cells.items) priors (priors_in bytes) other (sym c.of_this_set.ensures ∙ c.if-of_this_set.false) in
-    let place : 37 + 20 * c.from.result ≡ 37 + 20 * cell_count bytes = ap (λ n. 37 + 20 * n) (c.from.ensures ∙ c.cell_count.ensures) in
-    let numbered : numbered_at bytes (37 + 20 * c.from.result) c.prior_count-else-of_this_set.result ≡ priors_in bytes = ap₂ (numbered_at bytes) place c.prior_count-else-of_this_set.ensures in
+    let said = said_by_name (shape_contents c.args.shape.now) bytes
+    (29 + 4 * length c.args.shape.now.cells.items) priors (priors_in bytes) other
+    (sym c.of_this_set.ensures ∙ c.if-of_this_set.false) in
+    let place : 37 + 20 * c.from.result ≡ 37 + 20 * cell_count bytes = ap (λ n. 37 + 20 * n)
+    (c.from.ensures ∙ c.cell_count.ensures) in
+    let numbered : numbered_at bytes
+    (37 + 20 * c.from.result) c.prior_count-else-of_this_set.result ≡ priors_in bytes = ap₂
+    (numbered_at bytes) place c.prior_count-else-of_this_set.ensures in
     subst (λ (l : List ℕ). IfOk c.numbers_named.result (λ numbers. numbers.items ≡ l)) (sym said)
-    (subst (λ (l : List Numbered). IfOk c.numbers_named.result (λ numbers. numbers.items ≡ map (λ name. last_number name l 0) priors)) numbered c.numbers_named.ensures)
+    (subst (λ (l : List Numbered). IfOk c.numbers_named.result
+    (λ numbers. numbers.items ≡ map (λ name. last_number name l 0) priors)) numbered c.numbers_named.ensures)
