@@ -3,7 +3,6 @@
 ghost use Rattle.std.specs.Prelude.{◌≤◌, ◌+◌, ◌≡◌, IfOk};
 ghost use Rattle.ra_progress_by_name.specs.Names.{IsUsable};
 
-use crate::layout::need;
 use crate::{
     ItemKept, ItemShape, Named, PresenceShape, ProgressRefused, Shape, Snapshot, check, decode,
     encode, frames_at, item_at, length, length_1, matches, name_at, order_of, word_at,
@@ -34,48 +33,6 @@ const FILE: [u8; 106] = [
     0x00, 0x0c, 0x00, 0x00, 0x00, 0x00, 0x03, 0x00, 0x00, 0x00, 0x0f, 0x6e, 0x03, 0x50, 0xbb, 0xea,
     0x97, 0x1c, 0xff, 0xa0, 0x49, 0x3d, 0xd7, 0x38, 0xd4, 0x41,
 ];
-
-// The need of the first bytes of the file.
-fn need_of_front(count: usize) -> u64 {
-    need(&FILE[..count.min(106)])
-}
-
-#[test]
-fn the_need_grows_as_counts_are_read(rt: HostRuntime) -> Result<(), Fail> {
-    for (count, wanted) in [
-        (45, 49),
-        (48, 49),
-        (49, 73),
-        (72, 73),
-        (73, 77),
-        (76, 77),
-        (77, 97),
-        (96, 97),
-        (97, 106),
-        (105, 106),
-        (106, 106),
-    ] {
-        assert_eq!(rt; need_of_front(count), wanted);
-    }
-    Ok(())
-}
-
-// The need of the file with four bytes of ff at a place.
-fn need_with_most(at: usize) -> u64
-    requires { at + 4 ≤ 106 }
-{
-    let mut file = FILE;
-    file[at..at + 4].copy_from_slice(&[255, 255, 255, 255]);
-    need(&file)
-}
-
-#[test]
-fn the_need_passes_32_bits(rt: HostRuntime) -> Result<(), Fail> {
-    assert_eq!(rt; need_with_most(29), 85899345953);
-    assert_eq!(rt; need_with_most(57), 85899345977);
-    assert_eq!(rt; need_with_most(77), 4294967392);
-    Ok(())
-}
 
 #[test]
 fn names_stand_in_the_file(rt: HostRuntime) -> Result<(), Fail> {
@@ -113,11 +70,25 @@ fn row_1(alloc: Global) -> Result<Shape, OutOfMemory>
     })
 }
 
-// The parts of a file in a row, with their sum.
-fn summed(alloc: Global, parts: &[&[u8]]) -> Result<Vec<u8>, OutOfMemory> {
+// The bytes of texts of hexadecimal digits in a row, with their sum. Other characters are left out.
+fn summed(alloc: Global, texts: &[&str]) -> Result<Vec<u8>, OutOfMemory> {
     let mut bytes = Vec::new(alloc);
-    for part in parts {
-        bytes.extend_from_slice(part)?;
+    let mut high = None;
+    for text in texts {
+        for c in text.bytes() {
+            let digit = match c {
+                b'0'..=b'9' => c - b'0',
+                b'a'..=b'f' => c - b'a' + 10,
+                _ => continue,
+            };
+            match high {
+                None => high = Some(digit),
+                Some(first) => {
+                    bytes.push((first << 4) | digit)?;
+                    high = None;
+                }
+            }
+        }
     }
     let sum = Md5::digest(bytes.as_slice());
     bytes.extend_from_slice(&sum)?;
@@ -128,28 +99,29 @@ fn summed(alloc: Global, parts: &[&[u8]]) -> Result<Vec<u8>, OutOfMemory> {
 fn refused(
     alloc: Global,
     shape: &Shape,
-    parts: &[&[u8]],
+    texts: &[&str],
 ) -> Result<Option<ProgressRefused>, OutOfMemory>
     requires { IsUsable shape.now }
 {
-    Ok(check(shape, &summed(alloc, parts)?).err())
+    Ok(check(shape, &summed(alloc, texts)?).err())
 }
 
-// The first cell, and the state, the first hit and the flag of the first achievement that such a
-// file says.
+// The first cell, and the state, the first hit and the flag of the achievement of a number that
+// such a file says.
 fn said(
     alloc: Global,
     shape: &Shape,
-    parts: &[&[u8]],
+    number: usize,
+    texts: &[&str],
 ) -> Result<Option<(u32, u8, u32, bool)>, OutOfMemory>
     requires { IsUsable shape.now }
 {
-    let bytes = summed(alloc, parts)?;
+    let bytes = summed(alloc, texts)?;
     if check(shape, &bytes).is_err() {
         return Ok(None);
     }
     let snapshot = decode(alloc, shape, &bytes)?;
-    match snapshot.items.get(0) {
+    match snapshot.items.get(number) {
         Some(
             ItemKept::Achievement {
                 state,
@@ -169,75 +141,73 @@ fn said(
 
 const OTHER: [u8; 16] = [0xee; 16];
 
-const FOREIGN: [u8; 16] = [0x11; 16];
+// The front of a file of the set, of one of another set, and of older ones.
+const FRONT: &str = "5241504703 95c32026a3a7b6fc1aa53d355d82ba02 0500000000000000";
 
-const FRAMES: [u8; 8] = [5, 0, 0, 0, 0, 0, 0, 0];
+const FRONT_2: &str = "5241504702 95c32026a3a7b6fc1aa53d355d82ba02 0500000000000000";
 
-const BLOCK: [u8; 8] = [0, 0, 0, 0, 3, 0, 0, 0];
+const FRONT_1: &str = "5241504701 95c32026a3a7b6fc1aa53d355d82ba02 0500000000000000";
+
+const OTHER_FRONT: &str = "5241504703 eeeeeeeeeeeeeeeeeeeeeeeeeeeeeeee 0500000000000000";
+
+const OTHER_FRONT_2: &str = "5241504702 eeeeeeeeeeeeeeeeeeeeeeeeeeeeeeee 0500000000000000";
+
+const OTHER_FRONT_1: &str = "5241504701 eeeeeeeeeeeeeeeeeeeeeeeeeeeeeeee 0500000000000000";
+
+// The names of the cell and of the item of the set, and one that it has not.
+const C: &str = "59749bd5ca8abe768eb137061a4f30c6";
+
+const A: &str = "798a55fc599d9d9b406c25a642fa8a9a";
+
+const X: &str = "11111111111111111111111111111111";
 
 #[test]
 fn each_version_is_read(rt: HostRuntime) -> Result<(), Fail> {
-    let shape = row_1(rt.alloc())?;
-    for (version, byte) in [(2, 4), (3, 12)] {
-        let told = said(
-            rt.alloc(),
-            &shape,
-            &[&FILE[..4], &[version], &FILE[5..81], &[byte], &BLOCK],
-        )?;
-        assert_eq!(rt; told, Some((5, 4, 3, true)));
-    }
-    let told = said(
-        rt.alloc(),
-        &shape,
-        &[&FILE[..4], &[1], &FILE[5..29], &FILE[49..53], &[4], &BLOCK],
-    )?;
-    assert_eq!(rt; told, Some((5, 4, 3, true)));
+    let alloc = rt.alloc();
+    let shape = row_1(alloc)?;
+    let cell = "05000000 00000000 01000000";
+    let new = [
+        FRONT,
+        "01000000",
+        C,
+        cell,
+        A,
+        "09000000 0c 00000000 03000000",
+    ];
+    assert_eq!(rt; said(alloc, &shape, 0, &new)?, Some((5, 4, 3, true)));
+    let older = [
+        FRONT_2,
+        "01000000",
+        C,
+        cell,
+        A,
+        "09000000 04 00000000 03000000",
+    ];
+    assert_eq!(rt; said(alloc, &shape, 0, &older)?, Some((5, 4, 3, true)));
+    let oldest = [FRONT_1, "05000000 04 00000000 03000000"];
+    assert_eq!(rt; said(alloc, &shape, 0, &oldest)?, Some((5, 4, 3, true)));
     Ok(())
-}
-
-const NONE: [u8; 4] = [0; 4];
-
-const ONE: [u8; 4] = [1, 0, 0, 0];
-
-const TWO: [u8; 4] = [2, 0, 0, 0];
-
-const NINE: [u8; 4] = [9, 0, 0, 0];
-
-const THIRTEEN: [u8; 4] = [13, 0, 0, 0];
-
-// Why the worked file is refused where a byte is another.
-fn refused_with(
-    alloc: Global,
-    shape: &Shape,
-    version: u8,
-    state: u8,
-) -> Result<Option<ProgressRefused>, OutOfMemory>
-    requires { IsUsable shape.now }
-{
-    let parts: [&[u8]; 5] = [&FILE[..4], &[version], &FILE[5..81], &[state], &BLOCK];
-    refused(alloc, shape, &parts)
 }
 
 #[test]
 fn states_are_in_the_table_of_their_version(rt: HostRuntime) -> Result<(), Fail> {
-    let shape = row_1(rt.alloc())?;
-    for (version, state, good) in [
-        (3, 3, true),
-        (3, 4, false),
-        (3, 7, false),
-        (3, 8, true),
-        (3, 12, true),
-        (3, 13, false),
-        (2, 4, true),
-        (2, 5, false),
-        (2, 8, false),
+    let alloc = rt.alloc();
+    let shape = row_1(alloc)?;
+    let none = "00000000 00000000 01000000";
+    for (front, byte, found) in [
+        (FRONT, "04", 4),
+        (FRONT, "07", 7),
+        (FRONT, "0d", 13),
+        (FRONT_2, "05", 5),
+        (FRONT_2, "08", 8),
     ] {
-        let bad = ProgressRefused::BadState {
-            at: 81,
-            found: u32::from(state),
-        };
-        let wanted = if good { None } else { Some(bad) };
-        assert_eq!(rt; refused_with(rt.alloc(), &shape, version, state)?, wanted);
+        let bad = ProgressRefused::BadState { at: 61, found };
+        let file = [front, none, A, "09000000", byte, "00000000 03000000"];
+        assert_eq!(rt; refused(alloc, &shape, &file)?, Some(bad));
+    }
+    for (front, byte) in [(FRONT, "03"), (FRONT, "08"), (FRONT, "0c"), (FRONT_2, "04")] {
+        let file = [front, none, A, "09000000", byte, "00000000 03000000"];
+        assert_eq!(rt; refused(alloc, &shape, &file)?, None);
     }
     Ok(())
 }
@@ -308,216 +278,101 @@ fn the_first_check_that_fails_is_told(rt: HostRuntime) -> Result<(), Fail> {
 
 #[test]
 fn files_of_other_sets(rt: HostRuntime) -> Result<(), Fail> {
-    let shape = row_1(rt.alloc())?;
     let alloc = rt.alloc();
+    let shape = row_1(alloc)?;
     let other = Some(ProgressRefused::OtherSet { found: OTHER });
-    let cells_alone = refused(
-        alloc,
-        &shape,
-        &[
-            b"RAPG\x03",
-            &OTHER,
-            &FRAMES,
-            &ONE,
-            &CELL,
-            &NINE,
-            &NONE,
-            &NONE,
-        ],
-    )?;
-    assert_eq!(rt; cells_alone, other);
-    let of_version_1 = refused(
-        alloc,
-        &shape,
-        &[b"RAPG\x01", &OTHER, &FRAMES, &NINE, &[4], &BLOCK],
-    )?;
-    assert_eq!(rt; of_version_1, other);
-    let no_entry = refused(
-        alloc,
-        &shape,
-        &[b"RAPG\x03", &DIGEST, &FRAMES, &NONE, &NONE, &NONE],
-    )?;
-    assert_eq!(rt; no_entry, Some(ProgressRefused::OtherSet { found: DIGEST }));
+    let cells_alone = [OTHER_FRONT, "01000000", C, "09000000 00000000 00000000"];
+    assert_eq!(rt; refused(alloc, &shape, &cells_alone)?, other);
+    let old = [OTHER_FRONT_1, "05000000 04 00000000 03000000"];
+    assert_eq!(rt; refused(alloc, &shape, &old)?, other);
+    let no_entry = [FRONT, "00000000 00000000 00000000"];
+    let none = Some(ProgressRefused::OtherSet { found: DIGEST });
+    assert_eq!(rt; refused(alloc, &shape, &no_entry)?, none);
     Ok(())
 }
 
 #[test]
 fn each_entry_of_an_own_name_is_judged(rt: HostRuntime) -> Result<(), Fail> {
-    let shape = row_1(rt.alloc())?;
     let alloc = rt.alloc();
-    let front: [&[u8]; 4] = [b"RAPG\x03", &OTHER, &FRAMES, &[0; 8]];
-    let long = refused(
-        alloc,
-        &shape,
-        &[
-            front[0],
-            front[1],
-            front[2],
-            front[3],
-            &TWO,
-            &ITEM,
-            &NINE,
-            &[7],
-            &BLOCK,
-            &ITEM,
-            &THIRTEEN,
-            &[1],
-            &BLOCK,
-            &NONE,
-        ],
-    )?;
-    let bad_length = ProgressRefused::BadEntry {
+    let shape = row_1(alloc)?;
+    let two = "00000000 00000000 02000000";
+    let bad = "09000000 07 00000000 03000000";
+    let good = "09000000 01 00000000 03000000";
+    let long = "0d000000 01 00000000 03000000 00000000";
+    let bad_length = Some(ProgressRefused::BadEntry {
         at: 86,
         wanted: 9,
         found: 13,
-    };
-    assert_eq!(rt; long, Some(bad_length));
-    let early = refused(
-        alloc,
-        &shape,
-        &[
-            front[0],
-            front[1],
-            front[2],
-            front[3],
-            &TWO,
-            &ITEM,
-            &NINE,
-            &[7],
-            &BLOCK,
-            &ITEM,
-            &NINE,
-            &[1],
-            &BLOCK,
-        ],
-    )?;
-    assert_eq!(rt; early, Some(ProgressRefused::BadState { at: 61, found: 7 }));
-    let foreign = refused(
-        alloc,
-        &shape,
-        &[
-            front[0],
-            front[1],
-            front[2],
-            front[3],
-            &[3, 0, 0, 0],
-            &FOREIGN,
-            &NINE,
-            &[7],
-            &BLOCK,
-            &FOREIGN,
-            &NONE,
-            &ITEM,
-            &NINE,
-            &[1],
-            &BLOCK,
-        ],
-    )?;
-    assert_eq!(rt; foreign, None);
+    });
+    assert_eq!(rt;
+        refused(alloc, &shape, &[OTHER_FRONT, two, A, bad, A, long])?,
+        bad_length
+    );
+    let bad_state = Some(ProgressRefused::BadState { at: 61, found: 7 });
+    assert_eq!(rt;
+        refused(alloc, &shape, &[OTHER_FRONT, two, A, bad, A, good])?,
+        bad_state
+    );
+    for foreign in [bad, "00000000"] {
+        let file = [OTHER_FRONT, two, X, foreign, A, good];
+        assert_eq!(rt; refused(alloc, &shape, &file)?, None);
+    }
     Ok(())
 }
 
 #[test]
 fn places_where_the_file_is_of_this_set_and_names_else(rt: HostRuntime) -> Result<(), Fail> {
-    let shape = row_1(rt.alloc())?;
     let alloc = rt.alloc();
-    let by_places = said(
-        alloc,
-        &shape,
-        &[
-            b"RAPG\x03",
-            &DIGEST,
-            &FRAMES,
-            &ONE,
-            &FOREIGN,
-            &NINE,
-            &NONE,
-            &ONE,
-            &OTHER,
-            &NINE,
-            &[9],
-            &BLOCK,
-        ],
-    )?;
-    assert_eq!(rt; by_places, Some((9, 1, 3, true)));
-    let one_cell_more = said(
-        alloc,
-        &shape,
-        &[
-            b"RAPG\x03",
-            &DIGEST,
-            &FRAMES,
-            &TWO,
-            &CELL,
-            &NINE,
-            &FOREIGN,
-            &TWO,
-            &NONE,
-            &ONE,
-            &ITEM,
-            &NINE,
-            &[2],
-            &BLOCK,
-        ],
-    )?;
-    assert_eq!(rt; one_cell_more, Some((9, 2, 3, false)));
-    let the_last_counts = said(
-        alloc,
-        &shape,
-        &[
-            b"RAPG\x02",
-            &OTHER,
-            &FRAMES,
-            &TWO,
-            &CELL,
-            &ONE,
-            &CELL,
-            &[7, 0, 0, 0],
-            &NONE,
-            &TWO,
-            &ITEM,
-            &NINE,
-            &[1],
-            &BLOCK,
-            &ITEM,
-            &NINE,
-            &[4],
-            &BLOCK,
-        ],
-    )?;
-    assert_eq!(rt; the_last_counts, Some((7, 4, 3, true)));
-    let no_cell = said(
-        alloc,
-        &shape,
-        &[
-            b"RAPG\x03",
-            &OTHER,
-            &FRAMES,
-            &NONE,
-            &NONE,
-            &ONE,
-            &ITEM,
-            &NINE,
-            &[10],
-            &BLOCK,
-        ],
-    )?;
-    assert_eq!(rt; no_cell, Some((0, 2, 3, true)));
+    let shape = row_1(alloc)?;
+    let nine = "09000000 00000000 01000000";
+    let places = [
+        FRONT,
+        "01000000",
+        X,
+        nine,
+        X,
+        "09000000 09 00000000 03000000",
+    ];
+    assert_eq!(rt; said(alloc, &shape, 0, &places)?, Some((9, 1, 3, true)));
+    let active = "09000000 01 00000000 03000000";
+    let one_more = [FRONT, "02000000", X, "02000000", C, nine, A, active];
+    assert_eq!(rt; said(alloc, &shape, 0, &one_more)?, Some((9, 1, 3, false)));
+    let last = [
+        OTHER_FRONT,
+        "02000000",
+        C,
+        "01000000",
+        C,
+        "07000000 00000000 01000000",
+        A,
+        active,
+    ];
+    assert_eq!(rt; said(alloc, &shape, 0, &last)?, Some((7, 1, 3, false)));
+    let triggered = "09000000 04 00000000 08000000";
+    let two = [
+        OTHER_FRONT_2,
+        "00000000 00000000 02000000",
+        A,
+        active,
+        A,
+        triggered,
+    ];
+    assert_eq!(rt; said(alloc, &shape, 0, &two)?, Some((0, 4, 8, true)));
     Ok(())
 }
 
-// A shape of two achievements of one forced name, and of two cells of one.
-fn forced(alloc: Global) -> Result<Shape, OutOfMemory>
+// A shape of two cells of one name, and of two achievements of one, the second with so many hits.
+fn forced(alloc: Global, second: u32) -> Result<Shape, OutOfMemory>
+    requires { second ≤ 2 }
     ensures { IfOk result (λ shape. IsUsable shape) }
 {
+    let one = ItemShape::Achievement { hits: 1 };
+    let other = ItemShape::Achievement { hits: second };
     Ok(Shape {
         digest: DIGEST,
         cells: vec![in alloc; CELL, CELL]?,
         priors: Vec::new(alloc),
-        items: vec![in alloc;
-            ItemShape::Achievement { hits: 1 },
-            ItemShape::Achievement { hits: 2 },
-        ]?,
+        items: vec![in alloc; one, other]?,
         item_names: vec![in alloc; ITEM, ITEM]?,
         presence: None,
         presence_name: None,
@@ -529,55 +384,35 @@ fn forced(alloc: Global) -> Result<Shape, OutOfMemory>
 
 #[test]
 fn own_entries_of_one_forced_name(rt: HostRuntime) -> Result<(), Fail> {
-    let shape = forced(rt.alloc())?;
     let alloc = rt.alloc();
-    assert_eq!(rt; matches(&shape, Named::Cell, &CELL), (0, 2));
-    assert_eq!(rt; matches(&shape, Named::Cell, &[0; 16]), (0, 0));
-    assert_eq!(rt; matches(&shape, Named::Cell, &[255; 16]), (2, 2));
-    let front: [&[u8]; 6] = [b"RAPG\x03", &OTHER, &FRAMES, &[0; 8], &ONE, &ITEM];
-    let of_the_first = refused(
-        alloc,
-        &shape,
-        &[
-            front[0],
-            front[1],
-            front[2],
-            front[3],
-            front[4],
-            front[5],
-            &NINE,
-            &[1],
-            &BLOCK,
-        ],
-    )?;
-    let other_second = ProgressRefused::BadEntry {
+    let unlike = forced(alloc, 2)?;
+    let one = "00000000 00000000 01000000";
+    let nine = [OTHER_FRONT, one, A, "09000000 01 00000000 03000000"];
+    let wants_13 = Some(ProgressRefused::BadEntry {
         at: 57,
         wanted: 13,
         found: 9,
-    };
-    assert_eq!(rt; of_the_first, Some(other_second));
-    let of_the_second = refused(
-        alloc,
-        &shape,
-        &[
-            front[0],
-            front[1],
-            front[2],
-            front[3],
-            front[4],
-            front[5],
-            &THIRTEEN,
-            &[1],
-            &BLOCK,
-            &NONE,
-        ],
-    )?;
-    let other_first = ProgressRefused::BadEntry {
+    });
+    assert_eq!(rt; refused(alloc, &unlike, &nine)?, wants_13);
+    let wants_9 = Some(ProgressRefused::BadEntry {
         at: 57,
         wanted: 9,
         found: 13,
-    };
-    assert_eq!(rt; of_the_second, Some(other_first));
+    });
+    let thirteen = [
+        OTHER_FRONT,
+        one,
+        A,
+        "0d000000 01 00000000 03000000 00000000",
+    ];
+    assert_eq!(rt; refused(alloc, &unlike, &thirteen)?, wants_9);
+    let alike = forced(alloc, 1)?;
+    for number in [0, 1] {
+        assert_eq!(rt; said(alloc, &alike, number, &nine)?, Some((0, 1, 3, false)));
+    }
+    assert_eq!(rt; matches(&alike, Named::Cell, &CELL), (0, 2));
+    assert_eq!(rt; matches(&alike, Named::Cell, &[0; 16]), (0, 0));
+    assert_eq!(rt; matches(&alike, Named::Cell, &[255; 16]), (2, 2));
     Ok(())
 }
 
@@ -627,21 +462,18 @@ fn the_most_bytes(rt: HostRuntime) -> Result<(), Fail> {
 // A file of the most bytes: entries of a foreign name, and one of nine bytes.
 fn longest(alloc: Global, last: &[u8; 16]) -> Result<Vec<u8>, OutOfMemory> {
     let mut bytes = Vec::new(alloc);
-    bytes.extend_from_slice(b"RAPG\x03")?;
+    bytes.extend_from_slice(&FILE[..5])?;
     bytes.extend_from_slice(&OTHER)?;
-    bytes.extend_from_slice(&FRAMES)?;
-    bytes.extend_from_slice(&[0; 8])?;
-    bytes.extend_from_slice(&[0x63, 0x66, 6, 0])?;
+    bytes.extend_from_slice(&FILE[21..29])?;
+    bytes.extend_from_slice(&[0, 0, 0, 0, 0, 0, 0, 0, 0x63, 0x66, 6, 0])?;
     for _ in 0..419425 {
-        bytes.extend_from_slice(&FOREIGN)?;
-        bytes.extend_from_slice(&NONE)?;
+        bytes.extend_from_slice(&OTHER)?;
+        bytes.extend_from_slice(&[0; 4])?;
     }
-    bytes.extend_from_slice(&FOREIGN)?;
+    bytes.extend_from_slice(&OTHER)?;
     bytes.extend_from_slice(&[2, 0, 0, 0, 0, 0])?;
     bytes.extend_from_slice(last)?;
-    bytes.extend_from_slice(&NINE)?;
-    bytes.push(1)?;
-    bytes.extend_from_slice(&BLOCK)?;
+    bytes.extend_from_slice(&[9, 0, 0, 0, 1, 0, 0, 0, 0, 3, 0, 0, 0])?;
     let sum = Md5::digest(bytes.as_slice());
     bytes.extend_from_slice(&sum)?;
     Ok(bytes)
@@ -650,7 +482,7 @@ fn longest(alloc: Global, last: &[u8; 16]) -> Result<Vec<u8>, OutOfMemory> {
 #[test]
 fn a_file_of_the_most_bytes(rt: HostRuntime) -> Result<(), Fail> {
     let shape = row_1(rt.alloc())?;
-    let foreign = longest(rt.alloc(), &FOREIGN)?;
+    let foreign = longest(rt.alloc(), &OTHER)?;
     let other = ProgressRefused::OtherSet { found: OTHER };
     assert_eq!(rt; foreign.len(), 8388608);
     assert_eq!(rt; check(&shape, &foreign), Err(other));
