@@ -16,6 +16,5 @@ pub mod Placed
 pub mod SaysOpening
 pub mod Segments
 pub mod Sizes
-pub mod Stands
 pub mod Usable
 pub mod Walks

@@ -8,15 +8,16 @@ use Rattle.ra_progress_by_name.specs.declared.shape.ItemShape.{ItemShape}
 use Rattle.ra_progress_by_name.specs.declared.shape.ItemShape.TheVariants.{Achievement, Leaderboard}
 use Rattle.ra_progress_by_name.specs.declared.shape.PresenceShape.{PresenceShape}
 use Rattle.ra_progress_by_name.specs.Contents.{Name, OfItem, OfPresence, Own, own_items, own_presence, KeptItem, OfAchievement, OfBoard, KeptPresence, ItemFits, ItemsFit, PresenceFits, plain_presence}
-use Rattle.ra_progress_by_name.specs.Layout.{Entry, word_at, name_at, words_at, version_in, own_length, entry_after, entries_from, need_from}
+use Rattle.ra_words.specs.Words.{word_at, words_at, words}
+use Rattle.ra_progress_by_name.specs.Layout.{Entry, name_at, version_in, own_length, entry_after, entries_from, need_from}
 use Rattle.ra_progress_by_name.specs.Names.{IsName}
-use Rattle.ra_progress_by_name.specs.Spelling.{words, state_byte, item_bytes, presence_bytes, presence_block, named_words, named_blocks}
+use Rattle.ra_progress_by_name.specs.Spelling.{state_byte, item_bytes, presence_bytes, presence_block, named_words, named_blocks}
 use Rattle.ra_progress_by_name.specs.Reading.{have_sizes, is_state, bad_state, blocks_beside}
 use Rattle.ra_progress_by_name.specs.Saying.{is_earned, state_said, said_item, said_items, said_presence, said_or}
-use Rattle.ra_progress_by_name.proofs.Blocks.{length_words, length_item, length_presence}
+use Rattle.ra_progress_by_name.proofs.Blocks.{length_item, length_presence}
 use Rattle.ra_progress_by_name.proofs.ByName.{numbered_from}
 use Rattle.ra_progress_by_name.proofs.OwnOrder.{read_as}
-use Rattle.ra_progress_by_name.proofs.Stands.{Stands, stands_first, stands_next, stands_take, stands_byte, stands_word, stands_words}
+use Rattle.ra_words.proofs.Pieces.{length_words, Stands, stands_first, stands_next, stands_take, stands_byte, stands_word, stands_words}
 
 -- names with their numbers take twenty bytes each
 pub length_named_words : (names : List Name) (numbers : List ℕ) → AllByRecursion IsName names

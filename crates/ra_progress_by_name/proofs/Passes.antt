@@ -6,7 +6,8 @@ use Rattle.std.proofs.lemmas.List.{drop_all}
 use Rattle.std.proofs.lemmas.List.Sums.{sum_by-cons}
 use Rattle.ra_progress_by_name.specs.declared.refused.ProgressRefused.{ProgressRefused}
 use Rattle.ra_progress_by_name.specs.Contents.{Own, own_at}
-use Rattle.ra_progress_by_name.specs.Layout.{Entry, word_at, own_length, entry_at, entry_after, entries_from, entries_in, entry_count, first_entry}
+use Rattle.ra_words.specs.Words.{word_at}
+use Rattle.ra_progress_by_name.specs.Layout.{Entry, own_length, entry_at, entry_after, entries_from, entries_in, entry_count, first_entry}
 use Rattle.ra_progress_by_name.specs.Reading.{HasLayout, or_later, bad_entry, bad_entries, Block, bad_state, bad_states, blocks_from, blocks_beside, blocks_of_entry, blocks_named, have_sizes}
 use Rattle.ra_progress_by_name.proofs.Checks.{holds}
 use Rattle.ra_progress_by_name.proofs.Walks.{IsWalk, walk_first}

@@ -8,8 +8,9 @@ use Rattle.ra_progress_by_name.specs.declared.shape.ItemShape.{ItemShape}
 use Rattle.ra_progress_by_name.specs.declared.shape.ItemShape.TheVariants.{Achievement, Leaderboard}
 use Rattle.ra_progress_by_name.specs.declared.shape.PresenceShape.{PresenceShape}
 use Rattle.ra_progress_by_name.specs.declared.refused.ProgressRefused.{ProgressRefused}
-use Rattle.ra_progress_by_name.specs.Contents.{Name, ShapeContents, OfItem, OfPresence, own_entries, AreWords, ItemFits, ItemsFit, PresenceFits, IsOpening, plain_item, plain_presence}
-use Rattle.ra_progress_by_name.specs.Layout.{Numbered, word_at, name_at, words_at, version_in, digest_in, frames_at, cell_count, prior_count, numbered_at}
+use Rattle.ra_words.specs.Words.{word_at, words_at, AreWords}
+use Rattle.ra_progress_by_name.specs.Contents.{Name, ShapeContents, OfItem, OfPresence, own_entries, ItemFits, ItemsFit, PresenceFits, IsOpening, plain_item, plain_presence}
+use Rattle.ra_progress_by_name.specs.Layout.{Numbered, name_at, version_in, digest_in, frames_at, cell_count, prior_count, numbered_at}
 use Rattle.ra_progress_by_name.specs.Names.{IsPaired}
 use Rattle.ra_progress_by_name.specs.Reading.{is_state, bad_state, of_this_set, IsAccepted}
 use Rattle.ra_progress_by_name.specs.Saying.{is_earned, state_said, said_item, said_items, said_presence, said_or, last_number, own_places, script_place, said_numbers, says}
@@ -18,7 +19,7 @@ use Rattle.ra_progress_by_name.proofs.Owns.{own_count, own_item, own_script, scr
 use Rattle.ra_progress_by_name.proofs.ByName.{numbered_from}
 use Rattle.ra_progress_by_name.proofs.Passes.{both_true}
 use Rattle.ra_progress_by_name.proofs.Placed.{placed, places_count}
-use Rattle.ra_progress_by_name.proofs.Stands.{piece_below}
+use Rattle.ra_words.proofs.Pieces.{piece_below}
 
 -- a test that refuses where it fails, and did not
 passes : (b : Bool) (why : ProgressRefused) → (if b then None else Some why) ≡ None → b ≡ true

@@ -2,7 +2,8 @@
 use Rattle.std.proofs.Common.{◌≡◌, ℕ, zero, suc, ◌+◌, ◌-◌, ◌<◌, ◌≤◌, ◌==◌, ◌&&◌, true, false, List, [], ◌∷◌, length, drop, refl, arith, drop-cons}
 use Rattle.std.proofs.lemmas.List.{drop_all}
 use Rattle.ra_progress_by_name.specs.Contents.{Own, own_at}
-use Rattle.ra_progress_by_name.specs.Layout.{Entry, word_at, own_length, entry_after, entry_at, entries_from}
+use Rattle.ra_words.specs.Words.{word_at}
+use Rattle.ra_progress_by_name.specs.Layout.{Entry, own_length, entry_after, entry_at, entries_from}
 use Rattle.ra_progress_by_name.specs.Reading.{have_sizes}
 
 -- as many entries as are counted

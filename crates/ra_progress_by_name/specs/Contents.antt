@@ -1,6 +1,5 @@
 -- What a snapshot and a shape contain. The contents of a snapshot are an opening: what stands before the first frame.
 use Rattle.std.specs.Prelude.{◌≡◌, ℕ, ◌-◌, ◌<◌, ◌≤◌, ◌^◌, Bool, true, false, Option, None, Some, option_map, List, [], ◌∷◌, ◌++◌, length, map, replicate, slice_index_or}
-use Rattle.std.specs.List.{AllByRecursion}
 use Rattle.ra_progress_by_name.specs.declared.own.OwnShape.{OwnShape}
 use Rattle.ra_progress_by_name.specs.declared.own.OwnShape.TheVariants as owned
 use Rattle.ra_progress_by_name.specs.declared.shape.ItemShape.{ItemShape}
@@ -11,6 +10,7 @@ use Rattle.ra_progress_by_name.specs.declared.snapshot.ItemKept.{ItemKept}
 use Rattle.ra_progress_by_name.specs.declared.snapshot.ItemKept.TheVariants as kept
 use Rattle.ra_progress_by_name.specs.declared.snapshot.PresenceKept.{PresenceKept}
 use Rattle.ra_progress_by_name.specs.declared.snapshot.Snapshot.{Snapshot}
+use Rattle.ra_words.specs.Words.{AreWords}
 
 -- a name: sixteen bytes
 abbrev pub Name : Type 0
@@ -108,11 +108,6 @@ snapshot_contents s = record {
   items = map kept_item s.items.items;
   presence = option_map kept_presence s.presence;
 }
-
--- numbers of 32 bits, as many as wanted
-pub record AreWords (count : ℕ) (numbers : List ℕ) : Type 0 where
-  pub as_many : length numbers ≡ count
-  pub fit : AllByRecursion (λ n. n < 2 ^ 32) numbers
 
 -- what is kept has the counts of the shape, its state is in its table, and each number is of 32 bits; a triggered achievement is earned
 abbrev pub ItemFits : ItemShape → KeptItem → Type 0

@@ -1,19 +1,12 @@
 -- Where the fields of a progress file stand, and how long it has to be.
 use Rattle.std.specs.Prelude.{ℕ, zero, suc, ◌+◌, ◌-◌, ◌*◌, ◌==◌, if◌then◌else◌, nat_lt, Option, None, Some, List, [], ◌∷◌, length, map, take, drop, slice_index, sum_by}
 use Rattle.std.specs.List.{range_with_len}
-use Rattle.std.specs.Int.{w32, w64, from_le_bytes}
+use Rattle.std.specs.Int.{w64, from_le_bytes}
 use Rattle.ra_progress_by_name.specs.declared.shape.ItemShape.{ItemShape}
 use Rattle.ra_progress_by_name.specs.declared.shape.ItemShape.TheVariants as shapes
 use Rattle.ra_progress_by_name.specs.declared.shape.PresenceShape.{PresenceShape}
+use Rattle.ra_words.specs.Words.{word_at}
 use Rattle.ra_progress_by_name.specs.Contents.{Name, ShapeContents, EntryShape, OfItem, OfPresence, Own, own_entries}
-
--- a word of four bytes at a place, and so many in a row
-abbrev pub word_at : List ℕ → ℕ → ℕ
-word_at bytes at = from_le_bytes w32 (take 4 (drop at bytes))
-
--- so many words from a place on
-abbrev pub words_at : List ℕ → ℕ → ℕ → List ℕ
-words_at bytes at count = map (λ k. word_at bytes (at + 4 * k)) (range_with_len 0 count)
 
 -- the name at a place
 abbrev pub name_at : List ℕ → ℕ → Name

@@ -7,7 +7,8 @@ use Rattle.ra_progress_by_name.specs.declared.shape.ItemShape.TheVariants as sha
 use Rattle.ra_progress_by_name.specs.declared.refused.ProgressRefused.{ProgressRefused}
 use Rattle.ra_progress_by_name.specs.declared.refused.ProgressRefused.TheVariants.{WrongLength, WrongMark, WrongVersion, WrongSum, OtherSet, BadEntry, BadState}
 use Rattle.ra_progress_by_name.specs.Contents.{Name, ShapeContents, EntryShape, OfItem, OfPresence, Own, own_entries}
-use Rattle.ra_progress_by_name.specs.Layout.{Entry, word_at, version_in, digest_in, sum_in, summed_in, own_length, blocks_at_1, length_1_of, cell_count, prior_count, need_of, entries_in}
+use Rattle.ra_words.specs.Words.{word_at}
+use Rattle.ra_progress_by_name.specs.Layout.{Entry, version_in, digest_in, sum_in, summed_in, own_length, blocks_at_1, length_1_of, cell_count, prior_count, need_of, entries_in}
 use Rattle.ra_progress_by_name.specs.Spelling.{mark}
 
 -- the most and the fewest bytes of a file

@@ -1,14 +1,10 @@
 -- The bytes of a progress file, as they are written: version 3.
 use Rattle.std.specs.Prelude.{ℕ, ◌+◌, Bool, if◌then◌else◌, Option, None, Some, List, [], ◌∷◌, ◌++◌, codes, length, map}
-use Rattle.std.specs.List.{flat_map}
 use Rattle.std.specs.Int.{w32, w64, to_le_bytes}
 use Rattle.md5.specs.Md5.{md5}
 use Rattle.ra_progress_by_name.specs.Contents.{Name, ShapeContents, KeptItem, OfAchievement, OfBoard, KeptPresence, Opening}
+use Rattle.ra_words.specs.Words.{words}
 use Rattle.ra_progress_by_name.specs.Names.{entry_names}
-
--- numbers of four bytes each, low byte first
-abbrev pub words : List ℕ → List ℕ
-words numbers = flat_map (to_le_bytes w32) numbers
 
 -- the state byte of an achievement: its state, and 8 more where it is earned
 abbrev pub state_byte : (state : ℕ) → (earned : Bool) → ℕ

@@ -9,12 +9,12 @@ ghost use Rattle.ra_progress_by_name.specs.Reading as spec;
 
 use crate::entries::{bad_entries, has_own};
 use crate::layout::need;
+use crate::names::name_at;
 use crate::places::length_1;
 use crate::refused::ProgressRefused;
 use crate::relation::of_this_set;
 use crate::shape::Shape;
 use crate::states::{bad_state_1, bad_state_beside, bad_state_named};
-use crate::words::name_at;
 use md5::{Digest, Md5};
 
 /// Whether the bytes are a progress file that the shape accepts: docs/DEFINITIONS.md, "Progress

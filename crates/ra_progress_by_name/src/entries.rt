@@ -9,11 +9,12 @@ ghost use Rattle.ra_progress_by_name.specs.Reading as spec;
 
 use crate::layout::{entry_after, entry_count, first_entry};
 use crate::named::Named;
+use crate::names::name_at;
 use crate::own::{OwnShape, block_length, own_shape};
 use crate::range::matches;
 use crate::refused::ProgressRefused;
 use crate::shape::Shape;
-use crate::words::{name_at, word_at};
+use ra_words::word_at;
 
 /// The range of places in the order of own entries that have this name.
 pub(crate) fn own_range(shape: &Shape, name: &[u8; 16]) -> (u32, u32)

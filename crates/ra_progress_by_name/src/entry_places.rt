@@ -9,12 +9,12 @@ ghost use Rattle.ra_progress_by_name.specs.Saying as spec;
 
 use crate::layout::{entry_after, entry_count, first_entry};
 use crate::named::Named;
+use crate::names::name_at;
 use crate::own::{block_length, own_count, own_shape};
 use crate::places::blocks_at_1;
 use crate::range::{matches, put_all};
 use crate::relation::of_this_set;
 use crate::shape::Shape;
-use crate::words::name_at;
 use ra_text::OutOfMemory;
 use std::alloc::Global;
 

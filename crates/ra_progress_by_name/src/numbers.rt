@@ -9,11 +9,12 @@ ghost use Rattle.ra_progress_by_name.specs.Saying as spec;
 
 use crate::layout::{cell_count, prior_count};
 use crate::named::Named;
+use crate::names::name_at;
 use crate::range::{matches, order_of_names, put_all};
 use crate::relation::of_this_set;
 use crate::shape::Shape;
-use crate::words::{name_at, word_at, words_at};
 use ra_text::OutOfMemory;
+use ra_words::{word_at, words_at};
 use std::alloc::Global;
 
 /// The number that the bytes say of each cell.

@@ -12,8 +12,8 @@ use crate::numbers::{said_cells, said_priors};
 use crate::places::frames_at;
 use crate::shape::{ItemShape, PresenceShape, Shape};
 use crate::snapshot::{ItemKept, PresenceKept, Snapshot};
-use crate::words::{word_at, words_at};
 use ra_text::OutOfMemory;
+use ra_words::{word_at, words_at};
 use std::alloc::Global;
 
 /// The snapshot that bytes say which `check` accepts: docs/DEFINITIONS.md, "Progress file".

@@ -7,9 +7,10 @@ ghost use Rattle.ra_progress_by_name.specs.Names.{IsPaired, IsUsable};
 ghost use Rattle.ra_progress_by_name.specs.Reading as spec;
 
 use crate::layout::{cell_count, entry_after, entry_count, first_entry, prior_count};
+use crate::names::name_at;
 use crate::own::{block_length, own_count, own_shape};
 use crate::shape::Shape;
-use crate::words::{name_at, word_at};
+use ra_words::word_at;
 
 /// Whether a file is of this set, so that its fields are read by their places:
 /// docs/DEFINITIONS.md, "Progress file".

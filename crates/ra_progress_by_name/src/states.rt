@@ -8,11 +8,12 @@ ghost use Rattle.ra_progress_by_name.specs.Reading as spec;
 
 use crate::entries::{own_in_order, own_range};
 use crate::layout::{entry_after, entry_count, first_entry};
+use crate::names::name_at;
 use crate::own::{OwnShape, block_length, own_count, own_shape};
 use crate::places::blocks_at_1;
 use crate::refused::ProgressRefused;
 use crate::shape::{ItemShape, Shape};
-use crate::words::{name_at, word_at};
+use ra_words::word_at;
 
 /// The refusal of a block whose state byte or shown index is not in its table.
 pub(crate) fn bad_state(bytes: &[u8], own: OwnShape, at: u64) -> Option<ProgressRefused>

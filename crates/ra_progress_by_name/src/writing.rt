@@ -5,15 +5,16 @@ ghost use Rattle.std.specs.Int.{w32, to_le_bytes};
 ghost use Rattle.ra_progress_by_name.specs.Contents.{shape_contents, snapshot_contents, kept_item, kept_presence, IsOpening, ItemFits, ItemsFit, PresenceFits};
 ghost use Rattle.ra_progress_by_name.specs.Layout as layout;
 ghost use Rattle.ra_progress_by_name.specs.Names.{IsUsable, entry_names};
-ghost use Rattle.ra_progress_by_name.specs.Spelling.{words, state_byte, item_bytes, presence_bytes, presence_block, blocks_of, named_words, named_blocks, body_bytes, progress_bytes};
+ghost use Rattle.ra_words.specs.Words.{words};
+ghost use Rattle.ra_progress_by_name.specs.Spelling.{state_byte, item_bytes, presence_bytes, presence_block, blocks_of, named_words, named_blocks, body_bytes, progress_bytes};
 
 use crate::own::{OwnShape, block_length, own_count, script_length};
 use crate::places::length;
 use crate::shape::{ItemShape, PresenceShape, Shape};
 use crate::snapshot::{ItemKept, PresenceKept, Snapshot};
-use crate::words::put_words;
 use md5::{Digest, Md5};
 use ra_text::OutOfMemory;
+use ra_words::write_words;
 use std::alloc::Global;
 
 /// The bytes of a snapshot of the shape in version 3, with their closing sum:
@@ -134,13 +135,13 @@ fn put_item(bytes: &mut Vec<u8>, shape: ItemShape, item: &ItemKept) -> Result<()
             earned,
         } => {
             bytes.push(written_state(*state, *earned))?;
-            put_words(bytes, &[*measured])?;
-            put_words(bytes, hits)
+            write_words(bytes, &[*measured])?;
+            write_words(bytes, hits)
         }
         ItemKept::Leaderboard { state, hits, kept } => {
             bytes.push(*state)?;
-            put_words(bytes, hits)?;
-            put_words(bytes, kept)
+            write_words(bytes, hits)?;
+            write_words(bytes, kept)
         }
     }
 }
@@ -183,7 +184,7 @@ fn put_script(
 fn put_presence(bytes: &mut Vec<u8>, kept: &PresenceKept) -> Result<(), OutOfMemory>
     ensures { OnOk result (bytes.new.items ≡ bytes.old.items ++ presence_bytes (kept_presence kept.now)) }
 {
-    put_words(bytes, &[kept.shown])?;
-    put_words(bytes, &kept.hits)?;
-    put_words(bytes, &kept.kept)
+    write_words(bytes, &[kept.shown])?;
+    write_words(bytes, &kept.hits)?;
+    write_words(bytes, &kept.kept)
 }

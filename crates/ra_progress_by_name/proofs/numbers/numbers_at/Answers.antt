@@ -1,7 +1,7 @@
 use Rattle.std.proofs.Common.{◌≡◌, ◌+◌, ◌*◌, ◌∙◌, sym, ap, map, arith}
 use Rattle.std.specs.List.{range_with_len}
 use Rattle.std.proofs.lemmas.List.FromFn.{map-range_with_len_more}
-use Rattle.ra_progress_by_name.specs.Layout.{word_at}
+use Rattle.ra_words.specs.Words.{word_at}
 use Rattle.ra_progress_by_name.proofs.ByName.{numbers_of}
 use Rattle.ra_progress_by_name.proofs.numbers.numbers_at.Goals as goal
 

@@ -1,6 +1,6 @@
 use Rattle.std.proofs.Common.{◌≡◌, ◌*◌, ◌+◌, map}
 use Rattle.std.specs.List.{range_with_len}
-use Rattle.ra_progress_by_name.specs.Layout.{word_at}
+use Rattle.ra_words.specs.Words.{word_at}
 use Rattle.ra_progress_by_name.proofs.numbers.numbers_at.Given as goal
 
 -- the numbers so far

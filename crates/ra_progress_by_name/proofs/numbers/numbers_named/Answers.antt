@@ -1,7 +1,8 @@
 use Rattle.std.proofs.Common.{◌≡◌, ℕ, ◌+◌, ◌*◌, ◌-◌, ◌<◌, [], ◌∙◌, if◌then◌else◌, bytes_eq, sym, ap, ap₂, rules, length, slice_index, subst, replicate, arith}
 use Rattle.std.proofs.lemmas.List.{get_or-replicate, length-replicate}
 use Rattle.ra_progress_by_name.specs.Contents.{Name, shape_contents}
-use Rattle.ra_progress_by_name.specs.Layout.{numbered_at, name_at, word_at}
+use Rattle.ra_words.specs.Words.{word_at}
+use Rattle.ra_progress_by_name.specs.Layout.{numbered_at, name_at}
 use Rattle.ra_progress_by_name.specs.Names.{IsOrder, IsRange, names_of, order_in, named_by}
 use Rattle.ra_progress_by_name.specs.Saying.{last_number}
 use Rattle.ra_progress_by_name.proofs.Orders.{order_length, numbers_within}
