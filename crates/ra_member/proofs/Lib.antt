@@ -1,0 +1,17 @@
+pub mod Added
+pub mod Agreeing
+pub mod Folds
+pub mod GoingOn
+pub mod GrowthLemmas
+pub mod LaidLemmas
+pub mod Lengths
+pub mod Listed
+pub mod Opened
+pub mod PlanLemmas
+pub mod PutBackLemmas
+pub mod PutBackRuns
+pub mod Rows
+pub mod SavedRows
+pub mod Shaped
+pub mod SideBySide
+pub mod Stepping

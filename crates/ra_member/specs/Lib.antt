@@ -1,0 +1,9 @@
+pub mod Beside
+pub mod Folds
+pub mod Frames
+pub mod MemberRuns
+pub mod Members
+pub mod Plans
+pub mod Readings
+pub mod Rows
+pub mod Runs

@@ -1,0 +1,74 @@
+//! The numbers of a table's nodes, read for the conditions of some groups.
+
+ghost use Rattle.std.specs.Prelude.{◌≡◌, true, length, map};
+ghost use Rattle.ra_operand.specs.Operators.{compared};
+ghost use Rattle.ra_member.specs.Readings.{numbers_at, truths_by, AreValued, sum_by_node, IsValuedSum, AreValuedSums};
+
+use ra_memref::Table;
+use ra_operand::{Op, compare};
+
+// Reads the number of each node.
+pub(crate) fn read_numbers(table: &Table, nodes: &[u32], numbers: &mut [u32])
+    requires valued { AreValued table.now.nodes nodes.now }
+    requires sampled { table.now.sampled ≡ true }
+    requires as_many { length numbers.old ≡ length nodes.now }
+    ensures { numbers.new ≡ numbers_at table.now.values nodes.now }
+{
+    for (place, node) in nodes.iter().enumerate() {
+        numbers[place] = table.value(*node);
+    }
+}
+
+// Compares the left numbers with those of the right nodes.
+pub(crate) fn read_truths(
+    table: &Table,
+    ops: &[Op],
+    lefts: &[u32],
+    nodes: &[u32],
+    truths: &mut [bool],
+)
+    requires valued { AreValued table.now.nodes nodes.now }
+    requires sampled { table.now.sampled ≡ true }
+    requires lefts { length lefts.now ≡ length ops.now }
+    requires nodes { length nodes.now ≡ length ops.now }
+    requires truths { length truths.old ≡ length ops.now }
+    ensures { truths.new ≡ truths_by ops.now lefts.now (numbers_at table.now.values nodes.now) }
+{
+    for (place, op) in ops.iter().enumerate() {
+        truths[place] = holds(*op, lefts[place], table.value(nodes[place]));
+    }
+}
+
+// Whether a comparison holds; arithmetic compares nothing.
+fn holds(op: Op, x: u32, y: u32) -> bool
+    ensures { result ≡ compared op x y }
+{
+    match op {
+        Op::Mul | Op::Div | Op::And | Op::Xor | Op::Rem | Op::Add | Op::Sub => false,
+        _ => compare(op, x, y),
+    }
+}
+
+// Reads the number of each node that is there, and 0 for the others.
+pub(crate) fn read_sums(table: &Table, nodes: &[Option<u32>], sums: &mut [u32])
+    requires valued { AreValuedSums table.now.nodes nodes.now }
+    requires sampled { table.now.sampled ≡ true }
+    requires as_many { length sums.old ≡ length nodes.now }
+    ensures { sums.new ≡ map (sum_by_node table.now.values) nodes.now }
+{
+    for (place, node) in nodes.iter().enumerate() {
+        sums[place] = read_sum(table, *node);
+    }
+}
+
+// The number of a node, and 0 where there is none.
+fn read_sum(table: &Table, node: Option<u32>) -> u32
+    requires valued { IsValuedSum table.now.nodes node }
+    requires sampled { table.now.sampled ≡ true }
+    ensures { result ≡ sum_by_node table.now.values node }
+{
+    match node {
+        Some(node) => table.value(node),
+        None => 0,
+    }
+}

@@ -1,0 +1,71 @@
+ghost use Rattle.std.specs.Prelude.{◌≡◌, ◌+◌, ◌*◌, ◌≤◌, ◌^◌, true, length, IfOk};
+ghost use Rattle.ra_condition.specs.Contents.{trigger_contents, trigger_hits};
+ghost use Rattle.ra_condition.specs.Spelled.{IsTrigger};
+ghost use Rattle.ra_member.specs.Runs.{IsTriggerRun, IsNewTrigger, StepsTest, StepsAchievement};
+
+use crate::laid::{Laid, trigger_ops};
+use crate::planning::trigger_plan;
+use ra_condition::TriggerText;
+use ra_indirect::Pool;
+use ra_memref::Table;
+use ra_text::OutOfMemory;
+use ra_trigger::{Change, Trigger};
+use std::alloc::Global;
+
+/// A trigger between frames: what is kept of it, and its plan.
+#[derive(Drop)]
+pub struct TriggerRun {
+    pub laid: Laid,
+    pub trigger: Trigger,
+}
+
+impl TriggerRun {
+    /// A trigger of which nothing is kept yet, with its trees in the pool.
+    pub fn new(alloc: Global, text: &TriggerText, pool: &mut Pool) -> Result<Self, OutOfMemory>
+        requires spelled { IsTrigger (trigger_contents text.now) }
+        requires room { length pool.old + 13 * trigger_hits (trigger_contents text.now) + 2 ≤ 2 ^ 31 }
+        ensures { IfOk result (IsNewTrigger pool.old pool.new (trigger_contents text.now)) }
+    {
+        let plan = trigger_plan(alloc, text, pool)?;
+        let ops = trigger_ops(alloc, text)?;
+        let laid = Laid::new(alloc, plan, ops)?;
+        let trigger = Trigger::new(alloc, text)?;
+        Ok(TriggerRun { laid, trigger })
+    }
+
+    /// Steps a trigger without states by the frame of the table's last sample, and says whether it is
+    /// true: docs/DEFINITIONS.md, "Triggers over frames".
+    pub fn truth(&mut self, text: &TriggerText, table: &Table) -> bool
+        requires run { IsTriggerRun table.now.nodes (trigger_contents text.now) self.old }
+        requires sampled { table.now.sampled ≡ true }
+        ensures run { IsTriggerRun table.now.nodes (trigger_contents text.now) self.new }
+        ensures steps { StepsTest table.now (trigger_contents text.now) self.old self.new result }
+    {
+        self.laid.fill(table);
+        self.trigger.truth(
+            text,
+            &self.laid.plan.order,
+            &self.laid.plan.pauses,
+            &self.laid.truths,
+            &self.laid.lefts,
+        )
+    }
+
+    /// Steps an achievement by the frame of the table's last sample, and tells what changed:
+    /// docs/DEFINITIONS.md, "Achievement states".
+    pub fn step(&mut self, text: &TriggerText, table: &Table) -> Change
+        requires run { IsTriggerRun table.now.nodes (trigger_contents text.now) self.old }
+        requires sampled { table.now.sampled ≡ true }
+        ensures run { IsTriggerRun table.now.nodes (trigger_contents text.now) self.new }
+        ensures steps { StepsAchievement table.now (trigger_contents text.now) self.old self.new result }
+    {
+        self.laid.fill(table);
+        self.trigger.step(
+            text,
+            &self.laid.plan.order,
+            &self.laid.plan.pauses,
+            &self.laid.truths,
+            &self.laid.lefts,
+        )
+    }
+}
