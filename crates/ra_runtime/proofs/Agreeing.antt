@@ -8,7 +8,7 @@ use Rattle.ra_operand.specs.Operators.{computed}
 use Rattle.ra_memory.specs.Image.{History}
 use Rattle.ra_indirect.specs.Trees.{Tree, constant, join, view, Cell, cell_of, Tracked, cells_in, tracked_in, tracked_by}
 use Rattle.ra_memref.specs.Values.{Start, before, prior_of, looked_at, number_of, masked_by, value_of}
-use Rattle.ra_runtime.proofs.Members.{In, In_front, In_behind}
+use Rattle.ra_member.proofs.Listed.{In, In_front, In_behind}
 
 -- the starts give the cells and tracked masks of a tree one number
 pub record AgreesOn (start start' : Start) (tree : Tree) : Type 0 where

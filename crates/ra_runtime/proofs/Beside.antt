@@ -3,7 +3,7 @@ use Rattle.std.proofs.Common.{◌≡◌, ℕ, Bool, true, false, not, if◌then�
 use Rattle.ra_indirect.specs.Trees.{Cell, Tracked, same_cell, same_tracked, firsts}
 use Rattle.ra_indirect.proofs.SameLemmas.{cell_itself, tracked_itself}
 use Rattle.ra_runtime.specs.Openings.{number_beside, prior_beside}
-use Rattle.ra_runtime.proofs.Members.{In, map_agree}
+use Rattle.ra_member.proofs.Listed.{In, map_agree}
 
 -- no element is the same as a later one
 abbrev pub AreApart : {A : Type 0} → (A → A → Bool) → List A → Type 0

@@ -13,7 +13,7 @@ use Rattle.ra_words.specs.Words.{AreWords}
 use Rattle.ra_progress.specs.Contents.{Opening, IsOpening}
 use Rattle.ra_runtime.specs.Order.{trees_in_set, set_cells, set_tracked, shape_of}
 use Rattle.ra_runtime.specs.Openings.{number_beside, prior_beside, start_of, snapshot}
-use Rattle.ra_runtime.proofs.Members.{In, In_split, In_of_firsts, In_one}
+use Rattle.ra_member.proofs.Listed.{In, In_split, In_of_firsts, In_one}
 use Rattle.ra_runtime.proofs.Each.{each_at, each_drop}
 use Rattle.ra_runtime.proofs.TreeWords.{IsWord, if_word, four_at_most, AreStartWords, cell_word, tracked_word}
 use Rattle.ra_runtime.proofs.GroupWords.{AreAllWords}

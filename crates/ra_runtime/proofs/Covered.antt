@@ -13,7 +13,7 @@ use Rattle.ra_set.specs.Contents.{SetContents}
 use Rattle.ra_progress.specs.Contents.{Opening}
 use Rattle.ra_runtime.specs.Order.{trees_in_set, set_cells, set_tracked}
 use Rattle.ra_runtime.specs.Openings.{number_beside, prior_beside, start_of, snapshot}
-use Rattle.ra_runtime.proofs.Members.{In, In_front, In_behind, In_split, In_flat, In_firsts, In_of_firsts, InOne, In_one, map_agree}
+use Rattle.ra_member.proofs.Listed.{In, In_front, In_behind, In_split, In_flat, In_firsts, In_of_firsts, InOne, In_one, map_agree}
 use Rattle.ra_runtime.proofs.Agreeing.{value_agrees}
 
 -- beside a list of cells stand the numbers that a function gives them

@@ -4,7 +4,7 @@ use Rattle.std.specs.List.{flat_map}
 use Rattle.std.proofs.lemmas.List.Folds.{flat_map-map}
 use Rattle.ra_value.specs.Steps.{ValueKept, signed_greatest}
 use Rattle.ra_runtime.specs.declared.line_run.LineRun.{LineRun}
-use Rattle.ra_runtime.specs.declared.value_run.ValueRun.{ValueRun}
+use Rattle.ra_member.specs.declared.value_run.ValueRun.{ValueRun}
 use Rattle.ra_runtime.specs.Presence.{hits_in, numbers_in}
 use Rattle.ra_runtime.specs.PresenceRuns.{test_kept, line_kept}
 use Rattle.ra_runtime.specs.Restoring.{all_in_line}

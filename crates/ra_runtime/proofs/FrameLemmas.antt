@@ -13,7 +13,7 @@ use Rattle.ra_runtime.specs.declared.presence_run.PresenceRun.{PresenceRun}
 use Rattle.ra_runtime.specs.Order.{trees_in_set, set_cells, set_tracked}
 use Rattle.ra_runtime.specs.Openings.{start_of, snapshot, item_after, number_beside, prior_beside, frames_after, optional_presence}
 use Rattle.ra_runtime.specs.Play.{item_lines, lines}
-use Rattle.ra_runtime.specs.Runs.{HasValues}
+use Rattle.ra_member.specs.Runs.{HasValues}
 use Rattle.ra_runtime.specs.ItemRuns.{kept_run}
 use Rattle.ra_runtime.specs.AllRuns.{AreStepped, all_lines, opening_by, IsOver}
 use Rattle.ra_runtime.specs.PresenceRuns.{StepsOptional, optional_presence_kept}

@@ -13,7 +13,7 @@ use Rattle.ra_leaderboard.specs.declared.state.BoardState.{BoardState}
 use Rattle.ra_leaderboard.specs.States.{became_started, became_cancelled, became_submitted}
 use Rattle.ra_leaderboard.specs.Contents.{BoardContents}
 use Rattle.ra_set.specs.Contents.{Unlocks, Ranks}
-use Rattle.ra_runtime.specs.declared.value_run.ValueRun.{ValueRun}
+use Rattle.ra_member.specs.declared.value_run.ValueRun.{ValueRun}
 use Rattle.ra_runtime.specs.declared.achievement_run.AchievementRun.{AchievementRun}
 use Rattle.ra_runtime.specs.declared.board_run.BoardRun.{BoardRun}
 use Rattle.ra_runtime.specs.declared.item_run.ItemRun.TheVariants.{Achievement, Leaderboard}
@@ -44,11 +44,11 @@ change_written frame id old new =
 pub achievement_item : (table : TableSeen) (id : ℕ) (t : TriggerContents) (old new : AchievementRun) → StepsAchievement table t old new → StepsItem table (Unlocks id t) (Achievement old) (Achievement new)
 achievement_item table id t old new steps = record {
   kept = λ start image has.
-      ap kept_achievement (steps.kept start (image ∷ []) has ∙ ap (λ k. achievement_after start t k (image ∷ [])) (sym (achievement_again old.trigger)));
+      ap kept_achievement (steps.kept start (image ∷ []) has ∙ ap (λ k. achievement_after start t k (image ∷ [])) (sym (achievement_again old.run.trigger)));
   lines = λ start image frame has.
-      ap (change_lines frame id) steps.change
-      ∙ change_written frame id old.trigger new.trigger
-      ∙ ap₂ (achievement_lines frame id) (sym (achievement_again old.trigger)) (steps.kept start (image ∷ []) has ∙ ap (λ k. achievement_after start t k (image ∷ [])) (sym (achievement_again old.trigger)));
+      ap (change_lines frame id) steps.told
+      ∙ change_written frame id old.run.trigger new.run.trigger
+      ∙ ap₂ (achievement_lines frame id) (sym (achievement_again old.run.trigger)) (steps.kept start (image ∷ []) has ∙ ap (λ k. achievement_after start t k (image ∷ [])) (sym (achievement_again old.run.trigger)));
 }
 
 optional_fits : (nodes : List Node) (parts : Option (List PartContents)) (run : Option ValueRun) → IsOptionalRun nodes parts run → ValueFits (optional_parts parts) (optional_kept run)

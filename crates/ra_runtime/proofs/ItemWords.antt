@@ -22,10 +22,12 @@ use Rattle.ra_value_format.specs.declared.format.Format.{Format}
 use Rattle.ra_set.specs.Contents.{ItemContents, Unlocks, Ranks}
 use Rattle.ra_progress.specs.Contents.{KeptItem, OfAchievement, OfBoard, ItemFits, ItemsFit}
 use Rattle.ra_runtime.specs.Order.{optional_parts, item_shape}
-use Rattle.ra_runtime.specs.Histories.{left_at, lefts_at, truths_at, achievement_after, test_hits, sum_at, value_next, value_after}
+use Rattle.ra_member.specs.Frames.{left_at, lefts_at, truths_at, sum_at, value_next}
+use Rattle.ra_runtime.specs.Histories.{achievement_after, test_hits, value_after}
 use Rattle.ra_runtime.specs.Boards.{BoardKept, board_state, running_value, board_value, board_after, cut_board, opened_board, kept_board}
 use Rattle.ra_runtime.specs.Openings.{opened_achievement, item_after}
-use Rattle.ra_runtime.proofs.Fitting.{length_truth, BoardFits, board_fits}
+use Rattle.ra_member.proofs.Shaped.{length_truth}
+use Rattle.ra_runtime.proofs.Fitting.{BoardFits, board_fits}
 use Rattle.ra_runtime.proofs.OpeningFits.{opened_fits}
 use Rattle.ra_runtime.proofs.Each.{each_append, each_take, each_drop, each_replicate, each_map, each_map_of, each_flat_map}
 use Rattle.ra_runtime.proofs.TreeWords.{IsWord, AreStartWords, value_word}
@@ -173,7 +175,7 @@ module _ (start : Start) (opened_words : AreStartWords start) where
   sum_word h images (Legacy terms) fits = value_word start opened_words (terms_tree terms) (terms_words terms fits) h images
   sum_word h images (Grouped cs) fits = lit< tt
 
-  next_value_words : (parts : List PartContents) → FitsValue parts → (h : History) → AreImages h → (old : ValueKept) → AreValueWords old → AreValueWords (value_next start h parts old)
+  next_value_words : (parts : List PartContents) → FitsValue parts → (h : History) → AreImages h → (old : ValueKept) → AreValueWords old → AreValueWords (value_next start parts h old)
   next_value_words parts fits h images old words =
       let groups = map counted_in parts in
       let lefts = lefts_words groups (each_map_of FitsGroup FitsPart counted_in counted_fits parts fits) h images in
@@ -189,7 +191,7 @@ module _ (start : Start) (opened_words : AreStartWords start) where
   running_words parts fits h images old new kept words =
       let before = if begins old new then no_value parts else kept in
       let before_words = if_value_words (begins old new) (no_value parts) kept (no_value_words parts) words in
-      if_value_words (is_running new) (value_next start h parts before) kept (next_value_words parts fits h images before before_words) words
+      if_value_words (is_running new) (value_next start parts h before) kept (next_value_words parts fits h images before before_words) words
 
   board_value_words : (b : BoardContents) (opened : BoardKept) (parts : List PartContents) → FitsValue parts → (kept : ValueKept) → AreValueWords kept → (h : History) → AreImages h → AreValueWords (board_value start b opened parts kept h)
   board_value_words b opened parts fits kept words [] images = words

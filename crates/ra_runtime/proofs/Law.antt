@@ -7,7 +7,7 @@ use Rattle.ra_leaderboard.specs.Contents.{BoardContents}
 use Rattle.ra_value_format.specs.declared.format.Format.{Format}
 use Rattle.ra_memory.specs.Image.{History}
 use Rattle.ra_chain.specs.Occurrence.{trees_in_trigger, trees_in_value}
-use Rattle.ra_memref.specs.Values.{Start, start_after}
+use Rattle.ra_memref.specs.Values.{Start}
 use Rattle.ra_trigger.specs.Steps.{TriggerKept}
 use Rattle.ra_value.specs.Steps.{signed_greatest}
 use Rattle.ra_richpresence.specs.Contents.{ScriptContents}
@@ -22,9 +22,9 @@ use Rattle.ra_runtime.specs.Lines.{line_of, achievement_lines, board_lines}
 use Rattle.ra_runtime.specs.Openings.{start_of, opened_achievement, kept_achievement, item_after, optional_presence, frames_after, snapshot}
 use Rattle.ra_runtime.specs.Play.{item_lines, lines, shown_by, shown}
 use Rattle.ra_runtime.specs.Runtime.{CutsAnywhere}
-use Rattle.ra_runtime.proofs.Members.{In_front, In_behind}
-use Rattle.ra_runtime.proofs.ItemCuts.{achievement_cut, test_hits_cut, board_state_cut, board_value_cut}
-use Rattle.ra_runtime.proofs.Alike.{Alike, alike_front, alike_behind, achievement_alike, BoardAlike, board_alike}
+use Rattle.ra_member.proofs.GoingOn.{GoesOn, goes_on}
+use Rattle.ra_member.proofs.Listed.{In_front, In_behind}
+use Rattle.ra_runtime.proofs.ItemCuts.{goes_front, goes_behind, achievement_cut, BoardGoesOn, board_cut}
 use Rattle.ra_runtime.proofs.Fitting.{BoardFits, board_fits}
 use Rattle.ra_runtime.proofs.Again.{achievement_again, board_again}
 use Rattle.ra_runtime.proofs.OpeningFits.{opened_fits, script_fits}
@@ -32,97 +32,80 @@ use Rattle.ra_runtime.proofs.PresenceCuts.{LinesFit, lines_fit, lines_again, lin
 use Rattle.ra_runtime.proofs.Covered.{tree_alike, cells_cut, priors_cut}
 
 -- the trees of a board's fields
-board_trees : (start start' : Start) (id : ℕ) (format : Format) (b : BoardContents) → Alike start start' (trees_in_item (Ranks id format b)) → BoardAlike start start' b
-board_trees start start' id format b alike =
+board_trees : (start opened : Start) (earlier : History) (id : ℕ) (format : Format) (b : BoardContents) → GoesOn start opened earlier (trees_in_item (Ranks id format b)) → BoardGoesOn start opened earlier b
+board_trees start opened earlier id format b goes =
     let a : _ = trees_in_trigger b.start in
     let c : _ = trees_in_trigger b.cancel in
     let s : _ = trees_in_trigger b.submit in
     let v : _ = trees_in_value b.value in
     let p : _ = trees_in_value (optional_parts b.progress) in
-    let acsv : Alike start start' (a ++ c ++ s ++ v) = alike_front start start' (a ++ c ++ s ++ v) p alike in
-    let acs : Alike start start' (a ++ c ++ s) = alike_front start start' (a ++ c ++ s) v acsv in
-    let ac : Alike start start' (a ++ c) = alike_front start start' (a ++ c) s acs in
+    let acsv : GoesOn start opened earlier (a ++ c ++ s ++ v) = goes_front start opened earlier (a ++ c ++ s ++ v) p goes in
+    let acs : GoesOn start opened earlier (a ++ c ++ s) = goes_front start opened earlier (a ++ c ++ s) v acsv in
+    let ac : GoesOn start opened earlier (a ++ c) = goes_front start opened earlier (a ++ c) s acs in
     record {
-      start_too = alike_front start start' a c ac;
-      cancel = alike_behind start start' a c ac;
-      submit = alike_behind start start' (a ++ c) s acs;
-      value = alike_behind start start' (a ++ c ++ s) v acsv;
-      progress = alike_behind start start' (a ++ c ++ s ++ v) p alike;
+      start_too = goes_front start opened earlier a c ac;
+      cancel = goes_behind start opened earlier a c ac;
+      submit = goes_behind start opened earlier (a ++ c) s acs;
+      value = goes_behind start opened earlier (a ++ c ++ s) v acsv;
+      progress = goes_behind start opened earlier (a ++ c ++ s ++ v) p goes;
     }
 
 module _ (start opened : Start) (earlier : History) where
-  abbrev there : Start
-  there = start_after start earlier
-
   -- an achievement, from what is kept of it
-  achievement_goes_on : (t : TriggerContents) → Alike opened there (trees_in_trigger t) → (k : TriggerKept) (later : History) → achievement_after start t k (later ++ earlier) ≡ achievement_after opened t (opened_achievement (kept_achievement (achievement_after start t k earlier))) later
-  achievement_goes_on t alike k later =
-      let at : TriggerKept = achievement_after start t k earlier in
-      achievement_cut start earlier t k later
-      ∙ sym (achievement_alike opened there t alike at later)
-      ∙ ap (λ x. achievement_after opened t x later) (sym (achievement_again at))
-
-  board_cut : (b : BoardContents) (k : BoardKept) (later : History) → board_after start b k (later ++ earlier) ≡ board_after there b (board_after start b k earlier) later
-  board_cut b k later =
-      let states = board_state_cut start earlier b k later in
-      let starts = test_hits_cut start earlier b.start k.start later in
-      let cancels = test_hits_cut start earlier b.cancel k.cancel later in
-      let submits = test_hits_cut start earlier b.submit k.submit later in
-      let values = board_value_cut start earlier b k b.value k.value later in
-      let progresses = board_value_cut start earlier b k (optional_parts b.progress) k.progress later in
-      (λ i. record { state = states i; start = starts i; cancel = cancels i; submit = submits i; value = values i; progress = progresses i })
+  achievement_goes_on : (t : TriggerContents) → GoesOn start opened earlier (trees_in_trigger t) → (k : TriggerKept) (later : History) → achievement_after start t k (later ++ earlier) ≡ achievement_after opened t (opened_achievement (kept_achievement (achievement_after start t k earlier))) later
+  achievement_goes_on t goes k later =
+      achievement_cut start opened earlier t goes k later
+      ∙ ap (λ x. achievement_after opened t x later) (sym (achievement_again (achievement_after start t k earlier)))
 
   -- a board, from what is kept of it
-  board_goes_on : (b : BoardContents) → BoardAlike opened there b → (k : BoardKept) → BoardFits b k → (later : History) → board_after start b k (later ++ earlier) ≡ board_after opened b (opened_board b (kept_board (board_after start b k earlier))) later
-  board_goes_on b alike k fits later =
-      let at : BoardKept = board_after start b k earlier in
-      board_cut b k later
-      ∙ sym (board_alike opened there b alike at later)
-      ∙ ap (λ x. board_after opened b x later) (sym (board_again b at (board_fits start b k earlier fits)))
+  board_goes_on : (b : BoardContents) → BoardGoesOn start opened earlier b → (k : BoardKept) → BoardFits b k → (later : History) → board_after start b k (later ++ earlier) ≡ board_after opened b (opened_board b (kept_board (board_after start b k earlier))) later
+  board_goes_on b goes k fits later =
+      board_cut start opened earlier b goes k later
+      ∙ ap (λ x. board_after opened b x later) (sym (board_again b (board_after start b k earlier) (board_fits start b k earlier fits)))
 
-  item_goes_on : (item : ItemContents) → Alike opened there (trees_in_item item) → (kept : KeptItem) → ItemFits (item_shape item) kept → (later : History) → item_after start (later ++ earlier) (item, kept) ≡ item_after opened later (item, item_after start earlier (item, kept))
+  item_goes_on : (item : ItemContents) → GoesOn start opened earlier (trees_in_item item) → (kept : KeptItem) → ItemFits (item_shape item) kept → (later : History) → item_after start (later ++ earlier) (item, kept) ≡ item_after opened later (item, item_after start earlier (item, kept))
   item_goes_on (Unlocks id t) alike kept fits later =
       ap kept_achievement (achievement_goes_on t alike (opened_achievement kept) later)
   item_goes_on (Ranks id format b) alike kept fits later =
-      ap kept_board (board_goes_on b (board_trees opened there id format b alike) (opened_board b kept) (opened_fits b id format kept fits) later)
+      ap kept_board (board_goes_on b (board_trees start opened earlier id format b alike) (opened_board b kept) (opened_fits b id format kept fits) later)
 
-  items_go_on : (items : List ItemContents) → Alike opened there (flat_map trees_in_item items) → (kept : List KeptItem) → ItemsFit (map item_shape items) kept → (later : History) → map (item_after start (later ++ earlier)) (zip items kept) ≡ map (item_after opened later) (zip items (map (item_after start earlier) (zip items kept)))
+  items_go_on : (items : List ItemContents) → GoesOn start opened earlier (flat_map trees_in_item items) → (kept : List KeptItem) → ItemsFit (map item_shape items) kept → (later : History) → map (item_after start (later ++ earlier)) (zip items kept) ≡ map (item_after opened later) (zip items (map (item_after start earlier) (zip items kept)))
   items_go_on [] alike kept fits later = refl
   items_go_on (item ∷ items) alike [] fits later = refl
   items_go_on (item ∷ items) alike (k ∷ kept) fits later =
-      let first = item_goes_on item (alike_front opened there (trees_in_item item) (flat_map trees_in_item items) alike) k fits.0 later in
-      let rest = items_go_on items (alike_behind opened there (trees_in_item item) (flat_map trees_in_item items) alike) kept fits.1 later in
+      let first = item_goes_on item (goes_front start opened earlier (trees_in_item item) (flat_map trees_in_item items) alike) k fits.0 later in
+      let rest = items_go_on items (goes_behind start opened earlier (trees_in_item item) (flat_map trees_in_item items) alike) kept fits.1 later in
       (λ i. first i ∷ rest i)
 
   -- the lines of an item at the last frame
-  line_goes_on : (item : ItemContents) → Alike opened there (trees_in_item item) → (kept : KeptItem) → ItemFits (item_shape item) kept → (frame : ℕ) (image : List ℕ) (later : History) → item_lines start frame image (later ++ earlier) (item, kept) ≡ item_lines opened frame image later (item, item_after start earlier (item, kept))
+  line_goes_on : (item : ItemContents) → GoesOn start opened earlier (trees_in_item item) → (kept : KeptItem) → ItemFits (item_shape item) kept → (frame : ℕ) (image : List ℕ) (later : History) → item_lines start frame image (later ++ earlier) (item, kept) ≡ item_lines opened frame image later (item, item_after start earlier (item, kept))
   line_goes_on (Unlocks id t) alike kept fits frame image later =
       let before = achievement_goes_on t alike (opened_achievement kept) later in
       let after = achievement_goes_on t alike (opened_achievement kept) (image ∷ later) in
       (λ i. achievement_lines frame id (before i) (after i))
   line_goes_on (Ranks id format b) alike kept fits frame image later =
-      let trees = board_trees opened there id format b alike in
+      let trees = board_trees start opened earlier id format b alike in
       let opened_fit = opened_fits b id format kept fits in
       let before = board_goes_on b trees (opened_board b kept) opened_fit later in
       let after = board_goes_on b trees (opened_board b kept) opened_fit (image ∷ later) in
       (λ i. board_lines frame id format b (before i) (after i))
 
-  lines_go_on : (items : List ItemContents) → Alike opened there (flat_map trees_in_item items) → (kept : List KeptItem) → ItemsFit (map item_shape items) kept → (frame : ℕ) (image : List ℕ) (later : History) → flat_map (item_lines start frame image (later ++ earlier)) (zip items kept) ≡ flat_map (item_lines opened frame image later) (zip items (map (item_after start earlier) (zip items kept)))
+  lines_go_on : (items : List ItemContents) → GoesOn start opened earlier (flat_map trees_in_item items) → (kept : List KeptItem) → ItemsFit (map item_shape items) kept → (frame : ℕ) (image : List ℕ) (later : History) → flat_map (item_lines start frame image (later ++ earlier)) (zip items kept) ≡ flat_map (item_lines opened frame image later) (zip items (map (item_after start earlier) (zip items kept)))
   lines_go_on [] alike kept fits frame image later = refl
   lines_go_on (item ∷ items) alike [] fits frame image later = refl
   lines_go_on (item ∷ items) alike (k ∷ kept) fits frame image later =
-      let first = line_goes_on item (alike_front opened there (trees_in_item item) (flat_map trees_in_item items) alike) k fits.0 frame image later in
-      let rest = lines_go_on items (alike_behind opened there (trees_in_item item) (flat_map trees_in_item items) alike) kept fits.1 frame image later in
+      let first = line_goes_on item (goes_front start opened earlier (trees_in_item item) (flat_map trees_in_item items) alike) k fits.0 frame image later in
+      let rest = lines_go_on items (goes_behind start opened earlier (trees_in_item item) (flat_map trees_in_item items) alike) kept fits.1 frame image later in
       (λ i. first i ++ rest i)
 
   -- what is kept of the presence
-  presence_goes_on : (script : Option ScriptContents) → Alike opened there (flat_map trees_in_line (lines_in script)) → (kept : Option KeptPresence) → PresenceFits (option_map presence_shape script) kept → (later : History) → optional_presence start (later ++ earlier) script kept ≡ optional_presence opened later script (optional_presence start earlier script kept)
+  presence_goes_on : (script : Option ScriptContents) → GoesOn start opened earlier (flat_map trees_in_line (lines_in script)) → (kept : Option KeptPresence) → PresenceFits (option_map presence_shape script) kept → (later : History) → optional_presence start (later ++ earlier) script kept ≡ optional_presence opened later script (optional_presence start earlier script kept)
   presence_goes_on None alike kept fits later = refl
   presence_goes_on (Some script) alike None fits later = refl
   presence_goes_on (Some script) alike (Some kept) fits later =
       ap Some (presence_cut start opened earlier script alike kept (script_fits script kept fits) later)
 
-  text_goes_on : (script : ScriptContents) → Alike opened there (flat_map trees_in_line script.lines) → (kept : KeptPresence) → LinesFit script.lines (cut_lines script.lines kept.hits kept.numbers) → (later : History) → presence_text start script kept (later ++ earlier) ≡ presence_text opened script (presence_after start script kept earlier) later
+  text_goes_on : (script : ScriptContents) → GoesOn start opened earlier (flat_map trees_in_line script.lines) → (kept : KeptPresence) → LinesFit script.lines (cut_lines script.lines kept.hits kept.numbers) → (later : History) → presence_text start script kept (later ++ earlier) ≡ presence_text opened script (presence_after start script kept earlier) later
   text_goes_on script alike kept fits later =
       let ks : List LineKept = cut_lines script.lines kept.hits kept.numbers in
       let after : List LineKept = map (line_after start earlier) (zip script.lines ks) in
@@ -131,7 +114,7 @@ module _ (start opened : Start) (earlier : History) where
       let whole = presence_cut start opened earlier script alike kept fits later in
       (λ i. line_text script (whole i).shown (flat_map (λ line. map (λ v. signed_greatest v.numbers) line.values) (rows i)))
 
-  shown_goes_on : (count : ℕ) (script : Option ScriptContents) → Alike opened there (flat_map trees_in_line (lines_in script)) → (kept : Option KeptPresence) → PresenceFits (option_map presence_shape script) kept → (later : History) → shown_by start count (later ++ earlier) script kept ≡ shown_by opened count later script (optional_presence start earlier script kept)
+  shown_goes_on : (count : ℕ) (script : Option ScriptContents) → GoesOn start opened earlier (flat_map trees_in_line (lines_in script)) → (kept : Option KeptPresence) → PresenceFits (option_map presence_shape script) kept → (later : History) → shown_by start count (later ++ earlier) script kept ≡ shown_by opened count later script (optional_presence start earlier script kept)
   shown_goes_on count None alike kept fits later = refl
   shown_goes_on count (Some script) alike None fits later = refl
   shown_goes_on count (Some script) alike (Some kept) fits later =
@@ -147,13 +130,13 @@ length_both later earlier = length-append later earlier
 pub cuts_anywhere : (set : SetContents) → CutsAnywhere set
 cuts_anywhere set = record { kept = kept; shows = shows; prints = prints }
   where
-    items_alike : (o : Opening) (earlier : History) → Alike (start_of set (snapshot set o earlier)) (start_after (start_of set o) earlier) (flat_map trees_in_item set.items)
-    items_alike o earlier tree h =
-        tree_alike set o earlier tree (In_front tree (flat_map trees_in_item set.items) (flat_map trees_in_line (lines_in set.script)) h)
+    items_alike : (o : Opening) (earlier : History) → GoesOn (start_of set o) (start_of set (snapshot set o earlier)) earlier (flat_map trees_in_item set.items)
+    items_alike o earlier =
+        goes_on (start_of set o) (start_of set (snapshot set o earlier)) earlier (flat_map trees_in_item set.items) (λ tree h history. sym (tree_alike set o earlier tree (In_front tree (flat_map trees_in_item set.items) (flat_map trees_in_line (lines_in set.script)) h) history))
 
-    script_alike : (o : Opening) (earlier : History) → Alike (start_of set (snapshot set o earlier)) (start_after (start_of set o) earlier) (flat_map trees_in_line (lines_in set.script))
-    script_alike o earlier tree h =
-        tree_alike set o earlier tree (In_behind tree (flat_map trees_in_item set.items) (flat_map trees_in_line (lines_in set.script)) h)
+    script_alike : (o : Opening) (earlier : History) → GoesOn (start_of set o) (start_of set (snapshot set o earlier)) earlier (flat_map trees_in_line (lines_in set.script))
+    script_alike o earlier =
+        goes_on (start_of set o) (start_of set (snapshot set o earlier)) earlier (flat_map trees_in_line (lines_in set.script)) (λ tree h history. sym (tree_alike set o earlier tree (In_behind tree (flat_map trees_in_item set.items) (flat_map trees_in_line (lines_in set.script)) h) history))
 
     counts : (o : Opening) (earlier later : History) → frames_after o.frames (length (later ++ earlier)) ≡ frames_after (snapshot set o earlier).frames (length later)
     counts o earlier later =

@@ -2,8 +2,8 @@
 use Rattle.std.proofs.Common.{◌≡◌, ℕ, ◌+◌, ◌<◌, ◌≤◌, List, length, map, take, get_or, ◌∙◌, ap, arith, length-append}
 use Rattle.std.specs.List.{flat_map}
 use Rattle.std.proofs.lemmas.List.Concat.{length-flat_map}
-use Rattle.ra_runtime.proofs.GrowthLemmas.{taken_next, weight_at}
-use Rattle.ra_runtime.proofs.PlanLemmas.{one_more}
+use Rattle.ra_member.proofs.GrowthLemmas.{taken_next, weight_at}
+use Rattle.ra_member.proofs.PlanLemmas.{one_more}
 
 module _ {X K : Type 0} (kept : X → K) (numbers : K → List ℕ) (xs : List X) (k : ℕ) (x : X) (within : k < length xs) (is : x ≡ get_or xs k x) where
   pub row_next : length (flat_map numbers (map kept (take (k + 1) xs))) ≡ length (flat_map numbers (map kept (take k xs))) + length (numbers (kept x))

@@ -16,10 +16,11 @@ use Rattle.ra_runtime.specs.declared.presence_run.PresenceRun.{PresenceRun}
 use Rattle.ra_runtime.specs.Order.{trees_in_item, trees_in_line, lines_in, trees_in_set, set_cells, set_tracked}
 use Rattle.ra_runtime.specs.AllRuns.{AreItemRuns, IsOver}
 use Rattle.ra_runtime.specs.NewPresence.{IsNewPresence}
-use Rattle.ra_runtime.specs.Planning.{GrowsWithin, AreWaiting}
+use Rattle.ra_member.specs.Plans.{GrowsWithin}
+use Rattle.ra_runtime.specs.Planning.{AreWaiting}
 use Rattle.ra_runtime.specs.PresenceRuns.{IsOptionalPresence}
 use Rattle.ra_runtime.specs.Shapes.{IsLaidOut}
-use Rattle.ra_runtime.proofs.PlanLemmas.{within_through}
+use Rattle.ra_member.proofs.PlanLemmas.{within_through}
 use Rattle.ra_runtime.proofs.WaitingLemmas.{item_runs_more}
 
 module _ (set : SetContents) where

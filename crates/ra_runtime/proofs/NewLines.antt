@@ -4,45 +4,40 @@ use Rattle.std.specs.List.{flat_map, filter_map}
 use Rattle.std.proofs.lemmas.List.{append-nil, map-append, replicate-append-replicate}
 use Rattle.std.proofs.lemmas.List.Elements.{All-append, All-cons, All-nil}
 use Rattle.std.proofs.lemmas.List.Sums.{sum_by-cons, sum_by-append}
-use Rattle.ra_condition.specs.Contents.{TriggerContents, groups_of, trigger_hits, PartContents, value_hits}
+use Rattle.ra_condition.specs.Contents.{TriggerContents, trigger_hits, PartContents, value_hits}
 use Rattle.ra_condition.specs.Spelled.{IsTrigger}
 use Rattle.ra_indirect.specs.declared.node.Node.{Node}
 use Rattle.ra_indirect.specs.Growing.{IsFront}
 use Rattle.ra_chain.specs.Occurrence.{trees_in_trigger, trees_in_value}
-use Rattle.ra_chain.specs.declared.plan.GroupPlan.{GroupPlan}
 use Rattle.ra_richpresence.specs.Contents.{PieceContents, Bytes, Shows, LineContents, ScriptContents, value_in, values_in_line}
 use Rattle.ra_richpresence.specs.Spelled.{IsTested, IsUntested, IsDisplay}
 use Rattle.ra_trigger.specs.Steps.{TriggerKept}
 use Rattle.ra_value.specs.Steps.{ValueKept, no_value}
 use Rattle.ra_set.specs.Limits.{optional_trigger, optional_value, value_conditions, line_conditions}
-use Rattle.ra_runtime.specs.declared.plans.ValuePlan.{ValuePlan}
 use Rattle.ra_runtime.specs.declared.line_run.LineRun.{LineRun}
 use Rattle.ra_runtime.specs.declared.presence_run.PresenceRun.{PresenceRun}
-use Rattle.ra_runtime.specs.declared.test_run.TestRun.{TestRun}
-use Rattle.ra_runtime.specs.declared.value_run.ValueRun.{ValueRun}
+use Rattle.ra_member.specs.declared.trigger_run.TriggerRun.{TriggerRun}
+use Rattle.ra_member.specs.declared.value_run.ValueRun.{ValueRun}
 use Rattle.ra_runtime.specs.Order.{tests_in, trees_in_line, line_hits}
-use Rattle.ra_runtime.specs.Plans.{IsPlan, IsValuePlan}
-use Rattle.ra_runtime.specs.Planning.{GrowsWithin}
 use Rattle.ra_runtime.specs.Presence.{hits_in, numbers_in}
-use Rattle.ra_runtime.specs.Runs.{IsNewTest, IsValueRun, IsNewValue}
+use Rattle.ra_member.specs.Runs.{IsNewTrigger, IsValueRun, IsNewValue}
 use Rattle.ra_runtime.specs.PresenceRuns.{IsOptionalTest, AreValueRuns, IsLineRun, AreLineRuns, line_kept}
 use Rattle.ra_runtime.specs.NewPresence.{plain_test, plain_line, IsShownLine, IsNewTestOver, AreNewValues, IsNewLine, AreNewLines, IsNewPresence}
-use Rattle.ra_runtime.proofs.GrowthLemmas.{grows_more}
-use Rattle.ra_runtime.proofs.NewLemmas.{new_test, new_value}
-use Rattle.ra_runtime.proofs.PlanLemmas.{within_through, within_as}
-use Rattle.ra_runtime.proofs.SideBySide.{beside_more, beside_weaker}
-use Rattle.ra_runtime.proofs.WaitingLemmas.{laid_more, value_run_more}
+use Rattle.ra_member.proofs.GrowthLemmas.{grows_more}
+use Rattle.ra_member.proofs.PlanLemmas.{within_through, within_as}
+use Rattle.ra_member.proofs.SideBySide.{beside_more, beside_weaker}
+use Rattle.ra_member.proofs.Added.{trigger_more, value_more}
 
 -- runs stay ones where the pool grows
 module _ (old new : List Node) (front : IsFront old new) where
-  pub test_more : (test : Option TriggerContents) (run : Option TestRun) → IsOptionalTest old test run → IsOptionalTest new test run
+  pub test_more : (test : Option TriggerContents) (run : Option TriggerRun) → IsOptionalTest old test run → IsOptionalTest new test run
   test_more None None is = tt
   test_more None (Some run) is = absurd is
   test_more (Some t) None is = absurd is
-  test_more (Some t) (Some run) is = record { laid = laid_more old new front (groups_of t) run.laid is.laid; hits = is.hits }
+  test_more (Some t) (Some run) is = trigger_more old new front t run is
 
   pub value_runs_more : (values : List (List PartContents)) (runs : List ValueRun) → AreValueRuns old values runs → AreValueRuns new values runs
-  value_runs_more values runs are = beside_weaker (IsValueRun old) (IsValueRun new) (value_run_more old new front) values runs are
+  value_runs_more values runs are = beside_weaker (IsValueRun old) (IsValueRun new) (value_more old new front) values runs are
 
   pub line_run_more : (line : LineContents) (run : LineRun) → IsLineRun old line run → IsLineRun new line run
   line_run_more line run is = record { test = test_more line.test run.test is.test; values = value_runs_more (values_in_line line) run.values.items is.values }
@@ -51,21 +46,21 @@ module _ (old new : List Node) (front : IsFront old new) where
   line_runs_more lines runs are = beside_weaker (IsLineRun old) (IsLineRun new) line_run_more lines runs are
 
 -- a test with its plan
-pub test_made : (old new : List Node) (t : TriggerContents) (plan : GroupPlan) (run : TestRun) → GrowsWithin old new (trees_in_trigger t) (13 * trigger_hits t) → IsPlan new (groups_of t) plan → IsNewTest t plan run → IsNewTestOver old new (Some t) (Some run)
-test_made old new t plan run grows is made = record {
-  grows = within_as old new (trees_in_trigger t) (trees_in_trigger t ++ []) (13 * trigger_hits t) (13 * trigger_hits t) (sym (append-nil (trees_in_trigger t))) (omega arith) grows;
-  run_too = new_test new t plan run is made;
-  plain = ap (λ (k : TriggerKept). k.hits) made.trigger;
+pub test_made : (old new : List Node) (t : TriggerContents) (run : TriggerRun) → IsNewTrigger old new t run → IsNewTestOver old new (Some t) (Some run)
+test_made old new t run made = record {
+  grows = within_as old new (trees_in_trigger t) (trees_in_trigger t ++ []) (13 * trigger_hits t) (13 * trigger_hits t) (sym (append-nil (trees_in_trigger t))) (omega arith) made.grows;
+  run_too = made.run_too;
+  plain = ap (λ (k : TriggerKept). k.hits) made.plain;
 }
 
 -- a value more
-pub values_more : (a b c : List Node) (values : List (List PartContents)) (runs : List ValueRun) (parts : List PartContents) (plan : ValuePlan) (run : ValueRun) → AreNewValues a b values runs → GrowsWithin b c (trees_in_value parts) (13 * value_conditions parts) → IsValuePlan c parts plan → IsNewValue parts plan run → AreNewValues a c (values ++ parts ∷ []) (runs ++ run ∷ [])
-values_more a b c values runs parts plan run are grows is made = record {
-  grows = grows_more trees_in_value value_conditions a b c values parts are.grows grows;
-  runs_too = beside_more (IsValueRun c) values runs parts run (value_runs_more b c grows.grows.front values runs are.runs_too) (new_value c parts plan run is made);
+pub values_more : (a b c : List Node) (values : List (List PartContents)) (runs : List ValueRun) (parts : List PartContents) (run : ValueRun) → AreNewValues a b values runs → IsNewValue b c parts run → AreNewValues a c (values ++ parts ∷ []) (runs ++ run ∷ [])
+values_more a b c values runs parts run are made = record {
+  grows = grows_more trees_in_value value_conditions a b c values parts are.grows made.grows;
+  runs_too = beside_more (IsValueRun c) values runs parts run (value_runs_more b c made.grows.grows.front values runs are.runs_too) made.run_too;
   plain =
       map-append (λ (v : ValueRun). v.value) runs (run ∷ [])
-      ∙ ap₂ (λ ks k. ks ++ k ∷ []) are.plain made.value
+      ∙ ap₂ (λ ks k. ks ++ k ∷ []) are.plain made.plain
       ∙ sym (map-append no_value values (parts ∷ []));
 }
 

@@ -6,15 +6,15 @@ use Rattle.std.proofs.lemmas.List.Sums.{sum_by-cons}
 use Rattle.ra_condition.specs.Contents.{TriggerContents, trigger_hits, PartContents, value_hits}
 use Rattle.ra_memory.specs.Image.{History}
 use Rattle.ra_chain.specs.Occurrence.{trees_in_trigger, trees_in_value}
-use Rattle.ra_memref.specs.Values.{Start, start_after}
+use Rattle.ra_memref.specs.Values.{Start}
 use Rattle.ra_value.specs.Steps.{ValueKept}
 use Rattle.ra_richpresence.specs.Contents.{LineContents, ScriptContents, values_in_line}
 use Rattle.ra_progress.specs.Contents.{KeptPresence}
+use Rattle.ra_member.proofs.GoingOn.{GoesOn}
 use Rattle.ra_runtime.specs.Order.{tests_in, line_hits, trees_in_line}
 use Rattle.ra_runtime.specs.Histories.{value_after}
 use Rattle.ra_runtime.specs.Presence.{LineKept, line_test_hits, line_truth, line_after, first_true, shown_line, cut_values, cut_lines, hits_in, numbers_in, presence_after}
-use Rattle.ra_runtime.proofs.ItemCuts.{test_hits_cut, test_truth_cut, value_after_cut}
-use Rattle.ra_runtime.proofs.Alike.{Alike, alike_front, alike_behind, hits_alike, truth_alike, value_alike}
+use Rattle.ra_runtime.proofs.ItemCuts.{goes_front, goes_behind, test_hits_cut, test_truth_cut, value_after_cut}
 use Rattle.ra_runtime.proofs.Fitting.{ValueFits, length_test, value_fits}
 
 -- each value is kept as its text says
@@ -101,49 +101,46 @@ module _ (start : Start) where
   lines_fit [] (k ∷ ks) h fits = absurd fits
   lines_fit (line ∷ lines) [] h fits = absurd fits
 
--- lines after a history that goes on from another, by two starts under which their trees are alike
+-- lines after a history that goes on from another, by an opening whose trees go on from it
 module _ (start opened : Start) (earlier : History) where
-  abbrev there : Start
-  there = start_after start earlier
-
-  values_cut : (vs : List (List PartContents)) → Alike opened there (flat_map trees_in_value vs) → (ks : List ValueKept) (later : History) → map (λ v. value_after start v.0 v.1 (later ++ earlier)) (zip vs ks) ≡ map (λ v. value_after opened v.0 v.1 later) (zip vs (map (λ v. value_after start v.0 v.1 earlier) (zip vs ks)))
+  values_cut : (vs : List (List PartContents)) → GoesOn start opened earlier (flat_map trees_in_value vs) → (ks : List ValueKept) (later : History) → map (λ v. value_after start v.0 v.1 (later ++ earlier)) (zip vs ks) ≡ map (λ v. value_after opened v.0 v.1 later) (zip vs (map (λ v. value_after start v.0 v.1 earlier) (zip vs ks)))
   values_cut [] alike ks later = refl
   values_cut (v ∷ vs) alike [] later = refl
   values_cut (v ∷ vs) alike (k ∷ ks) later =
-      let first = value_after_cut start earlier v k later ∙ sym (value_alike opened there v (alike_front opened there (trees_in_value v) (flat_map trees_in_value vs) alike) (value_after start v k earlier) later) in
-      let rest = values_cut vs (alike_behind opened there (trees_in_value v) (flat_map trees_in_value vs) alike) ks later in
+      let first = value_after_cut start opened earlier v (goes_front start opened earlier (trees_in_value v) (flat_map trees_in_value vs) alike) k later in
+      let rest = values_cut vs (goes_behind start opened earlier (trees_in_value v) (flat_map trees_in_value vs) alike) ks later in
       (λ i. first i ∷ rest i)
 
-  line_test_cut : (test : Option TriggerContents) → Alike opened there (flat_map trees_in_trigger (tests_in test)) → (kept : List ℕ) (later : History) → line_test_hits start test kept (later ++ earlier) ≡ line_test_hits opened test (line_test_hits start test kept earlier) later
+  line_test_cut : (test : Option TriggerContents) → GoesOn start opened earlier (flat_map trees_in_trigger (tests_in test)) → (kept : List ℕ) (later : History) → line_test_hits start test kept (later ++ earlier) ≡ line_test_hits opened test (line_test_hits start test kept earlier) later
   line_test_cut None alike kept later = refl
   line_test_cut (Some t) alike kept later =
-      test_hits_cut start earlier t kept later ∙ sym (hits_alike opened there t (alike_front opened there (trees_in_trigger t) [] alike) (line_test_hits start (Some t) kept earlier) later)
+      test_hits_cut start opened earlier t (goes_front start opened earlier (trees_in_trigger t) [] alike) kept later
 
-  line_truth_cut : (test : Option TriggerContents) → Alike opened there (flat_map trees_in_trigger (tests_in test)) → (kept : List ℕ) (image : List ℕ) (later : History) → line_truth start test kept (image ∷ (later ++ earlier)) ≡ line_truth opened test (line_test_hits start test kept earlier) (image ∷ later)
+  line_truth_cut : (test : Option TriggerContents) → GoesOn start opened earlier (flat_map trees_in_trigger (tests_in test)) → (kept : List ℕ) (image : List ℕ) (later : History) → line_truth start test kept (image ∷ (later ++ earlier)) ≡ line_truth opened test (line_test_hits start test kept earlier) (image ∷ later)
   line_truth_cut None alike kept image later = refl
   line_truth_cut (Some t) alike kept image later =
-      test_truth_cut start earlier t kept image later ∙ sym (truth_alike opened there t (alike_front opened there (trees_in_trigger t) [] alike) (line_test_hits start (Some t) kept earlier) (image ∷ later))
+      test_truth_cut start opened earlier t (goes_front start opened earlier (trees_in_trigger t) [] alike) kept image later
 
-  pub lines_cut : (lines : List LineContents) → Alike opened there (flat_map trees_in_line lines) → (ks : List LineKept) (later : History) → map (line_after start (later ++ earlier)) (zip lines ks) ≡ map (line_after opened later) (zip lines (map (line_after start earlier) (zip lines ks)))
+  pub lines_cut : (lines : List LineContents) → GoesOn start opened earlier (flat_map trees_in_line lines) → (ks : List LineKept) (later : History) → map (line_after start (later ++ earlier)) (zip lines ks) ≡ map (line_after opened later) (zip lines (map (line_after start earlier) (zip lines ks)))
   lines_cut [] alike ks later = refl
   lines_cut (line ∷ lines) alike [] later = refl
   lines_cut (line ∷ lines) alike (k ∷ ks) later =
-      let here = alike_front opened there (trees_in_line line) (flat_map trees_in_line lines) alike in
-      let tests = line_test_cut line.test (alike_front opened there (flat_map trees_in_trigger (tests_in line.test)) (flat_map trees_in_value (values_in_line line)) here) k.test later in
-      let values = values_cut (values_in_line line) (alike_behind opened there (flat_map trees_in_trigger (tests_in line.test)) (flat_map trees_in_value (values_in_line line)) here) k.values later in
-      let rest = lines_cut lines (alike_behind opened there (trees_in_line line) (flat_map trees_in_line lines) alike) ks later in
+      let here = goes_front start opened earlier (trees_in_line line) (flat_map trees_in_line lines) alike in
+      let tests = line_test_cut line.test (goes_front start opened earlier (flat_map trees_in_trigger (tests_in line.test)) (flat_map trees_in_value (values_in_line line)) here) k.test later in
+      let values = values_cut (values_in_line line) (goes_behind start opened earlier (flat_map trees_in_trigger (tests_in line.test)) (flat_map trees_in_value (values_in_line line)) here) k.values later in
+      let rest = lines_cut lines (goes_behind start opened earlier (trees_in_line line) (flat_map trees_in_line lines) alike) ks later in
       (λ i. record { test = tests i; values = values i } ∷ rest i)
 
-  truths_cut : (lines : List LineContents) → Alike opened there (flat_map trees_in_line lines) → (ks : List LineKept) (image : List ℕ) (later : History) → map (λ pair. line_truth start pair.0.test pair.1.test (image ∷ (later ++ earlier))) (zip lines ks) ≡ map (λ pair. line_truth opened pair.0.test pair.1.test (image ∷ later)) (zip lines (map (line_after start earlier) (zip lines ks)))
+  truths_cut : (lines : List LineContents) → GoesOn start opened earlier (flat_map trees_in_line lines) → (ks : List LineKept) (image : List ℕ) (later : History) → map (λ pair. line_truth start pair.0.test pair.1.test (image ∷ (later ++ earlier))) (zip lines ks) ≡ map (λ pair. line_truth opened pair.0.test pair.1.test (image ∷ later)) (zip lines (map (line_after start earlier) (zip lines ks)))
   truths_cut [] alike ks image later = refl
   truths_cut (line ∷ lines) alike [] image later = refl
   truths_cut (line ∷ lines) alike (k ∷ ks) image later =
-      let here = alike_front opened there (trees_in_line line) (flat_map trees_in_line lines) alike in
-      let first = line_truth_cut line.test (alike_front opened there (flat_map trees_in_trigger (tests_in line.test)) (flat_map trees_in_value (values_in_line line)) here) k.test image later in
-      let rest = truths_cut lines (alike_behind opened there (trees_in_line line) (flat_map trees_in_line lines) alike) ks image later in
+      let here = goes_front start opened earlier (trees_in_line line) (flat_map trees_in_line lines) alike in
+      let first = line_truth_cut line.test (goes_front start opened earlier (flat_map trees_in_trigger (tests_in line.test)) (flat_map trees_in_value (values_in_line line)) here) k.test image later in
+      let rest = truths_cut lines (goes_behind start opened earlier (trees_in_line line) (flat_map trees_in_line lines) alike) ks image later in
       (λ i. first i ∷ rest i)
 
-  pub presence_cut : (script : ScriptContents) → Alike opened there (flat_map trees_in_line script.lines) → (kept : KeptPresence) → LinesFit script.lines (cut_lines script.lines kept.hits kept.numbers) → (later : History) → presence_after start script kept (later ++ earlier) ≡ presence_after opened script (presence_after start script kept earlier) later
+  pub presence_cut : (script : ScriptContents) → GoesOn start opened earlier (flat_map trees_in_line script.lines) → (kept : KeptPresence) → LinesFit script.lines (cut_lines script.lines kept.hits kept.numbers) → (later : History) → presence_after start script kept (later ++ earlier) ≡ presence_after opened script (presence_after start script kept earlier) later
   presence_cut script alike kept fits later =
       let ks : List LineKept = cut_lines script.lines kept.hits kept.numbers in
       let after : List LineKept = map (line_after start earlier) (zip script.lines ks) in
@@ -152,6 +149,6 @@ module _ (start opened : Start) (earlier : History) where
       let shows : shown_line start script kept.shown ks (later ++ earlier) ≡ shown_line opened script (shown_line start script kept.shown ks earlier) after later = shown_cut script alike kept.shown ks later in
       rw again (λ i. record { shown = shows i; hits = flat_map hits_in (rows i); numbers = flat_map numbers_in (rows i) })
     where
-      shown_cut : (script : ScriptContents) → Alike opened there (flat_map trees_in_line script.lines) → (shown : ℕ) (ks : List LineKept) (later : History) → shown_line start script shown ks (later ++ earlier) ≡ shown_line opened script (shown_line start script shown ks earlier) (map (line_after start earlier) (zip script.lines ks)) later
+      shown_cut : (script : ScriptContents) → GoesOn start opened earlier (flat_map trees_in_line script.lines) → (shown : ℕ) (ks : List LineKept) (later : History) → shown_line start script shown ks (later ++ earlier) ≡ shown_line opened script (shown_line start script shown ks earlier) (map (line_after start earlier) (zip script.lines ks)) later
       shown_cut script alike shown ks [] = refl
       shown_cut script alike shown ks (image ∷ later) = ap first_true (truths_cut script.lines alike ks image later)

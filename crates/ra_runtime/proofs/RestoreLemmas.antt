@@ -10,14 +10,14 @@ use Rattle.ra_leaderboard.specs.Contents.{BoardContents}
 use Rattle.ra_set.specs.Contents.{ItemContents, Unlocks, Ranks}
 use Rattle.ra_progress.specs.Contents.{OfAchievement, OfBoard}
 use Rattle.ra_words.specs.Words.{word_at, words_at}
-use Rattle.ra_runtime.specs.declared.test_run.TestRun.{TestRun}
-use Rattle.ra_runtime.specs.declared.value_run.ValueRun.{ValueRun}
+use Rattle.ra_member.specs.declared.trigger_run.TriggerRun.{TriggerRun}
+use Rattle.ra_member.specs.declared.value_run.ValueRun.{ValueRun}
 use Rattle.ra_runtime.specs.declared.achievement_run.AchievementRun.{AchievementRun}
 use Rattle.ra_runtime.specs.declared.board_run.BoardRun.{BoardRun}
 use Rattle.ra_runtime.specs.declared.item_run.ItemRun.TheVariants.{Achievement}
 use Rattle.ra_runtime.specs.Openings.{kept_achievement}
-use Rattle.ra_runtime.specs.Plans.{AreSums}
-use Rattle.ra_runtime.specs.Runs.{IsLaid, IsTestRun, IsValueRun}
+use Rattle.ra_member.specs.Plans.{AreSums}
+use Rattle.ra_member.specs.Runs.{IsLaid, IsTriggerRun, IsValueRun}
 use Rattle.ra_runtime.specs.BoardRuns.{IsOptionalRun, IsBoardRun, optional_kept}
 use Rattle.ra_runtime.specs.ItemRuns.{IsItemRun}
 use Rattle.ra_runtime.specs.Restoring.{PutsBackTest, value_at, PutsBackValue, PutsBackOptional, PutsBackBoard, PutsBackItem}
@@ -41,21 +41,21 @@ board_again (suc (suc (suc (suc zero)))) small = refl
 board_again (suc (suc (suc (suc (suc n))))) small = absurd (omega arith)
 
 module _ (bytes : List ℕ) (at : ℕ) (small : slice_index bytes at < 5) where
-  module _ (old new : AchievementRun) (laid : new.laid ≡ old.laid) (trigger : new.trigger ≡ record { state = state_of (slice_index bytes at); measured = word_at bytes (at + 1); hits = words_at bytes (at + 5) (length old.trigger.hits) }) where
+  module _ (old new : AchievementRun) (laid : new.run.laid ≡ old.run.laid) (trigger : new.run.trigger ≡ record { state = state_of (slice_index bytes at); measured = word_at bytes (at + 1); hits = words_at bytes (at + 5) (length old.run.trigger.hits) }) where
     achievement_run : (nodes : List Node) (item : ItemContents) → IsItemRun nodes item (Achievement old) → IsItemRun nodes item (Achievement new)
     achievement_run nodes (Unlocks id t) is = record {
       laid = subst (IsLaid nodes (groups_of t)) (sym laid) is.laid;
-      hits = ap (λ (k : TriggerKept). length k.hits) trigger ∙ length-words_at bytes (at + 5) (length old.trigger.hits) ∙ is.hits;
+      hits = ap (λ (k : TriggerKept). length k.hits) trigger ∙ length-words_at bytes (at + 5) (length old.run.trigger.hits) ∙ is.hits;
     }
     achievement_run nodes (Ranks id format b) is = absurd is
 
     pub achievement_back : PutsBackItem bytes at (Achievement old) (Achievement new)
     achievement_back = record {
-      kept = ap kept_achievement trigger ∙ ap (λ s. OfAchievement s (word_at bytes (at + 1)) (words_at bytes (at + 5) (length old.trigger.hits))) (state_again (slice_index bytes at) small);
+      kept = ap kept_achievement trigger ∙ ap (λ s. OfAchievement s (word_at bytes (at + 1)) (words_at bytes (at + 5) (length old.run.trigger.hits))) (state_again (slice_index bytes at) small);
       run = achievement_run;
     }
 
-pub test_run : (bytes : List ℕ) (at : ℕ) (old new : TestRun) → PutsBackTest bytes at old new → (nodes : List Node) (t : TriggerContents) → IsTestRun nodes t old → IsTestRun nodes t new
+pub test_run : (bytes : List ℕ) (at : ℕ) (old new : TriggerRun) → PutsBackTest bytes at old new → (nodes : List Node) (t : TriggerContents) → IsTriggerRun nodes t old → IsTriggerRun nodes t new
 test_run bytes at old new back nodes t is = record {
   laid = subst (IsLaid nodes (groups_of t)) (sym back.laid) is.laid;
   hits = ap length back.hits ∙ length-words_at bytes at (length old.trigger.hits) ∙ is.hits;

@@ -9,8 +9,8 @@ use Rattle.ra_words.specs.Words.{word_at, words_at}
 use Rattle.ra_progress.specs.Reading.{said_presence}
 use Rattle.ra_runtime.specs.declared.line_run.LineRun.{LineRun}
 use Rattle.ra_runtime.specs.declared.presence_run.PresenceRun.{PresenceRun}
-use Rattle.ra_runtime.specs.declared.test_run.TestRun.{TestRun}
-use Rattle.ra_runtime.specs.declared.value_run.ValueRun.{ValueRun}
+use Rattle.ra_member.specs.declared.trigger_run.TriggerRun.{TriggerRun}
+use Rattle.ra_member.specs.declared.value_run.ValueRun.{ValueRun}
 use Rattle.ra_runtime.specs.Presence.{hits_in, numbers_in}
 use Rattle.ra_runtime.specs.PresenceRuns.{IsOptionalTest, AreValueRuns, IsLineRun, AreLineRuns, IsOptionalPresence, test_kept, line_kept, presence_kept}
 use Rattle.ra_runtime.specs.Restoring.{PutsBackValue, PutsBackValues, PutsBackOptionalTest, PutsBackLine, PutsBackLines, PutsBackPresence, all_in_line}
@@ -18,18 +18,18 @@ use Rattle.ra_runtime.specs.Shapes.{presence_run_shape}
 use Rattle.ra_runtime.proofs.DisplayRows.{values_hits, values_numbers, line_hits_long, line_numbers_long, lines_hits, lines_numbers}
 use Rattle.ra_runtime.proofs.PutBackLemmas.{row_hits, row_numbers}
 use Rattle.ra_runtime.proofs.RestoreLemmas.{test_run, value_run}
-use Rattle.ra_runtime.proofs.SideBySide.{beside_length}
+use Rattle.ra_member.proofs.SideBySide.{beside_length}
 use Rattle.ra_words.proofs.Rows.{words_row}
 
 module _ (bytes : List ℕ) where
-  optional_test_run : (at : ℕ) (old new : Option TestRun) → PutsBackOptionalTest bytes at old new → (nodes : List Node) (test : Option TriggerContents) → IsOptionalTest nodes test old → IsOptionalTest nodes test new
+  optional_test_run : (at : ℕ) (old new : Option TriggerRun) → PutsBackOptionalTest bytes at old new → (nodes : List Node) (test : Option TriggerContents) → IsOptionalTest nodes test old → IsOptionalTest nodes test new
   optional_test_run at None None back nodes test is = is
   optional_test_run at None (Some new) back nodes test is = absurd back
   optional_test_run at (Some old) None back nodes test is = absurd back
   optional_test_run at (Some old) (Some new) back nodes None is = absurd is
   optional_test_run at (Some old) (Some new) back nodes (Some t) is = test_run bytes at old new back nodes t is
 
-  test_hits : (at : ℕ) (old new : Option TestRun) → PutsBackOptionalTest bytes at old new → test_kept new ≡ words_at bytes at (length (test_kept old))
+  test_hits : (at : ℕ) (old new : Option TriggerRun) → PutsBackOptionalTest bytes at old new → test_kept new ≡ words_at bytes at (length (test_kept old))
   test_hits at None None back = refl
   test_hits at None (Some new) back = absurd back
   test_hits at (Some old) None back = absurd back

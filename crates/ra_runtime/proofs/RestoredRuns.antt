@@ -15,7 +15,7 @@ use Rattle.ra_runtime.specs.ItemRuns.{IsItemRun, kept_run}
 use Rattle.ra_runtime.specs.AllRuns.{AreItemRuns, IsOver}
 use Rattle.ra_runtime.specs.Shapes.{run_shape}
 use Rattle.ra_runtime.specs.Restoring.{HasShown, HaveStates, PutsBackItem}
-use Rattle.ra_runtime.proofs.GrowthLemmas.{taken_next, weight_at}
+use Rattle.ra_member.proofs.GrowthLemmas.{taken_next, weight_at}
 use Rattle.ra_runtime.proofs.RunsLemmas.{length_runs, run_at, runs_more, rest_more}
 use Rattle.ra_runtime.proofs.ShapeLemmas.{runs_shaped}
 

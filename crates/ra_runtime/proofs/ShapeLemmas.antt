@@ -20,7 +20,7 @@ use Rattle.ra_value.specs.Steps.{ValueKept}
 use Rattle.ra_set.specs.Contents.{ItemContents, Unlocks, Ranks, SetContents}
 use Rattle.ra_set.specs.Limits.{part_conditions, value_conditions, optional_value, optional_trigger, item_conditions, line_conditions, script_conditions, IsWithinLimits}
 use Rattle.ra_progress.specs.declared.shape.ItemShape.TheVariants as shapes
-use Rattle.ra_runtime.specs.declared.value_run.ValueRun.{ValueRun}
+use Rattle.ra_member.specs.declared.value_run.ValueRun.{ValueRun}
 use Rattle.ra_runtime.specs.declared.item_run.ItemRun.{ItemRun}
 use Rattle.ra_runtime.specs.declared.item_run.ItemRun.TheVariants.{Achievement, Leaderboard}
 use Rattle.ra_runtime.specs.declared.presence_run.PresenceRun.{PresenceRun}

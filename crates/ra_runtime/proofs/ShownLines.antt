@@ -9,15 +9,16 @@ use Rattle.ra_richpresence.specs.Contents.{LineContents, ScriptContents, values_
 use Rattle.ra_richpresence.specs.Spelled.{IsDisplay}
 use Rattle.ra_runtime.specs.declared.line_run.LineRun.{LineRun}
 use Rattle.ra_runtime.specs.declared.presence_run.PresenceRun.{PresenceRun}
-use Rattle.ra_runtime.specs.declared.test_run.TestRun.{TestRun}
-use Rattle.ra_runtime.specs.declared.value_run.ValueRun.{ValueRun}
+use Rattle.ra_member.specs.declared.trigger_run.TriggerRun.{TriggerRun}
+use Rattle.ra_member.specs.declared.value_run.ValueRun.{ValueRun}
 use Rattle.ra_runtime.specs.Order.{tests_in}
 use Rattle.ra_runtime.specs.Presence.{LineKept, line_truth, line_after, first_true, cut_lines, hits_in, numbers_in}
-use Rattle.ra_runtime.specs.Runs.{StepsTest, IsValueRun}
-use Rattle.ra_runtime.specs.PresenceRuns.{AreBeside, IsOptionalTest, AreValueRuns, AreLineRuns, IsPresenceRun, test_kept, line_kept, StepsOptionalTest, StepsValues, StepsLine, line_truths, StepsLines, IsFirstLine, StepsPresence}
+use Rattle.ra_member.specs.Runs.{StepsTest, IsValueRun}
+use Rattle.ra_member.specs.Beside.{AreBeside}
+use Rattle.ra_runtime.specs.PresenceRuns.{IsOptionalTest, AreValueRuns, AreLineRuns, IsPresenceRun, test_kept, line_kept, StepsOptionalTest, StepsValues, StepsLine, line_truths, StepsLines, IsFirstLine, StepsPresence}
 use Rattle.ra_runtime.proofs.Fitting.{ValueFits}
 use Rattle.ra_runtime.proofs.PresenceCuts.{ValuesFit, LinesFit, lines_again}
-use Rattle.ra_runtime.proofs.SideBySide.{beside_length, beside_more, zip_more}
+use Rattle.ra_member.proofs.SideBySide.{beside_length, beside_more, zip_more}
 
 -- what runs keep has the counts of their texts
 module _ (nodes : List Node) where
@@ -30,7 +31,7 @@ module _ (nodes : List Node) where
   values_fit (parts ∷ values) [] are = absurd are
   values_fit (parts ∷ values) (run ∷ runs) are = (value_fits parts run are.0, values_fit values runs are.1)
 
-  test_fits : (test : Option TriggerContents) (run : Option TestRun) → IsOptionalTest nodes test run → length (test_kept run) ≡ sum_by trigger_hits (tests_in test)
+  test_fits : (test : Option TriggerContents) (run : Option TriggerRun) → IsOptionalTest nodes test run → length (test_kept run) ≡ sum_by trigger_hits (tests_in test)
   test_fits None None is = refl
   test_fits None (Some run) is = absurd is
   test_fits (Some t) None is = absurd is
@@ -46,10 +47,10 @@ module _ (nodes : List Node) where
       (record { test = test_fits line.test run.test are.0.test; values = values_fit (values_in_line line) run.values.items are.0.values }, lines_fit_runs lines runs are.1)
 
 -- one frame of a test
-pub test_stepped : (table : TableSeen) (t : TriggerContents) (old new : TestRun) (holds : Bool) → StepsTest table t old new holds → StepsOptionalTest table (Some t) (Some old) (Some new) holds
+pub test_stepped : (table : TableSeen) (t : TriggerContents) (old new : TriggerRun) (holds : Bool) → StepsTest table t old new holds → StepsOptionalTest table (Some t) (Some old) (Some new) holds
 test_stepped table t old new holds steps = record {
   kept = λ start image has. steps.hits start (image ∷ []) has;
-  truth = λ start image has. steps.truth_is start (image ∷ []) has;
+  truth = λ start image has. steps.truth start (image ∷ []) has;
 }
 
 pub test_missing : (nodes : List Node) (table : TableSeen) (test : Option TriggerContents) → IsOptionalTest nodes test None → StepsOptionalTest table test None None true

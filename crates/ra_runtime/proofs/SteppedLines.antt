@@ -12,14 +12,14 @@ use Rattle.ra_richpresence.specs.declared.piece.Piece.{Piece}
 use Rattle.ra_richpresence.specs.declared.piece.Piece.TheVariants.{Text, Macro}
 use Rattle.ra_richpresence.specs.Contents.{LineContents, line_contents, piece_contents, value_in}
 use Rattle.ra_runtime.specs.declared.line_run.LineRun.{LineRun}
-use Rattle.ra_runtime.specs.declared.value_run.ValueRun.{ValueRun}
+use Rattle.ra_member.specs.declared.value_run.ValueRun.{ValueRun}
 use Rattle.ra_runtime.specs.Histories.{value_after}
 use Rattle.ra_runtime.specs.Presence.{line_after, first_true}
-use Rattle.ra_runtime.specs.Runs.{IsValueRun, StepsValue}
+use Rattle.ra_member.specs.Runs.{IsValueRun, StepsValue}
 use Rattle.ra_runtime.specs.PresenceRuns.{AreValueRuns, IsLineRun, AreLineRuns, line_kept, StepsValues, StepsLine, StepsLines, IsFirstLine}
-use Rattle.ra_runtime.proofs.GrowthLemmas.{taken_next, dropped_next}
+use Rattle.ra_member.proofs.GrowthLemmas.{taken_next, dropped_next}
 use Rattle.ra_runtime.proofs.ShownLines.{first_begins, first_on}
-use Rattle.ra_runtime.proofs.SideBySide.{IsWalk, walk_begins, walk_within, walk_here, walk_on, walk_keeps, walk_olds, walk_ends}
+use Rattle.ra_member.proofs.SideBySide.{IsWalk, walk_begins, walk_within, walk_here, walk_on, walk_keeps, walk_olds, walk_ends}
 
 -- the values of the macros among some pieces
 abbrev pub macros_in : List Piece → List (List PartContents)

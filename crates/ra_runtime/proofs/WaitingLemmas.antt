@@ -1,83 +1,54 @@
 -- Items that wait, one after the other over a pool that grows.
-use Rattle.std.proofs.Common.{◌≡◌, ℕ, ◌+◌, ◌*◌, Option, None, Some, List, [], ◌∷◌, ◌++◌, length, map, replicate, refl, sym, ◌∙◌, ap, ap₂}
+use Rattle.std.proofs.Common.{◌≡◌, ℕ, ◌+◌, ◌*◌, Option, None, Some, List, [], ◌∷◌, ◌++◌, length, map, replicate, sym, ◌∙◌, ap, ap₂, arith, append_assoc}
 use Rattle.std.proofs.lemmas.List.{map-append, replicate-append-replicate}
-use Rattle.ra_condition.specs.declared.condition.Condition.{Condition}
-use Rattle.ra_condition.specs.Contents.{groups_of, trigger_hits, PartContents, counted_in, value_hits}
+use Rattle.ra_condition.specs.Contents.{trigger_hits, PartContents, value_hits}
 use Rattle.ra_indirect.specs.declared.node.Node.{Node}
 use Rattle.ra_indirect.specs.Growing.{IsFront}
+use Rattle.ra_chain.specs.Occurrence.{trees_in_trigger, trees_in_value}
+use Rattle.ra_chain.proofs.PlantLemmas.{front_through}
 use Rattle.ra_trigger.specs.Steps.{TriggerKept}
-use Rattle.ra_value.specs.Steps.{ValueKept, no_value}
-use Rattle.ra_leaderboard.specs.declared.state.BoardState.{BoardState}
+use Rattle.ra_leaderboard.specs.declared.state.BoardState.TheVariants.{Waiting}
 use Rattle.ra_leaderboard.specs.Contents.{BoardContents}
 use Rattle.ra_set.specs.Contents.{ItemContents, Unlocks, Ranks}
-use Rattle.ra_set.specs.Limits.{item_conditions}
+use Rattle.ra_set.specs.Limits.{value_conditions, optional_value, item_conditions}
 use Rattle.ra_value_format.specs.declared.format.Format.{Format}
 use Rattle.ra_progress.specs.Contents.{OfBoard}
-use Rattle.ra_runtime.specs.declared.laid.Laid.{Laid}
-use Rattle.ra_runtime.specs.declared.plans.ValuePlan.{ValuePlan}
-use Rattle.ra_runtime.specs.declared.plans.BoardPlan.{BoardPlan}
-use Rattle.ra_runtime.specs.declared.plans.ItemPlan.{ItemPlan}
-use Rattle.ra_runtime.specs.declared.plans.ItemPlan.TheVariants as plans
-use Rattle.ra_runtime.specs.declared.value_run.ValueRun.{ValueRun}
+use Rattle.ra_member.specs.declared.trigger_run.TriggerRun.{TriggerRun}
+use Rattle.ra_member.specs.declared.value_run.ValueRun.{ValueRun}
+use Rattle.ra_member.specs.Runs.{IsNewTrigger, IsNewValue}
+use Rattle.ra_member.proofs.Added.{trigger_more, value_more}
+use Rattle.ra_member.proofs.GrowthLemmas.{grows_more}
+use Rattle.ra_member.proofs.PlanLemmas.{within_through, within_as}
 use Rattle.ra_runtime.specs.declared.board_run.BoardRun.{BoardRun}
+use Rattle.ra_runtime.specs.declared.achievement_run.AchievementRun.{AchievementRun}
 use Rattle.ra_runtime.specs.declared.item_run.ItemRun.{ItemRun}
 use Rattle.ra_runtime.specs.declared.item_run.ItemRun.TheVariants.{Achievement, Leaderboard}
 use Rattle.ra_runtime.specs.Order.{optional_parts, trees_in_item, item_shape}
 use Rattle.ra_runtime.specs.Boards.{kept_board}
 use Rattle.ra_runtime.specs.Openings.{kept_achievement, plain_item}
-use Rattle.ra_runtime.specs.Plans.{IsItemPlan, IsOptionalPlan}
-use Rattle.ra_runtime.specs.Runs.{IsLaid, IsValueRun}
-use Rattle.ra_runtime.specs.BoardRuns.{IsOptionalRun, IsNewOptional, IsNewBoard, PlansOptional, board_kept, optional_kept}
-use Rattle.ra_runtime.specs.ItemRuns.{IsItemRun, IsNewItem, PlansItem, kept_run}
+use Rattle.ra_runtime.specs.BoardRuns.{IsOptionalRun, IsNewOptional, IsNewBoard, AreNewTests, AreNewValues, board_conditions, board_trees, no_board, tests_conditions, values_conditions}
+use Rattle.ra_runtime.specs.ItemRuns.{IsItemRun, IsNewItem, kept_run}
 use Rattle.ra_runtime.specs.AllRuns.{AreItemRuns}
-use Rattle.ra_runtime.specs.Planning.{GrowsWithin, AreWaiting}
-use Rattle.ra_runtime.proofs.PlanLemmas.{plan_more, sums_more}
-use Rattle.ra_runtime.proofs.GrowthLemmas.{grows_more}
-use Rattle.ra_runtime.proofs.NewLemmas.{new_item}
+use Rattle.ra_runtime.specs.Planning.{AreWaiting}
 use Rattle.ra_runtime.proofs.RunsLemmas.{runs_more}
-
--- an item with its plan has one for each field
-optional_plans : (nodes : List Node) (parts : Option (List PartContents)) (plan : Option ValuePlan) → IsOptionalPlan nodes parts plan → PlansOptional parts plan
-optional_plans nodes None None is = tt
-optional_plans nodes None (Some plan) is = absurd is
-optional_plans nodes (Some parts) None is = absurd is
-optional_plans nodes (Some parts) (Some plan) is = tt
-
-pub plans_item : (nodes : List Node) (item : ItemContents) (plan : ItemPlan) → IsItemPlan nodes item plan → PlansItem item plan
-plans_item nodes (Unlocks id t) (plans.Achievement plan) is = tt
-plans_item nodes (Unlocks id t) (plans.Leaderboard plan) is = absurd is
-plans_item nodes (Ranks id format b) (plans.Achievement plan) is = absurd is
-plans_item nodes (Ranks id format b) (plans.Leaderboard plan) is = optional_plans nodes b.progress plan.progress is.progress
 
 -- a run stays one where the pool grows
 module _ (old new : List Node) (front : IsFront old new) where
-  pub laid_more : (groups : List (List Condition)) (laid : Laid) → IsLaid old groups laid → IsLaid new groups laid
-  laid_more groups laid is = record { plan = plan_more old new groups laid.plan front is.plan; ops = is.ops; truths = is.truths; lefts = is.lefts }
-
-  pub value_run_more : (parts : List PartContents) (run : ValueRun) → IsValueRun old parts run → IsValueRun new parts run
-  value_run_more parts run is = record {
-    laid = laid_more (map counted_in parts) run.laid is.laid;
-    nodes_too = sums_more old new parts run.nodes.items front is.nodes_too;
-    sums = is.sums;
-    hits = is.hits;
-    numbers = is.numbers;
-  }
-
   optional_run_more : (parts : Option (List PartContents)) (run : Option ValueRun) → IsOptionalRun old parts run → IsOptionalRun new parts run
   optional_run_more None None is = tt
   optional_run_more None (Some run) is = absurd is
   optional_run_more (Some parts) None is = absurd is
-  optional_run_more (Some parts) (Some run) is = value_run_more parts run is
+  optional_run_more (Some parts) (Some run) is = value_more old new front parts run is
 
   item_run_more : (item : ItemContents) (run : ItemRun) → IsItemRun old item run → IsItemRun new item run
-  item_run_more (Unlocks id t) (Achievement run) is = record { laid = laid_more (groups_of t) run.laid is.laid; hits = is.hits }
+  item_run_more (Unlocks id t) (Achievement run) is = trigger_more old new front t run.run is
   item_run_more (Unlocks id t) (Leaderboard run) is = absurd is
   item_run_more (Ranks id format b) (Achievement run) is = absurd is
   item_run_more (Ranks id format b) (Leaderboard run) is = record {
-    start = record { laid = laid_more (groups_of b.start) run.start.laid is.start.laid; hits = is.start.hits };
-    cancel = record { laid = laid_more (groups_of b.cancel) run.cancel.laid is.cancel.laid; hits = is.cancel.hits };
-    submit = record { laid = laid_more (groups_of b.submit) run.submit.laid is.submit.laid; hits = is.submit.hits };
-    value = value_run_more b.value run.value is.value;
+    start = trigger_more old new front b.start run.start is.start;
+    cancel = trigger_more old new front b.cancel run.cancel is.cancel;
+    submit = trigger_more old new front b.submit run.submit is.submit;
+    value = value_more old new front b.value run.value is.value;
     progress = optional_run_more b.progress run.progress is.progress;
   }
 
@@ -86,15 +57,6 @@ module _ (old new : List Node) (front : IsFront old new) where
   item_runs_more [] (run ∷ runs) are = absurd are
   item_runs_more (item ∷ items) [] are = absurd are
   item_runs_more (item ∷ items) (run ∷ runs) are = (item_run_more item run are.0, item_runs_more items runs are.1)
-
--- what is kept of a value that may be missing, before the first frame
-optional_plain : (parts : Option (List PartContents)) (plan : Option ValuePlan) (run : Option ValueRun) → IsNewOptional parts plan run → optional_kept run ≡ no_value (optional_parts parts)
-optional_plain None None None new = refl
-optional_plain None None (Some run) new = absurd new
-optional_plain None (Some plan) run new = absurd new
-optional_plain (Some parts) None run new = absurd new
-optional_plain (Some parts) (Some plan) None new = absurd new
-optional_plain (Some parts) (Some plan) (Some run) new = new.value
 
 -- zeros in a row
 abbrev zeros : ℕ → List ℕ
@@ -110,29 +72,71 @@ five_rows m n o p q =
     ∙ ap (λ xs. xs ++ zeros q) (zeros_row (m + n + o) p)
     ∙ zeros_row (m + n + o + p) q
 
--- an item that waits keeps what the plain opening keeps for it
-board_plain : (id : ℕ) (format : Format) (b : BoardContents) (plan : BoardPlan) (run : BoardRun) → IsNewBoard b plan run → kept_board (board_kept run) ≡ plain_item (item_shape (Ranks id format b))
-board_plain id format b plan run new =
-    let no : BoardState → (start cancel submit : TriggerKept) → (value progress : ValueKept) → _ = λ state start cancel submit value progress.
-    kept_board (record { state = state; start = start.hits; cancel = cancel.hits; submit = submit.hits; value = value; progress = progress }) in
-    (λ i. no (new.board i) (new.start.trigger i) (new.cancel.trigger i) (new.submit.trigger i) (new.value.value i) (optional_plain b.progress plan.progress run.progress new.progress i))
-    ∙ ap₂ (OfBoard 0) (five_rows (trigger_hits b.start) (trigger_hits b.cancel) (trigger_hits b.submit) (value_hits b.value) (value_hits (optional_parts b.progress))) (zeros_row (length b.value) (length (optional_parts b.progress)))
+-- a board that waits keeps what the plain opening keeps for it
+board_plain : (id : ℕ) (format : Format) (b : BoardContents) → kept_board (no_board b) ≡ plain_item (item_shape (Ranks id format b))
+board_plain id format b =
+    ap₂ (OfBoard 0) (five_rows (trigger_hits b.start) (trigger_hits b.cancel) (trigger_hits b.submit) (value_hits b.value) (value_hits (optional_parts b.progress))) (zeros_row (length b.value) (length (optional_parts b.progress)))
 
-item_plain : (item : ItemContents) (plan : ItemPlan) (run : ItemRun) → IsNewItem item plan run → kept_run run ≡ plain_item (item_shape item)
-item_plain (Unlocks id t) (plans.Achievement plan) (Achievement run) new = ap kept_achievement new.trigger
-item_plain (Unlocks id t) (plans.Achievement plan) (Leaderboard run) new = absurd new
-item_plain (Unlocks id t) (plans.Leaderboard plan) run new = absurd new
-item_plain (Ranks id format b) (plans.Achievement plan) run new = absurd new
-item_plain (Ranks id format b) (plans.Leaderboard plan) (Achievement run) new = absurd new
-item_plain (Ranks id format b) (plans.Leaderboard plan) (Leaderboard run) new = board_plain id format b plan run new
+-- the triggers of a board, one after the other
+pub tests_made : (b : BoardContents) (p0 p1 p2 p3 : List Node) (start cancel submit : TriggerRun) → IsNewTrigger p0 p1 b.start start → IsNewTrigger p1 p2 b.cancel cancel → IsNewTrigger p2 p3 b.submit submit → AreNewTests p0 p3 b start cancel submit
+tests_made b p0 p1 p2 p3 start cancel submit first second third =
+    let n1 : ℕ = trigger_hits b.start in
+    let n2 : ℕ = trigger_hits b.cancel in
+    let n3 : ℕ = trigger_hits b.submit in
+    let two = within_through p0 p1 p2 (trees_in_trigger b.start) (trees_in_trigger b.cancel) (13 * n1) (13 * n2) (13 * n1 + 13 * n2) (omega arith) first.grows second.grows in
+    let f3 : IsFront p2 p3 = third.grows.grows.front in
+    record {
+      grows = within_through p0 p2 p3 (trees_in_trigger b.start ++ trees_in_trigger b.cancel) (trees_in_trigger b.submit) (13 * n1 + 13 * n2) (13 * n3) (13 * tests_conditions b) (omega arith) two third.grows;
+      start_too = trigger_more p1 p3 (front_through p1 p2 p3 second.grows.grows.front f3) b.start start first.run_too;
+      cancel_too = trigger_more p2 p3 f3 b.cancel cancel second.run_too;
+      submit_too = third.run_too;
+      plain_start = ap (λ (k : TriggerKept). k.hits) first.plain;
+      plain_cancel = ap (λ (k : TriggerKept). k.hits) second.plain;
+      plain_submit = ap (λ (k : TriggerKept). k.hits) third.plain;
+    }
 
-pub waiting_more : (a b c : List Node) (items : List ItemContents) (runs : List ItemRun) (item : ItemContents) (plan : ItemPlan) (run : ItemRun) → AreWaiting a b items runs → GrowsWithin b c (trees_in_item item) (13 * item_conditions item) → IsItemPlan c item plan → IsNewItem item plan run → AreWaiting a c (items ++ item ∷ []) (runs ++ run ∷ [])
-waiting_more a b c items runs item plan run are grows is new = record {
-  grows = grows_more trees_in_item item_conditions a b c items item are.grows grows;
-  runs_too = runs_more c items runs item run (item_runs_more b c grows.grows.front items runs are.runs_too) (new_item c item plan run is new);
+-- and its values
+pub values_made : (b : BoardContents) (p0 p1 p2 : List Node) (value : ValueRun) (progress : Option ValueRun) → IsNewValue p0 p1 b.value value → IsNewOptional p1 p2 b.progress progress → AreNewValues p0 p2 b value progress
+values_made b p0 p1 p2 value progress first second =
+    record {
+      grows = within_through p0 p1 p2 (trees_in_value b.value) (trees_in_value (optional_parts b.progress)) (13 * value_conditions b.value) (13 * optional_value b.progress) (13 * values_conditions b) (omega arith) first.grows second.grows;
+      value_too = value_more p1 p2 second.grows.grows.front b.value value first.run_too;
+      progress_too = second.run_too;
+      plain_value = first.plain;
+      plain_progress = second.plain;
+    }
+
+pub board_made : (b : BoardContents) (p0 p1 p2 : List Node) (run : BoardRun) → run.board ≡ Waiting → AreNewTests p0 p1 b run.start run.cancel run.submit → AreNewValues p1 p2 b run.value run.progress → IsNewBoard p0 p2 b run
+board_made b p0 p1 p2 run waits tests values =
+    let front : IsFront p1 p2 = values.grows.grows.front in
+    let ts = trees_in_trigger b.start ++ trees_in_trigger b.cancel ++ trees_in_trigger b.submit in
+    let all = within_through p0 p1 p2 ts (trees_in_value b.value ++ trees_in_value (optional_parts b.progress)) (13 * tests_conditions b) (13 * values_conditions b) (13 * board_conditions b) (omega arith) tests.grows values.grows in
+    record {
+      grows = within_as p0 p2 (ts ++ (trees_in_value b.value ++ trees_in_value (optional_parts b.progress))) (board_trees b) (13 * board_conditions b) (13 * board_conditions b) (sym (append_assoc ts (trees_in_value b.value) (trees_in_value (optional_parts b.progress)))) (omega arith) all;
+      run_too = record {
+        start = trigger_more p1 p2 front b.start run.start tests.start_too;
+        cancel = trigger_more p1 p2 front b.cancel run.cancel tests.cancel_too;
+        submit = trigger_more p1 p2 front b.submit run.submit tests.submit_too;
+        value = values.value_too;
+        progress = values.progress_too;
+      };
+      plain = (λ i. record { state = waits i; start = tests.plain_start i; cancel = tests.plain_cancel i; submit = tests.plain_submit i; value = values.plain_value i; progress = values.plain_progress i });
+    }
+
+-- an item that waits
+pub achievement_made : (old new : List Node) (id : ℕ) (t : _) (run : AchievementRun) → IsNewTrigger old new t run.run → IsNewItem old new (Unlocks id t) (Achievement run)
+achievement_made old new id t run made = record { grows = made.grows; run_too = made.run_too; plain = ap kept_achievement made.plain }
+
+pub leaderboard_made : (old new : List Node) (id : ℕ) (format : Format) (b : BoardContents) (run : BoardRun) → IsNewBoard old new b run → IsNewItem old new (Ranks id format b) (Leaderboard run)
+leaderboard_made old new id format b run made = record { grows = made.grows; run_too = made.run_too; plain = ap kept_board made.plain ∙ board_plain id format b }
+
+pub waiting_more : (a b c : List Node) (items : List ItemContents) (runs : List ItemRun) (item : ItemContents) (run : ItemRun) → AreWaiting a b items runs → IsNewItem b c item run → AreWaiting a c (items ++ item ∷ []) (runs ++ run ∷ [])
+waiting_more a b c items runs item run are new = record {
+  grows = grows_more trees_in_item item_conditions a b c items item are.grows new.grows;
+  runs_too = runs_more c items runs item run (item_runs_more b c new.grows.grows.front items runs are.runs_too) new.run_too;
   plain =
       map-append kept_run runs (run ∷ [])
-      ∙ ap₂ (λ xs x. xs ++ x ∷ []) are.plain (item_plain item plan run new)
+      ∙ ap₂ (λ xs x. xs ++ x ∷ []) are.plain new.plain
       ∙ sym (map-append plain_item (map item_shape items) (item_shape item ∷ []))
       ∙ ap (map plain_item) (sym (map-append item_shape items (item ∷ [])));
 }

@@ -9,7 +9,8 @@ use Rattle.ra_memref.specs.Values.{Start}
 use Rattle.ra_value.specs.Steps.{ValueKept, no_value, signed_greatest}
 use Rattle.ra_progress.specs.Contents.{KeptItem, OfAchievement, OfBoard}
 use Rattle.ra_runtime.specs.Order.{optional_parts}
-use Rattle.ra_runtime.specs.Histories.{test_hits, test_truth, value_next}
+use Rattle.ra_member.specs.Frames.{value_next}
+use Rattle.ra_runtime.specs.Histories.{test_hits, test_truth}
 
 -- what is kept of a board between frames
 pub record BoardKept : Type 0 where
@@ -32,7 +33,7 @@ board_state start b opened (image ∷ earlier) =
 -- a value of a board at the last frame, where the state goes from old to new: it begins anew, is stepped, or stays
 abbrev pub running_value : Start → History → List PartContents → (old new : BoardState) → ValueKept → ValueKept
 running_value start history parts old new kept =
-    if is_running new then value_next start history parts (if begins old new then no_value parts else kept) else kept
+    if is_running new then value_next start parts history (if begins old new then no_value parts else kept) else kept
 
 -- a value of a board after a history
 abbrev pub board_value : Start → BoardContents → BoardKept → List PartContents → ValueKept → History → ValueKept

@@ -1,66 +1,32 @@
 -- Triggers and values after a history: docs/DEFINITIONS.md, "Triggers over frames" and "Values over frames".
-use Rattle.std.specs.Prelude.{ℕ, Bool, false, List, [], ◌∷◌, map}
-use Rattle.std.specs.List.{flat_map}
-use Rattle.ra_operand.specs.Operators.{compared}
-use Rattle.ra_condition.specs.declared.condition.Condition.{Condition}
-use Rattle.ra_condition.specs.Contents.{condition_at, TriggerContents, groups_of, PartContents, Legacy, Grouped, counted_in}
-use Rattle.ra_condition.specs.Chains.{places}
+use Rattle.std.specs.Prelude.{ℕ, Bool, false, List, [], ◌∷◌}
+use Rattle.ra_condition.specs.Contents.{TriggerContents, PartContents}
 use Rattle.ra_memory.specs.Image.{History}
-use Rattle.ra_chain.specs.Elaboration.{left_of, right_of, terms_tree}
-use Rattle.ra_memref.specs.Values.{Start, value_of}
-use Rattle.ra_trigger.specs.Steps.{TriggerKept, step as trigger_step, truth, hits_after_truth}
-use Rattle.ra_value.specs.Steps.{ValueKept, step as value_step}
-
--- the left value of a condition at the last frame
-abbrev pub left_at : Start → History → List Condition → ℕ → ℕ
-left_at start history cs j = value_of start (left_of cs j) history
-
--- whether the comparison of a condition holds at the last frame
-abbrev pub truth_at : Start → History → List Condition → ℕ → Bool
-truth_at start history cs j =
-    compared (condition_at cs j).op (left_at start history cs j) (value_of start (right_of cs j) history)
-
--- the left values of all conditions of some groups at the last frame
-abbrev pub lefts_at : Start → History → List (List Condition) → List ℕ
-lefts_at start history groups = flat_map (λ cs. map (left_at start history cs) (places cs)) groups
-
--- whether the comparison of each condition of some groups holds at the last frame
-abbrev pub truths_at : Start → History → List (List Condition) → List Bool
-truths_at start history groups = flat_map (λ cs. map (truth_at start history cs) (places cs)) groups
+use Rattle.ra_memref.specs.Values.{Start}
+use Rattle.ra_trigger.specs.Steps.{TriggerKept}
+use Rattle.ra_value.specs.Steps.{ValueKept}
+use Rattle.ra_member.specs.Frames.{achievement_next, test_next, test_holds, value_next}
 
 -- an achievement after a history, from what the opening keeps
 abbrev pub achievement_after : Start → TriggerContents → TriggerKept → History → TriggerKept
 achievement_after start t opened [] = opened
 achievement_after start t opened (image ∷ earlier) =
-    trigger_step t (truths_at start (image ∷ earlier) (groups_of t)) (lefts_at start (image ∷ earlier) (groups_of t))
-    (achievement_after start t opened earlier)
+    achievement_next start t (image ∷ earlier) (achievement_after start t opened earlier)
 
 -- the hits of a trigger without states after a history
 abbrev pub test_hits : Start → TriggerContents → List ℕ → History → List ℕ
 test_hits start t opened [] = opened
 test_hits start t opened (image ∷ earlier) =
-    hits_after_truth t (truths_at start (image ∷ earlier) (groups_of t)) (lefts_at start (image ∷ earlier) (groups_of t))
-    (test_hits start t opened earlier)
+    test_next start t (image ∷ earlier) (test_hits start t opened earlier)
 
 -- the truth of a trigger without states at the last frame; false before the first
 abbrev pub test_truth : Start → TriggerContents → List ℕ → History → Bool
 test_truth start t opened [] = false
 test_truth start t opened (image ∷ earlier) =
-    truth t (truths_at start (image ∷ earlier) (groups_of t)) (lefts_at start (image ∷ earlier) (groups_of t))
-    (test_hits start t opened earlier)
-
--- the sum of a legacy part at the last frame, and 0 for another part
-abbrev pub sum_at : Start → History → PartContents → ℕ
-sum_at start history (Legacy terms) = value_of start (terms_tree terms) history
-sum_at start history (Grouped cs) = 0
-
--- a value after the last frame, from what was kept before it
-abbrev pub value_next : Start → History → List PartContents → ValueKept → ValueKept
-value_next start history parts old =
-    value_step parts (truths_at start history (map counted_in parts)) (lefts_at start history (map counted_in parts)) (map (sum_at start history) parts) old
+    test_holds start t (image ∷ earlier) (test_hits start t opened earlier)
 
 -- a value that is stepped at every frame, after a history
 abbrev pub value_after : Start → List PartContents → ValueKept → History → ValueKept
 value_after start parts opened [] = opened
 value_after start parts opened (image ∷ earlier) =
-    value_next start (image ∷ earlier) parts (value_after start parts opened earlier)
+    value_next start parts (image ∷ earlier) (value_after start parts opened earlier)

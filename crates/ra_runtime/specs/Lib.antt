@@ -10,11 +10,9 @@ pub mod Openings
 pub mod OpeningLaws
 pub mod Order
 pub mod Planning
-pub mod Plans
 pub mod Play
 pub mod Presence
 pub mod PresenceRuns
-pub mod Readings
 pub mod Restoring
 pub mod RunLines
 pub mod Runs

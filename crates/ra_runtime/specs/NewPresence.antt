@@ -11,11 +11,11 @@ use Rattle.ra_value.specs.Steps.{no_value}
 use Rattle.ra_set.specs.Limits.{optional_trigger, value_conditions, line_conditions, script_conditions}
 use Rattle.ra_runtime.specs.declared.line_run.LineRun.{LineRun}
 use Rattle.ra_runtime.specs.declared.presence_run.PresenceRun.{PresenceRun}
-use Rattle.ra_runtime.specs.declared.test_run.TestRun.{TestRun}
-use Rattle.ra_runtime.specs.declared.value_run.ValueRun.{ValueRun}
+use Rattle.ra_member.specs.declared.trigger_run.TriggerRun.{TriggerRun}
+use Rattle.ra_member.specs.declared.value_run.ValueRun.{ValueRun}
 use Rattle.ra_runtime.specs.Order.{tests_in, trees_in_line, lines_in, presence_shape}
 use Rattle.ra_runtime.specs.Openings.{plain_presence}
-use Rattle.ra_runtime.specs.Planning.{GrowsWithin}
+use Rattle.ra_member.specs.Plans.{GrowsWithin}
 use Rattle.ra_runtime.specs.Presence.{LineKept}
 use Rattle.ra_runtime.specs.PresenceRuns.{IsOptionalTest, AreValueRuns, IsLineRun, AreLineRuns, IsOptionalPresence, test_kept, line_kept, optional_presence_kept}
 
@@ -34,7 +34,7 @@ pub record IsShownLine (line : LineContents) : Type 0 where
   pub pieces : All IsPiece line.pieces
 
 -- a test that may be missing has its plan over the pool, and keeps nothing yet
-pub record IsNewTestOver (old new : List Node) (test : Option TriggerContents) (run : Option TestRun) : Type 0 where
+pub record IsNewTestOver (old new : List Node) (test : Option TriggerContents) (run : Option TriggerRun) : Type 0 where
   pub grows : GrowsWithin old new (flat_map trees_in_trigger (tests_in test)) (13 * optional_trigger test)
   pub run_too : IsOptionalTest new test run
   pub plain : test_kept run ≡ plain_test test

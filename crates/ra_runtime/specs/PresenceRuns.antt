@@ -9,23 +9,18 @@ use Rattle.ra_progress.specs.Contents.{KeptPresence}
 use Rattle.ra_richpresence.specs.Contents.{LineContents, ScriptContents, values_in_line}
 use Rattle.ra_runtime.specs.declared.line_run.LineRun.{LineRun}
 use Rattle.ra_runtime.specs.declared.presence_run.PresenceRun.{PresenceRun}
-use Rattle.ra_runtime.specs.declared.test_run.TestRun.{TestRun}
-use Rattle.ra_runtime.specs.declared.value_run.ValueRun.{ValueRun}
+use Rattle.ra_member.specs.declared.trigger_run.TriggerRun.{TriggerRun}
+use Rattle.ra_member.specs.declared.value_run.ValueRun.{ValueRun}
 use Rattle.ra_runtime.specs.Histories.{value_after}
 use Rattle.ra_runtime.specs.Presence.{LineKept, line_test_hits, line_truth, line_after, first_true, hits_in, numbers_in, presence_after}
-use Rattle.ra_runtime.specs.Runs.{HasValues, IsTestRun, IsValueRun}
+use Rattle.ra_member.specs.Beside.{AreBeside}
+use Rattle.ra_member.specs.Runs.{HasValues, IsTriggerRun, IsValueRun}
 
 -- the test of a line, where it has one, with its plan
-abbrev pub IsOptionalTest : List Node → Option TriggerContents → Option TestRun → Type 0
+abbrev pub IsOptionalTest : List Node → Option TriggerContents → Option TriggerRun → Type 0
 IsOptionalTest nodes None None = Unit {0}
-IsOptionalTest nodes (Some t) (Some run) = IsTestRun nodes t run
+IsOptionalTest nodes (Some t) (Some run) = IsTriggerRun nodes t run
 IsOptionalTest nodes _ _ = ⊥
-
--- each of a list has this with what stands at its place in another list, and neither list is longer
-abbrev pub AreBeside : {X Y : Type 0} → (X → Y → Type 0) → List X → List Y → Type 0
-AreBeside has [] [] = Unit {0}
-AreBeside has (x ∷ xs) (y ∷ ys) = has x y × AreBeside has xs ys
-AreBeside has _ _ = ⊥
 
 -- each value with its plan
 abbrev pub AreValueRuns : List Node → List (List PartContents) → List ValueRun → Type 0
@@ -52,7 +47,7 @@ IsOptionalPresence nodes (Some script) (Some run) = IsPresenceRun nodes script r
 IsOptionalPresence nodes _ _ = ⊥
 
 -- what is kept of a test that may be missing: its hits
-abbrev pub test_kept : Option TestRun → List ℕ
+abbrev pub test_kept : Option TriggerRun → List ℕ
 test_kept None = []
 test_kept (Some run) = run.trigger.hits
 
@@ -73,7 +68,7 @@ abbrev pub optional_presence_kept : Option PresenceRun → Option KeptPresence
 optional_presence_kept run = option_map presence_kept run
 
 -- One frame of a test that may be missing, from the hits that it keeps: those after it, and whether it holds.
-pub record StepsOptionalTest (table : TableSeen) (test : Option TriggerContents) (old new : Option TestRun) (holds : Bool) : Type 0 where
+pub record StepsOptionalTest (table : TableSeen) (test : Option TriggerContents) (old new : Option TriggerRun) (holds : Bool) : Type 0 where
   pub kept : (start : Start) (image : List ℕ) → HasValues table start (image ∷ []) → test_kept new ≡ line_test_hits start test (test_kept old) (image ∷ [])
   pub truth : (start : Start) (image : List ℕ) → HasValues table start (image ∷ []) → holds ≡ line_truth start test (test_kept old) (image ∷ [])
 

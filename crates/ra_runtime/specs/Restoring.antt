@@ -10,8 +10,8 @@ use Rattle.ra_progress.specs.declared.shape.ItemShape.{ItemShape}
 use Rattle.ra_progress.specs.declared.shape.PresenceShape.{PresenceShape}
 use Rattle.ra_words.specs.Words.{word_at, words_at}
 use Rattle.ra_progress.specs.Reading.{item_length, said_item, said_presence}
-use Rattle.ra_runtime.specs.declared.test_run.TestRun.{TestRun}
-use Rattle.ra_runtime.specs.declared.value_run.ValueRun.{ValueRun}
+use Rattle.ra_member.specs.declared.trigger_run.TriggerRun.{TriggerRun}
+use Rattle.ra_member.specs.declared.value_run.ValueRun.{ValueRun}
 use Rattle.ra_runtime.specs.declared.board_run.BoardRun.{BoardRun}
 use Rattle.ra_runtime.specs.declared.item_run.ItemRun.{ItemRun}
 use Rattle.ra_runtime.specs.declared.line_run.LineRun.{LineRun}
@@ -29,7 +29,7 @@ HaveStates bytes at [] = Unit {0}
 HaveStates bytes at (shape ∷ shapes) = (slice_index bytes at < 5) × HaveStates bytes (at + item_length shape) shapes
 
 -- the hits of a trigger are those at a place
-pub record PutsBackTest (bytes : List ℕ) (at : ℕ) (old new : TestRun) : Type 0 where
+pub record PutsBackTest (bytes : List ℕ) (at : ℕ) (old new : TriggerRun) : Type 0 where
   pub hits : new.trigger.hits ≡ words_at bytes at (length old.trigger.hits)
   pub laid : new.laid ≡ old.laid
 
@@ -105,7 +105,7 @@ PutsBackValues bytes hits numbers olds news =
     PutsBackEach (λ run. run.value) (PutsBackValue bytes) hits numbers olds news
 
 -- the hits of a test that may be missing are those at a place
-abbrev pub PutsBackOptionalTest : List ℕ → (at : ℕ) → (old new : Option TestRun) → Type 0
+abbrev pub PutsBackOptionalTest : List ℕ → (at : ℕ) → (old new : Option TriggerRun) → Type 0
 PutsBackOptionalTest bytes at None None = Unit {0}
 PutsBackOptionalTest bytes at (Some old) (Some new) = PutsBackTest bytes at old new
 PutsBackOptionalTest bytes at _ _ = ⊥

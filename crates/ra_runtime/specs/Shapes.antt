@@ -26,7 +26,7 @@ board_run_shape run =
 
 -- the shape of an item, by the numbers that its run keeps
 abbrev pub run_shape : ItemRun → ItemShape
-run_shape (Achievement run) = shapes.Achievement (length run.trigger.hits)
+run_shape (Achievement run) = shapes.Achievement (length run.run.trigger.hits)
 run_shape (Leaderboard run) = board_run_shape run
 
 -- the shape of a display, by the numbers that its run keeps

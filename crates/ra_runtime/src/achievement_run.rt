@@ -1,38 +1,38 @@
-ghost use Rattle.std.specs.Prelude.{◌≡◌, true, None, IfOk};
-ghost use Rattle.ra_condition.specs.Contents.{trigger_contents};
-ghost use Rattle.ra_runtime.specs.Runs.{IsAchievementRun, StepsAchievement, IsNewAchievement};
+ghost use Rattle.std.specs.Prelude.{◌≡◌, ◌+◌, ◌*◌, ◌≤◌, ◌^◌, true, length, IfOk};
+ghost use Rattle.ra_condition.specs.Contents.{trigger_contents, trigger_hits};
+ghost use Rattle.ra_condition.specs.Spelled.{IsTrigger};
+ghost use Rattle.ra_member.specs.Runs.{IsTriggerRun};
+ghost use Rattle.ra_runtime.specs.Runs.{StepsAchievement, IsNewAchievement};
 
-use crate::laid::{Laid, trigger_ops};
-use ra_chain::GroupPlan;
 use ra_condition::TriggerText;
+use ra_indirect::Pool;
+use ra_member::TriggerRun;
 use ra_memref::Table;
 use ra_text::OutOfMemory;
-use ra_trigger::{Change, State, Trigger};
+use ra_trigger::{Change, State};
 use std::alloc::Global;
 
-/// An achievement: what is kept of it, its plan, and what its last frame did.
+/// An achievement: its trigger, and what its last frame did.
 #[derive(Drop)]
 pub(crate) struct AchievementRun {
-    pub laid: Laid,
-    pub trigger: Trigger,
+    pub run: TriggerRun,
     pub change: Change,
 }
 
 impl AchievementRun {
-    // An achievement that waits.
+    // An achievement that waits, with its trees in the pool.
     pub(crate) fn new(
         alloc: Global,
         text: &TriggerText,
-        plan: GroupPlan,
+        pool: &mut Pool,
     ) -> Result<Self, OutOfMemory>
-        ensures { IfOk result (IsNewAchievement (trigger_contents text.now) plan) }
+        requires spelled { IsTrigger (trigger_contents text.now) }
+        requires room { length pool.old + 13 * trigger_hits (trigger_contents text.now) + 2 ≤ 2 ^ 31 }
+        ensures { IfOk result (IsNewAchievement pool.old pool.new (trigger_contents text.now)) }
     {
-        let ops = trigger_ops(alloc, text)?;
-        let laid = Laid::new(alloc, plan, ops)?;
-        let trigger = Trigger::new(alloc, text)?;
+        let run = TriggerRun::new(alloc, text, pool)?;
         Ok(AchievementRun {
-            laid,
-            trigger,
+            run,
             change: Change {
                 before: State::Waiting,
                 after: State::Waiting,
@@ -43,18 +43,11 @@ impl AchievementRun {
 
     // Steps the achievement by the frame of the table's last sample.
     pub(crate) fn step(&mut self, text: &TriggerText, table: &Table)
-        requires run { IsAchievementRun table.now.nodes (trigger_contents text.now) self.old }
+        requires run { IsTriggerRun table.now.nodes (trigger_contents text.now) self.old.run }
         requires sampled { table.now.sampled ≡ true }
-        ensures run { IsAchievementRun table.now.nodes (trigger_contents text.now) self.new }
+        ensures run { IsTriggerRun table.now.nodes (trigger_contents text.now) self.new.run }
         ensures steps { StepsAchievement table.now (trigger_contents text.now) self.old self.new }
     {
-        self.laid.fill(table);
-        self.change = self.trigger.step(
-            text,
-            &self.laid.plan.order,
-            &self.laid.plan.pauses,
-            &self.laid.truths,
-            &self.laid.lefts,
-        );
+        self.change = self.run.step(text, table);
     }
 }

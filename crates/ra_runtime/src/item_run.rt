@@ -1,10 +1,12 @@
-ghost use Rattle.std.specs.Prelude.{◌≡◌, true, IfOk};
+ghost use Rattle.std.specs.Prelude.{◌≡◌, ◌+◌, ◌*◌, ◌≤◌, ◌^◌, true, length, IfOk};
 ghost use Rattle.ra_set.specs.Contents.{item_contents};
-ghost use Rattle.ra_runtime.specs.ItemRuns.{IsItemRun, IsNewItem, PlansItem, StepsItem};
+ghost use Rattle.ra_set.specs.Limits.{item_conditions};
+ghost use Rattle.ra_set.specs.Spelled.{IsItem};
+ghost use Rattle.ra_runtime.specs.ItemRuns.{IsItemRun, IsNewItem, StepsItem};
 
 use crate::achievement_run::AchievementRun;
 use crate::board_run::BoardRun;
-use crate::plans::ItemPlan;
+use ra_indirect::Pool;
 use ra_memref::Table;
 use ra_set::Item;
 use ra_text::OutOfMemory;
@@ -18,19 +20,21 @@ pub(crate) enum ItemRun {
 }
 
 impl ItemRun {
-    // An item that waits.
-    pub(crate) fn new(alloc: Global, item: &Item, plan: ItemPlan) -> Result<Self, OutOfMemory>
-        requires { PlansItem (item_contents item.now) plan }
-        ensures { IfOk result (IsNewItem (item_contents item.now) plan) }
+    // An item that waits, with its trees in the pool.
+    pub(crate) fn new(alloc: Global, item: &Item, pool: &mut Pool) -> Result<Self, OutOfMemory>
+        requires spelled { IsItem (item_contents item.now) }
+        requires room { length pool.old + 13 * item_conditions (item_contents item.now) + 2 ≤ 2 ^ 31 }
+        ensures { IfOk result (IsNewItem pool.old pool.new (item_contents item.now)) }
     {
-        match (item, plan) {
-            (Item::Achievement { text, .. }, ItemPlan::Achievement(plan)) => Ok(
-                ItemRun::Achievement(AchievementRun::new(alloc, text, plan)?),
-            ),
-            (Item::Leaderboard { text, .. }, ItemPlan::Leaderboard(plan)) => {
-                Ok(ItemRun::Leaderboard(BoardRun::new(alloc, text, plan)?))
+        match item {
+            Item::Achievement { text, .. } => {
+                let run = AchievementRun::new(alloc, text, pool)?;
+                Ok(ItemRun::Achievement(run))
             }
-            _ => unreachable!(),
+            Item::Leaderboard { text, .. } => {
+                let run = BoardRun::new(alloc, text, pool)?;
+                Ok(ItemRun::Leaderboard(run))
+            }
         }
     }
 

@@ -4,13 +4,9 @@
 mod achievement_run;
 mod board_run;
 mod item_run;
-mod laid;
 mod laws;
 mod line_run;
-mod planning;
-mod plans;
 mod presence_run;
-mod reading;
 mod restored;
 mod restored_presence;
 mod runs;
@@ -19,8 +15,6 @@ mod saved;
 mod shapes;
 mod shown;
 mod state_bytes;
-mod test_run;
-mod value_run;
 mod written;
 
 pub use laws::{calls_succeed, histories_may_be_cut, openings_stand};

@@ -10,11 +10,9 @@ ghost use Rattle.ra_set.specs.Limits.{optional_trigger, optional_value, value_co
 ghost use Rattle.ra_runtime.specs.NewPresence.{IsShownLine, IsNewTestOver, AreNewValues, IsNewLine};
 ghost use Rattle.ra_runtime.specs.PresenceRuns.{IsOptionalTest, AreValueRuns, IsLineRun, StepsOptionalTest, StepsValues, StepsLine};
 
-use crate::planning::{trigger_plan, value_plan};
-use crate::test_run::TestRun;
-use crate::value_run::ValueRun;
 use ra_condition::TriggerText;
 use ra_indirect::Pool;
+use ra_member::{TriggerRun, ValueRun};
 use ra_memref::Table;
 use ra_richpresence::{Line, Piece};
 use ra_text::OutOfMemory;
@@ -23,7 +21,7 @@ use std::alloc::Global;
 /// A line of a display: its test, where it has one, and the values of its macros.
 #[derive(Drop)]
 pub(crate) struct LineRun {
-    pub test: Option<TestRun>,
+    pub test: Option<TriggerRun>,
     pub values: Vec<ValueRun>,
 }
 
@@ -57,15 +55,14 @@ fn new_test(
     alloc: Global,
     text: &Option<TriggerText>,
     pool: &mut Pool,
-) -> Result<Option<TestRun>, OutOfMemory>
+) -> Result<Option<TriggerRun>, OutOfMemory>
     requires spelled { IfSome (option_map trigger_contents text.now) IsTrigger }
     requires room { length pool.old + 13 * optional_trigger (option_map trigger_contents text.now) + 2 ≤ 2 ^ 31 }
     ensures { IfOk result (IsNewTestOver pool.old pool.new (option_map trigger_contents text.now)) }
 {
     match text {
         Some(text) => {
-            let plan = trigger_plan(alloc, text, pool)?;
-            let run = TestRun::new(alloc, text, plan)?;
+            let run = TriggerRun::new(alloc, text, pool)?;
             Ok(Some(run))
         }
         None => {
@@ -113,8 +110,7 @@ fn put_piece(
     match piece {
         Piece::Text(_) => Ok(()),
         Piece::Macro { value, .. } => {
-            let plan = value_plan(alloc, value, pool)?;
-            let run = ValueRun::new(alloc, value, plan)?;
+            let run = ValueRun::new(alloc, value, pool)?;
             runs.push(run)?;
             Ok(())
         }
@@ -122,7 +118,7 @@ fn put_piece(
 }
 
 // Steps a test that may be missing, and says whether it holds. One that is missing does.
-fn step_test(run: &mut Option<TestRun>, text: &Option<TriggerText>, table: &Table) -> bool
+fn step_test(run: &mut Option<TriggerRun>, text: &Option<TriggerText>, table: &Table) -> bool
     requires run { IsOptionalTest table.now.nodes (option_map trigger_contents text.now) run.old }
     requires sampled { table.now.sampled ≡ true }
     ensures run { IsOptionalTest table.now.nodes (option_map trigger_contents text.now) run.new }
@@ -130,7 +126,7 @@ fn step_test(run: &mut Option<TestRun>, text: &Option<TriggerText>, table: &Tabl
     ensures untested { option_map trigger_contents text.now ≡ None → result ≡ true }
 {
     match (run, text) {
-        (Some(run), Some(text)) => run.step(text, table),
+        (Some(run), Some(text)) => run.truth(text, table),
         _ => true,
     }
 }

@@ -13,8 +13,7 @@ ghost use Rattle.ra_runtime.specs.Restoring.{HaveStates, PutsBackTest, PutsBackV
 use crate::board_run::BoardRun;
 use crate::item_run::ItemRun;
 use crate::state_bytes::{board_of_byte, state_of_byte};
-use crate::test_run::TestRun;
-use crate::value_run::ValueRun;
+use ra_member::{TriggerRun, ValueRun};
 use ra_progress::word_at;
 use ra_trigger::State;
 
@@ -45,8 +44,8 @@ fn put_back_item(run: &mut ItemRun, bytes: &[u8], at: usize) -> usize
             let state = state_of_byte(bytes[at]);
             let measured = word_at(bytes, (at + 1) as u64);
             let hits = at + 5;
-            let end = hits + 4 * run.trigger.hits().len();
-            run.trigger.put_back(state, measured, &bytes[hits..end]);
+            let end = hits + 4 * run.run.trigger.hits().len();
+            run.run.trigger.put_back(state, measured, &bytes[hits..end]);
             end
         }
         ItemRun::Leaderboard(run) => put_back_board(run, bytes, at),
@@ -71,7 +70,7 @@ fn put_back_board(run: &mut BoardRun, bytes: &[u8], at: usize) -> usize
 }
 
 // Puts back the hits of a trigger, and gives the place behind.
-pub(crate) fn put_back_test(run: &mut TestRun, bytes: &[u8], at: usize) -> usize
+pub(crate) fn put_back_test(run: &mut TriggerRun, bytes: &[u8], at: usize) -> usize
     requires { at + 4 * length run.old.trigger.hits ≤ length bytes.now }
     ensures test { PutsBackTest bytes.now at run.old run.new }
     ensures place { result ≡ at + 4 * length run.old.trigger.hits }

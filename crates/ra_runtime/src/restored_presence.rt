@@ -9,8 +9,7 @@ ghost use Rattle.ra_runtime.specs.Restoring.{HasShown, hits_in_shape, hits_of_li
 use crate::line_run::LineRun;
 use crate::presence_run::PresenceRun;
 use crate::restored::{put_back_test, put_back_value};
-use crate::test_run::TestRun;
-use crate::value_run::ValueRun;
+use ra_member::{TriggerRun, ValueRun};
 use ra_progress::{PresenceShape, word_at};
 
 /// Where the next hits and the next numbers stand.
@@ -76,7 +75,7 @@ fn put_back_line(line: &mut LineRun, bytes: &[u8], at: Places) -> Places
 }
 
 // Puts back the hits of a test that may be missing, and gives the place behind.
-fn put_back_line_test(run: &mut Option<TestRun>, bytes: &[u8], at: usize) -> usize
+fn put_back_line_test(run: &mut Option<TriggerRun>, bytes: &[u8], at: usize) -> usize
     requires { at + 4 * length (test_kept run.old) ≤ length bytes.now }
     ensures test { PutsBackOptionalTest bytes.now at run.old run.new }
     ensures place { result ≡ at + 4 * length (test_kept run.old) }

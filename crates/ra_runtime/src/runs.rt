@@ -9,7 +9,6 @@ ghost use Rattle.ra_runtime.specs.Planning.{AreWaiting};
 ghost use Rattle.ra_set.specs.Spelled.{IsItem};
 
 use crate::item_run::ItemRun;
-use crate::planning::item_plan;
 use crate::written::put_lines;
 use ra_indirect::Pool;
 use ra_memref::Table;
@@ -31,8 +30,7 @@ pub(crate) fn new_runs(
     // This call tells that the nodes are those of a pool, which the proof needs.
     let _ = pool.len();
     for item in items {
-        let plan = item_plan(alloc, item, pool)?;
-        let run = ItemRun::new(alloc, item, plan)?;
+        let run = ItemRun::new(alloc, item, pool)?;
         runs.push(run)?;
     }
     Ok(runs)

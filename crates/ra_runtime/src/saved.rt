@@ -19,8 +19,7 @@ use crate::item_run::ItemRun;
 use crate::line_run::LineRun;
 use crate::presence_run::PresenceRun;
 use crate::state_bytes::{byte_of_board, byte_of_state};
-use crate::test_run::TestRun;
-use crate::value_run::ValueRun;
+use ra_member::{TriggerRun, ValueRun};
 use ra_progress::{ItemKept, PresenceKept};
 use ra_text::OutOfMemory;
 use std::alloc::Global;
@@ -46,10 +45,10 @@ fn item_kept(alloc: Global, run: &ItemRun) -> Result<ItemKept, OutOfMemory>
     match run {
         ItemRun::Achievement(run) => {
             let mut hits = Vec::new(alloc);
-            put_numbers(&mut hits, run.trigger.hits())?;
+            put_numbers(&mut hits, run.run.trigger.hits())?;
             Ok(ItemKept::Achievement {
-                state: byte_of_state(run.trigger.state()),
-                measured: run.trigger.measured(),
+                state: byte_of_state(run.run.trigger.state()),
+                measured: run.run.trigger.measured(),
                 hits,
             })
         }
@@ -163,7 +162,7 @@ fn put_line(hits: &mut Vec<u32>, kept: &mut Vec<u32>, line: &LineRun) -> Result<
 }
 
 // Puts the hits of a test that may be missing behind others.
-fn put_test(hits: &mut Vec<u32>, run: &Option<TestRun>) -> Result<(), OutOfMemory>
+fn put_test(hits: &mut Vec<u32>, run: &Option<TriggerRun>) -> Result<(), OutOfMemory>
     ensures { OnOk result (PutsBehind hits.old.items hits.new.items (test_kept run.now)) }
 {
     match run {

@@ -17,8 +17,8 @@ use crate::item_run::ItemRun;
 use crate::line_run::LineRun;
 use crate::presence_run::{PresenceRun, new_presence};
 use crate::runs::new_runs;
-use crate::test_run::TestRun;
 use ra_indirect::Pool;
+use ra_member::TriggerRun;
 use ra_memref::Table;
 use ra_progress::{ItemShape, PresenceShape, Shape};
 use ra_set::Set;
@@ -98,7 +98,7 @@ fn item_shape(run: &ItemRun) -> ItemShape
 {
     match run {
         ItemRun::Achievement(run) => ItemShape::Achievement {
-            hits: run.trigger.hits().len() as u32,
+            hits: run.run.trigger.hits().len() as u32,
         },
         ItemRun::Leaderboard(run) => board_shape(run),
     }
@@ -174,7 +174,7 @@ fn kept_by_line(line: &LineRun) -> (usize, usize)
 }
 
 // How many hits a test keeps, where there is one.
-fn test_hits(test: &Option<TestRun>) -> usize
+fn test_hits(test: &Option<TriggerRun>) -> usize
     ensures { result ≡ length (test_kept test.now) }
 {
     match test {

@@ -5,7 +5,7 @@ use Rattle.ra_richpresence.specs.Contents.{piece_contents, value_in}
 use Rattle.ra_richpresence.specs.Spelled.{IsPiece}
 use Rattle.ra_set.specs.Limits.{optional_value}
 use Rattle.ra_runtime.specs.NewPresence.{AreNewValues}
-use Rattle.ra_runtime.proofs.GrowthLemmas.{taken_next, holds_at, weight_at}
+use Rattle.ra_member.proofs.GrowthLemmas.{taken_next, holds_at, weight_at}
 use Rattle.ra_runtime.proofs.NewLines.{macro_conditions}
 use Rattle.ra_runtime.proofs.line_run.new_values.Goals as goal
 

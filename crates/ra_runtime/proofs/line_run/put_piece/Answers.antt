@@ -6,6 +6,5 @@ pub returns-in_ok-push-in-Macro : goal.returns-in_ok-push-in-Macro
 returns-in_ok-push-in-Macro c = λ before values are.
     let old = c.args.runs.now.items in
     let parts = value_contents c.in-Macro.value in
-    let e = c.in_ok-plan-in-Macro.ensures in
-    let more = values_more before c.args.pool.now c.value_plan.new.pool values old parts c.in_ok-plan-in-Macro.plan c.in_ok-run-in-Macro.run' are e.grows e.plan c.in_ok-run-in-Macro.ensures in
+    let more = values_more before c.args.pool.now c.new.new.pool values old parts c.in_ok-run-in-Macro.run' are c.in_ok-run-in-Macro.ensures in
     rw (c.in-Macro.is, c.in_ok-push-in-Macro.ensures.items) more

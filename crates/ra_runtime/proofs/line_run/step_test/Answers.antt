@@ -9,7 +9,7 @@ returns-clause-steps c =
     elim c.match-run.branch [
       | in-Some-Some w ↦
           let h = w.in-Some-Some in
-          rw (w.run-is, w.result-is, h.is-0, h.is-1) (test_stepped c.args.table.now (trigger_contents h.text) h.run' w.step.new.self w.step.result w.step.ensures.steps)
+          rw (w.run-is, w.result-is, h.is-0, h.is-1) (test_stepped c.args.table.now (trigger_contents h.text) h.run' w.truth.new.self w.truth.result w.truth.ensures.steps)
       | in_default w ↦ let h = w.in_default in let no = rw (h.is-0, h.is-1) at c.requires.run in absurd no
       | in_default-2 w ↦
           let h = w.in_default in

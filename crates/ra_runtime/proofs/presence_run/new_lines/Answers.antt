@@ -2,7 +2,7 @@ use Rattle.std.proofs.Common.{◌≡◌, ◌+◌, ◌++◌, ◌∷◌, [], map, 
 use Rattle.ra_richpresence.specs.Contents.{line_contents}
 use Rattle.ra_set.specs.Limits.{line_conditions}
 use Rattle.ra_runtime.specs.NewPresence.{IsShownLine}
-use Rattle.ra_runtime.proofs.GrowthLemmas.{taken_next, holds_at, weight_at}
+use Rattle.ra_member.proofs.GrowthLemmas.{taken_next, holds_at, weight_at}
 use Rattle.ra_runtime.proofs.NewLines.{lines_more}
 use Rattle.ra_runtime.proofs.presence_run.new_lines.Goals as goal
 

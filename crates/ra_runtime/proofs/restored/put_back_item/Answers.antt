@@ -1,4 +1,5 @@
 use Rattle.std.proofs.Common.{◌+◌, ◌-◌, ◌*◌, length, refl, sym, ◌∙◌, ap, subst, arith}
+use Rattle.ra_runtime.specs.declared.achievement_run.AchievementRun.{AchievementRun}
 use Rattle.ra_runtime.specs.declared.item_run.ItemRun.{ItemRun}
 use Rattle.ra_runtime.specs.declared.item_run.ItemRun.TheVariants.{Achievement}
 use Rattle.ra_runtime.specs.Restoring.{PutsBackItem}
@@ -11,8 +12,8 @@ returns-in-Achievement-clause-item c =
     let bytes = c.args.bytes.now in
     let at = c.args.at in
     let old = c.in-Achievement.run' in
-    let new = record old { trigger = c.put_back.new.self } in
+    let new : AchievementRun = record old { run = record { laid = old.run.laid; trigger = c.put_back.new.self } } in
     let count = length c.hits.result.now in
-    let hits = words_piece bytes (at + 5) (at + 5 + 4 * count - (at + 5)) 0 (at + 5) (length old.trigger.hits) (omega (arith, ap length c.hits.ensures)) (omega arith) in
+    let hits = words_piece bytes (at + 5) (at + 5 + 4 * count - (at + 5)) 0 (at + 5) (length old.run.trigger.hits) (omega (arith, ap length c.hits.ensures)) (omega arith) in
     let trigger = c.put_back.ensures ∙ (λ i. record { state = c.state_of_byte-state.ensures i; measured = c.word_at-measured.ensures i; hits = hits i }) in
     subst (λ (run : ItemRun). PutsBackItem bytes at run (Achievement new)) (sym c.in-Achievement.is) (achievement_back bytes at c.requires.state old new refl trigger)

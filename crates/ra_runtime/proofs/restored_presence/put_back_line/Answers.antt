@@ -1,6 +1,6 @@
 use Rattle.std.proofs.Common.{length, ap, arith}
 use Rattle.std.specs.List.{flat_map}
-use Rattle.ra_runtime.specs.declared.value_run.ValueRun.{ValueRun}
+use Rattle.ra_member.specs.declared.value_run.ValueRun.{ValueRun}
 use Rattle.ra_runtime.proofs.DisplayRows.{line_hits_long, line_numbers_long}
 use Rattle.ra_runtime.proofs.restored_presence.put_back_line.Goals as goal
 

@@ -1,5 +1,5 @@
 use Rattle.std.proofs.Common.{◌<◌, length, ◌∙◌, arith}
-use Rattle.ra_runtime.specs.declared.value_run.ValueRun.{ValueRun}
+use Rattle.ra_member.specs.declared.value_run.ValueRun.{ValueRun}
 use Rattle.ra_runtime.specs.Restoring.{PutsBackValue}
 use Rattle.ra_runtime.proofs.PutBackLemmas.{hits_within, numbers_within, hits_next, numbers_next, each_next, rest_next, each_all}
 use Rattle.ra_runtime.proofs.restored_presence.put_back_values.Goals as goal

@@ -1,6 +1,6 @@
 use Rattle.std.proofs.Common.{◌≡◌, ◌+◌, ◌*◌, length, take, drop}
 use Rattle.std.specs.List.{flat_map}
-use Rattle.ra_runtime.specs.declared.value_run.ValueRun.{ValueRun}
+use Rattle.ra_member.specs.declared.value_run.ValueRun.{ValueRun}
 use Rattle.ra_runtime.specs.Restoring.{PutsBackValues}
 use Rattle.ra_runtime.proofs.restored_presence.put_back_values.Given as goal
 

@@ -3,7 +3,7 @@ use Rattle.std.proofs.lemmas.List.{map-append}
 use Rattle.ra_progress.specs.Contents.{kept_item, ItemsFit}
 use Rattle.ra_runtime.specs.ItemRuns.{kept_run}
 use Rattle.ra_runtime.specs.Shapes.{run_shape}
-use Rattle.ra_runtime.proofs.GrowthLemmas.{taken_next}
+use Rattle.ra_member.proofs.GrowthLemmas.{taken_next}
 use Rattle.ra_runtime.proofs.SaveLemmas.{items_fit_more}
 use Rattle.ra_runtime.proofs.saved.kept_items.Goals as goal
 

@@ -1,7 +1,7 @@
 use Rattle.std.proofs.Common.{◌≡◌, ◌++◌, length, take, sym, ◌∙◌, ap, subst, arith}
 use Rattle.std.specs.List.{flat_map}
 use Rattle.std.proofs.lemmas.List.{take_all}
-use Rattle.ra_runtime.specs.declared.value_run.ValueRun.{ValueRun}
+use Rattle.ra_member.specs.declared.value_run.ValueRun.{ValueRun}
 use Rattle.ra_runtime.specs.PresenceRuns.{test_kept}
 use Rattle.ra_runtime.specs.Saving.{PutsBehind}
 use Rattle.ra_runtime.proofs.DisplayRows.{values_hits, values_numbers}

@@ -1,6 +1,6 @@
 use Rattle.std.proofs.Common.{◌++◌, take}
 use Rattle.std.specs.List.{flat_map}
-use Rattle.ra_runtime.specs.declared.value_run.ValueRun.{ValueRun}
+use Rattle.ra_member.specs.declared.value_run.ValueRun.{ValueRun}
 use Rattle.ra_runtime.specs.PresenceRuns.{test_kept}
 use Rattle.ra_runtime.specs.Saving.{PutsBehind}
 use Rattle.ra_runtime.proofs.saved.put_line.Given as goal

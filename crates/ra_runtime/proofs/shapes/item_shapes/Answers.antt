@@ -1,5 +1,5 @@
 use Rattle.ra_runtime.specs.Shapes.{run_shape, IsSmall}
-use Rattle.ra_runtime.proofs.GrowthLemmas.{holds_at}
+use Rattle.ra_member.proofs.GrowthLemmas.{holds_at}
 use Rattle.ra_runtime.proofs.shapes.item_shapes.Goals as goal
 
 pub item_shape-requires : goal.item_shape-requires

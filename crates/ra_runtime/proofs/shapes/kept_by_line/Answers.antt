@@ -1,7 +1,7 @@
 use Rattle.std.proofs.Common.{◌≡◌, ◌+◌, ◌<◌, length, map, get_or, ◌∙◌, ap, ap₂, sym, arith, length-append}
 use Rattle.std.specs.List.{flat_map}
 use Rattle.ra_value.specs.Steps.{ValueKept}
-use Rattle.ra_runtime.specs.declared.value_run.ValueRun.{ValueRun}
+use Rattle.ra_member.specs.declared.value_run.ValueRun.{ValueRun}
 use Rattle.ra_runtime.specs.Presence.{hits_in}
 use Rattle.ra_runtime.specs.PresenceRuns.{line_kept, test_kept}
 use Rattle.ra_runtime.proofs.Lengths.{row_next, row_within}

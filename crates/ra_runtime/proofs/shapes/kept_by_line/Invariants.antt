@@ -1,7 +1,7 @@
 use Rattle.std.proofs.Common.{◌≡◌, ◌+◌, length, map, take}
 use Rattle.std.specs.List.{flat_map}
 use Rattle.ra_value.specs.Steps.{ValueKept}
-use Rattle.ra_runtime.specs.declared.value_run.ValueRun.{ValueRun}
+use Rattle.ra_member.specs.declared.value_run.ValueRun.{ValueRun}
 use Rattle.ra_runtime.specs.PresenceRuns.{test_kept}
 use Rattle.ra_runtime.proofs.shapes.kept_by_line.Given as goal
 

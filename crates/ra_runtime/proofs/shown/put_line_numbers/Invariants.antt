@@ -1,6 +1,6 @@
 use Rattle.std.proofs.Common.{◌≡◌, ◌++◌, map, take}
 use Rattle.ra_value.specs.Steps.{signed_greatest}
-use Rattle.ra_runtime.specs.declared.value_run.ValueRun.{ValueRun}
+use Rattle.ra_member.specs.declared.value_run.ValueRun.{ValueRun}
 use Rattle.ra_runtime.proofs.shown.put_line_numbers.Given as goal
 
 abbrev pub invariant-loop-run : goal.invariant-loop-run

@@ -3,7 +3,7 @@ use Rattle.std.specs.Vec.{with_items}
 use Rattle.std.proofs.lemmas.List.{with_items_is}
 use Rattle.ra_richpresence.specs.Contents.{line_contents, values_in_line}
 use Rattle.ra_runtime.specs.declared.line_run.LineRun.{LineRun}
-use Rattle.ra_runtime.specs.declared.value_run.ValueRun.{ValueRun}
+use Rattle.ra_member.specs.declared.value_run.ValueRun.{ValueRun}
 use Rattle.ra_runtime.specs.PresenceRuns.{AreValueRuns, StepsValues}
 use Rattle.ra_runtime.proofs.ShownLines.{line_stepped}
 use Rattle.ra_runtime.proofs.line_run.LineRun.step.Goals as goal

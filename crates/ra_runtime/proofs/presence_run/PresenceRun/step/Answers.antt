@@ -6,7 +6,7 @@ use Rattle.ra_runtime.specs.declared.line_run.LineRun.{LineRun}
 use Rattle.ra_runtime.specs.declared.presence_run.PresenceRun.{PresenceRun}
 use Rattle.ra_runtime.specs.PresenceRuns.{IsLineRun, AreLineRuns, IsFirstLine, StepsLines}
 use Rattle.ra_runtime.proofs.ShownLines.{first_shown, presence_stepped}
-use Rattle.ra_runtime.proofs.SideBySide.{beside_length}
+use Rattle.ra_member.proofs.SideBySide.{beside_length}
 use Rattle.ra_runtime.proofs.presence_run.PresenceRun.step.Goals as goal
 
 pub step_lines-first-requires-clause-as_many : goal.step_lines-first-requires-clause-as_many

@@ -1,0 +1,9 @@
+use Rattle.ra_leaderboard.specs.Contents.{board_contents}
+use Rattle.ra_runtime.proofs.WaitingLemmas.{leaderboard_made}
+use Rattle.ra_runtime.proofs.item_run.ItemRun.new.Goals as goal
+
+pub returns-in_ok-run-in-Leaderboard : goal.returns-in_ok-run-in-Leaderboard
+returns-in_ok-run-in-Leaderboard c =
+    let item = c.in-Leaderboard in
+    let run = c.in_ok-run-in-Leaderboard in
+    rw item.is (leaderboard_made c.args.pool.now c.new-in-Leaderboard.new.pool item.id item.format (board_contents item.text) run.run' run.ensures)
