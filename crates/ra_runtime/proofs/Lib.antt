@@ -12,14 +12,12 @@ pub mod GroupWords
 pub mod ItemCuts
 pub mod ItemLemmas
 pub mod ItemWords
-pub mod Lengths
 pub mod LineLemmas
 pub mod Law
 pub mod MadeLemmas
 pub mod NewLines
 pub mod OpeningFits
 pub mod PresenceCuts
-pub mod PutBackLemmas
 pub mod RestoreLemmas
 pub mod RestoredPresence
 pub mod RestoredRuns

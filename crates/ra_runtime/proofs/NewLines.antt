@@ -1,6 +1,6 @@
 -- Lines of a display that were never stepped, one after the other over a pool that grows.
 use Rattle.std.proofs.Common.{◌≡◌, ℕ, ◌+◌, ◌*◌, ◌-◌, Option, None, Some, List, [], ◌∷◌, ◌++◌, length, map, get_or, replicate, sum_by, All, IfSome, refl, sym, ◌∙◌, ap, ap₂, subst, arith, length-append}
-use Rattle.std.specs.List.{flat_map, filter_map}
+use Rattle.std.specs.List.{concat, flat_map, filter_map}
 use Rattle.std.proofs.lemmas.List.{append-nil, map-append, replicate-append-replicate}
 use Rattle.std.proofs.lemmas.List.Elements.{All-append, All-cons, All-nil}
 use Rattle.std.proofs.lemmas.List.Sums.{sum_by-cons, sum_by-append}
@@ -8,65 +8,28 @@ use Rattle.ra_condition.specs.Contents.{TriggerContents, trigger_hits, PartConte
 use Rattle.ra_condition.specs.Spelled.{IsTrigger}
 use Rattle.ra_indirect.specs.declared.node.Node.{Node}
 use Rattle.ra_indirect.specs.Growing.{IsFront}
-use Rattle.ra_chain.specs.Occurrence.{trees_in_trigger, trees_in_value}
 use Rattle.ra_richpresence.specs.Contents.{PieceContents, Bytes, Shows, LineContents, ScriptContents, value_in, values_in_line}
 use Rattle.ra_richpresence.specs.Spelled.{IsTested, IsUntested, IsDisplay}
-use Rattle.ra_trigger.specs.Steps.{TriggerKept}
 use Rattle.ra_value.specs.Steps.{ValueKept, no_value}
 use Rattle.ra_set.specs.Limits.{optional_trigger, optional_value, value_conditions, line_conditions}
-use Rattle.ra_runtime.specs.declared.line_run.LineRun.{LineRun}
+use Rattle.ra_member.specs.declared.member.Member.{Member}
+use Rattle.ra_member.specs.Members.{MemberKept, no_hits, member_conditions}
+use Rattle.ra_member.specs.MemberRuns.{IsNewMember}
+use Rattle.ra_member.proofs.Added.{member_more}
+use Rattle.ra_member.proofs.GrowthLemmas.{grows_more}
+use Rattle.ra_member.proofs.PlanLemmas.{within_as}
+use Rattle.ra_member.proofs.SideBySide.{beside_more, beside_weaker}
 use Rattle.ra_runtime.specs.declared.presence_run.PresenceRun.{PresenceRun}
-use Rattle.ra_member.specs.declared.trigger_run.TriggerRun.{TriggerRun}
-use Rattle.ra_member.specs.declared.value_run.ValueRun.{ValueRun}
 use Rattle.ra_runtime.specs.Order.{tests_in, trees_in_line, line_hits}
 use Rattle.ra_runtime.specs.Presence.{hits_in, numbers_in}
-use Rattle.ra_member.specs.Runs.{IsNewTrigger, IsValueRun, IsNewValue}
-use Rattle.ra_runtime.specs.PresenceRuns.{IsOptionalTest, AreValueRuns, IsLineRun, AreLineRuns, line_kept}
-use Rattle.ra_runtime.specs.NewPresence.{plain_test, plain_line, IsShownLine, IsNewTestOver, AreNewValues, IsNewLine, AreNewLines, IsNewPresence}
-use Rattle.ra_member.proofs.GrowthLemmas.{grows_more}
-use Rattle.ra_member.proofs.PlanLemmas.{within_through, within_as}
-use Rattle.ra_member.proofs.SideBySide.{beside_more, beside_weaker}
-use Rattle.ra_member.proofs.Added.{trigger_more, value_more}
+use Rattle.ra_runtime.specs.PresenceRuns.{IsLineRun, AreLineRuns, line_kept, line_member}
+use Rattle.ra_runtime.specs.NewPresence.{plain_test, plain_line, IsShownLine, IsNewLine, AreNewLines, IsNewPresence}
 
--- runs stay ones where the pool grows
+-- lines stay ones where the pool grows
 module _ (old new : List Node) (front : IsFront old new) where
-  pub test_more : (test : Option TriggerContents) (run : Option TriggerRun) → IsOptionalTest old test run → IsOptionalTest new test run
-  test_more None None is = tt
-  test_more None (Some run) is = absurd is
-  test_more (Some t) None is = absurd is
-  test_more (Some t) (Some run) is = trigger_more old new front t run is
-
-  pub value_runs_more : (values : List (List PartContents)) (runs : List ValueRun) → AreValueRuns old values runs → AreValueRuns new values runs
-  value_runs_more values runs are = beside_weaker (IsValueRun old) (IsValueRun new) (value_more old new front) values runs are
-
-  pub line_run_more : (line : LineContents) (run : LineRun) → IsLineRun old line run → IsLineRun new line run
-  line_run_more line run is = record { test = test_more line.test run.test is.test; values = value_runs_more (values_in_line line) run.values.items is.values }
-
-  pub line_runs_more : (lines : List LineContents) (runs : List LineRun) → AreLineRuns old lines runs → AreLineRuns new lines runs
-  line_runs_more lines runs are = beside_weaker (IsLineRun old) (IsLineRun new) line_run_more lines runs are
-
--- a test with its plan
-pub test_made : (old new : List Node) (t : TriggerContents) (run : TriggerRun) → IsNewTrigger old new t run → IsNewTestOver old new (Some t) (Some run)
-test_made old new t run made = record {
-  grows = within_as old new (trees_in_trigger t) (trees_in_trigger t ++ []) (13 * trigger_hits t) (13 * trigger_hits t) (sym (append-nil (trees_in_trigger t))) (omega arith) made.grows;
-  run_too = made.run_too;
-  plain = ap (λ (k : TriggerKept). k.hits) made.plain;
-}
-
--- a value more
-pub values_more : (a b c : List Node) (values : List (List PartContents)) (runs : List ValueRun) (parts : List PartContents) (run : ValueRun) → AreNewValues a b values runs → IsNewValue b c parts run → AreNewValues a c (values ++ parts ∷ []) (runs ++ run ∷ [])
-values_more a b c values runs parts run are made = record {
-  grows = grows_more trees_in_value value_conditions a b c values parts are.grows made.grows;
-  runs_too = beside_more (IsValueRun c) values runs parts run (value_runs_more b c made.grows.grows.front values runs are.runs_too) made.run_too;
-  plain =
-      map-append (λ (v : ValueRun). v.value) runs (run ∷ [])
-      ∙ ap₂ (λ ks k. ks ++ k ∷ []) are.plain made.plain
-      ∙ sym (map-append no_value values (parts ∷ []));
-}
-
--- text is no value more
-pub values_same : (a b : List Node) (values : List (List PartContents)) (runs : List ValueRun) → AreNewValues a b values runs → AreNewValues a b (values ++ []) runs
-values_same a b values runs are = subst (λ vs. AreNewValues a b vs runs) (sym (append-nil values)) are
+  pub line_runs_more : (lines : List LineContents) (runs : List Member) → AreLineRuns old lines runs → AreLineRuns new lines runs
+  line_runs_more lines runs are =
+      beside_weaker (IsLineRun old) (IsLineRun new) (λ line run is. member_more old new front (line_member line) run is) lines runs are
 
 -- the conditions of the macros among some pieces
 pub macro_conditions : (pieces : List PieceContents) → sum_by value_conditions (filter_map value_in pieces) ≡ sum_by (λ p. optional_value (value_in p)) pieces
@@ -76,19 +39,28 @@ macro_conditions (Bytes text ∷ pieces) =
 macro_conditions (Shows name parts ∷ pieces) =
     omega (arith, macro_conditions pieces, sum_by-cons value_conditions parts (filter_map value_in pieces), sum_by-cons (λ p. optional_value (value_in p)) (Shows name parts) pieces)
 
+-- a line's test has as many conditions as its member
+pub test_conditions : (test : Option TriggerContents) → sum_by trigger_hits (tests_in test) ≡ optional_trigger test
+test_conditions None = refl
+test_conditions (Some t) = omega arith
+
+test_plain : (test : Option TriggerContents) → concat (map no_hits (tests_in test)) ≡ plain_test test
+test_plain None = refl
+test_plain (Some t) = append-nil (no_hits t)
+
 -- a line of a test and of values
-pub line_made : (a b c : List Node) (line : LineContents) (run : LineRun) → IsNewTestOver a b line.test run.test → AreNewValues b c (values_in_line line) run.values.items → IsNewLine a c line run
-line_made a b c line run test values =
-    let n1 : ℕ = optional_trigger line.test in
-    let n2 : ℕ = sum_by value_conditions (values_in_line line) in
+pub line_made : (a b : List Node) (line : LineContents) (run : Member) → IsNewMember a b (line_member line) run → IsNewLine a b line run
+line_made a b line run is =
+    let tests = ap (λ (k : MemberKept). concat k.tests) is.plain ∙ test_plain line.test in
+    let values = ap (λ (k : MemberKept). k.values) is.plain in
     record {
-      grows = within_through a b c (flat_map trees_in_trigger (tests_in line.test)) (flat_map trees_in_value (values_in_line line)) (13 * n1) (13 * n2) (13 * line_conditions line) (omega arith) test.grows values.grows;
-      run_too = record { test = test_more b c values.grows.grows.front line.test run.test test.run_too; values = values.runs_too };
-      plain = (λ i. record { test = test.plain i; values = values.plain i });
+      grows = within_as a b (trees_in_line line) (trees_in_line line) (13 * member_conditions (line_member line)) (13 * line_conditions line) refl (omega (arith, test_conditions line.test)) is.grows;
+      run_too = is.member_too;
+      plain = (λ i. record { test = tests i; values = values i });
     }
 
 -- a line more
-pub lines_more : (a b c : List Node) (lines : List LineContents) (runs : List LineRun) (line : LineContents) (run : LineRun) → AreNewLines a b lines runs → IsNewLine b c line run → AreNewLines a c (lines ++ line ∷ []) (runs ++ run ∷ [])
+pub lines_more : (a b c : List Node) (lines : List LineContents) (runs : List Member) (line : LineContents) (run : Member) → AreNewLines a b lines runs → IsNewLine b c line run → AreNewLines a c (lines ++ line ∷ []) (runs ++ run ∷ [])
 lines_more a b c lines runs line run are is = record {
   grows = grows_more trees_in_line line_conditions a b c lines line are.grows is.grows;
   runs_too = beside_more (IsLineRun c) lines runs line run (line_runs_more b c is.grows.grows.front lines runs are.runs_too) is.run_too;

@@ -1,38 +1,32 @@
 -- How the lines of a display are kept and stepped: docs/DEFINITIONS.md, "Presence over frames".
 use Rattle.std.specs.Prelude.{◌≡◌, ℕ, ◌<◌, Bool, true, Option, None, Some, option_map, List, [], ◌∷◌, length, map, zip}
-use Rattle.std.specs.List.{flat_map}
-use Rattle.ra_condition.specs.Contents.{TriggerContents, PartContents}
+use Rattle.std.specs.List.{concat, flat_map}
+use Rattle.ra_condition.specs.Contents.{PartContents}
 use Rattle.ra_indirect.specs.declared.node.Node.{Node}
+use Rattle.ra_memory.specs.Image.{History}
 use Rattle.ra_memref.specs.Values.{Start}
 use Rattle.ra_memref.specs.Table.{TableSeen}
 use Rattle.ra_progress.specs.Contents.{KeptPresence}
 use Rattle.ra_richpresence.specs.Contents.{LineContents, ScriptContents, values_in_line}
-use Rattle.ra_runtime.specs.declared.line_run.LineRun.{LineRun}
-use Rattle.ra_runtime.specs.declared.presence_run.PresenceRun.{PresenceRun}
-use Rattle.ra_member.specs.declared.trigger_run.TriggerRun.{TriggerRun}
-use Rattle.ra_member.specs.declared.value_run.ValueRun.{ValueRun}
-use Rattle.ra_runtime.specs.Histories.{value_after}
-use Rattle.ra_runtime.specs.Presence.{LineKept, line_test_hits, line_truth, line_after, first_true, hits_in, numbers_in, presence_after}
+use Rattle.ra_member.specs.declared.member.Member.{Member}
 use Rattle.ra_member.specs.Beside.{AreBeside}
-use Rattle.ra_member.specs.Runs.{HasValues, IsTriggerRun, IsValueRun}
+use Rattle.ra_member.specs.Members.{MemberContents, values_next}
+use Rattle.ra_member.specs.MemberRuns.{IsMember, kept_by}
+use Rattle.ra_member.specs.Runs.{HasValues, IsValueRun}
+use Rattle.ra_runtime.specs.declared.presence_run.PresenceRun.{PresenceRun}
+use Rattle.ra_runtime.specs.Order.{tests_in}
+use Rattle.ra_runtime.specs.Presence.{LineKept, line_truth, line_after, first_true, hits_in, numbers_in, presence_after}
 
--- the test of a line, where it has one, with its plan
-abbrev pub IsOptionalTest : List Node → Option TriggerContents → Option TriggerRun → Type 0
-IsOptionalTest nodes None None = Unit {0}
-IsOptionalTest nodes (Some t) (Some run) = IsTriggerRun nodes t run
-IsOptionalTest nodes _ _ = ⊥
-
--- each value with its plan
-abbrev pub AreValueRuns : List Node → List (List PartContents) → List ValueRun → Type 0
-AreValueRuns nodes values runs = AreBeside (IsValueRun nodes) values runs
+-- the tests and the values of a line
+abbrev pub line_member : LineContents → MemberContents
+line_member line = record { tests = tests_in line.test; values = values_in_line line }
 
 -- a line of a display with its plans
-pub record IsLineRun (nodes : List Node) (line : LineContents) (run : LineRun) : Type 0 where
-  pub test : IsOptionalTest nodes line.test run.test
-  pub values : AreValueRuns nodes (values_in_line line) run.values.items
+abbrev pub IsLineRun : List Node → LineContents → Member → Type 0
+IsLineRun nodes line run = IsMember nodes (line_member line) run
 
 -- each line with its plans
-abbrev pub AreLineRuns : List Node → List LineContents → List LineRun → Type 0
+abbrev pub AreLineRuns : List Node → List LineContents → List Member → Type 0
 AreLineRuns nodes lines runs = AreBeside (IsLineRun nodes) lines runs
 
 -- the display of a script with its plans, of which one line is shown
@@ -46,14 +40,9 @@ IsOptionalPresence nodes None None = Unit {0}
 IsOptionalPresence nodes (Some script) (Some run) = IsPresenceRun nodes script run
 IsOptionalPresence nodes _ _ = ⊥
 
--- what is kept of a test that may be missing: its hits
-abbrev pub test_kept : Option TriggerRun → List ℕ
-test_kept None = []
-test_kept (Some run) = run.trigger.hits
-
 -- what a run of a line keeps
-abbrev pub line_kept : LineRun → LineKept
-line_kept run = record { test = test_kept run.test; values = map (λ v. v.value) run.values.items }
+abbrev pub line_kept : Member → LineKept
+line_kept run = record { test = concat (kept_by run).tests; values = (kept_by run).values }
 
 -- what an opening keeps for a display: the shown line, hits and numbers
 abbrev pub presence_kept : PresenceRun → KeptPresence
@@ -67,32 +56,22 @@ presence_kept run = record {
 abbrev pub optional_presence_kept : Option PresenceRun → Option KeptPresence
 optional_presence_kept run = option_map presence_kept run
 
--- One frame of a test that may be missing, from the hits that it keeps: those after it, and whether it holds.
-pub record StepsOptionalTest (table : TableSeen) (test : Option TriggerContents) (old new : Option TriggerRun) (holds : Bool) : Type 0 where
-  pub kept : (start : Start) (image : List ℕ) → HasValues table start (image ∷ []) → test_kept new ≡ line_test_hits start test (test_kept old) (image ∷ [])
-  pub truth : (start : Start) (image : List ℕ) → HasValues table start (image ∷ []) → holds ≡ line_truth start test (test_kept old) (image ∷ [])
-
--- one frame of each value
-abbrev pub StepsValues : TableSeen → List (List PartContents) → (old new : List ValueRun) → Type 0
-StepsValues table values olds news =
-    (start : Start) (image : List ℕ) → HasValues table start (image ∷ []) → map (λ v. v.value) news ≡ map (λ v. value_after start v.0 v.1 (image ∷ [])) (zip values (map (λ v. v.value) olds))
-
 -- One frame of a line, from what it keeps: what it keeps after it, and whether its test holds.
-pub record StepsLine (table : TableSeen) (line : LineContents) (old new : LineRun) (holds : Bool) : Type 0 where
+pub record StepsLine (table : TableSeen) (line : LineContents) (old new : Member) (holds : Bool) : Type 0 where
   pub kept : (start : Start) (image : List ℕ) → HasValues table start (image ∷ []) → line_kept new ≡ line_after start (image ∷ []) (line, line_kept old)
-  pub truth : (start : Start) (image : List ℕ) → HasValues table start (image ∷ []) → holds ≡ line_truth start line.test (test_kept old.test) (image ∷ [])
+  pub truth : (start : Start) (image : List ℕ) → HasValues table start (image ∷ []) → holds ≡ line_truth start line.test (line_kept old).test (image ∷ [])
 
 -- whether each line holds at the first frame, from what it keeps
 abbrev pub line_truths : Start → List ℕ → List LineContents → List LineKept → List Bool
 line_truths start image lines kept = map (λ pair. line_truth start pair.0.test pair.1.test (image ∷ [])) (zip lines kept)
 
 -- one frame of each line, from what it keeps
-abbrev pub StepsLines : TableSeen → List LineContents → (old new : List LineRun) → Type 0
+abbrev pub StepsLines : TableSeen → List LineContents → (old new : List Member) → Type 0
 StepsLines table lines olds news =
     (start : Start) (image : List ℕ) → HasValues table start (image ∷ []) → map line_kept news ≡ map (line_after start (image ∷ [])) (zip lines (map line_kept olds))
 
 -- The place of the first line that holds at a frame; as many as there are lines where none holds, and a line without a test holds.
-pub record IsFirstLine (table : TableSeen) (lines : List LineContents) (olds : List LineRun) (first : ℕ) : Type 0 where
+pub record IsFirstLine (table : TableSeen) (lines : List LineContents) (olds : List Member) (first : ℕ) : Type 0 where
   pub truths : List Bool
   pub first_too : first ≡ first_true truths
   pub untested : AreBeside (λ line truth. line.test ≡ None → truth ≡ true) lines truths
@@ -108,3 +87,9 @@ abbrev pub StepsOptional : TableSeen → Option ScriptContents → (old new : Op
 StepsOptional table None None None = Unit {0}
 StepsOptional table (Some script) (Some old) (Some new) = StepsPresence table script old new
 StepsOptional table _ _ _ = ⊥
+
+-- one frame of each value of a line; its tests stay
+pub record StepsMacros (table : TableSeen) (values : List (List PartContents)) (old new : Member) : Type 0 where
+  pub values_too : AreBeside (IsValueRun table.nodes) values new.values.items
+  pub kept : (start : Start) (history : History) → HasValues table start history → (kept_by new).values ≡ values_next start values history (kept_by old).values
+  pub tests : new.tests ≡ old.tests

@@ -1,11 +1,11 @@
 -- What runs keep after the bytes of a progress file are put back: docs/DEFINITIONS.md, "What a runtime keeps".
-use Rattle.std.specs.Prelude.{◌≡◌, ℕ, ◌+◌, ◌*◌, ◌<◌, Option, None, Some, option_map, List, [], ◌∷◌, length, slice_index}
+use Rattle.std.specs.Prelude.{◌≡◌, ℕ, ◌+◌, ◌<◌, Option, None, Some, option_map, List, [], ◌∷◌, length, slice_index}
 use Rattle.std.specs.List.{flat_map}
 use Rattle.ra_indirect.specs.declared.node.Node.{Node}
 use Rattle.ra_value.specs.Steps.{ValueKept}
 use Rattle.ra_leaderboard.specs.Contents.{BoardContents}
 use Rattle.ra_set.specs.Contents.{ItemContents}
-use Rattle.ra_richpresence.specs.Contents.{ScriptContents}
+use Rattle.ra_richpresence.specs.Contents.{LineContents, ScriptContents}
 use Rattle.ra_progress.specs.declared.shape.ItemShape.{ItemShape}
 use Rattle.ra_progress.specs.declared.shape.PresenceShape.{PresenceShape}
 use Rattle.ra_words.specs.Words.{word_at, words_at}
@@ -14,11 +14,12 @@ use Rattle.ra_member.specs.declared.trigger_run.TriggerRun.{TriggerRun}
 use Rattle.ra_member.specs.declared.value_run.ValueRun.{ValueRun}
 use Rattle.ra_runtime.specs.declared.board_run.BoardRun.{BoardRun}
 use Rattle.ra_runtime.specs.declared.item_run.ItemRun.{ItemRun}
-use Rattle.ra_runtime.specs.declared.line_run.LineRun.{LineRun}
+use Rattle.ra_member.specs.declared.member.Member.{Member}
 use Rattle.ra_runtime.specs.declared.presence_run.PresenceRun.{PresenceRun}
 use Rattle.ra_runtime.specs.Boards.{kept_board}
-use Rattle.ra_runtime.specs.Presence.{hits_in, numbers_in}
-use Rattle.ra_runtime.specs.PresenceRuns.{IsOptionalPresence, test_kept, line_kept, optional_presence_kept}
+use Rattle.ra_member.specs.Members.{saved_hits, saved_numbers}
+use Rattle.ra_member.specs.MemberRuns.{kept_by}
+use Rattle.ra_runtime.specs.PresenceRuns.{AreLineRuns, IsOptionalPresence, optional_presence_kept}
 use Rattle.ra_runtime.specs.BoardRuns.{IsBoardRun, board_kept}
 use Rattle.ra_runtime.specs.ItemRuns.{IsItemRun, kept_run}
 use Rattle.ra_runtime.specs.Shapes.{board_run_shape, run_shape, optional_run_shape}
@@ -71,54 +72,18 @@ abbrev pub hits_in_shape : Option PresenceShape → ℕ
 hits_in_shape None = 0
 hits_in_shape (Some shape) = shape.hits
 
--- the hits and the numbers that a line keeps, its test first
-abbrev pub all_in_line : LineRun → ValueKept
-all_in_line line = record { hits = hits_in (line_kept line); numbers = numbers_in (line_kept line) }
-
--- each element is put back at its two places, which lie behind those of the one before it
-abbrev pub PutsBackEach : {A : Type 0} → (A → ValueKept) → ((hits numbers : ℕ) → A → A → Type 0) → (hits numbers : ℕ) → (olds news : List A) → Type 0
-PutsBackEach kept back hits numbers [] [] = Unit {0}
-PutsBackEach kept back hits numbers (old ∷ olds) (new ∷ news) =
-    back hits numbers old new
-    × PutsBackEach kept back (hits + 4 * length (kept old).hits) (numbers + 4 * length (kept old).numbers) olds news
-PutsBackEach kept back hits numbers _ _ = ⊥
-
--- the hits that some values keep, in a row
-abbrev pub hits_of_values : List ValueRun → List ℕ
-hits_of_values runs = flat_map (λ run. run.value.hits) runs
-
--- the numbers that some values keep, in a row
-abbrev pub numbers_of_values : List ValueRun → List ℕ
-numbers_of_values runs = flat_map (λ run. run.value.numbers) runs
-
 -- the hits that some lines keep, in a row
-abbrev pub hits_of_lines : List LineRun → List ℕ
-hits_of_lines lines = flat_map (λ line. (all_in_line line).hits) lines
+abbrev pub hits_of_lines : List Member → List ℕ
+hits_of_lines lines = flat_map (λ line. saved_hits (kept_by line)) lines
 
 -- the numbers that some lines keep, in a row
-abbrev pub numbers_of_lines : List LineRun → List ℕ
-numbers_of_lines lines = flat_map (λ line. (all_in_line line).numbers) lines
+abbrev pub numbers_of_lines : List Member → List ℕ
+numbers_of_lines lines = flat_map (λ line. saved_numbers (kept_by line)) lines
 
--- the values of a line are what stands from two places on
-abbrev pub PutsBackValues : List ℕ → (hits numbers : ℕ) → (olds news : List ValueRun) → Type 0
-PutsBackValues bytes hits numbers olds news =
-    PutsBackEach (λ run. run.value) (PutsBackValue bytes) hits numbers olds news
-
--- the hits of a test that may be missing are those at a place
-abbrev pub PutsBackOptionalTest : List ℕ → (at : ℕ) → (old new : Option TriggerRun) → Type 0
-PutsBackOptionalTest bytes at None None = Unit {0}
-PutsBackOptionalTest bytes at (Some old) (Some new) = PutsBackTest bytes at old new
-PutsBackOptionalTest bytes at _ _ = ⊥
-
--- a line is what stands from two places on, the hits of its test first
-pub record PutsBackLine (bytes : List ℕ) (hits numbers : ℕ) (old new : LineRun) : Type 0 where
-  pub test : PutsBackOptionalTest bytes hits old.test new.test
-  pub values : PutsBackValues bytes (hits + 4 * length (test_kept old.test)) numbers old.values.items new.values.items
-
--- the lines of a display are what stands from two places on
-abbrev pub PutsBackLines : List ℕ → (hits numbers : ℕ) → (olds news : List LineRun) → Type 0
-PutsBackLines bytes hits numbers olds news =
-    PutsBackEach all_in_line (PutsBackLine bytes) hits numbers olds news
+-- the lines have the plans that they had
+abbrev pub StayLines : (olds news : List Member) → Type 0
+StayLines olds news =
+    (nodes : List Node) (lines : List LineContents) → AreLineRuns nodes lines olds → AreLineRuns nodes lines news
 
 -- a display that may be missing is what stands at a place, and stays one with its plans
 pub record PutsBackPresence (bytes : List ℕ) (at : ℕ) (old new : Option PresenceRun) : Type 0 where

@@ -6,8 +6,9 @@ ghost use Rattle.ra_runtime.specs.NewPresence.{IsShownLine, AreNewLines, IsNewPr
 ghost use Rattle.ra_runtime.specs.Presence.{first_true};
 ghost use Rattle.ra_runtime.specs.PresenceRuns.{AreLineRuns, IsPresenceRun, IsOptionalPresence, IsFirstLine, StepsLines, StepsPresence, StepsOptional};
 
-use crate::line_run::LineRun;
+use crate::line_run::{new_line, step_line};
 use ra_indirect::Pool;
+use ra_member::Member;
 use ra_memref::Table;
 use ra_richpresence::{Line, Script};
 use ra_text::OutOfMemory;
@@ -16,7 +17,7 @@ use std::alloc::Global;
 /// The display of a script: its lines, and the index of the one that is shown.
 #[derive(Drop)]
 pub(crate) struct PresenceRun {
-    pub lines: Vec<LineRun>,
+    pub lines: Vec<Member>,
     pub shown: u32,
 }
 
@@ -59,7 +60,7 @@ pub(crate) fn new_presence(
 }
 
 // New lines, with all their trees in the pool.
-fn new_lines(alloc: Global, lines: &[Line], pool: &mut Pool) -> Result<Vec<LineRun>, OutOfMemory>
+fn new_lines(alloc: Global, lines: &[Line], pool: &mut Pool) -> Result<Vec<Member>, OutOfMemory>
     requires spelled { All IsShownLine (map line_contents lines.now) }
     requires room { length pool.old + 13 * sum_by line_conditions (map line_contents lines.now) + 2 ≤ 2 ^ 31 }
     ensures { IfOk result (λ runs. AreNewLines pool.old pool.new (map line_contents lines.now) runs.items) }
@@ -68,7 +69,7 @@ fn new_lines(alloc: Global, lines: &[Line], pool: &mut Pool) -> Result<Vec<LineR
     // This call tells that the nodes are those of a pool, which the proof needs.
     let _ = pool.len();
     for line in lines {
-        let run = LineRun::new(alloc, line, pool)?;
+        let run = new_line(alloc, line, pool)?;
         runs.push(run)?;
     }
     Ok(runs)
@@ -88,7 +89,7 @@ pub(crate) fn step_presence(run: &mut Option<PresenceRun>, script: &Option<Scrip
 }
 
 // Steps each line by the frame of the table's last sample, and gives the place of the first that holds.
-fn step_lines(runs: &mut [LineRun], lines: &[Line], table: &Table) -> usize
+fn step_lines(runs: &mut [Member], lines: &[Line], table: &Table) -> usize
     requires runs { AreLineRuns table.now.nodes (map line_contents lines.now) runs.old }
     requires sampled { table.now.sampled ≡ true }
     requires as_many { length runs.old ≡ length lines.now }
@@ -100,7 +101,7 @@ fn step_lines(runs: &mut [LineRun], lines: &[Line], table: &Table) -> usize
     let mut first = 0;
     for (place, line) in lines.iter().enumerate() {
         let run = &mut runs[place];
-        let holds = run.step(line, table);
+        let holds = step_line(run, line, table);
         first = first_after(first, place, holds);
     }
     first

@@ -8,18 +8,16 @@ ghost use Rattle.ra_runtime.specs.Boards.{kept_board};
 ghost use Rattle.ra_runtime.specs.BoardRuns as spec;
 ghost use Rattle.ra_runtime.specs.BoardRuns.{optional_kept};
 ghost use Rattle.ra_runtime.specs.ItemRuns.{kept_run};
-ghost use Rattle.ra_runtime.specs.Presence.{hits_in, numbers_in};
 ghost use Rattle.ra_runtime.specs.PresenceRuns as runs;
-ghost use Rattle.ra_runtime.specs.PresenceRuns.{line_kept, optional_presence_kept, test_kept};
+ghost use Rattle.ra_runtime.specs.PresenceRuns.{optional_presence_kept};
 ghost use Rattle.ra_runtime.specs.Shapes.{board_run_shape, run_shape};
 ghost use Rattle.ra_runtime.specs.Saving.{FitPresence, FitOptional, PutsBehind};
 
 use crate::board_run::BoardRun;
 use crate::item_run::ItemRun;
-use crate::line_run::LineRun;
 use crate::presence_run::PresenceRun;
 use crate::state_bytes::{byte_of_board, byte_of_state};
-use ra_member::{TriggerRun, ValueRun};
+use ra_member::ValueRun;
 use ra_progress::{ItemKept, PresenceKept};
 use ra_text::OutOfMemory;
 use std::alloc::Global;
@@ -138,35 +136,11 @@ fn display_kept(alloc: Global, run: &PresenceRun) -> Result<PresenceKept, OutOfM
     let mut hits = Vec::new(alloc);
     let mut kept = Vec::new(alloc);
     for line in &run.lines {
-        put_line(&mut hits, &mut kept, line)?;
+        line.save(&mut hits, &mut kept)?;
     }
     Ok(PresenceKept {
         shown: run.shown,
         hits,
         kept,
     })
-}
-
-// Puts what is kept of a line behind other hits and numbers, its test first.
-fn put_line(hits: &mut Vec<u32>, kept: &mut Vec<u32>, line: &LineRun) -> Result<(), OutOfMemory>
-    ensures hits { OnOk result
-        (PutsBehind hits.old.items hits.new.items (hits_in (line_kept line.now))) }
-    ensures kept { OnOk result
-        (PutsBehind kept.old.items kept.new.items (numbers_in (line_kept line.now))) }
-{
-    put_test(hits, &line.test)?;
-    for value in &line.values {
-        put_value(hits, kept, value)?;
-    }
-    Ok(())
-}
-
-// Puts the hits of a test that may be missing behind others.
-fn put_test(hits: &mut Vec<u32>, run: &Option<TriggerRun>) -> Result<(), OutOfMemory>
-    ensures { OnOk result (PutsBehind hits.old.items hits.new.items (test_kept run.now)) }
-{
-    match run {
-        Some(run) => put_numbers(hits, run.trigger.hits()),
-        None => Ok(()),
-    }
 }

@@ -1,24 +1,21 @@
 //! The shape of a set, and a table that is laid out for it.
 
 ghost use Rattle.std.specs.Prelude.{◌≡◌, ◌≤◌, ◌<◌, ◌^◌, ◌+◌, length, map, option_map, All, IfOk};
-ghost use Rattle.std.specs.List.{flat_map};
 ghost use Rattle.ra_set.specs.Contents.{set_contents};
 ghost use Rattle.ra_set.specs.Limits.{IsWithinLimits};
 ghost use Rattle.ra_progress.specs.Contents.{shape_contents};
 ghost use Rattle.ra_runtime.specs.Order as spec;
 ghost use Rattle.ra_runtime.specs.AllRuns.{IsOver};
-ghost use Rattle.ra_runtime.specs.Presence.{hits_in, numbers_in};
-ghost use Rattle.ra_runtime.specs.PresenceRuns.{line_kept, test_kept};
+ghost use Rattle.ra_runtime.specs.Restoring.{hits_of_lines, numbers_of_lines};
 ghost use Rattle.ra_runtime.specs.Shapes.{run_shape, board_run_shape, optional_run_shape, IsSmall, IsSmallPresence, IsLaidOut};
 ghost use Rattle.ra_set.specs.Spelled.{IsSpelled};
 
 use crate::board_run::BoardRun;
 use crate::item_run::ItemRun;
-use crate::line_run::LineRun;
 use crate::presence_run::{PresenceRun, new_presence};
 use crate::runs::new_runs;
 use ra_indirect::Pool;
-use ra_member::TriggerRun;
+use ra_member::{Member, Places};
 use ra_memref::Table;
 use ra_progress::{ItemShape, PresenceShape, Shape};
 use ra_set::Set;
@@ -129,11 +126,11 @@ fn presence_shape(presence: &Option<PresenceRun>) -> Option<PresenceShape>
 {
     match presence {
         Some(run) => {
-            let (hits, parts) = kept_by_lines(&run.lines);
+            let kept = kept_by_lines(&run.lines);
             Some(PresenceShape {
                 lines: run.lines.len() as u32,
-                hits: hits as u32,
-                parts: parts as u32,
+                hits: kept.hits as u32,
+                parts: kept.numbers as u32,
             })
         }
         None => None,
@@ -141,44 +138,18 @@ fn presence_shape(presence: &Option<PresenceRun>) -> Option<PresenceShape>
 }
 
 // How many hits and numbers lines keep.
-fn kept_by_lines(lines: &[LineRun]) -> (usize, usize)
-    requires hits { length (flat_map hits_in (map line_kept lines.now)) ≤ 65536 }
-    requires numbers { length (flat_map numbers_in (map line_kept lines.now)) ≤ 65536 }
-    ensures hits { result.0 ≡ length (flat_map hits_in (map line_kept lines.now)) }
-    ensures numbers { result.1 ≡ length (flat_map numbers_in (map line_kept lines.now)) }
+fn kept_by_lines(lines: &[Member]) -> Places
+    requires hits { length (hits_of_lines lines.now) ≤ 65536 }
+    requires numbers { length (numbers_of_lines lines.now) ≤ 65536 }
+    ensures hits { result.hits ≡ length (hits_of_lines lines.now) }
+    ensures numbers { result.numbers ≡ length (numbers_of_lines lines.now) }
 {
     let mut hits = 0;
     let mut numbers = 0;
     for line in lines {
-        let kept = kept_by_line(line);
-        hits += kept.0;
-        numbers += kept.1;
+        let kept = line.shape();
+        hits += kept.hits;
+        numbers += kept.numbers;
     }
-    (hits, numbers)
-}
-
-// How many hits and numbers a line keeps.
-fn kept_by_line(line: &LineRun) -> (usize, usize)
-    requires hits { length (hits_in (line_kept line.now)) ≤ 65536 }
-    requires numbers { length (numbers_in (line_kept line.now)) ≤ 65536 }
-    ensures hits { result.0 ≡ length (hits_in (line_kept line.now)) }
-    ensures numbers { result.1 ≡ length (numbers_in (line_kept line.now)) }
-{
-    let mut hits = test_hits(&line.test);
-    let mut numbers = 0;
-    for run in &line.values {
-        hits += run.value.hits().len();
-        numbers += run.value.kept().len();
-    }
-    (hits, numbers)
-}
-
-// How many hits a test keeps, where there is one.
-fn test_hits(test: &Option<TriggerRun>) -> usize
-    ensures { result ≡ length (test_kept test.now) }
-{
-    match test {
-        Some(run) => run.trigger.hits().len(),
-        None => 0,
-    }
+    Places { hits, numbers }
 }

@@ -8,9 +8,9 @@ ghost use Rattle.ra_runtime.specs.PresenceRuns.{line_kept};
 ghost use Rattle.ra_runtime.specs.Showing as spec;
 ghost use Rattle.ra_runtime.specs.Showing.{MayShow, line_numbers, optional_text, presence_numbers};
 
-use crate::line_run::LineRun;
 use crate::presence_run::PresenceRun;
 use crate::written::put_ended;
+use ra_member::Member;
 use ra_richpresence::Script;
 use ra_text::OutOfMemory;
 use std::alloc::Global;
@@ -64,7 +64,7 @@ fn numbers_of(alloc: Global, run: &PresenceRun) -> Result<Vec<i32>, OutOfMemory>
 }
 
 // Puts the numbers of the values of a line behind others.
-fn put_line_numbers(numbers: &mut Vec<i32>, line: &LineRun) -> Result<(), OutOfMemory>
+fn put_line_numbers(numbers: &mut Vec<i32>, line: &Member) -> Result<(), OutOfMemory>
     ensures { OnOk result
         (numbers.new.items ≡ numbers.old.items ++ line_numbers (line_kept line.now)) }
 {

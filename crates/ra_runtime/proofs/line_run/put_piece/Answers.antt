@@ -1,10 +1,11 @@
-use Rattle.ra_condition.specs.Contents.{value_contents}
-use Rattle.ra_runtime.proofs.NewLines.{values_more}
+use Rattle.std.proofs.Common.{sym, subst}
+use Rattle.std.proofs.lemmas.List.{append-nil}
+use Rattle.ra_member.specs.MemberRuns.{IsNewMember}
 use Rattle.ra_runtime.proofs.line_run.put_piece.Goals as goal
 
-pub returns-in_ok-push-in-Macro : goal.returns-in_ok-push-in-Macro
-returns-in_ok-push-in-Macro c = λ before values are.
-    let old = c.args.runs.now.items in
-    let parts = value_contents c.in-Macro.value in
-    let more = values_more before c.args.pool.now c.new.new.pool values old parts c.in_ok-run-in-Macro.run' are c.in_ok-run-in-Macro.ensures in
-    rw (c.in-Macro.is, c.in_ok-push-in-Macro.ensures.items) more
+pub returns-in_ok-add_value-in-Macro : goal.returns-in_ok-add_value-in-Macro
+returns-in_ok-add_value-in-Macro c = λ before m is. rw c.in-Macro.is (c.in_ok-add_value-in-Macro.ensures before m is)
+
+pub returns-in-Text : goal.returns-in-Text
+returns-in-Text c = λ before m is.
+    rw c.in-Text.is (subst (λ vs. IsNewMember before c.args.pool.now (record m { values = vs }) c.args.member.now) (sym (append-nil m.values)) is)

@@ -6,12 +6,12 @@ use Rattle.ra_member.proofs.GrowthLemmas.{taken_next, holds_at, weight_at}
 use Rattle.ra_runtime.proofs.NewLines.{lines_more}
 use Rattle.ra_runtime.proofs.presence_run.new_lines.Goals as goal
 
-pub new-requires-clause-spelled : goal.new-requires-clause-spelled
-new-requires-clause-spelled c =
+pub new_line-requires-clause-spelled : goal.new_line-requires-clause-spelled
+new_line-requires-clause-spelled c =
     holds_at line_contents c.args.lines.now c.loop-line.line-index c.line-item.result c.loop-line-test.true c.line-item.is IsShownLine c.requires.spelled
 
-pub new-requires-clause-room : goal.new-requires-clause-room
-new-requires-clause-room c =
+pub new_line-requires-clause-room : goal.new_line-requires-clause-room
+new_line-requires-clause-room c =
     omega (arith, weight_at line_contents c.args.lines.now c.loop-line.line-index c.line-item.result c.loop-line-test.true c.line-item.is line_conditions, c.loop-line.invariant.grows.few, c.requires.room)
 
 pub loop-line-preserved : goal.loop-line-preserved
@@ -20,5 +20,5 @@ loop-line-preserved c =
     let k = c.loop-line.line-index in
     let line = c.line-item.result in
     let next : map line_contents (take (k + 1) lines) ≡ map line_contents (take k lines) ++ line_contents line ∷ [] = taken_next line_contents lines k line c.loop-line-test.true c.line-item.is in
-    let more = lines_more c.args.pool.now c.loop-line.pool c.new.new.pool (map line_contents (take k lines)) c.loop-line.runs.items (line_contents line) c.in_ok-run.run' c.loop-line.invariant c.in_ok-run.ensures in
+    let more = lines_more c.args.pool.now c.loop-line.pool c.new_line.new.pool (map line_contents (take k lines)) c.loop-line.runs.items (line_contents line) c.in_ok-run.run' c.loop-line.invariant c.in_ok-run.ensures in
     rw (next, c.in_ok-push.ensures.items) more

@@ -5,14 +5,14 @@ use Rattle.ra_runtime.proofs.presence_run.step_lines.Goals as goal
 pub loop-place-init : goal.loop-place-init
 loop-place-init c = lines_begin c.args.table.now c.args.lines.now c.args.runs.now c.requires.runs
 
-pub step-holds-requires-clause-run : goal.step-holds-requires-clause-run
-step-holds-requires-clause-run c =
+pub step_line-holds-requires-clause-run : goal.step_line-holds-requires-clause-run
+step_line-holds-requires-clause-run c =
     line_here c.args.table.now c.args.lines.now c.args.runs.now c.loop-place.place c.index-lines-place.result (omega arith) c.index-lines-place.is c.loop-place.runs c.loop-place.first c.index-runs-place.result c.loop-place.invariant
 
 pub loop-place-preserved : goal.loop-place-preserved
 loop-place-preserved c =
-    let e = c.step-holds.ensures in
-    line_on c.args.table.now c.args.lines.now c.args.runs.now c.loop-place.place c.index-lines-place.result (omega arith) c.index-lines-place.is c.loop-place.runs c.loop-place.first c.index-runs-place.result c.loop-place.invariant c.step-holds.new.self c.step-holds.result c.first_after-first.result e.run e.steps e.untested c.first_after-first.ensures
+    let e = c.step_line-holds.ensures in
+    line_on c.args.table.now c.args.lines.now c.args.runs.now c.loop-place.place c.index-lines-place.result (omega arith) c.index-lines-place.is c.loop-place.runs c.loop-place.first c.index-runs-place.result c.loop-place.invariant c.step_line-holds.new.member c.step_line-holds.result c.first_after-first.result e.run e.steps e.untested c.first_after-first.ensures
 
 pub returns-clause-runs : goal.returns-clause-runs
 returns-clause-runs c =

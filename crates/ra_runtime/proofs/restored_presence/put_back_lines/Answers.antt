@@ -1,43 +1,50 @@
-use Rattle.std.proofs.Common.{◌<◌, length, ◌∙◌, arith}
-use Rattle.ra_runtime.specs.Restoring.{PutsBackLine, all_in_line}
-use Rattle.ra_runtime.proofs.PutBackLemmas.{hits_within, numbers_within, hits_next, numbers_next, each_next, rest_next, each_all}
+use Rattle.std.proofs.Common.{◌<◌, length, arith}
+use Rattle.ra_member.specs.declared.member.Member.{Member}
+use Rattle.ra_member.specs.Members.{saved_hits, saved_numbers}
+use Rattle.ra_member.specs.MemberRuns.{kept_by}
+use Rattle.ra_member.proofs.PutBackLemmas.{within_bytes, row_next, row_ends, rest_next}
+use Rattle.ra_member.proofs.SideBySide.{beside_set}
+use Rattle.ra_runtime.specs.PresenceRuns.{IsLineRun, line_member}
 use Rattle.ra_runtime.proofs.restored_presence.put_back_lines.Goals as goal
 
-pub put_back_line-at-requires-clause-hits : goal.put_back_line-at-requires-clause-hits
-put_back_line-at-requires-clause-hits c =
+pub put_back-at-requires-clause-hits : goal.put_back-at-requires-clause-hits
+put_back-at-requires-clause-hits c =
     let p = c.loop-place in
-    let from = c.args.from in
-    let bytes = c.args.bytes.now in
     let within : p.place < length c.args.lines.now = omega arith in
-    hits_within all_in_line (PutsBackLine bytes) from.hits from.numbers p.at.hits p.at.numbers p.place c.args.lines.now p.lines c.index-lines-place.result within p.invariant.rest p.invariant.hits p.invariant.numbers (length bytes) c.requires.hits
+    let within_too : p.place < length p.lines = omega arith in
+    within_bytes p.place c.args.lines.now p.lines c.index-lines-place.result within within_too p.invariant.rest (λ (m : Member). saved_hits (kept_by m)) c.args.bytes.now c.args.from.hits p.at.hits p.invariant.hits (length c.args.bytes.now) c.requires.hits
 
-pub put_back_line-at-requires-clause-numbers : goal.put_back_line-at-requires-clause-numbers
-put_back_line-at-requires-clause-numbers c =
+pub put_back-at-requires-clause-numbers : goal.put_back-at-requires-clause-numbers
+put_back-at-requires-clause-numbers c =
     let p = c.loop-place in
-    let from = c.args.from in
-    let bytes = c.args.bytes.now in
     let within : p.place < length c.args.lines.now = omega arith in
-    numbers_within all_in_line (PutsBackLine bytes) from.hits from.numbers p.at.hits p.at.numbers p.place c.args.lines.now p.lines c.index-lines-place.result within p.invariant.rest p.invariant.hits p.invariant.numbers (length bytes) c.requires.numbers
+    let within_too : p.place < length p.lines = omega arith in
+    within_bytes p.place c.args.lines.now p.lines c.index-lines-place.result within within_too p.invariant.rest (λ (m : Member). saved_numbers (kept_by m)) c.args.bytes.now c.args.from.numbers p.at.numbers p.invariant.numbers (length c.args.bytes.now) c.requires.numbers
 
 pub loop-place-preserved : goal.loop-place-preserved
 loop-place-preserved c =
     let p = c.loop-place in
-    let from = c.args.from in
     let bytes = c.args.bytes.now in
     let olds = c.args.lines.now in
     let d = c.index-lines-place.result in
-    let new = c.put_back_line-at.new.line in
+    let new = c.put_back-at.new.self in
+    let at = c.put_back-at.result in
+    let e = c.put_back-at.ensures in
     let within : p.place < length olds = omega arith in
-    let within_runs : p.place < length p.lines = omega arith in
+    let within_too : p.place < length p.lines = omega arith in
     record {
-      hits = c.put_back_line-at.ensures.hits ∙ hits_next all_in_line (PutsBackLine bytes) from.hits from.numbers p.at.hits p.at.numbers p.place olds p.lines d within p.invariant.rest p.invariant.hits p.invariant.numbers;
-      numbers = c.put_back_line-at.ensures.numbers ∙ numbers_next all_in_line (PutsBackLine bytes) from.hits from.numbers p.at.hits p.at.numbers p.place olds p.lines d within p.invariant.rest p.invariant.hits p.invariant.numbers;
-      back = each_next all_in_line (PutsBackLine bytes) from.hits from.numbers p.at.hits p.at.numbers p.place olds p.lines d within p.invariant.rest p.invariant.hits p.invariant.numbers new within_runs p.invariant.back c.put_back_line-at.ensures.line;
-      rest = rest_next all_in_line (PutsBackLine bytes) from.hits from.numbers p.at.hits p.at.numbers p.place olds p.lines d within p.invariant.rest p.invariant.hits p.invariant.numbers new within_runs;
+      stay = λ nodes lines are. beside_set (IsLineRun nodes) lines p.lines p.place d new within_too (λ line is. e.stays nodes (line_member line) is) (p.invariant.stay nodes lines are);
+      hits = row_next p.place olds p.lines d within within_too p.invariant.rest (λ (m : Member). saved_hits (kept_by m)) bytes c.args.from.hits p.at.hits p.invariant.hits new at.hits e.hits e.next_hits;
+      numbers = row_next p.place olds p.lines d within within_too p.invariant.rest (λ (m : Member). saved_numbers (kept_by m)) bytes c.args.from.numbers p.at.numbers p.invariant.numbers new at.numbers e.numbers e.next_numbers;
+      rest = rest_next p.place olds p.lines d within within_too p.invariant.rest new;
     }
 
-pub returns : goal.returns
-returns c =
+pub returns-clause-hits : goal.returns-clause-hits
+returns-clause-hits c =
     let p = c.loop-place in
-    let from = c.args.from in
-    each_all all_in_line (PutsBackLine c.args.bytes.now) from.hits from.numbers p.place c.args.lines.now p.lines (omega arith) (omega arith) p.invariant.back
+    (row_ends (λ (m : Member). saved_hits (kept_by m)) c.args.bytes.now c.args.from.hits p.at.hits p.place c.args.lines.now p.lines (omega arith) (omega arith) p.invariant.hits).0
+
+pub returns-clause-numbers : goal.returns-clause-numbers
+returns-clause-numbers c =
+    let p = c.loop-place in
+    (row_ends (λ (m : Member). saved_numbers (kept_by m)) c.args.bytes.now c.args.from.numbers p.at.numbers p.place c.args.lines.now p.lines (omega arith) (omega arith) p.invariant.numbers).0

@@ -1,13 +1,15 @@
-use Rattle.std.proofs.Common.{◌≡◌, ◌+◌, ◌*◌, length, take, drop}
-use Rattle.std.specs.List.{flat_map}
-use Rattle.ra_runtime.specs.declared.line_run.LineRun.{LineRun}
-use Rattle.ra_runtime.specs.Restoring.{PutsBackLines, all_in_line}
+use Rattle.std.proofs.Common.{◌≡◌, drop}
+use Rattle.ra_member.specs.declared.member.Member.{Member}
+use Rattle.ra_member.specs.Members.{saved_hits, saved_numbers}
+use Rattle.ra_member.specs.MemberRuns.{kept_by}
+use Rattle.ra_member.proofs.PutBackLemmas.{IsRowBack}
+use Rattle.ra_runtime.specs.Restoring.{StayLines}
 use Rattle.ra_runtime.proofs.restored_presence.put_back_lines.Given as goal
 
 abbrev pub invariant-loop-place : goal.invariant-loop-place
 invariant-loop-place l = record {
-  hits : l.at.hits ≡ l.fn.from.hits + 4 * length (flat_map (λ (r : LineRun). (all_in_line r).hits) (take l.place l.fn.lines));
-  numbers : l.at.numbers ≡ l.fn.from.numbers + 4 * length (flat_map (λ (r : LineRun). (all_in_line r).numbers) (take l.place l.fn.lines));
-  back : PutsBackLines l.bytes l.fn.from.hits l.fn.from.numbers (take l.place l.fn.lines) (take l.place l.lines);
+  stay : StayLines l.fn.lines l.lines;
+  hits : IsRowBack (λ (m : Member). saved_hits (kept_by m)) l.bytes l.fn.from.hits l.at.hits l.place l.fn.lines l.lines;
+  numbers : IsRowBack (λ (m : Member). saved_numbers (kept_by m)) l.bytes l.fn.from.numbers l.at.numbers l.place l.fn.lines l.lines;
   rest : drop l.place l.lines ≡ drop l.place l.fn.lines;
 }

@@ -1,8 +1,6 @@
 use Rattle.std.proofs.Common.{◌≡◌, length, take, sym, ◌∙◌, ap, arith}
-use Rattle.std.specs.List.{flat_map}
 use Rattle.std.proofs.lemmas.List.{take_all}
-use Rattle.ra_runtime.specs.declared.line_run.LineRun.{LineRun}
-use Rattle.ra_runtime.specs.Restoring.{all_in_line}
+use Rattle.ra_runtime.specs.Restoring.{hits_of_lines, numbers_of_lines}
 use Rattle.ra_runtime.proofs.DisplayRows.{lines_hits, lines_numbers}
 use Rattle.ra_runtime.proofs.saved.display_kept.Goals as goal
 
@@ -12,6 +10,6 @@ returns-clause-same c =
     let lines = run.lines.items in
     let k = c.loop-line.line-index in
     let all : take k lines ≡ lines = take_all k lines (omega (arith, ap length c.deref-line-items.ensures.value)) in
-    let hits = c.loop-line.invariant.hits.all ∙ ap (flat_map (λ (r : LineRun). (all_in_line r).hits)) all ∙ sym (lines_hits lines) in
-    let numbers = c.loop-line.invariant.kept.all ∙ ap (flat_map (λ (r : LineRun). (all_in_line r).numbers)) all ∙ sym (lines_numbers lines) in
+    let hits = c.loop-line.invariant.hits.all ∙ ap hits_of_lines all ∙ sym (lines_hits lines) in
+    let numbers = c.loop-line.invariant.kept.all ∙ ap numbers_of_lines all ∙ sym (lines_numbers lines) in
     (λ i. record { shown = run.shown; hits = hits i; numbers = numbers i })

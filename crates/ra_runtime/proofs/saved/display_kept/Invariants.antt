@@ -1,13 +1,10 @@
 use Rattle.std.proofs.Common.{[], take}
-use Rattle.std.specs.List.{flat_map}
-use Rattle.ra_runtime.specs.declared.line_run.LineRun.{LineRun}
-use Rattle.ra_runtime.specs.Presence.{hits_in, numbers_in}
-use Rattle.ra_runtime.specs.PresenceRuns.{line_kept}
+use Rattle.ra_runtime.specs.Restoring.{hits_of_lines, numbers_of_lines}
 use Rattle.ra_runtime.specs.Saving.{PutsBehind}
 use Rattle.ra_runtime.proofs.saved.display_kept.Given as goal
 
 abbrev pub invariant-loop-line : goal.invariant-loop-line
 invariant-loop-line l = record {
-  hits : PutsBehind [] l.hits.items (flat_map (λ (r : LineRun). hits_in (line_kept r)) (take l.line-index l.fn.run.lines.items));
-  kept : PutsBehind [] l.kept.items (flat_map (λ (r : LineRun). numbers_in (line_kept r)) (take l.line-index l.fn.run.lines.items));
+  hits : PutsBehind [] l.hits.items (hits_of_lines (take l.line-index l.fn.run.lines.items));
+  kept : PutsBehind [] l.kept.items (numbers_of_lines (take l.line-index l.fn.run.lines.items));
 }

@@ -1,13 +1,9 @@
-use Rattle.std.proofs.Common.{◌≡◌, length, map, take}
-use Rattle.std.specs.List.{flat_map}
-use Rattle.ra_runtime.specs.Presence.{hits_in, numbers_in}
-use Rattle.ra_runtime.specs.PresenceRuns.{line_kept}
+use Rattle.std.proofs.Common.{◌≡◌, length, take}
+use Rattle.ra_runtime.specs.Restoring.{hits_of_lines, numbers_of_lines}
 use Rattle.ra_runtime.proofs.shapes.kept_by_lines.Given as goal
 
 abbrev pub invariant-loop-line : goal.invariant-loop-line
-invariant-loop-line l =
-    let kept = map line_kept (take l.line-index l.lines) in
-    record {
-      hits : l.hits ≡ length (flat_map hits_in kept);
-      numbers : l.numbers ≡ length (flat_map numbers_in kept);
-    }
+invariant-loop-line l = record {
+  hits : l.hits ≡ length (hits_of_lines (take l.line-index l.lines));
+  numbers : l.numbers ≡ length (numbers_of_lines (take l.line-index l.lines));
+}

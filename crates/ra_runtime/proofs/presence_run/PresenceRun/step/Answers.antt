@@ -2,7 +2,7 @@ use Rattle.std.proofs.Common.{◌≡◌, List, length, map, sym, ◌∙◌, ap, 
 use Rattle.std.specs.Vec.{with_items}
 use Rattle.std.proofs.lemmas.List.{length-map, with_items_is}
 use Rattle.ra_richpresence.specs.Contents.{line_contents, script_contents}
-use Rattle.ra_runtime.specs.declared.line_run.LineRun.{LineRun}
+use Rattle.ra_member.specs.declared.member.Member.{Member}
 use Rattle.ra_runtime.specs.declared.presence_run.PresenceRun.{PresenceRun}
 use Rattle.ra_runtime.specs.PresenceRuns.{IsLineRun, AreLineRuns, IsFirstLine, StepsLines}
 use Rattle.ra_runtime.proofs.ShownLines.{first_shown, presence_stepped}
@@ -32,7 +32,7 @@ returns-clause-run c =
     let runs : AreLineRuns table.nodes lines news = rw c.deref.ensures.value at c.step_lines-first.ensures.runs in
     let same : (with_items c.args.self.now.lines news).items ≡ news = with_items_is c.args.self.now.lines news (c.step_lines-first.auto.runs ∙ c.deref_mut.ensures.len) in
     record {
-      lines = subst (λ (rs : List LineRun). AreLineRuns table.nodes lines rs) (sym same) runs;
+      lines = subst (λ (rs : List Member). AreLineRuns table.nodes lines rs) (sym same) runs;
       shown = first_shown table lines olds c.step_lines-first.result c.requires.spelled.0.lines first;
     }
 
@@ -46,4 +46,4 @@ returns-clause-steps c =
     let first : IsFirstLine table script.lines old.lines.items c.step_lines-first.result = rw (c.deref.ensures.value, c.deref_mut.ensures.value) at c.step_lines-first.ensures.first in
     let steps : StepsLines table script.lines old.lines.items news = rw (c.deref.ensures.value, c.deref_mut.ensures.value) at c.step_lines-first.ensures.steps in
     let same : (with_items old.lines news).items ≡ news = with_items_is old.lines news (c.step_lines-first.auto.runs ∙ c.deref_mut.ensures.len) in
-    presence_stepped table script old new c.requires.run (subst (λ (rs : List LineRun). StepsLines table script.lines old.lines.items rs) (sym same) steps) first
+    presence_stepped table script old new c.requires.run (subst (λ (rs : List Member). StepsLines table script.lines old.lines.items rs) (sym same) steps) first
