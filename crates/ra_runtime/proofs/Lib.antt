@@ -7,6 +7,7 @@ pub mod Covered
 pub mod DisplayRows
 pub mod Each
 pub mod Fitting
+pub mod FoldedLines
 pub mod FrameLemmas
 pub mod GroupWords
 pub mod ItemCuts

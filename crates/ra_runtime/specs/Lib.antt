@@ -2,6 +2,7 @@ pub mod AllRuns
 pub mod BoardRuns
 pub mod Boards
 pub mod Calls
+pub mod FoldLaws
 pub mod Histories
 pub mod ItemRuns
 pub mod Lines

@@ -1,7 +1,9 @@
 //! Laws on the definitions, for whoever reads them.
 
 ghost use Rattle.ra_set.specs.Contents.{SetContents};
+ghost use Rattle.ra_memref.specs.Values.{Start};
 ghost use Rattle.ra_runtime.specs.Calls.{CallsSucceed};
+ghost use Rattle.ra_runtime.specs.FoldLaws.{AreFolds};
 ghost use Rattle.ra_runtime.specs.OpeningLaws.{HasOpenings};
 ghost use Rattle.ra_runtime.specs.Runtime.{CutsAnywhere};
 
@@ -27,4 +29,12 @@ pub fn calls_succeed()
 /// A law: it does nothing. It holds for every set; of the first two for every one that some file spells.
 pub fn openings_stand()
     ensures { (set : SetContents) → HasOpenings set }
+{}
+
+/// What items and display lines keep after a history is kept by a fold of one step a frame:
+/// docs/DEFINITIONS.md, "After a history".
+///
+/// A law: it does nothing.
+pub fn histories_are_folds()
+    ensures { (start : Start) → AreFolds start }
 {}

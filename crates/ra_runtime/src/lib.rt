@@ -17,6 +17,6 @@ mod shown;
 mod state_bytes;
 mod written;
 
-pub use laws::{calls_succeed, histories_may_be_cut, openings_stand};
+pub use laws::{calls_succeed, histories_are_folds, histories_may_be_cut, openings_stand};
 pub use runtime::Runtime;
 pub use shapes::shape_of;
