@@ -110,13 +110,7 @@ fn a_paused_trigger_keeps_its_number(rt: HostRuntime) -> Result<(), Fail> {
         (true, false, State::Triggered, Some(4), 4),
         (true, false, State::Triggered, None, 4),
     ] {
-        let change = trigger.step(
-            &text,
-            &[2, 0, 1],
-            &[1],
-            &[true, counts, pauses],
-            &[0, 0, 0],
-        );
+        let change = trigger.step(&text, &[2, 0, 1], &[1], &[true, counts, pauses], &[0, 0, 0]);
         assert_eq!(rt; change.after, state);
         assert_eq!(rt; change.measured, changed);
         assert_eq!(rt; trigger.measured(), measured);

@@ -11,7 +11,6 @@ range_same : (f g : ℕ → ℕ) (n : ℕ) → ((k : ℕ) → k < n → f k ≡ 
 range_same f g n same =
     fill_by_all g (map f (range_with_len 0 n)) n 0 (length-map-range_with_len f 0 n) (λ k below. get_or-map-range_with_len f 0 n k k 0 below (omega arith) ∙ same k below)
 
-
 -- so many words are so many
 pub length-words_at : (bytes : List ℕ) (at n : ℕ) → length (words_at bytes at n) ≡ n
 length-words_at bytes at n = length-map-range_with_len (λ k. word_at bytes (at + 4 * k)) 0 n

@@ -16,12 +16,7 @@ pub fn word_at(bytes: &[u8], at: u64) -> u32
 }
 
 /// So many words in a row, the first of which begins at a place counted in bytes.
-pub fn words_at(
-    alloc: Global,
-    bytes: &[u8],
-    at: u64,
-    count: u32,
-) -> Result<Vec<u32>, OutOfMemory>
+pub fn words_at(alloc: Global, bytes: &[u8], at: u64, count: u32) -> Result<Vec<u32>, OutOfMemory>
     requires { at + 4 * count ≤ length bytes.now }
     ensures { IfOk result (λ numbers. numbers.items ≡ spec.words_at bytes.now at count) }
 {

@@ -23,7 +23,7 @@ step_at-outcome-requires-clause-pauses c =
     let place = c.loop-place.place in
     let here = c.part-item.is ∙ ap (λ xs. get_or xs place c.part-item.result) items in
     let pauses = pauses_part c.args.text.now.parts.items c.args.orders.now c.requires.orders place c.part-item.result c.loop-place.start
-        (omega (arith, ap length items)) here c.loop-place.invariant.starts c.args.pauses.now c.requires.pauses in
+    (omega (arith, ap length items)) here c.loop-place.invariant.starts c.args.pauses.now c.requires.pauses in
     subst (λ (p : Part). get_or c.args.pauses.now place 0 ≡ pause_count (counted_in (part_contents p))) c.in-Conditions.is pauses
 
 pub step_at-outcome-requires-clause-within : goal.step_at-outcome-requires-clause-within
