@@ -58,7 +58,7 @@ fn fails_so(
     text: &[u8],
 ) -> Result<bool, OutOfMemory> {
     let mut files = failing(alloc, THREE_HITS, faults)?;
-    let mut out = MemSink::new(alloc, faults.most, faults.writes.to_vec(alloc)?);
+    let mut out = MemSink::new(alloc, faults.most.max(1), faults.writes.to_vec(alloc)?);
     let ends = status_of(alloc, run, &mut files, &mut out) == status && out.taken() == text;
     let kept = files.read_at("p", 0, &mut [0; 64]).is_ok();
     Ok(ends && kept == (status == 0 && run.save.is_some()))
