@@ -133,9 +133,12 @@ fn refuses_a_set_of_too_many_items(rt: HostRuntime) -> Result<(), OutOfMemory> {
 
 #[test]
 fn refuses_a_set_past_its_bytes(rt: HostRuntime) -> Result<(), OutOfMemory> {
-    let set = repeated(rt.alloc(), "", "#", 4_194_305, "")?;
+    let most = repeated(rt.alloc(), "", "#", 4_194_304, "")?;
+    let over = repeated(rt.alloc(), "", "#", 4_194_305, "")?;
+    let line =
+        b"achievements 0 leaderboards 0 conditions 0 cells 0 priors 0 md5 ce70448db8cf459598d4ac36ade4a68c\n";
     let why = b"set refused: bytes 4194305 over 4194304\n";
-    assert!(rt; run_ends_so(rt.alloc(), set.as_bytes(), FIVES, 3, why)?);
+    assert!(rt; is_limit(rt.alloc(), most.as_str(), over.as_str(), line, why)?);
     Ok(())
 }
 
