@@ -11,7 +11,7 @@ use Rattle.ra_operand.specs.declared.kind.Kind.TheVariants.{Mem, Delta, Prior, B
 use Rattle.ra_operand.specs.Views.{width_of, mask_of}
 use Rattle.ra_indirect.specs.declared.node.Node.{Node}
 use Rattle.ra_indirect.specs.declared.node.Node.TheVariants.{Const, Cell as CellNode, View, Arith}
-use Rattle.ra_indirect.specs.Trees.{Cell, Tracked, same_tracked, firsts}
+use Rattle.ra_indirect.specs.Trees.{Cell, same_tracked, firsts}
 use Rattle.ra_indirect.specs.Pools.{Spelled, IsTree, IsCell, spelled_at, spelled_with, spelled_by, cell_in, tracked_at, view_in, node_at, MayFollow, cells_of, tracked_of}
 use Rattle.ra_indirect.specs.Interned.{Interns, IsPool}
 use Rattle.ra_indirect.proofs.SameLemmas.{tracked_is, tracked_itself}
@@ -20,16 +20,8 @@ use Rattle.ra_indirect.proofs.PoolLemmas.{below_or_last}
 use Rattle.ra_indirect.proofs.Spelling.{spelled_of, length-spelled_by}
 use Rattle.ra_indirect.proofs.SpelledLemmas.{GivesCell, may_follow, cell_at_cell, all_alone}
 use Rattle.ra_memref.specs.declared.layout.TrackedMask.{TrackedMask}
-use Rattle.ra_memref.specs.Layout.{cells_before, tracked_before, cell_there, tracked_there, HasSlot, TakesSlot, IsLaid}
+use Rattle.ra_memref.specs.Layout.{cells_before, tracked_before, tracked_there, HasSlot, TakesSlot, IsLaid, tracked_of_mask, IsOfCell, AreMasks}
 use Rattle.ra_memref.proofs.LaidLemmas.{cells_one, cells_same, tracked_same, tracked_more, prior_tracks, none_tracked, is_cell_there, cells_all, tracked_all}
-
--- the mask that is tracked, as its definition has it
-abbrev pub tracked_of_mask : List Node → TrackedMask → Tracked
-tracked_of_mask nodes m = record { cell = cell_there (spelled_at (spelled_by nodes) m.cell); mask = m.mask }
-
--- it is a mask of a cell of the pool
-abbrev pub IsOfCell : List Node → TrackedMask → Type 0
-IsOfCell nodes m = (m.cell < length nodes) × (spelled_at (spelled_by nodes) m.cell ≡ IsCell (cell_there (spelled_at (spelled_by nodes) m.cell)))
 
 -- what stands when the nodes below k have their slots
 pub record IsLaying (nodes : List Node) (slots places : List ℕ) (masks : List TrackedMask) (k : ℕ) : Type 0 where
@@ -181,9 +173,15 @@ module _ (nodes : List Node) (pool : IsPool nodes) where
   pub laid_places : (slots places : List ℕ) (masks : List TrackedMask) → IsLaying nodes slots places masks (length nodes) → places ≡ map (λ c. c.address) (cells_of nodes)
   laid_places slots places masks laying = laying.placed ∙ ap (map (λ c. c.address)) (cells_all nodes)
 
-  pub laid_masks : (slots places : List ℕ) (masks : List TrackedMask) → IsLaying nodes slots places masks (length nodes) → length masks ≡ length (tracked_of nodes)
-  laid_masks slots places masks laying =
-      sym (length-map masks (tracked_of_mask nodes)) ∙ ap length (sym laying.masked) ∙ ap length (tracked_all nodes)
+  pub laid_masks : (slots places : List ℕ) (masks : List TrackedMask) → IsLaying nodes slots places masks (length nodes) → AreMasks nodes masks
+  laid_masks slots places masks laying = record {
+    tracked = sym laying.masked ∙ tracked_all nodes;
+    of_cells = laying.of_cells;
+  }
+
+-- there are as many as the pool tracks
+pub as_many_masks : (nodes : List Node) (masks : List TrackedMask) → AreMasks nodes masks → length masks ≡ length (tracked_of nodes)
+as_many_masks nodes masks are = sym (length-map masks (tracked_of_mask nodes)) ∙ ap length are.tracked
 
 pub laying_none : (nodes : List Node) → IsLaying nodes [] [] [] 0
 laying_none nodes = record {

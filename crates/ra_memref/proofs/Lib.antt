@@ -1,4 +1,5 @@
 pub mod AgreeLemmas
+pub mod CellsAlong
 pub mod Cuts
 pub mod Halfway
 pub mod Holders
@@ -7,6 +8,7 @@ pub mod LaidLemmas
 pub mod Latest
 pub mod LayoutLemmas
 pub mod MarkLemmas
+pub mod NameLemmas
 pub mod Pages
 pub mod PassEnds
 pub mod PassLemmas
@@ -17,4 +19,5 @@ pub mod Telling
 pub mod Vectors
 pub mod Visited
 pub mod Walks
+pub mod Wanted
 pub mod Widths

@@ -1,5 +1,5 @@
 -- Where a table keeps the number of each cell and of each tracked mask: docs/DEFINITIONS.md, "Order of first occurrence".
-use Rattle.std.specs.Prelude.{◌≡◌, ℕ, suc, ◌<◌, List, [], ◌∷◌, ◌++◌, length, take, slice_index}
+use Rattle.std.specs.Prelude.{◌≡◌, ℕ, suc, ◌<◌, List, [], ◌∷◌, ◌++◌, length, map, take, slice_index, Contains}
 use Rattle.std.specs.List.{flat_map}
 use Rattle.ra_operand.specs.declared.size.Size.{Size}
 use Rattle.ra_operand.specs.declared.kind.Kind.TheVariants.{Prior}
@@ -7,7 +7,7 @@ use Rattle.ra_operand.specs.Views.{mask_of}
 use Rattle.ra_indirect.specs.declared.node.Node.{Node}
 use Rattle.ra_indirect.specs.declared.node.Node.TheVariants.{Cell as CellNode, View}
 use Rattle.ra_indirect.specs.Trees.{Cell, Tracked, same_tracked, firsts}
-use Rattle.ra_indirect.specs.Pools.{Spelled, IsTree, IsCell, spelled_at, spelled_by, cell_in, tracked_at, node_at}
+use Rattle.ra_indirect.specs.Pools.{Spelled, IsTree, IsCell, spelled_at, spelled_by, cell_in, tracked_at, tracked_of, node_at}
 use Rattle.ra_indirect.specs.Interned.{Interns}
 use Rattle.ra_memref.specs.declared.layout.TrackedMask.{TrackedMask}
 use Rattle.ra_memref.specs.Table.{no_cell}
@@ -48,3 +48,17 @@ TakesSlot (CellNode pointer offset width) places places' masks masks' slot =
 TakesSlot (View Prior size c) places places' masks masks' slot =
     (places' ≡ places) × Interns masks masks' (record { cell = c; mask = mask_of size }) slot
 TakesSlot _ places places' masks masks' slot = (places' ≡ places) × (masks' ≡ masks)
+
+-- the tracked mask that a mask of a node's cell stands for
+abbrev pub tracked_of_mask : List Node → TrackedMask → Tracked
+tracked_of_mask nodes m = record { cell = cell_there (spelled_at (spelled_by nodes) m.cell); mask = m.mask }
+
+-- it is a mask of a cell of the pool
+abbrev pub IsOfCell : List Node → TrackedMask → Type 0
+IsOfCell nodes m =
+    (m.cell < length nodes) × (spelled_at (spelled_by nodes) m.cell ≡ IsCell (cell_there (spelled_at (spelled_by nodes) m.cell)))
+
+-- these are the tracked masks of the pool, each of a cell of it
+pub record AreMasks (nodes : List Node) (masks : List TrackedMask) : Type 0 where
+  pub tracked : map (tracked_of_mask nodes) masks ≡ tracked_of nodes
+  pub of_cells : (m : TrackedMask) → Contains masks m → IsOfCell nodes m

@@ -2,6 +2,8 @@ pub mod Laws
 pub mod Layout
 pub mod Marking
 pub mod Marks
+pub mod Names
+pub mod Naming
 pub mod Numbers
 pub mod NumbersView
 pub mod Pass

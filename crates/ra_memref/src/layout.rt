@@ -1,10 +1,10 @@
 //! Where a table keeps the number of each cell and of each tracked mask.
 
-ghost use Rattle.std.specs.Prelude.{◌≡◌, ◌<◌, ◌^◌, ℕ, length, map, slice_index, IfOk};
+ghost use Rattle.std.specs.Prelude.{◌≡◌, ◌<◌, ◌≤◌, ◌^◌, ℕ, length, map, slice_index, IfOk};
 ghost use Rattle.ra_memory.specs.Image.{IsReadWidth};
-ghost use Rattle.ra_indirect.specs.Pools.{cells_of, tracked_of};
+ghost use Rattle.ra_indirect.specs.Pools.{cells_of};
 ghost use Rattle.ra_indirect.specs.Interned.{IsPool, Interns};
-ghost use Rattle.ra_memref.specs.Layout.{IsLaid, TakesSlot};
+ghost use Rattle.ra_memref.specs.Layout.{AreMasks, IsLaid, TakesSlot};
 
 use indexmap::IndexSet;
 use ra_indirect::Node;
@@ -30,10 +30,10 @@ pub struct Layout {
 /// Lays out the cells and the tracked masks of a pool in order of first occurrence.
 pub fn lay_out(alloc: Global, nodes: &[Node]) -> Result<Layout, OutOfMemory>
     requires pool { IsPool nodes.now }
-    requires few { length nodes.now < 2 ^ 30 }
+    requires few { length nodes.now ≤ 2 ^ 31 }
     ensures slots { IfOk result (λ layout. IsLaid nodes.now layout.slots.items) }
     ensures places { IfOk result (λ layout. layout.places.items ≡ map (λ c. c.address) (cells_of nodes.now)) }
-    ensures masks { IfOk result (λ layout. length layout.masks.keys ≡ length (tracked_of nodes.now)) }
+    ensures masks { IfOk result (λ layout. AreMasks nodes.now layout.masks.keys) }
 {
     let mut slots = Vec::new(alloc);
     let mut places = Vec::new(alloc);

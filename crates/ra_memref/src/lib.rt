@@ -5,6 +5,7 @@
 
 mod laws;
 mod layout;
+mod names;
 mod numbers;
 mod table;
 #[cfg(test)]
@@ -12,4 +13,5 @@ mod tests;
 mod watches;
 
 pub use laws::looking_back_holds;
+pub use names::{Names, names_of};
 pub use table::Table;

@@ -138,6 +138,7 @@ impl Table {
 pub(crate) fn nodes_of(alloc: Global, pool: &Pool) -> Result<Vec<Node>, OutOfMemory>
     ensures nodes { IfOk result (λ nodes. nodes.items ≡ pool.now) }
     ensures pool { IsPool pool.now }
+    ensures most { length pool.now ≤ 2 ^ 31 }
 {
     let mut nodes = Vec::new(alloc);
     for number in 0..pool.len() {

@@ -6,6 +6,7 @@ use Rattle.ra_memref.specs.Table.{IsFresh}
 use Rattle.ra_memref.specs.Seen.{table_seen}
 use Rattle.ra_memref.specs.Watches.{WatchesSeen}
 use Rattle.ra_memref.specs.Numbers.{NumbersSeen}
+use Rattle.ra_memref.proofs.LayoutLemmas.{as_many_masks}
 use Rattle.ra_memref.proofs.TableLemmas.{few_cells, made_sized, made_fresh}
 use Rattle.ra_memref.proofs.table.Table.new.Goals as goal
 
@@ -27,7 +28,7 @@ invariant_of-result c =
       few = omega (arith, ap length c.in_ok-nodes.ensures.nodes, c.requires.few);
       laid = layout.slots;
       small = omega (arith, size, c.requires.size);
-      sized = made_sized c.in_ok-nodes.nodes.items c.args.size _ c.in_ok-layout.layout.places.items c.in_ok-widths.widths.items c.in_ok-watches.watches c.in_ok-numbers.numbers layout.places widths.widths (c.len.ensures.len ∙ layout.masks) c.in_ok-watches.ensures (ap (λ (n : NumbersSeen). n.cells) numbers) (ap (λ (n : NumbersSeen). n.earlier) numbers) (ap (λ (n : NumbersSeen). n.watches) numbers) (ap (λ (n : NumbersSeen). n.priors) numbers) (ap (λ (n : NumbersSeen). n.values) numbers ∙ ap (λ n. replicate n 0) count);
+      sized = made_sized c.in_ok-nodes.nodes.items c.args.size _ c.in_ok-layout.layout.places.items c.in_ok-widths.widths.items c.in_ok-watches.watches c.in_ok-numbers.numbers layout.places widths.widths (c.len.ensures.len ∙ as_many_masks _ _ layout.masks) c.in_ok-watches.ensures (ap (λ (n : NumbersSeen). n.cells) numbers) (ap (λ (n : NumbersSeen). n.earlier) numbers) (ap (λ (n : NumbersSeen). n.watches) numbers) (ap (λ (n : NumbersSeen). n.priors) numbers) (ap (λ (n : NumbersSeen). n.values) numbers ∙ ap (λ n. replicate n 0) count);
     }
 
 pub returns : goal.returns
@@ -35,4 +36,4 @@ returns c =
     let layout = rw c.deref.ensures.value at c.in_ok-layout.ensures in
     let numbers = c.in_ok-numbers.ensures in
     subst (λ ns. IsFresh ns c.args.size (table_seen (record { nodes = c.in_ok-nodes.nodes; slots = c.in_ok-layout.layout.slots; numbers = c.in_ok-numbers.numbers; sampled = false }))) c.in_ok-nodes.ensures.nodes
-    (made_fresh c.in_ok-nodes.nodes.items c.args.size _ c.in_ok-layout.layout.places.items c.in_ok-widths.widths.items c.in_ok-watches.watches (record { nodes = c.in_ok-nodes.nodes; slots = c.in_ok-layout.layout.slots; numbers = c.in_ok-numbers.numbers; sampled = false }) refl refl layout.places (c.len.ensures.len ∙ layout.masks) c.in_ok-watches.ensures (ap (λ (n : NumbersSeen). n.cells) numbers) (ap (λ (n : NumbersSeen). n.watches) numbers) (ap (λ (n : NumbersSeen). n.priors) numbers))
+    (made_fresh c.in_ok-nodes.nodes.items c.args.size _ c.in_ok-layout.layout.places.items c.in_ok-widths.widths.items c.in_ok-watches.watches (record { nodes = c.in_ok-nodes.nodes; slots = c.in_ok-layout.layout.slots; numbers = c.in_ok-numbers.numbers; sampled = false }) refl refl layout.places (c.len.ensures.len ∙ as_many_masks _ _ layout.masks) c.in_ok-watches.ensures (ap (λ (n : NumbersSeen). n.cells) numbers) (ap (λ (n : NumbersSeen). n.watches) numbers) (ap (λ (n : NumbersSeen). n.priors) numbers))

@@ -1,0 +1,253 @@
+//! The names of the cells and of the tracked masks of a pool.
+
+ghost use Rattle.std.specs.Prelude.{◌≡◌, ◌<◌, ◌≤◌, ◌^◌, ℕ, true, length, map, slice_index_or, [], Contains, IfOk};
+ghost use Rattle.ra_operand.specs.Same.{number_of_kind, number_of_size, number_of_op};
+ghost use Rattle.ra_indirect.specs.Pools.{cells_of, tracked_of};
+ghost use Rattle.ra_indirect.specs.Interned.{IsPool};
+ghost use Rattle.ra_memref.specs.declared.layout.TrackedMask.{TrackedMask};
+ghost use Rattle.ra_memref.specs.Names as spec;
+ghost use Rattle.ra_memref.specs.Names.{tracked_name, name_with, NamesBelow};
+ghost use Rattle.ra_memref.specs.Naming.{wanted_after, AreWanted, NameCells};
+
+use crate::layout::{TrackedMask, lay_out};
+use crate::table::nodes_of;
+use md5::{Digest, Md5};
+use ra_indirect::{Node, Pool};
+use ra_operand::{Kind, Op, Size};
+use ra_text::OutOfMemory;
+use std::alloc::Global;
+
+/// Names of cells and of tracked masks: docs/DEFINITIONS.md, "Names of cells and masks".
+#[derive(Drop)]
+pub struct Names {
+    /// A name for each cell.
+    pub cells: Vec<[u8; 16]>,
+    /// A name for each tracked mask.
+    pub priors: Vec<[u8; 16]>,
+}
+
+/// The names of the cells and of the tracked masks of a pool, each in order of first occurrence:
+/// docs/DEFINITIONS.md, "Names of cells and masks". Memory is the only refusal.
+pub fn names_of(alloc: Global, pool: &Pool) -> Result<Names, OutOfMemory>
+    ensures cells { IfOk result (λ names. names.cells.items ≡ map spec.cell_name (cells_of pool.now)) }
+    ensures priors { IfOk result (λ names. names.priors.items ≡ map tracked_name (tracked_of pool.now)) }
+{
+    let nodes = nodes_of(alloc, pool)?;
+    let names = node_names(alloc, &nodes)?;
+    let cells = cell_names(alloc, &nodes, &names)?;
+    let priors = mask_names(alloc, &nodes, &names)?;
+    Ok(Names { cells, priors })
+}
+
+// The name of each node that is a cell or that a cell's pointer reaches, and zeros for the others.
+fn node_names(alloc: Global, nodes: &[Node]) -> Result<Vec<[u8; 16]>, OutOfMemory>
+    requires { IsPool nodes.now }
+    ensures { IfOk result (λ names. NameCells nodes.now names.items) }
+{
+    let wanted = wanted_of(alloc, nodes)?;
+    let mut names = Vec::new(alloc);
+    for number in 0..nodes.len() {
+        let name = name_where(wanted[number], nodes[number], &names);
+        names.push(name)?;
+    }
+    Ok(names)
+}
+
+// Which nodes are to have names: the cells, and what their pointers reach. It goes over them backwards.
+fn wanted_of(alloc: Global, nodes: &[Node]) -> Result<Vec<bool>, OutOfMemory>
+    requires { IsPool nodes.now }
+    ensures { IfOk result (λ wanted. AreWanted nodes.now wanted.items) }
+{
+    let mut wanted = vec![in alloc; false; nodes.len()]?;
+    let mut left = nodes.len();
+    while left > 0 {
+        left -= 1;
+        want(&mut wanted, nodes[left], left);
+    }
+    Ok(wanted)
+}
+
+// Marks a cell and its pointer, and what a marked node names.
+fn want(wanted: &mut [bool], node: Node, number: usize)
+    requires here { number < length wanted.old }
+    requires below { NamesBelow number node }
+    ensures { wanted.new ≡ wanted_after node number wanted.old }
+{
+    match node {
+        Node::Const(_) => {}
+        Node::Cell { pointer, .. } => {
+            wanted[number] = true;
+            wanted[pointer as usize] = true;
+        }
+        Node::View { cell, .. } => {
+            if wanted[number] {
+                wanted[cell as usize] = true;
+            }
+        }
+        Node::Arith { left, right, .. } => {
+            if wanted[number] {
+                wanted[left as usize] = true;
+                wanted[right as usize] = true;
+            }
+        }
+    }
+}
+
+// The names of the cells, from those of the nodes.
+fn cell_names(
+    alloc: Global,
+    nodes: &[Node],
+    names: &[[u8; 16]],
+) -> Result<Vec<[u8; 16]>, OutOfMemory>
+    requires pool { IsPool nodes.now }
+    requires names { NameCells nodes.now names.now }
+    ensures { IfOk result (λ cells. cells.items ≡ map spec.cell_name (cells_of nodes.now)) }
+{
+    let mut cells = Vec::new(alloc);
+    for (number, node) in nodes.iter().enumerate() {
+        if let Node::Cell { .. } = node {
+            cells.push(names[number])?;
+        }
+    }
+    Ok(cells)
+}
+
+// The names of the tracked masks, from those of the nodes.
+fn mask_names(
+    alloc: Global,
+    nodes: &[Node],
+    names: &[[u8; 16]],
+) -> Result<Vec<[u8; 16]>, OutOfMemory>
+    requires pool { IsPool nodes.now }
+    requires few { length nodes.now ≤ 2 ^ 31 }
+    requires names { NameCells nodes.now names.now }
+    ensures { IfOk result (λ priors. priors.items ≡ map tracked_name (tracked_of nodes.now)) }
+{
+    let layout = lay_out(alloc, nodes)?;
+    names_of_masks(alloc, layout.masks.as_slice(), names)
+}
+
+// The names of masks of cells, from the names of these.
+fn names_of_masks(
+    alloc: Global,
+    masks: &[TrackedMask],
+    names: &[[u8; 16]],
+) -> Result<Vec<[u8; 16]>, OutOfMemory>
+    requires { (mask : TrackedMask) → Contains masks.now mask → mask.cell < length names.now }
+    ensures { IfOk result (λ priors. priors.items
+        ≡ map (λ m. spec.tracked_name_by (slice_index_or names.now m.cell []) m.mask) masks.now) }
+{
+    let mut priors = Vec::new(alloc);
+    for mask in masks {
+        priors.push(mask_name(&names[mask.cell as usize], mask.mask))?;
+    }
+    Ok(priors)
+}
+
+// The name of a node that is to have one.
+fn name_where(wanted: bool, node: Node, names: &[[u8; 16]]) -> [u8; 16]
+    requires { NamesBelow (length names.now) node }
+    ensures { wanted ≡ true → result ≡ name_with names.now node }
+{
+    if wanted {
+        node_name(node, names)
+    } else {
+        [0; 16]
+    }
+}
+
+// The name of a node, by the names of the nodes that it names.
+fn node_name(node: Node, names: &[[u8; 16]]) -> [u8; 16]
+    requires { NamesBelow (length names.now) node }
+    ensures { result ≡ name_with names.now node }
+{
+    match node {
+        Node::Const(number) => constant_name(number),
+        Node::Cell {
+            pointer,
+            offset,
+            width,
+        } => cell_name(&names[pointer as usize], offset, width),
+        Node::View { kind, size, cell } => view_name(kind, size, &names[cell as usize]),
+        Node::Arith { op, left, right } => {
+            join_name(op, &names[left as usize], &names[right as usize])
+        }
+    }
+}
+
+// "C" and the number.
+fn constant_name(number: u32) -> [u8; 16]
+    ensures { result ≡ spec.constant_name number }
+{
+    let mut hasher = Md5::new();
+    hasher.update(b"C");
+    hasher.update(&number.to_le_bytes());
+    hasher.finalize()
+}
+
+// "M", the name of the pointer, the address, and the width.
+fn cell_name(pointer: &[u8; 16], address: u32, width: u8) -> [u8; 16]
+    ensures { result ≡ spec.cell_name_by pointer.now address width }
+{
+    let mut hasher = Md5::new();
+    hasher.update(b"M");
+    hasher.update(pointer);
+    hasher.update(&address.to_le_bytes());
+    hasher.update(&[width]);
+    hasher.finalize()
+}
+
+// "V", the kind, the size, and the name of the cell.
+fn view_name(kind: Kind, size: Size, cell: &[u8; 16]) -> [u8; 16]
+    ensures { result ≡ spec.view_name_by kind size cell.now }
+{
+    let mut hasher = Md5::new();
+    hasher.update(b"V");
+    hasher.update(&[kind_number(kind), size_number(size)]);
+    hasher.update(cell);
+    hasher.finalize()
+}
+
+// "O", the operator, and the names of both sides.
+fn join_name(op: Op, left: &[u8; 16], right: &[u8; 16]) -> [u8; 16]
+    ensures { result ≡ spec.join_name_by op left.now right.now }
+{
+    let mut hasher = Md5::new();
+    hasher.update(b"O");
+    hasher.update(&[op_number(op)]);
+    hasher.update(left);
+    hasher.update(right);
+    hasher.finalize()
+}
+
+// "P", the name of the cell, and the mask.
+fn mask_name(cell: &[u8; 16], mask: u32) -> [u8; 16]
+    ensures { result ≡ spec.tracked_name_by cell.now mask }
+{
+    let mut hasher = Md5::new();
+    hasher.update(b"P");
+    hasher.update(cell);
+    hasher.update(&mask.to_le_bytes());
+    hasher.finalize()
+}
+
+// The place of a kind among the kinds, from 0.
+fn kind_number(kind: Kind) -> u8
+    ensures { result ≡ number_of_kind kind }
+{
+    kind as u8
+}
+
+// The place of a size among the sizes, from 0.
+fn size_number(size: Size) -> u8
+    ensures { result ≡ number_of_size size }
+{
+    size as u8
+}
+
+// The place of an operator among the operators, from 0.
+fn op_number(op: Op) -> u8
+    ensures { result ≡ number_of_op op }
+{
+    op as u8
+}
