@@ -1,11 +1,12 @@
 //! Tables over frames, from the rules.
 
-ghost use Rattle.std.specs.Prelude.{◌≡◌, ◌<◌, ◌≤◌, ◌^◌, length, IsTrue};
+ghost use Rattle.std.specs.Prelude.{◌≡◌, ◌<◌, ◌≤◌, ◌^◌, length, IfOk, IsTrue};
 ghost use Rattle.ra_indirect.specs.Pools.{MayFollow, IsValued, IsCellOf, node_at};
 
 mod machine;
 mod reads;
 
+use crate::names::names_of;
 use crate::tests::machine::Machine;
 use ra_indirect::{Node, Pool};
 use ra_operand::{Kind, Op, Size, width};
@@ -57,9 +58,9 @@ fn may_follow(pool: &Pool, node: Node) -> bool
     }
 }
 
-// A machine over these nodes, with a memory of so many bytes.
-fn machine_of(alloc: Global, size: u32, nodes: &[Node]) -> Result<Machine, Fail>
-    requires { size ≤ 2 ^ 27 }
+// A pool of these nodes.
+fn pool_of(alloc: Global, nodes: &[Node]) -> Result<Pool, Fail>
+    ensures { IfOk result (λ pool. length pool < 2 ^ 30) }
 {
     let mut pool = Pool::new(alloc);
     for node in nodes {
@@ -71,8 +72,40 @@ fn machine_of(alloc: Global, size: u32, nodes: &[Node]) -> Result<Machine, Fail>
     if pool.len() > 99_999 {
         return Err(Fail::from("no pool"));
     }
+    Ok(pool)
+}
+
+// A machine over these nodes, with a memory of so many bytes.
+fn machine_of(alloc: Global, size: u32, nodes: &[Node]) -> Result<Machine, Fail>
+    requires { size ≤ 2 ^ 27 }
+{
+    let pool = pool_of(alloc, nodes)?;
     let machine = Machine::new(alloc, pool, size)?;
     Ok(machine)
+}
+
+// The names of the cells and then of the tracked masks of these nodes, in hexadecimal digits.
+fn names_in(alloc: Global, nodes: &[Node]) -> Result<Vec<String>, Fail> {
+    let pool = pool_of(alloc, nodes)?;
+    let names = names_of(alloc, &pool)?;
+    let mut texts = Vec::new(alloc);
+    for name in &names.cells {
+        texts.push(hexadecimal(alloc, name)?)?;
+    }
+    for name in &names.priors {
+        texts.push(hexadecimal(alloc, name)?)?;
+    }
+    Ok(texts)
+}
+
+// Two digits for each byte.
+fn hexadecimal(alloc: Global, bytes: &[u8; 16]) -> Result<String, Fail> {
+    let mut text = String::new(alloc);
+    for byte in bytes {
+        let digits = format!(in alloc; "{byte:02x}")?;
+        text.push_str(&digits)?;
+    }
+    Ok(text)
 }
 
 fn byte_cell(pointer: u32, offset: u32) -> Node {
@@ -198,5 +231,47 @@ fn kept_numbers_are_put_back(rt: HostRuntime) -> Result<(), Fail> {
     let found = machine.frame::<Brand>(rt.alloc(), Blank::new(1))?;
     assert_eq!(rt; machine.priors(), [1].as_slice());
     assert_eq!(rt; found.as_slice(), [0, 0, 255, 1].as_slice());
+    Ok(())
+}
+
+#[test]
+fn names_are_digests_of_trees(rt: HostRuntime) -> Result<(), Fail> {
+    let found = names_in(
+        rt.alloc(),
+        &[
+            Node::Const(0),
+            byte_cell(0, 0x10),
+            view(Kind::Mem, Size::Byte, 1),
+            byte_cell(2, 0x20),
+            word_cell(0, 0),
+            view(Kind::Mem, Size::Four, 4),
+            byte_cell(5, 0x10),
+            Node::Arith {
+                op: Op::Add,
+                left: 5,
+                right: 2,
+            },
+            byte_cell(7, 0x20),
+            view(Kind::Delta, Size::FourBig, 4),
+            byte_cell(9, 0x20),
+            view(Kind::Prior, Size::Bit0, 1),
+            view(Kind::Prior, Size::Byte, 1),
+            view(Kind::Prior, Size::Count, 1),
+        ],
+    )?;
+    let names = [
+        "59749bd5ca8abe768eb137061a4f30c6",
+        "b7e5c2adb3d979ce67a8cc653e6e805d",
+        "662706d9cb9f5c0d62739f6c5e6192cf",
+        "306ab5104a0b6bd9fbe2cfdff50efa27",
+        "10baf5ad11b715dfafca92ab79a31120",
+        "849600f9d4d734af30c1e44c21ab18cd",
+        "5c39f2d432b38de140c5dd6edd9071c0",
+        "9a54cce3d75776823211f374d4f977a0",
+    ];
+    assert_eq!(rt; found.len(), names.len());
+    for (text, name) in found.iter().zip(&names) {
+        assert_eq!(rt; text.as_str(), *name);
+    }
     Ok(())
 }
