@@ -14,6 +14,7 @@ pub mod PassEnds
 pub mod PassLemmas
 pub mod Passed
 pub mod PriorLemmas
+pub mod PuttingLemmas
 pub mod TableLemmas
 pub mod Telling
 pub mod Vectors

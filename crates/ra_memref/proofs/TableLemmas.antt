@@ -1,5 +1,5 @@
 -- What a write leaves of the agreement of a table with an image, and what stands when a table is made.
-use Rattle.std.proofs.Common.{◌≡◌, ℕ, zero, suc, ◌+◌, ◌-◌, ◌*◌, ◌<◌, ◌≤◌, ◌^◌, inl, inr, Bool, true, false, ◌&&◌, ◌||◌, List, [], ◌∷◌, length, map, get_or, replicate, refl, ap, ap₂, sym, subst, ◌∙◌, arith}
+use Rattle.std.proofs.Common.{◌≡◌, ℕ, zero, suc, ◌+◌, ◌-◌, ◌*◌, ◌<◌, ◌≤◌, inl, inr, Bool, true, false, ◌&&◌, ◌||◌, List, [], ◌∷◌, length, map, get_or, replicate, refl, ap, ap₂, sym, ◌∙◌, arith}
 use Rattle.std.specs.Prelude.{nat_lt, nat_le}
 use Rattle.std.specs.List.{flat_map}
 use Rattle.std.proofs.lemmas.List.{get_or-take, get_or-drop, get_or_past, get_or-map, length-map, ext_get_or, length-replicate}
@@ -14,10 +14,9 @@ use Rattle.ra_memref.specs.Numbers.{NumbersSeen}
 use Rattle.ra_memref.specs.Marks.{page_of, touches, is_watched, marks_after}
 use Rattle.ra_memref.specs.Watches.{WatchesSeen, MarksWatchers}
 use Rattle.ra_memref.specs.Pass.{IsSizedFor}
-use Rattle.ra_memref.specs.Table.{IsFresh, IsTold, IsPutBack, DifferWithin, Agrees, no_cell}
+use Rattle.ra_memref.specs.Table.{IsFresh, IsTold, DifferWithin, Agrees, no_cell}
 use Rattle.ra_memref.specs.Seen.{table_seen, IsTable}
-use Rattle.ra_words.specs.Words.{words_at}
-use Rattle.ra_words.proofs.Rows.{length-words_at}
+use Rattle.ra_memref.proofs.AgreeLemmas.{Agrees-marked}
 use Rattle.ra_memref.proofs.Pages.{in_range_found}
 
 -- the mark of each cell after a write
@@ -119,43 +118,6 @@ module _ (t : Inside) (is : IsTable t) (new : WatchesSeen) (at count : ℕ) (mar
     agrees = still_agrees;
   }
 
--- numbers that were put back are a table's again
-module _ (t : Inside) (is : IsTable t) (bytes : List ℕ) (new : NumbersSeen) (same : new ≡ record t.numbers {
-  cells = words_at bytes 0 (length t.numbers.cells);
-  priors = words_at bytes (4 * length t.numbers.cells) (length t.numbers.priors);
-  watches = record t.numbers.watches { marked = replicate (length t.numbers.cells) true };
-}) where
-  abbrev pub put : Inside
-  put = record { nodes = t.nodes; slots = t.slots; numbers = new; sampled = false }
-
-  pub put_is_table : IsTable put
-  put_is_table = record {
-    pool = is.pool;
-    few = is.few;
-    laid = is.laid;
-    small = subst (λ (n : NumbersSeen). n.watches.size ≤ 2 ^ 27) (sym same) is.small;
-    sized = subst (IsSizedFor t.nodes.items) (sym same) (record {
-      cells = length-words_at bytes 0 (length t.numbers.cells) ∙ is.sized.cells;
-      earlier = is.sized.earlier;
-      places = is.sized.places;
-      marked = length-replicate (length t.numbers.cells) true ∙ is.sized.cells;
-      widths = is.sized.widths;
-      priors = length-words_at bytes (4 * length t.numbers.cells) (length t.numbers.priors) ∙ is.sized.priors;
-      values = is.sized.values;
-    });
-  }
-
-  pub put_back_by : IsPutBack (table_seen t) (table_seen put) (words_at bytes 0 (length t.numbers.cells)) (words_at bytes (4 * length t.numbers.cells) (length t.numbers.priors))
-  put_back_by = record {
-    pool = (refl, ap (λ (n : NumbersSeen). n.watches.size) same);
-    cells_too = ap (λ (n : NumbersSeen). n.cells) same;
-    priors_too = ap (λ (n : NumbersSeen). n.priors) same;
-    values = ap (λ (n : NumbersSeen). n.values) same;
-    not_sampled = refl;
-    marked = ap (λ (n : NumbersSeen). n.watches.marked) same ∙ ap (λ n. replicate n true) (sym (length-words_at bytes 0 (length t.numbers.cells)));
-    places = ap (λ (n : NumbersSeen). n.watches.places) same;
-  }
-
 -- a pool has no more cells than nodes
 few_in : (spelled : List Spelled) → length (flat_map cell_in spelled) ≤ length spelled
 few_in [] = omega arith
@@ -190,4 +152,5 @@ made_fresh nodes size masks places widths watches t nodes_are sampled places_are
       not_sampled = sampled;
       marked = ap (λ (w : WatchesSeen). w.marked) (same ∙ watches_are) ∙ ap (λ n. replicate n true) count;
       places = ap (λ (w : WatchesSeen). w.places) (same ∙ watches_are) ∙ places_are;
+      agrees = λ image long. Agrees-marked (table_seen t) image (length places) (ap (λ (w : WatchesSeen). w.marked) (same ∙ watches_are));
     }

@@ -7,6 +7,7 @@ pub mod Naming
 pub mod Numbers
 pub mod NumbersView
 pub mod Pass
+pub mod Putting
 pub mod Seen
 pub mod Table
 pub mod Values

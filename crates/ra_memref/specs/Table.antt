@@ -45,7 +45,7 @@ spelled_value start history (IsCell c) = cell_number start c history
 abbrev pub SamePool : TableSeen → TableSeen → Type 0
 SamePool old new = (new.nodes ≡ old.nodes) × (new.size ≡ old.size)
 
--- a table over a pool: all numbers are 0, each cell is marked and lies at its address
+-- a table over a pool: all numbers are 0, each cell is marked and lies at its address, so it agrees with every image
 pub record IsFresh (nodes : List Node) (size : ℕ) (table : TableSeen) : Type 0 where
   pub pool : table.nodes ≡ nodes
   pub size_too : table.size ≡ size
@@ -54,6 +54,7 @@ pub record IsFresh (nodes : List Node) (size : ℕ) (table : TableSeen) : Type 0
   pub not_sampled : table.sampled ≡ false
   pub marked : table.marked ≡ replicate (length (cells_of nodes)) true
   pub places : table.places ≡ map (λ c. c.address) (cells_of nodes)
+  pub agrees : (image : List ℕ) → length image ≡ size → Agrees table image
 
 -- a sample takes up one frame, for every start and every history after which the kept numbers are old's
 pub record Samples (old new : TableSeen) (image : List ℕ) : Type 0 where
@@ -90,3 +91,4 @@ pub record IsPutBack (old new : TableSeen) (cells priors : List ℕ) : Type 0 wh
   pub not_sampled : new.sampled ≡ false
   pub marked : new.marked ≡ replicate (length cells) true
   pub places : new.places ≡ old.places
+  pub agrees : (image : List ℕ) → length image ≡ old.size → Agrees new image

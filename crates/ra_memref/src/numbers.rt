@@ -118,6 +118,30 @@ impl Numbers {
         self.watches.mark_all();
     }
 
+    /// Sets the number of a cell, and marks all cells.
+    pub fn put_cell(&mut self, cell: usize, number: u32)
+        requires { cell < length self.old.cells }
+        ensures { self.new ≡ record self.old {
+          cells = slice_set self.old.cells cell number;
+          watches = record self.old.watches { marked = replicate (length self.old.cells) true };
+        } }
+    {
+        self.cells[cell] = number;
+        self.watches.mark_all();
+    }
+
+    /// Sets the prior of a tracked mask, and marks all cells.
+    pub fn put_prior(&mut self, prior: usize, number: u32)
+        requires { prior < length self.old.priors }
+        ensures { self.new ≡ record self.old {
+          priors = slice_set self.old.priors prior number;
+          watches = record self.old.watches { marked = replicate (length self.old.cells) true };
+        } }
+    {
+        self.priors[prior] = number;
+        self.watches.mark_all();
+    }
+
     /// Takes up one frame: each cell that is marked or moved is read, and each value follows from those
     /// before it.
     pub fn take_frame<I: Image>(&mut self, image: &mut I, nodes: &[Node], slots: &[u32])

@@ -37,6 +37,7 @@ impl Model for Table {
 impl Table {
     ghost use Rattle.ra_indirect.specs.Pools.{IsValued, node_at};
     ghost use Rattle.ra_memref.specs.Table.{IsFresh, IsTold, IsPutBack, Samples, ReadsWanted, Agrees};
+    ghost use Rattle.ra_memref.specs.Putting.{IsCellPut, IsPriorPut};
     ghost use Rattle.ra_words.specs.Words.{words_at};
 
     /// A table over a pool and an image of `size` bytes: all numbers are 0, each cell is marked and lies
@@ -96,7 +97,8 @@ impl Table {
 
     /// The value of a node's tree at the frame of the last sample.
     ///
-    /// The node is one of the pool's that has a value, and a sample came since `new` or `put_back`.
+    /// The node is one of the pool's that has a value, and a sample came since `new` and since the last
+    /// `put_back`, `put_cell` or `put_prior`.
     pub fn value(&self, node: u32) -> u32
         requires within { node < length self.now.nodes }
         requires valued { IsValued (node_at self.now.nodes node) }
@@ -130,6 +132,28 @@ impl Table {
             (words_at bytes.now (4 * length self.old.cells) (length self.old.priors)) }
     {
         self.numbers.put_back(bytes);
+        self.sampled = false;
+    }
+
+    /// Sets the kept number of a cell, counted from 0 in order of first occurrence.
+    ///
+    /// Each cell is marked, in constant time, and a sample is due before values count again.
+    pub fn put_cell(&mut self, cell: u32, number: u32)
+        requires { cell < length self.old.cells }
+        ensures { IsCellPut self.old self.new cell number }
+    {
+        self.numbers.put_cell(cell as usize, number);
+        self.sampled = false;
+    }
+
+    /// Sets the kept number of a tracked mask, counted from 0 in order of first occurrence.
+    ///
+    /// Each cell is marked, in constant time, and a sample is due before values count again.
+    pub fn put_prior(&mut self, prior: u32, number: u32)
+        requires { prior < length self.old.priors }
+        ensures { IsPriorPut self.old self.new prior number }
+    {
+        self.numbers.put_prior(prior as usize, number);
         self.sampled = false;
     }
 }

@@ -275,3 +275,27 @@ fn names_are_digests_of_trees(rt: HostRuntime) -> Result<(), Fail> {
     }
     Ok(())
 }
+
+#[test]
+fn a_kept_number_is_put(rt: HostRuntime) -> Result<(), Fail> {
+    let mut machine = machine_of(
+        rt.alloc(),
+        64,
+        &[
+            Node::Const(0),
+            byte_cell(0, 0x10),
+            view(Kind::Delta, Size::Byte, 1),
+            view(Kind::Prior, Size::Bit0, 1),
+        ],
+    )?;
+    assert!(rt; machine.put_cell(0, 0x0102));
+    assert!(rt; machine.put_prior(0, 9));
+    assert!(rt; !machine.put_cell(1, 3));
+    assert!(rt; !machine.put_prior(1, 3));
+    assert_eq!(rt; machine.cells(), [0x0102].as_slice());
+    assert_eq!(rt; machine.priors(), [9].as_slice());
+    let found = machine.frame::<Brand>(rt.alloc(), Blank::new(1))?;
+    assert_eq!(rt; machine.cells(), [0].as_slice());
+    assert_eq!(rt; found.as_slice(), [0, 0, 2, 1].as_slice());
+    Ok(())
+}

@@ -106,6 +106,24 @@ impl Machine {
         fits
     }
 
+    /// Sets the kept number of a cell, where there is such a cell.
+    pub fn put_cell(&mut self, cell: u32, number: u32) -> bool {
+        let fits = (cell as usize) < self.table.cells().len();
+        if fits {
+            self.table.put_cell(cell, number);
+        }
+        fits
+    }
+
+    /// Sets the kept number of a tracked mask, where there is such a mask.
+    pub fn put_prior(&mut self, prior: u32, number: u32) -> bool {
+        let fits = (prior as usize) < self.table.priors().len();
+        if fits {
+            self.table.put_prior(prior, number);
+        }
+        fits
+    }
+
     pub fn cells(&self) -> &[u32] {
         self.table.cells()
     }
