@@ -29,7 +29,8 @@ impl Trigger {
     ghost use Rattle.ra_condition.specs.Contents.{trigger_contents, trigger_hits};
     ghost use Rattle.ra_words.specs.Words.{words_at};
     ghost use Rattle.ra_trigger.specs.Kept.{no_trigger, orders_of, pauses_of, change_between};
-    ghost use Rattle.ra_trigger.specs.Steps.{step, truth, hits_after_truth};
+    ghost use Rattle.ra_trigger.specs.Steps.{cleared, step, truth, hits_after_truth};
+    ghost use Rattle.ra_trigger.specs.declared.state.State.TheVariants.{Waiting};
 
     /// A trigger that waits, with all numbers 0.
     pub fn new(alloc: Global, text: &TriggerText) -> Result<Self, OutOfMemory>
@@ -167,5 +168,18 @@ impl Trigger {
         self.state = state;
         self.measured = measured;
         read_words(&mut self.hits, hits, 0);
+    }
+
+    /// Brings the trigger to its start: it waits, and all its numbers are 0.
+    pub fn clear(&mut self)
+        ensures { self.new ≡ record {
+          state = Waiting;
+          measured = 0;
+          hits = cleared self.old.hits;
+        } }
+    {
+        self.state = State::Waiting;
+        self.measured = 0;
+        self.hits.fill(0);
     }
 }
