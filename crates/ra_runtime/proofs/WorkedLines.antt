@@ -26,7 +26,7 @@ byte address = Cell Mem Byte address
 
 -- a set of one achievement
 abbrev only : List Condition → List (List Condition) → SetContents
-only core alts = record { items = Unlocks 1 (record { core = core; alts = alts }) ∷ []; script = None; digest = [] }
+only core alts = record { items = Unlocks 1 (record { core = core; alts = alts }) ∷ []; script = None; digest = []; item_names = []; script_name = None }
 
 -- what a set prints over records, from the plain opening
 abbrev prints : SetContents → ℕ → List Entry → List ℕ
@@ -124,6 +124,8 @@ one_board = record {
   }) ∷ [];
   script = None;
   digest = [];
+  item_names = [];
+  script_name = None;
 }
 
 one_board_prints : prints one_board 64 (Framed ∷ Written 1 (1 ∷ 1 ∷ 0x15 ∷ []) ∷ Framed ∷ Framed ∷ Written 1 (0 ∷ []) ∷ Framed ∷ Written 1 (1 ∷ 0 ∷ []) ∷ Framed ∷ Written 3 (0x1e ∷ []) ∷ Framed ∷ Written 2 (1 ∷ []) ∷ Framed ∷ Ended ∷ []) ≡ codes "submit 1 7 42 42\nstart 4 7\ntrack 4 7 42\ntrack 5 7 60\nsubmit 6 7 60 60\n"
@@ -147,6 +149,8 @@ counting = record {
   }) ∷ [];
   script = None;
   digest = [];
+  item_names = [];
+  script_name = None;
 }
 
 counting-prints : prints counting 64 (Framed ∷ Written 1 (1 ∷ 0 ∷ 1 ∷ []) ∷ Framed ∷ Written 2 (1 ∷ []) ∷ Framed ∷ Written 1 (0 ∷ 0 ∷ []) ∷ Framed ∷ Written 1 (1 ∷ []) ∷ Framed ∷ Ended ∷ []) ≡ codes "start 1 7\ntrack 1 7 1\nsubmit 2 7 2 2\nstart 4 7\ntrack 4 7 1\n"

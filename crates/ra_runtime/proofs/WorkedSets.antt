@@ -49,6 +49,8 @@ pointer_past_the_end = record {
       ∷ Unlocks 2 (trigger (one Plain (Cell Mem Four 0x3e) Eq (Const 513) 0 ∷ []) []) ∷ [];
   script = None;
   digest = [];
+  item_names = [];
+  script_name = None;
 }
 
 pointer_past_the_end_prints : prints pointer_past_the_end 64 (Framed ∷ Written 0 (0xf8 ∷ 0xff ∷ 0xff ∷ 0xff ∷ []) ∷ Written 8 (7 ∷ []) ∷ Written 0x3e (1 ∷ 2 ∷ []) ∷ Framed ∷ Ended ∷ []) ≡ codes "unlock 1 1\nunlock 1 2\n"
@@ -61,6 +63,8 @@ paused_by_its_hits = record {
   items = Unlocks 1 (trigger (one PauseIf (byte 1) Eq (Const 1) 2 ∷ one Plain (byte 2) Eq (Const 1) 2 ∷ []) []) ∷ [];
   script = None;
   digest = [];
+  item_names = [];
+  script_name = None;
 }
 
 paused_group_keeps : (snapshot paused_by_its_hits (plain_opening paused_by_its_hits) (behind_end [] 64 (Written 1 (1 ∷ 1 ∷ []) ∷ Framed ∷ Written 1 (0 ∷ 0 ∷ []) ∷ Framed ∷ Written 1 (1 ∷ 1 ∷ []) ∷ Framed ∷ Written 1 (0 ∷ 0 ∷ []) ∷ Framed ∷ Written 1 (1 ∷ 1 ∷ []) ∷ Framed ∷ Ended ∷ []))).items ≡ OfAchievement 2 0 (2 ∷ 1 ∷ []) ∷ []
@@ -101,6 +105,8 @@ stages = record {
       }) ∷ [];
   script = Some stage_macro;
   digest = [];
+  item_names = [];
+  script_name = None;
 }
 
 stages_first : List Entry
@@ -136,6 +142,8 @@ shows value = record {
   items = [];
   script = Some (record { lookups = []; formats = []; lines = record { test = None; pieces = Shows (codes "Number") value ∷ [] } ∷ [] });
   digest = [];
+  item_names = [];
+  script_name = None;
 }
 
 abbrev at-four : List Entry
@@ -195,6 +203,8 @@ last_count = record {
   items = Unlocks 1 (trigger (one Plain (byte 0x10) Eq (Const 1) 0 ∷ []) ((one Plain (byte 0x10) Eq (Const 0) 0 ∷ one Plain (byte 0x11) Eq (Const 1) 2 ∷ []) ∷ [])) ∷ [];
   script = None;
   digest = [];
+  item_names = [];
+  script_name = None;
 }
 
 abbrev last_opening : Opening
@@ -208,7 +218,7 @@ last_count_keeps : snapshot last_count last_opening (behind_end [] 64 (Written 0
 last_count_keeps = refl
 
 -- an unknown macro
-unknown_macro_prints : prints (record { items = []; script = Some (record { lookups = []; formats = []; lines = record { test = None; pieces = Bytes (codes "@") ∷ Shows (codes "Foo") (Legacy (term (Const 5) None ∷ []) ∷ []) ∷ Bytes (codes "\\") ∷ [] } ∷ [] }); digest = [] }) 64 (Framed ∷ Shown ∷ Ended ∷ []) ≡ codes "presence 1 @[Unknown macro]Foo\\\n"
+unknown_macro_prints : prints (record { items = []; script = Some (record { lookups = []; formats = []; lines = record { test = None; pieces = Bytes (codes "@") ∷ Shows (codes "Foo") (Legacy (term (Const 5) None ∷ []) ∷ []) ∷ Bytes (codes "\\") ∷ [] } ∷ [] }); digest = []; item_names = []; script_name = None }) 64 (Framed ∷ Shown ∷ Ended ∷ []) ≡ codes "presence 1 @[Unknown macro]Foo\\\n"
 unfolding digits
 unknown_macro_prints = refl
 

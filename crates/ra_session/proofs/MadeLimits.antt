@@ -1,5 +1,5 @@
 -- A workload's set keeps each limit.
-use Rattle.std.proofs.Common.{◌≡◌, ℕ, zero, suc, ◌+◌, ◌*◌, ◌%◌, ◌<◌, ◌≤◌, false, [], ◌∷◌, ◌++◌, length, Some, refl, arith, lit<, lit≤, codes, length-append, mod-lt, ne_eqb}
+use Rattle.std.proofs.Common.{◌≡◌, ℕ, zero, suc, ◌+◌, ◌*◌, ◌%◌, ◌<◌, ◌≤◌, false, [], ◌∷◌, ◌++◌, length, map, Some, option_map, refl, arith, lit<, lit≤, codes, length-append, mod-lt, ne_eqb}
 use Rattle.std.specs.List.{IsDistinct, AllByRecursion, sum_by}
 use Rattle.std.specs.Fmt.{decimal}
 use Rattle.std.proofs.lemmas.Fmt.{length-decimal-le}
@@ -8,6 +8,7 @@ use Rattle.md5.specs.Md5.{md5}
 use Rattle.ra_set.specs.Accepted.{repeats}
 use Rattle.ra_set.specs.Contents.{SetContents}
 use Rattle.ra_set.specs.Limits.{item_conditions, ScriptFits, IsWithinLimits}
+use Rattle.ra_set.specs.Texts.{item_texts, script_text}
 use Rattle.ra_trace.specs.Workload.{drawn, given, drawn_times, hex4, achievement_line, drawn_line, achievement_lines, made_set}
 use Rattle.ra_session.proofs.MadeLines.{drawn_item, drawn_items, board_item, made_items}
 use Rattle.ra_session.proofs.MadeScript.{made_script}
@@ -42,7 +43,13 @@ count_conditions (suc more) id x =
 
 -- what a workload's set contains
 abbrev pub made_contents : ℕ → SetContents
-made_contents number = record { items = made_items number; script = Some made_script; digest = md5 (made_set number) }
+made_contents number = record {
+  items = made_items number;
+  script = Some made_script;
+  digest = md5 (made_set number);
+  item_names = map md5 (item_texts (made_set number));
+  script_name = option_map md5 (script_text (made_set number));
+}
 
 script_fits : ScriptFits made_script
 script_fits = record { macros = (lit≤ tt, tt); texts = tt }

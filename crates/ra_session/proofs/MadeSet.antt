@@ -92,4 +92,6 @@ made_set_is_accepted number = record {
   ids = made_items_distinct number;
   limits = within_limits number;
   digest = refl;
+  item_names = refl;
+  script_name = refl;
 }

@@ -1,6 +1,7 @@
 pub mod AnswerLemmas
 pub mod ContentsLemmas
 pub mod CountLemmas
+pub mod CutLemmas
 pub mod FileLemmas
 pub mod FileReaders
 pub mod FrontLemmas

@@ -18,11 +18,13 @@ abbrev pub item_contents : Item → ItemContents
 item_contents (Achievement id text) = Unlocks id (trigger_contents text)
 item_contents (Leaderboard id format text) = Ranks id format (board_contents text)
 
--- what a set contains: items in text order, a presence script where there is one, and the digest of its file
+-- what a set contains: items in text order, a presence script where there is one, the digest of its file, and names
 pub record SetContents : Type 0 where
   pub items : List ItemContents
   pub script : Option ScriptContents
   pub digest : List ℕ
+  pub item_names : List (List ℕ)
+  pub script_name : Option (List ℕ)
 
 -- the contents of a set
 abbrev pub set_contents : Set → SetContents
@@ -30,4 +32,6 @@ set_contents s = record {
   items = map item_contents s.items.items;
   script = option_map script_contents s.script;
   digest = s.digest;
+  item_names = s.item_names.items;
+  script_name = s.script_name;
 }

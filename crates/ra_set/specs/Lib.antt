@@ -11,4 +11,5 @@ pub mod Refusals
 pub mod Runs
 pub mod ScriptLimits
 pub mod Spelled
+pub mod Texts
 pub mod Words

@@ -11,6 +11,7 @@ mod kept_lines;
 mod laws;
 mod limits;
 mod lines;
+mod names;
 mod parse;
 mod read_file;
 mod refused;

@@ -1,4 +1,4 @@
-//! Sets of a file: docs/DEFINITIONS.md, "Set file" and "Limits of a set".
+//! Sets of a file: docs/DEFINITIONS.md, "Set file", "Names" and "Limits of a set".
 
 ghost use Rattle.std.specs.Prelude.{◌≡◌, ◌⊎◌, IfErr, IfOk, IsErrAnd, MatchResult, option_map};
 ghost use Rattle.ra_set.specs.Accepted.{IsSet};
@@ -8,13 +8,15 @@ ghost use Rattle.ra_set.specs.Spelled.{IsSpelled};
 
 use crate::file::read_file;
 use crate::limits::check_limits;
+use crate::names::names_of;
 use crate::refused::{SetRefused, Which};
 use crate::set::Set;
 use md5::{Digest, Md5};
 use ra_richpresence::{ReadScript, Script};
 use std::alloc::Global;
 
-/// The set that a file spells, with the MD5 of the file: docs/DEFINITIONS.md, "Set file".
+/// The set that a file spells, with the MD5 of the file and the names of its items and of its
+/// script: docs/DEFINITIONS.md, "Set file" and "Names".
 ///
 /// Of several reasons why the file is none the first is told, in this order ("Limits of a set"):
 /// its bytes pass their limit; it is outside the grammar, with the first bad place; a line repeats
@@ -39,10 +41,13 @@ pub fn parse_set(alloc: Global, bytes: &[u8]) -> Result<Set, SetRefused>
     }
     let read = read_file(alloc, bytes)?;
     check_limits(&read.items, read.script.as_ref())?;
+    let names = names_of(alloc, bytes)?;
     Ok(Set {
         items: read.items,
         script: script_alone(read.script),
         digest: Md5::digest(bytes),
+        item_names: names.items,
+        script_name: names.script,
     })
 }
 

@@ -1,5 +1,6 @@
 //! Why a set is refused.
 
+use ra_text::OutOfMemory;
 use std::error::Error;
 use std::fmt;
 
@@ -61,6 +62,18 @@ pub enum SetRefused {
     Limit { which: Which, found: u64 },
     /// There was no memory for the set.
     Memory,
+}
+
+/// Want of memory is told as it is.
+impl From<OutOfMemory> for SetRefused {
+    ghost use Rattle.std.specs.Prelude.{◌≡◌};
+    ghost use Rattle.ra_set.specs.declared.refused.SetRefused.TheVariants.{Memory};
+
+    ghost from_gives = { λ _ why. why ≡ Memory };
+
+    fn from(_error: OutOfMemory) -> SetRefused {
+        SetRefused::Memory
+    }
 }
 
 /// Written in the words of docs/DEFINITIONS.md, "Statuses".

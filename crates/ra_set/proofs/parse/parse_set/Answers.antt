@@ -1,4 +1,4 @@
-use Rattle.std.proofs.Common.{inr, arith}
+use Rattle.std.proofs.Common.{inr, refl, arith}
 use Rattle.std.proofs.lemmas.Result.{err_from_is_err_and}
 use Rattle.ra_set.proofs.AnswerLemmas.{error-of_set, error-of_refused, set-not_refused, same-set, few-conditions, seen-refuses, seen-set, read-spelled}
 use Rattle.ra_set.proofs.parse.parse_set.Goals as goal
@@ -25,16 +25,29 @@ returns-in_err-check_limits-clause-refused c = let p = err_from_is_err_and c.fro
     let refuses = seen-refuses c.args.bytes.now c.in_ok-read.read c.in_ok-read.ensures.ok c.deref.result.now c.deref.ensures.value _ c.as_ref.ensures.value c.in_err-check_limits.field-0.0 c.in_err-check_limits.ensures.err in
     rw (p.1, p.2) (λ why h. error-of_refused c.args.bytes.now c.in_err-check_limits.field-0.0 (inr refuses) why h)
 
+pub returns-in_err-names-clause-accepted : goal.returns-in_err-names-clause-accepted
+returns-in_err-names-clause-accepted c =
+    let p = err_from_is_err_and c.from_residual-in_err-names.result c.from_residual-in_err-names.ensures.1 in
+    rw (p.1, p.2) (λ set s. refl)
+
 pub returns-clause-ok : goal.returns-clause-ok
-returns-clause-ok c = seen-set c.args.bytes.now c.in_ok-read.read c.in_ok-read.ensures.ok c.deref.result.now c.deref.ensures.value _ c.as_ref.ensures.value c.in_ok-check_limits.ensures.ok c.script_alone.result c.script_alone.ensures c.digest.result c.digest.ensures
+returns-clause-ok c =
+    seen-set c.args.bytes.now c.in_ok-read.read c.in_ok-read.ensures.ok c.deref.result.now c.deref.ensures.value _
+    c.as_ref.ensures.value c.in_ok-check_limits.ensures.ok c.script_alone.result c.script_alone.ensures
+    c.digest.result c.in_ok-names.names.items.items c.in_ok-names.names.script (record {
+      digest_is = c.digest.ensures;
+      items_are = c.in_ok-names.ensures.items;
+      script_is = c.in_ok-names.ensures.script;
+    })
 
 pub returns-clause-structure : goal.returns-clause-structure
-returns-clause-structure c = read-spelled c.args.bytes.now c.in_ok-read.read c.in_ok-read.ensures.ok c.in_ok-read.ensures.structure c.script_alone.result c.script_alone.ensures c.digest.result
+returns-clause-structure c =
+    read-spelled c.args.bytes.now c.in_ok-read.read c.in_ok-read.ensures.ok c.digest.result
+    c.in_ok-names.names.items.items c.in_ok-names.names.script c.in_ok-read.ensures.structure
+    c.script_alone.result c.script_alone.ensures
 
 pub returns-clause-accepted : goal.returns-clause-accepted
-returns-clause-accepted c = λ set s. same-set c.args.bytes.now _ set
-    (seen-set c.args.bytes.now c.in_ok-read.read c.in_ok-read.ensures.ok c.deref.result.now c.deref.ensures.value _ c.as_ref.ensures.value c.in_ok-check_limits.ensures.ok c.script_alone.result c.script_alone.ensures c.digest.result c.digest.ensures) s
+returns-clause-accepted c = λ set s. same-set c.args.bytes.now _ set (returns-clause-ok c) s
 
 pub returns-clause-refused : goal.returns-clause-refused
-returns-clause-refused c = λ why h. set-not_refused c.args.bytes.now _ why
-    (seen-set c.args.bytes.now c.in_ok-read.read c.in_ok-read.ensures.ok c.deref.result.now c.deref.ensures.value _ c.as_ref.ensures.value c.in_ok-check_limits.ensures.ok c.script_alone.result c.script_alone.ensures c.digest.result c.digest.ensures) h
+returns-clause-refused c = λ why h. set-not_refused c.args.bytes.now _ why (returns-clause-ok c) h
