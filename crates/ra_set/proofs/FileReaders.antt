@@ -178,10 +178,10 @@ firsts-row = firsts-or comment_row item_row (In (codes "#AL\r"))
     (firsts-wider item_row (In (codes "AL\r")) (In (codes "#AL\r")) (in_within (codes "AL\r") (codes "#AL\r") refl) firsts-item_row)
 
 -- no row begins with the letter "P"
-row-no_letter : (t : List ℕ) (r : Line × Bool) → row (80 ∷ t) r → ⊥
+pub row-no_letter : (t : List ℕ) (r : Line × Bool) → row (80 ∷ t) r → ⊥
 row-no_letter t r h = let some : In (codes "#AL\r") 80 = firsts-row.first 80 t r h in cc some
 
-ended-no_letter : (l : Line) (others : List ℕ → Type 0) (t : List ℕ) → Ended l others (80 ∷ t) → ⊥
+pub ended-no_letter : (l : Line) (others : List ℕ → Type 0) (t : List ℕ) → Ended l others (80 ∷ t) → ⊥
 ended-no_letter l others t h = cases h.front h.parts h.of_row where
   cases : (front : List ℕ) → 80 ∷ t ≡ front ++ 10 ∷ h.behind → row front (l, h.wants) → ⊥
   cases [] e r = cc e

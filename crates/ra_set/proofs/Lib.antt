@@ -6,12 +6,15 @@ pub mod FileLemmas
 pub mod FileReaders
 pub mod FrontLemmas
 pub mod IdReaders
+pub mod ItemTexts
 pub mod KeptLemmas
 pub mod LimitLemmas
+pub mod LineBytes
 pub mod LineReaders
 pub mod LinesLemmas
 pub mod MacroLemmas
 pub mod NameLemmas
+pub mod NamedSets
 pub mod PlaceLemmas
 pub mod ReadLemmas
 pub mod RepeatLemmas

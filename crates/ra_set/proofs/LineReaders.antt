@@ -60,6 +60,9 @@ reader-head letter listed =
 begins-letter : {V : Type 0} (letter : ℕ) (next : ℕ → Form ℕ V) → Begins (Then (head letter) next) (In (letter ∷ []))
 begins-letter letter next = begins-then (head letter) next (In (letter ∷ [])) (begins-then (One (only (letter ∷ []))) (λ first. Then (One (only (codes " "))) (λ space. Then ExactId (λ id. Then (One (only (codes " "))) (λ behind. Spell id)))) (In (letter ∷ [])) (begins-byte (marks (letter ∷ []))))
 
+pub begins-achievement : Begins achievement (In (codes "A"))
+begins-achievement = begins-letter 65 (λ id. Then trigger (λ t. Spell (Some (Unlocks id t))))
+
 reader-achievement : Reader achievement achievement_at (In trigger_rest)
 unfolding achievement_at
 reader-achievement = reader-then (head 65) (λ id. Then trigger (λ t. Spell (Some (Unlocks id t)))) (head_at 65) (λ id. trigger_at id.1 >>= λ t. Ok (Some (Unlocks id.0 t.0), t.1)) (λ c. ⊥) (In trigger_rest)
@@ -81,7 +84,7 @@ reader-format = reader-then (One in_name) (λ first. Then (run_of in_name) (λ o
     (λ v c s x h on. absurd on) (λ v x h c on. absurd on)
 
 -- a space, and a board
-abbrev behind_format : ℕ → Format → Form ℕ Line
+abbrev pub behind_format : ℕ → Format → Form ℕ Line
 behind_format id format = Then (One (only (codes " "))) (λ space. Then board (λ b. Spell (Some (Ranks id format b))))
 
 reader-behind_format : (id : ℕ) (format : Format) → Reader (behind_format id format) (λ text. one_at (only (codes " ")) text >>= λ space. board_at space.1 >>= λ b. Ok (Some (Ranks id format b.0), b.1)) (In board_rest)
@@ -89,6 +92,9 @@ reader-behind_format id format = reader-then (One (only (codes " "))) (λ space.
     (reader-one (only (codes " ")) (λ c. ⊥) (mark 32 refl))
     (λ space. reader-map board board_at (In board_rest) (λ b. Some (Ranks id format b)) reader-board)
     (λ v c s x h on. absurd on) (λ v x h c on. absurd on)
+
+pub begins-leaderboard : Begins leaderboard (In (codes "L"))
+begins-leaderboard = begins-letter 76 (λ id. Then format_name (behind_format id))
 
 no-space : (c : ℕ) → IsListed in_name c → In (codes " ") c → ⊥
 no-space c h space = each-in (λ c. IsListed in_name c → ⊥) (codes " ") ((λ h. cc (h.1)), tt) c space h
@@ -195,22 +201,22 @@ item_line = achievement or leaderboard_or_empty
 reader-leaderboard_or_empty : Reader leaderboard_or_empty leaderboard_or_empty_at (In item_rest)
 unfolding leaderboard_or_empty_at
 reader-leaderboard_or_empty = reader-or_else leaderboard (Spell None) leaderboard_at (λ text. Ok (None, text)) (is_in (only (codes "L"))) (In (codes "L")) (In item_rest)
-    (reader-wider leaderboard leaderboard_at (In board_rest) (In item_rest) (in_within board_rest item_rest refl) reader-leaderboard) (reader-spell None (In item_rest)) (begins-letter 76 (λ id. Then format_name (behind_format id)))
+    (reader-wider leaderboard leaderboard_at (In board_rest) (In item_rest) (in_within board_rest item_rest refl) reader-leaderboard) (reader-spell None (In item_rest)) begins-leaderboard
     opens-leaderboard (λ c is. in_within (codes "L") item_rest refl c (is_in-in (marks (codes "L")) c is)) (λ c s v is h. absurd (cc h.empty)) (not_in-in (marks (codes "L")))
 
 firsts-leaderboard_or_empty : Firsts leaderboard_or_empty (In (codes "L"))
-firsts-leaderboard_or_empty = firsts-or leaderboard (Spell None) (In (codes "L")) (firsts-begins leaderboard (In (codes "L")) (begins-letter 76 (λ id. Then format_name (behind_format id)))) (firsts-spell None (In (codes "L")))
+firsts-leaderboard_or_empty = firsts-or leaderboard (Spell None) (In (codes "L")) (firsts-begins leaderboard (In (codes "L")) begins-leaderboard) (firsts-spell None (In (codes "L")))
 
 reader-item_line : Reader item_line item_line_at (In item_rest)
 unfolding item_line_at
 reader-item_line = reader-or_else achievement leaderboard_or_empty achievement_at leaderboard_or_empty_at (is_in (only (codes "A"))) (In (codes "A")) (In item_rest)
-    (reader-wider achievement achievement_at (In trigger_rest) (In item_rest) (in_within trigger_rest item_rest refl) reader-achievement) reader-leaderboard_or_empty (begins-letter 65 (λ id. Then trigger (λ t. Spell (Some (Unlocks id t)))))
+    (reader-wider achievement achievement_at (In trigger_rest) (In item_rest) (in_within trigger_rest item_rest refl) reader-achievement) reader-leaderboard_or_empty begins-achievement
     opens-achievement (λ c is. in_within (codes "A") item_rest refl c (is_in-in (marks (codes "A")) c is))
     (λ c s v is h. in_apart (codes "A") (codes "L") refl c (is_in-in (marks (codes "A")) c is) (firsts-leaderboard_or_empty.first c s v h)) (not_in-in (marks (codes "A")))
 
 firsts-item_line : Firsts item_line (In (codes "AL"))
 firsts-item_line = firsts-or achievement leaderboard_or_empty (In (codes "AL"))
-    (firsts-wider achievement (In (codes "A")) (In (codes "AL")) (in_within (codes "A") (codes "AL") refl) (firsts-begins achievement (In (codes "A")) (begins-letter 65 (λ id. Then trigger (λ t. Spell (Some (Unlocks id t)))))))
+    (firsts-wider achievement (In (codes "A")) (In (codes "AL")) (in_within (codes "A") (codes "AL") refl) (firsts-begins achievement (In (codes "A")) begins-achievement))
     (firsts-wider leaderboard_or_empty (In (codes "L")) (In (codes "AL")) (in_within (codes "L") (codes "AL") refl) firsts-leaderboard_or_empty)
 
 -- ---- rows
@@ -249,8 +255,11 @@ reader-comment_row : Reader comment_row comment_row_at NotEnd
 unfolding comment_row_at
 reader-comment_row = reader-map comment comment_at NotEnd (λ l. (l, false)) reader-comment
 
+pub begins-comment : Begins comment (In (codes "#"))
+begins-comment = begins-then (One (only (codes "#"))) (λ mark. Then (run_of in_line) (λ bytes. Spell None)) (In (codes "#")) (begins-byte (marks (codes "#")))
+
 pub begins-comment_row : Begins comment_row (In (codes "#"))
-begins-comment_row = begins-then comment (λ l. Spell (l, false)) (In (codes "#")) (begins-then (One (only (codes "#"))) (λ mark. Then (run_of in_line) (λ bytes. Spell None)) (In (codes "#")) (begins-byte (marks (codes "#"))))
+begins-comment_row = begins-then comment (λ l. Spell (l, false)) (In (codes "#")) begins-comment
 
 behind-item : (l : Line) → Reader {V = Line × Bool} (Then (optional (lookup returns) false) (λ returned. Spell (l, returned))) (λ text. optional_at (lookup returns) false text >>= λ returned. Ok ((l, returned.0), returned.1)) NotEnd
 behind-item l = reader-map (optional (lookup returns) false) (optional_at (lookup returns) false) NotEnd (λ returned. (l, returned))

@@ -84,10 +84,10 @@ returned-wants t wants h = let byte : h.symbol ≡ 13 = each-in (λ c. c ≡ 13)
     (h.alone ∙ ap (λ c. c ∷ []) byte, each-listed (λ b. b ≡ true) returns (refl, tt) h.symbol wants h.listed)
 
 -- what a row is: a line, or one that is no comment with a CR behind it
-abbrev Cut : List ℕ → Line → Bool → Type 0
+abbrev pub Cut : List ℕ → Line → Bool → Type 0
 Cut t l wants = (line t l × (wants ≡ false)) ⊎ ((u : List ℕ) × line u l × (wants ≡ true) × (t ≡ u ++ codes "\r"))
 
-cut : (t : List ℕ) (l : Line) (wants : Bool) → row t (l, wants) → Cut t l wants
+pub cut : (t : List ℕ) (l : Line) (wants : Bool) → row t (l, wants) → Cut t l wants
 cut t l wants (inl h) =
     let same = h.of_next.is in
     let text : t ≡ h.front = h.parts ∙ ap (λ x. h.front ++ x) h.of_next.empty ∙ append-nil h.front in

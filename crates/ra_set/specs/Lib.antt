@@ -4,6 +4,7 @@ pub mod Counting
 pub mod Grammar
 pub mod Kept
 pub mod Limits
+pub mod Names
 pub mod Places
 pub mod Read
 pub mod Reading

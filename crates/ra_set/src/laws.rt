@@ -3,7 +3,8 @@
 ghost use Rattle.std.specs.Prelude.{◌≡◌, ◌↔◌, ℕ, All, List, None};
 ghost use Rattle.ra_set.specs.Accepted.{IsSet};
 ghost use Rattle.ra_set.specs.Contents.{SetContents};
-ghost use Rattle.ra_set.specs.Grammar.{SetFile, set_file};
+ghost use Rattle.ra_set.specs.Grammar.{FileContents, SetFile, set_file};
+ghost use Rattle.ra_set.specs.Names.{SpellsTexts};
 ghost use Rattle.ra_set.specs.Refusals.{Refuses};
 ghost use Rattle.ra_set.specs.Spelled.{HasSmallId, IsSpelled};
 ghost use Rattle.ra_set.specs.declared.refused.SetRefused.{SetRefused};
@@ -33,4 +34,12 @@ pub fn one_answer()
 pub fn spelled_sets()
     ensures { (set : SetContents) → set.script ≡ None
         → (IsSpelled set × All HasSmallId set.items) ↔ ((file : List ℕ) × SetFile file set) }
+{}
+
+/// The texts that the names of a file are taken of spell what the file contains: each text of an
+/// item its item, and the text of the script the script: docs/DEFINITIONS.md, "Names".
+///
+/// A law: it does nothing.
+pub fn item_lines()
+    ensures { (file : List ℕ) (contents : FileContents) → set_file file contents → SpellsTexts file contents }
 {}

@@ -21,7 +21,7 @@ mod set;
 
 pub use counting::conditions;
 pub use item::Item;
-pub use laws::{one_answer, one_file, spelled_sets};
+pub use laws::{item_lines, one_answer, one_file, spelled_sets};
 pub use parse::parse_set;
 pub use refused::{SetRefused, Which};
 pub use set::Set;

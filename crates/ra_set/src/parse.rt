@@ -3,6 +3,7 @@
 ghost use Rattle.std.specs.Prelude.{◌≡◌, ◌⊎◌, IfErr, IfOk, IsErrAnd, MatchResult, option_map};
 ghost use Rattle.ra_set.specs.Accepted.{IsSet};
 ghost use Rattle.ra_set.specs.Contents.{SetContents, set_contents};
+ghost use Rattle.ra_set.specs.Names.{IsNamed};
 ghost use Rattle.ra_set.specs.Refusals.{Refuses};
 ghost use Rattle.ra_set.specs.Spelled.{IsSpelled};
 
@@ -26,6 +27,7 @@ use std::alloc::Global;
 pub fn parse_set(alloc: Global, bytes: &[u8]) -> Result<Set, SetRefused>
     ensures ok { IfOk result (λ set. IsSet bytes.now (set_contents set)) }
     ensures structure { IfOk result (λ set. IsSpelled (set_contents set)) }
+    ensures named { IfOk result (λ set. IsNamed (set_contents set)) }
     ensures err { IfErr result (λ why. why ≡ SetRefused.Memory ⊎ Refuses bytes.now why) }
 
     // No other answer is given, want of memory aside.

@@ -1,6 +1,7 @@
 use Rattle.std.proofs.Common.{inr, refl, arith}
 use Rattle.std.proofs.lemmas.Result.{err_from_is_err_and}
 use Rattle.ra_set.proofs.AnswerLemmas.{error-of_set, error-of_refused, set-not_refused, same-set, few-conditions, seen-refuses, seen-set, read-spelled}
+use Rattle.ra_set.proofs.NamedSets.{set-named}
 use Rattle.ra_set.proofs.parse.parse_set.Goals as goal
 
 pub returns-in_err-read-clause-accepted : goal.returns-in_err-read-clause-accepted
@@ -45,6 +46,9 @@ returns-clause-structure c =
     read-spelled c.args.bytes.now c.in_ok-read.read c.in_ok-read.ensures.ok c.digest.result
     c.in_ok-names.names.items.items c.in_ok-names.names.script c.in_ok-read.ensures.structure
     c.script_alone.result c.script_alone.ensures
+
+pub returns-clause-named : goal.returns-clause-named
+returns-clause-named c = set-named c.args.bytes.now _ (returns-clause-ok c)
 
 pub returns-clause-accepted : goal.returns-clause-accepted
 returns-clause-accepted c = λ set s. same-set c.args.bytes.now _ set (returns-clause-ok c) s
