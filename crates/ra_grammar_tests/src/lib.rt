@@ -18,6 +18,8 @@ mod script_limits;
 #[cfg(test)]
 mod scripts;
 #[cfg(test)]
+mod set_names;
+#[cfg(test)]
 mod sets;
 #[cfg(test)]
 mod sets_with_scripts;

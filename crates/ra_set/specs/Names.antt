@@ -1,4 +1,4 @@
--- The names of a set, and what the texts spell that they are taken of: docs/DEFINITIONS.md, "Names".
+-- Names of a set, and what the texts spell that they are taken of: docs/DEFINITIONS.md, "Names of items and scripts".
 use Rattle.std.specs.Prelude.{◌≡◌, ℕ, All, List, length, slice_get, Option, Some, None}
 use Rattle.ra_richpresence.specs.Contents.{ScriptContents}
 use Rattle.ra_richpresence.specs.Grammar.{ScriptParts, script_parts}

@@ -37,7 +37,8 @@ pub fn spelled_sets()
 {}
 
 /// The texts that the names of a file are taken of spell what the file contains: each text of an
-/// item its item, and the text of the script the script: docs/DEFINITIONS.md, "Names".
+/// item its item, and the text of the script the script: docs/DEFINITIONS.md, "Names of items and
+/// scripts".
 ///
 /// A law: it does nothing.
 pub fn item_lines()

@@ -1,4 +1,4 @@
-//! The names of a set's items and of its script: docs/DEFINITIONS.md, "Names".
+//! The names of a set's items and of its script: docs/DEFINITIONS.md, "Names of items and scripts".
 
 ghost use Rattle.std.specs.Prelude.{◌≡◌, ◌∷◌, [], ◌++◌, IfOk, OnOk, filter, length, map, option_map, if◌then◌else◌};
 ghost use Rattle.md5.specs.Md5.{md5};

@@ -1,4 +1,4 @@
-//! Sets of a file: docs/DEFINITIONS.md, "Set file", "Names" and "Limits of a set".
+//! Sets of a file: docs/DEFINITIONS.md, "Set file", "Limits of a set" and "Names of items and scripts".
 
 ghost use Rattle.std.specs.Prelude.{◌≡◌, ◌⊎◌, IfErr, IfOk, IsErrAnd, MatchResult, option_map};
 ghost use Rattle.ra_set.specs.Accepted.{IsSet};
@@ -17,7 +17,7 @@ use ra_richpresence::{ReadScript, Script};
 use std::alloc::Global;
 
 /// The set that a file spells, with the MD5 of the file and the names of its items and of its
-/// script: docs/DEFINITIONS.md, "Set file" and "Names".
+/// script: docs/DEFINITIONS.md, "Set file" and "Names of items and scripts".
 ///
 /// Of several reasons why the file is none the first is told, in this order ("Limits of a set"):
 /// its bytes pass their limit; it is outside the grammar, with the first bad place; a line repeats

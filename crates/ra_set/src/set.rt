@@ -10,7 +10,7 @@ pub struct Set {
     pub script: Option<Script>,
     /// The MD5 of the whole file.
     pub digest: [u8; 16],
-    /// The name of each item, in the order of the items: docs/DEFINITIONS.md, "Names".
+    /// The name of each item, in their order: docs/DEFINITIONS.md, "Names of items and scripts".
     pub item_names: Vec<[u8; 16]>,
     /// The name of the script, where there is one.
     pub script_name: Option<[u8; 16]>,
