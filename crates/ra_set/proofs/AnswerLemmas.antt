@@ -122,9 +122,11 @@ pub same-set : (file : List ℕ) (a b : SetContents) → IsSet file a → IsSet 
 same-set file a b x y =
     let same = one-contents file x.spelled.contents y.spelled.contents (set-contents file a x) (set-contents file b y) in
     fields a.items b.items a.script b.script a.digest b.digest a.item_names b.item_names a.script_name b.script_name
-    (x.spelled.items ∙ ap (λ c. items_of c.lines) same ∙ sym y.spelled.items) (x.spelled.script ∙ ap (λ c. option_map script_of c.script) same ∙ sym y.spelled.script)
+    (x.spelled.items ∙ ap (λ c. items_of c.lines) same ∙ sym y.spelled.items)
+    (x.spelled.script ∙ ap (λ c. option_map script_of c.script) same ∙ sym y.spelled.script)
     (x.digest ∙ sym y.digest) (x.item_names ∙ sym y.item_names) (x.script_name ∙ sym y.script_name) where
-      fields : (i j : List ItemContents) (s t : Option ScriptContents) (d e : List ℕ) (m n : List (List ℕ)) (p q : Option (List ℕ)) → i ≡ j → s ≡ t → d ≡ e → m ≡ n → p ≡ q
+      fields : (i j : List ItemContents) (s t : Option ScriptContents) (d e : List ℕ) (m n : List (List ℕ))
+          (p q : Option (List ℕ)) → i ≡ j → s ≡ t → d ≡ e → m ≡ n → p ≡ q
           → ◌≡◌ {A = SetContents} (record { items = i; script = s; digest = d; item_names = m; script_name = p })
           (record { items = j; script = t; digest = e; item_names = n; script_name = q })
       fields i j s t d e m n p q is ss ds ms ps =
@@ -178,13 +180,22 @@ pub record HasNames (file digest : List ℕ) (item_names : List (List ℕ)) (scr
   pub script_is : script_name ≡ option_map md5 (script_text file)
 
 -- a set of what was read, with a script
-abbrev pub set_of : ReadFile → (digest : List ℕ) (item_names : List (List ℕ)) (script_name : Option (List ℕ)) → Option ScriptContents → SetContents
+abbrev pub set_of : ReadFile → (digest : List ℕ) (item_names : List (List ℕ)) (script_name : Option (List ℕ))
+    → Option ScriptContents → SetContents
 set_of read digest item_names script_name script =
-    record { items = map item_contents read.items.items; script = script; digest = digest; item_names = item_names; script_name = script_name }
+    record {
+      items = map item_contents read.items.items;
+      script = script;
+      digest = digest;
+      item_names = item_names;
+      script_name = script_name;
+    }
 
-module _ (file : List ℕ) (read : ReadFile) (h : IsReadFile file read) (digest : List ℕ) (item_names : List (List ℕ)) (script_name : Option (List ℕ)) where
+module _ (file : List ℕ) (read : ReadFile) (h : IsReadFile file read) (digest : List ℕ) (item_names : List (List ℕ))
+    (script_name : Option (List ℕ)) where
   -- what was read has the structure of a set
-  pub read-spelled : OptionalScript (script_read read.script) → (alone : Option Script) → alone ≡ option_map (λ r. r.script) read.script
+  pub read-spelled : OptionalScript (script_read read.script) → (alone : Option Script)
+      → alone ≡ option_map (λ r. r.script) read.script
       → IsSpelled (set_of read digest item_names script_name (option_map script_contents alone))
   read-spelled spelled alone is = record {
     items = subst (All IsItem) (sym h.items) (contents-items file h.contents h.distinct.has.spelled);
@@ -192,13 +203,15 @@ module _ (file : List ℕ) (read : ReadFile) (h : IsReadFile file read) (digest 
   }
 
   -- what was read is a set
-  read-set : KeepsLimits (map item_contents read.items.items) h.contents.script → HasNames file digest item_names script_name
+  read-set : KeepsLimits (map item_contents read.items.items) h.contents.script
+      → HasNames file digest item_names script_name
       → IsSet file (set_of read digest item_names script_name (script_read read.script))
   read-set keeps names = record {
     size = h.distinct.has.size;
     spelled = record { contents = h.contents; spelled = h.distinct.has.spelled; items = h.items; script = script-made h.contents.script read.script h.script };
     ids = subst (IsDistinct repeats) (sym h.items) h.distinct.ids;
-    limits = keeps-within (set_of read digest item_names script_name (script_read read.script)) h.contents.script (script-made h.contents.script read.script h.script) keeps;
+    limits = keeps-within (set_of read digest item_names script_name (script_read read.script)) h.contents.script
+        (script-made h.contents.script read.script h.script) keeps;
     digest = names.digest_is;
     item_names = names.items_are;
     script_name = names.script_is;
@@ -206,8 +219,10 @@ module _ (file : List ℕ) (read : ReadFile) (h : IsReadFile file read) (digest 
 
 module _ (file : List ℕ) (read : ReadFile) (h : IsReadFile file read) where
   -- what was read passes a limit
-  read-refuses : (why : SetRefused) → PassesLimit (map item_contents read.items.items) h.contents.script why → Refuses file why
-  read-refuses why p = limit-refuses file h.contents why h.distinct (subst (λ items. PassesLimit items h.contents.script why) h.items p)
+  read-refuses : (why : SetRefused) → PassesLimit (map item_contents read.items.items) h.contents.script why
+      → Refuses file why
+  read-refuses why p = limit-refuses file h.contents why h.distinct
+      (subst (λ items. PassesLimit items h.contents.script why) h.items p)
 
   -- the items and the script as they are looked at
   module _ (seen : List Item) (items : seen ≡ read.items.items) (found : Option ReadScript) (script : found ≡ read.script) where
@@ -225,9 +240,13 @@ module _ (file : List ℕ) (read : ReadFile) (h : IsReadFile file read) where
     pub seen-refuses : (why : SetRefused) → ((parts : Option ScriptParts) → IsReadOf parts found → PassesLimit (map item_contents seen) parts why) → Refuses file why
     seen-refuses why p = read-refuses why (subst (λ xs. PassesLimit (map item_contents xs) h.contents.script why) items (p h.contents.script seen-read))
 
-    pub seen-set : ((parts : Option ScriptParts) → IsReadOf parts found → KeepsLimits (map item_contents seen) parts) → (alone : Option Script) → alone ≡ option_map (λ r. r.script) read.script
-        → (digest : List ℕ) (item_names : List (List ℕ)) (script_name : Option (List ℕ)) → HasNames file digest item_names script_name
+    pub seen-set : ((parts : Option ScriptParts) → IsReadOf parts found → KeepsLimits (map item_contents seen) parts)
+        → (alone : Option Script) → alone ≡ option_map (λ r. r.script) read.script
+        → (digest : List ℕ) (item_names : List (List ℕ)) (script_name : Option (List ℕ))
+        → HasNames file digest item_names script_name
         → IsSet file (set_of read digest item_names script_name (option_map script_contents alone))
     seen-set keeps alone is digest item_names script_name names =
         subst (λ s. IsSet file (set_of read digest item_names script_name s)) (sym (alone-read read.script alone is))
-        (read-set file read h digest item_names script_name (subst (λ xs. KeepsLimits (map item_contents xs) h.contents.script) items (keeps h.contents.script seen-read)) names)
+        (read-set file read h digest item_names script_name
+        (subst (λ xs. KeepsLimits (map item_contents xs) h.contents.script) items
+        (keeps h.contents.script seen-read)) names)

@@ -201,22 +201,26 @@ item_line = achievement or leaderboard_or_empty
 reader-leaderboard_or_empty : Reader leaderboard_or_empty leaderboard_or_empty_at (In item_rest)
 unfolding leaderboard_or_empty_at
 reader-leaderboard_or_empty = reader-or_else leaderboard (Spell None) leaderboard_at (λ text. Ok (None, text)) (is_in (only (codes "L"))) (In (codes "L")) (In item_rest)
-    (reader-wider leaderboard leaderboard_at (In board_rest) (In item_rest) (in_within board_rest item_rest refl) reader-leaderboard) (reader-spell None (In item_rest)) begins-leaderboard
+    (reader-wider leaderboard leaderboard_at (In board_rest) (In item_rest) (in_within board_rest item_rest refl)
+    reader-leaderboard) (reader-spell None (In item_rest)) begins-leaderboard
     opens-leaderboard (λ c is. in_within (codes "L") item_rest refl c (is_in-in (marks (codes "L")) c is)) (λ c s v is h. absurd (cc h.empty)) (not_in-in (marks (codes "L")))
 
 firsts-leaderboard_or_empty : Firsts leaderboard_or_empty (In (codes "L"))
-firsts-leaderboard_or_empty = firsts-or leaderboard (Spell None) (In (codes "L")) (firsts-begins leaderboard (In (codes "L")) begins-leaderboard) (firsts-spell None (In (codes "L")))
+firsts-leaderboard_or_empty = firsts-or leaderboard (Spell None) (In (codes "L"))
+    (firsts-begins leaderboard (In (codes "L")) begins-leaderboard) (firsts-spell None (In (codes "L")))
 
 reader-item_line : Reader item_line item_line_at (In item_rest)
 unfolding item_line_at
 reader-item_line = reader-or_else achievement leaderboard_or_empty achievement_at leaderboard_or_empty_at (is_in (only (codes "A"))) (In (codes "A")) (In item_rest)
-    (reader-wider achievement achievement_at (In trigger_rest) (In item_rest) (in_within trigger_rest item_rest refl) reader-achievement) reader-leaderboard_or_empty begins-achievement
+    (reader-wider achievement achievement_at (In trigger_rest) (In item_rest) (in_within trigger_rest item_rest refl)
+    reader-achievement) reader-leaderboard_or_empty begins-achievement
     opens-achievement (λ c is. in_within (codes "A") item_rest refl c (is_in-in (marks (codes "A")) c is))
     (λ c s v is h. in_apart (codes "A") (codes "L") refl c (is_in-in (marks (codes "A")) c is) (firsts-leaderboard_or_empty.first c s v h)) (not_in-in (marks (codes "A")))
 
 firsts-item_line : Firsts item_line (In (codes "AL"))
 firsts-item_line = firsts-or achievement leaderboard_or_empty (In (codes "AL"))
-    (firsts-wider achievement (In (codes "A")) (In (codes "AL")) (in_within (codes "A") (codes "AL") refl) (firsts-begins achievement (In (codes "A")) begins-achievement))
+    (firsts-wider achievement (In (codes "A")) (In (codes "AL")) (in_within (codes "A") (codes "AL") refl)
+    (firsts-begins achievement (In (codes "A")) begins-achievement))
     (firsts-wider leaderboard_or_empty (In (codes "L")) (In (codes "AL")) (in_within (codes "L") (codes "AL") refl) firsts-leaderboard_or_empty)
 
 -- ---- rows
@@ -256,7 +260,8 @@ unfolding comment_row_at
 reader-comment_row = reader-map comment comment_at NotEnd (λ l. (l, false)) reader-comment
 
 pub begins-comment : Begins comment (In (codes "#"))
-begins-comment = begins-then (One (only (codes "#"))) (λ mark. Then (run_of in_line) (λ bytes. Spell None)) (In (codes "#")) (begins-byte (marks (codes "#")))
+begins-comment = begins-then (One (only (codes "#"))) (λ mark. Then (run_of in_line) (λ bytes. Spell None))
+    (In (codes "#")) (begins-byte (marks (codes "#")))
 
 pub begins-comment_row : Begins comment_row (In (codes "#"))
 begins-comment_row = begins-then comment (λ l. Spell (l, false)) (In (codes "#")) begins-comment

@@ -1,4 +1,4 @@
--- The texts that names are taken of, which are a file cut at each LF: docs/DEFINITIONS.md, "Names of items and scripts".
+-- The texts that names are taken of, a file cut at each LF: docs/DEFINITIONS.md, "Names of items and scripts".
 use Rattle.std.specs.Prelude.{ℕ, zero, suc, length, ◌==◌, Bool, if◌then◌else◌, Option, None, Some, List, [], ◌∷◌, codes}
 use Rattle.std.specs.List.{filter}
 use Rattle.ra_text.specs.Reading.{begins}
