@@ -13,7 +13,7 @@ use Rattle.ra_memref.specs.Values.{Start, value_of}
 use Rattle.ra_trigger.specs.Steps.{TriggerKept, step as trigger_step, truth, hits_after_truth}
 use Rattle.ra_value.specs.Steps.{ValueKept, step as value_step}
 use Rattle.ra_member.specs.Frames.{left_at, truth_at, lefts_at, truths_at, achievement_next, test_next, test_holds, sum_at, value_next}
-use Rattle.ra_member.specs.Members.{MemberContents, MemberKept, tests_next, tests_hold, values_next, member_next, trees_in_member}
+use Rattle.ra_member.specs.Members.{MemberContents, MemberKept, tests_next, tests_hold, values_next, member_next, members_next, trees_in_member}
 use Rattle.ra_member.proofs.Listed.{In, In_front, In_behind, In_split, In_flat, In_filter, map_agree, flat_map_agree}
 
 -- a place of a group stands in its pass order
@@ -133,3 +133,12 @@ module _ (start start' : Start) (h h' : History) where
       let tests = tests_agree m.tests (agree_front (flat_map trees_in_trigger m.tests) (flat_map trees_in_value m.values) agree) kept.tests in
       let values = values_agree m.values (agree_behind (flat_map trees_in_trigger m.tests) (flat_map trees_in_value m.values) agree) kept.values in
       (λ i. record { tests = tests i; values = values i })
+
+  -- members beside each other
+  pub members_agree : (members : List MemberContents) → Agree (flat_map trees_in_member members) → (kept : List MemberKept) → members_next start members h kept ≡ members_next start' members h' kept
+  members_agree [] agree kept = refl
+  members_agree (m ∷ members) agree [] = refl
+  members_agree (m ∷ members) agree (k ∷ kept) =
+      let first = member_agrees m (agree_front (trees_in_member m) (flat_map trees_in_member members) agree) k in
+      let rest = members_agree members (agree_behind (trees_in_member m) (flat_map trees_in_member members) agree) kept in
+      (λ i. first i ∷ rest i)

@@ -1,5 +1,5 @@
 -- What is kept after a history, by what each of its steps does.
-use Rattle.std.proofs.Common.{◌≡◌, ℕ, List, [], ◌∷◌, ◌++◌, refl, ◌∙◌, ap}
+use Rattle.std.proofs.Common.{◌≡◌, ℕ, List, [], ◌∷◌, ◌++◌, length, map, zip, refl, ◌∙◌, ap, arith}
 use Rattle.ra_memory.specs.Image.{History}
 use Rattle.ra_member.specs.Folds.{after}
 
@@ -31,3 +31,20 @@ pub after_part : {K L : Type 0} (part : K → L) (step : History → K → K) (o
 after_part part step own goes kept [] = refl
 after_part part step own goes kept (image ∷ earlier) =
     goes image earlier (after step kept earlier) ∙ ap (own (image ∷ earlier)) (after_part part step own goes kept earlier)
+
+-- what steps beside each other, each by itself
+pub after_each : {X K : Type 0} (step : X → History → K → K) (xs : List X) (kept : List K) → length kept ≡ length xs → (history : History) → map (λ p. after (step p.0) p.1 history) (zip xs kept) ≡ after (λ h ks. map (λ p. step p.0 h p.1) (zip xs ks)) kept history
+after_each step xs kept many =
+    after_only (λ h ks. map (λ p. step p.0 h p.1) (zip xs ks)) kept (λ history. map (λ p. after (step p.0) p.1 history) (zip xs kept)) (opens step xs kept many) (each step xs kept)
+  where
+    opens : {X K : Type 0} (step : X → History → K → K) (xs : List X) (kept : List K) → length kept ≡ length xs → map (λ p. after (step p.0) p.1 []) (zip xs kept) ≡ kept
+    opens step [] [] many = refl
+    opens step [] (k ∷ kept) many = absurd (omega arith)
+    opens step (x ∷ xs) [] many = absurd (omega arith)
+    opens step (x ∷ xs) (k ∷ kept) many = ap (λ ks. k ∷ ks) (opens step xs kept (omega arith))
+
+    each : {X K : Type 0} (step : X → History → K → K) (xs : List X) (kept : List K) (image : List ℕ) (earlier : History) → map (λ p. after (step p.0) p.1 (image ∷ earlier)) (zip xs kept) ≡ map (λ p. step p.0 (image ∷ earlier) p.1) (zip xs (map (λ p. after (step p.0) p.1 earlier) (zip xs kept)))
+    each step [] kept image earlier = refl
+    each step (x ∷ xs) [] image earlier = refl
+    each step (x ∷ xs) (k ∷ kept) image earlier =
+        ap (λ ks. step x (image ∷ earlier) (after (step x) k earlier) ∷ ks) (each step xs kept image earlier)

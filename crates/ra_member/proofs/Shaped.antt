@@ -14,13 +14,14 @@ use Rattle.ra_group.specs.Outcome.{next_hit, next_hits}
 use Rattle.ra_memref.specs.Values.{Start}
 use Rattle.ra_trigger.specs.Steps.{frames_along, together, cleared, hits_after_truth}
 use Rattle.ra_value.specs.Steps.{ValueKept, PartStep, part_step, part_steps, number_after, step as value_step}
+use Rattle.ra_value.specs.Kept.{cleared as zeroed}
 use Rattle.ra_member.specs.declared.member.Member.{Member}
 use Rattle.ra_member.specs.declared.trigger_run.TriggerRun.{TriggerRun}
 use Rattle.ra_member.specs.declared.value_run.ValueRun.{ValueRun}
 use Rattle.ra_member.specs.Beside.{AreBeside}
 use Rattle.ra_member.specs.Folds.{after}
 use Rattle.ra_member.specs.Frames.{truths_at, lefts_at, sum_at, value_next}
-use Rattle.ra_member.specs.Members.{MemberContents, MemberKept, HasShape, no_hits, no_values, no_member, tests_next, values_next, member_next}
+use Rattle.ra_member.specs.Members.{MemberContents, MemberKept, HasShape, HaveShapes, no_hits, no_values, no_member, tests_next, values_next, member_next, members_next}
 use Rattle.ra_member.specs.MemberRuns.{IsMember, kept_by}
 use Rattle.ra_member.specs.Runs.{IsTriggerRun, IsValueRun}
 use Rattle.ra_member.proofs.Folds.{after_keeps}
@@ -100,6 +101,12 @@ rest_long m n ms ns same = cc
 none_long : (n : ℕ) (ns : List ℕ) → [] ≡ n ∷ ns → ⊥
 none_long n ns same = cc
 
+rest_values : (v : List PartContents) (values : List (List PartContents)) (k : ValueKept) (kept : List ValueKept) → AreValuesLong (v ∷ values) (k ∷ kept) → AreValuesLong values kept
+rest_values v values k kept long = record {
+  hits = rest_long (length k.hits) (value_hits v) (map length (map (λ (w : ValueKept). w.hits) kept)) (map value_hits values) long.hits;
+  numbers = rest_long (length k.numbers) (length v) (map length (map (λ (w : ValueKept). w.numbers) kept)) (map length values) long.numbers;
+}
+
 module _ (start : Start) (history : History) where
   pub tests_long : (tests : List TriggerContents) (hits : List (List ℕ)) → AreTestsLong tests hits → AreTestsLong tests (tests_next start tests history hits)
   tests_long [] hits long = refl
@@ -117,11 +124,7 @@ module _ (start : Start) (history : History) where
   values_long (v ∷ values) [] long = absurd (none_long (value_hits v) (map value_hits values) long.hits)
   values_long (v ∷ values) (k ∷ kept) long =
       let one = value_long v k in
-      let rest : AreValuesLong values kept = record {
-        hits = rest_long (length k.hits) (value_hits v) (map length (map (λ (w : ValueKept). w.hits) kept)) (map value_hits values) long.hits;
-        numbers = rest_long (length k.numbers) (length v) (map length (map (λ (w : ValueKept). w.numbers) kept)) (map length values) long.numbers;
-      } in
-      let more = values_long values kept rest in
+      let more = values_long values kept (rest_values v values k kept long) in
       record { hits = ap₂ (λ n ns. n ∷ ns) one.hits more.hits; numbers = ap₂ (λ n ns. n ∷ ns) one.numbers more.numbers }
 
 -- a member of tests and values that are long enough
@@ -156,6 +159,25 @@ next_shape start m history kept shape =
 pub after_shape : (start : Start) (m : MemberContents) (kept : MemberKept) → HasShape m kept → (history : History) → HasShape m (after (λ h. member_next start m h) kept history)
 after_shape start m kept shape =
     after_keeps (λ h k. HasShape m k) (λ h. member_next start m h) (λ image earlier k fits. next_shape start m (image ∷ earlier) k fits) kept shape
+
+-- members beside each other
+pub members_fit : (start : Start) (members : List MemberContents) (history : History) (kept : List MemberKept) → HaveShapes members kept → HaveShapes members (members_next start members history kept)
+members_fit start [] history [] fits = tt
+members_fit start [] history (k ∷ kept) fits = absurd fits
+members_fit start (m ∷ members) history [] fits = absurd fits
+members_fit start (m ∷ members) history (k ∷ kept) fits =
+    (next_shape start m history k fits.0, members_fit start members history kept fits.1)
+
+-- values whose numbers are all set to 0 begin anew
+pub cleared_long : (values : List (List PartContents)) (kept : List ValueKept) → AreValuesLong values kept → map zeroed kept ≡ no_values values
+cleared_long [] [] long = refl
+cleared_long [] (k ∷ kept) long = absurd (none_long (length k.hits) (map length (map (λ (w : ValueKept). w.hits) kept)) (sym long.hits))
+cleared_long (v ∷ values) [] long = absurd (none_long (value_hits v) (map value_hits values) long.hits)
+cleared_long (v ∷ values) (k ∷ kept) long =
+    let hits = head_long (length k.hits) (value_hits v) (map length (map (λ (w : ValueKept). w.hits) kept)) (map value_hits values) long.hits in
+    let numbers = head_long (length k.numbers) (length v) (map length (map (λ (w : ValueKept). w.numbers) kept)) (map length values) long.numbers in
+    let rest = cleared_long values kept (rest_values v values k kept long) in
+    (λ i. record { hits = replicate (hits i) 0; numbers = replicate (numbers i) 0 } ∷ rest i)
 
 -- what a member with its plans keeps
 module _ (nodes : List Node) where

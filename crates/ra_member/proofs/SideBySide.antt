@@ -39,6 +39,12 @@ zip_more f [] (b ∷ ks) x k same = absurd (omega arith)
 zip_more f (a ∷ xs) [] x k same = absurd (omega arith)
 zip_more f (a ∷ xs) (b ∷ ks) x k same = ap (λ l. f (a, b) ∷ l) (zip_more f xs ks x k (omega arith))
 
+-- the first of two lists by what stands for each of its elements
+pub zip_by : {W X K A : Type 0} (f : X × K → A) (g : W → X) (ws : List W) (ks : List K) → map f (zip (map g ws) ks) ≡ map (λ p. f (g p.0, p.1)) (zip ws ks)
+zip_by f g [] ks = refl
+zip_by f g (w ∷ ws) [] = refl
+zip_by f g (w ∷ ws) (k ∷ ks) = ap (λ l. f (g w, k) ∷ l) (zip_by f g ws ks)
+
 -- the elements before a place are done, and those from it on are as they were
 pub record IsWalk {X Y : Type 0} (has : X → Y → Type 0) (done left : List X) (olds ys : List Y) (place : ℕ) : Type 0 where
   pub within : place ≤ length ys

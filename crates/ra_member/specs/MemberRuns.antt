@@ -4,14 +4,16 @@ use Rattle.std.specs.List.{AllByRecursion}
 use Rattle.ra_condition.specs.Contents.{TriggerContents, PartContents}
 use Rattle.ra_indirect.specs.declared.node.Node.{Node}
 use Rattle.ra_words.specs.Words.{words_at}
+use Rattle.ra_memory.specs.Image.{History}
+use Rattle.ra_memref.specs.Values.{Start}
 use Rattle.ra_memref.specs.Table.{TableSeen}
 use Rattle.ra_member.specs.declared.member.Member.{Member}
 use Rattle.ra_member.specs.declared.trigger_run.TriggerRun.{TriggerRun}
 use Rattle.ra_member.specs.declared.value_run.ValueRun.{ValueRun}
 use Rattle.ra_member.specs.Beside.{AreBeside}
-use Rattle.ra_member.specs.Members.{MemberContents, MemberKept, no_member, trees_in_member, member_conditions}
+use Rattle.ra_member.specs.Members.{MemberContents, MemberKept, no_member, trees_in_member, member_conditions, values_next}
 use Rattle.ra_member.specs.Plans.{GrowsWithin}
-use Rattle.ra_member.specs.Runs.{IsTriggerRun, IsValueRun, StepsTest, StepsValue}
+use Rattle.ra_member.specs.Runs.{HasValues, IsTriggerRun, IsValueRun, StepsTest, StepsValue}
 
 -- a member with its plans
 pub record IsMember (nodes : List Node) (m : MemberContents) (member : Member) : Type 0 where
@@ -65,6 +67,12 @@ pub record StepsValueAt (table : TableSeen) (parts : List PartContents) (place :
   pub is : IsValueRun table.nodes parts run
   pub steps : (d : ValueRun) → StepsValue table parts (get_or old.values.items place d) run
   pub values : new.values.items ≡ set old.values.items place run
+  pub tests : new.tests ≡ old.tests
+
+-- one frame of each value of a member; its tests stay
+pub record StepsValues (table : TableSeen) (values : List (List PartContents)) (old new : Member) : Type 0 where
+  pub values_too : AreBeside (IsValueRun table.nodes) values new.values.items
+  pub kept : (start : Start) (history : History) → HasValues table start history → (kept_by new).values ≡ values_next start values history (kept_by old).values
   pub tests : new.tests ≡ old.tests
 
 -- the member is one with its plans where the old one was

@@ -8,6 +8,7 @@ use Rattle.ra_chain.specs.Occurrence.{trees_in_trigger, trees_in_value}
 use Rattle.ra_memref.specs.Values.{Start}
 use Rattle.ra_set.specs.Limits.{value_conditions}
 use Rattle.ra_value.specs.Steps.{ValueKept, no_value}
+use Rattle.ra_member.specs.Beside.{AreBeside}
 use Rattle.ra_member.specs.Frames.{test_next, test_holds, value_next}
 use Rattle.ra_member.specs.Rows.{rows_by}
 
@@ -60,6 +61,10 @@ member_next start m history kept = record {
   values = values_next start m.values history kept.values;
 }
 
+-- members of which all is stepped, one beside the other, after the last frame
+abbrev pub members_next : Start → List MemberContents → History → List MemberKept → List MemberKept
+members_next start members history kept = map (λ m. member_next start m.0 history m.1) (zip members kept)
+
 -- how many hits each test and then each value keeps
 abbrev pub hit_lengths : MemberContents → List ℕ
 hit_lengths m = map trigger_hits m.tests ++ map value_hits m.values
@@ -81,6 +86,10 @@ pub record HasShape (m : MemberContents) (kept : MemberKept) : Type 0 where
   pub tests : map length kept.tests ≡ map trigger_hits m.tests
   pub hits : map length (map (λ v. v.hits) kept.values) ≡ map value_hits m.values
   pub numbers : map length (number_rows kept) ≡ number_lengths m
+
+-- each of some members is kept as its texts say
+abbrev pub HaveShapes : List MemberContents → List MemberKept → Type 0
+HaveShapes members kept = AreBeside HasShape members kept
 
 -- the hits of a member as a progress file has them, in one row
 abbrev pub saved_hits : MemberKept → List ℕ

@@ -19,5 +19,6 @@ mod value_run;
 pub use laid::Laid;
 pub use member::Member;
 pub use places::Places;
+pub use saved::put_numbers;
 pub use trigger_run::TriggerRun;
 pub use value_run::ValueRun;

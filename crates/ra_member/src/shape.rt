@@ -13,8 +13,8 @@ use crate::value_run::ValueRun;
 impl Member {
     /// How many hits and how many numbers are kept: docs/DEFINITIONS.md, "Shape of a set".
     pub fn shape(&self) -> Places
-        requires hits { length (saved_hits (kept_by self.now)) < 2 ^ 32 }
-        requires numbers { length (saved_numbers (kept_by self.now)) < 2 ^ 32 }
+        requires hits { length (saved_hits (kept_by self.now)) < 2 ^ 62 }
+        requires numbers { length (saved_numbers (kept_by self.now)) < 2 ^ 62 }
         ensures hits { result.hits ≡ length (saved_hits (kept_by self.now)) }
         ensures numbers { result.numbers ≡ length (saved_numbers (kept_by self.now)) }
     {
@@ -29,7 +29,7 @@ impl Member {
 
 // How many hits tests keep.
 fn hits_of_tests(tests: &[TriggerRun]) -> usize
-    requires { length (flat_map (λ t. t.trigger.hits) tests.now) < 2 ^ 32 }
+    requires { length (flat_map (λ t. t.trigger.hits) tests.now) < 2 ^ 62 }
     ensures { result ≡ length (flat_map (λ t. t.trigger.hits) tests.now) }
 {
     let mut hits = 0;
@@ -41,8 +41,8 @@ fn hits_of_tests(tests: &[TriggerRun]) -> usize
 
 // How many hits and numbers values keep.
 fn shape_of_values(values: &[ValueRun]) -> Places
-    requires hits { length (flat_map (λ v. v.value.hits) values.now) < 2 ^ 32 }
-    requires numbers { length (flat_map (λ v. v.value.numbers) values.now) < 2 ^ 32 }
+    requires hits { length (flat_map (λ v. v.value.hits) values.now) < 2 ^ 62 }
+    requires numbers { length (flat_map (λ v. v.value.numbers) values.now) < 2 ^ 62 }
     ensures hits { result.hits ≡ length (flat_map (λ v. v.value.hits) values.now) }
     ensures numbers { result.numbers ≡ length (flat_map (λ v. v.value.numbers) values.now) }
 {
