@@ -1,7 +1,5 @@
 -- What is kept, laid in a row as in a file and cut again, is what was kept.
-use Rattle.std.proofs.Common.{◌≡◌, ◌++◌, length, refl, ◌∙◌, append_assoc}
-use Rattle.std.proofs.lemmas.List.{drop_at, take_at}
-use Rattle.ra_condition.specs.Contents.{trigger_hits, value_hits}
+use Rattle.std.proofs.Common.{◌≡◌, refl}
 use Rattle.ra_trigger.specs.declared.state.State.{State}
 use Rattle.ra_trigger.specs.declared.state.State.TheVariants.{Waiting, Active, Paused, Primed, Triggered}
 use Rattle.ra_trigger.specs.States.{state_byte, state_of}
@@ -10,6 +8,8 @@ use Rattle.ra_leaderboard.specs.declared.state.BoardState.{BoardState}
 use Rattle.ra_leaderboard.specs.declared.state.BoardState.TheVariants as boards
 use Rattle.ra_leaderboard.specs.Contents.{BoardContents}
 use Rattle.ra_leaderboard.specs.States.{board_byte, board_state_of}
+use Rattle.ra_member.proofs.Opened.{member_again}
+use Rattle.ra_runtime.specs.Order.{board_member}
 use Rattle.ra_runtime.specs.Boards.{BoardKept, opened_board, kept_board}
 use Rattle.ra_runtime.specs.Openings.{opened_achievement, kept_achievement}
 use Rattle.ra_runtime.proofs.Fitting.{BoardFits}
@@ -33,16 +33,6 @@ board_state_again boards.Submitted = refl
 
 pub board_again : (b : BoardContents) (k : BoardKept) → BoardFits b k → opened_board b (kept_board k) ≡ k
 board_again b k fits =
-    let row : k.start ++ k.cancel ++ k.submit ++ k.value.hits ++ k.progress.hits ≡ k.start ++ (k.cancel ++ (k.submit ++ (k.value.hits ++ k.progress.hits))) = append_assoc (k.start ++ k.cancel ++ k.submit) k.value.hits k.progress.hits ∙ append_assoc (k.start ++ k.cancel) k.submit (k.value.hits ++ k.progress.hits) ∙ append_assoc k.start k.cancel (k.submit ++ (k.value.hits ++ k.progress.hits)) in
     let state = board_state_again k.state in
-    let starts = take_at k.start (k.cancel ++ (k.submit ++ (k.value.hits ++ k.progress.hits))) (trigger_hits b.start) fits.start_too in
-    let after_start = drop_at k.start (k.cancel ++ (k.submit ++ (k.value.hits ++ k.progress.hits))) (trigger_hits b.start) fits.start_too in
-    let cancels = take_at k.cancel (k.submit ++ (k.value.hits ++ k.progress.hits)) (trigger_hits b.cancel) fits.cancel in
-    let after_cancel = drop_at k.cancel (k.submit ++ (k.value.hits ++ k.progress.hits)) (trigger_hits b.cancel) fits.cancel in
-    let submits = take_at k.submit (k.value.hits ++ k.progress.hits) (trigger_hits b.submit) fits.submit in
-    let after_submit = drop_at k.submit (k.value.hits ++ k.progress.hits) (trigger_hits b.submit) fits.submit in
-    let values = take_at k.value.hits k.progress.hits (value_hits b.value) fits.value.hits in
-    let rest = drop_at k.value.hits k.progress.hits (value_hits b.value) fits.value.hits in
-    let numbers = take_at k.value.numbers k.progress.numbers (length b.value) fits.value.numbers in
-    let others = drop_at k.value.numbers k.progress.numbers (length b.value) fits.value.numbers in
-    rw (row, state, starts, after_start, cancels, after_cancel, submits, after_submit, values, rest, numbers, others) refl
+    let member = member_again (board_member b) k.member fits in
+    (λ i. record { state = state i; member = member i })

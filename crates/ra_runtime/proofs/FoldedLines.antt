@@ -16,6 +16,7 @@ use Rattle.ra_runtime.specs.FoldLaws.{AreFolds, kept_line}
 use Rattle.ra_runtime.specs.Histories.{achievement_after, test_hits, value_after}
 use Rattle.ra_runtime.specs.Presence.{line_after, line_test_hits}
 use Rattle.ra_runtime.specs.PresenceRuns.{line_member}
+use Rattle.ra_runtime.proofs.FoldedBoards.{by_fields}
 
 module _ (start : Start) where
   abbrev tests_fold : List TriggerContents → List (List ℕ) → History → List (List ℕ)
@@ -76,5 +77,6 @@ module _ (start : Start) where
     achievement = λ t opened. after_only (achievement_next start t) opened (achievement_after start t opened) refl (λ image earlier. refl);
     test = λ t opened. after_only (test_next start t) opened (test_hits start t opened) refl (λ image earlier. refl);
     value = λ parts opened. after_only (value_next start parts) opened (value_after start parts opened) refl (λ image earlier. refl);
+    board = λ b opened. by_fields start b opened;
     line = line_folds;
   }

@@ -1,11 +1,10 @@
 -- One frame of an item by its run is one frame of it by the definitions.
-use Rattle.std.proofs.Common.{◌≡◌, ℕ, ℤ, ◌&&◌, ◌||◌, ◌==◌, Bool, true, false, not, if◌then◌else◌, Option, None, Some, List, [], ◌∷◌, ◌++◌, codes, decimal, refl, sym, ◌∙◌, ap, ap₂, arith}
-use Rattle.ra_condition.specs.Contents.{TriggerContents, PartContents}
+use Rattle.std.proofs.Common.{◌≡◌, ℕ, ℤ, ◌&&◌, ◌||◌, ◌==◌, Bool, true, false, not, if◌then◌else◌, None, Some, List, [], ◌∷◌, ◌++◌, codes, decimal, refl, sym, ◌∙◌, ap, ap₂, arith}
+use Rattle.ra_condition.specs.Contents.{TriggerContents}
 use Rattle.ra_indirect.specs.declared.node.Node.{Node}
 use Rattle.ra_memref.specs.Table.{TableSeen}
 use Rattle.ra_trigger.specs.Kept.{change_between}
 use Rattle.ra_trigger.specs.Steps.{TriggerKept}
-use Rattle.ra_value.specs.Steps.{ValueKept, signed_greatest}
 use Rattle.ra_value_format.specs.declared.format.Format.{Format}
 use Rattle.ra_value_format.specs.Formats.{formatted}
 use Rattle.std.specs.Fmt.{signed_decimal}
@@ -13,21 +12,20 @@ use Rattle.ra_leaderboard.specs.declared.state.BoardState.{BoardState}
 use Rattle.ra_leaderboard.specs.States.{became_started, became_cancelled, became_submitted}
 use Rattle.ra_leaderboard.specs.Contents.{BoardContents}
 use Rattle.ra_set.specs.Contents.{Unlocks, Ranks}
-use Rattle.ra_member.specs.declared.value_run.ValueRun.{ValueRun}
+use Rattle.ra_member.proofs.Shaped.{member_shape}
 use Rattle.ra_runtime.specs.declared.achievement_run.AchievementRun.{AchievementRun}
 use Rattle.ra_runtime.specs.declared.board_run.BoardRun.{BoardRun}
 use Rattle.ra_runtime.specs.declared.item_run.ItemRun.TheVariants.{Achievement, Leaderboard}
-use Rattle.ra_runtime.specs.Boards.{BoardKept, tracked_kept, tracked_number, board_after, kept_board}
+use Rattle.ra_runtime.specs.Boards.{tracked_number, value_number, board_after, kept_board}
 use Rattle.ra_runtime.specs.Lines.{line_if, is_started, same_number, achievement_lines, board_lines}
 use Rattle.ra_runtime.specs.Openings.{kept_achievement}
 use Rattle.ra_runtime.specs.Histories.{achievement_after}
-use Rattle.ra_runtime.specs.Order.{optional_parts}
+use Rattle.ra_runtime.specs.Order.{board_member}
 use Rattle.ra_runtime.specs.Runs.{StepsAchievement}
-use Rattle.ra_runtime.specs.BoardRuns.{IsOptionalRun, IsBoardRun, StepsBoard, board_kept, optional_kept, tracked_kept_by, tracked_by}
+use Rattle.ra_runtime.specs.BoardRuns.{IsBoardRun, StepsBoard, board_kept}
 use Rattle.ra_runtime.specs.RunLines.{measured_line, change_lines, board_run_lines}
 use Rattle.ra_runtime.specs.ItemRuns.{StepsItem}
 use Rattle.ra_runtime.proofs.Again.{achievement_again, board_again}
-use Rattle.ra_runtime.proofs.Fitting.{ValueFits, BoardFits}
 
 same_turned : (m n : ℕ) → (m == n) ≡ (n == m)
 same_turned m n = grind arith
@@ -51,31 +49,6 @@ achievement_item table id t old new steps = record {
       ∙ ap₂ (achievement_lines frame id) (sym (achievement_again old.run.trigger)) (steps.kept start (image ∷ []) has ∙ ap (λ k. achievement_after start t k (image ∷ [])) (sym (achievement_again old.run.trigger)));
 }
 
-optional_fits : (nodes : List Node) (parts : Option (List PartContents)) (run : Option ValueRun) → IsOptionalRun nodes parts run → ValueFits (optional_parts parts) (optional_kept run)
-optional_fits nodes None None is = record { hits = refl; numbers = refl }
-optional_fits nodes None (Some run) is = absurd is
-optional_fits nodes (Some parts) None is = absurd is
-optional_fits nodes (Some parts) (Some run) is = record { hits = is.hits; numbers = is.numbers }
-
-pub run_fits : (nodes : List Node) (b : BoardContents) (run : BoardRun) → IsBoardRun nodes b run → BoardFits b (board_kept run)
-run_fits nodes b run is = record {
-  start_too = is.start.hits;
-  cancel = is.cancel.hits;
-  submit = is.submit.hits;
-  value = record { hits = is.value.hits; numbers = is.value.numbers };
-  progress = optional_fits nodes b.progress run.progress is.progress;
-}
-
-tracked_one : (nodes : List Node) (parts : Option (List PartContents)) (run : Option ValueRun) → IsOptionalRun nodes parts run → (kept : BoardKept) → kept.progress ≡ optional_kept run → tracked_kept parts kept ≡ tracked_kept_by run kept.value
-tracked_one nodes None None is kept same = refl
-tracked_one nodes None (Some run) is kept same = absurd is
-tracked_one nodes (Some parts) None is kept same = absurd is
-tracked_one nodes (Some parts) (Some run) is kept same = same
-
-tracked_same : (nodes : List Node) (b : BoardContents) (run : BoardRun) → IsBoardRun nodes b run → tracked_by run ≡ tracked_number b (board_kept run)
-tracked_same nodes b run is =
-    ap (λ (k : ValueKept). signed_greatest k.numbers) (sym (tracked_one nodes b.progress run.progress is.progress (board_kept run) refl))
-
 -- the lines of a board by states and numbers
 abbrev lines_with : (frame id : ℕ) → Format → (before after : BoardState) → (tracked_before tracked value : ℤ) → List ℕ
 lines_with frame id format before after tracked_before tracked value =
@@ -86,18 +59,16 @@ lines_with frame id format before after tracked_before tracked value =
     ++ line_if (became_cancelled before after) (codes "cancel" ∷ decimal frame ∷ decimal id ∷ [])
     ++ line_if (became_submitted before after) (codes "submit" ∷ decimal frame ∷ decimal id ∷ signed_decimal value ∷ formatted format value ∷ [])
 
-board_written : (nodes : List Node) (table : TableSeen) (frame id : ℕ) (format : Format) (b : BoardContents) (old new : BoardRun) → IsBoardRun nodes b old → IsBoardRun nodes b new → StepsBoard table b old new → board_run_lines frame id format new ≡ board_lines frame id format b (board_kept old) (board_kept new)
-board_written nodes table frame id format b old new is is_too steps =
-    let before = steps.tracked ∙ tracked_same nodes b old is in
-    let after = tracked_same nodes b new is_too in
-    (λ i. lines_with frame id format (steps.before i) (steps.after i) (before i) (after i) (signed_greatest new.value.value.numbers))
+board_written : (table : TableSeen) (frame id : ℕ) (format : Format) (b : BoardContents) (old new : BoardRun) → StepsBoard table b old new → board_run_lines frame id format new ≡ board_lines frame id format (board_kept old) (board_kept new)
+board_written table frame id format b old new steps =
+    (λ i. lines_with frame id format (steps.before i) (steps.after i) (steps.tracked i) (tracked_number (board_kept new)) (value_number (board_kept new)))
 
-pub board_item : (nodes : List Node) (table : TableSeen) (id : ℕ) (format : Format) (b : BoardContents) (old new : BoardRun) → IsBoardRun nodes b old → IsBoardRun nodes b new → StepsBoard table b old new → StepsItem table (Ranks id format b) (Leaderboard old) (Leaderboard new)
-board_item nodes table id format b old new is is_too steps =
-    let again = sym (board_again b (board_kept old) (run_fits nodes b old is)) in
+pub board_item : (nodes : List Node) (table : TableSeen) (id : ℕ) (format : Format) (b : BoardContents) (old new : BoardRun) → IsBoardRun nodes b old → StepsBoard table b old new → StepsItem table (Ranks id format b) (Leaderboard old) (Leaderboard new)
+board_item nodes table id format b old new is steps =
+    let again = sym (board_again b (board_kept old) (member_shape nodes (board_member b) old.member is)) in
     record {
       kept = λ start image has. ap kept_board (steps.kept start image has ∙ ap (λ k. board_after start b k (image ∷ [])) again);
       lines = λ start image frame has.
-          board_written nodes table frame id format b old new is is_too steps
-          ∙ ap₂ (board_lines frame id format b) again (steps.kept start image has ∙ ap (λ k. board_after start b k (image ∷ [])) again);
+          board_written table frame id format b old new steps
+          ∙ ap₂ (board_lines frame id format) again (steps.kept start image has ∙ ap (λ k. board_after start b k (image ∷ [])) again);
     }

@@ -4,9 +4,8 @@ use Rattle.std.proofs.Common.{◌≡◌, ◌≢◌, ℕ, ◌+◌, Option, None, 
 use Rattle.std.specs.List.{flat_map}
 use Rattle.ra_condition.specs.Contents.{TriggerContents}
 use Rattle.ra_leaderboard.specs.Contents.{BoardContents}
-use Rattle.ra_value_format.specs.declared.format.Format.{Format}
 use Rattle.ra_memory.specs.Image.{History}
-use Rattle.ra_chain.specs.Occurrence.{trees_in_trigger, trees_in_value}
+use Rattle.ra_chain.specs.Occurrence.{trees_in_trigger}
 use Rattle.ra_memref.specs.Values.{Start}
 use Rattle.ra_trigger.specs.Steps.{TriggerKept}
 use Rattle.ra_value.specs.Steps.{signed_greatest}
@@ -14,7 +13,8 @@ use Rattle.ra_richpresence.specs.Contents.{ScriptContents}
 use Rattle.ra_richpresence.specs.Lines.{line_text}
 use Rattle.ra_set.specs.Contents.{ItemContents, Unlocks, Ranks, SetContents}
 use Rattle.ra_progress.specs.Contents.{KeptItem, KeptPresence, Opening, ItemFits, ItemsFit, PresenceFits, IsOpening}
-use Rattle.ra_runtime.specs.Order.{optional_parts, trees_in_item, trees_in_line, lines_in, item_shape, presence_shape, shape_of}
+use Rattle.ra_member.specs.Members.{trees_in_member}
+use Rattle.ra_runtime.specs.Order.{board_member, trees_in_item, trees_in_line, lines_in, item_shape, presence_shape, shape_of}
 use Rattle.ra_runtime.specs.Histories.{achievement_after}
 use Rattle.ra_runtime.specs.Boards.{BoardKept, board_after, opened_board, kept_board}
 use Rattle.ra_runtime.specs.Presence.{LineKept, cut_lines, lines_after, line_after, presence_after, presence_text, hits_in, numbers_in}
@@ -24,31 +24,12 @@ use Rattle.ra_runtime.specs.Play.{item_lines, lines, shown_by, shown}
 use Rattle.ra_runtime.specs.Runtime.{CutsAnywhere}
 use Rattle.ra_member.proofs.GoingOn.{GoesOn, goes_on}
 use Rattle.ra_member.proofs.Listed.{In_front, In_behind}
-use Rattle.ra_runtime.proofs.ItemCuts.{goes_front, goes_behind, achievement_cut, BoardGoesOn, board_cut}
+use Rattle.ra_runtime.proofs.ItemCuts.{goes_front, goes_behind, achievement_cut, board_cut}
 use Rattle.ra_runtime.proofs.Fitting.{BoardFits, board_fits}
 use Rattle.ra_runtime.proofs.Again.{achievement_again, board_again}
 use Rattle.ra_runtime.proofs.OpeningFits.{opened_fits, script_fits}
 use Rattle.ra_runtime.proofs.PresenceCuts.{LinesFit, lines_fit, lines_again, lines_cut, presence_cut}
 use Rattle.ra_runtime.proofs.Covered.{tree_alike, cells_cut, priors_cut}
-
--- the trees of a board's fields
-board_trees : (start opened : Start) (earlier : History) (id : ℕ) (format : Format) (b : BoardContents) → GoesOn start opened earlier (trees_in_item (Ranks id format b)) → BoardGoesOn start opened earlier b
-board_trees start opened earlier id format b goes =
-    let a : _ = trees_in_trigger b.start in
-    let c : _ = trees_in_trigger b.cancel in
-    let s : _ = trees_in_trigger b.submit in
-    let v : _ = trees_in_value b.value in
-    let p : _ = trees_in_value (optional_parts b.progress) in
-    let acsv : GoesOn start opened earlier (a ++ c ++ s ++ v) = goes_front start opened earlier (a ++ c ++ s ++ v) p goes in
-    let acs : GoesOn start opened earlier (a ++ c ++ s) = goes_front start opened earlier (a ++ c ++ s) v acsv in
-    let ac : GoesOn start opened earlier (a ++ c) = goes_front start opened earlier (a ++ c) s acs in
-    record {
-      start_too = goes_front start opened earlier a c ac;
-      cancel = goes_behind start opened earlier a c ac;
-      submit = goes_behind start opened earlier (a ++ c) s acs;
-      value = goes_behind start opened earlier (a ++ c ++ s) v acsv;
-      progress = goes_behind start opened earlier (a ++ c ++ s ++ v) p goes;
-    }
 
 module _ (start opened : Start) (earlier : History) where
   -- an achievement, from what is kept of it
@@ -58,7 +39,7 @@ module _ (start opened : Start) (earlier : History) where
       ∙ ap (λ x. achievement_after opened t x later) (sym (achievement_again (achievement_after start t k earlier)))
 
   -- a board, from what is kept of it
-  board_goes_on : (b : BoardContents) → BoardGoesOn start opened earlier b → (k : BoardKept) → BoardFits b k → (later : History) → board_after start b k (later ++ earlier) ≡ board_after opened b (opened_board b (kept_board (board_after start b k earlier))) later
+  board_goes_on : (b : BoardContents) → GoesOn start opened earlier (trees_in_member (board_member b)) → (k : BoardKept) → BoardFits b k → (later : History) → board_after start b k (later ++ earlier) ≡ board_after opened b (opened_board b (kept_board (board_after start b k earlier))) later
   board_goes_on b goes k fits later =
       board_cut start opened earlier b goes k later
       ∙ ap (λ x. board_after opened b x later) (sym (board_again b (board_after start b k earlier) (board_fits start b k earlier fits)))
@@ -67,7 +48,7 @@ module _ (start opened : Start) (earlier : History) where
   item_goes_on (Unlocks id t) alike kept fits later =
       ap kept_achievement (achievement_goes_on t alike (opened_achievement kept) later)
   item_goes_on (Ranks id format b) alike kept fits later =
-      ap kept_board (board_goes_on b (board_trees start opened earlier id format b alike) (opened_board b kept) (opened_fits b id format kept fits) later)
+      ap kept_board (board_goes_on b alike (opened_board b kept) (opened_fits b id format kept fits) later)
 
   items_go_on : (items : List ItemContents) → GoesOn start opened earlier (flat_map trees_in_item items) → (kept : List KeptItem) → ItemsFit (map item_shape items) kept → (later : History) → map (item_after start (later ++ earlier)) (zip items kept) ≡ map (item_after opened later) (zip items (map (item_after start earlier) (zip items kept)))
   items_go_on [] alike kept fits later = refl
@@ -84,11 +65,10 @@ module _ (start opened : Start) (earlier : History) where
       let after = achievement_goes_on t alike (opened_achievement kept) (image ∷ later) in
       (λ i. achievement_lines frame id (before i) (after i))
   line_goes_on (Ranks id format b) alike kept fits frame image later =
-      let trees = board_trees start opened earlier id format b alike in
       let opened_fit = opened_fits b id format kept fits in
-      let before = board_goes_on b trees (opened_board b kept) opened_fit later in
-      let after = board_goes_on b trees (opened_board b kept) opened_fit (image ∷ later) in
-      (λ i. board_lines frame id format b (before i) (after i))
+      let before = board_goes_on b alike (opened_board b kept) opened_fit later in
+      let after = board_goes_on b alike (opened_board b kept) opened_fit (image ∷ later) in
+      (λ i. board_lines frame id format (before i) (after i))
 
   lines_go_on : (items : List ItemContents) → GoesOn start opened earlier (flat_map trees_in_item items) → (kept : List KeptItem) → ItemsFit (map item_shape items) kept → (frame : ℕ) (image : List ℕ) (later : History) → flat_map (item_lines start frame image (later ++ earlier)) (zip items kept) ≡ flat_map (item_lines opened frame image later) (zip items (map (item_after start earlier) (zip items kept)))
   lines_go_on [] alike kept fits frame image later = refl

@@ -1,5 +1,5 @@
 -- What an opening keeps for boards and for the presence has the counts of their texts.
-use Rattle.std.proofs.Common.{◌≡◌, ℕ, ◌+◌, ◌-◌, ◌≤◌, Some, List, [], ◌∷◌, ◌++◌, length, take, drop, sum_by, arith}
+use Rattle.std.proofs.Common.{◌≡◌, ℕ, ◌+◌, ◌≤◌, Some, List, [], ◌∷◌, ◌++◌, length, take, drop, sum_by, arith}
 use Rattle.std.specs.List.{flat_map}
 use Rattle.std.proofs.lemmas.List.{length-take-le, length-drop}
 use Rattle.std.proofs.lemmas.List.Sums.{sum_by-cons, sum_by-append}
@@ -9,7 +9,8 @@ use Rattle.ra_value_format.specs.declared.format.Format.{Format}
 use Rattle.ra_richpresence.specs.Contents.{LineContents, ScriptContents, values_in_line}
 use Rattle.ra_set.specs.Contents.{Ranks}
 use Rattle.ra_progress.specs.Contents.{KeptItem, OfAchievement, OfBoard, KeptPresence, ItemFits, PresenceFits}
-use Rattle.ra_runtime.specs.Order.{optional_parts, tests_in, item_shape, line_hits, presence_shape}
+use Rattle.ra_member.proofs.Opened.{member_opened}
+use Rattle.ra_runtime.specs.Order.{board_member, tests_in, item_shape, line_hits, presence_shape}
 use Rattle.ra_runtime.specs.Boards.{opened_board}
 use Rattle.ra_runtime.specs.Presence.{cut_values, cut_lines}
 use Rattle.ra_runtime.proofs.Fitting.{ValueFits, BoardFits}
@@ -18,23 +19,7 @@ use Rattle.ra_runtime.proofs.PresenceCuts.{ValuesFit, LineFits, LinesFit}
 pub opened_fits : (b : BoardContents) (id : ℕ) (format : Format) (kept : KeptItem) → ItemFits (item_shape (Ranks id format b)) kept → BoardFits b (opened_board b kept)
 opened_fits b id format (OfAchievement state measured hits) fits = absurd fits
 opened_fits b id format (OfBoard state hits numbers) fits =
-    let n1 : ℕ = trigger_hits b.start in
-    let n2 : ℕ = trigger_hits b.cancel in
-    let n3 : ℕ = trigger_hits b.submit in
-    let n4 : ℕ = value_hits b.value in
-    let total : length hits ≡ n1 + n2 + n3 + n4 + value_hits (optional_parts b.progress) = fits.1.as_many in
-    let d1 : length (drop n1 hits) ≡ length hits - n1 = length-drop n1 hits in
-    let d2 : length (drop n2 (drop n1 hits)) ≡ length (drop n1 hits) - n2 = length-drop n2 (drop n1 hits) in
-    let d3 : length (drop n3 (drop n2 (drop n1 hits))) ≡ length (drop n2 (drop n1 hits)) - n3 = length-drop n3 (drop n2 (drop n1 hits)) in
-    let d4 : length (drop n4 (drop n3 (drop n2 (drop n1 hits)))) ≡ length (drop n3 (drop n2 (drop n1 hits))) - n4 = length-drop n4 (drop n3 (drop n2 (drop n1 hits))) in
-    let parts : length numbers ≡ length b.value + length (optional_parts b.progress) = fits.2.as_many in
-    record {
-      start_too = length-take-le n1 hits (omega arith);
-      cancel = length-take-le n2 (drop n1 hits) (omega arith);
-      submit = length-take-le n3 (drop n2 (drop n1 hits)) (omega arith);
-      value = record { hits = length-take-le n4 (drop n3 (drop n2 (drop n1 hits))) (omega arith); numbers = length-take-le (length b.value) numbers (omega arith) };
-      progress = record { hits = omega arith; numbers = omega (arith, length-drop (length b.value) numbers) };
-    }
+    (member_opened (board_member b) hits numbers fits.1.as_many fits.2.as_many).shape
 
 values_cut_fit : (vs : List (List PartContents)) (hits numbers : List ℕ) → sum_by value_hits vs ≤ length hits → sum_by length vs ≤ length numbers → ValuesFit vs (cut_values vs hits numbers)
 values_cut_fit [] hits numbers enough enough_too = tt

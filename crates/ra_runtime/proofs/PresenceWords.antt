@@ -10,7 +10,7 @@ use Rattle.ra_value.specs.Steps.{ValueKept}
 use Rattle.ra_richpresence.specs.Contents.{LineContents, ScriptContents, values_in_line}
 use Rattle.ra_progress.specs.Contents.{KeptPresence, PresenceFits}
 use Rattle.ra_runtime.specs.Order.{tests_in, line_hits, presence_shape}
-use Rattle.ra_runtime.specs.Histories.{value_after}
+use Rattle.ra_runtime.specs.Histories.{test_hits, value_after}
 use Rattle.ra_runtime.specs.Presence.{LineKept, line_test_hits, line_truth, line_after, first_true, shown_line, cut_values, cut_lines, hits_in, numbers_in}
 use Rattle.ra_runtime.specs.Openings.{optional_presence}
 use Rattle.ra_runtime.proofs.OpeningFits.{script_fits}
@@ -18,7 +18,7 @@ use Rattle.ra_runtime.proofs.PresenceCuts.{ValuesFit, LinesFit, lines_fit}
 use Rattle.ra_runtime.proofs.Each.{each_append, each_take, each_drop, each_flat_map}
 use Rattle.ra_runtime.proofs.TreeWords.{IsWord, AreStartWords}
 use Rattle.ra_runtime.proofs.GroupWords.{AreAllWords, AreValueWords}
-use Rattle.ra_runtime.proofs.ItemWords.{FitsTrigger, FitsValue, test_words, value_after_words}
+use Rattle.ra_runtime.proofs.MemberWords.{FitsTrigger, FitsValue, tests_words, values_words}
 
 -- the operands of a line are of 32 bits
 pub record FitsLine (line : LineContents) : Type 0 where
@@ -123,6 +123,17 @@ module _ (start : Start) where
   shown_below script opened ks fits has below [] = below
   shown_below script opened ks fits has below (image ∷ earlier) =
       first_below (image ∷ earlier) script.lines ks fits has
+
+module _ (start : Start) (opened_words : AreStartWords start) where
+  test_words : (t : TriggerContents) → FitsTrigger t → (opened : List ℕ) → AreAllWords opened → (h : History) → AreImages h → AreAllWords (test_hits start t opened h)
+  test_words t fits opened words [] images = words
+  test_words t fits opened words (image ∷ earlier) images =
+      (tests_words start opened_words (image ∷ earlier) images (t ∷ []) (fits, tt) (test_hits start t opened earlier ∷ []) (test_words t fits opened words earlier images.1, tt)).0
+
+  value_after_words : (parts : List PartContents) → FitsValue parts → (opened : ValueKept) → AreValueWords opened → (h : History) → AreImages h → AreValueWords (value_after start parts opened h)
+  value_after_words parts fits opened words [] images = words
+  value_after_words parts fits opened words (image ∷ earlier) images =
+      (values_words start opened_words (image ∷ earlier) images (parts ∷ []) (fits, tt) (value_after start parts opened earlier ∷ []) (value_after_words parts fits opened words earlier images.1, tt)).0
 
 module _ (start : Start) (opened_words : AreStartWords start) (h : History) (images : AreImages h) where
   line_test_words : (test : Option TriggerContents) → AllByRecursion FitsTrigger (tests_in test) → (opened : List ℕ) → AreAllWords opened → AreAllWords (line_test_hits start test opened h)

@@ -1,5 +1,5 @@
 -- The shape of a set is that of its runs, and within the types of its numbers.
-use Rattle.std.proofs.Common.{◌≡◌, ℕ, suc, ◌+◌, ◌<◌, ◌≤◌, ◌^◌, Bool, false, true, not, filter, if◌then◌else◌, Option, None, Some, option_map, List, [], ◌∷◌, length, map, get_or, sum_by, All, IfSome, refl, sym, ◌∙◌, ap, ap₂, subst, arith, length-append}
+use Rattle.std.proofs.Common.{◌≡◌, ℕ, suc, ◌+◌, ◌<◌, ◌≤◌, ◌^◌, Bool, false, true, not, filter, if◌then◌else◌, Option, None, Some, option_map, List, [], ◌∷◌, length, map, get_or, sum, sum_by, All, IfSome, refl, sym, ◌∙◌, ap, ap₂, subst, arith, length-append}
 use Rattle.std.specs.List.{flat_map, filter_map}
 use Rattle.std.proofs.lemmas.List.{length-map, length-replicate}
 use Rattle.std.proofs.lemmas.List.Sums.{sum_by-cons, sum_by-append, sum_by-le-sum_by, get_or-le-sum_by}
@@ -20,15 +20,16 @@ use Rattle.ra_value.specs.Steps.{ValueKept}
 use Rattle.ra_set.specs.Contents.{ItemContents, Unlocks, Ranks, SetContents}
 use Rattle.ra_set.specs.Limits.{part_conditions, value_conditions, optional_value, optional_trigger, item_conditions, line_conditions, script_conditions, IsWithinLimits}
 use Rattle.ra_progress.specs.declared.shape.ItemShape.TheVariants as shapes
-use Rattle.ra_member.specs.declared.value_run.ValueRun.{ValueRun}
+use Rattle.ra_member.specs.MemberRuns.{kept_by}
+use Rattle.ra_member.proofs.Opened.{saved_long}
+use Rattle.ra_member.proofs.Shaped.{member_shape}
 use Rattle.ra_runtime.specs.declared.item_run.ItemRun.{ItemRun}
 use Rattle.ra_runtime.specs.declared.item_run.ItemRun.TheVariants.{Achievement, Leaderboard}
 use Rattle.ra_runtime.specs.declared.presence_run.PresenceRun.{PresenceRun}
-use Rattle.ra_runtime.specs.Order.{optional_parts, tests_in, item_shape, line_hits, presence_shape}
+use Rattle.ra_runtime.specs.Order.{board_member, progress_in, tests_in, item_shape, line_hits, presence_shape}
 use Rattle.ra_runtime.specs.Presence.{LineKept, hits_in, numbers_in}
 use Rattle.ra_runtime.specs.NewPresence.{IsShownLine}
 use Rattle.ra_runtime.specs.PresenceRuns.{IsOptionalPresence, line_kept}
-use Rattle.ra_runtime.specs.BoardRuns.{IsOptionalRun, optional_kept}
 use Rattle.ra_runtime.specs.ItemRuns.{IsItemRun}
 use Rattle.ra_runtime.specs.AllRuns.{AreItemRuns, HaveDigits}
 use Rattle.ra_runtime.specs.Shapes.{run_shape, optional_run_shape, IsSmall, IsSmallPresence, IsLaidOut}
@@ -39,24 +40,13 @@ use Rattle.ra_runtime.proofs.ShownLines.{lines_fit_runs}
 
 -- what a run keeps has the counts of its item
 module _ (nodes : List Node) where
-  optional_hits : (parts : Option (List PartContents)) (run : Option ValueRun) → IsOptionalRun nodes parts run → length (optional_kept run).hits ≡ value_hits (optional_parts parts)
-  optional_hits None None is = refl
-  optional_hits None (Some run) is = absurd is
-  optional_hits (Some parts) None is = absurd is
-  optional_hits (Some parts) (Some run) is = is.hits
-
-  optional_numbers : (parts : Option (List PartContents)) (run : Option ValueRun) → IsOptionalRun nodes parts run → length (optional_kept run).numbers ≡ length (optional_parts parts)
-  optional_numbers None None is = refl
-  optional_numbers None (Some run) is = absurd is
-  optional_numbers (Some parts) None is = absurd is
-  optional_numbers (Some parts) (Some run) is = is.numbers
-
   run_shaped : (item : ItemContents) (run : ItemRun) → IsItemRun nodes item run → run_shape run ≡ item_shape item
   run_shaped (Unlocks id t) (Achievement run) is = ap shapes.Achievement is.hits
   run_shaped (Unlocks id t) (Leaderboard run) is = absurd is
   run_shaped (Ranks id format b) (Achievement run) is = absurd is
   run_shaped (Ranks id format b) (Leaderboard run) is =
-      (λ i. shapes.Leaderboard (is.start.hits i + is.cancel.hits i + is.submit.hits i + is.value.hits i + optional_hits b.progress run.progress is.progress i) (is.value.numbers i + optional_numbers b.progress run.progress is.progress i))
+      let long = saved_long (board_member b) (kept_by run.member) (member_shape nodes (board_member b) run.member is) in
+      ap₂ shapes.Leaderboard long.0 long.1
 
   pub runs_shaped : (items : List ItemContents) (runs : List ItemRun) → AreItemRuns nodes items runs → map run_shape runs ≡ map item_shape items
   runs_shaped [] [] are = refl
@@ -85,15 +75,22 @@ parts_within (part ∷ parts) each =
     let all : value_conditions (part ∷ parts) ≡ part_conditions part + value_conditions parts = sum_by-cons part_conditions part parts in
     omega arith
 
-optional_within : (value : Option (List PartContents)) → IfSome value IsValue → (value_hits (optional_parts value) ≤ optional_value value) × (length (optional_parts value) ≤ optional_value value)
-optional_within None is = (omega arith, omega arith)
-optional_within (Some parts) is = (hits_within parts, parts_within parts is.each)
+progress_within : (progress : Option (List PartContents)) → IfSome progress IsValue → (sum (map value_hits (progress_in progress)) ≤ optional_value progress) × (sum (map length (progress_in progress)) ≤ optional_value progress)
+progress_within None is = (omega arith, omega arith)
+progress_within (Some parts) is = (omega (arith, hits_within parts), omega (arith, parts_within parts is.each))
 
 item_small : (item : ItemContents) → IsItem item → item_conditions item ≤ 65536 → IsSmall (item_shape item)
 item_small (Unlocks id t) is few = few
 item_small (Ranks id format b) is few =
-    let progress = optional_within b.progress is.0.progress in
-    (omega (arith, few, hits_within b.value, progress.0), omega (arith, few, parts_within b.value is.0.value.each, progress.1))
+    let progress = progress_within b.progress is.0.progress in
+    let own = λ (x : ℕ). x in
+    let a = trigger_hits b.start in
+    let c = trigger_hits b.cancel in
+    let s = trigger_hits b.submit in
+    let v = value_hits b.value in
+    let p = map value_hits (progress_in b.progress) in
+    let ps = map length (progress_in b.progress) in
+    (omega (arith, few, hits_within b.value, progress.0, sum_by-cons own a (c ∷ s ∷ v ∷ p), sum_by-cons own c (s ∷ v ∷ p), sum_by-cons own s (v ∷ p), sum_by-cons own v p), omega (arith, few, parts_within b.value is.0.value.each, progress.1, sum_by-cons own (length b.value) ps))
 
 pub items_small : (items : List ItemContents) → All IsItem items → sum_by item_conditions items ≤ 65536 → All IsSmall (map item_shape items)
 items_small items spelled few =

@@ -15,14 +15,14 @@ use Rattle.ra_member.specs.declared.value_run.ValueRun.{ValueRun}
 use Rattle.ra_member.specs.Beside.{AreBeside}
 use Rattle.ra_member.specs.Frames.{test_next, test_holds}
 use Rattle.ra_member.specs.Members.{values_next}
-use Rattle.ra_member.specs.MemberRuns.{StepsTestAt, kept_by}
+use Rattle.ra_member.specs.MemberRuns.{StepsTestAt, kept_by, StepsValues}
 use Rattle.ra_member.specs.Runs.{HasValues, StepsTest, IsTriggerRun, IsValueRun}
 use Rattle.ra_member.proofs.SideBySide.{beside_length, beside_more, zip_more}
 use Rattle.ra_runtime.specs.declared.presence_run.PresenceRun.{PresenceRun}
 use Rattle.ra_runtime.specs.Order.{tests_in}
 use Rattle.ra_runtime.specs.Histories.{test_hits, test_truth}
 use Rattle.ra_runtime.specs.Presence.{LineKept, line_test_hits, line_truth, line_after, first_true, cut_lines, hits_in, numbers_in}
-use Rattle.ra_runtime.specs.PresenceRuns.{AreLineRuns, IsLineRun, IsPresenceRun, line_kept, StepsLine, StepsMacros, line_truths, StepsLines, IsFirstLine, StepsPresence}
+use Rattle.ra_runtime.specs.PresenceRuns.{AreLineRuns, IsLineRun, IsPresenceRun, line_kept, StepsLine, line_truths, StepsLines, IsFirstLine, StepsPresence}
 use Rattle.ra_runtime.proofs.Fitting.{ValueFits}
 use Rattle.ra_runtime.proofs.PresenceCuts.{ValuesFit, LinesFit, lines_again}
 
@@ -72,7 +72,7 @@ no_tests nodes [] are = refl
 no_tests nodes (run ∷ runs) are = absurd are
 
 -- one frame of a line, by its values and then its test
-module _ (table : TableSeen) (line : LineContents) (old mid new : Member) (holds : Bool) (is : IsLineRun table.nodes line old) (values : StepsMacros table (values_in_line line) old mid) where
+module _ (table : TableSeen) (line : LineContents) (old mid new : Member) (holds : Bool) (is : IsLineRun table.nodes line old) (values : StepsValues table (values_in_line line) old mid) where
   pub line_tested : (t : TriggerContents) → line.test ≡ Some t → StepsTestAt table t 0 mid new holds → StepsLine table line old new holds
   line_tested t some steps =
       let tests : AreBeside (IsTriggerRun table.nodes) (t ∷ []) old.tests.items = subst (λ (test : Option TriggerContents). AreBeside (IsTriggerRun table.nodes) (tests_in test) old.tests.items) some is.tests in

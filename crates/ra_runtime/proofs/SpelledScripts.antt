@@ -10,7 +10,7 @@ use Rattle.ra_richpresence.specs.Spelled.{IsPiece, IsTested, IsUntested, IsDispl
 use Rattle.ra_set.specs.Spelled.{OptionalScript}
 use Rattle.ra_runtime.specs.Order.{tests_in}
 use Rattle.ra_runtime.proofs.Each.{each_append}
-use Rattle.ra_runtime.proofs.ItemWords.{FitsTrigger, FitsValue}
+use Rattle.ra_runtime.proofs.MemberWords.{FitsTrigger, FitsValue}
 use Rattle.ra_runtime.proofs.PresenceWords.{FitsLine, HasUntested, FitsScript}
 use Rattle.ra_runtime.proofs.SpelledSets.{weaker, spelled_trigger, spelled_value}
 

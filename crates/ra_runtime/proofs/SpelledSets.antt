@@ -11,9 +11,10 @@ use Rattle.ra_leaderboard.specs.Contents.{BoardContents}
 use Rattle.ra_leaderboard.specs.Spelled.{IsBoard}
 use Rattle.ra_set.specs.Contents.{ItemContents, Unlocks, Ranks, SetContents}
 use Rattle.ra_set.specs.Spelled.{IsItem, IsSpelled}
-use Rattle.ra_runtime.specs.Order.{optional_parts}
+use Rattle.ra_runtime.specs.Order.{board_member, progress_in}
 use Rattle.ra_runtime.proofs.SpelledTrees.{HasOperands, FitsGroup}
-use Rattle.ra_runtime.proofs.ItemWords.{FitsTrigger, FitsPart, FitsValue, FitsBoard, FitsItem}
+use Rattle.ra_runtime.proofs.MemberWords.{FitsTrigger, FitsPart, FitsValue, FitsMember}
+use Rattle.ra_runtime.proofs.ItemWords.{FitsItem}
 
 pub weaker : {A : Type 0} (P Q : A → Type 0) → ((a : A) → P a → Q a) → (xs : List A) → All P xs → AllByRecursion Q xs
 weaker P Q each xs all = recursion_from_All Q xs (All-weaker P Q each xs all)
@@ -33,17 +34,14 @@ spelled_part (Grouped cs) is = spelled_group InValue cs is.conditions
 pub spelled_value : (parts : List PartContents) → IsValue parts → FitsValue parts
 spelled_value parts is = weaker IsPart FitsPart spelled_part parts is.each
 
-spelled_optional : (parts : Option (List PartContents)) → IfSome parts IsValue → FitsValue (optional_parts parts)
-spelled_optional None is = tt
-spelled_optional (Some parts) is = spelled_value parts is
+spelled_progress : (progress : Option (List PartContents)) → IfSome progress IsValue → AllByRecursion FitsValue (progress_in progress)
+spelled_progress None is = tt
+spelled_progress (Some parts) is = (spelled_value parts is, tt)
 
-spelled_board : (b : BoardContents) → IsBoard b → FitsBoard b
+spelled_board : (b : BoardContents) → IsBoard b → FitsMember (board_member b)
 spelled_board b is = record {
-  start = spelled_trigger b.start is.start;
-  cancel = spelled_trigger b.cancel is.cancel;
-  submit = spelled_trigger b.submit is.submit;
-  value = spelled_value b.value is.value;
-  progress = spelled_optional b.progress is.progress;
+  tests = (spelled_trigger b.start is.start, (spelled_trigger b.cancel is.cancel, (spelled_trigger b.submit is.submit, tt)));
+  values = (spelled_value b.value is.value, spelled_progress b.progress is.progress);
 }
 
 spelled_item : (item : ItemContents) → IsItem item → FitsItem item

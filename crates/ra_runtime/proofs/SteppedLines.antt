@@ -13,11 +13,11 @@ use Rattle.ra_richpresence.specs.declared.piece.Piece.TheVariants.{Text, Macro}
 use Rattle.ra_richpresence.specs.Contents.{LineContents, line_contents, piece_contents, value_in}
 use Rattle.ra_member.specs.declared.member.Member.{Member}
 use Rattle.ra_member.specs.Beside.{AreBeside}
-use Rattle.ra_member.specs.MemberRuns.{HasValue, StepsValueAt}
+use Rattle.ra_member.specs.MemberRuns.{HasValue, StepsValueAt, StepsValues}
 use Rattle.ra_member.proofs.Stepping.{AreValuesStepped, values_begin, value_here, value_on, values_end}
 use Rattle.ra_runtime.specs.Presence.{line_after, first_true}
 use Rattle.ra_member.specs.Runs.{IsValueRun}
-use Rattle.ra_runtime.specs.PresenceRuns.{IsLineRun, AreLineRuns, line_kept, StepsLine, StepsLines, StepsMacros, IsFirstLine}
+use Rattle.ra_runtime.specs.PresenceRuns.{IsLineRun, AreLineRuns, line_kept, StepsLine, StepsLines, IsFirstLine}
 use Rattle.ra_member.proofs.GrowthLemmas.{taken_next, dropped_next}
 use Rattle.ra_runtime.proofs.ShownLines.{first_begins, first_on}
 use Rattle.ra_member.proofs.SideBySide.{IsWalk, walk_begins, walk_here, walk_on, walk_keeps, walk_olds, walk_ends}
@@ -35,7 +35,7 @@ module _ (table : TableSeen) (pieces : List Piece) (old : Member) where
   pub macros_begin : AreBeside (IsValueRun table.nodes) (macros_in pieces) old.values.items → AreMacrosStepped table pieces 0 old old 0
   macros_begin are = record { far = values_begin table old.values.items (macros_in pieces) are; tests = refl }
 
-  pub macros_end : (k : ℕ) (member : Member) (place : ℕ) → length pieces ≤ k → AreMacrosStepped table pieces k old member place → StepsMacros table (macros_in pieces) old member
+  pub macros_end : (k : ℕ) (member : Member) (place : ℕ) → length pieces ≤ k → AreMacrosStepped table pieces k old member place → StepsValues table (macros_in pieces) old member
   macros_end k member place all is =
       let none : drop k pieces ≡ [] = drop_all k pieces all in
       let whole : take k pieces ≡ pieces = take_all k pieces all in

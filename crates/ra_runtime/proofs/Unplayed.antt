@@ -1,5 +1,5 @@
 -- What a set keeps after no frame at all is what the opening keeps.
-use Rattle.std.proofs.Common.{◌≡◌, ℕ, zero, suc, ◌+◌, ◌≤◌, Option, None, Some, option_map, List, [], ◌∷◌, ◌++◌, length, map, take, drop, zip, sum_by, refl, sym, ◌∙◌, ap, ap₂, append_assoc, take-append-drop, take-add, length-drop, arith}
+use Rattle.std.proofs.Common.{◌≡◌, ℕ, zero, suc, ◌+◌, ◌≤◌, Option, None, Some, option_map, List, [], ◌∷◌, ◌++◌, length, map, take, drop, zip, sum_by, refl, sym, ◌∙◌, ap, ap₂, take-append-drop, take-add, length-drop, arith}
 use Rattle.std.specs.List.{flat_map}
 use Rattle.std.proofs.lemmas.List.Sums.{sum_by-cons, sum_by-append}
 use Rattle.ra_condition.specs.Contents.{TriggerContents, trigger_hits, PartContents, value_hits}
@@ -11,7 +11,8 @@ use Rattle.ra_leaderboard.specs.States.{board_byte, board_state_of}
 use Rattle.ra_richpresence.specs.Contents.{LineContents, ScriptContents, values_in_line}
 use Rattle.ra_set.specs.Contents.{ItemContents, Unlocks, Ranks, SetContents}
 use Rattle.ra_progress.specs.Contents.{KeptItem, OfAchievement, OfBoard, KeptPresence, Opening, ItemFits, ItemsFit, PresenceFits, IsOpening}
-use Rattle.ra_runtime.specs.Order.{trees_in_set, set_cells, set_tracked, item_shape, tests_in, line_hits, presence_shape, shape_of}
+use Rattle.ra_member.proofs.Opened.{member_opened}
+use Rattle.ra_runtime.specs.Order.{board_member, trees_in_set, set_cells, set_tracked, item_shape, tests_in, line_hits, presence_shape, shape_of}
 use Rattle.ra_runtime.specs.Histories.{value_after}
 use Rattle.ra_runtime.specs.Presence.{LineKept, line_test_hits, line_after, cut_values, cut_lines, hits_in, numbers_in}
 use Rattle.ra_runtime.specs.Openings.{start_of, frames_after, item_after, optional_presence, snapshot}
@@ -36,22 +37,6 @@ board_byte_again (suc (suc (suc zero))) within = refl
 board_byte_again (suc (suc (suc (suc zero)))) within = refl
 board_byte_again (suc (suc (suc (suc (suc n))))) within = absurd (omega arith)
 
--- a list cut behind another is one again
-joined_behind : (front xs : List ℕ) (n : ℕ) → front ++ take n xs ++ drop n xs ≡ front ++ xs
-joined_behind front xs n =
-    append_assoc front (take n xs) (drop n xs) ∙ ap (λ ys. front ++ ys) (take-append-drop n xs)
-
--- the hits of a board, cut by its fields and laid in a row
-fields_joined : (n1 n2 n3 n4 : ℕ) (hits : List ℕ) → take n1 hits ++ take n2 (drop n1 hits) ++ take n3 (drop n2 (drop n1 hits)) ++ take n4 (drop n3 (drop n2 (drop n1 hits))) ++ drop n4 (drop n3 (drop n2 (drop n1 hits))) ≡ hits
-fields_joined n1 n2 n3 n4 hits =
-    let h1 = drop n1 hits in
-    let h2 = drop n2 h1 in
-    let h3 = drop n3 h2 in
-    joined_behind (take n1 hits ++ take n2 h1 ++ take n3 h2) h3 n4
-    ∙ joined_behind (take n1 hits ++ take n2 h1) h2 n3
-    ∙ joined_behind (take n1 hits) h1 n2
-    ∙ take-append-drop n1 hits
-
 module _ (start : Start) where
   item_unplayed : (item : ItemContents) (kept : KeptItem) → ItemFits (item_shape item) kept → item_after start [] (item, kept) ≡ kept
   item_unplayed (Unlocks id t) (OfAchievement state measured hits) is =
@@ -60,9 +45,8 @@ module _ (start : Start) where
   item_unplayed (Ranks id format b) (OfAchievement state measured hits) is = absurd is
   item_unplayed (Ranks id format b) (OfBoard state hits numbers) is =
       let state_is = board_byte_again state is.0 in
-      let hits_are = fields_joined (trigger_hits b.start) (trigger_hits b.cancel) (trigger_hits b.submit) (value_hits b.value) hits in
-      let numbers_are = take-append-drop (length b.value) numbers in
-      (λ i. OfBoard (state_is i) (hits_are i) (numbers_are i))
+      let opened = member_opened (board_member b) hits numbers is.1.as_many is.2.as_many in
+      (λ i. OfBoard (state_is i) (opened.hits_too i) (opened.numbers_too i))
 
   items_unplayed : (items : List ItemContents) (kept : List KeptItem) → ItemsFit (map item_shape items) kept → map (item_after start []) (zip items kept) ≡ kept
   items_unplayed [] [] is = refl

@@ -1,4 +1,5 @@
 pub mod AllRuns
+pub mod BoardLaws
 pub mod BoardRuns
 pub mod Boards
 pub mod Calls

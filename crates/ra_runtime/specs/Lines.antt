@@ -7,7 +7,6 @@ use Rattle.ra_value_format.specs.declared.format.Format.{Format}
 use Rattle.ra_value_format.specs.Formats.{formatted}
 use Rattle.ra_trigger.specs.States.{is_primed, is_triggered}
 use Rattle.ra_trigger.specs.Steps.{TriggerKept}
-use Rattle.ra_leaderboard.specs.Contents.{BoardContents}
 use Rattle.ra_leaderboard.specs.States.{became_started, became_cancelled, became_submitted}
 use Rattle.ra_leaderboard.specs.declared.state.BoardState.{BoardState}
 use Rattle.ra_leaderboard.specs.declared.state.BoardState.TheVariants.{Started}
@@ -39,11 +38,11 @@ abbrev pub same_number : ℤ → ℤ → Bool
 same_number v w = cast_unsigned w32 v == cast_unsigned w32 w
 
 -- the lines of a board at a frame; while it runs its tracked number is told where it just started or changed
-abbrev pub board_lines : (frame id : ℕ) → Format → BoardContents → (before after : BoardKept) → List ℕ
-board_lines frame id format b before after =
+abbrev pub board_lines : (frame id : ℕ) → Format → (before after : BoardKept) → List ℕ
+board_lines frame id format before after =
     let started = became_started before.state after.state in
-    let tracked = tracked_number b after in
-    let changed = not (same_number (tracked_number b before) tracked) in
+    let tracked = tracked_number after in
+    let changed = not (same_number (tracked_number before) tracked) in
     line_if started (codes "start" ∷ decimal frame ∷ decimal id ∷ [])
     ++ line_if (is_started after.state && (started || changed)) (codes "track" ∷ decimal frame ∷ decimal id ∷ formatted format tracked ∷ [])
     ++ line_if (became_cancelled before.state after.state) (codes "cancel" ∷ decimal frame ∷ decimal id ∷ [])

@@ -1,7 +1,8 @@
 -- The cells and tracked masks of a set, and its shape: docs/DEFINITIONS.md, "Order of first occurrence" and "Shape of a set".
-use Rattle.std.specs.Prelude.{ℕ, ◌+◌, Option, None, Some, option_map, unwrap_or, List, [], ◌∷◌, ◌++◌, length, map, sum_by}
+use Rattle.std.specs.Prelude.{ℕ, ◌+◌, Option, None, Some, option_map, List, [], ◌∷◌, ◌++◌, length, map, sum_by}
 use Rattle.std.specs.List.{flat_map}
 use Rattle.ra_condition.specs.Contents.{TriggerContents, trigger_hits, PartContents, value_hits}
+use Rattle.ra_leaderboard.specs.Contents.{BoardContents}
 use Rattle.ra_richpresence.specs.Contents.{LineContents, ScriptContents, values_in_line, values_in_script}
 use Rattle.ra_set.specs.Contents.{ItemContents, Unlocks, Ranks, SetContents}
 use Rattle.ra_indirect.specs.Trees.{Tree, Cell, Tracked, same_cell, same_tracked, cells_in, tracked_in, firsts}
@@ -10,10 +11,19 @@ use Rattle.ra_progress.specs.declared.shape.ItemShape.{ItemShape}
 use Rattle.ra_progress.specs.declared.shape.ItemShape.TheVariants as shapes
 use Rattle.ra_progress.specs.declared.shape.PresenceShape.{PresenceShape}
 use Rattle.ra_progress.specs.Contents.{ShapeContents}
+use Rattle.ra_member.specs.Members.{MemberContents, trees_in_member, member_hits, member_numbers}
 
--- the parts of a value that may be missing
-abbrev pub optional_parts : Option (List PartContents) → List PartContents
-optional_parts value = unwrap_or value []
+-- the progress of a board, which is one value or none
+abbrev pub progress_in : Option (List PartContents) → List (List PartContents)
+progress_in None = []
+progress_in (Some parts) = parts ∷ []
+
+-- the tests and the values of a board: start, cancel and submit, and its value with the progress behind it where it has one
+abbrev pub board_member : BoardContents → MemberContents
+board_member b = record {
+  tests = b.start ∷ b.cancel ∷ b.submit ∷ [];
+  values = b.value ∷ progress_in b.progress;
+}
 
 -- the tests of a line, which are one or none
 abbrev pub tests_in : Option TriggerContents → List TriggerContents
@@ -23,9 +33,7 @@ tests_in (Some test) = test ∷ []
 -- the trees of an item; those of a board in the order start, cancel, submit, value, progress
 abbrev pub trees_in_item : ItemContents → List Tree
 trees_in_item (Unlocks id t) = trees_in_trigger t
-trees_in_item (Ranks id format b) =
-    trees_in_trigger b.start ++ trees_in_trigger b.cancel ++ trees_in_trigger b.submit
-    ++ trees_in_value b.value ++ trees_in_value (optional_parts b.progress)
+trees_in_item (Ranks id format b) = trees_in_member (board_member b)
 
 -- the trees of a line: those of its test, and then those of its macros
 abbrev pub trees_in_line : LineContents → List Tree
@@ -52,10 +60,7 @@ set_tracked set = firsts same_tracked (flat_map tracked_in (trees_in_set set))
 -- how many hits and numbers an item keeps
 abbrev pub item_shape : ItemContents → ItemShape
 item_shape (Unlocks id t) = shapes.Achievement (trigger_hits t)
-item_shape (Ranks id format b) =
-    shapes.Leaderboard
-    (trigger_hits b.start + trigger_hits b.cancel + trigger_hits b.submit + value_hits b.value + value_hits (optional_parts b.progress))
-    (length b.value + length (optional_parts b.progress))
+item_shape (Ranks id format b) = shapes.Leaderboard (member_hits (board_member b)) (member_numbers (board_member b))
 
 -- how many hits a line of a script keeps
 abbrev pub line_hits : LineContents → ℕ

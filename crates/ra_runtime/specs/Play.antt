@@ -20,7 +20,7 @@ item_lines start frame image earlier (Unlocks id t, opened) =
     achievement_lines frame id (after earlier) (after (image ∷ earlier))
 item_lines start frame image earlier (Ranks id format b, opened) =
     let after = board_after start b (opened_board b opened) in
-    board_lines frame id format b (after earlier) (after (image ∷ earlier))
+    board_lines frame id format (after earlier) (after (image ∷ earlier))
 
 -- the lines of a set at the last frame, items in set order; its number is the count before it
 abbrev pub lines : SetContents → Opening → History → List ℕ

@@ -1,18 +1,16 @@
 -- How the lines of a display are kept and stepped: docs/DEFINITIONS.md, "Presence over frames".
 use Rattle.std.specs.Prelude.{◌≡◌, ℕ, ◌<◌, Bool, true, Option, None, Some, option_map, List, [], ◌∷◌, length, map, zip}
 use Rattle.std.specs.List.{concat, flat_map}
-use Rattle.ra_condition.specs.Contents.{PartContents}
 use Rattle.ra_indirect.specs.declared.node.Node.{Node}
-use Rattle.ra_memory.specs.Image.{History}
 use Rattle.ra_memref.specs.Values.{Start}
 use Rattle.ra_memref.specs.Table.{TableSeen}
 use Rattle.ra_progress.specs.Contents.{KeptPresence}
 use Rattle.ra_richpresence.specs.Contents.{LineContents, ScriptContents, values_in_line}
 use Rattle.ra_member.specs.declared.member.Member.{Member}
 use Rattle.ra_member.specs.Beside.{AreBeside}
-use Rattle.ra_member.specs.Members.{MemberContents, values_next}
+use Rattle.ra_member.specs.Members.{MemberContents}
 use Rattle.ra_member.specs.MemberRuns.{IsMember, kept_by}
-use Rattle.ra_member.specs.Runs.{HasValues, IsValueRun}
+use Rattle.ra_member.specs.Runs.{HasValues}
 use Rattle.ra_runtime.specs.declared.presence_run.PresenceRun.{PresenceRun}
 use Rattle.ra_runtime.specs.Order.{tests_in}
 use Rattle.ra_runtime.specs.Presence.{LineKept, line_truth, line_after, first_true, hits_in, numbers_in, presence_after}
@@ -87,9 +85,3 @@ abbrev pub StepsOptional : TableSeen → Option ScriptContents → (old new : Op
 StepsOptional table None None None = Unit {0}
 StepsOptional table (Some script) (Some old) (Some new) = StepsPresence table script old new
 StepsOptional table _ _ _ = ⊥
-
--- one frame of each value of a line; its tests stay
-pub record StepsMacros (table : TableSeen) (values : List (List PartContents)) (old new : Member) : Type 0 where
-  pub values_too : AreBeside (IsValueRun table.nodes) values new.values.items
-  pub kept : (start : Start) (history : History) → HasValues table start history → (kept_by new).values ≡ values_next start values history (kept_by old).values
-  pub tests : new.tests ≡ old.tests

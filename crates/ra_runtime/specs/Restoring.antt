@@ -1,17 +1,14 @@
 -- What runs keep after the bytes of a progress file are put back: docs/DEFINITIONS.md, "What a runtime keeps".
-use Rattle.std.specs.Prelude.{◌≡◌, ℕ, ◌+◌, ◌<◌, Option, None, Some, option_map, List, [], ◌∷◌, length, slice_index}
+use Rattle.std.specs.Prelude.{◌≡◌, ℕ, ◌+◌, ◌<◌, Option, None, Some, option_map, List, [], ◌∷◌, slice_index}
 use Rattle.std.specs.List.{flat_map}
 use Rattle.ra_indirect.specs.declared.node.Node.{Node}
-use Rattle.ra_value.specs.Steps.{ValueKept}
 use Rattle.ra_leaderboard.specs.Contents.{BoardContents}
 use Rattle.ra_set.specs.Contents.{ItemContents}
 use Rattle.ra_richpresence.specs.Contents.{LineContents, ScriptContents}
 use Rattle.ra_progress.specs.declared.shape.ItemShape.{ItemShape}
 use Rattle.ra_progress.specs.declared.shape.PresenceShape.{PresenceShape}
-use Rattle.ra_words.specs.Words.{word_at, words_at}
+use Rattle.ra_words.specs.Words.{word_at}
 use Rattle.ra_progress.specs.Reading.{item_length, said_item, said_presence}
-use Rattle.ra_member.specs.declared.trigger_run.TriggerRun.{TriggerRun}
-use Rattle.ra_member.specs.declared.value_run.ValueRun.{ValueRun}
 use Rattle.ra_runtime.specs.declared.board_run.BoardRun.{BoardRun}
 use Rattle.ra_runtime.specs.declared.item_run.ItemRun.{ItemRun}
 use Rattle.ra_member.specs.declared.member.Member.{Member}
@@ -28,29 +25,6 @@ use Rattle.ra_runtime.specs.Shapes.{board_run_shape, run_shape, optional_run_sha
 abbrev pub HaveStates : List ℕ → ℕ → List ItemShape → Type 0
 HaveStates bytes at [] = Unit {0}
 HaveStates bytes at (shape ∷ shapes) = (slice_index bytes at < 5) × HaveStates bytes (at + item_length shape) shapes
-
--- the hits of a trigger are those at a place
-pub record PutsBackTest (bytes : List ℕ) (at : ℕ) (old new : TriggerRun) : Type 0 where
-  pub hits : new.trigger.hits ≡ words_at bytes at (length old.trigger.hits)
-  pub laid : new.laid ≡ old.laid
-
--- a value whose hits and numbers are those at two places
-abbrev pub value_at : List ℕ → (hits numbers : ℕ) → ValueKept → ValueKept
-value_at bytes hits numbers old = record {
-  hits = words_at bytes hits (length old.hits);
-  numbers = words_at bytes numbers (length old.numbers);
-}
-
--- the value is what stands at two places
-pub record PutsBackValue (bytes : List ℕ) (hits numbers : ℕ) (old new : ValueRun) : Type 0 where
-  pub value : new.value ≡ value_at bytes hits numbers old.value
-  pub rest : new ≡ record old { value = new.value }
-
--- a value that may be missing is what stands at two places, where it is there
-abbrev pub PutsBackOptional : List ℕ → (hits numbers : ℕ) → (old new : Option ValueRun) → Type 0
-PutsBackOptional bytes hits numbers None None = Unit {0}
-PutsBackOptional bytes hits numbers (Some old) (Some new) = PutsBackValue bytes hits numbers old new
-PutsBackOptional bytes hits numbers _ _ = ⊥
 
 -- a board is what stands at a place, and stays one with its plans
 pub record PutsBackBoard (bytes : List ℕ) (at : ℕ) (old new : BoardRun) : Type 0 where

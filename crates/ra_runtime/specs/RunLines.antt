@@ -5,14 +5,14 @@ use Rattle.ra_value_format.specs.declared.format.Format.{Format}
 use Rattle.ra_value_format.specs.Formats.{formatted, HasDigits}
 use Rattle.ra_trigger.specs.declared.change.Change.{Change}
 use Rattle.ra_trigger.specs.States.{is_primed, is_triggered}
-use Rattle.ra_value.specs.Steps.{signed_greatest}
 use Rattle.ra_leaderboard.specs.States.{became_started, became_cancelled, became_submitted}
 use Rattle.ra_set.specs.Contents.{ItemContents, Unlocks, Ranks}
 use Rattle.ra_runtime.specs.declared.board_run.BoardRun.{BoardRun}
 use Rattle.ra_runtime.specs.declared.item_run.ItemRun.{ItemRun}
 use Rattle.ra_runtime.specs.declared.item_run.ItemRun.TheVariants.{Achievement, Leaderboard}
 use Rattle.ra_runtime.specs.Lines.{line_of, line_if, is_started, same_number}
-use Rattle.ra_runtime.specs.BoardRuns.{tracked_by}
+use Rattle.ra_runtime.specs.Boards.{tracked_number, value_number}
+use Rattle.ra_runtime.specs.BoardRuns.{board_kept}
 
 -- a line for a new measured number
 abbrev pub measured_line : (frame id : ℕ) → Option ℕ → List ℕ
@@ -46,9 +46,9 @@ HasItemDigits (Ranks id format b) = HasDigits format
 abbrev pub board_run_lines : (frame id : ℕ) → Format → BoardRun → List ℕ
 board_run_lines frame id format run =
     let started = became_started run.change.before run.change.after in
-    let tracked = tracked_by run in
+    let tracked = tracked_number (board_kept run) in
     let changed = not (same_number run.tracked_before tracked) in
-    let value = signed_greatest run.value.value.numbers in
+    let value = value_number (board_kept run) in
     line_if started (codes "start" ∷ decimal frame ∷ decimal id ∷ [])
     ++ track_line (is_started run.change.after && (started || changed)) frame id format tracked
     ++ line_if (became_cancelled run.change.before run.change.after) (codes "cancel" ∷ decimal frame ∷ decimal id ∷ [])

@@ -1,17 +1,18 @@
 -- How many numbers runs keep, and a table that is laid out for a set: docs/DEFINITIONS.md, "Shape of a set".
-use Rattle.std.specs.Prelude.{◌≡◌, ℕ, ◌+◌, ◌<◌, ◌≤◌, ◌^◌, Option, None, Some, option_map, List, length, map}
+use Rattle.std.specs.Prelude.{◌≡◌, ℕ, ◌<◌, ◌≤◌, ◌^◌, Option, None, Some, option_map, List, length, map}
 use Rattle.ra_memref.specs.Table.{TableSeen, IsFresh}
 use Rattle.ra_set.specs.Contents.{SetContents}
 use Rattle.ra_progress.specs.declared.shape.ItemShape.{ItemShape}
 use Rattle.ra_progress.specs.declared.shape.ItemShape.TheVariants as shapes
 use Rattle.ra_progress.specs.declared.shape.PresenceShape.{PresenceShape}
+use Rattle.ra_member.specs.Members.{saved_hits, saved_numbers}
+use Rattle.ra_member.specs.MemberRuns.{kept_by}
 use Rattle.ra_runtime.specs.declared.board_run.BoardRun.{BoardRun}
 use Rattle.ra_runtime.specs.declared.item_run.ItemRun.{ItemRun}
 use Rattle.ra_runtime.specs.declared.presence_run.PresenceRun.{PresenceRun}
 use Rattle.ra_runtime.specs.declared.item_run.ItemRun.TheVariants.{Achievement, Leaderboard}
 use Rattle.ra_runtime.specs.Order.{item_shape, presence_shape}
 use Rattle.ra_runtime.specs.Openings.{plain_item, plain_presence}
-use Rattle.ra_runtime.specs.BoardRuns.{optional_kept}
 use Rattle.ra_runtime.specs.ItemRuns.{kept_run}
 use Rattle.ra_runtime.specs.AllRuns.{AreItemRuns, IsOver}
 use Rattle.ra_runtime.specs.PresenceRuns.{IsOptionalPresence, presence_kept, optional_presence_kept}
@@ -19,10 +20,7 @@ use Rattle.ra_runtime.specs.PresenceRuns.{IsOptionalPresence, presence_kept, opt
 -- the shape of a board, by the numbers that its run keeps
 abbrev pub board_run_shape : BoardRun → ItemShape
 board_run_shape run =
-    let progress = optional_kept run.progress in
-    shapes.Leaderboard
-    (length run.start.trigger.hits + length run.cancel.trigger.hits + length run.submit.trigger.hits + length run.value.value.hits + length progress.hits)
-    (length run.value.value.numbers + length progress.numbers)
+    shapes.Leaderboard (length (saved_hits (kept_by run.member))) (length (saved_numbers (kept_by run.member)))
 
 -- the shape of an item, by the numbers that its run keeps
 abbrev pub run_shape : ItemRun → ItemShape

@@ -1,18 +1,22 @@
-ghost use Rattle.std.specs.Prelude.{◌≡◌, ◌+◌, ◌*◌, ◌≤◌, ◌^◌, true, length, IfOk, IfSome, option_map};
+ghost use Rattle.std.specs.Prelude.{◌≡◌, ◌+◌, ◌*◌, ◌≤◌, ◌^◌, ◌++◌, [], true, List, length, map, option_map, IfOk, IfSome};
+ghost use Rattle.std.specs.Result.{OnOk};
 ghost use Rattle.ra_condition.specs.Contents.{value_contents};
 ghost use Rattle.ra_condition.specs.Spelled.{IsValue};
+ghost use Rattle.ra_indirect.specs.declared.node.Node.{Node};
 ghost use Rattle.ra_leaderboard.specs.Contents.{board_contents};
 ghost use Rattle.ra_leaderboard.specs.Spelled.{IsBoard};
+ghost use Rattle.ra_leaderboard.specs.States as states;
 ghost use Rattle.ra_set.specs.Limits.{optional_value};
-ghost use Rattle.ra_member.specs.Runs.{IsValueRun};
-ghost use Rattle.ra_runtime.specs.Order.{optional_parts};
-ghost use Rattle.ra_runtime.specs.Runs.{FollowsValue};
-ghost use Rattle.ra_runtime.specs.BoardRuns.{AreNewTests, AreNewValues, IsBoardRun, IsNewBoard, IsNewOptional, IsOptionalRun, StepsBoard, board_conditions, optional_kept, tests_conditions, tracked_by, values_conditions};
+ghost use Rattle.ra_member.specs.Members.{MemberContents, member_conditions};
+ghost use Rattle.ra_member.specs.MemberRuns.{IsMember, IsNewMember, StepsValues};
+ghost use Rattle.ra_runtime.specs.Boards as boards;
+ghost use Rattle.ra_runtime.specs.Order.{board_member, progress_in};
+ghost use Rattle.ra_runtime.specs.BoardRuns.{FollowsValues, IsBoardRun, IsNewBoard, StepsBoard, board_kept};
 
 use ra_condition::ValueText;
 use ra_indirect::Pool;
 use ra_leaderboard::{Board, BoardChange, BoardState, BoardText};
-use ra_member::{TriggerRun, ValueRun};
+use ra_member::{Member, ValueRun};
 use ra_memref::Table;
 use ra_text::OutOfMemory;
 use std::alloc::Global;
@@ -20,11 +24,8 @@ use std::alloc::Global;
 /// A leaderboard: what is kept of it, its plans, and what its last frame did.
 #[derive(Drop)]
 pub(crate) struct BoardRun {
-    pub start: TriggerRun,
-    pub cancel: TriggerRun,
-    pub submit: TriggerRun,
-    pub value: ValueRun,
-    pub progress: Option<ValueRun>,
+    /// Start, cancel and submit, and the value with the progress behind it where there is one.
+    pub member: Member,
     pub board: Board,
     pub change: BoardChange,
     /// The tracked number before the last frame.
@@ -35,17 +36,14 @@ impl BoardRun {
     // A board that waits, with its trees in the pool.
     pub(crate) fn new(alloc: Global, text: &BoardText, pool: &mut Pool) -> Result<Self, OutOfMemory>
         requires spelled { IsBoard (board_contents text.now) }
-        requires room { length pool.old + 13 * board_conditions (board_contents text.now) + 2 ≤ 2 ^ 31 }
+        requires room { length pool.old + 13 * member_conditions (board_member (board_contents text.now)) + 2 ≤ 2 ^ 31 }
         ensures { IfOk result (IsNewBoard pool.old pool.new (board_contents text.now)) }
     {
-        let tests = new_tests(alloc, text, pool)?;
-        let values = new_values(alloc, text, pool)?;
+        let mut member = tested(alloc, text, pool)?;
+        member.add_value(alloc, &text.value, pool)?;
+        put_progress(alloc, &mut member, &text.progress, pool)?;
         Ok(BoardRun {
-            start: tests.start,
-            cancel: tests.cancel,
-            submit: tests.submit,
-            value: values.value,
-            progress: values.progress,
+            member,
             board: Board::new(),
             change: BoardChange {
                 before: BoardState::Waiting,
@@ -63,119 +61,118 @@ impl BoardRun {
         ensures steps { StepsBoard table.now (board_contents text.now) self.old self.new }
     {
         self.tracked_before = self.tracked();
-        let start = self.start.truth(&text.start, table);
-        let cancel = self.cancel.truth(&text.cancel, table);
-        let submit = self.submit.truth(&text.submit, table);
+        let start = self.member.step_test(0, &text.start, table);
+        let cancel = self.member.step_test(1, &text.cancel, table);
+        let submit = self.member.step_test(2, &text.submit, table);
         self.change = self.board.step(start, cancel, submit);
-        follow(&mut self.value, &text.value, table, self.change);
-        follow_optional(&mut self.progress, &text.progress, table, self.change);
+        follow(&mut self.member, text, table, self.change);
+    }
+
+    // The number of the value.
+    pub(crate) fn value(&self) -> i32
+        ensures { result ≡ boards.value_number (board_kept self.now) }
+    {
+        number_at(&self.member.values, 0)
     }
 
     // The tracked number: that of the progress where there is one, else that of the value.
     pub(crate) fn tracked(&self) -> i32
-        ensures { result ≡ tracked_by self.now }
+        ensures { result ≡ boards.tracked_number (board_kept self.now) }
     {
-        match &self.progress {
-            Some(run) => run.value.greatest(),
-            None => self.value.value.greatest(),
-        }
+        let last = self.member.values.len().saturating_sub(1);
+        number_at(&self.member.values, last)
     }
 }
 
-// The three triggers of a board.
-#[derive(Drop)]
-struct BoardTests {
-    start: TriggerRun,
-    cancel: TriggerRun,
-    submit: TriggerRun,
-}
-
-// The triggers of a board, of which nothing is kept yet, with their trees in the pool.
-fn new_tests(alloc: Global, text: &BoardText, pool: &mut Pool) -> Result<BoardTests, OutOfMemory>
-    requires spelled { IsBoard (board_contents text.now) }
-    requires room { length pool.old + 13 * tests_conditions (board_contents text.now) + 2 ≤ 2 ^ 31 }
-    ensures { IfOk result (λ tests. AreNewTests pool.old pool.new (board_contents text.now)
-        tests.start tests.cancel tests.submit) }
+// The number of the value at a place, and 0 where there is none.
+fn number_at(values: &[ValueRun], place: usize) -> i32
+    ensures { result ≡ boards.number_at (map (λ v. v.value) values.now) place }
 {
-    let start = TriggerRun::new(alloc, &text.start, pool)?;
-    let cancel = TriggerRun::new(alloc, &text.cancel, pool)?;
-    let submit = TriggerRun::new(alloc, &text.submit, pool)?;
-    Ok(BoardTests {
-        start,
-        cancel,
-        submit,
-    })
+    if place < values.len() {
+        values[place].value.greatest()
+    } else {
+        0
+    }
 }
 
-// The value of a board, and its progress where it has one.
-#[derive(Drop)]
-struct BoardValues {
-    value: ValueRun,
-    progress: Option<ValueRun>,
-}
-
-// The values of a board, with all numbers 0, and their trees in the pool.
-fn new_values(alloc: Global, text: &BoardText, pool: &mut Pool) -> Result<BoardValues, OutOfMemory>
+// A member of the triggers of a board, without values.
+fn tested(alloc: Global, text: &BoardText, pool: &mut Pool) -> Result<Member, OutOfMemory>
     requires spelled { IsBoard (board_contents text.now) }
-    requires room { length pool.old + 13 * values_conditions (board_contents text.now) + 2 ≤ 2 ^ 31 }
-    ensures { IfOk result (λ values. AreNewValues pool.old pool.new (board_contents text.now)
-        values.value values.progress) }
+    requires room { length pool.old + 13 * member_conditions (board_member (board_contents text.now)) + 2 ≤ 2 ^ 31 }
+    ensures { IfOk result (IsNewMember pool.old pool.new
+        (record { tests = (board_member (board_contents text.now)).tests; values = [] })) }
 {
-    let value = ValueRun::new(alloc, &text.value, pool)?;
-    let progress = optional_run(alloc, &text.progress, pool)?;
-    Ok(BoardValues { value, progress })
+    // This call tells that the nodes are those of a pool, which the proof needs.
+    let _ = pool.len();
+    let mut member = Member::new(alloc);
+    member.add_test(alloc, &text.start, pool)?;
+    member.add_test(alloc, &text.cancel, pool)?;
+    member.add_test(alloc, &text.submit, pool)?;
+    Ok(member)
 }
 
-// A value that may be missing, with all numbers 0, and its trees in the pool.
-fn optional_run(
+// Puts the progress of a board behind its value, where it has one.
+fn put_progress(
     alloc: Global,
+    member: &mut Member,
     text: &Option<ValueText>,
     pool: &mut Pool,
-) -> Result<Option<ValueRun>, OutOfMemory>
+) -> Result<(), OutOfMemory>
     requires spelled { IfSome (option_map value_contents text.now) IsValue }
     requires room { length pool.old + 13 * optional_value (option_map value_contents text.now) + 2 ≤ 2 ^ 31 }
-    ensures { IfOk result (IsNewOptional pool.old pool.new (option_map value_contents text.now)) }
+    ensures { OnOk result ((before : List Node) (m : MemberContents) → IsNewMember before pool.old m member.old
+        → IsNewMember before pool.new (record m {
+          values = m.values ++ progress_in (option_map value_contents text.now);
+        }) member.new) }
 {
     match text {
-        Some(text) => Ok(Some(ValueRun::new(alloc, text, pool)?)),
-        None => {
-            let _ = pool.len();
-            Ok(None)
+        Some(text) => {
+            member.add_value(alloc, text, pool)?;
+            Ok(())
         }
+        None => Ok(()),
     }
 }
 
-// Steps a board's value: it begins anew where the state leaves active, and stays where none runs.
-fn follow(run: &mut ValueRun, text: &ValueText, table: &Table, change: BoardChange)
-    requires run { IsValueRun table.now.nodes (value_contents text.now) run.old }
+// Steps the values of a board: they begin anew where its state leaves active, and stay where none runs.
+fn follow(member: &mut Member, text: &BoardText, table: &Table, change: BoardChange)
+    requires run { IsMember table.now.nodes (board_member (board_contents text.now)) member.old }
     requires sampled { table.now.sampled ≡ true }
-    ensures run { IsValueRun table.now.nodes (value_contents text.now) run.new }
-    ensures follows { FollowsValue table.now (value_contents text.now) change.before change.after
-        run.old.value run.new.value }
+    ensures run { IsMember table.now.nodes (board_member (board_contents text.now)) member.new }
+    ensures follows { FollowsValues table.now (board_member (board_contents text.now)).values
+        change.before change.after member.old member.new }
 {
-    if !matches!(change.after, BoardState::Started | BoardState::Submitted) {
+    if !is_running(change.after) {
         return;
     }
-    if matches!(change.before, BoardState::Active) {
-        run.value.reset();
+    if begins(change) {
+        member.reset_values();
     }
-    run.step(text, table);
+    step_values(member, text, table);
 }
 
-// Steps a board's value that may be missing, as `follow` does.
-fn follow_optional(
-    run: &mut Option<ValueRun>,
-    text: &Option<ValueText>,
-    table: &Table,
-    change: BoardChange,
-)
-    requires run { IsOptionalRun table.now.nodes (option_map value_contents text.now) run.old }
-    requires sampled { table.now.sampled ≡ true }
-    ensures run { IsOptionalRun table.now.nodes (option_map value_contents text.now) run.new }
-    ensures follows { FollowsValue table.now (optional_parts (option_map value_contents text.now))
-        change.before change.after (optional_kept run.old) (optional_kept run.new) }
+// An attempt runs, or was just submitted.
+fn is_running(state: BoardState) -> bool
+    ensures { result ≡ states.is_running state }
 {
-    if let (Some(run), Some(text)) = (run, text) {
-        follow(run, text, table, change);
+    matches!(state, BoardState::Started | BoardState::Submitted)
+}
+
+// The state leaves active for one that runs.
+fn begins(change: BoardChange) -> bool
+    ensures { result ≡ states.begins change.before change.after }
+{
+    matches!(change.before, BoardState::Active) && is_running(change.after)
+}
+
+// Steps the value of a board, and its progress where it has one.
+fn step_values(member: &mut Member, text: &BoardText, table: &Table)
+    requires run { IsMember table.now.nodes (board_member (board_contents text.now)) member.old }
+    requires sampled { table.now.sampled ≡ true }
+    ensures { StepsValues table.now (board_member (board_contents text.now)).values member.old member.new }
+{
+    member.step_value(0, &text.value, table);
+    if let Some(progress) = &text.progress {
+        member.step_value(1, progress, table);
     }
 }

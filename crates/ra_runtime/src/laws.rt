@@ -31,8 +31,9 @@ pub fn openings_stand()
     ensures { (set : SetContents) → HasOpenings set }
 {}
 
-/// What items and display lines keep after a history is kept by a fold of one step a frame:
-/// docs/DEFINITIONS.md, "After a history".
+/// What items and display lines keep after a history is kept by a fold of one step a frame, and each field of a
+/// leaderboard is what its own recursion over the history says: docs/DEFINITIONS.md, "After a history" and
+/// "Leaderboard states".
 ///
 /// A law: it does nothing.
 pub fn histories_are_folds()

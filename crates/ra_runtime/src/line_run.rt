@@ -11,11 +11,11 @@ ghost use Rattle.ra_richpresence.specs.Spelled.{IsPiece};
 ghost use Rattle.ra_set.specs.Limits.{optional_trigger, optional_value, line_conditions};
 ghost use Rattle.ra_member.specs.Beside.{AreBeside};
 ghost use Rattle.ra_member.specs.Members.{MemberContents};
-ghost use Rattle.ra_member.specs.MemberRuns.{IsNewMember};
+ghost use Rattle.ra_member.specs.MemberRuns.{IsNewMember, StepsValues};
 ghost use Rattle.ra_member.specs.Runs.{IsValueRun};
 ghost use Rattle.ra_runtime.specs.Order.{tests_in};
 ghost use Rattle.ra_runtime.specs.NewPresence.{IsShownLine, IsNewLine};
-ghost use Rattle.ra_runtime.specs.PresenceRuns.{IsLineRun, StepsLine, StepsMacros};
+ghost use Rattle.ra_runtime.specs.PresenceRuns.{IsLineRun, StepsLine};
 
 use ra_condition::TriggerText;
 use ra_indirect::Pool;
@@ -100,7 +100,7 @@ fn step_macros(member: &mut Member, pieces: &[Piece], table: &Table)
     requires values { AreBeside (IsValueRun table.now.nodes)
         (filter_map value_in (map piece_contents pieces.now)) member.old.values.items }
     requires sampled { table.now.sampled ≡ true }
-    ensures { StepsMacros table.now (filter_map value_in (map piece_contents pieces.now)) member.old member.new }
+    ensures { StepsValues table.now (filter_map value_in (map piece_contents pieces.now)) member.old member.new }
 {
     let mut place = 0;
     for piece in pieces {

@@ -1,21 +1,19 @@
 //! What the runs keep, put back from the bytes of a progress file.
 
-ghost use Rattle.std.specs.Prelude.{◌≡◌, ◌+◌, ◌*◌, ◌<◌, ◌≤◌, List, length, map, sum_by, slice_index};
+ghost use Rattle.std.specs.Prelude.{◌≡◌, ◌+◌, ◌<◌, ◌≤◌, List, length, map, sum_by, slice_index};
 ghost use Rattle.ra_indirect.specs.declared.node.Node.{Node};
 ghost use Rattle.ra_set.specs.Contents.{ItemContents};
 ghost use Rattle.ra_progress.specs.Reading as reading;
-ghost use Rattle.ra_runtime.specs.BoardRuns.{optional_kept};
 ghost use Rattle.ra_runtime.specs.ItemRuns.{kept_run};
 ghost use Rattle.ra_runtime.specs.AllRuns.{AreItemRuns};
 ghost use Rattle.ra_runtime.specs.Shapes.{board_run_shape, run_shape};
-ghost use Rattle.ra_runtime.specs.Restoring.{HaveStates, PutsBackTest, PutsBackValue, PutsBackOptional, PutsBackBoard, PutsBackItem};
+ghost use Rattle.ra_runtime.specs.Restoring.{HaveStates, PutsBackBoard, PutsBackItem};
 
 use crate::board_run::BoardRun;
 use crate::item_run::ItemRun;
 use crate::state_bytes::{board_of_byte, state_of_byte};
-use ra_member::{TriggerRun, ValueRun};
+use ra_member::Places;
 use ra_progress::word_at;
-use ra_trigger::State;
 
 // Puts back what the bytes from a place on say of all items, and gives the place behind.
 pub(crate) fn put_back_runs(runs: &mut [ItemRun], bytes: &[u8], from: usize) -> usize
@@ -60,59 +58,8 @@ fn put_back_board(run: &mut BoardRun, bytes: &[u8], at: usize) -> usize
     ensures place { result ≡ at + reading.item_length (board_run_shape run.old) }
 {
     run.board.put_back(board_of_byte(bytes[at]));
-    let at = put_back_test(&mut run.start, bytes, at + 1);
-    let at = put_back_test(&mut run.cancel, bytes, at);
-    let at = put_back_test(&mut run.submit, bytes, at);
-    let hits = run.value.value.hits().len();
-    let numbers = at + 4 * (hits + hits_of(&run.progress));
-    let rest = put_back_value(&mut run.value, bytes, at, numbers);
-    put_back_optional(&mut run.progress, bytes, at + 4 * hits, rest)
-}
-
-// Puts back the hits of a trigger, and gives the place behind.
-pub(crate) fn put_back_test(run: &mut TriggerRun, bytes: &[u8], at: usize) -> usize
-    requires { at + 4 * length run.old.trigger.hits ≤ length bytes.now }
-    ensures test { PutsBackTest bytes.now at run.old run.new }
-    ensures place { result ≡ at + 4 * length run.old.trigger.hits }
-{
-    let end = at + 4 * run.trigger.hits().len();
-    run.trigger.put_back(State::Waiting, 0, &bytes[at..end]);
-    end
-}
-
-// Puts back the hits and the numbers of a value, and gives the place behind the numbers.
-pub(crate) fn put_back_value(run: &mut ValueRun, bytes: &[u8], hits: usize, numbers: usize) -> usize
-    requires hits { hits + 4 * length run.old.value.hits ≤ length bytes.now }
-    requires numbers { numbers + 4 * length run.old.value.numbers ≤ length bytes.now }
-    ensures value { PutsBackValue bytes.now hits numbers run.old run.new }
-    ensures place { result ≡ numbers + 4 * length run.old.value.numbers }
-{
-    let hits_end = hits + 4 * run.value.hits().len();
-    let end = numbers + 4 * run.value.kept().len();
-    run.value
-        .put_back(&bytes[hits..hits_end], &bytes[numbers..end]);
-    end
-}
-
-// The same of a value that may be missing.
-fn put_back_optional(run: &mut Option<ValueRun>, bytes: &[u8], hits: usize, numbers: usize) -> usize
-    requires hits { hits + 4 * length (optional_kept run.old).hits ≤ length bytes.now }
-    requires numbers { numbers + 4 * length (optional_kept run.old).numbers ≤ length bytes.now }
-    ensures value { PutsBackOptional bytes.now hits numbers run.old run.new }
-    ensures place { result ≡ numbers + 4 * length (optional_kept run.old).numbers }
-{
-    match run {
-        Some(run) => put_back_value(run, bytes, hits, numbers),
-        None => numbers,
-    }
-}
-
-// How many hits a value keeps that may be missing.
-fn hits_of(run: &Option<ValueRun>) -> usize
-    ensures { result ≡ length (optional_kept run.now).hits }
-{
-    match run {
-        Some(run) => run.value.hits().len(),
-        None => 0,
-    }
+    let hits = at + 1;
+    let numbers = hits + 4 * run.member.shape().hits;
+    let behind = run.member.put_back(bytes, Places { hits, numbers });
+    behind.numbers
 }

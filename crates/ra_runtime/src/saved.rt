@@ -1,23 +1,21 @@
 //! What the runs keep, as a progress file keeps it.
 
 ghost use Rattle.std.specs.Prelude.{◌≡◌, map, option_map, IfOk};
-ghost use Rattle.std.specs.Result.{OnOk};
 ghost use Rattle.ra_progress.specs.Contents as progress;
 ghost use Rattle.ra_progress.specs.Contents.{kept_item, ItemFits, ItemsFit};
 ghost use Rattle.ra_runtime.specs.Boards.{kept_board};
 ghost use Rattle.ra_runtime.specs.BoardRuns as spec;
-ghost use Rattle.ra_runtime.specs.BoardRuns.{optional_kept};
 ghost use Rattle.ra_runtime.specs.ItemRuns.{kept_run};
 ghost use Rattle.ra_runtime.specs.PresenceRuns as runs;
 ghost use Rattle.ra_runtime.specs.PresenceRuns.{optional_presence_kept};
 ghost use Rattle.ra_runtime.specs.Shapes.{board_run_shape, run_shape};
-ghost use Rattle.ra_runtime.specs.Saving.{FitPresence, FitOptional, PutsBehind};
+ghost use Rattle.ra_runtime.specs.Saving.{FitPresence, FitOptional};
 
 use crate::board_run::BoardRun;
 use crate::item_run::ItemRun;
 use crate::presence_run::PresenceRun;
 use crate::state_bytes::{byte_of_board, byte_of_state};
-use ra_member::ValueRun;
+use ra_member::put_numbers;
 use ra_progress::{ItemKept, PresenceKept};
 use ra_text::OutOfMemory;
 use std::alloc::Global;
@@ -64,50 +62,12 @@ fn board_kept(alloc: Global, run: &BoardRun) -> Result<ItemKept, OutOfMemory>
 {
     let mut hits = Vec::new(alloc);
     let mut kept = Vec::new(alloc);
-    put_numbers(&mut hits, run.start.trigger.hits())?;
-    put_numbers(&mut hits, run.cancel.trigger.hits())?;
-    put_numbers(&mut hits, run.submit.trigger.hits())?;
-    put_value(&mut hits, &mut kept, &run.value)?;
-    put_optional(&mut hits, &mut kept, &run.progress)?;
+    run.member.save(&mut hits, &mut kept)?;
     Ok(ItemKept::Leaderboard {
         state: byte_of_board(run.board.state()),
         hits,
         kept,
     })
-}
-
-// Puts what is kept of a value that may be missing behind other hits and numbers.
-fn put_optional(
-    hits: &mut Vec<u32>,
-    kept: &mut Vec<u32>,
-    run: &Option<ValueRun>,
-) -> Result<(), OutOfMemory>
-    ensures hits { OnOk result (PutsBehind hits.old.items hits.new.items (optional_kept run.now).hits) }
-    ensures kept { OnOk result (PutsBehind kept.old.items kept.new.items (optional_kept run.now).numbers) }
-{
-    match run {
-        Some(run) => put_value(hits, kept, run),
-        None => Ok(()),
-    }
-}
-
-// Puts what is kept of a value behind other hits and numbers.
-fn put_value(hits: &mut Vec<u32>, kept: &mut Vec<u32>, run: &ValueRun) -> Result<(), OutOfMemory>
-    ensures hits { OnOk result (PutsBehind hits.old.items hits.new.items run.now.value.hits) }
-    ensures kept { OnOk result (PutsBehind kept.old.items kept.new.items run.now.value.numbers) }
-{
-    put_numbers(hits, run.value.hits())?;
-    put_numbers(kept, run.value.kept())
-}
-
-// Puts numbers behind others.
-pub(crate) fn put_numbers(words: &mut Vec<u32>, numbers: &[u32]) -> Result<(), OutOfMemory>
-    ensures { OnOk result (PutsBehind words.old.items words.new.items numbers.now) }
-{
-    for number in numbers {
-        words.push(*number)?;
-    }
-    Ok(())
 }
 
 // What is kept of the display, if there is one.

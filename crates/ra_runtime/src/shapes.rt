@@ -106,16 +106,10 @@ fn board_shape(run: &BoardRun) -> ItemShape
     requires { IsSmall (board_run_shape run.now) }
     ensures { result ≡ board_run_shape run.now }
 {
-    let tests = run.start.trigger.hits().len()
-        + run.cancel.trigger.hits().len()
-        + run.submit.trigger.hits().len();
-    let (hits, parts) = match &run.progress {
-        Some(progress) => (progress.value.hits().len(), progress.value.kept().len()),
-        None => (0, 0),
-    };
+    let saved = run.member.shape();
     ItemShape::Leaderboard {
-        hits: (tests + run.value.value.hits().len() + hits) as u32,
-        parts: (run.value.value.kept().len() + parts) as u32,
+        hits: saved.hits as u32,
+        parts: saved.numbers as u32,
     }
 }
 

@@ -114,7 +114,7 @@ fn put_board(
     ensures { OnOk result (out.new.items ≡ out.old.items ++ board_run_lines subject.frame subject.id format run.now) }
 {
     let tracked = run.tracked();
-    let value = run.value.value.greatest();
+    let value = run.value();
     let started = became_started(&run.change);
     let told = is_told(run, tracked);
     let cancelled = became_cancelled(&run.change);

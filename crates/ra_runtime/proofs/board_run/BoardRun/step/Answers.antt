@@ -1,33 +1,28 @@
-use Rattle.std.proofs.Common.{sym, ◌∙◌, rules, [], ◌∷◌}
-use Rattle.std.proofs.Common.{w32}
+use Rattle.std.proofs.Common.{sym, ◌∙◌, rules, w32, of_z, to_z}
 use Rattle.std.proofs.lemmas.Int.{to_z-of_z}
-use Rattle.ra_memory.specs.Image.{History}
 use Rattle.ra_leaderboard.specs.Contents.{board_contents}
-use Rattle.ra_leaderboard.specs.States.{state_after}
-use Rattle.ra_runtime.specs.Order.{optional_parts}
-use Rattle.ra_runtime.specs.Boards.{running_value}
-use Rattle.ra_runtime.specs.BoardRuns.{optional_kept}
+use Rattle.ra_runtime.specs.declared.board_run.BoardRun.{BoardRun}
+use Rattle.ra_runtime.proofs.BoardLemmas.{start_here, cancel_here, submit_here, tests_stepped, board_stepped}
 use Rattle.ra_runtime.proofs.board_run.BoardRun.step.Goals as goal
 
+pub step_test-start-requires-clause-test : goal.step_test-start-requires-clause-test
+step_test-start-requires-clause-test c =
+    start_here c.args.table.now (board_contents c.args.text.now) c.args.self.now c.requires.run
+
+pub step_test-cancel-requires-clause-test : goal.step_test-cancel-requires-clause-test
+step_test-cancel-requires-clause-test c =
+    cancel_here c.args.table.now (board_contents c.args.text.now) c.args.self.now c.requires.run c.step_test-start.new.self c.step_test-start.result c.step_test-start.ensures
+
+pub step_test-submit-requires-clause-test : goal.step_test-submit-requires-clause-test
+step_test-submit-requires-clause-test c =
+    submit_here c.args.table.now (board_contents c.args.text.now) c.args.self.now c.requires.run c.step_test-start.new.self c.step_test-start.result c.step_test-start.ensures c.step_test-cancel.new.self c.step_test-cancel.result c.step_test-cancel.ensures
+
+pub follow-requires-clause-run : goal.follow-requires-clause-run
+follow-requires-clause-run c =
+    tests_stepped c.args.table.now (board_contents c.args.text.now) c.args.self.now c.requires.run c.step_test-start.new.self c.step_test-start.result c.step_test-start.ensures c.step_test-cancel.new.self c.step_test-cancel.result c.step_test-cancel.ensures c.step_test-submit.new.self c.step_test-submit.result c.step_test-submit.ensures
+
 pub returns-clause-steps : goal.returns-clause-steps
-returns-clause-steps c = record {
-  kept = λ start image has.
-      let h : History = image ∷ [] in
-      let b = board_contents c.args.text.now in
-      let old = c.args.self.now in
-      let starts = c.truth-start.ensures.steps.truth start h has in
-      let cancels = c.truth-cancel.ensures.steps.truth start h has in
-      let submits = c.truth-submit.ensures.steps.truth start h has in
-      let after = c.step-self.ensures.after ∙ (λ i. state_after old.board (starts i) (cancels i) (submits i)) in
-      let before = c.step-self.ensures.before in
-      let state = c.step-self.ensures.kept ∙ after in
-      let start_hits = c.truth-start.ensures.steps.hits start h has in
-      let cancel_hits = c.truth-cancel.ensures.steps.hits start h has in
-      let submit_hits = c.truth-submit.ensures.steps.hits start h has in
-      let value = c.follow.ensures.follows start h has ∙ (λ i. running_value start h b.value (before i) (after i) old.value.value) in
-      let progress = c.follow_optional.ensures.follows start h has ∙ (λ i. running_value start h (optional_parts b.progress) (before i) (after i) (optional_kept old.progress)) in
-      (λ i. record { state = state i; start = start_hits i; cancel = cancel_hits i; submit = submit_hits i; value = value i; progress = progress i });
-  before = c.step-self.ensures.before;
-  after = sym c.step-self.ensures.kept;
-  tracked = to_z-of_z w32 c.tracked-self.result (search rules) ∙ c.tracked-self.ensures;
-}
+returns-clause-steps c =
+    let new : BoardRun = record { member = c.follow.new.member; board = c.step-self.new.self; change = c.step-self.result; tracked_before = to_z w32 (of_z w32 c.tracked-self.result) } in
+    board_stepped c.args.table.now (board_contents c.args.text.now) c.args.self.now c.requires.run c.step_test-start.new.self c.step_test-start.result c.step_test-start.ensures c.step_test-cancel.new.self c.step_test-cancel.result c.step_test-cancel.ensures c.step_test-submit.new.self c.step_test-submit.result c.step_test-submit.ensures
+    new (c.step-self.ensures.kept ∙ c.step-self.ensures.after) c.step-self.ensures.before (sym c.step-self.ensures.kept) c.follow.ensures.follows (to_z-of_z w32 c.tracked-self.result (search rules) ∙ c.tracked-self.ensures)
