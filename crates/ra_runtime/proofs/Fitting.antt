@@ -1,6 +1,6 @@
 -- What items keep has the counts of their texts, at every history.
-use Rattle.std.proofs.Common.{◌≡◌, ℕ, true, false, if◌then◌else◌, List, [], ◌∷◌, length, map}
-use Rattle.ra_condition.specs.Contents.{TriggerContents, groups_of, trigger_hits, PartContents, counted_in}
+use Rattle.std.proofs.Common.{true, false, if◌then◌else◌, List, ◌∷◌}
+use Rattle.ra_condition.specs.Contents.{PartContents}
 use Rattle.ra_memory.specs.Image.{History}
 use Rattle.ra_memref.specs.Values.{Start}
 use Rattle.ra_value.specs.Steps.{ValueKept}
@@ -8,26 +8,10 @@ use Rattle.ra_leaderboard.specs.declared.state.BoardState.{BoardState}
 use Rattle.ra_leaderboard.specs.Contents.{BoardContents}
 use Rattle.ra_leaderboard.specs.States.{is_running, begins}
 use Rattle.ra_runtime.specs.Order.{board_member}
-use Rattle.ra_member.specs.Frames.{truths_at, lefts_at, sum_at, value_next}
 use Rattle.ra_member.specs.Members.{MemberContents, HasShape, no_values, values_next}
 use Rattle.ra_member.proofs.Folds.{after_keeps}
-use Rattle.ra_member.proofs.Shaped.{length_truth, step_fits, AreValuesLong, tests_long, values_long, no_values_long, shape_of, values_in_shape}
-pub use Rattle.ra_member.proofs.Shaped.{ValueFits}
-use Rattle.ra_runtime.specs.Histories.{test_hits, value_after}
+use Rattle.ra_member.proofs.Shaped.{AreValuesLong, tests_long, values_long, no_values_long, shape_of, values_in_shape}
 use Rattle.ra_runtime.specs.Boards.{BoardKept, running_values, board_next, board_after}
-
-pub length_test : (start : Start) (t : TriggerContents) (opened : List ℕ) (h : History) → length opened ≡ trigger_hits t → length (test_hits start t opened h) ≡ trigger_hits t
-length_test start t opened [] fits = fits
-length_test start t opened (image ∷ earlier) fits =
-    length_truth t (truths_at start (image ∷ earlier) (groups_of t)) (lefts_at start (image ∷ earlier) (groups_of t)) (test_hits start t opened earlier)
-
-pub next_fits : (start : Start) (h : History) (parts : List PartContents) (old : ValueKept) → ValueFits parts (value_next start parts h old)
-next_fits start h parts old =
-    step_fits parts (truths_at start h (map counted_in parts)) (lefts_at start h (map counted_in parts)) (map (sum_at start h) parts) old
-
-pub value_fits : (start : Start) (parts : List PartContents) (opened : ValueKept) (h : History) → ValueFits parts opened → ValueFits parts (value_after start parts opened h)
-value_fits start parts opened [] fits = fits
-value_fits start parts opened (image ∷ earlier) fits = next_fits start (image ∷ earlier) parts (value_after start parts opened earlier)
 
 -- what is kept of a board has the counts of its fields
 abbrev pub BoardFits : BoardContents → BoardKept → Type 0

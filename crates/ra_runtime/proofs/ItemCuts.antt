@@ -1,7 +1,7 @@
 -- What items keep after a history that is cut, by an opening whose trees go on from the earlier part.
 use Rattle.std.proofs.Common.{◌≡◌, ℕ, List, [], ◌∷◌, ◌++◌, refl, ap, ◌∙◌, if◌then◌else◌}
 use Rattle.std.specs.List.{flat_map}
-use Rattle.ra_condition.specs.Contents.{TriggerContents, PartContents}
+use Rattle.ra_condition.specs.Contents.{TriggerContents}
 use Rattle.ra_leaderboard.specs.declared.state.BoardState.{BoardState}
 use Rattle.ra_leaderboard.specs.Contents.{BoardContents}
 use Rattle.ra_leaderboard.specs.States.{is_running, begins}
@@ -10,13 +10,12 @@ use Rattle.ra_indirect.specs.Trees.{Tree}
 use Rattle.ra_chain.specs.Occurrence.{trees_in_trigger, trees_in_value}
 use Rattle.ra_memref.specs.Values.{Start}
 use Rattle.ra_trigger.specs.Steps.{TriggerKept}
-use Rattle.ra_value.specs.Steps.{ValueKept}
-use Rattle.ra_member.specs.Frames.{achievement_next, test_next, test_holds, value_next}
+use Rattle.ra_member.specs.Frames.{achievement_next}
 use Rattle.ra_member.specs.Members.{MemberContents, no_values, values_next, trees_in_member}
-use Rattle.ra_member.proofs.Agreeing.{Agree, agree_front, agree_behind, achievement_agrees, test_agrees, holds_agrees, value_agrees, tests_agree, tests_hold_agree, values_agree}
+use Rattle.ra_member.proofs.Agreeing.{Agree, agree_front, agree_behind, achievement_agrees, tests_agree, tests_hold_agree, values_agree}
 use Rattle.ra_member.proofs.GoingOn.{GoesOn, fold_goes_on}
 use Rattle.ra_runtime.specs.Order.{board_member}
-use Rattle.ra_runtime.specs.Histories.{achievement_after, test_hits, test_truth, value_after}
+use Rattle.ra_runtime.specs.Histories.{achievement_after}
 use Rattle.ra_runtime.specs.Boards.{BoardKept, state_by, board_next, board_after}
 
 -- a board at two frames at which its trees have one value
@@ -46,25 +45,6 @@ module _ (start opened : Start) (earlier : History) where
   achievement_cut t goes k (image ∷ later) =
       achievement_agrees start opened (image ∷ (later ++ earlier)) (image ∷ later) t (goes image later) (achievement_after start t k (later ++ earlier))
       ∙ ap (achievement_next opened t (image ∷ later)) (achievement_cut t goes k later)
-
-  -- a trigger without states
-  pub test_hits_cut : (t : TriggerContents) → GoesOn start opened earlier (trees_in_trigger t) → (k : List ℕ) (later : History) → test_hits start t k (later ++ earlier) ≡ test_hits opened t (test_hits start t k earlier) later
-  test_hits_cut t goes k [] = refl
-  test_hits_cut t goes k (image ∷ later) =
-      test_agrees start opened (image ∷ (later ++ earlier)) (image ∷ later) t (goes image later) (test_hits start t k (later ++ earlier))
-      ∙ ap (test_next opened t (image ∷ later)) (test_hits_cut t goes k later)
-
-  pub test_truth_cut : (t : TriggerContents) → GoesOn start opened earlier (trees_in_trigger t) → (k : List ℕ) (image : List ℕ) (later : History) → test_truth start t k (image ∷ (later ++ earlier)) ≡ test_truth opened t (test_hits start t k earlier) (image ∷ later)
-  test_truth_cut t goes k image later =
-      holds_agrees start opened (image ∷ (later ++ earlier)) (image ∷ later) t (goes image later) (test_hits start t k (later ++ earlier))
-      ∙ ap (test_holds opened t (image ∷ later)) (test_hits_cut t goes k later)
-
-  -- a value that is stepped at every frame
-  pub value_after_cut : (parts : List PartContents) → GoesOn start opened earlier (trees_in_value parts) → (k : ValueKept) (later : History) → value_after start parts k (later ++ earlier) ≡ value_after opened parts (value_after start parts k earlier) later
-  value_after_cut parts goes k [] = refl
-  value_after_cut parts goes k (image ∷ later) =
-      value_agrees start opened (image ∷ (later ++ earlier)) (image ∷ later) parts (goes image later) (value_after start parts k (later ++ earlier))
-      ∙ ap (value_next opened parts (image ∷ later)) (value_after_cut parts goes k later)
 
   -- a board
   pub board_cut : (b : BoardContents) → GoesOn start opened earlier (trees_in_member (board_member b)) → (k : BoardKept) (later : History) → board_after start b k (later ++ earlier) ≡ board_after opened b (board_after start b k earlier) later

@@ -8,16 +8,14 @@ use Rattle.ra_memory.specs.Image.{History}
 use Rattle.ra_chain.specs.Occurrence.{trees_in_trigger}
 use Rattle.ra_memref.specs.Values.{Start}
 use Rattle.ra_trigger.specs.Steps.{TriggerKept}
-use Rattle.ra_value.specs.Steps.{signed_greatest}
 use Rattle.ra_richpresence.specs.Contents.{ScriptContents}
-use Rattle.ra_richpresence.specs.Lines.{line_text}
 use Rattle.ra_set.specs.Contents.{ItemContents, Unlocks, Ranks, SetContents}
 use Rattle.ra_progress.specs.Contents.{KeptItem, KeptPresence, Opening, ItemFits, ItemsFit, PresenceFits, IsOpening}
 use Rattle.ra_member.specs.Members.{trees_in_member}
 use Rattle.ra_runtime.specs.Order.{board_member, trees_in_item, trees_in_line, lines_in, item_shape, presence_shape, shape_of}
 use Rattle.ra_runtime.specs.Histories.{achievement_after}
 use Rattle.ra_runtime.specs.Boards.{BoardKept, board_after, opened_board, kept_board}
-use Rattle.ra_runtime.specs.Presence.{LineKept, cut_lines, lines_after, line_after, presence_after, presence_text, hits_in, numbers_in}
+use Rattle.ra_runtime.specs.Presence.{opened_display, kept_display, display_text}
 use Rattle.ra_runtime.specs.Lines.{line_of, achievement_lines, board_lines}
 use Rattle.ra_runtime.specs.Openings.{start_of, opened_achievement, kept_achievement, item_after, optional_presence, frames_after, snapshot}
 use Rattle.ra_runtime.specs.Play.{item_lines, lines, shown_by, shown}
@@ -28,7 +26,7 @@ use Rattle.ra_runtime.proofs.ItemCuts.{goes_front, goes_behind, achievement_cut,
 use Rattle.ra_runtime.proofs.Fitting.{BoardFits, board_fits}
 use Rattle.ra_runtime.proofs.Again.{achievement_again, board_again}
 use Rattle.ra_runtime.proofs.OpeningFits.{opened_fits, script_fits}
-use Rattle.ra_runtime.proofs.PresenceCuts.{LinesFit, lines_fit, lines_again, lines_cut, presence_cut}
+use Rattle.ra_runtime.proofs.PresenceCuts.{display_goes_on}
 use Rattle.ra_runtime.proofs.Covered.{tree_alike, cells_cut, priors_cut}
 
 module _ (start opened : Start) (earlier : History) where
@@ -83,22 +81,13 @@ module _ (start opened : Start) (earlier : History) where
   presence_goes_on None alike kept fits later = refl
   presence_goes_on (Some script) alike None fits later = refl
   presence_goes_on (Some script) alike (Some kept) fits later =
-      ap Some (presence_cut start opened earlier script alike kept (script_fits script kept fits) later)
-
-  text_goes_on : (script : ScriptContents) → GoesOn start opened earlier (flat_map trees_in_line script.lines) → (kept : KeptPresence) → LinesFit script.lines (cut_lines script.lines kept.hits kept.numbers) → (later : History) → presence_text start script kept (later ++ earlier) ≡ presence_text opened script (presence_after start script kept earlier) later
-  text_goes_on script alike kept fits later =
-      let ks : List LineKept = cut_lines script.lines kept.hits kept.numbers in
-      let after : List LineKept = map (line_after start earlier) (zip script.lines ks) in
-      let again : cut_lines script.lines (flat_map hits_in after) (flat_map numbers_in after) ≡ after = lines_again script.lines after (lines_fit start script.lines ks earlier fits) in
-      let rows : lines_after start script kept (later ++ earlier) ≡ lines_after opened script (presence_after start script kept earlier) later = rw again (lines_cut start opened earlier script.lines alike ks later) in
-      let whole = presence_cut start opened earlier script alike kept fits later in
-      (λ i. line_text script (whole i).shown (flat_map (λ line. map (λ v. signed_greatest v.numbers) line.values) (rows i)))
+      ap (λ k. Some (kept_display k)) (display_goes_on start opened earlier script alike (opened_display script kept) (script_fits script kept fits) later)
 
   shown_goes_on : (count : ℕ) (script : Option ScriptContents) → GoesOn start opened earlier (flat_map trees_in_line (lines_in script)) → (kept : Option KeptPresence) → PresenceFits (option_map presence_shape script) kept → (later : History) → shown_by start count (later ++ earlier) script kept ≡ shown_by opened count later script (optional_presence start earlier script kept)
   shown_goes_on count None alike kept fits later = refl
   shown_goes_on count (Some script) alike None fits later = refl
   shown_goes_on count (Some script) alike (Some kept) fits later =
-      ap (λ text. line_of (codes "presence" ∷ decimal count ∷ text ∷ [])) (text_goes_on script alike kept (script_fits script kept fits) later)
+      ap (λ k. line_of (codes "presence" ∷ decimal count ∷ display_text script k ∷ [])) (display_goes_on start opened earlier script alike (opened_display script kept) (script_fits script kept fits) later)
 
 -- counts that stop at the last number go on as one
 counts_go_on : (count m n : ℕ) → frames_after (frames_after count m) n ≡ frames_after count (n + m)

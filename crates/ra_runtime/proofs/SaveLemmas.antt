@@ -11,12 +11,14 @@ use Rattle.ra_words.specs.Words.{AreWords}
 use Rattle.ra_progress.specs.Contents.{KeptItem, kept_item, ItemFits, ItemsFit, PresenceFits, Opening, IsOpening}
 use Rattle.ra_runtime.specs.declared.item_run.ItemRun.{ItemRun}
 use Rattle.ra_runtime.specs.declared.presence_run.PresenceRun.{PresenceRun}
-use Rattle.ra_runtime.specs.Order.{set_cells, set_tracked, presence_shape, shape_of}
+use Rattle.ra_runtime.specs.Order.{set_cells, set_tracked, script_members, presence_shape, shape_of}
 use Rattle.ra_runtime.specs.AllRuns.{AreItemRuns, IsOver}
 use Rattle.ra_runtime.specs.Shapes.{run_shape}
-use Rattle.ra_runtime.specs.PresenceRuns.{IsOptionalPresence, line_kept, optional_presence_kept}
+use Rattle.ra_runtime.specs.PresenceRuns.{IsOptionalPresence, optional_presence_kept}
 use Rattle.ra_runtime.specs.Saving.{PutsBehind, FitOptional}
-use Rattle.ra_runtime.proofs.ShapeLemmas.{runs_shaped, lines_long}
+use Rattle.ra_member.specs.MemberRuns.{kept_by}
+use Rattle.ra_member.proofs.Opened.{members_long}
+use Rattle.ra_runtime.proofs.ShapeLemmas.{runs_shaped}
 use Rattle.ra_runtime.proofs.ShownLines.{lines_fit_runs}
 
 fit_more : (shapes : List ItemShape) (items : List KeptItem) (shape : ItemShape) (item : KeptItem) → ItemsFit shapes items → ItemFits shape item → ItemsFit (shapes ++ shape ∷ []) (items ++ item ∷ [])
@@ -41,8 +43,8 @@ presence_kept_fits nodes None None is fit = tt
 presence_kept_fits nodes None (Some run) is fit = absurd is
 presence_kept_fits nodes (Some script) None is fit = absurd is
 presence_kept_fits nodes (Some script) (Some run) is fit =
-    let longs = lines_long script.lines (map line_kept run.lines.items) (lines_fit_runs nodes script.lines run.lines.items is.lines) in
-    (is.shown, record { as_many = longs.1; fit = fit.hits }, record { as_many = longs.2; fit = fit.numbers })
+    let longs = members_long (script_members script) (map kept_by run.lines.items) (lines_fit_runs nodes script.lines run.lines.items is.lines) in
+    (is.shown, record { as_many = longs.0; fit = fit.hits }, record { as_many = longs.1; fit = fit.numbers })
 
 -- what is taken from a table over a set, from its runs and from its display
 module _ (set : SetContents) (table : TableSeen) (runs : List ItemRun) (display : Option PresenceRun) (over : IsOver set table) (are : AreItemRuns table.nodes set.items runs) (is : IsOptionalPresence table.nodes set.script display) where

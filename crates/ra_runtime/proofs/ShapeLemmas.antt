@@ -1,8 +1,8 @@
 -- The shape of a set is that of its runs, and within the types of its numbers.
 use Rattle.std.proofs.Common.{◌≡◌, ℕ, suc, ◌+◌, ◌<◌, ◌≤◌, ◌^◌, Bool, false, true, not, filter, if◌then◌else◌, Option, None, Some, option_map, List, [], ◌∷◌, length, map, get_or, sum, sum_by, All, IfSome, refl, sym, ◌∙◌, ap, ap₂, subst, arith, length-append}
 use Rattle.std.specs.List.{flat_map, filter_map}
-use Rattle.std.proofs.lemmas.List.{length-map, length-replicate}
-use Rattle.std.proofs.lemmas.List.Sums.{sum_by-cons, sum_by-append, sum_by-le-sum_by, get_or-le-sum_by}
+use Rattle.std.proofs.lemmas.List.{length-replicate}
+use Rattle.std.proofs.lemmas.List.Sums.{sum_by-cons, sum_by-append, sum_by-le-sum_by, get_or-le-sum_by, sum-map}
 use Rattle.std.proofs.lemmas.List.Elements.{All-map}
 use Rattle.ra_condition.specs.Contents.{TriggerContents, trigger_hits, PartContents, Legacy, Grouped, counted_in, value_hits}
 use Rattle.ra_condition.specs.Spelled.{IsPart, IsValue}
@@ -16,26 +16,25 @@ use Rattle.ra_operand.specs.declared.kind.Kind.TheVariants.{Mem, Delta, Prior, B
 use Rattle.ra_operand.specs.declared.size.Size.{Size}
 use Rattle.ra_richpresence.specs.Contents.{PieceContents, Bytes, Shows, LineContents, ScriptContents, value_in, values_in_line}
 use Rattle.ra_richpresence.specs.Spelled.{IsPiece}
-use Rattle.ra_value.specs.Steps.{ValueKept}
 use Rattle.ra_set.specs.Contents.{ItemContents, Unlocks, Ranks, SetContents}
 use Rattle.ra_set.specs.Limits.{part_conditions, value_conditions, optional_value, optional_trigger, item_conditions, line_conditions, script_conditions, IsWithinLimits}
 use Rattle.ra_progress.specs.declared.shape.ItemShape.TheVariants as shapes
 use Rattle.ra_member.specs.MemberRuns.{kept_by}
-use Rattle.ra_member.proofs.Opened.{saved_long}
+use Rattle.ra_member.proofs.Opened.{saved_long, members_long}
 use Rattle.ra_member.proofs.Shaped.{member_shape}
+use Rattle.ra_member.proofs.SideBySide.{beside_length}
+use Rattle.ra_member.specs.Members.{member_hits, member_numbers}
 use Rattle.ra_runtime.specs.declared.item_run.ItemRun.{ItemRun}
 use Rattle.ra_runtime.specs.declared.item_run.ItemRun.TheVariants.{Achievement, Leaderboard}
 use Rattle.ra_runtime.specs.declared.presence_run.PresenceRun.{PresenceRun}
-use Rattle.ra_runtime.specs.Order.{board_member, progress_in, tests_in, item_shape, line_hits, presence_shape}
-use Rattle.ra_runtime.specs.Presence.{LineKept, hits_in, numbers_in}
+use Rattle.ra_runtime.specs.Order.{board_member, progress_in, tests_in, line_member, script_members, item_shape, presence_shape}
 use Rattle.ra_runtime.specs.NewPresence.{IsShownLine}
-use Rattle.ra_runtime.specs.PresenceRuns.{IsOptionalPresence, line_kept}
+use Rattle.ra_runtime.specs.PresenceRuns.{IsLineRun, IsOptionalPresence}
 use Rattle.ra_runtime.specs.ItemRuns.{IsItemRun}
 use Rattle.ra_runtime.specs.AllRuns.{AreItemRuns, HaveDigits}
 use Rattle.ra_runtime.specs.Shapes.{run_shape, optional_run_shape, IsSmall, IsSmallPresence, IsLaidOut}
 use Rattle.ra_set.specs.Spelled.{IsItem, OptionalScript, IsSpelled}
 use Rattle.ra_runtime.proofs.NewLines.{shown_lines}
-use Rattle.ra_runtime.proofs.PresenceCuts.{LinesFit, length_values}
 use Rattle.ra_runtime.proofs.ShownLines.{lines_fit_runs}
 
 -- what a run keeps has the counts of its item
@@ -145,35 +144,24 @@ pub tracked_few : (nodes : List Node) → length (tracked_of nodes) ≤ length n
 tracked_few nodes = omega (arith, fewer same_tracked (flat_map tracked_at (spelled_by nodes)), at_most tracked_at mask_one (spelled_by nodes), length-spelled_by nodes)
 
 -- what a display keeps has the counts of its script
-pub lines_long : (lines : List LineContents) (ks : List LineKept) → LinesFit lines ks → (length ks ≡ length lines) × (length (flat_map hits_in ks) ≡ sum_by line_hits lines) × (length (flat_map numbers_in ks) ≡ sum_by length (flat_map values_in_line lines))
-lines_long [] [] fits = (refl, refl, refl)
-lines_long [] (k ∷ ks) fits = absurd fits
-lines_long (line ∷ lines) [] fits = absurd fits
-lines_long (line ∷ lines) (k ∷ ks) fits =
-    let rest = lines_long lines ks fits.1 in
-    let values = length_values (values_in_line line) k.values fits.0.values in
-    let hits : length (hits_in k) ≡ line_hits line = length-append k.test (flat_map (λ (v : ValueKept). v.hits) k.values) ∙ ap₂ (λ m n. m + n) fits.0.test values.0 in (
-      ap suc rest.0,
-      length-append (hits_in k) (flat_map hits_in ks) ∙ ap₂ (λ m n. m + n) hits rest.1 ∙ sym (sum_by-cons line_hits line lines),
-      length-append (numbers_in k) (flat_map numbers_in ks) ∙ ap₂ (λ m n. m + n) values.1 rest.2 ∙ sym (sum_by-append length (values_in_line line) (flat_map values_in_line lines)),
-    )
-
 pub presence_shaped : (nodes : List Node) (script : Option ScriptContents) (run : Option PresenceRun) → IsOptionalPresence nodes script run → optional_run_shape run ≡ option_map presence_shape script
 presence_shaped nodes None None is = refl
 presence_shaped nodes None (Some run) is = absurd is
 presence_shaped nodes (Some script) None is = absurd is
 presence_shaped nodes (Some script) (Some run) is =
-    let longs = lines_long script.lines (map line_kept run.lines.items) (lines_fit_runs nodes script.lines run.lines.items is.lines) in
-    let many = sym (length-map run.lines.items line_kept) ∙ longs.0 in
-    (λ i. Some (record { lines = many i; hits = longs.1 i; parts = longs.2 i }))
+    let longs = members_long (script_members script) (map kept_by run.lines.items) (lines_fit_runs nodes script.lines run.lines.items is.lines) in
+    let many = beside_length (IsLineRun nodes) script.lines run.lines.items is.lines in
+    (λ i. Some (record { lines = many i; hits = longs.0 i; parts = longs.1 i }))
 
 -- a line keeps at most a hit and a number for each of its conditions
 test_within : (test : Option TriggerContents) → sum_by trigger_hits (tests_in test) ≤ optional_trigger test
 test_within None = omega arith
 test_within (Some t) = omega arith
 
-line_within : (line : LineContents) → line_hits line ≤ line_conditions line
-line_within line = omega (arith, test_within line.test, sum_by-le-sum_by value_hits value_conditions (values_in_line line) hits_within)
+line_within : (line : LineContents) → member_hits (line_member line) ≤ line_conditions line
+line_within line =
+    let hits = sum_by-append (λ (n : ℕ). n) (map trigger_hits (tests_in line.test)) (map value_hits (values_in_line line)) in
+    omega (arith, hits, sum-map trigger_hits (tests_in line.test), sum-map value_hits (values_in_line line), test_within line.test, sum_by-le-sum_by value_hits value_conditions (values_in_line line) hits_within)
 
 macros_within : (pieces : List PieceContents) → All IsPiece pieces → sum_by length (filter_map value_in pieces) ≤ sum_by value_conditions (filter_map value_in pieces)
 macros_within [] each = omega arith
@@ -182,16 +170,22 @@ macros_within (Shows name parts ∷ pieces) each =
     let one : IsValue parts = each 0 (Shows name parts) (omega arith) in
     omega (arith, parts_within parts one.each, macros_within pieces (λ k d within. each (suc k) d (omega arith)), sum_by-cons length parts (filter_map value_in pieces), sum_by-cons value_conditions parts (filter_map value_in pieces))
 
-numbers_within : (lines : List LineContents) → All IsShownLine lines → sum_by length (flat_map values_in_line lines) ≤ sum_by line_conditions lines
-numbers_within [] each = omega arith
-numbers_within (line ∷ lines) each =
+lines_within : (lines : List LineContents) → All IsShownLine lines → (sum (map member_hits (map line_member lines)) ≤ sum_by line_conditions lines) × (sum (map member_numbers (map line_member lines)) ≤ sum_by line_conditions lines)
+lines_within [] each = (omega arith, omega arith)
+lines_within (line ∷ lines) each =
     let one : IsShownLine line = each 0 line (omega arith) in
-    omega (arith, macros_within line.pieces one.pieces, numbers_within lines (λ k d within. each (suc k) d (omega arith)), sum_by-append length (values_in_line line) (flat_map values_in_line lines), sum_by-cons line_conditions line lines)
+    let rest = lines_within lines (λ k d within. each (suc k) d (omega arith)) in
+    let all = sum_by-cons line_conditions line lines in
+    let own = λ (n : ℕ). n in (
+      omega (arith, line_within line, rest.0, all, sum_by-cons own (member_hits (line_member line)) (map member_hits (map line_member lines))),
+      omega (arith, macros_within line.pieces one.pieces, sum-map length (values_in_line line), rest.1, all, sum_by-cons own (member_numbers (line_member line)) (map member_numbers (map line_member lines))),
+    )
 
 presence_small : (script : Option ScriptContents) → OptionalScript script → script_conditions script ≤ 65536 → IsSmallPresence (option_map presence_shape script)
 presence_small None is few = tt
 presence_small (Some script) is few =
-    (is.1, omega (arith, few, sum_by-le-sum_by line_hits line_conditions script.lines line_within), omega (arith, few, numbers_within script.lines (shown_lines script.lines is.0.lines)))
+    let within = lines_within script.lines (shown_lines script.lines is.0.lines) in
+    (is.1, omega (arith, few, within.0), omega (arith, few, within.1))
 
 -- what a table that is laid out keeps fits into the shape
 module _ (set : SetContents) (size : ℕ) (table : TableSeen) (runs : List ItemRun) (presence : Option PresenceRun) (is : IsLaidOut set size table runs presence) where

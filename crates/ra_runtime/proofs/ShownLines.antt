@@ -1,11 +1,9 @@
 -- One frame of the lines of a display, and the first line that holds.
-use Rattle.std.proofs.Common.{◌≡◌, ℕ, suc, ◌+◌, ◌<◌, Bool, true, false, Option, None, Some, List, [], ◌∷◌, ◌++◌, length, map, get_or, set, zip, sum_by, refl, sym, ◌∙◌, ap, ap₂, subst, arith, length-append}
-use Rattle.std.specs.List.{concat, flat_map}
-use Rattle.std.proofs.lemmas.List.{append-nil, length-map, map-append}
-use Rattle.std.proofs.lemmas.List.Sums.{sum_by-cons}
-use Rattle.ra_condition.specs.Contents.{TriggerContents, trigger_hits, PartContents}
+use Rattle.std.proofs.Common.{◌≡◌, ℕ, suc, ◌+◌, ◌<◌, Bool, true, false, None, Some, List, [], ◌∷◌, ◌++◌, length, map, zip, refl, sym, ◌∙◌, ap, ap₂, subst, arith}
+use Rattle.std.proofs.lemmas.List.{length-map, map-append}
+use Rattle.ra_condition.specs.Contents.{TriggerContents}
 use Rattle.ra_indirect.specs.declared.node.Node.{Node}
-use Rattle.ra_memref.specs.Values.{Start}
+use Rattle.ra_memory.specs.Image.{History}
 use Rattle.ra_memref.specs.Table.{TableSeen}
 use Rattle.ra_richpresence.specs.Contents.{LineContents, ScriptContents, values_in_line}
 use Rattle.ra_richpresence.specs.Spelled.{IsDisplay}
@@ -13,87 +11,62 @@ use Rattle.ra_member.specs.declared.member.Member.{Member}
 use Rattle.ra_member.specs.declared.trigger_run.TriggerRun.{TriggerRun}
 use Rattle.ra_member.specs.declared.value_run.ValueRun.{ValueRun}
 use Rattle.ra_member.specs.Beside.{AreBeside}
-use Rattle.ra_member.specs.Frames.{test_next, test_holds}
-use Rattle.ra_member.specs.Members.{values_next}
+use Rattle.ra_member.specs.Members.{MemberKept, HaveShapes, tests_next, tests_hold, member_next}
 use Rattle.ra_member.specs.MemberRuns.{StepsTestAt, kept_by, StepsValues}
-use Rattle.ra_member.specs.Runs.{HasValues, StepsTest, IsTriggerRun, IsValueRun}
-use Rattle.ra_member.proofs.SideBySide.{beside_length, beside_more, zip_more}
+use Rattle.ra_member.specs.Runs.{IsTriggerRun}
+use Rattle.ra_member.proofs.Shaped.{member_shape}
+use Rattle.ra_member.proofs.SideBySide.{beside_length, beside_more, zip_more, zip_by}
+use Rattle.ra_member.proofs.Stepping.{hits_of, AreTestsStepped, AreTestsAfter, tests_begin, test_on, tests_end}
 use Rattle.ra_runtime.specs.declared.presence_run.PresenceRun.{PresenceRun}
-use Rattle.ra_runtime.specs.Order.{tests_in}
-use Rattle.ra_runtime.specs.Histories.{test_hits, test_truth}
-use Rattle.ra_runtime.specs.Presence.{LineKept, line_test_hits, line_truth, line_after, first_true, cut_lines, hits_in, numbers_in}
-use Rattle.ra_runtime.specs.PresenceRuns.{AreLineRuns, IsLineRun, IsPresenceRun, line_kept, StepsLine, line_truths, StepsLines, IsFirstLine, StepsPresence}
-use Rattle.ra_runtime.proofs.Fitting.{ValueFits}
-use Rattle.ra_runtime.proofs.PresenceCuts.{ValuesFit, LinesFit, lines_again}
+use Rattle.ra_runtime.specs.Order.{tests_in, line_member}
+use Rattle.ra_runtime.specs.Presence.{line_holds, first_true, display_next, kept_display}
+use Rattle.ra_runtime.specs.PresenceRuns.{AreLineRuns, IsLineRun, IsPresenceRun, display_kept, StepsLine, StepsLines, IsFirstLine, StepsPresence}
+use Rattle.ra_runtime.proofs.PresenceCuts.{display_again}
 
 -- what runs keep has the counts of their texts
-module _ (nodes : List Node) where
-  value_fits : (parts : List PartContents) (run : ValueRun) → IsValueRun nodes parts run → ValueFits parts run.value
-  value_fits parts run is = record { hits = is.hits; numbers = is.numbers }
-
-  values_fit : (values : List (List PartContents)) (runs : List ValueRun) → AreBeside (IsValueRun nodes) values runs → ValuesFit values (map (λ (v : ValueRun). v.value) runs)
-  values_fit [] [] are = tt
-  values_fit [] (run ∷ runs) are = absurd are
-  values_fit (parts ∷ values) [] are = absurd are
-  values_fit (parts ∷ values) (run ∷ runs) are = (value_fits parts run are.0, values_fit values runs are.1)
-
-  tests_fit : (tests : List TriggerContents) (runs : List TriggerRun) → AreBeside (IsTriggerRun nodes) tests runs → length (concat (map (λ (t : TriggerRun). t.trigger.hits) runs)) ≡ sum_by trigger_hits tests
-  tests_fit [] [] are = refl
-  tests_fit [] (run ∷ runs) are = absurd are
-  tests_fit (t ∷ tests) [] are = absurd are
-  tests_fit (t ∷ tests) (run ∷ runs) are =
-      length-append run.trigger.hits (concat (map (λ (t : TriggerRun). t.trigger.hits) runs))
-      ∙ ap₂ (λ m n. m + n) are.0.hits (tests_fit tests runs are.1)
-      ∙ sym (sum_by-cons trigger_hits t tests)
-
-  pub lines_fit_runs : (lines : List LineContents) (runs : List Member) → AreLineRuns nodes lines runs → LinesFit lines (map line_kept runs)
-  lines_fit_runs [] [] are = tt
-  lines_fit_runs [] (run ∷ runs) are = absurd are
-  lines_fit_runs (line ∷ lines) [] are = absurd are
-  lines_fit_runs (line ∷ lines) (run ∷ runs) are =
-      (record { test = tests_fit (tests_in line.test) run.tests.items are.0.tests; values = values_fit (values_in_line line) run.values.items are.0.values }, lines_fit_runs lines runs are.1)
-
--- one frame of the one test of a line, among the runs of its tests
-module _ (table : TableSeen) (t : TriggerContents) (run : TriggerRun) (holds : Bool) (start : Start) (image : List ℕ) (has : HasValues table start (image ∷ [])) where
-  abbrev hits : List TriggerRun → List ℕ
-  hits runs = concat (map (λ (r : TriggerRun). r.trigger.hits) runs)
-
-  test_steps : (olds news : List TriggerRun) → AreBeside (IsTriggerRun table.nodes) (t ∷ []) olds → ((d : TriggerRun) → StepsTest table t (get_or olds 0 d) run holds) → news ≡ set olds 0 run → (hits news ≡ test_hits start t (hits olds) (image ∷ [])) × (holds ≡ test_truth start t (hits olds) (image ∷ []))
-  test_steps [] news are steps same = absurd are
-  test_steps (old ∷ []) news are steps same =
-      let one = steps run in
-      let before = append-nil old.trigger.hits in
-      (ap hits same ∙ append-nil run.trigger.hits ∙ one.hits start (image ∷ []) has ∙ ap (test_next start t (image ∷ [])) (sym before), one.truth start (image ∷ []) has ∙ ap (test_holds start t (image ∷ [])) (sym before))
-  test_steps (old ∷ other ∷ olds) news are steps same = absurd are.1
-
--- what a line without a test keeps of tests
-no_tests : (nodes : List Node) (runs : List TriggerRun) → AreBeside (IsTriggerRun nodes) [] runs → runs ≡ []
-no_tests nodes [] are = refl
-no_tests nodes (run ∷ runs) are = absurd are
+pub lines_fit_runs : (nodes : List Node) (lines : List LineContents) (runs : List Member) → AreLineRuns nodes lines runs → HaveShapes (map line_member lines) (map kept_by runs)
+lines_fit_runs nodes [] [] are = tt
+lines_fit_runs nodes [] (run ∷ runs) are = absurd are
+lines_fit_runs nodes (line ∷ lines) [] are = absurd are
+lines_fit_runs nodes (line ∷ lines) (run ∷ runs) are =
+    (member_shape nodes (line_member line) run are.0, lines_fit_runs nodes lines runs are.1)
 
 -- one frame of a line, by its values and then its test
 module _ (table : TableSeen) (line : LineContents) (old mid new : Member) (holds : Bool) (is : IsLineRun table.nodes line old) (values : StepsValues table (values_in_line line) old mid) where
+  same : mid.tests.items ≡ old.tests.items
+  same = ap (λ ts. ts.items) values.tests
+
+  abbrev row : List TriggerRun → List (List ℕ)
+  row runs = map hits_of runs
+
   pub line_tested : (t : TriggerContents) → line.test ≡ Some t → StepsTestAt table t 0 mid new holds → StepsLine table line old new holds
   line_tested t some steps =
-      let tests : AreBeside (IsTriggerRun table.nodes) (t ∷ []) old.tests.items = subst (λ (test : Option TriggerContents). AreBeside (IsTriggerRun table.nodes) (tests_in test) old.tests.items) some is.tests in
-      let same : mid.tests.items ≡ old.tests.items = ap (λ ts. ts.items) values.tests in
-      let both : (start : Start) (image : List ℕ) → HasValues table start (image ∷ []) → ((line_kept new).test ≡ test_hits start t (line_kept old).test (image ∷ [])) × (holds ≡ test_truth start t (line_kept old).test (image ∷ [])) = λ start image has.
-      test_steps table t steps.run holds start image has old.tests.items new.tests.items tests (λ d. subst (λ (rs : List TriggerRun). StepsTest table t (get_or rs 0 d) steps.run holds) same (steps.steps d)) (steps.tests ∙ ap (λ (rs : List TriggerRun). set rs 0 steps.run) same) in
-      let kept : (start : Start) (image : List ℕ) → HasValues table start (image ∷ []) → (kept_by new).values ≡ values_next start (values_in_line line) (image ∷ []) (kept_by old).values = λ start image has.
-      ap (λ (vs : _). map (λ (v : ValueRun). v.value) vs.items) steps.values ∙ values.kept start (image ∷ []) has in
-      record {
-        kept = λ start image has. (λ i. record { test = ((both start image has).0 ∙ ap (λ (test : Option TriggerContents). line_test_hits start test (line_kept old).test (image ∷ [])) (sym some)) i; values = kept start image has i });
-        truth = λ start image has. (both start image has).1 ∙ ap (λ (test : Option TriggerContents). line_truth start test (line_kept old).test (image ∷ [])) (sym some);
-      }
+      let tests : AreBeside (IsTriggerRun table.nodes) (t ∷ []) mid.tests.items = subst (λ rs. AreBeside (IsTriggerRun table.nodes) (t ∷ []) rs) (sym same) (rw some at is.tests) in
+      let begun : AreTestsStepped table [] (t ∷ []) mid.tests.items mid.tests.items 0 [] = tests_begin table mid.tests.items (t ∷ []) tests in
+      let after : AreTestsAfter table (t ∷ []) mid.tests.items new.tests.items (holds ∷ []) = tests_end table mid.tests.items (t ∷ []) new.tests.items 1 (holds ∷ []) (test_on table mid.tests.items [] [] t mid new 0 [] holds begun steps) in
+      rw some (record {
+        kept = λ start history has.
+            let hits = after.hits start history has ∙ ap (λ rs. tests_next start (t ∷ []) history (row rs)) same in
+            let kept = ap (λ (vs : _). map (λ (v : ValueRun). v.value) vs.items) steps.values ∙ values.kept start history has in
+            (λ i. record { tests = hits i; values = kept i });
+        truth = λ start history has.
+            ap line_holds (after.holds start history has ∙ ap (λ rs. tests_hold start (t ∷ []) history (row rs)) same);
+      })
 
   pub line_untested : line.test ≡ None → new ≡ mid → holds ≡ true → StepsLine table line old new holds
   line_untested none unchanged always =
-      let empty : old.tests.items ≡ [] = no_tests table.nodes old.tests.items (subst (λ (test : Option TriggerContents). AreBeside (IsTriggerRun table.nodes) (tests_in test) old.tests.items) none is.tests) in
-      let tests : (kept_by new).tests ≡ (kept_by old).tests = ap (λ (m : Member). (kept_by m).tests) unchanged ∙ ap (λ (ts : _). map (λ (r : TriggerRun). r.trigger.hits) ts.items) values.tests in
-      record {
-        kept = λ start image has. (λ i. record { test = (ap concat tests ∙ ap (λ (test : Option TriggerContents). line_test_hits start test (line_kept old).test (image ∷ [])) (sym none)) i; values = (ap (λ (m : Member). (kept_by m).values) unchanged ∙ values.kept start (image ∷ []) has) i });
-        truth = λ start image has. always ∙ ap (λ (test : Option TriggerContents). line_truth start test (line_kept old).test (image ∷ [])) (sym none);
-      }
+      let empty : old.tests.items ≡ [] = none_beside (IsTriggerRun table.nodes) old.tests.items (rw none at is.tests) in
+      let hits : row new.tests.items ≡ [] = ap (λ (m : Member). row m.tests.items) unchanged ∙ ap row same ∙ ap row empty in
+      rw none (record {
+        kept = λ start history has.
+            let kept = ap (λ (m : Member). (kept_by m).values) unchanged ∙ values.kept start history has in
+            (λ i. record { tests = hits i; values = kept i });
+        truth = λ start history has. always;
+      })
+    where
+      none_beside : {X Y : Type 0} (has : X → Y → Type 0) (ys : List Y) → AreBeside has [] ys → ys ≡ []
+      none_beside has [] are = refl
+      none_beside has (y ∷ ys) are = absurd are
 
 -- the first that is true, where none is and one more is not
 pub first_none : (truths : List Bool) → first_true truths ≡ length truths → first_true (truths ++ false ∷ []) ≡ length truths + 1
@@ -124,7 +97,7 @@ first_shown table lines olds first display is =
 
 -- no line is stepped yet
 pub first_begins : (table : TableSeen) → IsFirstLine table [] [] 0
-first_begins table = record { truths = []; first_too = refl; untested = tt; held = λ start image has. refl }
+first_begins table = record { truths = []; first_too = refl; untested = tt; held = λ start history has. refl }
 
 -- a line more
 pub first_on : (table : TableSeen) (lines : List LineContents) (olds : List Member) (first next : ℕ) (line : LineContents) (old new : Member) (holds : Bool) → length olds ≡ length lines → IsFirstLine table lines olds first → StepsLine table line old new holds → (line.test ≡ None → holds ≡ true)
@@ -134,18 +107,20 @@ first_on table lines olds first next line old new holds many is steps untested g
   truths = is.truths ++ holds ∷ [];
   first_too = goes is.truths (beside_length (λ (l : LineContents) truth. l.test ≡ None → truth ≡ true) lines is.truths is.untested) is.first_too;
   untested = beside_more (λ (l : LineContents) truth. l.test ≡ None → truth ≡ true) lines is.truths line holds is.untested untested;
-  held = λ start image has.
-      let f : LineContents × LineKept → Bool = λ pair. line_truth start pair.0.test pair.1.test (image ∷ []) in
-      ap₂ (λ ts t. ts ++ t ∷ []) (is.held start image has) (steps.truth start image has)
-      ∙ sym (zip_more f lines (map line_kept olds) line (line_kept old) (length-map olds line_kept ∙ many))
-      ∙ ap (λ ks. map f (zip (lines ++ line ∷ []) ks)) (sym (map-append line_kept olds (old ∷ [])));
+  held = λ start history has.
+      let f : LineContents × MemberKept → Bool = λ p. line_holds (tests_hold start (tests_in p.0.test) history p.1.tests) in
+      ap₂ (λ ts t. ts ++ t ∷ []) (is.held start history has) (steps.truth start history has)
+      ∙ sym (zip_more f lines (map kept_by olds) line (kept_by old) (length-map olds kept_by ∙ many))
+      ∙ ap (λ ks. map f (zip (lines ++ line ∷ []) ks)) (sym (map-append kept_by olds (old ∷ [])));
 }
 
 -- one frame of a display, by its lines and the first that holds
 pub presence_stepped : (table : TableSeen) (script : ScriptContents) (old new : PresenceRun) → IsPresenceRun table.nodes script old → StepsLines table script.lines old.lines.items new.lines.items → IsFirstLine table script.lines old.lines.items new.shown → StepsPresence table script old new
 presence_stepped table script old new is steps first start image has =
-    let kept : List LineKept = map line_kept old.lines.items in
-    let again : cut_lines script.lines (flat_map hits_in kept) (flat_map numbers_in kept) ≡ kept = lines_again script.lines kept (lines_fit_runs table.nodes script.lines old.lines.items is.lines) in
-    let after : map line_kept new.lines.items ≡ map (line_after start (image ∷ [])) (zip script.lines kept) = steps start image has in
-    let shown : new.shown ≡ first_true (line_truths start image script.lines kept) = first.first_too ∙ ap first_true (first.held start image has) in
-    rw again (λ i. record { shown = shown i; hits = flat_map hits_in (after i); numbers = flat_map numbers_in (after i) })
+    let h : History = image ∷ [] in
+    let kept : List MemberKept = map kept_by old.lines.items in
+    let again = display_again script (display_kept old) (lines_fit_runs table.nodes script.lines old.lines.items is.lines) in
+    let after = steps start h has ∙ sym (zip_by (λ p. member_next start p.0 h p.1) line_member script.lines kept) in
+    let truths = first.held start h has ∙ sym (zip_by (λ p. line_holds (tests_hold start p.0.tests h p.1.tests)) line_member script.lines kept) in
+    let shown = first.first_too ∙ ap first_true truths in
+    (λ i. kept_display (record { shown = shown i; lines = after i })) ∙ ap (λ k. kept_display (display_next start script h k)) (sym again)

@@ -32,13 +32,13 @@ no_test (Some t) none = absurd (none-some t (sym none))
 
 tested_line : (line : LineContents) → IsTested line → FitsLine line
 tested_line line is = record {
-  test = spelled_test line.test is.test is.tested is.spelled;
+  tests = spelled_test line.test is.test is.tested is.spelled;
   values = spelled_pieces line.pieces (recursion_from_All IsPiece line.pieces is.pieces);
 }
 
 untested_line : (line : LineContents) → IsUntested line → FitsLine line
 untested_line line is = record {
-  test = no_test line.test is.untested;
+  tests = no_test line.test is.untested;
   values = spelled_pieces line.pieces (recursion_from_All IsPiece line.pieces is.pieces);
 }
 

@@ -13,11 +13,13 @@ use Rattle.ra_richpresence.specs.declared.piece.Piece.TheVariants.{Text, Macro}
 use Rattle.ra_richpresence.specs.Contents.{LineContents, line_contents, piece_contents, value_in}
 use Rattle.ra_member.specs.declared.member.Member.{Member}
 use Rattle.ra_member.specs.Beside.{AreBeside}
-use Rattle.ra_member.specs.MemberRuns.{HasValue, StepsValueAt, StepsValues}
+use Rattle.ra_member.specs.MemberRuns.{HasValue, StepsValueAt, StepsValues, kept_by}
 use Rattle.ra_member.proofs.Stepping.{AreValuesStepped, values_begin, value_here, value_on, values_end}
-use Rattle.ra_runtime.specs.Presence.{line_after, first_true}
+use Rattle.ra_member.specs.Members.{member_next}
+use Rattle.ra_runtime.specs.Order.{line_member}
+use Rattle.ra_runtime.specs.Presence.{first_true}
 use Rattle.ra_member.specs.Runs.{IsValueRun}
-use Rattle.ra_runtime.specs.PresenceRuns.{IsLineRun, AreLineRuns, line_kept, StepsLine, StepsLines, IsFirstLine}
+use Rattle.ra_runtime.specs.PresenceRuns.{IsLineRun, AreLineRuns, StepsLine, StepsLines, IsFirstLine}
 use Rattle.ra_member.proofs.GrowthLemmas.{taken_next, dropped_next}
 use Rattle.ra_runtime.proofs.ShownLines.{first_begins, first_on}
 use Rattle.ra_member.proofs.SideBySide.{IsWalk, walk_begins, walk_here, walk_on, walk_keeps, walk_olds, walk_ends}
@@ -99,7 +101,7 @@ module _ (table : TableSeen) (lines : List Line) (olds : List Member) where
   pub lines_begin : AreLineRuns table.nodes (map line_contents lines) olds → AreLinesStepped table lines 0 olds olds 0
   lines_begin are = record {
     walk = walk_begins (IsLineRun table.nodes) (map line_contents lines) olds are;
-    steps = λ start image values. refl;
+    steps = λ start history values. refl;
     first_too = first_begins table;
   }
 
@@ -133,8 +135,8 @@ module _ (table : TableSeen) (lines : List Line) (olds : List Member) where
         let more : map line_contents (take (k + 1) lines) ≡ lines_done ++ line_contents line ∷ [] = taken_next line_contents lines k line within is in
         let long : length lines_done ≡ k = length-map (take k lines) line_contents ∙ length-take-le k lines (omega arith) in
         let many : length (take k olds) ≡ length lines_done = length-take-le k olds (omega (arith, far.walk.within, far.walk.as_many)) ∙ sym long in
-        let all : StepsLines table (lines_done ++ line_contents line ∷ []) (take (k + 1) olds) (take (k + 1) (set runs k new)) = λ start image values.
-        walk_keeps (IsLineRun table.nodes) lines_done lines_left (line_contents line) olds runs k run lines_come line_kept (line_after start (image ∷ [])) new (steps.kept start image values) (far.steps start image values) in
+        let all : StepsLines table (lines_done ++ line_contents line ∷ []) (take (k + 1) olds) (take (k + 1) (set runs k new)) = λ start history values.
+        walk_keeps (IsLineRun table.nodes) lines_done lines_left (line_contents line) olds runs k run lines_come kept_by (λ p. member_next start (line_member p.0) history p.1) new (steps.kept start history values) (far.steps start history values) in
         let held : IsFirstLine table (lines_done ++ line_contents line ∷ []) (take k olds ++ get_or runs k run ∷ []) next = first_on table lines_done (take k olds) first next (line_contents line) (get_or runs k run) new holds many far.first_too steps untested (λ truths as_long sofar. goes truths (as_long ∙ long) sofar) in
         record {
           walk = subst (λ (ds : List LineContents). IsWalk (IsLineRun table.nodes) ds lines_left olds (set runs k new) (k + 1)) (sym more) (walk_on (IsLineRun table.nodes) lines_done lines_left (line_contents line) olds runs k run lines_come new one);

@@ -14,6 +14,7 @@ pub mod Order
 pub mod Planning
 pub mod Play
 pub mod Presence
+pub mod PresenceLaws
 pub mod PresenceRuns
 pub mod Restoring
 pub mod RunLines

@@ -1,29 +1,19 @@
 -- What a new display leaves in a pool, and what it keeps before the first frame: docs/DEFINITIONS.md, "Openings and snapshots".
-use Rattle.std.specs.Prelude.{◌≡◌, ◌*◌, Option, None, Some, option_map, ℕ, List, [], map, replicate, sum_by, All, IfSome}
+use Rattle.std.specs.Prelude.{◌≡◌, ◌*◌, Option, option_map, List, map, sum_by, All, IfSome}
 use Rattle.std.specs.List.{flat_map}
-use Rattle.ra_condition.specs.Contents.{TriggerContents, trigger_hits}
 use Rattle.ra_condition.specs.Spelled.{IsTrigger}
 use Rattle.ra_indirect.specs.declared.node.Node.{Node}
-use Rattle.ra_richpresence.specs.Contents.{LineContents, ScriptContents, values_in_line}
+use Rattle.ra_richpresence.specs.Contents.{LineContents, ScriptContents}
 use Rattle.ra_richpresence.specs.Spelled.{IsPiece}
-use Rattle.ra_value.specs.Steps.{no_value}
 use Rattle.ra_set.specs.Limits.{line_conditions, script_conditions}
 use Rattle.ra_member.specs.declared.member.Member.{Member}
+use Rattle.ra_member.specs.Members.{no_member}
+use Rattle.ra_member.specs.MemberRuns.{kept_by}
 use Rattle.ra_member.specs.Plans.{GrowsWithin}
 use Rattle.ra_runtime.specs.declared.presence_run.PresenceRun.{PresenceRun}
-use Rattle.ra_runtime.specs.Order.{trees_in_line, lines_in, presence_shape}
+use Rattle.ra_runtime.specs.Order.{line_member, trees_in_line, lines_in, presence_shape}
 use Rattle.ra_runtime.specs.Openings.{plain_presence}
-use Rattle.ra_runtime.specs.Presence.{LineKept}
-use Rattle.ra_runtime.specs.PresenceRuns.{IsLineRun, AreLineRuns, IsOptionalPresence, line_kept, optional_presence_kept}
-
--- the hits of a test that was never stepped: all 0, and none where there is no test
-abbrev pub plain_test : Option TriggerContents → List ℕ
-plain_test None = []
-plain_test (Some t) = replicate (trigger_hits t) 0
-
--- what is kept of a line that was never stepped
-abbrev pub plain_line : LineContents → LineKept
-plain_line line = record { test = plain_test line.test; values = map no_value (values_in_line line) }
+use Rattle.ra_runtime.specs.PresenceRuns.{IsLineRun, AreLineRuns, IsOptionalPresence, optional_presence_kept}
 
 -- a line of a display that some text spells
 pub record IsShownLine (line : LineContents) : Type 0 where
@@ -34,13 +24,13 @@ pub record IsShownLine (line : LineContents) : Type 0 where
 pub record IsNewLine (old new : List Node) (line : LineContents) (run : Member) : Type 0 where
   pub grows : GrowsWithin old new (trees_in_line line) (13 * line_conditions line)
   pub run_too : IsLineRun new line run
-  pub plain : line_kept run ≡ plain_line line
+  pub plain : kept_by run ≡ no_member (line_member line)
 
 -- each line has its plans over the pool, and keeps nothing yet
 pub record AreNewLines (old new : List Node) (lines : List LineContents) (runs : List Member) : Type 0 where
   pub grows : GrowsWithin old new (flat_map trees_in_line lines) (13 * sum_by line_conditions lines)
   pub runs_too : AreLineRuns new lines runs
-  pub plain : map line_kept runs ≡ map plain_line lines
+  pub plain : map kept_by runs ≡ map no_member (map line_member lines)
 
 -- a display that may be missing has its plans over the pool; it shows its last line, and keeps nothing else yet
 pub record IsNewPresence (old new : List Node) (script : Option ScriptContents) (run : Option PresenceRun) : Type 0 where

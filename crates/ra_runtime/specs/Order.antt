@@ -1,12 +1,12 @@
 -- The cells and tracked masks of a set, and its shape: docs/DEFINITIONS.md, "Order of first occurrence" and "Shape of a set".
-use Rattle.std.specs.Prelude.{ℕ, ◌+◌, Option, None, Some, option_map, List, [], ◌∷◌, ◌++◌, length, map, sum_by}
+use Rattle.std.specs.Prelude.{ℕ, Option, None, Some, option_map, List, [], ◌∷◌, ◌++◌, length, map, sum}
 use Rattle.std.specs.List.{flat_map}
-use Rattle.ra_condition.specs.Contents.{TriggerContents, trigger_hits, PartContents, value_hits}
+use Rattle.ra_condition.specs.Contents.{TriggerContents, trigger_hits, PartContents}
 use Rattle.ra_leaderboard.specs.Contents.{BoardContents}
-use Rattle.ra_richpresence.specs.Contents.{LineContents, ScriptContents, values_in_line, values_in_script}
+use Rattle.ra_richpresence.specs.Contents.{LineContents, ScriptContents, values_in_line}
 use Rattle.ra_set.specs.Contents.{ItemContents, Unlocks, Ranks, SetContents}
 use Rattle.ra_indirect.specs.Trees.{Tree, Cell, Tracked, same_cell, same_tracked, cells_in, tracked_in, firsts}
-use Rattle.ra_chain.specs.Occurrence.{trees_in_trigger, trees_in_value}
+use Rattle.ra_chain.specs.Occurrence.{trees_in_trigger}
 use Rattle.ra_progress.specs.declared.shape.ItemShape.{ItemShape}
 use Rattle.ra_progress.specs.declared.shape.ItemShape.TheVariants as shapes
 use Rattle.ra_progress.specs.declared.shape.PresenceShape.{PresenceShape}
@@ -35,10 +35,17 @@ abbrev pub trees_in_item : ItemContents → List Tree
 trees_in_item (Unlocks id t) = trees_in_trigger t
 trees_in_item (Ranks id format b) = trees_in_member (board_member b)
 
+-- the tests and the values of a line
+abbrev pub line_member : LineContents → MemberContents
+line_member line = record { tests = tests_in line.test; values = values_in_line line }
+
+-- the tests and the values of each line of a script
+abbrev pub script_members : ScriptContents → List MemberContents
+script_members script = map line_member script.lines
+
 -- the trees of a line: those of its test, and then those of its macros
 abbrev pub trees_in_line : LineContents → List Tree
-trees_in_line line =
-    flat_map trees_in_trigger (tests_in line.test) ++ flat_map trees_in_value (values_in_line line)
+trees_in_line line = trees_in_member (line_member line)
 
 -- the lines of a script that may be missing
 abbrev pub lines_in : Option ScriptContents → List LineContents
@@ -62,16 +69,12 @@ abbrev pub item_shape : ItemContents → ItemShape
 item_shape (Unlocks id t) = shapes.Achievement (trigger_hits t)
 item_shape (Ranks id format b) = shapes.Leaderboard (member_hits (board_member b)) (member_numbers (board_member b))
 
--- how many hits a line of a script keeps
-abbrev pub line_hits : LineContents → ℕ
-line_hits line = sum_by trigger_hits (tests_in line.test) + sum_by value_hits (values_in_line line)
-
 -- how many lines, hits and numbers a script keeps
 abbrev pub presence_shape : ScriptContents → PresenceShape
 presence_shape script = record {
   lines = length script.lines;
-  hits = sum_by line_hits script.lines;
-  parts = sum_by length (values_in_script script);
+  hits = sum (map member_hits (script_members script));
+  parts = sum (map member_numbers (script_members script));
 }
 
 -- the shape of the progress of a set

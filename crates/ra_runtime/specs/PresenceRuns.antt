@@ -1,23 +1,19 @@
 -- How the lines of a display are kept and stepped: docs/DEFINITIONS.md, "Presence over frames".
 use Rattle.std.specs.Prelude.{◌≡◌, ℕ, ◌<◌, Bool, true, Option, None, Some, option_map, List, [], ◌∷◌, length, map, zip}
-use Rattle.std.specs.List.{concat, flat_map}
 use Rattle.ra_indirect.specs.declared.node.Node.{Node}
+use Rattle.ra_memory.specs.Image.{History}
 use Rattle.ra_memref.specs.Values.{Start}
 use Rattle.ra_memref.specs.Table.{TableSeen}
 use Rattle.ra_progress.specs.Contents.{KeptPresence}
-use Rattle.ra_richpresence.specs.Contents.{LineContents, ScriptContents, values_in_line}
+use Rattle.ra_richpresence.specs.Contents.{LineContents, ScriptContents}
 use Rattle.ra_member.specs.declared.member.Member.{Member}
 use Rattle.ra_member.specs.Beside.{AreBeside}
-use Rattle.ra_member.specs.Members.{MemberContents}
+use Rattle.ra_member.specs.Members.{tests_hold, member_next}
 use Rattle.ra_member.specs.MemberRuns.{IsMember, kept_by}
 use Rattle.ra_member.specs.Runs.{HasValues}
 use Rattle.ra_runtime.specs.declared.presence_run.PresenceRun.{PresenceRun}
-use Rattle.ra_runtime.specs.Order.{tests_in}
-use Rattle.ra_runtime.specs.Presence.{LineKept, line_truth, line_after, first_true, hits_in, numbers_in, presence_after}
-
--- the tests and the values of a line
-abbrev pub line_member : LineContents → MemberContents
-line_member line = record { tests = tests_in line.test; values = values_in_line line }
+use Rattle.ra_runtime.specs.Order.{tests_in, line_member}
+use Rattle.ra_runtime.specs.Presence.{DisplayKept, line_holds, first_true, kept_display, presence_after}
 
 -- a line of a display with its plans
 abbrev pub IsLineRun : List Node → LineContents → Member → Type 0
@@ -38,17 +34,13 @@ IsOptionalPresence nodes None None = Unit {0}
 IsOptionalPresence nodes (Some script) (Some run) = IsPresenceRun nodes script run
 IsOptionalPresence nodes _ _ = ⊥
 
--- what a run of a line keeps
-abbrev pub line_kept : Member → LineKept
-line_kept run = record { test = concat (kept_by run).tests; values = (kept_by run).values }
+-- what a run of a display keeps
+abbrev pub display_kept : PresenceRun → DisplayKept
+display_kept run = record { shown = run.shown; lines = map kept_by run.lines.items }
 
 -- what an opening keeps for a display: the shown line, hits and numbers
 abbrev pub presence_kept : PresenceRun → KeptPresence
-presence_kept run = record {
-  shown = run.shown;
-  hits = flat_map hits_in (map line_kept run.lines.items);
-  numbers = flat_map numbers_in (map line_kept run.lines.items);
-}
+presence_kept run = kept_display (display_kept run)
 
 -- what an opening keeps for a display that may be missing
 abbrev pub optional_presence_kept : Option PresenceRun → Option KeptPresence
@@ -56,24 +48,20 @@ optional_presence_kept run = option_map presence_kept run
 
 -- One frame of a line, from what it keeps: what it keeps after it, and whether its test holds.
 pub record StepsLine (table : TableSeen) (line : LineContents) (old new : Member) (holds : Bool) : Type 0 where
-  pub kept : (start : Start) (image : List ℕ) → HasValues table start (image ∷ []) → line_kept new ≡ line_after start (image ∷ []) (line, line_kept old)
-  pub truth : (start : Start) (image : List ℕ) → HasValues table start (image ∷ []) → holds ≡ line_truth start line.test (line_kept old).test (image ∷ [])
-
--- whether each line holds at the first frame, from what it keeps
-abbrev pub line_truths : Start → List ℕ → List LineContents → List LineKept → List Bool
-line_truths start image lines kept = map (λ pair. line_truth start pair.0.test pair.1.test (image ∷ [])) (zip lines kept)
+  pub kept : (start : Start) (history : History) → HasValues table start history → kept_by new ≡ member_next start (line_member line) history (kept_by old)
+  pub truth : (start : Start) (history : History) → HasValues table start history → holds ≡ line_holds (tests_hold start (tests_in line.test) history (kept_by old).tests)
 
 -- one frame of each line, from what it keeps
 abbrev pub StepsLines : TableSeen → List LineContents → (old new : List Member) → Type 0
 StepsLines table lines olds news =
-    (start : Start) (image : List ℕ) → HasValues table start (image ∷ []) → map line_kept news ≡ map (line_after start (image ∷ [])) (zip lines (map line_kept olds))
+    (start : Start) (history : History) → HasValues table start history → map kept_by news ≡ map (λ p. member_next start (line_member p.0) history p.1) (zip lines (map kept_by olds))
 
 -- The place of the first line that holds at a frame; as many as there are lines where none holds, and a line without a test holds.
 pub record IsFirstLine (table : TableSeen) (lines : List LineContents) (olds : List Member) (first : ℕ) : Type 0 where
   pub truths : List Bool
   pub first_too : first ≡ first_true truths
   pub untested : AreBeside (λ line truth. line.test ≡ None → truth ≡ true) lines truths
-  pub held : (start : Start) (image : List ℕ) → HasValues table start (image ∷ []) → truths ≡ line_truths start image lines (map line_kept olds)
+  pub held : (start : Start) (history : History) → HasValues table start history → truths ≡ map (λ p. line_holds (tests_hold start (tests_in p.0.test) history p.1.tests)) (zip lines (map kept_by olds))
 
 -- One frame of a display, from what it keeps.
 abbrev pub StepsPresence : TableSeen → ScriptContents → (old new : PresenceRun) → Type 0

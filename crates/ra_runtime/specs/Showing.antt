@@ -1,27 +1,16 @@
 -- What a display shows, by what its run keeps: docs/DEFINITIONS.md, "Presence over frames".
-use Rattle.std.specs.Prelude.{ℕ, ◌<◌, Option, Some, List, [], ◌∷◌, length, map, codes, decimal, ℤ, All}
-use Rattle.std.specs.List.{flat_map}
-use Rattle.ra_value.specs.Steps.{signed_greatest}
+use Rattle.std.specs.Prelude.{ℕ, ◌<◌, Option, Some, List, [], ◌∷◌, length, codes, decimal, All}
 use Rattle.ra_richpresence.specs.Contents.{ScriptContents}
-use Rattle.ra_richpresence.specs.Lines.{line_text}
 use Rattle.ra_value_format.specs.Formats.{HasDigits}
 use Rattle.ra_runtime.specs.declared.presence_run.PresenceRun.{PresenceRun}
 use Rattle.ra_runtime.specs.Lines.{line_of}
-use Rattle.ra_runtime.specs.Presence.{LineKept}
-use Rattle.ra_runtime.specs.PresenceRuns.{line_kept}
-
--- the number of each value of a line
-abbrev pub line_numbers : LineKept → List ℤ
-line_numbers kept = map (λ v. signed_greatest v.numbers) kept.values
-
--- the numbers of all values of a display, line by line, whichever line is shown
-abbrev pub presence_numbers : PresenceRun → List ℤ
-presence_numbers run = flat_map line_numbers (map line_kept run.lines.items)
+use Rattle.ra_runtime.specs.Presence.{display_text}
+use Rattle.ra_runtime.specs.PresenceRuns.{display_kept}
 
 -- the line that a display shows, with the count of frames
 abbrev pub shown_text : (count : ℕ) → ScriptContents → PresenceRun → List ℕ
 shown_text count script run =
-    line_of (codes "presence" ∷ decimal count ∷ line_text script run.shown (presence_numbers run) ∷ [])
+    line_of (codes "presence" ∷ decimal count ∷ display_text script (display_kept run) ∷ [])
 
 -- the line that a set shows; nothing where it has no script
 abbrev pub optional_text : (count : ℕ) → Option ScriptContents → Option PresenceRun → List ℕ

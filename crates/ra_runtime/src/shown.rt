@@ -1,12 +1,14 @@
 //! The presence line: docs/DEFINITIONS.md, "Presence over frames".
 
-ghost use Rattle.std.specs.Prelude.{◌≡◌, ◌++◌, ◌<◌, All, IfOk, length, option_map};
+ghost use Rattle.std.specs.Prelude.{◌≡◌, ◌++◌, ◌<◌, All, IfOk, length, map, option_map};
+ghost use Rattle.std.specs.List.{flat_map};
 ghost use Rattle.std.specs.Result.{OnOk};
 ghost use Rattle.ra_richpresence.specs.Contents.{script_contents};
 ghost use Rattle.ra_value_format.specs.Formats.{HasDigits};
-ghost use Rattle.ra_runtime.specs.PresenceRuns.{line_kept};
+ghost use Rattle.ra_member.specs.MemberRuns.{kept_by};
+ghost use Rattle.ra_runtime.specs.Presence.{line_numbers};
 ghost use Rattle.ra_runtime.specs.Showing as spec;
-ghost use Rattle.ra_runtime.specs.Showing.{MayShow, line_numbers, optional_text, presence_numbers};
+ghost use Rattle.ra_runtime.specs.Showing.{MayShow, optional_text};
 
 use crate::presence_run::PresenceRun;
 use crate::written::put_ended;
@@ -54,7 +56,7 @@ fn shown_text(
 
 // The numbers of all values of a display, line by line.
 fn numbers_of(alloc: Global, run: &PresenceRun) -> Result<Vec<i32>, OutOfMemory>
-    ensures { IfOk result (λ numbers. numbers.items ≡ presence_numbers run.now) }
+    ensures { IfOk result (λ numbers. numbers.items ≡ flat_map line_numbers (map kept_by run.now.lines.items)) }
 {
     let mut numbers = Vec::new(alloc);
     for line in &run.lines {
@@ -66,7 +68,7 @@ fn numbers_of(alloc: Global, run: &PresenceRun) -> Result<Vec<i32>, OutOfMemory>
 // Puts the numbers of the values of a line behind others.
 fn put_line_numbers(numbers: &mut Vec<i32>, line: &Member) -> Result<(), OutOfMemory>
     ensures { OnOk result
-        (numbers.new.items ≡ numbers.old.items ++ line_numbers (line_kept line.now)) }
+        (numbers.new.items ≡ numbers.old.items ++ line_numbers (kept_by line.now)) }
 {
     for run in &line.values {
         numbers.push(run.value.greatest())?;
