@@ -1,0 +1,4 @@
+pub mod OrderedLemmas
+pub mod RangeLemmas
+pub mod TreeLemmas
+mod Vectors

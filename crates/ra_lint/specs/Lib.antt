@@ -1,0 +1,3 @@
+pub mod Ordered
+pub mod Ranges
+pub mod Sound

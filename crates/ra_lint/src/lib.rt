@@ -1,0 +1,8 @@
+//! Warnings on a set: comparisons that never or always hold, targets that are never reached, and triggers that
+//! are never true.
+#![tactic(auto)]
+
+mod laws;
+mod range;
+
+pub use laws::ranges_hold;
