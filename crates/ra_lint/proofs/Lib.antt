@@ -2,3 +2,5 @@ pub mod OrderedLemmas
 pub mod RangeLemmas
 pub mod TreeLemmas
 mod Vectors
+pub mod VerdictLaws
+pub mod VerdictLemmas

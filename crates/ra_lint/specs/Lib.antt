@@ -1,3 +1,4 @@
 pub mod Ordered
 pub mod Ranges
 pub mod Sound
+pub mod Verdicts

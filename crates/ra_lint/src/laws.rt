@@ -1,10 +1,15 @@
 //! Laws on warnings, for whoever reads their definitions.
 
+ghost use Rattle.std.specs.Prelude.{◌≡◌, ◌↔◌, true};
+ghost use Rattle.ra_operand.specs.declared.op.Op.{Op};
 ghost use Rattle.ra_memory.specs.Image.{History};
 ghost use Rattle.ra_indirect.specs.Trees.{Tree};
 ghost use Rattle.ra_memref.specs.Values.{Start, value_of};
+ghost use Rattle.ra_lint.specs.declared.range.Range.{Range};
+ghost use Rattle.ra_lint.specs.Ordered.{IsOrdered};
 ghost use Rattle.ra_lint.specs.Ranges.{range_of};
-ghost use Rattle.ra_lint.specs.Sound.{HasSmallConstants, IsIn};
+ghost use Rattle.ra_lint.specs.Sound.{AllMeet, HasSmallConstants, IsIn, SomeMeet};
+ghost use Rattle.ra_lint.specs.Verdicts.{all_meet, some_meet};
 
 /// The value of each tree whose constants are numbers of 32 bits lies in its range, whatever stands before the first
 /// frame and after every history: docs/DEFINITIONS.md, "Ranges".
@@ -13,4 +18,14 @@ ghost use Rattle.ra_lint.specs.Sound.{HasSmallConstants, IsIn};
 pub fn ranges_hold()
     ensures { (start : Start) (history : History) (tree : Tree) → HasSmallConstants tree
         → IsIn (value_of start tree history) (range_of tree) }
+{}
+
+/// Ranges are judged by all numbers in them: docs/DEFINITIONS.md, "Comparisons that never or always hold".
+///
+/// A law: it does nothing.
+pub fn verdicts_hold()
+    ensures some { (op : Op) (left right : Range) → IsOrdered left → IsOrdered right
+        → (some_meet op left right ≡ true) ↔ SomeMeet op left right }
+    ensures all { (op : Op) (left right : Range) → IsOrdered left → IsOrdered right
+        → (all_meet op left right ≡ true) ↔ AllMeet op left right }
 {}

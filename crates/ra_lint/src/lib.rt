@@ -5,4 +5,4 @@
 mod laws;
 mod range;
 
-pub use laws::ranges_hold;
+pub use laws::{ranges_hold, verdicts_hold};
