@@ -1,3 +1,5 @@
+pub mod ChanceLemmas
+pub mod GroupLemmas
 pub mod OrderedLemmas
 pub mod RangeLemmas
 pub mod TreeLemmas

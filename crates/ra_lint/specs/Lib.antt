@@ -1,3 +1,5 @@
+pub mod Among
+pub mod Chances
 pub mod Ordered
 pub mod Ranges
 pub mod Sound

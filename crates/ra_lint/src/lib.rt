@@ -2,6 +2,7 @@
 //! are never true.
 #![tactic(auto)]
 
+mod chance;
 mod laws;
 mod range;
 
