@@ -1,8 +1,14 @@
 pub mod ChanceLemmas
 pub mod GroupLemmas
+pub mod HistoryLemmas
 pub mod OrderedLemmas
 pub mod RangeLemmas
+pub mod ReachLemmas
+pub mod SmallLemmas
+pub mod SoundLemmas
 pub mod TreeLemmas
+pub mod TriggerLemmas
 mod Vectors
 pub mod VerdictLaws
 pub mod VerdictLemmas
+mod WarningRows

@@ -2,14 +2,25 @@
 
 ghost use Rattle.std.specs.Prelude.{◌≡◌, ◌↔◌, true};
 ghost use Rattle.ra_operand.specs.declared.op.Op.{Op};
+ghost use Rattle.ra_condition.specs.Contents.{TriggerContents};
+ghost use Rattle.ra_condition.specs.Spelled.{IsTrigger};
 ghost use Rattle.ra_memory.specs.Image.{History};
 ghost use Rattle.ra_indirect.specs.Trees.{Tree};
 ghost use Rattle.ra_memref.specs.Values.{Start, value_of};
 ghost use Rattle.ra_lint.specs.declared.range.Range.{Range};
+ghost use Rattle.ra_lint.specs.declared.warning.Place.{Place};
+ghost use Rattle.ra_lint.specs.Laws.{AreSound};
 ghost use Rattle.ra_lint.specs.Ordered.{IsOrdered};
 ghost use Rattle.ra_lint.specs.Ranges.{range_of};
 ghost use Rattle.ra_lint.specs.Sound.{AllMeet, HasSmallConstants, IsIn, SomeMeet};
 ghost use Rattle.ra_lint.specs.Verdicts.{all_meet, some_meet};
+
+/// What warnings say holds after every history: docs/DEFINITIONS.md, "Warnings".
+///
+/// A law: it does nothing.
+pub fn warnings_hold()
+    ensures { (place : Place) (t : TriggerContents) → IsTrigger t → AreSound place t }
+{}
 
 /// The value of each tree whose constants are numbers of 32 bits lies in its range, whatever stands before the first
 /// frame and after every history: docs/DEFINITIONS.md, "Ranges".

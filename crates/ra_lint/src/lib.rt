@@ -5,5 +5,7 @@
 mod chance;
 mod laws;
 mod range;
+mod warning;
 
-pub use laws::{ranges_hold, verdicts_hold};
+pub use laws::{ranges_hold, verdicts_hold, warnings_hold};
+pub use warning::{Place, Warning, Word};
