@@ -1,6 +1,7 @@
 pub mod ChanceLemmas
 pub mod GroupLemmas
 pub mod HistoryLemmas
+pub mod JudgingLemmas
 pub mod OrderedLemmas
 pub mod RangeLemmas
 pub mod ReachLemmas

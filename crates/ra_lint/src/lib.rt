@@ -3,8 +3,10 @@
 #![tactic(auto)]
 
 mod chance;
+mod judging;
 mod laws;
 mod range;
+mod verdict;
 mod warning;
 
 pub use laws::{ranges_hold, verdicts_hold, warnings_hold};
