@@ -1,3 +1,4 @@
+pub mod AltCounts
 pub mod ChanceLemmas
 pub mod GroupLemmas
 pub mod HistoryLemmas

@@ -1,5 +1,6 @@
 pub mod Among
 pub mod Chances
+pub mod Fewness
 pub mod Judging
 pub mod Laws
 pub mod Ordered

@@ -1,14 +1,17 @@
 //! Laws on warnings, for whoever reads their definitions.
 
-ghost use Rattle.std.specs.Prelude.{◌≡◌, ◌↔◌, true};
+ghost use Rattle.std.specs.Prelude.{◌≡◌, ◌↔◌, ℕ, true, List};
 ghost use Rattle.ra_operand.specs.declared.op.Op.{Op};
 ghost use Rattle.ra_condition.specs.Contents.{TriggerContents};
 ghost use Rattle.ra_condition.specs.Spelled.{IsTrigger};
 ghost use Rattle.ra_memory.specs.Image.{History};
 ghost use Rattle.ra_indirect.specs.Trees.{Tree};
 ghost use Rattle.ra_memref.specs.Values.{Start, value_of};
+ghost use Rattle.ra_set.specs.Accepted.{IsSet};
+ghost use Rattle.ra_set.specs.Contents.{SetContents};
 ghost use Rattle.ra_lint.specs.declared.range.Range.{Range};
 ghost use Rattle.ra_lint.specs.declared.warning.Place.{Place};
+ghost use Rattle.ra_lint.specs.Fewness.{HasFewAlts};
 ghost use Rattle.ra_lint.specs.Laws.{AreSound};
 ghost use Rattle.ra_lint.specs.Ordered.{IsOrdered};
 ghost use Rattle.ra_lint.specs.Ranges.{range_of};
@@ -39,4 +42,12 @@ pub fn verdicts_hold()
         → (some_meet op left right ≡ true) ↔ SomeMeet op left right }
     ensures all { (op : Op) (left right : Range) → IsOrdered left → IsOrdered right
         → (all_meet op left right ≡ true) ↔ AllMeet op left right }
+{}
+
+/// A set that a file spells has fewer than 2^32 alt groups, so each has a number of 32 bits:
+/// docs/DEFINITIONS.md, "Warnings".
+///
+/// A law: it does nothing.
+pub fn accepted_sets_have_few_alts()
+    ensures { (file : List ℕ) (set : SetContents) → IsSet file set → HasFewAlts set }
 {}

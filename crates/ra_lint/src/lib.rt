@@ -9,5 +9,5 @@ mod range;
 mod verdict;
 mod warning;
 
-pub use laws::{ranges_hold, verdicts_hold, warnings_hold};
+pub use laws::{accepted_sets_have_few_alts, ranges_hold, verdicts_hold, warnings_hold};
 pub use warning::{Place, Warning, Word};
