@@ -4,6 +4,7 @@ pub mod Fewness
 pub mod Judging
 pub mod Laws
 pub mod Ordered
+pub mod Passing
 pub mod Ranges
 pub mod Sound
 pub mod Verdicts
