@@ -1,6 +1,7 @@
 pub mod BothShape
 pub mod CheckShape
 pub mod CommandLemmas
+pub mod ImportShape
 pub mod MakeShape
 pub mod NumberWords
 pub mod RestoreShape

@@ -1,14 +1,15 @@
 -- Clap takes the words of each job, and reads that job.
-use Rattle.std.proofs.Common.{◌≡◌, ◌∙◌, ◌⊎◌, ◌==◌, sym, subst, refl, inl, inr, rules, List, [], ◌∷◌, codes, true, false}
-use Rattle.std.specs.Prelude.{is_some, bytes_eq}
+use Rattle.std.proofs.Common.{◌≡◌, ◌∙◌, ◌⊎◌, ◌==◌, sym, subst, refl, inl, inr, rules, List, [], ◌∷◌, codes, Bool, Option, None, true, false}
+use Rattle.std.specs.Prelude.{is_some, bytes_eq, if◌then◌else◌}
 use Rattle.std.proofs.lemmas.Bool.{not-true}
 use Rattle.std.proofs.lemmas.Slice.Eq.{bytes_eq-Decides}
 use Rattle.clap.specs.Words.{Text, takes}
-use Rattle.ra_jobs.specs.Words.{is_name}
-use Rattle.ra_jobs.specs.JobWords.{is_number, job_of, run_of, check_of, make_of, options_of}
+use Rattle.ra_jobs.specs.Words.{Job, is_name}
+use Rattle.ra_jobs.specs.JobWords.{is_number, job_of, run_of, check_of, make_of, import_of, options_of}
 use Rattle.ra_jobs.specs.JobCommand.{player_app, job_read}
 use Rattle.ra_jobs.proofs.BothShape as both
 use Rattle.ra_jobs.proofs.CheckShape as check
+use Rattle.ra_jobs.proofs.ImportShape as import_
 use Rattle.ra_jobs.proofs.MakeShape as make
 use Rattle.ra_jobs.proofs.NumberWords.{dashed, nothing}
 use Rattle.ra_jobs.proofs.RestoreShape as restore
@@ -77,6 +78,14 @@ make_is (c ∷ cs) n =
     let hc : (c == 45) ≡ false = dashed c cs n in
     record { taken = make.taken c cs hc; read = make.read c cs hc }
 
+import_is : (file set : Text) → is_name file ≡ true → is_name set ≡ true → IsTaken (codes "import" ∷ file ∷ set ∷ [])
+import_is [] set s t = cc
+import_is (c ∷ cs) [] s t = cc
+import_is (c ∷ cs) (d ∷ ds) s t =
+    let hc : (c == 45) ≡ false = not-true (c == 45) s in
+    let hd : (d == 45) ≡ false = not-true (d == 45) t in
+    record { taken = import_.taken c d cs ds hc hd; read = import_.read c d cs ds hc hd ∙ rw (hc, hd) refl }
+
 -- one option with its file
 one_option : (option file : Text) → is_some (options_of (option ∷ file ∷ [])) ≡ true → (is_name file ≡ true) × ((option ≡ codes "--restore") ⊎ (option ≡ codes "--save"))
 one_option option file h = search (rules, bytes_eq-Decides option (codes "--restore"), bytes_eq-Decides option (codes "--save"))
@@ -121,16 +130,57 @@ make_words [] h = cc
 make_words (word ∷ []) h = make_is word (search rules)
 make_words (word ∷ more ∷ words) h = cc
 
--- the name of a job, and the words behind it
-by_name : (name : Text) (words : List Text) → is_some (job_of (name ∷ words)) ≡ true
-    → ((name ≡ codes "run") × (is_some (run_of words) ≡ true)) ⊎ (((name ≡ codes "check") × (is_some (check_of words) ≡ true)) ⊎ ((name ≡ codes "make") × (is_some (make_of words) ≡ true)))
-by_name name words h = search (rules, bytes_eq-Decides name (codes "run"), bytes_eq-Decides name (codes "check"), bytes_eq-Decides name (codes "make"))
+-- two names behind `import`
+two_names : (file set : Text) → is_some (import_of (file ∷ set ∷ [])) ≡ true → (is_name file ≡ true) × (is_name set ≡ true)
+two_names file set h = search rules
+
+import_words : (words : List Text) → is_some (import_of words) ≡ true → IsTaken (codes "import" ∷ words)
+import_words [] h = cc
+import_words (file ∷ []) h = cc
+import_words (file ∷ set ∷ []) h = let p = two_names file set h in import_is file set p.0 p.1
+import_words (file ∷ set ∷ more ∷ words) h = cc
+
+-- the words begin with this name, and those behind it are of this job
+abbrev Begins : Text → (List Text → Option Job) → Text → List Text → Type 0
+Begins name of word words = (word ≡ name) × (is_some (of words) ≡ true)
+
+-- one name is compared: the words behind it are of its job, or else of the jobs behind it
+choose : (name word : Text) (of : List Text → Option Job) (words : List Text) (others : Option Job) (b : Bool) → bytes_eq word name ≡ b
+    → is_some (if b then of words else others) ≡ true → Begins name of word words ⊎ (is_some others ≡ true)
+choose name word of words others true e h = inl (same word name e, h)
+choose name word of words others false e h = inr h
+
+-- clap takes words that begin with this name
+begun : (name word : Text) (of : List Text → Option Job) (words : List Text) → ((more : List Text) → is_some (of more) ≡ true → IsTaken (name ∷ more))
+    → Begins name of word words → IsTaken (word ∷ words)
+begun name word of words taken r = subst (λ (w : Text). IsTaken (w ∷ words)) (sym r.0) (taken words r.1)
+
+-- the words of a job, by their name: one name after the other
+by_import : (word : Text) (words : List Text) → is_some (if bytes_eq word (codes "import") then import_of words else None) ≡ true → IsTaken (word ∷ words)
+by_import word words h = elim (choose (codes "import") word import_of words None (bytes_eq word (codes "import")) refl h) [
+  | inl r ↦ begun (codes "import") word import_of words import_words r
+  | inr e ↦ cc
+]
+
+by_make : (word : Text) (words : List Text)
+    → is_some (if bytes_eq word (codes "make") then make_of words else if bytes_eq word (codes "import") then import_of words else None) ≡ true → IsTaken (word ∷ words)
+by_make word words h = elim (choose (codes "make") word make_of words _ (bytes_eq word (codes "make")) refl h) [
+  | inl r ↦ begun (codes "make") word make_of words make_words r
+  | inr e ↦ by_import word words e
+]
+
+by_check : (word : Text) (words : List Text)
+    → is_some (if bytes_eq word (codes "check") then check_of words else if bytes_eq word (codes "make") then make_of words else if bytes_eq word (codes "import") then import_of words else None) ≡ true
+    → IsTaken (word ∷ words)
+by_check word words h = elim (choose (codes "check") word check_of words _ (bytes_eq word (codes "check")) refl h) [
+  | inl r ↦ begun (codes "check") word check_of words check_words r
+  | inr e ↦ by_make word words e
+]
 
 -- the words of a job
 pub job_taken : (words : List Text) → is_some (job_of words) ≡ true → IsTaken words
 job_taken [] h = cc
-job_taken (name ∷ words) h = elim (by_name name words h) [
-  | inl r ↦ subst (λ (w : Text). IsTaken (w ∷ words)) (sym r.0) (run_words words r.1)
-  | inr (inl r) ↦ subst (λ (w : Text). IsTaken (w ∷ words)) (sym r.0) (check_words words r.1)
-  | inr (inr r) ↦ subst (λ (w : Text). IsTaken (w ∷ words)) (sym r.0) (make_words words r.1)
+job_taken (word ∷ words) h = elim (choose (codes "run") word run_of words _ (bytes_eq word (codes "run")) refl h) [
+  | inl r ↦ begun (codes "run") word run_of words run_words r
+  | inr e ↦ by_check word words e
 ]

@@ -2,7 +2,7 @@
 use Rattle.std.specs.Prelude.{Option, Some, None, true, List, codes, bytes_eq, if◌then◌else◌, option_map, option_and_then}
 use Rattle.clap.specs.Words.{App, Row, Rule, Text, new_app, new_rule, with_rule, with_subcommand, first_of, subcommand_of}
 use Rattle.clap.specs.declared.builder.action.ArgAction.TheVariants.{Set}
-use Rattle.ra_jobs.specs.Words.{Job, Run, Check, Make}
+use Rattle.ra_jobs.specs.Words.{Job, Run, Check, Make, Import}
 use Rattle.ra_jobs.specs.JobWords.{number_of}
 
 -- a word that has to be there
@@ -23,13 +23,20 @@ run_app =
 abbrev pub short_app : Text → Text → App
 short_app name id = with_rule (new_app name) (required_rule id)
 
+-- a command with two words behind its name
+abbrev pub pair_app : Text → Text → Text → App
+pair_app name first second = with_rule (with_rule (new_app name) (required_rule first)) (required_rule second)
+
 -- the command before its jobs are named: its words have no name of the program in front
 abbrev pub bare_app : App
 bare_app = let app = new_app (codes "ra_player") in record app { top = record app.top { no_binary_name = true } }
 
--- the command with its three jobs
+-- the command with its jobs
 abbrev pub player_app : App
-player_app = with_subcommand (with_subcommand (with_subcommand bare_app run_app.top) (short_app (codes "check") (codes "SET")).top) (short_app (codes "make") (codes "N")).top
+player_app =
+    with_subcommand (with_subcommand (with_subcommand (with_subcommand bare_app run_app.top)
+    (short_app (codes "check") (codes "SET")).top) (short_app (codes "make") (codes "N")).top)
+    (pair_app (codes "import") (codes "FILE") (codes "SET")).top
 
 -- a run of two files and of those options that are there
 abbrev pub run_with : Option Text → Option Text → Option Text → Option Text → Option Job
@@ -49,12 +56,18 @@ check_given rows = option_map Check (first_of (codes "SET") rows)
 abbrev pub make_given : List Row → Option Job
 make_given rows = option_map Make (option_and_then number_of (first_of (codes "N") rows))
 
+-- the import of the values that were given
+abbrev pub import_given : List Row → Option Job
+import_given rows =
+    option_and_then (λ file. option_map (Import file) (first_of (codes "SET") rows)) (first_of (codes "FILE") rows)
+
 -- the job of a name, with the values that were given
 abbrev pub job_given : Text → List Row → Option Job
 job_given name rows =
     if bytes_eq name (codes "run") then run_given rows
     else if bytes_eq name (codes "check") then check_given rows
     else if bytes_eq name (codes "make") then make_given rows
+    else if bytes_eq name (codes "import") then import_given rows
     else None
 
 -- the job that clap reads of the words

@@ -1,6 +1,6 @@
 -- The job of the words: docs/DEFINITIONS.md, "Jobs".
 use Rattle.std.specs.Prelude.{ℕ, ◌+◌, ◌-◌, ◌*◌, ◌^◌, ◌&&◌, Bool, not, if◌then◌else◌, nat_lt, Option, None, Some, option_map, List, [], ◌∷◌, fold, codes, bytes_eq, decimal}
-use Rattle.ra_jobs.specs.Words.{Job, Run, Check, Make, is_name}
+use Rattle.ra_jobs.specs.Words.{Job, Run, Check, Make, Import, is_name}
 use Rattle.ra_jobs.specs.declared.job_words.Job.{Job as ReadJob}
 use Rattle.ra_jobs.specs.declared.job_words.Job.TheVariants as read
 
@@ -46,6 +46,11 @@ abbrev pub make_of : List (List ℕ) → Option Job
 make_of (number ∷ []) = option_map Make (number_of number)
 make_of _ = None
 
+-- the words behind `import`: a document and a set
+abbrev pub import_of : List (List ℕ) → Option Job
+import_of (file ∷ set ∷ []) = if is_name file && is_name set then Some (Import file set) else None
+import_of _ = None
+
 -- the job that the words ask for, where they are one
 abbrev pub job_of : List (List ℕ) → Option Job
 job_of [] = None
@@ -53,6 +58,7 @@ job_of (name ∷ words) =
     if bytes_eq name (codes "run") then run_of words
     else if bytes_eq name (codes "check") then check_of words
     else if bytes_eq name (codes "make") then make_of words
+    else if bytes_eq name (codes "import") then import_of words
     else None
 
 -- what a job that was read asks for
@@ -61,3 +67,4 @@ job_contents (read.Run set trace restore save) =
     Run set.now trace.now (option_map (λ file. file.now) restore) (option_map (λ file. file.now) save)
 job_contents (read.Check set) = Check set.now
 job_contents (read.Make number) = Make number
+job_contents (read.Import file set) = Import file.now set.now

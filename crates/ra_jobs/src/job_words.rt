@@ -4,7 +4,7 @@ ghost use Rattle.std.specs.Prelude.{◌≡◌, None, Some, [], ◌∷◌, false,
 ghost use Rattle.clap.specs.Words.{app_of, first_of, found_of, kind_of, rows_of, rule_of, subcommand_of, subcommand_rows_of, takes, with_subcommand};
 ghost use Rattle.clap.specs.declared.builder.command.Command.TheViews.{out-Command};
 ghost use Rattle.ra_jobs.specs.JobCommand as command;
-ghost use Rattle.ra_jobs.specs.JobCommand.{option_rule, player_app, required_rule, run_app, short_app};
+ghost use Rattle.ra_jobs.specs.JobCommand.{option_rule, pair_app, player_app, required_rule, run_app, short_app};
 ghost use Rattle.ra_jobs.specs.JobWords as spec;
 ghost use Rattle.ra_jobs.specs.JobWords.{job_contents, job_of};
 ghost use Rattle.ra_jobs.specs.Words as words;
@@ -31,6 +31,11 @@ pub enum Job<'a> {
     /// To make the workload of a number, and to play it.
     Make {
         number: u32,
+    },
+    /// To take a set from a document, and to put it.
+    Import {
+        file: &'a str,
+        set: &'a str,
     },
 }
 
@@ -109,6 +114,16 @@ fn is_make(words: &[String]) -> bool
     }
 }
 
+// Whether the words behind `import` are a document and a set.
+fn is_import(words: &[String]) -> bool
+    ensures { result ≡ is_some (spec.import_of (map string_bytes words.now)) }
+{
+    match words {
+        [file, set] => is_name(file.as_str()) && is_name(set.as_str()),
+        _ => false,
+    }
+}
+
 // Whether the words are a job, by their count and places.
 fn is_job(words: &[String]) -> bool
     ensures { result ≡ is_some (job_of (map string_bytes words.now)) }
@@ -120,6 +135,7 @@ fn is_job(words: &[String]) -> bool
         "run" => is_run(behind),
         "check" => is_check(behind),
         "make" => is_make(behind),
+        "import" => is_import(behind),
         _ => false,
     }
 }
@@ -162,6 +178,22 @@ fn short_command<'a>(alloc: Global, name: &'a str, id: &'a str) -> Result<Comman
     Ok(command)
 }
 
+// A command with two words behind its name.
+fn pair_command<'a>(
+    alloc: Global,
+    name: &'a str,
+    first: &'a str,
+    second: &'a str,
+) -> Result<Command<'a>, AllocError>
+    ensures app { IfOk result (λ c. app_of c ≡ pair_app name.entry.now first.entry.now second.entry.now) }
+    ensures local { IfOk result (λ c. (out-Command c).has_globals ≡ false) }
+{
+    let command = Command::new(alloc, name)
+        .arg(required(alloc, first))?
+        .arg(required(alloc, second))?;
+    Ok(command)
+}
+
 // A command with the job `run` more.
 fn with_run<'a>(alloc: Global, command: Command<'a>) -> Result<Command<'a>, AllocError>
     ensures { IfOk result (λ c. app_of c ≡ with_subcommand (app_of command.entry) run_app.top) }
@@ -185,7 +217,22 @@ fn with_short<'a>(
     Ok(joined)
 }
 
-// The command with its three jobs. The words begin with the name of a job.
+// A command with a job of two words more.
+fn with_pair<'a>(
+    alloc: Global,
+    command: Command<'a>,
+    name: &'a str,
+    first: &'a str,
+    second: &'a str,
+) -> Result<Command<'a>, AllocError>
+    ensures { IfOk result (λ c. app_of c ≡ with_subcommand (app_of command.entry) (pair_app name.entry.now first.entry.now second.entry.now).top) }
+{
+    let pair = pair_command(alloc, name, first, second)?;
+    let joined = command.subcommand(pair)?;
+    Ok(joined)
+}
+
+// The command with its jobs. The words begin with the name of a job.
 fn player_command<'a>(alloc: Global) -> Result<Command<'a>, AllocError>
     ensures { IfOk result (λ c. app_of c ≡ player_app) }
 {
@@ -193,7 +240,8 @@ fn player_command<'a>(alloc: Global) -> Result<Command<'a>, AllocError>
     let run = with_run(alloc, bare)?;
     let check = with_short(alloc, run, "check", "SET")?;
     let make = with_short(alloc, check, "make", "N")?;
-    Ok(make)
+    let import = with_pair(alloc, make, "import", "FILE", "SET")?;
+    Ok(import)
 }
 
 // What clap reads of the words.
@@ -246,6 +294,15 @@ fn make_given<'a>(given: &ArgMatches<'a>) -> Option<Job<'a>>
     Some(Job::Make { number })
 }
 
+// The import of the values that were given.
+fn import_given<'a>(given: &ArgMatches<'a>) -> Option<Job<'a>>
+    ensures { option_map job_contents result ≡ command.import_given (rows_of (found_of given.now)) }
+{
+    let file = value_of(given, "FILE")?;
+    let set = value_of(given, "SET")?;
+    Some(Job::Import { file, set })
+}
+
 // The job of a name, with the values that were given.
 fn job_given<'a>(name: &str, given: &ArgMatches<'a>) -> Option<Job<'a>>
     ensures { option_map job_contents result ≡ command.job_given name.now (rows_of (found_of given.now)) }
@@ -254,6 +311,7 @@ fn job_given<'a>(name: &str, given: &ArgMatches<'a>) -> Option<Job<'a>>
         "run" => run_given(given),
         "check" => check_given(given),
         "make" => make_given(given),
+        "import" => import_given(given),
         _ => None,
     }
 }
@@ -312,8 +370,8 @@ mod tests {
     }
 
     #[test]
-    fn six_shapes_are_jobs(rt: HostRuntime) -> Result<(), OutOfMemory> {
-        let rows: [(&[&str], Job<'_>); 9] = [
+    fn each_shape_is_a_job(rt: HostRuntime) -> Result<(), OutOfMemory> {
+        let rows: [(&[&str], Job<'_>); 10] = [
             (&["run", "S", "T"], run(None, None)),
             (&["run", "S", "T", "--restore", "P"], run(Some("P"), None)),
             (&["run", "S", "T", "--save", "Q"], run(None, Some("Q"))),
@@ -326,6 +384,13 @@ mod tests {
             (&["make", "0"], Job::Make { number: 0 }),
             (&["make", "17"], Job::Make { number: 17 }),
             (&["make", "4294967295"], Job::Make { number: 4294967295 }),
+            (
+                &["import", "F", "S"],
+                Job::Import {
+                    file: "F",
+                    set: "S",
+                },
+            ),
         ];
         for (texts, job) in rows {
             assert!(rt; reads(rt.alloc(), texts, Some(job))?, "{texts:?}");
@@ -335,7 +400,7 @@ mod tests {
 
     #[test]
     fn other_words_are_no_job(rt: HostRuntime) -> Result<(), OutOfMemory> {
-        let rows: [&[&str]; 29] = [
+        let rows: [&[&str]; 34] = [
             &[],
             &["run", "S"],
             &["run", "S", "T", "--save"],
@@ -365,6 +430,11 @@ mod tests {
             &["make", "+7"],
             &["make", "-7"],
             &["Run", "S", "T"],
+            &["import"],
+            &["import", "F"],
+            &["import", "F", "S", "T"],
+            &["import", "F", "-S"],
+            &["import", "--save", "F", "S"],
         ];
         for texts in rows {
             assert!(rt; reads(rt.alloc(), texts, None)?, "{texts:?}");
