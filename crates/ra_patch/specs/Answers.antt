@@ -32,9 +32,13 @@ RefusesValue d _ = ⊥
 
 -- ---- the answers to a document
 
+-- the most bytes of a document
+abbrev pub document_limit : ℕ
+document_limit = 16777216
+
 -- the bytes are no more than a document may have, and this is their value
 pub record IsDocument (bytes : List ℕ) (d : Data) : Type 0 where
-  pub few : length bytes ≤ 16777216
+  pub few : length bytes ≤ document_limit
   pub reads : Reads bytes d
 
 -- the document gives this set file
@@ -51,6 +55,6 @@ pub record RefusesRead (bytes : List ℕ) (why : PatchRefused) : Type 0 where
 
 -- how a document is refused, by the first of these that comes; want of memory is no refusal of a document
 abbrev pub RefusesDocument : List ℕ → PatchRefused → Type 0
-RefusesDocument bytes (Bytes found) = (16777216 < length bytes) × (found ≡ length bytes)
-RefusesDocument bytes NotJson = (length bytes ≤ 16777216) × ((d : Data) → Reads bytes d → ⊥)
+RefusesDocument bytes (Bytes found) = (document_limit < length bytes) × (found ≡ length bytes)
+RefusesDocument bytes NotJson = (length bytes ≤ document_limit) × ((d : Data) → Reads bytes d → ⊥)
 RefusesDocument bytes why = RefusesRead bytes why

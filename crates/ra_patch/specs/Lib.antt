@@ -3,3 +3,4 @@ pub mod Checks
 pub mod Faults
 pub mod Fields
 pub mod Lines
+pub mod Words

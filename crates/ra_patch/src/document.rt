@@ -12,14 +12,11 @@ ghost use Rattle.ra_set.specs.declared.refused.SetRefused.{SetRefused};
 use crate::check::check_document;
 use crate::imported::Imported;
 use crate::read::read_document;
-use crate::refused::PatchRefused;
+use crate::refused::{MOST_BYTES, PatchRefused};
 use crate::text::text_of_document;
 use ra_set::{Set, SetRefused, parse_set};
 use serde_json::Value;
 use std::alloc::Global;
-
-// The most bytes of a document.
-const MOST_BYTES: usize = 16_777_216;
 
 /// The set file that a document in JSON gives, with its set: docs/DEFINITIONS.md, "Sets from
 /// JSON".

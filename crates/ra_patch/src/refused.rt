@@ -2,6 +2,11 @@
 
 use ra_set::SetRefused;
 use std::alloc::{AllocError, AllocFailed};
+use std::error::Error;
+use std::fmt;
+
+// The most bytes of a document.
+pub(crate) const MOST_BYTES: usize = 16_777_216;
 
 /// Where in a document a field or an item stands: docs/DEFINITIONS.md, "Sets from JSON".
 #[derive(Clone, Copy, Debug, PartialEq, Eq)]
@@ -12,6 +17,22 @@ pub enum PatchList {
     Achievements,
     /// The array `Leaderboards`.
     Leaderboards,
+}
+
+impl PatchList {
+    ghost use Rattle.std.specs.Prelude.{◌≡◌};
+    ghost use Rattle.ra_patch.specs.Words.{list_word};
+
+    // The word of the list.
+    fn word(self) -> &'static str
+        ensures { result.now ≡ list_word self }
+    {
+        match self {
+            PatchList::Root => "root",
+            PatchList::Achievements => "achievements",
+            PatchList::Leaderboards => "leaderboards",
+        }
+    }
 }
 
 /// A field of a document: docs/DEFINITIONS.md, "Sets from JSON".
@@ -33,6 +54,27 @@ pub enum PatchField {
     Mem,
     /// `Format` of a leaderboard.
     Format,
+}
+
+impl PatchField {
+    ghost use Rattle.std.specs.Prelude.{◌≡◌};
+    ghost use Rattle.ra_patch.specs.Words.{field_word};
+
+    // The name of the field.
+    fn word(self) -> &'static str
+        ensures { result.now ≡ field_word self }
+    {
+        match self {
+            PatchField::PatchData => "PatchData",
+            PatchField::Achievements => "Achievements",
+            PatchField::Leaderboards => "Leaderboards",
+            PatchField::RichPresencePatch => "RichPresencePatch",
+            PatchField::Id => "ID",
+            PatchField::MemAddr => "MemAddr",
+            PatchField::Mem => "Mem",
+            PatchField::Format => "Format",
+        }
+    }
 }
 
 /// Why a document gives no set: docs/DEFINITIONS.md, "Sets from JSON".
@@ -61,6 +103,34 @@ pub enum PatchRefused {
     /// There was no memory.
     Memory,
 }
+
+/// Written in the words of docs/DEFINITIONS.md, "Statuses".
+impl fmt::Display for PatchRefused {
+    ghost use Rattle.std.specs.Prelude.{Some};
+    ghost use Rattle.ra_patch.specs.Words.{document_words};
+
+    ghost output = { λ refused. Some (document_words refused) };
+
+    fn fmt<W: fmt::Write>(&self, f: &mut fmt::Formatter<W>) -> fmt::Result {
+        match self {
+            PatchRefused::Bytes { found } => write!(f, "bytes {found} over {MOST_BYTES}"),
+            PatchRefused::NotJson => write!(f, "json"),
+            PatchRefused::Field { list, index, field } => {
+                let word = list.word();
+                let name = field.word();
+                write!(f, "{word} {index} {name}")
+            }
+            PatchRefused::Break { list, index } => {
+                let word = list.word();
+                write!(f, "{word} {index} break")
+            }
+            PatchRefused::Set(why) => write!(f, "{why}"),
+            PatchRefused::Memory => write!(f, "want of memory"),
+        }
+    }
+}
+
+impl Error for PatchRefused {}
 
 impl From<AllocError> for PatchRefused {
     ghost use Rattle.std.specs.Prelude.{◌≡◌};
