@@ -12,7 +12,7 @@ use Rattle.ra_session.specs.Outside.{Outside, ReadsRose, SinkRose, AreTold}
 use Rattle.ra_io.specs.Causes.{Rose}
 use Rattle.ra_session.specs.Running.{Ran, IsTold, IsCounted, PrintsSoFar, deciding}
 use Rattle.ra_session.specs.declared.ending.Ending.{Ending}
-use Rattle.ra_session.specs.declared.ending.Ending.TheVariants.{NoMemory, NoJob, BadSet, ReadFault, SinkFault, BadProgress, SaveFault}
+use Rattle.ra_session.specs.declared.ending.Ending.TheVariants.{Done, NoMemory, NoJob, BadSet, ReadFault, SinkFault, BadProgress, SaveFault}
 use Rattle.ra_session.specs.declared.failures.SetFailed.{SetFailed}
 use Rattle.ra_session.specs.declared.failures.SetFailed.TheVariants as set_failed
 use Rattle.ra_session.proofs.Pieces.{grown-nil}
@@ -23,25 +23,25 @@ use Rattle.ra_session.proofs.RunLemmas.{any_first, file_of, set_read_of}
 
 -- ---- a line that is all that a job prints
 
-module _ (job : Job) (old new : Outside) (line : List ℕ) where
+module _ (job : Job) (old new : Outside) (line : Expected) (done : line.ending ≡ Done) where
   -- what is counted of it, whatever the job counts
-  line_counted : (ending : Ending) → EndsBefore (prints_line line) ⊥ ⊥ (SinkRose old new) ending old.text new.text → IsCounted job old new ending
+  line_counted : (ending : Ending) → EndsBefore line ⊥ ⊥ (SinkRose old new) ending old.text new.text → IsCounted job old new ending
   line_counted ReadFault before = absurd before.0
   line_counted SaveFault before = absurd before.0
   line_counted SinkFault before = before.0
-  line_counted NoJob before = absurd (let bad = before.0 in cc)
+  line_counted NoJob before = absurd (let bad = sym done ∙ before.0 in cc)
   line_counted _ before = tt
 
-  line_prints : (e : Expected) (ending : Ending) → e ≡ prints_line line → EndsBefore (prints_line line) ⊥ ⊥ (SinkRose old new) ending old.text new.text → PrintsSoFar job old new ending e
+  line_prints : (e : Expected) (ending : Ending) → e ≡ line → EndsBefore line ⊥ ⊥ (SinkRose old new) ending old.text new.text → PrintsSoFar job old new ending e
   line_prints e ending is before = subst (PrintsSoFar job old new ending) (sym is) (with_faults ending before)
     where
-      with_faults : (ending : Ending) → EndsBefore (prints_line line) ⊥ ⊥ (SinkRose old new) ending old.text new.text → PrintsSoFar job old new ending (prints_line line)
+      with_faults : (ending : Ending) → EndsBefore line ⊥ ⊥ (SinkRose old new) ending old.text new.text → PrintsSoFar job old new ending line
       with_faults ReadFault before = absurd before.0
       with_faults SaveFault before = absurd before.0
       with_faults _ before = before
 
   -- a job of which its line was written, or a front of it
-  pub ran_line : (ending : Ending) → ((e : Expected) → JobSays old.content job e → e ≡ prints_line line) → (AreTold old.content (deciding ending job) → (e : Expected) × JobSays old.content job e) → EndsBefore (prints_line line) ⊥ ⊥ (SinkRose old new) ending old.text new.text → Ran job old new ending
+  pub ran_line : (ending : Ending) → ((e : Expected) → JobSays old.content job e → e ≡ line) → (AreTold old.content (deciding ending job) → (e : Expected) × JobSays old.content job e) → EndsBefore line ⊥ ⊥ (SinkRose old new) ending old.text new.text → Ran job old new ending
   ran_line ending says said before = record {
     printed = λ e is. line_prints e ending (says e is) before;
     said = λ told files. said files;
@@ -96,6 +96,6 @@ module _ (set : List ℕ) (old new : Outside) where
 
   -- a check whose set was accepted
   pub checked : (c : SetContents) (ending : Ending) → IsTaken (old.content set) c → EndsBefore (prints_line (check_line c)) ⊥ ⊥ (SinkRose old new) ending old.text new.text → Ran (Check set) old new ending
-  checked c ending taken before = ran_line (Check set) old new (check_line c) ending (check_says c taken) (λ told.
+  checked c ending taken before = ran_line (Check set) old new (prints_line (check_line c)) refl ending (check_says c taken) (λ told.
       let file = file_of old.content set (subst (AreTold old.content) (check_decides ending) told).0 in
       (prints_line (check_line c), counts file.0 c file.1 (taken.is_set file.0 file.1))) before

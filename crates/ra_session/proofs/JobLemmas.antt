@@ -1,9 +1,10 @@
 -- A run up to its last line, by where it ended.
-use Rattle.std.proofs.Common.{◌≡◌, ◌≢◌, inl, inr, ap, sym, subst, refl, ◌∙◌, ℕ, List, [], ◌∷◌, is_some, Option, Some, Result, Ok, Err}
+use Rattle.std.proofs.Common.{◌≡◌, ◌≢◌, inl, inr, ap, sym, subst, refl, ◌∙◌, ℕ, List, [], ◌∷◌, is_some, if◌then◌else◌, false, Option, Some, Result, Ok, Err}
 use Rattle.std.specs.Bool.{⊤}
 use Rattle.std.specs.List.{concat, AllByRecursion}
 use Rattle.std.specs.Result.{IsErrOf}
 use Rattle.ra_io.specs.Causes.{Rose}
+use Rattle.ra_io.specs.Sink.{grown}
 use Rattle.ra_io.specs.Files.{SameContent}
 use Rattle.ra_io.specs.declared.files.PutFailed.{PutFailed}
 use Rattle.ra_io.specs.declared.files.PutFailed.TheVariants as put
@@ -33,7 +34,7 @@ use Rattle.ra_session.proofs.LoadLemmas.{PlaysFrom, begins_somewhere, loaded_say
 pub leaves_same : (job : Job) (old new : Outside) (ending : Ending) → (ending ≡ Done → ⊥) → SameContent old.content new.content → Leaves job old new ending
 leaves_same job old new ending never same = record {
   others = λ name other. same.each name;
-  only = inr (inr same);
+  only = inr (inr (inl same));
   saved = λ done. absurd (never done);
 }
 
@@ -41,7 +42,7 @@ leaves_same job old new ending never same = record {
 pub leaves_none : (job : Job) (old new : Outside) (ending : Ending) → puts_of job ≡ [] → SameContent old.content new.content → Leaves job old new ending
 leaves_none job old new ending none same = record {
   others = λ name other. same.each name;
-  only = inr (inr same);
+  only = inr (inr (inl same));
   saved = λ done e says. subst (AllByRecursion (HasBytes e.saved old.content new.content)) (sym none) tt;
 }
 
@@ -114,9 +115,9 @@ module _ (set trace : List ℕ) (restore save : Option (List ℕ)) (old new : Ou
 
   -- a run at its end, once its progress was put or was not
   module _ {T : Type 0} (c : SetContents) (progress : Option (List ℕ)) (player : T) (p : PlayedSet {T = T} c progress (Ok player)) where
-    not_put_prints : (e : Expected) (f : PutFailed) → (IsErrOf {T = Unit {0}} (Err f) put.Failed → PutsRose (puts_of job) old new) → PrintsSoFar job old new Done e → PrintsSoFar job old new (ending_of_put f) e
-    not_put_prints e put.Failed rose end = (rose refl, end.0, end.1)
-    not_put_prints e put.Memory rose end = part_all old.text new.text (concat e.pieces) end.1
+    not_put_prints : (e : Expected) (f : PutFailed) → e.puts_first ≡ false → (IsErrOf {T = Unit {0}} (Err f) put.Failed → PutsRose (puts_of job) old new) → PrintsSoFar job old new Done e → PrintsSoFar job old new (ending_of_put f) e
+    not_put_prints e put.Failed after rose end = (rose refl, end.0, end.1 ∙ ap (λ first. grown old.text (concat (if first then [] else e.pieces))) (sym after))
+    not_put_prints e put.Memory after rose end = part_all old.text new.text (concat e.pieces) end.1
 
     not_put_counted : (f : PutFailed) → (IsErrOf {T = Unit {0}} (Err f) put.Failed → PutsRose (puts_of job) old new) → IsCounted job old new (ending_of_put f)
     not_put_counted put.Failed rose = rose refl
@@ -129,7 +130,7 @@ module _ (set trace : List ℕ) (restore save : Option (List ℕ)) (old new : Ou
     -- a run whose file was not put
     pub ran_not_put : (f : PutFailed) (ending : Ending) → ending ≡ ending_of_put f → (IsErrOf {T = Unit {0}} (Err f) put.Failed → PutsRose (puts_of job) old new) → Ran job old new ending
     ran_not_put f ending is rose = subst (Ran job old new) (sym is) (record {
-      printed = λ e says. not_put_prints e f rose (played_prints c progress (Ok player) p e says);
+      printed = λ e says. not_put_prints e f (ap (λ (e : Expected). e.puts_first) (from_there c progress (Ok player) p e says).is) rose (played_prints c progress (Ok player) p e says);
       said = λ is. absurd (not_put_told f is);
       counted = not_put_counted f rose;
     })
@@ -150,7 +151,7 @@ module _ (set trace : List ℕ) (restore save : Option (List ℕ)) (old new : Ou
   pub leaves_not_put : (f : PutFailed) (ending : Ending) → ending ≡ ending_of_put f → ((name : List ℕ) → AllByRecursion (λ put. name ≢ put) (file_in save) → new.content name ≡ old.content name)
       → (IsErrOf {T = Unit {0}} (Err f) put.Failed → PutsRose (puts_of job) old new) → (IsErrOf {T = Unit {0}} (Err f) put.Memory → SameContent old.content new.content) → Leaves job old new ending
   leaves_not_put put.Failed ending is others rose same = record { others = others; only = inr (inl (rose refl)); saved = λ done. absurd (let bad = sym is ∙ done in cc) }
-  leaves_not_put put.Memory ending is others rose same = record { others = others; only = inr (inr (same refl)); saved = λ done. absurd (let bad = sym is ∙ done in cc) }
+  leaves_not_put put.Memory ending is others rose same = record { others = others; only = inr (inr (inl (same refl))); saved = λ done. absurd (let bad = sym is ∙ done in cc) }
 
 -- the contents before a put are those at the call
 pub others_since : (old mid new : List ℕ → Option (List ℕ)) (names : List (List ℕ)) → SameContent old mid → ((name : List ℕ) → AllByRecursion (λ put. name ≢ put) names → new name ≡ mid name) → (name : List ℕ) → AllByRecursion (λ put. name ≢ put) names → new name ≡ old name

@@ -12,6 +12,7 @@ pub mod SaysLemmas
 pub mod LengthLemmas
 pub mod RunLemmas
 pub mod LoadLemmas
+pub mod ImportLemmas
 pub mod JobLemmas
 pub mod CountLemmas
 pub mod CheckLemmas

@@ -78,4 +78,4 @@ make_says number text played_so e (made c is) =
 -- a job whose line was written, or a front of it
 pub ran_made : (number : ℕ) (text : List ℕ) (old new : Outside) (ending : Ending) → IsMadeText number text → EndsBefore (prints_line (make_line number text)) ⊥ ⊥ (SinkRose old new) ending old.text new.text → Ran (Make number) old new ending
 ran_made number text old new ending played_so before =
-    ran_line (Make number) old new (make_line number text) ending (make_says number text played_so) (λ told. (_, made played_so.set played_so.accepted)) before
+    ran_line (Make number) old new (prints_line (make_line number text)) refl ending (make_says number text played_so) (λ told. (_, made played_so.set played_so.accepted)) before

@@ -26,7 +26,7 @@ use Rattle.ra_runtime.specs.Openings.{snapshot}
 use Rattle.ra_runtime.specs.Play.{first_moment, moment_after, behind_end}
 use Rattle.ra_session.specs.Endings.{ending_of}
 use Rattle.ra_session.specs.declared.ending.Ending.{Ending}
-use Rattle.ra_session.specs.declared.ending.Ending.TheVariants.{Done, NoMemory, NoJob, BadSet, ReadFault, SinkFault, BadProgress, BadTrace, LongTrace, SaveFault}
+use Rattle.ra_session.specs.declared.ending.Ending.TheVariants.{Done, NoMemory, NoJob, BadSet, ReadFault, SinkFault, BadProgress, BadTrace, LongTrace, SaveFault, BadDocument}
 use Rattle.ra_session.specs.Expected.{Expected, played, pieces_from, trace_limit}
 use Rattle.ra_session.specs.Closing.{EndsBefore}
 use Rattle.ra_session.specs.Failures.{ending_at, ending_of_trace, trace_failed}
@@ -54,12 +54,13 @@ pub set_read_of : (bytes file : List ℕ) (s : SetContents) → bytes ≡ take 4
 set_read_of bytes file s is set = subst (λ f. IsSet f s) (sym (read_all_of bytes file is set.size)) set
 
 -- endings of jobs that say the same end the same
-ends_same : (a b : Expected) (reads puts sink : Type 0) (ending : Ending) (old new : Option (List ℕ)) → a.pieces ≡ b.pieces → a.ending ≡ b.ending → EndsBefore a reads puts sink ending old new → EndsBefore b reads puts sink ending old new
-ends_same a b reads puts sink ending old new pieces end before =
-    subst (λ p. EndsBefore (record { pieces = p; ending = b.ending; saved = b.saved }) reads puts sink ending old new) pieces
-    (subst (λ g. EndsBefore (record { pieces = a.pieces; ending = g; saved = b.saved }) reads puts sink ending old new) end (same_saved ending before))
+ends_same : (a b : Expected) (reads puts sink : Type 0) (ending : Ending) (old new : Option (List ℕ)) → a.pieces ≡ b.pieces → a.ending ≡ b.ending → a.puts_first ≡ b.puts_first → EndsBefore a reads puts sink ending old new → EndsBefore b reads puts sink ending old new
+ends_same a b reads puts sink ending old new pieces end first before =
+    subst (λ p. EndsBefore (record { pieces = p; ending = b.ending; saved = b.saved; puts_first = b.puts_first }) reads puts sink ending old new) pieces
+    (subst (λ g. EndsBefore (record { pieces = a.pieces; ending = g; saved = b.saved; puts_first = b.puts_first }) reads puts sink ending old new) end
+    (subst (λ f. EndsBefore (record { pieces = a.pieces; ending = a.ending; saved = b.saved; puts_first = f }) reads puts sink ending old new) first (same_saved ending before)))
   where
-    same_saved : (ending : Ending) → EndsBefore a reads puts sink ending old new → EndsBefore (record { pieces = a.pieces; ending = a.ending; saved = b.saved }) reads puts sink ending old new
+    same_saved : (ending : Ending) → EndsBefore a reads puts sink ending old new → EndsBefore (record { pieces = a.pieces; ending = a.ending; saved = b.saved; puts_first = a.puts_first }) reads puts sink ending old new
     same_saved Done h = h
     same_saved NoMemory h = h
     same_saved NoJob h = h
@@ -70,6 +71,7 @@ ends_same a b reads puts sink ending old new pieces end before =
     same_saved (BadTrace at why) h = h
     same_saved LongTrace h = h
     same_saved SaveFault h = h
+    same_saved (BadDocument why) h = h
 
 -- behind a good header the trace is what is left of it
 pub played_behind : (set : SetContents) (o : Opening) (behind : History) (bytes : List ℕ) (size : ℕ) (ending : Ending) (old new : Option (List ℕ)) → header_size (take trace_limit bytes) ≡ Some size
@@ -78,7 +80,7 @@ played_behind set o behind bytes size ending old new is before =
     let seen = take trace_limit bytes in
     ends_same (says_from bytes set o (first_moment size behind) (pieces_of size bytes)) (played set o behind bytes) ⊤ ⊤ ⊤ ending old new
     (ap (λ header. pieces_from set o (first_moment (trace_behind no_slots header seen).size behind) (trace_behind no_slots header seen).entries) (sym is))
-    (ap (λ header. ending_of (stop_within (nat_le trace_limit (length bytes)) (trace_behind no_slots header seen).stop)) (sym is)) before
+    (ap (λ header. ending_of (stop_within (nat_le trace_limit (length bytes)) (trace_behind no_slots header seen).stop)) (sym is)) refl before
 
 some_same : (x y : Stop) → Some x ≡ Some y → x ≡ y
 some_same x y same = cc

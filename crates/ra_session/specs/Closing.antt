@@ -4,7 +4,7 @@ use Rattle.std.specs.List.{concat}
 use Rattle.ra_io.specs.Sink.{grown}
 use Rattle.ra_session.specs.Writing.{GrewByPart}
 use Rattle.ra_session.specs.Endings.{status_of, last_line}
-use Rattle.ra_session.specs.Expected.{Expected, IsReadBehind}
+use Rattle.ra_session.specs.Expected.{Expected, IsReadBehind, before_put}
 use Rattle.ra_session.specs.declared.ending.Ending.{Ending}
 use Rattle.ra_session.specs.declared.ending.Ending.TheVariants.{Done, NoMemory, ReadFault, SinkFault, SaveFault}
 
@@ -23,5 +23,5 @@ abbrev pub EndsBefore : Expected → (reads puts sink : Type 0) → Ending → (
 EndsBefore e reads puts sink NoMemory old new = GrewByPart old new (concat e.pieces)
 EndsBefore e reads puts sink SinkFault old new = sink × GrewByPart old new (concat e.pieces)
 EndsBefore e reads puts sink ReadFault old new = reads × ((records : ℕ) × IsReadBehind e records × (new ≡ grown old (concat (take records e.pieces))))
-EndsBefore e reads puts sink SaveFault old new = puts × (e.ending ≡ Done) × (new ≡ grown old (concat e.pieces))
+EndsBefore e reads puts sink SaveFault old new = puts × (e.ending ≡ Done) × (new ≡ grown old (concat (before_put e)))
 EndsBefore e reads puts sink ending old new = (e.ending ≡ ending) × (new ≡ grown old (concat e.pieces))

@@ -1,5 +1,5 @@
 -- What a job prints, how it ends and what it saves, where nothing fails: docs/DEFINITIONS.md, "A run".
-use Rattle.std.specs.Prelude.{◌≡◌, ℕ, ◌+◌, ◌^◌, ◌<◌, ◌≤◌, ◌==◌, Bool, Option, None, Some, List, [], ◌∷◌, ◌++◌, length, take, codes, decimal, count_by, bytes_eq}
+use Rattle.std.specs.Prelude.{◌≡◌, ℕ, ◌+◌, ◌^◌, ◌<◌, ◌≤◌, ◌==◌, Bool, true, false, if◌then◌else◌, Option, None, Some, List, [], ◌∷◌, ◌++◌, length, take, codes, decimal, count_by, bytes_eq}
 use Rattle.std.specs.List.{join_with_byte, slice_split, concat}
 use Rattle.md5.specs.Md5.{md5}
 use Rattle.ra_set.specs.declared.refused.SetRefused.{SetRefused}
@@ -19,18 +19,24 @@ use Rattle.ra_runtime.specs.Play.{Moment, moved, printed, first_moment, behind_e
 use Rattle.ra_progress.specs.declared.refused.ProgressRefused.{ProgressRefused}
 use Rattle.ra_set.specs.Accepted.{IsSet}
 use Rattle.ra_set.specs.Refusals.{Refuses}
-use Rattle.ra_jobs.specs.Words.{Job, Run, Check, Make}
+use Rattle.ra_richpresence.specs.Contents.{ScriptContents}
+use Rattle.ra_patch.specs.declared.refused.PatchRefused.{PatchRefused}
+use Rattle.ra_patch.specs.declared.refused.PatchRefused.TheVariants as patch
+use Rattle.ra_patch.specs.Answers.{document_limit, Imports, RefusesDocument}
+use Rattle.ra_jobs.specs.Words.{Job, Run, Check, Make, Import}
 use Rattle.ra_session.specs.Endings.{ending_of}
 use Rattle.ra_session.specs.declared.ending.Ending.{Ending}
-use Rattle.ra_session.specs.declared.ending.Ending.TheVariants.{Done, BadSet, BadProgress}
+use Rattle.ra_session.specs.declared.ending.Ending.TheVariants.{Done, BadSet, BadProgress, BadDocument}
 
 -- what a job says where nothing fails
 pub record Expected : Type 0 where
   -- what each record prints, in order
   pub pieces : List (List ℕ)
   pub ending : Ending
-  -- the progress file at the end record
+  -- the file that it puts: the progress at the end record, or a set
   pub saved : List ℕ
+  -- the file is put before anything is printed
+  pub puts_first : Bool
 
 -- Behind so many records a read may come: there are as many, and the end record, behind which nothing is read, is not
 -- among them.
@@ -38,13 +44,21 @@ pub record IsReadBehind (e : Expected) (records : ℕ) : Type 0 where
   pub there : records ≤ length e.pieces
   pub before_end : e.ending ≡ Done → records < length e.pieces
 
+-- what is printed before the put
+abbrev pub before_put : Expected → List (List ℕ)
+before_put e = if e.puts_first then [] else e.pieces
+
 -- a job that ends before it prints
 abbrev pub prints_nothing : Ending → Expected
-prints_nothing ending = record { pieces = []; ending = ending; saved = [] }
+prints_nothing ending = record { pieces = []; ending = ending; saved = []; puts_first = false }
 
 -- a job whose line is all that it prints
 abbrev pub prints_line : List ℕ → Expected
-prints_line line = record { pieces = line ∷ []; ending = Done; saved = [] }
+prints_line line = record { pieces = line ∷ []; ending = Done; saved = []; puts_first = false }
+
+-- a job that puts a file, and prints a line behind it
+abbrev pub puts_then_prints : (file line : List ℕ) → Expected
+puts_then_prints file line = record { pieces = line ∷ []; ending = Done; saved = file; puts_first = true }
 
 -- the most bytes that a run takes of a trace
 abbrev pub trace_limit : ℕ
@@ -72,6 +86,7 @@ played set o behind bytes =
       pieces = pieces_from set o (first_moment trace.size behind) trace.entries;
       ending = ending_of trace.stop;
       saved = progress_bytes set.digest (snapshot set o (behind_end behind trace.size trace.entries));
+      puts_first = false;
     }
 
 -- What a run of these files says, where their bytes are told: it begins with the plain opening, or goes on from a
@@ -126,8 +141,35 @@ make_line number text =
 pub data MakeSays (number : ℕ) : Expected → Type 0 where
   made : (s : SetContents) → IsSet (made_set number) s → MakeSays number (prints_line (make_line number (concat (played s (plain_opening s) [] (made_trace number)).pieces)))
 
+-- a script counts as one
+abbrev pub scripts_in : Option ScriptContents → ℕ
+scripts_in None = 0
+scripts_in (Some script) = 1
+
+-- the line of `import`
+abbrev pub import_line : SetContents → List ℕ
+import_line set =
+    join_with_byte 32 (codes "imported" ∷ codes "achievements" ∷ decimal (achievements_in set.items)
+    ∷ codes "leaderboards" ∷ decimal (boards_in set.items) ∷ codes "presence" ∷ decimal (scripts_in set.script) ∷ []) ++ 10 ∷ []
+
+-- a document is refused, and not because its set file is
+abbrev pub IsOfDocument : PatchRefused → Type 0
+IsOfDocument (patch.Set why) = ⊥
+IsOfDocument patch.Memory = ⊥
+IsOfDocument _ = Unit {0}
+
+-- What `import` of this document says, where its bytes are told: at most a byte more than a document may have is read.
+pub data ImportSays (content : List ℕ → Option (List ℕ)) (file : List ℕ) : Expected → Type 0 where
+  refuses_document : (bytes : List ℕ) (why : PatchRefused) → content file ≡ Some bytes → IsOfDocument why
+      → RefusesDocument (take (document_limit + 1) bytes) why → ImportSays content file (prints_nothing (BadDocument why))
+  refuses_set : (bytes : List ℕ) (why : SetRefused) → content file ≡ Some bytes
+      → RefusesDocument (take (document_limit + 1) bytes) (patch.Set why) → ImportSays content file (prints_nothing (BadSet why))
+  imports : (bytes text : List ℕ) (s : SetContents) → content file ≡ Some bytes → Imports bytes text → IsSet text s
+      → ImportSays content file (puts_then_prints text (import_line s))
+
 -- what a job says over files whose bytes are told
 abbrev pub JobSays : (content : List ℕ → Option (List ℕ)) → Job → Expected → Type 0
 JobSays content (Run set trace restore save) e = RunSays content set trace restore e
 JobSays content (Check set) e = CheckSays content set e
 JobSays content (Make number) e = MakeSays number e
+JobSays content (Import file set) e = ImportSays content file e

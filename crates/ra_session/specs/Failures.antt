@@ -7,7 +7,11 @@ use Rattle.ra_io.specs.declared.sink.SinkFailed.TheVariants as write
 use Rattle.ra_trace.specs.declared.error.TraceError.{TraceError}
 use Rattle.ra_trace.specs.declared.error.TraceError.TheVariants as error
 use Rattle.ra_session.specs.declared.ending.Ending.{Ending}
-use Rattle.ra_session.specs.declared.ending.Ending.TheVariants.{Done, NoMemory, BadSet, ReadFault, SinkFault, BadProgress, BadTrace, LongTrace, SaveFault}
+use Rattle.ra_session.specs.declared.ending.Ending.TheVariants.{Done, NoMemory, BadSet, ReadFault, SinkFault, BadProgress, BadTrace, LongTrace, SaveFault, BadDocument}
+use Rattle.ra_patch.specs.declared.refused.PatchRefused.{PatchRefused}
+use Rattle.ra_patch.specs.declared.refused.PatchRefused.TheVariants as patch
+use Rattle.ra_session.specs.declared.failures.DocumentFailed.{DocumentFailed}
+use Rattle.ra_session.specs.declared.failures.DocumentFailed.TheVariants as document
 use Rattle.ra_session.specs.declared.failures.ReadFailed.{ReadFailed}
 use Rattle.ra_session.specs.declared.failures.ReadFailed.TheVariants as read
 use Rattle.ra_session.specs.declared.failures.SetFailed.{SetFailed}
@@ -24,7 +28,17 @@ abbrev pub set_unread : ReadFailed → SetFailed
 set_unread read.Memory = set.Memory
 set_unread read.Failed = set.Read
 
--- and no progress bytes
+-- and no document
+abbrev pub document_unread : ReadFailed → DocumentFailed
+document_unread read.Memory = document.Memory
+document_unread read.Failed = document.Read
+
+-- a document that is refused; want of memory is no refusal of it
+abbrev pub document_refused : PatchRefused → DocumentFailed
+document_refused patch.Memory = document.Memory
+document_refused why = document.Refused why
+
+-- a file that is not read gives no progress bytes
 abbrev pub progress_unread : ReadFailed → ProgressFailed
 progress_unread read.Memory = progress.Memory
 progress_unread read.Failed = progress.Read
@@ -45,6 +59,18 @@ abbrev pub ending_of_set : SetFailed → Ending
 ending_of_set set.Memory = NoMemory
 ending_of_set set.Read = ReadFault
 ending_of_set (set.Refused why) = BadSet why
+
+-- how an import ends whose document is refused
+abbrev pub ending_of_refused : PatchRefused → Ending
+ending_of_refused patch.Memory = NoMemory
+ending_of_refused (patch.Set why) = BadSet why
+ending_of_refused why = BadDocument why
+
+-- how an import ends that has no document
+abbrev pub ending_of_document : DocumentFailed → Ending
+ending_of_document document.Memory = NoMemory
+ending_of_document document.Read = ReadFault
+ending_of_document (document.Refused why) = ending_of_refused why
 
 -- how a run ends that does not begin
 abbrev pub ending_of_load : LoadFailed → Ending

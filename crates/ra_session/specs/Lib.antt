@@ -10,3 +10,4 @@ pub mod Making
 pub mod Playing
 pub mod Loading
 pub mod RunFiles
+pub mod Importing

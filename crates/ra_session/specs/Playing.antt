@@ -88,6 +88,7 @@ says_from bytes set o m left = record {
   pieces = pieces_from set o m left.entries;
   ending = ending_of (stop_within (nat_le trace_limit (length bytes)) left.stop);
   saved = [];
+  puts_first = false;
 }
 
 -- These records are left of the trace at a moment, from where the reader stands.

@@ -2,7 +2,7 @@
 use Rattle.std.specs.Prelude.{◌≡◌, ◌≢◌, ◌⊎◌, ⊤, ℕ, Option, Some, List, is_some, true}
 use Rattle.std.specs.List.{AllByRecursion}
 use Rattle.ra_io.specs.Files.{SameContent}
-use Rattle.ra_jobs.specs.Words.{Job, reads_of, puts_of, set_read, first_reads}
+use Rattle.ra_jobs.specs.Words.{Job, Import, reads_of, puts_of, set_read, first_reads}
 use Rattle.ra_session.specs.Expected.{Expected, JobSays}
 use Rattle.ra_session.specs.Closing.{EndsBefore}
 use Rattle.ra_session.specs.Outside.{Outside, ReadsRose, PutsRose, SinkRose, AreTold}
@@ -49,14 +49,33 @@ module _ (job : Job) (old new : Outside) where
 abbrev pub HasBytes : (bytes : List ℕ) → (old new : List ℕ → Option (List ℕ)) → (name : List ℕ) → Type 0
 HasBytes bytes old new name = is_some (old name) ≡ true → new name ≡ Some bytes
 
--- the file that a job puts has the bytes of what is kept at its end
+-- the file that a job puts has the bytes that it says
 abbrev pub HasSaved : Job → Expected → (old new : List ℕ → Option (List ℕ)) → Type 0
 HasSaved job e old new = AllByRecursion (HasBytes e.saved old new) (puts_of job)
 
+-- the job prints its line behind its put
+abbrev pub PrintsBehindPut : Job → Type 0
+PrintsBehindPut (Import file set) = Unit {0}
+PrintsBehindPut _ = ⊥
+
 module _ (job : Job) (old new : Outside) where
-  -- A job that ended so leaves every name but the one that it puts, and changes that one only where it is done, or where
-  -- a put of it failed.
+  -- the file has the bytes that the job says, where its bytes were told
+  abbrev pub IsSaved : Type 0
+  IsSaved = (e : Expected) → JobSays old.content job e → HasSaved job e old.content new.content
+
+  -- The line behind the put was not written whole: the file has what the job says.
+  pub record PutBeforeLine (ending : Ending) : Type 0 where
+    pub behind : PrintsBehindPut job
+    pub cut : (ending ≡ NoMemory) ⊎ (ending ≡ SinkFault)
+    pub saved : IsSaved
+
+  -- where a job that ended so may have changed the file that it puts: it is done, a put of it failed, or the line behind
+  -- the put was not written whole
+  abbrev pub OnlyThen : Ending → Type 0
+  OnlyThen ending = (ending ≡ Done) ⊎ (PutsRose (puts_of job) old new ⊎ (SameContent old.content new.content ⊎ PutBeforeLine ending))
+
+  -- A job that ended so leaves every name but the one that it puts, and changes that one only then.
   pub record Leaves (ending : Ending) : Type 0 where
     pub others : (name : List ℕ) → AllByRecursion (λ put. name ≢ put) (puts_of job) → new.content name ≡ old.content name
-    pub only : (ending ≡ Done) ⊎ (PutsRose (puts_of job) old new ⊎ SameContent old.content new.content)
-    pub saved : ending ≡ Done → (e : Expected) → JobSays old.content job e → HasSaved job e old.content new.content
+    pub only : OnlyThen ending
+    pub saved : ending ≡ Done → IsSaved

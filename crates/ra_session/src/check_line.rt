@@ -15,8 +15,8 @@ use ra_text::OutOfMemory;
 use std::alloc::Global;
 use std::fmt::Write;
 
-// How many achievements these items have.
-fn achievements(items: &[Item]) -> usize
+/// How many achievements these items have.
+pub(crate) fn achievements(items: &[Item]) -> usize
     ensures { result ≡ achievements_in (map item_contents items.now) }
 {
     let mut count = 0;
@@ -28,8 +28,8 @@ fn achievements(items: &[Item]) -> usize
     count
 }
 
-// How many leaderboards these items have.
-fn leaderboards(items: &[Item]) -> usize
+/// How many leaderboards these items have.
+pub(crate) fn leaderboards(items: &[Item]) -> usize
     ensures { result ≡ boards_in (map item_contents items.now) }
 {
     let mut count = 0;

@@ -14,7 +14,7 @@ use std::fmt::Write;
 
 // How the program is called.
 const USAGE: &str =
-    "usage: ra_player run SET TRACE [--restore FILE] [--save FILE] | check SET | make N\n";
+    "usage: ra_player run SET TRACE [--restore FILE] [--save FILE] | check SET | make N | import FILE SET\n";
 
 // Writes a last line, and answers its status.
 //
@@ -44,6 +44,7 @@ fn last_line(alloc: Global, ending: Ending) -> Result<String, OutOfMemory>
         Ending::BadTrace { at, why } => writeln!(line, "trace refused at {at}: {why}")?,
         Ending::LongTrace => line.push_str("trace too long\n")?,
         Ending::SaveFault => line.push_str("save fault\n")?,
+        Ending::BadDocument(why) => writeln!(line, "import refused: {why}")?,
     }
     Ok(line)
 }
@@ -63,6 +64,7 @@ fn status_of(ending: Ending) -> u8
         Ending::BadTrace { .. } => 7,
         Ending::LongTrace => 8,
         Ending::SaveFault => 9,
+        Ending::BadDocument(_) => 10,
     }
 }
 

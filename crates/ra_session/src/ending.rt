@@ -1,9 +1,10 @@
 ghost use Rattle.std.specs.Prelude.{◌≡◌};
-ghost use Rattle.ra_session.specs.Failures.{ending_of_load, ending_of_put, ending_of_set, ending_of_trace};
+ghost use Rattle.ra_session.specs.Failures.{ending_of_document, ending_of_load, ending_of_put, ending_of_set, ending_of_trace};
 ghost use Rattle.ra_session.specs.declared.ending.Ending.TheVariants as ends;
 
-use crate::failures::{LoadFailed, ProgressFailed, SetFailed, TraceFailed};
+use crate::failures::{DocumentFailed, LoadFailed, ProgressFailed, SetFailed, TraceFailed};
 use ra_io::PutFailed;
+use ra_patch::PatchRefused;
 use ra_progress::ProgressRefused;
 use ra_set::SetRefused;
 use ra_text::OutOfMemory;
@@ -32,6 +33,8 @@ pub enum Ending {
     LongTrace,
     /// A put of the file to save into failed.
     SaveFault,
+    /// A document gives no set, for another reason than that its set file is refused.
+    BadDocument(PatchRefused),
 }
 
 impl From<OutOfMemory> for Ending {
@@ -50,6 +53,21 @@ impl From<SetFailed> for Ending {
             SetFailed::Memory => Ending::NoMemory,
             SetFailed::Read => Ending::ReadFault,
             SetFailed::Refused(why) => Ending::BadSet(why),
+        }
+    }
+}
+
+impl From<DocumentFailed> for Ending {
+    ghost from_gives = { λ failed e. e ≡ ending_of_document failed };
+
+    fn from(failed: DocumentFailed) -> Ending {
+        match failed {
+            DocumentFailed::Memory | DocumentFailed::Refused(PatchRefused::Memory) => {
+                Ending::NoMemory
+            }
+            DocumentFailed::Read => Ending::ReadFault,
+            DocumentFailed::Refused(PatchRefused::Set(why)) => Ending::BadSet(why),
+            DocumentFailed::Refused(why) => Ending::BadDocument(why),
         }
     }
 }

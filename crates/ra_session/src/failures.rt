@@ -1,13 +1,15 @@
 //! What each phase of a job can end with before it is done.
 
 ghost use Rattle.std.specs.Prelude.{◌≡◌};
-ghost use Rattle.ra_session.specs.Failures.{progress_unread, set_unread, trace_failed, trace_unwritten};
+ghost use Rattle.ra_session.specs.Failures.{document_refused, document_unread, progress_unread, set_unread, trace_failed, trace_unwritten};
+ghost use Rattle.ra_session.specs.declared.failures.DocumentFailed.TheVariants as document;
 ghost use Rattle.ra_session.specs.declared.failures.LoadFailed.TheVariants as load;
 ghost use Rattle.ra_session.specs.declared.failures.ProgressFailed.TheVariants as progress;
 ghost use Rattle.ra_session.specs.declared.failures.ReadFailed.TheVariants as read;
 ghost use Rattle.ra_session.specs.declared.failures.TraceFailed.TheVariants as trace;
 
 use ra_io::SinkFailed;
+use ra_patch::PatchRefused;
 use ra_progress::ProgressRefused;
 use ra_set::SetRefused;
 use ra_text::OutOfMemory;
@@ -32,6 +34,17 @@ pub enum SetFailed {
     Read,
     /// The file is refused.
     Refused(SetRefused),
+}
+
+/// Why a document gives no set.
+#[derive(Clone, Copy, Debug, PartialEq, Eq)]
+pub enum DocumentFailed {
+    /// There was no memory.
+    Memory,
+    /// A read of the file failed.
+    Read,
+    /// The document is refused.
+    Refused(PatchRefused),
 }
 
 /// Why there are no progress bytes.
@@ -85,6 +98,36 @@ impl From<ReadFailed> for SetFailed {
             ReadFailed::Memory => SetFailed::Memory,
             ReadFailed::Failed => SetFailed::Read,
         }
+    }
+}
+
+impl From<ReadFailed> for DocumentFailed {
+    ghost from_gives = { λ failed e. e ≡ document_unread failed };
+
+    fn from(failed: ReadFailed) -> DocumentFailed {
+        match failed {
+            ReadFailed::Memory => DocumentFailed::Memory,
+            ReadFailed::Failed => DocumentFailed::Read,
+        }
+    }
+}
+
+impl From<PatchRefused> for DocumentFailed {
+    ghost from_gives = { λ why e. e ≡ document_refused why };
+
+    fn from(why: PatchRefused) -> DocumentFailed {
+        match why {
+            PatchRefused::Memory => DocumentFailed::Memory,
+            why => DocumentFailed::Refused(why),
+        }
+    }
+}
+
+impl From<OutOfMemory> for DocumentFailed {
+    ghost from_gives = { λ _ e. e ≡ document.Memory };
+
+    fn from(_error: OutOfMemory) -> DocumentFailed {
+        DocumentFailed::Memory
     }
 }
 

@@ -1,13 +1,15 @@
-//! A job from its files to its last line: a set is loaded, a trace played, a progress file put, a set counted, and a
-//! workload made.
+//! A job from its files to its last line: a set is loaded, a trace played, a progress file put, a set counted, a workload
+//! made, and a set taken of a document.
 #![tactic(auto)]
 
 mod beginning;
 mod check_line;
 mod closing;
 mod counts;
+mod document;
 mod ending;
 mod failures;
+mod importing;
 mod laws;
 mod loading;
 mod make;
@@ -20,6 +22,7 @@ mod writing;
 
 pub use closing::finish;
 pub use ending::Ending;
+pub use importing::import_job;
 pub use laws::runs_print_their_texts;
 pub use make::make_job;
 pub use run::{check_job, run_job};
