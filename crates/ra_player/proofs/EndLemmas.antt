@@ -5,8 +5,8 @@ use Rattle.ra_io.specs.Sink.{grown}
 use Rattle.ra_session.specs.Writing.{GrewByPart}
 use Rattle.ra_session.specs.Endings.{status_of, last_line}
 use Rattle.ra_session.specs.declared.ending.Ending.{Ending}
-use Rattle.ra_session.specs.declared.ending.Ending.TheVariants.{Done, NoMemory, NoJob, BadSet, ReadFault, SinkFault, BadProgress, BadTrace, LongTrace, SaveFault}
-use Rattle.ra_session.specs.Expected.{Expected, prints_nothing}
+use Rattle.ra_session.specs.declared.ending.Ending.TheVariants.{Done, NoMemory, NoJob, BadSet, ReadFault, SinkFault, BadProgress, BadTrace, LongTrace, SaveFault, BadDocument}
+use Rattle.ra_session.specs.Expected.{Expected, before_put, prints_nothing}
 use Rattle.ra_player.specs.Headline.{Decides, as_expected, save_failed, read_failed, Ends, whole, sink_failed, no_memory, IsFront}
 use Rattle.ra_session.specs.Closing.{Closes, Finishes, EndsBefore}
 use Rattle.ra_session.proofs.Pieces.{grown-grown, grown-nil}
@@ -85,13 +85,14 @@ module _ (e : Expected) (reads puts sink : Type 0) (old mid new : Option (List �
   ends_with_line NoMemory before finishes = cut_by_memory before finishes
   ends_with_line SinkFault before finishes = cut_by_fault before.0 before.1 finishes
   ends_with_line ReadFault before finishes = closes_to_end ReadFault (concat (take before.1.0 e.pieces)) (read_failed before.0 before.1.0 before.1.1) before.1.2 finishes
-  ends_with_line SaveFault before finishes = closes_to_end SaveFault (concat e.pieces) (save_failed before.0 before.1) before.2 finishes
+  ends_with_line SaveFault before finishes = closes_to_end SaveFault (concat (before_put e)) (save_failed before.0 before.1) before.2 finishes
   ends_with_line Done before finishes = as_told Done before.0 before.1 finishes
   ends_with_line NoJob before finishes = as_told NoJob before.0 before.1 finishes
   ends_with_line (BadSet why) before finishes = as_told (BadSet why) before.0 before.1 finishes
   ends_with_line (BadProgress why) before finishes = as_told (BadProgress why) before.0 before.1 finishes
   ends_with_line (BadTrace at why) before finishes = as_told (BadTrace at why) before.0 before.1 finishes
   ends_with_line LongTrace before finishes = as_told LongTrace before.0 before.1 finishes
+  ends_with_line (BadDocument why) before finishes = as_told (BadDocument why) before.0 before.1 finishes
 
 -- words that are no job
 pub no_job_ends : (sink : Type 0) (old new : Option (List ℕ)) (status : ℕ) → Closes 2 (last_line NoJob) old new sink status → GrewToEnd (prints_nothing NoJob) ⊥ ⊥ sink old new status

@@ -3,7 +3,7 @@ use Rattle.std.specs.Prelude.{◌≡◌, ℕ, List, ◌++◌, take}
 use Rattle.std.specs.List.{concat}
 use Rattle.ra_jobs.specs.Words.{Job, puts_of}
 use Rattle.ra_session.specs.Endings.{status_of, last_line}
-use Rattle.ra_session.specs.Expected.{Expected, IsReadBehind, prints_nothing}
+use Rattle.ra_session.specs.Expected.{Expected, IsReadBehind, before_put, prints_nothing}
 use Rattle.ra_session.specs.Outside.{Outside, GrewBy, ReadsRose, PutsRose, SinkRose}
 use Rattle.ra_session.specs.declared.ending.Ending.{Ending}
 use Rattle.ra_session.specs.declared.ending.Ending.TheVariants.{Done, NoJob, ReadFault, SaveFault}
@@ -15,7 +15,7 @@ IsFront part whole = (rest : List ℕ) × (part ++ rest ≡ whole)
 -- What decided: how the job ends, and all that is then to be printed.
 pub data Decides (e : Expected) (reads puts : Type 0) : Ending → List ℕ → Type 0 where
   as_expected : Decides e reads puts e.ending (concat e.pieces ++ last_line e.ending)
-  save_failed : puts → e.ending ≡ Done → Decides e reads puts SaveFault (concat e.pieces ++ last_line SaveFault)
+  save_failed : puts → e.ending ≡ Done → Decides e reads puts SaveFault (concat (before_put e) ++ last_line SaveFault)
   -- after some record but the end record, or before the first
   read_failed : reads → (records : ℕ) → IsReadBehind e records → Decides e reads puts ReadFault (concat (take records e.pieces) ++ last_line ReadFault)
 

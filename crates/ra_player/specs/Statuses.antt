@@ -7,14 +7,14 @@ use Rattle.ra_jobs.specs.JobWords.{job_of}
 use Rattle.ra_session.specs.Endings.{status_of, last_line}
 use Rattle.ra_session.specs.Expected.{Expected, JobSays}
 use Rattle.ra_session.specs.Outside.{Outside, GrewBy, ReadsRose, PutsRose, SinkRose, AreTold}
-use Rattle.ra_session.specs.Running.{HasSaved, deciding}
+use Rattle.ra_session.specs.Running.{IsSaved, PrintsBehindPut, HasSaved, deciding}
 use Rattle.ra_session.specs.declared.ending.Ending.{Ending}
-use Rattle.ra_session.specs.declared.ending.Ending.TheVariants.{Done, NoMemory, NoJob, BadSet, ReadFault, SinkFault, BadProgress, BadTrace, LongTrace, SaveFault}
+use Rattle.ra_session.specs.declared.ending.Ending.TheVariants.{Done, NoMemory, NoJob, BadSet, ReadFault, SinkFault, BadProgress, BadTrace, LongTrace, SaveFault, BadDocument}
 use Rattle.ra_player.specs.Headline.{PlaysAs, RefusesWords}
 
 -- the statuses that a call of `play` may answer
 abbrev pub IsStatus : ℕ → Type 0
-IsStatus s = s ≤ 9
+IsStatus s = s ≤ 10
 
 -- the set was refused
 abbrev pub IsBadSet : Ending → Type 0
@@ -30,6 +30,11 @@ IsBadProgress _ = ⊥
 abbrev pub IsBadTrace : Ending → Type 0
 IsBadTrace (BadTrace at why) = Unit {0}
 IsBadTrace _ = ⊥
+
+-- the document was refused, and not because its set file is
+abbrev pub IsBadDocument : Ending → Type 0
+IsBadDocument (BadDocument why) = Unit {0}
+IsBadDocument _ = ⊥
 
 module _ (words : List (List ℕ)) (old new : Outside) where
   -- The words are a job, and where the files that decide are told, the job says that it ends so, and the text grew by
@@ -79,11 +84,20 @@ module _ (words : List (List ℕ)) (old new : Outside) where
     pub cause : Cause ending
     pub printed : PlaysWords deciding status
 
+  -- The line behind the put was not written whole: the file has what the job says.
+  pub record PutsBeforeLine (status : ℕ) : Type 0 where
+    pub job : Job
+    pub is_job : job_of words ≡ Some job
+    pub behind : PrintsBehindPut job
+    pub cut : (status ≡ 1) ⊎ (status ≡ 5)
+    pub saved : IsSaved job old new
+
   -- What a call that answers this status leaves of the files: no name changes but the one that the words put, and that
-  -- one only where the job was done, and then it has the bytes of what is kept; or where a put of it failed.
+  -- one only where the job was done, and then it has the bytes that the job says; where a put of it failed; or where the
+  -- line behind the put was not written whole.
   pub record LeavesFiles (status : ℕ) : Type 0 where
     pub others : (name : List ℕ) → AllByRecursion (λ put. name ≢ put) (puts_in (job_of words)) → new.content name ≡ old.content name
-    pub only : (status ≡ 0) ⊎ (PutsRose (puts_in (job_of words)) old new ⊎ SameContent old.content new.content)
+    pub only : (status ≡ 0) ⊎ (PutsRose (puts_in (job_of words)) old new ⊎ (SameContent old.content new.content ⊎ PutsBeforeLine status))
     pub saved : status ≡ 0 → (job : Job) (e : Expected) → job_of words ≡ Some job → JobSays old.content job e → HasSaved job e old.content new.content
 
   -- No read of these files failed in the call, no put of the job's file where the job would be done, and no write.
@@ -112,3 +126,4 @@ module _ (words : List (List ℕ)) (old new : Outside) where
     pub trace : status ≡ 7 → EndsAsSaid reads_of IsBadTrace
     pub long : status ≡ 8 → EndsAsSaid reads_of (λ ending. ending ≡ LongTrace)
     pub save : status ≡ 9 → MeetsSaveFault
+    pub document : status ≡ 10 → EndsAsSaid reads_of IsBadDocument

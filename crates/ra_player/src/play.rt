@@ -8,7 +8,7 @@ ghost use Rattle.ra_player.specs.Statuses.{Answers, LeavesFiles};
 
 use ra_io::{Files, Sink};
 use ra_jobs::{Job, read_job};
-use ra_session::{Ending, RunFiles, check_job, finish, make_job, run_job};
+use ra_session::{Ending, RunFiles, check_job, finish, import_job, make_job, run_job};
 use std::alloc::Global;
 
 // Does a job, up to its last line.
@@ -40,6 +40,7 @@ fn do_job<F: Files, K: Sink>(alloc: Global, job: &Job<'_>, files: &mut F, out: &
         }
         Job::Check { set } => check_job(alloc, set, files, out),
         Job::Make { number } => make_job(alloc, number, out),
+        Job::Import { file, set } => import_job(alloc, file, set, files, out),
     }
 }
 
@@ -47,7 +48,8 @@ fn do_job<F: Files, K: Sink>(alloc: Global, job: &Job<'_>, files: &mut F, out: &
 /// docs/DEFINITIONS.md, "Statuses".
 ///
 /// What was printed, and why, is said by the status. No file changes but the one that the words put,
-/// and that one only with status 0, or where a put of it failed.
+/// and that one only with status 0, where a put of it failed, or where the line behind it was not
+/// written whole.
 pub fn play<F: Files, K: Sink>(alloc: Global, words: &[String], files: &mut F, out: &mut K) -> u8
     ensures answers { Answers (map string_bytes words.now)
         (outside_of (F.content files.old) (F.read_faults files.old) (F.put_faults files.old) (K.text out.old) (K.faults out.old))
