@@ -68,54 +68,47 @@ impl Pair {
     }
 }
 
-// What is told of the file that is saved after a frame at which the byte is 5, cut to each shorter length: the refusal,
-// and a frame behind it, at which the byte is 6 and 5 by turns.
-fn cuts(alloc: Global, file: &str, places: &[usize]) -> Result<Vec<u8>, Fail> {
+// How a file is damaged.
+#[derive(Clone, Copy, Debug)]
+enum Damage {
+    // It is cut to each shorter length, one after the other.
+    Cut,
+    // The lowest bit of each byte is turned, and turned back behind its refusal.
+    Flip,
+}
+
+// What is told of the file that is saved after a frame at which the byte is 5, damaged in each of these ways: the
+// refusal, and a frame behind it, at which the byte is 6 and 5 by turns.
+fn damaged(alloc: Global, file: &str, damage: Damage, places: &[usize]) -> Result<Vec<u8>, Fail> {
     let mut out = Vec::new(alloc);
     let mut pair = Pair::new(alloc, file)?;
-    take_cuts(alloc, &mut pair, places, &mut out)?;
+    take_damaged(alloc, &mut pair, damage, places, &mut out)?;
     Ok(out)
 }
 
-fn take_cuts(
+fn take_damaged(
     alloc: Global,
     pair: &mut Pair,
+    damage: Damage,
     places: &[usize],
     out: &mut Vec<u8>,
 ) -> Result<(), OutOfMemory> {
     pair.frame(5);
     pair.tried.save(alloc)?;
     let mut byte = 6u8;
-    for length in (0..pair.tried.kept().len()).rev() {
-        pair.tried.cut(length);
-        pair.tell_refusal(alloc, out)?;
-        pair.tell_frame(alloc, byte, places, out)?;
-        byte ^= 3;
-    }
-    Ok(())
-}
-
-// The same of the file with the lowest bit of each byte turned.
-fn flips(alloc: Global, file: &str, places: &[usize]) -> Result<Vec<u8>, Fail> {
-    let mut out = Vec::new(alloc);
-    let mut pair = Pair::new(alloc, file)?;
-    take_flips(alloc, &mut pair, places, &mut out)?;
-    Ok(out)
-}
-
-fn take_flips(
-    alloc: Global,
-    pair: &mut Pair,
-    places: &[usize],
-    out: &mut Vec<u8>,
-) -> Result<(), OutOfMemory> {
-    pair.frame(5);
-    pair.tried.save(alloc)?;
-    let mut byte = 6u8;
-    for at in 0..pair.tried.kept().len() {
-        pair.tried.flip(at);
-        pair.tell_refusal(alloc, out)?;
-        pair.tried.flip(at);
+    let length = pair.tried.kept().len();
+    for at in 0..length {
+        match damage {
+            Damage::Cut => {
+                pair.tried.cut(length.saturating_sub(at).saturating_sub(1));
+                pair.tell_refusal(alloc, out)?;
+            }
+            Damage::Flip => {
+                pair.tried.flip(at);
+                pair.tell_refusal(alloc, out)?;
+                pair.tried.flip(at);
+            }
+        }
         pair.tell_frame(alloc, byte, places, out)?;
         byte ^= 3;
     }
@@ -211,7 +204,7 @@ fn put_behind(
 
 #[test]
 fn each_cut_is_refused_by_its_length(rt: HostRuntime) -> Result<(), Fail> {
-    let found = cuts(rt.alloc(), THREE_HITS, &[])?;
+    let found = damaged(rt.alloc(), THREE_HITS, Damage::Cut, &[])?;
     assert_eq!(rt;
         found.as_slice(),
         wanted_cuts(rt.alloc(), 58, false)?.as_slice()
@@ -222,7 +215,7 @@ fn each_cut_is_refused_by_its_length(rt: HostRuntime) -> Result<(), Fail> {
 #[test]
 fn each_flip_is_refused_by_its_field(rt: HostRuntime) -> Result<(), Fail> {
     let file = saved(rt.alloc(), THREE_HITS, &[At(5), Save])?;
-    let found = flips(rt.alloc(), THREE_HITS, &[])?;
+    let found = damaged(rt.alloc(), THREE_HITS, Damage::Flip, &[])?;
     assert_eq!(rt;
         found.as_slice(),
         wanted_flips(rt.alloc(), &file, false)?.as_slice()
@@ -232,7 +225,7 @@ fn each_flip_is_refused_by_its_field(rt: HostRuntime) -> Result<(), Fail> {
 
 #[test]
 fn counts_priors_and_lines_go_on_behind_a_cut(rt: HostRuntime) -> Result<(), Fail> {
-    let found = cuts(rt.alloc(), MOVING, &PLACES)?;
+    let found = damaged(rt.alloc(), MOVING, Damage::Cut, &PLACES)?;
     assert_eq!(rt;
         found.as_slice(),
         wanted_cuts(rt.alloc(), 74, true)?.as_slice()
@@ -243,7 +236,7 @@ fn counts_priors_and_lines_go_on_behind_a_cut(rt: HostRuntime) -> Result<(), Fai
 #[test]
 fn counts_priors_and_lines_go_on_behind_a_flip(rt: HostRuntime) -> Result<(), Fail> {
     let file = saved(rt.alloc(), MOVING, &[At(5), Save])?;
-    let found = flips(rt.alloc(), MOVING, &PLACES)?;
+    let found = damaged(rt.alloc(), MOVING, Damage::Flip, &PLACES)?;
     assert_eq!(rt;
         found.as_slice(),
         wanted_flips(rt.alloc(), &file, true)?.as_slice()

@@ -17,7 +17,7 @@ use std::sync::ledger::{Blank, Ledger};
 use std::test::Fail;
 
 /// The set of a file that is accepted.
-pub fn set_of(alloc: Global, file: &str) -> Result<Set, Fail>
+pub(crate) fn set_of(alloc: Global, file: &str) -> Result<Set, Fail>
     ensures limits { IfOk result (λ set. IsWithinLimits (set_contents set)) }
     ensures spelled { IfOk result (λ set. IsSpelled (set_contents set)) }
 {
@@ -36,7 +36,8 @@ pub struct Played {
 }
 
 impl Played {
-    pub fn new(alloc: Global, file: &str) -> Result<Box<Played>, Fail> {
+    /// The set of a file over 256 bytes that are 0, before its first frame. No bytes are kept.
+    pub(crate) fn new(alloc: Global, file: &str) -> Result<Box<Played>, Fail> {
         let set = set_of(alloc, file)?;
         let runtime = Runtime::new(alloc, set, 256)?;
         let kept = Vec::new(alloc);
@@ -44,21 +45,23 @@ impl Played {
         Ok(played)
     }
 
-    pub fn runtime(&self) -> &Runtime {
+    /// The runtime.
+    pub(crate) fn runtime(&self) -> &Runtime {
         &self.runtime
     }
 
-    pub fn kept(&self) -> &[u8] {
+    /// The bytes that are kept.
+    pub(crate) fn kept(&self) -> &[u8] {
         self.kept.as_slice()
     }
 
     /// Writes one byte.
-    pub fn write(&mut self, at: u8, byte: u8) {
+    pub(crate) fn write(&mut self, at: u8, byte: u8) {
         self.runtime.write(u32::from(at), &[byte]);
     }
 
     /// Takes a frame.
-    pub fn frame(&mut self) {
+    pub(crate) fn frame(&mut self) {
         self.take_frame::<Brand>(Blank::new(1));
     }
 
@@ -72,25 +75,25 @@ impl Played {
     }
 
     /// Keeps the bytes of a save.
-    pub fn save(&mut self, alloc: Global) -> Result<(), OutOfMemory> {
+    pub(crate) fn save(&mut self, alloc: Global) -> Result<(), OutOfMemory> {
         self.kept = self.runtime.save(alloc)?;
         Ok(())
     }
 
     /// Replaces one of the kept bytes.
-    pub fn put(&mut self, at: usize, byte: u8) {
+    pub(crate) fn put(&mut self, at: usize, byte: u8) {
         if let Some(place) = self.kept.get_mut(at) {
             *place = byte;
         }
     }
 
     /// Keeps so many of the kept bytes.
-    pub fn cut(&mut self, count: usize) {
+    pub(crate) fn cut(&mut self, count: usize) {
         self.kept.truncate(count);
     }
 
     /// Closes the kept bytes anew with their sum.
-    pub fn close(&mut self) -> Result<(), OutOfMemory> {
+    pub(crate) fn close(&mut self) -> Result<(), OutOfMemory> {
         let before = self.kept.len().saturating_sub(16);
         self.kept.truncate(before);
         let sum = Md5::digest(self.kept.as_slice());
@@ -99,12 +102,12 @@ impl Played {
     }
 
     /// Restores the kept bytes.
-    pub fn restore(&mut self) -> Result<(), ProgressRefused> {
+    pub(crate) fn restore(&mut self) -> Result<(), ProgressRefused> {
         self.runtime.restore(self.kept.as_slice())
     }
 
     /// How many of the files with one bit of the kept bytes turned are accepted.
-    pub fn accepted_flips(&mut self) -> u32 {
+    pub(crate) fn accepted_flips(&mut self) -> u32 {
         let mut accepted = 0u32;
         for at in 0..self.kept.len() {
             self.flip(at);
@@ -117,7 +120,7 @@ impl Played {
     }
 
     /// Turns the lowest bit of one of the kept bytes.
-    pub fn flip(&mut self, at: usize) {
+    pub(crate) fn flip(&mut self, at: usize) {
         if let Some(place) = self.kept.get_mut(at) {
             *place ^= 1;
         }

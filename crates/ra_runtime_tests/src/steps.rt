@@ -40,7 +40,7 @@ pub enum Step {
 }
 
 /// What the steps tell, one after the other, over a set of this file.
-pub fn told(alloc: Global, file: &str, steps: &[Step]) -> Result<Vec<u8>, Fail> {
+pub(crate) fn told(alloc: Global, file: &str, steps: &[Step]) -> Result<Vec<u8>, Fail> {
     let mut out = Vec::new(alloc);
     let mut played = Played::new(alloc, file)?;
     take_all(alloc, &mut played, steps, &mut out)?;
@@ -48,7 +48,7 @@ pub fn told(alloc: Global, file: &str, steps: &[Step]) -> Result<Vec<u8>, Fail> 
 }
 
 /// The bytes of the save that the steps keep, over a set of this file.
-pub fn saved(alloc: Global, file: &str, steps: &[Step]) -> Result<Vec<u8>, Fail> {
+pub(crate) fn saved(alloc: Global, file: &str, steps: &[Step]) -> Result<Vec<u8>, Fail> {
     let mut out = Vec::new(alloc);
     let mut played = Played::new(alloc, file)?;
     take_and_keep(alloc, &mut played, steps, &mut out)?;
@@ -163,7 +163,7 @@ fn tell_words(
 }
 
 /// The number at a place of bytes, with a blank behind it.
-pub fn put_word(
+pub(crate) fn put_word(
     alloc: Global,
     bytes: &[u8],
     at: usize,
@@ -200,7 +200,11 @@ fn tell_same(alloc: Global, played: &Played, out: &mut Vec<u8>) -> Result<(), Ou
 }
 
 /// Tells a shape.
-pub fn put_shape(alloc: Global, shape: &Shape, out: &mut Vec<u8>) -> Result<(), OutOfMemory> {
+pub(crate) fn put_shape(
+    alloc: Global,
+    shape: &Shape,
+    out: &mut Vec<u8>,
+) -> Result<(), OutOfMemory> {
     let counts = format!(in alloc; "cells {} priors {}\n", shape.cells, shape.priors)?;
     put(out, counts.as_bytes())?;
     for item in shape.items.as_slice() {

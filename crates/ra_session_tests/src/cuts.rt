@@ -54,66 +54,68 @@ fn other_cut(alloc: Global, cuts: &Cuts<'_>) -> Result<Option<usize>, OutOfMemor
     Ok(None)
 }
 
+// Each record of three traces: hits in a row, a save that is restored, and what the forest tells.
+const ROWS: [Cuts<'static>; 3] = [
+    Cuts {
+        set: THREE_HITS,
+        trace: FIVES,
+        text: b"unlock 4 1\n",
+        records: &[
+            (9, 0),
+            (10, 0),
+            (18, 0),
+            (19, 0),
+            (20, 0),
+            (28, 0),
+            (29, 0),
+            (37, 0),
+            (38, 11),
+        ],
+    },
+    Cuts {
+        set: b"A 1 d0xH0010=1_0xH0010=2\n",
+        trace: b"RATR\x01\x40\0\0\0W\x10\0\0\0\x01\0\x01FS\0W\x10\0\0\0\x01\0\x05FW\x10\0\0\0\x01\0\x02R\0FE",
+        text: b"unlock 1 1\n",
+        records: &[
+            (9, 0),
+            (17, 0),
+            (18, 0),
+            (20, 0),
+            (28, 0),
+            (29, 0),
+            (37, 0),
+            (39, 0),
+            (40, 11),
+        ],
+    },
+    Cuts {
+        set: FOREST,
+        trace: FOREST_TRACE,
+        text: FOREST_TEXT,
+        records: &[
+            (9, 0),
+            (10, 0),
+            (11, 23),
+            (19, 23),
+            (27, 23),
+            (35, 23),
+            (36, 51),
+            (37, 69),
+            (45, 69),
+            (46, 90),
+            (54, 90),
+            (55, 90),
+            (63, 90),
+            (72, 90),
+            (73, 103),
+            (74, 140),
+        ],
+    },
+];
+
 #[test]
 fn a_cut_trace_prints_what_lies_before_the_cut(rt: HostRuntime) -> Result<(), OutOfMemory> {
-    let rows = [
-        Cuts {
-            set: THREE_HITS,
-            trace: FIVES,
-            text: b"unlock 4 1\n",
-            records: &[
-                (9, 0),
-                (10, 0),
-                (18, 0),
-                (19, 0),
-                (20, 0),
-                (28, 0),
-                (29, 0),
-                (37, 0),
-                (38, 11),
-            ],
-        },
-        Cuts {
-            set: b"A 1 d0xH0010=1_0xH0010=2\n",
-            trace: b"RATR\x01\x40\0\0\0W\x10\0\0\0\x01\0\x01FS\0W\x10\0\0\0\x01\0\x05FW\x10\0\0\0\x01\0\x02R\0FE",
-            text: b"unlock 1 1\n",
-            records: &[
-                (9, 0),
-                (17, 0),
-                (18, 0),
-                (20, 0),
-                (28, 0),
-                (29, 0),
-                (37, 0),
-                (39, 0),
-                (40, 11),
-            ],
-        },
-        Cuts {
-            set: FOREST,
-            trace: FOREST_TRACE,
-            text: FOREST_TEXT,
-            records: &[
-                (9, 0),
-                (10, 0),
-                (11, 23),
-                (19, 23),
-                (27, 23),
-                (35, 23),
-                (36, 51),
-                (37, 69),
-                (45, 69),
-                (46, 90),
-                (54, 90),
-                (55, 90),
-                (63, 90),
-                (72, 90),
-                (73, 103),
-                (74, 140),
-            ],
-        },
-    ];
-    for cuts in &rows {
+    for cuts in &ROWS {
         assert_eq!(rt; other_cut(rt.alloc(), cuts)?, None, "{:?}", cuts.set);
     }
     Ok(())

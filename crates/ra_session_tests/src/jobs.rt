@@ -21,7 +21,7 @@ pub const FIVES: &[u8] =
     b"RATR\x01\x20\0\0\0FW\x10\0\0\0\x01\0\x05FFW\x10\0\0\0\x01\0\0FW\x10\0\0\0\x01\0\x05FE";
 
 /// The status of a run of these files.
-pub fn status_of<F: Files, K: Sink>(
+pub(crate) fn status_of<F: Files, K: Sink>(
     alloc: Global,
     run: &RunFiles<'_>,
     files: &mut F,
@@ -32,7 +32,7 @@ pub fn status_of<F: Files, K: Sink>(
 }
 
 /// Whether a run of these files answers this status and prints this text.
-pub fn ends_so<F: Files>(
+pub(crate) fn ends_so<F: Files>(
     alloc: Global,
     run: &RunFiles<'_>,
     files: &mut F,
@@ -44,7 +44,7 @@ pub fn ends_so<F: Files>(
 }
 
 /// Files of a set and a trace.
-pub fn files_of(alloc: Global, set: &[u8], trace: &[u8]) -> Result<SureFiles, OutOfMemory> {
+pub(crate) fn files_of(alloc: Global, set: &[u8], trace: &[u8]) -> Result<SureFiles, OutOfMemory> {
     let mut files = SureFiles::new(alloc)?;
     files.add("S", set)?;
     files.add("T", trace)?;
@@ -52,7 +52,7 @@ pub fn files_of(alloc: Global, set: &[u8], trace: &[u8]) -> Result<SureFiles, Ou
 }
 
 /// Whether a run of a set over a trace answers this status and prints this text.
-pub fn run_ends_so(
+pub(crate) fn run_ends_so(
     alloc: Global,
     set: &[u8],
     trace: &[u8],
@@ -64,7 +64,7 @@ pub fn run_ends_so(
 }
 
 /// The place of the first set whose run over its trace does not answer the status, or not print its text.
-pub fn other_run(
+pub(crate) fn other_run(
     alloc: Global,
     status: u8,
     rows: &[(&[u8], &[u8], &[u8])],
@@ -78,7 +78,7 @@ pub fn other_run(
 }
 
 /// Whether a check of a set answers this status and prints this text.
-pub fn check_ends_so(
+pub(crate) fn check_ends_so(
     alloc: Global,
     set: &[u8],
     status: u8,
