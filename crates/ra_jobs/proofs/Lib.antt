@@ -2,6 +2,7 @@ pub mod BothShape
 pub mod CheckShape
 pub mod CommandLemmas
 pub mod ImportShape
+pub mod LintShape
 pub mod MakeShape
 pub mod NumberWords
 pub mod RestoreShape

@@ -5,11 +5,12 @@ use Rattle.std.proofs.lemmas.Bool.{not-true}
 use Rattle.std.proofs.lemmas.Slice.Eq.{bytes_eq-Decides}
 use Rattle.clap.specs.Words.{Text, takes}
 use Rattle.ra_jobs.specs.Words.{Job, is_name}
-use Rattle.ra_jobs.specs.JobWords.{is_number, job_of, run_of, check_of, make_of, import_of, options_of}
+use Rattle.ra_jobs.specs.JobWords.{is_number, job_of, run_of, check_of, make_of, import_of, lint_of, options_of}
 use Rattle.ra_jobs.specs.JobCommand.{player_app, job_read}
 use Rattle.ra_jobs.proofs.BothShape as both
 use Rattle.ra_jobs.proofs.CheckShape as check
 use Rattle.ra_jobs.proofs.ImportShape as import_
+use Rattle.ra_jobs.proofs.LintShape as lint
 use Rattle.ra_jobs.proofs.MakeShape as make
 use Rattle.ra_jobs.proofs.NumberWords.{dashed, nothing}
 use Rattle.ra_jobs.proofs.RestoreShape as restore
@@ -86,6 +87,12 @@ import_is (c ∷ cs) (d ∷ ds) s t =
     let hd : (d == 45) ≡ false = not-true (d == 45) t in
     record { taken = import_.taken c d cs ds hc hd; read = import_.read c d cs ds hc hd ∙ rw (hc, hd) refl }
 
+lint_is : (set : Text) → is_name set ≡ true → IsTaken (codes "lint" ∷ set ∷ [])
+lint_is [] s = cc
+lint_is (c ∷ cs) s =
+    let hc : (c == 45) ≡ false = not-true (c == 45) s in
+    record { taken = lint.taken c cs hc; read = lint.read c cs hc ∙ rw hc refl }
+
 -- one option with its file
 one_option : (option file : Text) → is_some (options_of (option ∷ file ∷ [])) ≡ true → (is_name file ≡ true) × ((option ≡ codes "--restore") ⊎ (option ≡ codes "--save"))
 one_option option file h = search (rules, bytes_eq-Decides option (codes "--restore"), bytes_eq-Decides option (codes "--save"))
@@ -140,6 +147,11 @@ import_words (file ∷ []) h = cc
 import_words (file ∷ set ∷ []) h = let p = two_names file set h in import_is file set p.0 p.1
 import_words (file ∷ set ∷ more ∷ words) h = cc
 
+lint_words : (words : List Text) → is_some (lint_of words) ≡ true → IsTaken (codes "lint" ∷ words)
+lint_words [] h = cc
+lint_words (set ∷ []) h = lint_is set (search rules)
+lint_words (set ∷ more ∷ words) h = cc
+
 -- the words begin with this name, and those behind it are of this job
 abbrev Begins : Text → (List Text → Option Job) → Text → List Text → Type 0
 Begins name of word words = (word ≡ name) × (is_some (of words) ≡ true)
@@ -156,21 +168,31 @@ begun : (name word : Text) (of : List Text → Option Job) (words : List Text) �
 begun name word of words taken r = subst (λ (w : Text). IsTaken (w ∷ words)) (sym r.0) (taken words r.1)
 
 -- the words of a job, by their name: one name after the other
-by_import : (word : Text) (words : List Text) → is_some (if bytes_eq word (codes "import") then import_of words else None) ≡ true → IsTaken (word ∷ words)
-by_import word words h = elim (choose (codes "import") word import_of words None (bytes_eq word (codes "import")) refl h) [
-  | inl r ↦ begun (codes "import") word import_of words import_words r
+by_lint : (word : Text) (words : List Text) → is_some (if bytes_eq word (codes "lint") then lint_of words else None) ≡ true → IsTaken (word ∷ words)
+by_lint word words h = elim (choose (codes "lint") word lint_of words None (bytes_eq word (codes "lint")) refl h) [
+  | inl r ↦ begun (codes "lint") word lint_of words lint_words r
   | inr e ↦ cc
 ]
 
+-- the job that words behind these names ask for
+abbrev later_job : Text → List Text → Option Job
+later_job word words = if bytes_eq word (codes "import") then import_of words else if bytes_eq word (codes "lint") then lint_of words else None
+
+by_import : (word : Text) (words : List Text) → is_some (later_job word words) ≡ true → IsTaken (word ∷ words)
+by_import word words h = elim (choose (codes "import") word import_of words _ (bytes_eq word (codes "import")) refl h) [
+  | inl r ↦ begun (codes "import") word import_of words import_words r
+  | inr e ↦ by_lint word words e
+]
+
 by_make : (word : Text) (words : List Text)
-    → is_some (if bytes_eq word (codes "make") then make_of words else if bytes_eq word (codes "import") then import_of words else None) ≡ true → IsTaken (word ∷ words)
+    → is_some (if bytes_eq word (codes "make") then make_of words else later_job word words) ≡ true → IsTaken (word ∷ words)
 by_make word words h = elim (choose (codes "make") word make_of words _ (bytes_eq word (codes "make")) refl h) [
   | inl r ↦ begun (codes "make") word make_of words make_words r
   | inr e ↦ by_import word words e
 ]
 
 by_check : (word : Text) (words : List Text)
-    → is_some (if bytes_eq word (codes "check") then check_of words else if bytes_eq word (codes "make") then make_of words else if bytes_eq word (codes "import") then import_of words else None) ≡ true
+    → is_some (if bytes_eq word (codes "check") then check_of words else if bytes_eq word (codes "make") then make_of words else later_job word words) ≡ true
     → IsTaken (word ∷ words)
 by_check word words h = elim (choose (codes "check") word check_of words _ (bytes_eq word (codes "check")) refl h) [
   | inl r ↦ begun (codes "check") word check_of words check_words r

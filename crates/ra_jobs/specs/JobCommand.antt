@@ -2,7 +2,7 @@
 use Rattle.std.specs.Prelude.{Option, Some, None, true, List, codes, bytes_eq, if◌then◌else◌, option_map, option_and_then}
 use Rattle.clap.specs.Words.{App, Row, Rule, Text, new_app, new_rule, with_rule, with_subcommand, first_of, subcommand_of}
 use Rattle.clap.specs.declared.builder.action.ArgAction.TheVariants.{Set}
-use Rattle.ra_jobs.specs.Words.{Job, Run, Check, Make, Import}
+use Rattle.ra_jobs.specs.Words.{Job, Run, Check, Make, Import, Lint}
 use Rattle.ra_jobs.specs.JobWords.{number_of}
 
 -- a word that has to be there
@@ -34,9 +34,9 @@ bare_app = let app = new_app (codes "ra_player") in record app { top = record ap
 -- the command with its jobs
 abbrev pub player_app : App
 player_app =
-    with_subcommand (with_subcommand (with_subcommand (with_subcommand bare_app run_app.top)
+    with_subcommand (with_subcommand (with_subcommand (with_subcommand (with_subcommand bare_app run_app.top)
     (short_app (codes "check") (codes "SET")).top) (short_app (codes "make") (codes "N")).top)
-    (pair_app (codes "import") (codes "FILE") (codes "SET")).top
+    (pair_app (codes "import") (codes "FILE") (codes "SET")).top) (short_app (codes "lint") (codes "SET")).top
 
 -- a run of two files and of those options that are there
 abbrev pub run_with : Option Text → Option Text → Option Text → Option Text → Option Job
@@ -61,6 +61,10 @@ abbrev pub import_given : List Row → Option Job
 import_given rows =
     option_and_then (λ file. option_map (Import file) (first_of (codes "SET") rows)) (first_of (codes "FILE") rows)
 
+-- the warnings on the value that was given
+abbrev pub lint_given : List Row → Option Job
+lint_given rows = option_map Lint (first_of (codes "SET") rows)
+
 -- the job of a name, with the values that were given
 abbrev pub job_given : Text → List Row → Option Job
 job_given name rows =
@@ -68,6 +72,7 @@ job_given name rows =
     else if bytes_eq name (codes "check") then check_given rows
     else if bytes_eq name (codes "make") then make_given rows
     else if bytes_eq name (codes "import") then import_given rows
+    else if bytes_eq name (codes "lint") then lint_given rows
     else None
 
 -- the job that clap reads of the words

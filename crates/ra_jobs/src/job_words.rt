@@ -37,6 +37,10 @@ pub enum Job<'a> {
         file: &'a str,
         set: &'a str,
     },
+    /// To warn of what the conditions of a set never or always do.
+    Lint {
+        set: &'a str,
+    },
 }
 
 // Whether a word names a file.
@@ -124,6 +128,16 @@ fn is_import(words: &[String]) -> bool
     }
 }
 
+// Whether the words behind `lint` are a set.
+fn is_lint(words: &[String]) -> bool
+    ensures { result ≡ is_some (spec.lint_of (map string_bytes words.now)) }
+{
+    match words {
+        [set] => is_name(set.as_str()),
+        _ => false,
+    }
+}
+
 // Whether the words are a job, by their count and places.
 fn is_job(words: &[String]) -> bool
     ensures { result ≡ is_some (job_of (map string_bytes words.now)) }
@@ -136,6 +150,7 @@ fn is_job(words: &[String]) -> bool
         "check" => is_check(behind),
         "make" => is_make(behind),
         "import" => is_import(behind),
+        "lint" => is_lint(behind),
         _ => false,
     }
 }
@@ -241,7 +256,8 @@ fn player_command<'a>(alloc: Global) -> Result<Command<'a>, AllocError>
     let check = with_short(alloc, run, "check", "SET")?;
     let make = with_short(alloc, check, "make", "N")?;
     let import = with_pair(alloc, make, "import", "FILE", "SET")?;
-    Ok(import)
+    let lint = with_short(alloc, import, "lint", "SET")?;
+    Ok(lint)
 }
 
 // What clap reads of the words.
@@ -303,6 +319,14 @@ fn import_given<'a>(given: &ArgMatches<'a>) -> Option<Job<'a>>
     Some(Job::Import { file, set })
 }
 
+// The warnings on the value that was given.
+fn lint_given<'a>(given: &ArgMatches<'a>) -> Option<Job<'a>>
+    ensures { option_map job_contents result ≡ command.lint_given (rows_of (found_of given.now)) }
+{
+    let set = value_of(given, "SET")?;
+    Some(Job::Lint { set })
+}
+
 // The job of a name, with the values that were given.
 fn job_given<'a>(name: &str, given: &ArgMatches<'a>) -> Option<Job<'a>>
     ensures { option_map job_contents result ≡ command.job_given name.now (rows_of (found_of given.now)) }
@@ -312,6 +336,7 @@ fn job_given<'a>(name: &str, given: &ArgMatches<'a>) -> Option<Job<'a>>
         "check" => check_given(given),
         "make" => make_given(given),
         "import" => import_given(given),
+        "lint" => lint_given(given),
         _ => None,
     }
 }
@@ -371,7 +396,7 @@ mod tests {
 
     #[test]
     fn each_shape_is_a_job(rt: HostRuntime) -> Result<(), OutOfMemory> {
-        let rows: [(&[&str], Job<'_>); 10] = [
+        let rows: [(&[&str], Job<'_>); 11] = [
             (&["run", "S", "T"], run(None, None)),
             (&["run", "S", "T", "--restore", "P"], run(Some("P"), None)),
             (&["run", "S", "T", "--save", "Q"], run(None, Some("Q"))),
@@ -381,6 +406,7 @@ mod tests {
             ),
             (&["check", "S"], Job::Check { set: "S" }),
             (&["check", "a b=-"], Job::Check { set: "a b=-" }),
+            (&["lint", "S"], Job::Lint { set: "S" }),
             (&["make", "0"], Job::Make { number: 0 }),
             (&["make", "17"], Job::Make { number: 17 }),
             (&["make", "4294967295"], Job::Make { number: 4294967295 }),
@@ -400,7 +426,7 @@ mod tests {
 
     #[test]
     fn other_words_are_no_job(rt: HostRuntime) -> Result<(), OutOfMemory> {
-        let rows: [&[&str]; 34] = [
+        let rows: [&[&str]; 37] = [
             &[],
             &["run", "S"],
             &["run", "S", "T", "--save"],
@@ -430,6 +456,9 @@ mod tests {
             &["make", "+7"],
             &["make", "-7"],
             &["Run", "S", "T"],
+            &["lint"],
+            &["lint", ""],
+            &["lint", "S", "T"],
             &["import"],
             &["import", "F"],
             &["import", "F", "S", "T"],
