@@ -25,6 +25,8 @@ never_equal = record {
   }) ∷ [];
   script = None;
   digest = [];
+  item_names = [];
+  script_name = None;
 }
 
 never_equal_row : warnings_of never_equal ≡ warning 0 Trigger 0 0 Never ∷ warning 0 Trigger 0 0 NoUnlock ∷ []
@@ -41,6 +43,8 @@ nibbles = record {
   }) ∷ [];
   script = None;
   digest = [];
+  item_names = [];
+  script_name = None;
 }
 
 nibbles_row : warnings_of nibbles ≡ warning 0 Trigger 0 0 Always ∷ warning 0 Trigger 0 1 Never ∷ warning 0 Trigger 0
