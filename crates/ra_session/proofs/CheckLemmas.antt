@@ -1,10 +1,11 @@
--- A job that prints one line: a check of a set, and a workload.
-use Rattle.std.proofs.Common.{◌≡◌, ap, sym, subst, refl, ◌∙◌, ℕ, take, List, [], ◌∷◌}
+-- A job that prints one text: a line, or a text of a set.
+use Rattle.std.proofs.Common.{◌≡◌, ap, sym, subst, refl, ◌∙◌, ℕ, take, List, [], ◌∷◌, Option}
 use Rattle.std.specs.List.{concat}
 use Rattle.ra_set.proofs.AnswerLemmas.{one-refusal, set-not_refused, same-set}
 use Rattle.ra_set.specs.Contents.{SetContents}
-use Rattle.ra_jobs.specs.Words.{Job, Check}
-use Rattle.ra_session.specs.Expected.{Expected, JobSays, CheckSays, refuses_set, counts, check_line, prints_line, prints_nothing}
+use Rattle.ra_jobs.specs.Words.{Job, Check, Lint, reads_of}
+use Rattle.ra_session.specs.Expected.{Expected, JobSays, SetSays, refuses_set, tells, check_line, prints_line, prints_nothing}
+use Rattle.ra_session.specs.Linting.{lint_text}
 use Rattle.ra_session.specs.Closing.{EndsBefore}
 use Rattle.ra_session.specs.Failures.{ending_of_set}
 use Rattle.ra_session.specs.Loading.{HasNoSet, IsTaken}
@@ -17,7 +18,7 @@ use Rattle.ra_session.specs.declared.failures.SetFailed.{SetFailed}
 use Rattle.ra_session.specs.declared.failures.SetFailed.TheVariants as set_failed
 use Rattle.ra_session.proofs.Pieces.{grown-nil}
 use Rattle.ra_session.proofs.Parts.{part_none}
-use Rattle.ra_session.proofs.ReadLemmas.{check_read}
+use Rattle.ra_session.proofs.ReadLemmas.{set_told}
 use Rattle.ra_session.proofs.LoadLemmas.{never_bad}
 use Rattle.ra_session.proofs.RunLemmas.{any_first, file_of, set_read_of}
 
@@ -56,46 +57,70 @@ ran_without_memory job old new same = record {
   counted = tt;
 }
 
--- ---- a check
+-- ---- a text of a set
 
-module _ (set : List ℕ) (old new : Outside) where
-  -- the set decides each ending of a check
-  check_decides : (ending : Ending) → deciding ending (Check set) ≡ set ∷ []
-  check_decides (BadSet why) = refl
-  check_decides (BadProgress why) = refl
-  check_decides _ = refl
+-- A job reads one set and no other file, and prints a text of its contents.
+pub record TellsSet (job : Job) (text : SetContents → List ℕ) (set : List ℕ) : Type 0 where
+  pub reads : reads_of job ≡ set ∷ []
+  pub decides : (ending : Ending) → deciding ending job ≡ set ∷ []
+  pub says : (content : List ℕ → Option (List ℕ)) (e : Expected) → JobSays content job e → SetSays text content set e
+  pub said : (content : List ℕ → Option (List ℕ)) (e : Expected) → SetSays text content set e → JobSays content job e
 
-  no_set_prints : (e : Expected) (failed : SetFailed) → HasNoSet (old.content set) (Rose (old.read_faults set) (new.read_faults set)) failed → CheckSays old.content set e → new.text ≡ old.text → PrintsSoFar (Check set) old new (ending_of_set failed) e
+-- the set decides each ending of a check
+check_decides : (set : List ℕ) (ending : Ending) → deciding ending (Check set) ≡ set ∷ []
+check_decides set (BadSet why) = refl
+check_decides set (BadProgress why) = refl
+check_decides set _ = refl
+
+pub check_tells : (set : List ℕ) → TellsSet (Check set) check_line set
+check_tells set = record { reads = refl; decides = check_decides set; says = λ content e says. says; said = λ content e says. says }
+
+-- and of the warnings on it
+lint_decides : (set : List ℕ) (ending : Ending) → deciding ending (Lint set) ≡ set ∷ []
+lint_decides set (BadSet why) = refl
+lint_decides set (BadProgress why) = refl
+lint_decides set _ = refl
+
+pub lint_tells : (set : List ℕ) → TellsSet (Lint set) lint_text set
+lint_tells set = record { reads = refl; decides = lint_decides set; says = λ content e says. says; said = λ content e says. says }
+
+module _ (job : Job) (text : SetContents → List ℕ) (set : List ℕ) (tells_set : TellsSet job text set) (old new : Outside) where
+  rose_here : Rose (old.read_faults set) (new.read_faults set) → ReadsRose (set ∷ []) old new
+  rose_here rose = any_first _ set [] rose
+
+  no_set_prints : (e : Expected) (failed : SetFailed) → HasNoSet (old.content set) (Rose (old.read_faults set) (new.read_faults set)) failed → SetSays text old.content set e → new.text ≡ old.text → PrintsSoFar job old new (ending_of_set failed) e
   no_set_prints e set_failed.Memory lacks says same = part_none old.text new.text (concat e.pieces) same
   no_set_prints e set_failed.Read lacks says same =
-      (subst (λ names. ReadsRose names old new) (sym (check_decides e.ending)) (any_first _ set [] lacks), (0, check_read old.content set e says, same ∙ sym (grown-nil old.text)))
+      (subst (λ names. ReadsRose names old new) (sym (tells_set.decides e.ending)) (rose_here lacks), (0, set_told text old.content set e says, same ∙ sym (grown-nil old.text)))
   no_set_prints e (set_failed.Refused why) lacks (refuses_set file found told refuses) same = (ap BadSet (one-refusal (take 4194305 file) found why refuses (lacks file told)), same ∙ sym (grown-nil old.text))
-  no_set_prints e (set_failed.Refused why) lacks (counts file c told is) same = absurd (set-not_refused (take 4194305 file) c why (set_read_of (take 4194305 file) file c refl is) (lacks file told))
+  no_set_prints e (set_failed.Refused why) lacks (tells file c told is) same = absurd (set-not_refused (take 4194305 file) c why (set_read_of (take 4194305 file) file c refl is) (lacks file told))
 
-  no_set_said : (failed : SetFailed) → HasNoSet (old.content set) (Rose (old.read_faults set) (new.read_faults set)) failed → IsTold (ending_of_set failed) → AreTold old.content (deciding (ending_of_set failed) (Check set)) → (e : Expected) × CheckSays old.content set e
+  no_set_said : (failed : SetFailed) → HasNoSet (old.content set) (Rose (old.read_faults set) (new.read_faults set)) failed → IsTold (ending_of_set failed) → AreTold old.content (set ∷ []) → (e : Expected) × SetSays text old.content set e
   no_set_said (set_failed.Refused why) lacks is told = let file = file_of old.content set told.0 in (prints_nothing (BadSet why), refuses_set file.0 why file.1 (lacks file.0 file.1))
   no_set_said set_failed.Memory lacks is told = absurd is
   no_set_said set_failed.Read lacks is told = absurd is
 
-  no_set_counted : (failed : SetFailed) → HasNoSet (old.content set) (Rose (old.read_faults set) (new.read_faults set)) failed → IsCounted (Check set) old new (ending_of_set failed)
-  no_set_counted set_failed.Read lacks = any_first _ set [] lacks
+  no_set_counted : (failed : SetFailed) → HasNoSet (old.content set) (Rose (old.read_faults set) (new.read_faults set)) failed → IsCounted job old new (ending_of_set failed)
+  no_set_counted set_failed.Read lacks = subst (λ names. ReadsRose names old new) (sym tells_set.reads) (rose_here lacks)
   no_set_counted set_failed.Memory lacks = tt
   no_set_counted (set_failed.Refused why) lacks = tt
 
-  -- a check that has lacks set
-  pub checked_no_set : (failed : SetFailed) (ending : Ending) → ending ≡ ending_of_set failed → HasNoSet (old.content set) (Rose (old.read_faults set) (new.read_faults set)) failed → new.text ≡ old.text → Ran (Check set) old new ending
-  checked_no_set failed ending is lacks same = subst (Ran (Check set) old new) (sym is) (record {
-    printed = λ e says. no_set_prints e failed lacks says same;
-    said = λ told files. no_set_said failed lacks told files;
+  -- a job that has no set
+  pub told_no_set : (failed : SetFailed) (ending : Ending) → ending ≡ ending_of_set failed → HasNoSet (old.content set) (Rose (old.read_faults set) (new.read_faults set)) failed → new.text ≡ old.text → Ran job old new ending
+  told_no_set failed ending is lacks same = subst (Ran job old new) (sym is) (record {
+    printed = λ e says. no_set_prints e failed lacks (tells_set.says old.content e says) same;
+    said = λ told files.
+        let so = no_set_said failed lacks told (subst (AreTold old.content) (tells_set.decides (ending_of_set failed)) files) in
+        (so.0, tells_set.said old.content so.0 so.1);
     counted = no_set_counted failed lacks;
   })
 
-  check_says : (c : SetContents) → IsTaken (old.content set) c → (e : Expected) → CheckSays old.content set e → e ≡ prints_line (check_line c)
-  check_says c taken e (refuses_set file why told refuses) = absurd (never_bad (old.content set) c taken file why told refuses)
-  check_says c taken e (counts file d told is) = ap (λ (s : SetContents). prints_line (check_line s)) (same-set file d c is (taken.is_set file told))
+  set_says : (c : SetContents) → IsTaken (old.content set) c → (e : Expected) → SetSays text old.content set e → e ≡ prints_line (text c)
+  set_says c taken e (refuses_set file why told refuses) = absurd (never_bad (old.content set) c taken file why told refuses)
+  set_says c taken e (tells file d told is) = ap (λ (s : SetContents). prints_line (text s)) (same-set file d c is (taken.is_set file told))
 
-  -- a check whose set was accepted
-  pub checked : (c : SetContents) (ending : Ending) → IsTaken (old.content set) c → EndsBefore (prints_line (check_line c)) ⊥ ⊥ (SinkRose old new) ending old.text new.text → Ran (Check set) old new ending
-  checked c ending taken before = ran_line (Check set) old new (prints_line (check_line c)) refl ending (check_says c taken) (λ told.
-      let file = file_of old.content set (subst (AreTold old.content) (check_decides ending) told).0 in
-      (prints_line (check_line c), counts file.0 c file.1 (taken.is_set file.0 file.1))) before
+  -- a job whose set was accepted
+  pub told_set : (c : SetContents) (ending : Ending) → IsTaken (old.content set) c → EndsBefore (prints_line (text c)) ⊥ ⊥ (SinkRose old new) ending old.text new.text → Ran job old new ending
+  told_set c ending taken before = ran_line job old new (prints_line (text c)) refl ending (λ e says. set_says c taken e (tells_set.says old.content e says)) (λ told.
+      let file = file_of old.content set (subst (AreTold old.content) (tells_set.decides ending) told).0 in
+      (prints_line (text c), tells_set.said old.content (prints_line (text c)) (tells file.0 c file.1 (taken.is_set file.0 file.1)))) before

@@ -12,7 +12,7 @@ use Rattle.ra_runtime.specs.Openings.{plain_opening}
 use Rattle.ra_runtime.specs.Play.{Moment, first_moment}
 use Rattle.ra_session.specs.Endings.{ending_of}
 use Rattle.ra_session.specs.declared.ending.Ending.TheVariants.{Done, BadTrace, LongTrace}
-use Rattle.ra_session.specs.Expected.{Expected, IsReadBehind, RunSays, refuses_set, refuses_file, begins, goes_on, CheckSays, counts, ImportSays, refuses_document, imports, played, pieces_from, trace_limit}
+use Rattle.ra_session.specs.Expected.{Expected, IsReadBehind, RunSays, refuses_set, refuses_file, begins, goes_on, SetSays, tells, ImportSays, refuses_document, imports, played, pieces_from, trace_limit}
 use Rattle.ra_session.specs.Playing.{IsLeft, says_from}
 
 -- a trace that is refused is not at its end
@@ -69,10 +69,10 @@ run_read content set trace restore e (refuses_file name set_file file c why told
 run_read content set trace restore e (begins set_file trace_file c told_set told_trace is) = played_read c (plain_opening c) [] trace_file
 run_read content set trace restore e (goes_on name set_file trace_file c o behind told_set told_trace told_file is opening images) = played_read c o behind trace_file
 
--- before the line of a check
-pub check_read : (content : List ℕ → Option (List ℕ)) (set : List ℕ) (e : Expected) → CheckSays content set e → IsReadBehind e 0
-check_read content set e (refuses_set file why told refuses) = record { there = omega arith; before_end = λ done. absurd (cc) }
-check_read content set e (counts file c told is) = record { there = omega arith; before_end = λ done. omega arith }
+-- before a text of a set
+pub set_told : (text : SetContents → List ℕ) (content : List ℕ → Option (List ℕ)) (set : List ℕ) (e : Expected) → SetSays text content set e → IsReadBehind e 0
+set_told text content set e (refuses_set file why told refuses) = record { there = omega arith; before_end = λ done. absurd (cc) }
+set_told text content set e (tells file c told is) = record { there = omega arith; before_end = λ done. omega arith }
 
 -- before the line of an import
 pub import_read : (content : List ℕ → Option (List ℕ)) (file : List ℕ) (e : Expected) → ImportSays content file e → IsReadBehind e 0

@@ -24,7 +24,7 @@ status_of (BadDocument why) = 10
 
 -- the line that says how the program is called, without its end
 abbrev pub usage : List ℕ
-usage = codes "usage: ra_player run SET TRACE [--restore FILE] [--save FILE] | check SET | make N | import FILE SET"
+usage = codes "usage: ra_player run SET TRACE [--restore FILE] [--save FILE] | check SET | make N | import FILE SET | lint SET"
 
 -- the last line, where there is one
 abbrev pub last_line : Ending → List ℕ

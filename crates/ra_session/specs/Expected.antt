@@ -23,8 +23,9 @@ use Rattle.ra_richpresence.specs.Contents.{ScriptContents}
 use Rattle.ra_patch.specs.declared.refused.PatchRefused.{PatchRefused}
 use Rattle.ra_patch.specs.declared.refused.PatchRefused.TheVariants as patch
 use Rattle.ra_patch.specs.Answers.{document_limit, Imports, RefusesDocument}
-use Rattle.ra_jobs.specs.Words.{Job, Run, Check, Make, Import}
+use Rattle.ra_jobs.specs.Words.{Job, Run, Check, Make, Import, Lint}
 use Rattle.ra_session.specs.Endings.{ending_of}
+use Rattle.ra_session.specs.Linting.{lint_text}
 use Rattle.ra_session.specs.declared.ending.Ending.{Ending}
 use Rattle.ra_session.specs.declared.ending.Ending.TheVariants.{Done, BadSet, BadProgress, BadDocument}
 
@@ -121,10 +122,10 @@ check_line set =
     ∷ codes "conditions" ∷ decimal (set_conditions set) ∷ codes "cells" ∷ decimal (length (set_cells set))
     ∷ codes "priors" ∷ decimal (length (set_tracked set)) ∷ codes "md5" ∷ hex set.digest ∷ []) ++ 10 ∷ []
 
--- What `check` of this file says, where its bytes are told.
-pub data CheckSays (content : List ℕ → Option (List ℕ)) (set : List ℕ) : Expected → Type 0 where
-  refuses_set : (file : List ℕ) (why : SetRefused) → content set ≡ Some file → Refuses (take (set_limit + 1) file) why → CheckSays content set (prints_nothing (BadSet why))
-  counts : (file : List ℕ) (s : SetContents) → content set ≡ Some file → IsSet file s → CheckSays content set (prints_line (check_line s))
+-- What a job says that prints a text of the set of this file, where its bytes are told.
+pub data SetSays (text : SetContents → List ℕ) (content : List ℕ → Option (List ℕ)) (set : List ℕ) : Expected → Type 0 where
+  refuses_set : (file : List ℕ) (why : SetRefused) → content set ≡ Some file → Refuses (take (set_limit + 1) file) why → SetSays text content set (prints_nothing (BadSet why))
+  tells : (file : List ℕ) (s : SetContents) → content set ≡ Some file → IsSet file s → SetSays text content set (prints_line (text s))
 
 -- a line of an unlock
 abbrev pub is_unlock : List ℕ → Bool
@@ -170,6 +171,7 @@ pub data ImportSays (content : List ℕ → Option (List ℕ)) (file : List ℕ)
 -- what a job says over files whose bytes are told
 abbrev pub JobSays : (content : List ℕ → Option (List ℕ)) → Job → Expected → Type 0
 JobSays content (Run set trace restore save) e = RunSays content set trace restore e
-JobSays content (Check set) e = CheckSays content set e
+JobSays content (Check set) e = SetSays check_line content set e
 JobSays content (Make number) e = MakeSays number e
 JobSays content (Import file set) e = ImportSays content file e
+JobSays content (Lint set) e = SetSays lint_text content set e

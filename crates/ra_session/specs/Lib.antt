@@ -2,6 +2,7 @@ pub mod Reading
 pub mod Writing
 pub mod Failures
 pub mod Endings
+pub mod Linting
 pub mod Outside
 pub mod Expected
 pub mod Closing

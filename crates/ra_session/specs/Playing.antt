@@ -9,6 +9,7 @@ use Rattle.ra_progress.specs.Spelling.{progress_bytes}
 use Rattle.ra_set.specs.Contents.{SetContents}
 use Rattle.ra_set.specs.Limits.{IsWithinLimits}
 use Rattle.ra_set.specs.Spelled.{IsSpelled}
+use Rattle.ra_lint.specs.Fewness.{HasFewAlts}
 use Rattle.ra_trace.specs.Entries.{Entry, Restored, Ended}
 use Rattle.ra_trace.specs.Cutting.{Pieces, Reached, cut, with_entry, stop_within}
 use Rattle.ra_trace.specs.Reading.{ReaderSeen, Holds, seen_from}
@@ -27,6 +28,7 @@ pub record IsPlayable (set : SetContents) : Type 0 where
   pub limits : IsWithinLimits set
   pub spelled : IsSpelled set
   pub digest : IsDigest set.digest
+  pub alts : HasFewAlts set
 
 -- a slot holds the progress bytes of the frames that it has kept, and nothing where it is empty
 abbrev pub HoldsKept : SetContents → Opening → Option History → Option (List ℕ) → Type 0

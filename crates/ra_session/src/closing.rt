@@ -14,7 +14,7 @@ use std::fmt::Write;
 
 // How the program is called.
 const USAGE: &str =
-    "usage: ra_player run SET TRACE [--restore FILE] [--save FILE] | check SET | make N | import FILE SET\n";
+    "usage: ra_player run SET TRACE [--restore FILE] [--save FILE] | check SET | make N | import FILE SET | lint SET\n";
 
 // Writes a last line, and answers its status.
 //

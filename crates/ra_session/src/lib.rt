@@ -1,5 +1,5 @@
 //! A job from its files to its last line: a set is loaded, a trace played, a progress file put, a set counted, a workload
-//! made, and a set taken of a document.
+//! made, a set taken of a document, and a set warned of.
 #![tactic(auto)]
 
 mod beginning;
@@ -11,6 +11,7 @@ mod ending;
 mod failures;
 mod importing;
 mod laws;
+mod linting;
 mod loading;
 mod make;
 mod player;
@@ -24,6 +25,7 @@ pub use closing::finish;
 pub use ending::Ending;
 pub use importing::import_job;
 pub use laws::runs_print_their_texts;
+pub use linting::lint_job;
 pub use make::make_job;
 pub use run::{check_job, run_job};
 pub use run_files::RunFiles;
