@@ -2,7 +2,7 @@
 use Rattle.std.proofs.Common.{arith, ◌≡◌, ◌⊎◌, inl, inr, ap, refl, sym, subst, ◌∙◌, ℕ, zero, suc, List, [], ◌∷◌, ◌++◌, Any}
 use Rattle.std.specs.List.{concat}
 use Rattle.ra_io.specs.Sink.{grown}
-use Rattle.ra_jobs.specs.Words.{Job, Run, Check, Make, Import, file_in, reads_of, set_read, first_reads}
+use Rattle.ra_jobs.specs.Words.{Job, Run, Check, Make, Import, Lint, file_in, reads_of, set_read, first_reads}
 use Rattle.ra_session.specs.Endings.{status_of, last_line}
 use Rattle.ra_session.specs.Expected.{Expected}
 use Rattle.ra_session.specs.Outside.{Outside, ReadsRose, SinkRose}
@@ -88,10 +88,12 @@ decides_of_job old new (BadSet why) (Run set trace restore save) rose = any_firs
 decides_of_job old new (BadSet why) (Check set) rose = rose
 decides_of_job old new (BadSet why) (Make number) rose = rose
 decides_of_job old new (BadSet why) (Import file set) rose = rose
+decides_of_job old new (BadSet why) (Lint set) rose = rose
 decides_of_job old new (BadProgress why) (Run set trace restore save) rose = any_between _ set trace (file_in restore) rose
 decides_of_job old new (BadProgress why) (Check set) rose = rose
 decides_of_job old new (BadProgress why) (Make number) rose = rose
 decides_of_job old new (BadProgress why) (Import file set) rose = rose
+decides_of_job old new (BadProgress why) (Lint set) rose = rose
 decides_of_job old new _ job rose = rose
 
 module _ (e : Expected) (reads all puts sink : Type 0) (f : reads → all) where

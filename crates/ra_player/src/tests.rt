@@ -36,11 +36,11 @@ fn plays(alloc: Global, texts: &[&str], status: u8, text: &[u8]) -> Result<bool,
 }
 
 const USAGE: &[u8] =
-    b"usage: ra_player run SET TRACE [--restore FILE] [--save FILE] | check SET | make N\n";
+    b"usage: ra_player run SET TRACE [--restore FILE] [--save FILE] | check SET | make N | import FILE SET | lint SET\n";
 
 #[test]
 fn plays_jobs_and_tells_other_words_the_usage(rt: HostRuntime) -> Result<(), OutOfMemory> {
-    let rows: [(&[&str], u8, &[u8]); 12] = [
+    let rows: [(&[&str], u8, &[u8]); 15] = [
         (&["run", "S", "T"], 0, b"unlock 4 1\n"),
         (
             &["check", "S"],
@@ -53,6 +53,9 @@ fn plays_jobs_and_tells_other_words_the_usage(rt: HostRuntime) -> Result<(), Out
             b"made 0 lines 41 unlocks 27 md5 d4010c3d85ae84c46e3042c0a6dad552\n",
         ),
         (&["run", "S", "S"], 7, b"trace refused at 0: header\n"),
+        (&["import", "T", "p"], 10, b"import refused: json\n"),
+        (&["lint", "S"], 0, b"warnings 0\n"),
+        (&["lint", "T"], 3, b"set refused: syntax at 0\n"),
         (&[], 2, USAGE),
         (&["run", "S"], 2, USAGE),
         (&["run", "S", "T", "--save"], 2, USAGE),

@@ -17,6 +17,8 @@ mod jobs;
 #[cfg(test)]
 mod large;
 #[cfg(test)]
+mod lints;
+#[cfg(test)]
 mod pieces;
 #[cfg(test)]
 mod progress;
