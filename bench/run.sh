@@ -37,6 +37,7 @@ echo "| What | Instructions | Most memory |"
 echo "|---|---|---|"
 row '`make 0`: 257 items and a display over 4,096 frames with 8 writes of one byte each' make 0
 row '`check` of a set file of 4 MiB with 65,536 conditions' check "$folder/large.set"
+row '`lint` of the same file' lint "$folder/large.set"
 row "4,000 achievements of 8 conditions over $frames frames with 4 writes of one byte each" \
     run "$folder/many.set" "$folder/many.trace"
 row "the same set over $frames frames with no write" run "$folder/many.set" "$folder/still.trace"
