@@ -153,7 +153,7 @@ fn a_fault_ends_an_import(rt: HostRuntime) -> Result<(), OutOfMemory> {
 // A document of a byte more than there may be, and of as many: white space behind a value is no part of it.
 fn long_document(alloc: Global, len: usize) -> Result<Vec<u8>, OutOfMemory> {
     let mut document = br#"{"PatchData":{"Achievements":[]}}"#.to_vec(alloc)?;
-    while document.len() < len {
+    for _ in document.len()..len {
         document.push(b' ')?;
     }
     Ok(document)
