@@ -3,6 +3,7 @@
 
 mod laws;
 mod refused;
+mod values;
 
 pub use laws::legacy_parts_are_condition_parts;
 pub use refused::NormalRefused;
