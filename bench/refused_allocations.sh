@@ -4,7 +4,7 @@
 #   1      status 1, and what was printed is a front of the whole text
 #   13     status 13: the system did not give the program its words
 #   same   the status and the text of the job without a refusal: it did without the memory
-#   other  anything else, or a file of --save that changed though the status is not 0: there has to be none
+#   other  anything else, or a file that changed though the status is not 0: there has to be none
 # usage: bench/refused_allocations.sh [PLAYER], where PLAYER is the built program; where it is not named it is found, or built
 set -eu
 . "$(dirname "$0")/player.sh"
@@ -59,11 +59,14 @@ def run(words, refuse):
 shutil.copy(os.path.join(examples, "small.set"), place("s"))
 shutil.copy(os.path.join(examples, "small.trace"), place("t"))
 subprocess.run([player, "run", "s", "t", "--save", "p"], cwd=folder, stdout=subprocess.DEVNULL, check=True)
+document = """{"PatchData":{"Achievements":[{"ID":7,"MemAddr":"0xH0010=5.3."}],
+"Leaderboards":[{"ID":9,"Mem":"STA:0=1::CAN:0=1::SUB:0=1::VAL:0xH0001","Format":"VALUE"}],"RichPresencePatch":"Display:\\r\\nHi\\r\\n"}}"""
+open(place("j"), "w").write(document)
 shutil.copy(place("p"), place("old"))
 shutil.copy(place("p"), place("kept"))
 print("job, runs: 1, 13, same, other")
 wrong = 0
-for words in ["run s t --save p", "run s t --restore old", "run s t --restore old --save p", "check s"]:
+for words in ["run s t --save p", "run s t --restore old", "run s t --restore old --save p", "check s", "import j p", "lint s"]:
     whole = run(words.split(), 0)
     counts = {"1": 0, "13": 0, "same": 0, "other": 0}
     for refuse in range(1, 100000):
