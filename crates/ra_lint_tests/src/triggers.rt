@@ -66,49 +66,52 @@ fn ranges_of_operators_stay_in_32_bits(rt: HostRuntime) -> Result<(), Fail> {
     Ok(())
 }
 
+// A trigger, and the warnings on it.
+const CHAINS: [(&str, &str); 15] = [
+    (
+        "N:0=1_0=0",
+        "0 trigger 0.0 never\n0 trigger 0.1 always\n0 trigger 0.0 no-unlock\n",
+    ),
+    ("O:0=0_0=1", "0 trigger 0.0 always\n0 trigger 0.1 never\n"),
+    ("C:0xH10=1_0=1.3.", "0 trigger 0.1 never\n"),
+    (
+        "D:0xH10=1_0=1.3.",
+        "0 trigger 0.1 never\n0 trigger 0.1 unreachable\n0 trigger 0.0 no-unlock\n",
+    ),
+    (
+        "C:0xH10=1_D:0=0_0=1.2.",
+        "0 trigger 0.1 always\n0 trigger 0.2 never\n",
+    ),
+    (
+        "C:0=1_0=1.1.",
+        "0 trigger 0.0 never\n0 trigger 0.1 never\n0 trigger 0.1 unreachable\n0 trigger 0.0 no-unlock\n",
+    ),
+    ("0xH10=1_C:0=1", "0 trigger 0.1 never\n"),
+    ("0xH10=1_P:0=0", "0 trigger 0.1 always\n"),
+    ("R:0=0_0xH10=1", "0 trigger 0.0 always\n"),
+    (
+        "0xH10=1S0=1S0=1",
+        "0 trigger 1.0 never\n0 trigger 2.0 never\n0 trigger 0.0 no-unlock\n",
+    ),
+    ("0xH10=1S0=1S", "0 trigger 1.0 never\n"),
+    ("", ""),
+    (
+        "N:0=1.1._0xH10=1",
+        "0 trigger 0.0 never\n0 trigger 0.0 unreachable\n0 trigger 0.0 no-unlock\n",
+    ),
+    (
+        "O:0=1.1._0xH10=1",
+        "0 trigger 0.0 never\n0 trigger 0.0 unreachable\n",
+    ),
+    (
+        "Q:0=1_M:0xH10=1.2.",
+        "0 trigger 0.0 never\n0 trigger 0.0 no-unlock\n",
+    ),
+];
+
 #[test]
 fn chances_go_along_chains_and_groups(rt: HostRuntime) -> Result<(), Fail> {
-    for (trigger, wanted) in [
-        (
-            "N:0=1_0=0",
-            "0 trigger 0.0 never\n0 trigger 0.1 always\n0 trigger 0.0 no-unlock\n",
-        ),
-        ("O:0=0_0=1", "0 trigger 0.0 always\n0 trigger 0.1 never\n"),
-        ("C:0xH10=1_0=1.3.", "0 trigger 0.1 never\n"),
-        (
-            "D:0xH10=1_0=1.3.",
-            "0 trigger 0.1 never\n0 trigger 0.1 unreachable\n0 trigger 0.0 no-unlock\n",
-        ),
-        (
-            "C:0xH10=1_D:0=0_0=1.2.",
-            "0 trigger 0.1 always\n0 trigger 0.2 never\n",
-        ),
-        (
-            "C:0=1_0=1.1.",
-            "0 trigger 0.0 never\n0 trigger 0.1 never\n0 trigger 0.1 unreachable\n0 trigger 0.0 no-unlock\n",
-        ),
-        ("0xH10=1_C:0=1", "0 trigger 0.1 never\n"),
-        ("0xH10=1_P:0=0", "0 trigger 0.1 always\n"),
-        ("R:0=0_0xH10=1", "0 trigger 0.0 always\n"),
-        (
-            "0xH10=1S0=1S0=1",
-            "0 trigger 1.0 never\n0 trigger 2.0 never\n0 trigger 0.0 no-unlock\n",
-        ),
-        ("0xH10=1S0=1S", "0 trigger 1.0 never\n"),
-        ("", ""),
-        (
-            "N:0=1.1._0xH10=1",
-            "0 trigger 0.0 never\n0 trigger 0.0 unreachable\n0 trigger 0.0 no-unlock\n",
-        ),
-        (
-            "O:0=1.1._0xH10=1",
-            "0 trigger 0.0 never\n0 trigger 0.0 unreachable\n",
-        ),
-        (
-            "Q:0=1_M:0xH10=1.2.",
-            "0 trigger 0.0 never\n0 trigger 0.0 no-unlock\n",
-        ),
-    ] {
+    for (trigger, wanted) in CHAINS {
         let file = format!(in rt.alloc(); "A 1 {trigger}")?;
         assert_eq!(rt; told(rt.alloc(), &file)?.as_str(), wanted, "at {trigger}");
     }
