@@ -1,6 +1,0 @@
-use Rattle.std.proofs.Common.{◌∙◌}
-use Rattle.ra_progress.proofs.Fields.{last_sixteen}
-use Rattle.ra_progress.proofs.checking.kept_sum.Goals as goal
-
-pub returns : goal.returns
-returns c = c.sixteen.ensures ∙ last_sixteen c.args.bytes.now c.requires
