@@ -7,23 +7,23 @@ use Rattle.std.proofs.lemmas.Nat.{le_bytes_4, le_bytes_8}
 use Rattle.std.proofs.lemmas.List.{take-append-drop}
 use Rattle.std.proofs.lemmas.Slice.Eq.{bytes_eq-Decides}
 use Rattle.md5.specs.Md5.{md5}
-use Rattle.ra_progress_by_name.specs.declared.shape.ItemShape.{ItemShape}
-use Rattle.ra_progress_by_name.specs.declared.shape.ItemShape.TheVariants.{Achievement, Leaderboard}
-use Rattle.ra_progress_by_name.specs.declared.shape.PresenceShape.{PresenceShape}
-use Rattle.ra_progress_by_name.specs.Contents.{Name, ShapeContents, OfPresence, Own, own_items, own_presence, own_entries, plain_presence}
+use Rattle.ra_progress.specs.declared.shape.ItemShape.{ItemShape}
+use Rattle.ra_progress.specs.declared.shape.ItemShape.TheVariants.{Achievement, Leaderboard}
+use Rattle.ra_progress.specs.declared.shape.PresenceShape.{PresenceShape}
+use Rattle.ra_progress.specs.Contents.{Name, ShapeContents, OfPresence, Own, own_items, own_presence, own_entries, plain_presence}
 use Rattle.ra_words.specs.Words.{word_at, words_at, words}
-use Rattle.ra_progress_by_name.specs.Layout.{Entry, name_at, version_in, digest_in, frames_at, item_length, block_length, cell_count, prior_count, entry_count, first_entry, entry_after, entries_from, entries_in, cells_in, priors_in}
-use Rattle.ra_progress_by_name.specs.Names.{entry_names}
-use Rattle.ra_progress_by_name.specs.Spelling.{state_byte, item_bytes, presence_bytes, presence_block, blocks_of, named_words, named_blocks, mark, body_bytes, progress_bytes}
-use Rattle.ra_progress_by_name.specs.Reading.{HasLayout, have_sizes, IsAccepted}
-use Rattle.ra_progress_by_name.specs.Saying.{is_earned, state_said, said_item, said_items, said_presence, said_or, own_places, says}
-use Rattle.ra_progress_by_name.specs.Laws.{IsShape, IsOwn}
-use Rattle.ra_progress_by_name.proofs.Owns.{names_count}
-use Rattle.ra_progress_by_name.proofs.Walks.{IsWalk, walk_first, walk_next}
-use Rattle.ra_progress_by_name.proofs.ByName.{numbered_from}
-use Rattle.ra_progress_by_name.proofs.Passes.{both_true, this_set_count}
-use Rattle.ra_progress_by_name.proofs.Placed.{whole_layout, sizes_of_this_set}
-use Rattle.ra_progress_by_name.proofs.OwnFile.{place_of_block}
+use Rattle.ra_progress.specs.Layout.{Entry, name_at, version_in, digest_in, frames_at, item_length, block_length, cell_count, prior_count, entry_count, first_entry, entry_after, entries_from, entries_in, cells_in, priors_in}
+use Rattle.ra_progress.specs.Names.{entry_names}
+use Rattle.ra_progress.specs.Spelling.{state_byte, item_bytes, presence_bytes, presence_block, blocks_of, named_words, named_blocks, mark, body_bytes, progress_bytes}
+use Rattle.ra_progress.specs.Reading.{HasLayout, have_sizes, IsAccepted}
+use Rattle.ra_progress.specs.Saying.{is_earned, state_said, said_item, said_items, said_presence, said_or, own_places, says}
+use Rattle.ra_progress.specs.Laws.{IsShape, IsOwn}
+use Rattle.ra_progress.proofs.Owns.{names_count}
+use Rattle.ra_progress.proofs.Walks.{IsWalk, walk_first, walk_next}
+use Rattle.ra_progress.proofs.ByName.{numbered_from}
+use Rattle.ra_progress.proofs.Passes.{both_true, this_set_count}
+use Rattle.ra_progress.proofs.Placed.{whole_layout, sizes_of_this_set}
+use Rattle.ra_progress.proofs.OwnFile.{place_of_block}
 use Rattle.ra_words.proofs.Pieces.{piece, joined, length_piece, piece_below, words_again}
 
 -- the state byte of an achievement is that of the state and flag that it says

@@ -1,15 +1,15 @@
 -- Names with their numbers and blocks, one more at a time, and how long blocks are.
 use Rattle.std.proofs.Common.{◌≡◌, ℕ, zero, suc, ◌+◌, ◌<◌, Option, None, Some, List, [], ◌∷◌, ◌++◌, length, length-append, map, take, get_or, refl, sym, ◌∙◌, ap, arith, append_assoc, append-nil}
 use Rattle.std.specs.Int.{w32, to_le_bytes}
-use Rattle.ra_progress_by_name.specs.declared.shape.ItemShape.{ItemShape}
-use Rattle.ra_progress_by_name.specs.declared.shape.ItemShape.TheVariants.{Achievement, Leaderboard}
-use Rattle.ra_progress_by_name.specs.declared.shape.PresenceShape.{PresenceShape}
-use Rattle.ra_progress_by_name.specs.declared.snapshot.ItemKept.{ItemKept}
-use Rattle.ra_progress_by_name.specs.Contents.{kept_item, Name, KeptItem, OfAchievement, OfBoard, KeptPresence, ItemFits, ItemsFit, PresenceFits}
-use Rattle.ra_progress_by_name.specs.Layout.{item_length, script_length}
+use Rattle.ra_progress.specs.declared.shape.ItemShape.{ItemShape}
+use Rattle.ra_progress.specs.declared.shape.ItemShape.TheVariants.{Achievement, Leaderboard}
+use Rattle.ra_progress.specs.declared.shape.PresenceShape.{PresenceShape}
+use Rattle.ra_progress.specs.declared.snapshot.ItemKept.{ItemKept}
+use Rattle.ra_progress.specs.Contents.{kept_item, Name, KeptItem, OfAchievement, OfBoard, KeptPresence, ItemFits, ItemsFit, PresenceFits}
+use Rattle.ra_progress.specs.Layout.{item_length, script_length}
 use Rattle.ra_words.specs.Words.{words}
 use Rattle.ra_words.proofs.Pieces.{length_words}
-use Rattle.ra_progress_by_name.specs.Spelling.{item_bytes, presence_bytes, named_words, named_blocks}
+use Rattle.ra_progress.specs.Spelling.{item_bytes, presence_bytes, named_words, named_blocks}
 
 -- an item's block is as long as its shape says
 pub length_item : (shape : ItemShape) (item : KeptItem) → ItemFits shape item → length (item_bytes item) ≡ item_length shape

@@ -7,16 +7,16 @@ use Rattle.std.proofs.lemmas.List.Elements.{Contains-get_or}
 use Rattle.std.proofs.lemmas.List.Sorted.{Contains-permutation}
 use Rattle.std.proofs.lemmas.List.FromFn.{length-range_with_len, get_or-range_with_len}
 use Rattle.std.proofs.lemmas.Slice.Eq.{bytes_eq-Decides}
-use Rattle.ra_progress_by_name.specs.Contents.{Name, ShapeContents, shape_contents}
+use Rattle.ra_progress.specs.Contents.{Name, ShapeContents, shape_contents}
 use Rattle.ra_words.specs.Words.{word_at}
-use Rattle.ra_progress_by_name.specs.Layout.{Numbered, version_in, name_at, numbered_at, entry_after, entries_from}
-use Rattle.ra_progress_by_name.specs.Names.{IsOrder, IsRange, IsUsable, names_of, order_in, named_by}
-use Rattle.ra_progress_by_name.specs.declared.named.Named.{Named}
-use Rattle.ra_progress_by_name.specs.declared.named.Named.TheVariants as named
-use Rattle.ra_progress_by_name.specs.declared.shape.Shape.{Shape}
-use Rattle.ra_progress_by_name.specs.Saying.{last_number, last_block, said_numbers}
-use Rattle.ra_progress_by_name.specs.Reading.{of_this_set}
-use Rattle.ra_progress_by_name.proofs.Sizes.{entries_step}
+use Rattle.ra_progress.specs.Layout.{Numbered, version_in, name_at, numbered_at, entry_after, entries_from}
+use Rattle.ra_progress.specs.Names.{IsOrder, IsRange, IsUsable, names_of, order_in, named_by}
+use Rattle.ra_progress.specs.declared.named.Named.{Named}
+use Rattle.ra_progress.specs.declared.named.Named.TheVariants as named
+use Rattle.ra_progress.specs.declared.shape.Shape.{Shape}
+use Rattle.ra_progress.specs.Saying.{last_number, last_block, said_numbers}
+use Rattle.ra_progress.specs.Reading.{of_this_set}
+use Rattle.ra_progress.proofs.Sizes.{entries_step}
 
 -- so many names with their numbers, from the one of this number on
 abbrev pub numbered_from : List ℕ → (at first count : ℕ) → List Numbered

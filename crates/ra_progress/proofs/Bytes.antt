@@ -1,7 +1,7 @@
 -- Bytes at a place of a file, and its last ones.
 use Rattle.std.proofs.Common.{◌≡◌, ℕ, ◌+◌, ◌-◌, ◌≤◌, List, [], ◌∷◌, length, take, drop, get_or, refl, ◌∙◌, ap, arith}
 use Rattle.std.proofs.lemmas.List.{take_all, length-drop}
-use Rattle.ra_progress_by_name.specs.Layout.{sum_in}
+use Rattle.ra_progress.specs.Layout.{sum_in}
 use Rattle.ra_text.proofs.Bytes.{step, four_bytes}
 
 pub eight_bytes : (bytes : List ℕ) (at : ℕ) → at + 8 ≤ length bytes → take 8 (drop at bytes) ≡ get_or bytes at 0 ∷ get_or bytes (at + 1) 0 ∷ get_or bytes (at + 2) 0 ∷ get_or bytes (at + 3) 0 ∷ get_or bytes (at + 4) 0 ∷ get_or bytes (at + 5) 0 ∷ get_or bytes (at + 6) 0 ∷ get_or bytes (at + 7) 0 ∷ []

@@ -4,11 +4,11 @@ use Rattle.std.specs.List.{AllByRecursion}
 use Rattle.std.proofs.lemmas.Bool.{ltb-false, le-ltb, eq-eqb, eqb-true}
 use Rattle.std.proofs.lemmas.Slice.Eq.{bytes_eq-Decides}
 use Rattle.md5.specs.Md5.{md5}
-use Rattle.ra_progress_by_name.specs.declared.refused.ProgressRefused.{ProgressRefused}
-use Rattle.ra_progress_by_name.specs.Contents.{ShapeContents, Own, own_entries}
-use Rattle.ra_progress_by_name.specs.Layout.{Entry, version_in, sum_in, summed_in, entries_in}
-use Rattle.ra_progress_by_name.specs.Spelling.{mark}
-use Rattle.ra_progress_by_name.specs.Reading.{most_bytes, fewest_bytes, is_version, wanted_length, is_related, by_places, or_later, bad_entry, bad_entries, Block, bad_state, bad_states, blocks_in, refusal, IsAccepted}
+use Rattle.ra_progress.specs.declared.refused.ProgressRefused.{ProgressRefused}
+use Rattle.ra_progress.specs.Contents.{ShapeContents, Own, own_entries}
+use Rattle.ra_progress.specs.Layout.{Entry, version_in, sum_in, summed_in, entries_in}
+use Rattle.ra_progress.specs.Spelling.{mark}
+use Rattle.ra_progress.specs.Reading.{most_bytes, fewest_bytes, is_version, wanted_length, is_related, by_places, or_later, bad_entry, bad_entries, Block, bad_state, bad_states, blocks_in, refusal, IsAccepted}
 
 -- a check that passes, and then the later ones
 passes : {A : Type 0} (b : Bool) (why : A) (rest : Option A) → (if b then Some why else rest) ≡ None → (b ≡ false) × (rest ≡ None)

@@ -4,6 +4,7 @@ pub mod ByName
 pub mod Bytes
 pub mod Checks
 pub mod ComesBack
+pub mod HexDigits
 pub mod Needs
 pub mod Orders
 pub mod OwnOrder

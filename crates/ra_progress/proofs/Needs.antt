@@ -2,7 +2,7 @@
 use Rattle.std.proofs.Common.{◌≡◌, ℕ, zero, suc, ◌+◌, ◌-◌, ◌<◌, ◌≤◌, List, refl, arith, ◌∙◌, length, nat_lt, false}
 use Rattle.std.proofs.lemmas.Bool.{le-ltb}
 use Rattle.ra_words.specs.Words.{word_at}
-use Rattle.ra_progress_by_name.specs.Layout.{need_from, up_to, entry_after}
+use Rattle.ra_progress.specs.Layout.{need_from, up_to, entry_after}
 
 -- the next entry's length is read
 pub need_step : (bytes : List ℕ) (left at need : ℕ) → 0 < left → need_from bytes left at need ≡ up_to bytes (need + word_at bytes (at + 16)) (need_from bytes (left - 1) (entry_after bytes at) (need + word_at bytes (at + 16)))

@@ -10,8 +10,8 @@ use Rattle.std.specs.declared.cmp.Ordering.{Ordering}
 use Rattle.std.specs.declared.cmp.Ordering.TheVariants.{Less, Equal, Greater}
 use Rattle.std.specs.Cmp.{IsTotalOrder, IsStrictWeakOrder, nat_cmp_total, then_total, on_total}
 use Rattle.std.specs.Cmp.Lexicographic.{slice_cmp, lists_total}
-use Rattle.ra_progress_by_name.specs.Contents.{Name}
-use Rattle.ra_progress_by_name.specs.Names.{IsOrder, IsRange, named_by, place_cmp}
+use Rattle.ra_progress.specs.Contents.{Name}
+use Rattle.ra_progress.specs.Names.{IsOrder, IsRange, named_by, place_cmp}
 
 -- the name is before the other
 abbrev pub before : Name → Name → Bool

@@ -4,19 +4,19 @@ use Rattle.std.specs.List.{AllByRecursion}
 use Rattle.std.specs.Int.{w32, to_le_bytes}
 use Rattle.std.proofs.lemmas.Bool.{lt-ltb, le-ltb, le-leb, leb-true, eq-eqb, cases_lt}
 use Rattle.std.proofs.lemmas.List.Sums.{sum_by-cons}
-use Rattle.ra_progress_by_name.specs.declared.shape.ItemShape.{ItemShape}
-use Rattle.ra_progress_by_name.specs.declared.shape.ItemShape.TheVariants.{Achievement, Leaderboard}
-use Rattle.ra_progress_by_name.specs.declared.shape.PresenceShape.{PresenceShape}
-use Rattle.ra_progress_by_name.specs.Contents.{Name, OfItem, OfPresence, Own, own_items, own_presence, KeptItem, OfAchievement, OfBoard, KeptPresence, ItemFits, ItemsFit, PresenceFits, plain_presence}
+use Rattle.ra_progress.specs.declared.shape.ItemShape.{ItemShape}
+use Rattle.ra_progress.specs.declared.shape.ItemShape.TheVariants.{Achievement, Leaderboard}
+use Rattle.ra_progress.specs.declared.shape.PresenceShape.{PresenceShape}
+use Rattle.ra_progress.specs.Contents.{Name, OfItem, OfPresence, Own, own_items, own_presence, KeptItem, OfAchievement, OfBoard, KeptPresence, ItemFits, ItemsFit, PresenceFits, plain_presence}
 use Rattle.ra_words.specs.Words.{word_at, words_at, words}
-use Rattle.ra_progress_by_name.specs.Layout.{Entry, name_at, version_in, own_length, entry_after, entries_from, need_from}
-use Rattle.ra_progress_by_name.specs.Names.{IsName}
-use Rattle.ra_progress_by_name.specs.Spelling.{state_byte, item_bytes, presence_bytes, presence_block, named_words, named_blocks}
-use Rattle.ra_progress_by_name.specs.Reading.{have_sizes, is_state, bad_state, blocks_beside}
-use Rattle.ra_progress_by_name.specs.Saying.{is_earned, state_said, said_item, said_items, said_presence, said_or}
-use Rattle.ra_progress_by_name.proofs.Blocks.{length_item, length_presence}
-use Rattle.ra_progress_by_name.proofs.ByName.{numbered_from}
-use Rattle.ra_progress_by_name.proofs.OwnOrder.{read_as}
+use Rattle.ra_progress.specs.Layout.{Entry, name_at, version_in, own_length, entry_after, entries_from, need_from}
+use Rattle.ra_progress.specs.Names.{IsName}
+use Rattle.ra_progress.specs.Spelling.{state_byte, item_bytes, presence_bytes, presence_block, named_words, named_blocks}
+use Rattle.ra_progress.specs.Reading.{have_sizes, is_state, bad_state, blocks_beside}
+use Rattle.ra_progress.specs.Saying.{is_earned, state_said, said_item, said_items, said_presence, said_or}
+use Rattle.ra_progress.proofs.Blocks.{length_item, length_presence}
+use Rattle.ra_progress.proofs.ByName.{numbered_from}
+use Rattle.ra_progress.proofs.OwnOrder.{read_as}
 use Rattle.ra_words.proofs.Pieces.{length_words, Stands, stands_first, stands_next, stands_take, stands_byte, stands_word, stands_words}
 
 -- names with their numbers take twenty bytes each

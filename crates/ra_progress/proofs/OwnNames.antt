@@ -2,10 +2,10 @@
 use Rattle.std.proofs.Common.{◌≡◌, ℕ, Option, None, Some, List, [], ◌∷◌, ◌++◌, length, map, is_some, option_to_list, refl, sym, ◌∙◌, ap, ap₂, arith}
 use Rattle.std.proofs.lemmas.List.{map-append}
 use Rattle.std.proofs.Math.ListN.{get_or-map}
-use Rattle.ra_progress_by_name.specs.declared.shape.ItemShape.{ItemShape}
-use Rattle.ra_progress_by_name.specs.declared.shape.PresenceShape.{PresenceShape}
-use Rattle.ra_progress_by_name.specs.Contents.{Name, ShapeContents, own_items, own_presence, own_entries, own_at}
-use Rattle.ra_progress_by_name.specs.Names.{IsPaired, entry_names, named_by}
+use Rattle.ra_progress.specs.declared.shape.ItemShape.{ItemShape}
+use Rattle.ra_progress.specs.declared.shape.PresenceShape.{PresenceShape}
+use Rattle.ra_progress.specs.Contents.{Name, ShapeContents, own_items, own_presence, own_entries, own_at}
+use Rattle.ra_progress.specs.Names.{IsPaired, entry_names, named_by}
 
 items_names : (names : List Name) (shapes : List ItemShape) → length names ≡ length shapes
     → map (λ own. own.name) (own_items names shapes) ≡ names

@@ -4,15 +4,15 @@ use Rattle.std.specs.List.{list_any}
 use Rattle.std.proofs.lemmas.Bool.{lt-ltb, le-ltb, cases_lt}
 use Rattle.std.proofs.lemmas.List.{length-map, length-take-le}
 use Rattle.std.proofs.lemmas.List.Sums.{sum_by_more_le}
-use Rattle.ra_progress_by_name.specs.declared.shape.Shape.{Shape}
-use Rattle.ra_progress_by_name.specs.Contents.{Name, shape_contents, Own, own_entries, own_at}
-use Rattle.ra_progress_by_name.specs.Layout.{own_length}
-use Rattle.ra_progress_by_name.specs.Names.{IsUsable, IsRange, entry_names}
-use Rattle.ra_progress_by_name.specs.Reading.{Block, owns_named}
-use Rattle.ra_progress_by_name.proofs.Orders.{numbers_within}
-use Rattle.ra_progress_by_name.proofs.Owns.{names_count}
-use Rattle.ra_progress_by_name.proofs.OwnNames.{own_names}
-use Rattle.ra_progress_by_name.proofs.Segments.{owns_in_range}
+use Rattle.ra_progress.specs.declared.shape.Shape.{Shape}
+use Rattle.ra_progress.specs.Contents.{Name, shape_contents, Own, own_entries, own_at}
+use Rattle.ra_progress.specs.Layout.{own_length}
+use Rattle.ra_progress.specs.Names.{IsUsable, IsRange, entry_names}
+use Rattle.ra_progress.specs.Reading.{Block, owns_named}
+use Rattle.ra_progress.proofs.Orders.{numbers_within}
+use Rattle.ra_progress.proofs.Owns.{names_count}
+use Rattle.ra_progress.proofs.OwnNames.{own_names}
+use Rattle.ra_progress.proofs.Segments.{owns_in_range}
 
 -- a block that is read as this own entry
 abbrev pub read_as : ℕ → Own → Block

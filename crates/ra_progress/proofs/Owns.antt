@@ -1,11 +1,11 @@
 -- The own entries of a set, by their numbers.
 use Rattle.std.proofs.Common.{◌≡◌, ℕ, zero, suc, ◌+◌, ◌<◌, ◌≤◌, Option, None, Some, List, [], ◌∷◌, ◌++◌, length, length-append, take, sum_by, get_or, is_some, option_to_list, refl, sym, ◌∙◌, ap, arith}
 use Rattle.std.proofs.lemmas.List.Sums.{sum_by-cons}
-use Rattle.ra_progress_by_name.specs.declared.shape.ItemShape.{ItemShape}
-use Rattle.ra_progress_by_name.specs.declared.shape.PresenceShape.{PresenceShape}
-use Rattle.ra_progress_by_name.specs.Contents.{Name, ShapeContents, OfItem, OfPresence, Own, own_items, own_presence, own_entries, own_at}
-use Rattle.ra_progress_by_name.specs.Layout.{item_length, own_length, script_length}
-use Rattle.ra_progress_by_name.specs.Names.{IsPaired, entry_names}
+use Rattle.ra_progress.specs.declared.shape.ItemShape.{ItemShape}
+use Rattle.ra_progress.specs.declared.shape.PresenceShape.{PresenceShape}
+use Rattle.ra_progress.specs.Contents.{Name, ShapeContents, OfItem, OfPresence, Own, own_items, own_presence, own_entries, own_at}
+use Rattle.ra_progress.specs.Layout.{item_length, own_length, script_length}
+use Rattle.ra_progress.specs.Names.{IsPaired, entry_names}
 
 -- items and names that are paired give as many entries
 items_count : (names : List Name) (shapes : List ItemShape) → length names ≡ length shapes → length (own_items names shapes) ≡ length shapes

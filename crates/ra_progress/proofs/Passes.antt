@@ -4,15 +4,15 @@ use Rattle.std.specs.List.{list_any}
 use Rattle.std.proofs.lemmas.Bool.{eqb-true}
 use Rattle.std.proofs.lemmas.List.{drop_all}
 use Rattle.std.proofs.lemmas.List.Sums.{sum_by-cons}
-use Rattle.ra_progress_by_name.specs.declared.refused.ProgressRefused.{ProgressRefused}
-use Rattle.ra_progress_by_name.specs.Contents.{Own, own_at}
+use Rattle.ra_progress.specs.declared.refused.ProgressRefused.{ProgressRefused}
+use Rattle.ra_progress.specs.Contents.{Own, own_at}
 use Rattle.ra_words.specs.Words.{word_at}
-use Rattle.ra_progress_by_name.specs.Layout.{Entry, own_length, entry_at, entry_after, entries_from, entries_in, entry_count, first_entry}
-use Rattle.ra_progress_by_name.specs.Reading.{HasLayout, or_later, bad_entry, bad_entries, Block, bad_state, bad_states, blocks_from, blocks_beside, blocks_of_entry, blocks_named, have_sizes}
-use Rattle.ra_progress_by_name.proofs.Checks.{holds}
-use Rattle.ra_progress_by_name.proofs.Walks.{IsWalk, walk_first}
-use Rattle.ra_progress_by_name.proofs.OwnOrder.{read_as, between_step, none_passes}
-use Rattle.ra_progress_by_name.proofs.Sizes.{entries_step, entries_count, sizes_step}
+use Rattle.ra_progress.specs.Layout.{Entry, own_length, entry_at, entry_after, entries_from, entries_in, entry_count, first_entry}
+use Rattle.ra_progress.specs.Reading.{HasLayout, or_later, bad_entry, bad_entries, Block, bad_state, bad_states, blocks_from, blocks_beside, blocks_of_entry, blocks_named, have_sizes}
+use Rattle.ra_progress.proofs.Checks.{holds}
+use Rattle.ra_progress.proofs.Walks.{IsWalk, walk_first}
+use Rattle.ra_progress.proofs.OwnOrder.{read_as, between_step, none_passes}
+use Rattle.ra_progress.proofs.Sizes.{entries_step, entries_count, sizes_step}
 
 -- of two refusals the first decides
 pub first_is : (a b : Option ProgressRefused) (why : ProgressRefused) → a ≡ Some why → or_later a b ≡ Some why

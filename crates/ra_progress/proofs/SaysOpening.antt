@@ -4,21 +4,21 @@ use Rattle.std.specs.List.{AllByRecursion, range_with_len}
 use Rattle.std.proofs.lemmas.Bool.{eqb-true, eq-eqb, ltb-true}
 use Rattle.std.proofs.lemmas.List.{length-map, length-replicate}
 use Rattle.std.proofs.lemmas.List.FromFn.{length-range_with_len}
-use Rattle.ra_progress_by_name.specs.declared.shape.ItemShape.{ItemShape}
-use Rattle.ra_progress_by_name.specs.declared.shape.ItemShape.TheVariants.{Achievement, Leaderboard}
-use Rattle.ra_progress_by_name.specs.declared.shape.PresenceShape.{PresenceShape}
-use Rattle.ra_progress_by_name.specs.declared.refused.ProgressRefused.{ProgressRefused}
+use Rattle.ra_progress.specs.declared.shape.ItemShape.{ItemShape}
+use Rattle.ra_progress.specs.declared.shape.ItemShape.TheVariants.{Achievement, Leaderboard}
+use Rattle.ra_progress.specs.declared.shape.PresenceShape.{PresenceShape}
+use Rattle.ra_progress.specs.declared.refused.ProgressRefused.{ProgressRefused}
 use Rattle.ra_words.specs.Words.{word_at, words_at, AreWords}
-use Rattle.ra_progress_by_name.specs.Contents.{Name, ShapeContents, OfItem, OfPresence, own_entries, ItemFits, ItemsFit, PresenceFits, IsOpening, plain_item, plain_presence}
-use Rattle.ra_progress_by_name.specs.Layout.{Numbered, name_at, version_in, digest_in, frames_at, cell_count, prior_count, numbered_at}
-use Rattle.ra_progress_by_name.specs.Names.{IsPaired}
-use Rattle.ra_progress_by_name.specs.Reading.{is_state, bad_state, of_this_set, IsAccepted}
-use Rattle.ra_progress_by_name.specs.Saying.{is_earned, state_said, said_item, said_items, said_presence, said_or, last_number, own_places, script_place, said_numbers, says}
-use Rattle.ra_progress_by_name.specs.Laws.{HasLines}
-use Rattle.ra_progress_by_name.proofs.Owns.{own_count, own_item, own_script, script_count}
-use Rattle.ra_progress_by_name.proofs.ByName.{numbered_from}
-use Rattle.ra_progress_by_name.proofs.Passes.{both_true}
-use Rattle.ra_progress_by_name.proofs.Placed.{placed, places_count}
+use Rattle.ra_progress.specs.Contents.{Name, ShapeContents, OfItem, OfPresence, own_entries, ItemFits, ItemsFit, PresenceFits, IsOpening, plain_item, plain_presence}
+use Rattle.ra_progress.specs.Layout.{Numbered, name_at, version_in, digest_in, frames_at, cell_count, prior_count, numbered_at}
+use Rattle.ra_progress.specs.Names.{IsPaired}
+use Rattle.ra_progress.specs.Reading.{is_state, bad_state, of_this_set, IsAccepted}
+use Rattle.ra_progress.specs.Saying.{is_earned, state_said, said_item, said_items, said_presence, said_or, last_number, own_places, script_place, said_numbers, says}
+use Rattle.ra_progress.specs.Laws.{HasLines}
+use Rattle.ra_progress.proofs.Owns.{own_count, own_item, own_script, script_count}
+use Rattle.ra_progress.proofs.ByName.{numbered_from}
+use Rattle.ra_progress.proofs.Passes.{both_true}
+use Rattle.ra_progress.proofs.Placed.{placed, places_count}
 use Rattle.ra_words.proofs.Pieces.{piece_below}
 
 -- a test that refuses where it fails, and did not

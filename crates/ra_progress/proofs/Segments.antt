@@ -14,9 +14,9 @@ use Rattle.std.specs.declared.cmp.Ordering.{Ordering}
 use Rattle.std.specs.declared.cmp.Ordering.TheVariants.{Less, Equal, Greater}
 use Rattle.std.specs.Cmp.{nat_cmp_total, nat_cmp_is}
 use Rattle.std.specs.Cmp.Lexicographic.{slice_cmp, lists_total}
-use Rattle.ra_progress_by_name.specs.Contents.{Name, Own, own_at}
-use Rattle.ra_progress_by_name.specs.Names.{IsOrder, IsRange, named_by, place_cmp}
-use Rattle.ra_progress_by_name.proofs.Orders.{places_total}
+use Rattle.ra_progress.specs.Contents.{Name, Own, own_at}
+use Rattle.ra_progress.specs.Names.{IsOrder, IsRange, named_by, place_cmp}
+use Rattle.ra_progress.proofs.Orders.{places_total}
 
 -- how often a number stands in a list
 abbrev pub one_of : ℕ → ℕ → ℕ

@@ -1,10 +1,10 @@
 -- Whether entries have the lengths of the own ones.
 use Rattle.std.proofs.Common.{◌≡◌, ℕ, zero, suc, ◌+◌, ◌-◌, ◌<◌, ◌≤◌, ◌==◌, ◌&&◌, true, false, List, [], ◌∷◌, length, drop, refl, arith, drop-cons}
 use Rattle.std.proofs.lemmas.List.{drop_all}
-use Rattle.ra_progress_by_name.specs.Contents.{Own, own_at}
+use Rattle.ra_progress.specs.Contents.{Own, own_at}
 use Rattle.ra_words.specs.Words.{word_at}
-use Rattle.ra_progress_by_name.specs.Layout.{Entry, own_length, entry_after, entry_at, entries_from}
-use Rattle.ra_progress_by_name.specs.Reading.{have_sizes}
+use Rattle.ra_progress.specs.Layout.{Entry, own_length, entry_after, entry_at, entries_from}
+use Rattle.ra_progress.specs.Reading.{have_sizes}
 
 -- as many entries as are counted
 pub entries_count : (bytes : List ℕ) (count at : ℕ) → length (entries_from bytes count at) ≡ count

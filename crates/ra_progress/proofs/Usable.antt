@@ -1,8 +1,8 @@
 -- A usable shape has few names.
 use Rattle.std.proofs.Common.{◌<◌, ◌^◌, ◌++◌, length, length-append, option_to_list, arith}
-use Rattle.ra_progress_by_name.specs.declared.shape.Shape.{Shape}
-use Rattle.ra_progress_by_name.specs.Names.{IsUsable}
-use Rattle.ra_progress_by_name.proofs.Orders.{order_length, at_most_one}
+use Rattle.ra_progress.specs.declared.shape.Shape.{Shape}
+use Rattle.ra_progress.specs.Names.{IsUsable}
+use Rattle.ra_progress.proofs.Orders.{order_length, at_most_one}
 
 module _ (shape : Shape) (is : IsUsable shape) where
   pub few_cells : length shape.cell_order.items < 2 ^ 32

@@ -3,9 +3,9 @@ use Rattle.std.proofs.Common.{◌≡◌, ℕ, zero, suc, ◌+◌, ◌-◌, ◌*�
 use Rattle.std.proofs.lemmas.Bool.{cases_lt, lt-ltb, le-ltb}
 use Rattle.std.specs.List.{list_any}
 use Rattle.ra_words.specs.Words.{word_at}
-use Rattle.ra_progress_by_name.specs.Layout.{Entry, need_from, up_to, entry_at, entry_after, entries_from, entry_count, cell_count, prior_count, first_entry}
-use Rattle.ra_progress_by_name.specs.Reading.{HasLayout}
-use Rattle.ra_progress_by_name.proofs.Needs.{need_step}
+use Rattle.ra_progress.specs.Layout.{Entry, need_from, up_to, entry_at, entry_after, entries_from, entry_count, cell_count, prior_count, first_entry}
+use Rattle.ra_progress.specs.Reading.{HasLayout}
+use Rattle.ra_progress.proofs.Needs.{need_step}
 
 -- a need that is met in the end is met on the way
 met : (bytes : List ℕ) (need further : ℕ) → up_to bytes need further ≡ length bytes → (need ≤ length bytes) × (further ≡ length bytes)

@@ -1,6 +1,6 @@
-use Rattle.ra_progress_by_name.specs.Contents.{shape_contents}
-use Rattle.ra_progress_by_name.proofs.Checks.{is_ok-by}
-use Rattle.ra_progress_by_name.proofs.checking.check.Goals as goal
+use Rattle.ra_progress.specs.Contents.{shape_contents}
+use Rattle.ra_progress.proofs.Checks.{is_ok-by}
+use Rattle.ra_progress.proofs.checking.check.Goals as goal
 
 pub returns-clause-ok : goal.returns-clause-ok
 returns-clause-ok c =

@@ -1,10 +1,10 @@
 use Rattle.std.proofs.Common.{◌∙◌, ◌-◌, sym}
-use Rattle.ra_progress_by_name.specs.Contents.{shape_contents, own_entries}
-use Rattle.ra_progress_by_name.specs.Layout.{entry_at, entry_after, entries_from}
-use Rattle.ra_progress_by_name.specs.Reading.{bad_entry, bad_entries}
-use Rattle.ra_progress_by_name.proofs.Walks.{walk_next}
-use Rattle.ra_progress_by_name.proofs.Passes.{entries_next, first_is, later_is}
-use Rattle.ra_progress_by_name.proofs.entries.bad_entries.Goals as goal
+use Rattle.ra_progress.specs.Contents.{shape_contents, own_entries}
+use Rattle.ra_progress.specs.Layout.{entry_at, entry_after, entries_from}
+use Rattle.ra_progress.specs.Reading.{bad_entry, bad_entries}
+use Rattle.ra_progress.proofs.Walks.{walk_next}
+use Rattle.ra_progress.proofs.Passes.{entries_next, first_is, later_is}
+use Rattle.ra_progress.proofs.entries.bad_entries.Goals as goal
 
 pub returns-in-Some : goal.returns-in-Some
 returns-in-Some c =

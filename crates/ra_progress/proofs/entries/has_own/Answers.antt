@@ -1,8 +1,8 @@
 use Rattle.std.proofs.Common.{◌∙◌, sym, ap}
-use Rattle.ra_progress_by_name.specs.Contents.{shape_contents, own_entries}
-use Rattle.ra_progress_by_name.specs.Reading.{has_named}
-use Rattle.ra_progress_by_name.proofs.Walks.{walk_next, any_step}
-use Rattle.ra_progress_by_name.proofs.entries.has_own.Goals as goal
+use Rattle.ra_progress.specs.Contents.{shape_contents, own_entries}
+use Rattle.ra_progress.specs.Reading.{has_named}
+use Rattle.ra_progress.proofs.Walks.{walk_next, any_step}
+use Rattle.ra_progress.proofs.entries.has_own.Goals as goal
 
 pub loop-left-preserved : goal.loop-left-preserved
 loop-left-preserved c =

@@ -1,10 +1,10 @@
 use Rattle.std.proofs.Common.{◌≡◌}
 use Rattle.std.specs.List.{list_any}
-use Rattle.ra_progress_by_name.specs.Contents.{shape_contents, own_entries}
-use Rattle.ra_progress_by_name.specs.Layout.{entries_from, entries_in}
-use Rattle.ra_progress_by_name.specs.Reading.{has_named}
-use Rattle.ra_progress_by_name.proofs.Walks.{IsWalk}
-use Rattle.ra_progress_by_name.proofs.entries.has_own.Given as goal
+use Rattle.ra_progress.specs.Contents.{shape_contents, own_entries}
+use Rattle.ra_progress.specs.Layout.{entries_from, entries_in}
+use Rattle.ra_progress.specs.Reading.{has_named}
+use Rattle.ra_progress.proofs.Walks.{IsWalk}
+use Rattle.ra_progress.proofs.entries.has_own.Given as goal
 
 -- what is left to look at
 abbrev pub invariant-loop-left : goal.invariant-loop-left

@@ -1,7 +1,7 @@
 use Rattle.std.proofs.Common.{◌∙◌, sym, ap, bytes_eq, length, nat_lt}
-use Rattle.ra_progress_by_name.specs.Contents.{shape_contents, own_entries, own_at}
-use Rattle.ra_progress_by_name.proofs.OwnOrder.{any_filter, many_between}
-use Rattle.ra_progress_by_name.proofs.entries.is_own.Goals as goal
+use Rattle.ra_progress.specs.Contents.{shape_contents, own_entries, own_at}
+use Rattle.ra_progress.proofs.OwnOrder.{any_filter, many_between}
+use Rattle.ra_progress.proofs.entries.is_own.Goals as goal
 
 pub returns : goal.returns
 returns c =

@@ -1,9 +1,9 @@
 use Rattle.std.proofs.Common.{◌≡◌, ◌+◌, ◌-◌, ◌==◌, ◌∙◌, sym, ap, not, true, false, Bool, Some, map, find, take, drop, option_map, slice_index}
 use Rattle.std.proofs.lemmas.Bool.{eq-eqb, ne_eqb}
-use Rattle.ra_progress_by_name.specs.Contents.{Own, shape_contents, own_entries, own_at}
-use Rattle.ra_progress_by_name.specs.Layout.{own_length, block_length}
-use Rattle.ra_progress_by_name.proofs.OwnOrder.{between_step, find_here, find_on}
-use Rattle.ra_progress_by_name.proofs.entries.other_length.Goals as goal
+use Rattle.ra_progress.specs.Contents.{Own, shape_contents, own_entries, own_at}
+use Rattle.ra_progress.specs.Layout.{own_length, block_length}
+use Rattle.ra_progress.proofs.OwnOrder.{between_step, find_here, find_on}
+use Rattle.ra_progress.proofs.entries.other_length.Goals as goal
 
 pub returns-then-wanted-from : goal.returns-then-wanted-from
 returns-then-wanted-from c =

@@ -1,7 +1,7 @@
 use Rattle.std.proofs.Common.{◌≡◌, ◌-◌, ◌==◌, not, map, take, drop, find}
-use Rattle.ra_progress_by_name.specs.Contents.{shape_contents, own_entries, own_at}
-use Rattle.ra_progress_by_name.specs.Layout.{own_length}
-use Rattle.ra_progress_by_name.proofs.entries.other_length.Given as goal
+use Rattle.ra_progress.specs.Contents.{shape_contents, own_entries, own_at}
+use Rattle.ra_progress.specs.Layout.{own_length}
+use Rattle.ra_progress.proofs.entries.other_length.Given as goal
 
 -- what is left to look at
 abbrev pub invariant-loop-place : goal.invariant-loop-place

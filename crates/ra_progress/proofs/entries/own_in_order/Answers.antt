@@ -1,8 +1,8 @@
 use Rattle.std.proofs.Common.{◌∙◌, ap}
 use Rattle.std.proofs.lemmas.List.{get_or_read}
-use Rattle.ra_progress_by_name.specs.Contents.{shape_contents, own_entries, own_at}
-use Rattle.ra_progress_by_name.proofs.OwnOrder.{number_within}
-use Rattle.ra_progress_by_name.proofs.entries.own_in_order.Goals as goal
+use Rattle.ra_progress.specs.Contents.{shape_contents, own_entries, own_at}
+use Rattle.ra_progress.proofs.OwnOrder.{number_within}
+use Rattle.ra_progress.proofs.entries.own_in_order.Goals as goal
 
 pub own_shape-requires-clause-number : goal.own_shape-requires-clause-number
 own_shape-requires-clause-number c =

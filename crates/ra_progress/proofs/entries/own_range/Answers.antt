@@ -1,5 +1,5 @@
-use Rattle.ra_progress_by_name.proofs.OwnOrder.{own_range_is}
-use Rattle.ra_progress_by_name.proofs.entries.own_range.Goals as goal
+use Rattle.ra_progress.proofs.OwnOrder.{own_range_is}
+use Rattle.ra_progress.proofs.entries.own_range.Goals as goal
 
 pub returns-clause-named : goal.returns-clause-named
 returns-clause-named c =

@@ -1,26 +1,26 @@
-use Rattle.std.proofs.Common.{◌≡◌, ℕ, ◌+◌, ◌-◌, ◌<◌, ◌∙◌, if◌then◌else◌, bytes_eq, sym, ap, ap₂, rules, refl, [], None, Some, length, slice_index, slice_index_or, subst, replicate, arith}
+use Rattle.std.proofs.Common.{◌≡◌, ℕ, ◌+◌, ◌-◌, ◌<◌, ◌∙◌, if◌then◌else◌, bytes_eq, sym, ap, ap₂, refl, [], None, Some, length, slice_index, slice_index_or, subst, replicate, arith}
 use Rattle.std.proofs.lemmas.List.{get_or-replicate, length-replicate}
-use Rattle.ra_progress_by_name.specs.Contents.{Name, shape_contents, own_entries, own_at}
-use Rattle.ra_progress_by_name.specs.Layout.{name_at, entry_after, entries_from, entries_in}
-use Rattle.ra_progress_by_name.specs.Names.{IsOrder, IsRange, entry_names}
-use Rattle.ra_progress_by_name.specs.Saying.{last_block}
-use Rattle.ra_progress_by_name.proofs.OwnOrder.{number_within}
-use Rattle.ra_progress_by_name.proofs.Owns.{names_count}
-use Rattle.ra_progress_by_name.proofs.OwnNames.{own_name}
-use Rattle.ra_progress_by_name.proofs.Walks.{walk_first, walk_next}
-use Rattle.ra_progress_by_name.proofs.ByName.{put_by_name, block_next, by_index}
-use Rattle.ra_progress_by_name.proofs.entry_places.places_named.Goals as goal
+use Rattle.ra_progress.specs.Contents.{Name, shape_contents, own_entries, own_at}
+use Rattle.ra_progress.specs.Layout.{name_at, entry_after, entries_from, entries_in}
+use Rattle.ra_progress.specs.Names.{IsOrder, IsRange, entry_names}
+use Rattle.ra_progress.specs.Saying.{last_block}
+use Rattle.ra_progress.proofs.OwnOrder.{number_within}
+use Rattle.ra_progress.proofs.Owns.{names_count}
+use Rattle.ra_progress.proofs.OwnNames.{own_name}
+use Rattle.ra_progress.proofs.Walks.{walk_first, walk_next}
+use Rattle.ra_progress.proofs.ByName.{put_by_name, block_next, by_index}
+use Rattle.ra_progress.proofs.entry_places.places_named.Goals as goal
 
 pub loop-left-init : goal.loop-left-init
 loop-left-init c =
     let owns = own_entries (shape_contents c.args.shape.now) in
-    let none : c.in_ok-places.places.items ≡ replicate (length owns) None = search rules in
+    let none : c.fill_all.new.values.items ≡ replicate (length owns) None = c.fill_all.ensures ∙ ap (λ n. replicate n None) c.requires.room in
     record {
       walk = rw (c.first_entry-at.ensures, c.entry_count-left.ensures)
           (walk_first c.args.bytes.now c.requires.layout);
       many = ap length none ∙ length-replicate (length owns) None;
       rest = λ n less.
-          let plain : slice_index_or c.in_ok-places.places.items n None ≡ None = ap
+          let plain : slice_index_or c.fill_all.new.values.items n None ≡ None = ap
           (λ places. slice_index_or places n None) none ∙ get_or-replicate (length owns) n None None less in
           rw (c.first_entry-at.ensures, c.entry_count-left.ensures, plain) refl;
     }

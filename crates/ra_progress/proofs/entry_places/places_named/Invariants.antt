@@ -1,9 +1,9 @@
 use Rattle.std.proofs.Common.{◌≡◌, ℕ, ◌<◌, None, length, slice_index_or}
-use Rattle.ra_progress_by_name.specs.Contents.{shape_contents, own_entries, own_at}
-use Rattle.ra_progress_by_name.specs.Layout.{entries_from, entries_in}
-use Rattle.ra_progress_by_name.specs.Saying.{last_block}
-use Rattle.ra_progress_by_name.proofs.Walks.{IsWalk}
-use Rattle.ra_progress_by_name.proofs.entry_places.places_named.Given as goal
+use Rattle.ra_progress.specs.Contents.{shape_contents, own_entries, own_at}
+use Rattle.ra_progress.specs.Layout.{entries_from, entries_in}
+use Rattle.ra_progress.specs.Saying.{last_block}
+use Rattle.ra_progress.proofs.Walks.{IsWalk}
+use Rattle.ra_progress.proofs.entry_places.places_named.Given as goal
 
 -- where each own entry ends up by the entries that are left
 abbrev pub invariant-loop-left : goal.invariant-loop-left

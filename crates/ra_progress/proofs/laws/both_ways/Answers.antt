@@ -1,7 +1,7 @@
-use Rattle.ra_progress_by_name.proofs.Again.{again}
-use Rattle.ra_progress_by_name.proofs.ComesBack.{comes_back, own}
-use Rattle.ra_progress_by_name.proofs.SaysOpening.{says_opening}
-use Rattle.ra_progress_by_name.proofs.laws.both_ways.Goals as goal
+use Rattle.ra_progress.proofs.Again.{again}
+use Rattle.ra_progress.proofs.ComesBack.{comes_back, own}
+use Rattle.ra_progress.proofs.SaysOpening.{says_opening}
+use Rattle.ra_progress.proofs.laws.both_ways.Goals as goal
 
 pub returns-clause-from_openings : goal.returns-clause-from_openings
 returns-clause-from_openings c = λ shape o is_shape fits. comes_back shape o is_shape fits

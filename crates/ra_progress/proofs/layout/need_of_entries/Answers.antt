@@ -1,6 +1,6 @@
 use Rattle.std.proofs.Common.{arith, ◌∙◌, sym}
-use Rattle.ra_progress_by_name.proofs.Needs.{need_grows}
-use Rattle.ra_progress_by_name.proofs.layout.need_of_entries.Goals as goal
+use Rattle.ra_progress.proofs.Needs.{need_grows}
+use Rattle.ra_progress.proofs.layout.need_of_entries.Goals as goal
 
 pub loop-left-preserved : goal.loop-left-preserved
 loop-left-preserved c = record {

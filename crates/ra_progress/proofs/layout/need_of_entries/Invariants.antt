@@ -1,6 +1,6 @@
 use Rattle.std.proofs.Common.{◌≡◌, ◌+◌, ◌*◌, ◌≤◌, length}
-use Rattle.ra_progress_by_name.specs.Layout.{need_from}
-use Rattle.ra_progress_by_name.proofs.layout.need_of_entries.Given as goal
+use Rattle.ra_progress.specs.Layout.{need_from}
+use Rattle.ra_progress.proofs.layout.need_of_entries.Given as goal
 
 -- what is left to read, and where it stands
 abbrev pub invariant-loop-left : goal.invariant-loop-left

@@ -1,6 +1,6 @@
 use Rattle.std.proofs.Common.{◌≡◌, ◌*◌, ◌≤◌, ◌^◌, take, sum_by}
-use Rattle.ra_progress_by_name.specs.Layout.{item_length}
-use Rattle.ra_progress_by_name.proofs.own.items_length.Given as goal
+use Rattle.ra_progress.specs.Layout.{item_length}
+use Rattle.ra_progress.proofs.own.items_length.Given as goal
 
 abbrev pub invariant-loop-item : goal.invariant-loop-item
 invariant-loop-item l = record {

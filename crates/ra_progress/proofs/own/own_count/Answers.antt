@@ -1,7 +1,7 @@
 use Rattle.std.proofs.Common.{◌+◌, ◌∙◌, ap, length, arith}
-use Rattle.ra_progress_by_name.specs.Contents.{shape_contents}
-use Rattle.ra_progress_by_name.proofs.Owns.{own_count, script_count}
-use Rattle.ra_progress_by_name.proofs.own.own_count.Goals as goal
+use Rattle.ra_progress.specs.Contents.{shape_contents}
+use Rattle.ra_progress.proofs.Owns.{own_count, script_count}
+use Rattle.ra_progress.proofs.own.own_count.Goals as goal
 
 pub returns-in-Some : goal.returns-in-Some
 returns-in-Some c =

@@ -1,7 +1,7 @@
 use Rattle.std.proofs.Common.{◌≡◌, ◌+◌, ◌<◌, ◌∙◌, sym, ap, length, arith}
-use Rattle.ra_progress_by_name.specs.Contents.{shape_contents, OfItem, own_entries, own_at}
-use Rattle.ra_progress_by_name.proofs.Owns.{own_count, own_item, own_script, script_count}
-use Rattle.ra_progress_by_name.proofs.own.own_shape.Goals as goal
+use Rattle.ra_progress.specs.Contents.{shape_contents, OfItem, own_entries, own_at}
+use Rattle.ra_progress.proofs.Owns.{own_count, own_item, own_script, script_count}
+use Rattle.ra_progress.proofs.own.own_shape.Goals as goal
 
 pub returns-then-number-len : goal.returns-then-number-len
 returns-then-number-len c =

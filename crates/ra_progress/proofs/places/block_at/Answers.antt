@@ -1,9 +1,9 @@
 use Rattle.std.proofs.Common.{◌≡◌, ◌∙◌, sym, refl, take, sum_by}
 use Rattle.std.proofs.lemmas.Bool.{ne_eqb}
-use Rattle.ra_progress_by_name.specs.Contents.{shape_contents, own_entries}
-use Rattle.ra_progress_by_name.specs.Layout.{own_length}
-use Rattle.ra_progress_by_name.proofs.Owns.{own_front}
-use Rattle.ra_progress_by_name.proofs.places.block_at.Goals as goal
+use Rattle.ra_progress.specs.Contents.{shape_contents, own_entries}
+use Rattle.ra_progress.specs.Layout.{own_length}
+use Rattle.ra_progress.proofs.Owns.{own_front}
+use Rattle.ra_progress.proofs.places.block_at.Goals as goal
 
 pub returns-then-version-eq1 : goal.returns-then-version-eq1
 returns-then-version-eq1 c =

@@ -1,8 +1,8 @@
 use Rattle.std.proofs.Common.{◌≡◌, ◌+◌, sym, sum_by, arith}
-use Rattle.ra_progress_by_name.specs.Contents.{shape_contents, own_entries}
-use Rattle.ra_progress_by_name.specs.Layout.{item_length, own_length}
-use Rattle.ra_progress_by_name.proofs.Owns.{own_total}
-use Rattle.ra_progress_by_name.proofs.places.length.Goals as goal
+use Rattle.ra_progress.specs.Contents.{shape_contents, own_entries}
+use Rattle.ra_progress.specs.Layout.{item_length, own_length}
+use Rattle.ra_progress.proofs.Owns.{own_total}
+use Rattle.ra_progress.proofs.places.length.Goals as goal
 
 pub returns : goal.returns
 returns c =

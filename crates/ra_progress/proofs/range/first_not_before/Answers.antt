@@ -1,6 +1,6 @@
 use Rattle.std.proofs.Common.{rules, arith, ◌++◌, ◌+◌, ◌-◌, ◌/◌, option_to_list}
-use Rattle.ra_progress_by_name.proofs.Orders.{numbers_within, all_before, none_before}
-use Rattle.ra_progress_by_name.proofs.range.first_not_before.Goals as goal
+use Rattle.ra_progress.proofs.Orders.{numbers_within, all_before, none_before}
+use Rattle.ra_progress.proofs.range.first_not_before.Goals as goal
 
 pub name_of-requires : goal.name_of-requires
 name_of-requires c =

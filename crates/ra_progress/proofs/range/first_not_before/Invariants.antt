@@ -1,8 +1,8 @@
 use Rattle.std.proofs.Common.{◌-◌, ◌≡◌, ◌++◌, ◌≤◌, ◌<◌, length, option_to_list, ℕ, true, false, slice_index}
 use Rattle.std.specs.Ordering.{is_lt, nat_cmp}
 use Rattle.std.specs.Cmp.Lexicographic.{slice_cmp}
-use Rattle.ra_progress_by_name.specs.Names.{named_by}
-use Rattle.ra_progress_by_name.proofs.range.first_not_before.Given as goal
+use Rattle.ra_progress.specs.Names.{named_by}
+use Rattle.ra_progress.proofs.range.first_not_before.Given as goal
 
 abbrev pub invariant-loop-low : goal.invariant-loop-low
 invariant-loop-low l = record {

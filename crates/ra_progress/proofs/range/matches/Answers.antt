@@ -1,5 +1,5 @@
-use Rattle.ra_progress_by_name.proofs.Usable.{few_cells, few_priors, few_entries}
-use Rattle.ra_progress_by_name.proofs.range.matches.Goals as goal
+use Rattle.ra_progress.proofs.Usable.{few_cells, few_priors, few_entries}
+use Rattle.ra_progress.proofs.range.matches.Goals as goal
 
 pub range-requires-clause-few : goal.range-requires-clause-few
 range-requires-clause-few c = rw c.deref-in-Cell.ensures.value (few_cells c.args.shape.now c.requires)

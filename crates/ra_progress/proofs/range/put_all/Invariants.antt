@@ -1,5 +1,5 @@
 use Rattle.std.proofs.Common.{◌≡◌, ◌≤◌, ◌<◌, length, ℕ, slice_index, slice_index_or}
-use Rattle.ra_progress_by_name.proofs.range.put_all.Given as goal
+use Rattle.ra_progress.proofs.range.put_all.Given as goal
 
 -- what is put so far, and what is kept
 abbrev pub invariant-loop-place : goal.invariant-loop-place

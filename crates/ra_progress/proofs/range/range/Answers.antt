@@ -1,6 +1,6 @@
 use Rattle.std.proofs.Common.{◌++◌, option_to_list}
-use Rattle.ra_progress_by_name.proofs.Orders.{range_between}
-use Rattle.ra_progress_by_name.proofs.range.range.Goals as goal
+use Rattle.ra_progress.proofs.Orders.{range_between}
+use Rattle.ra_progress.proofs.range.range.Goals as goal
 
 pub returns : goal.returns
 returns c =

@@ -1,13 +1,13 @@
 use Rattle.std.proofs.Common.{◌≡◌, ◌+◌, ◌<◌, ◌++◌, ◌∷◌, [], ◌∙◌, sym, ap, None, drop, length, map, get_or, slice_index_or, append_assoc, arith}
 use Rattle.std.proofs.lemmas.List.{get_or_read, map-append}
-use Rattle.ra_progress_by_name.specs.declared.shape.ItemShape.TheVariants.{Achievement}
-use Rattle.ra_progress_by_name.specs.Contents.{shape_contents, own_entries, own_at, kept_item, plain_item}
-use Rattle.ra_progress_by_name.specs.declared.shape.ItemShape.{ItemShape}
-use Rattle.ra_progress_by_name.specs.Layout.{item_length, block_length, own_length}
-use Rattle.ra_progress_by_name.specs.Saying.{said_or, said_item, said_items}
-use Rattle.ra_progress_by_name.proofs.Owns.{own_count, own_item}
-use Rattle.ra_progress_by_name.proofs.Placed.{own_within, places_count, if_some, said_next}
-use Rattle.ra_progress_by_name.proofs.reading.said_items.Goals as goal
+use Rattle.ra_progress.specs.declared.shape.ItemShape.TheVariants.{Achievement}
+use Rattle.ra_progress.specs.Contents.{shape_contents, own_entries, own_at, kept_item, plain_item}
+use Rattle.ra_progress.specs.declared.shape.ItemShape.{ItemShape}
+use Rattle.ra_progress.specs.Layout.{item_length, block_length, own_length}
+use Rattle.ra_progress.specs.Saying.{said_or, said_item, said_items}
+use Rattle.ra_progress.proofs.Owns.{own_count, own_item}
+use Rattle.ra_progress.proofs.Placed.{own_within, places_count, if_some, said_next}
+use Rattle.ra_progress.proofs.reading.said_items.Goals as goal
 
 pub bounds-places-k : goal.bounds-places-k
 bounds-places-k c =

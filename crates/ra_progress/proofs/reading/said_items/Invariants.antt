@@ -1,7 +1,7 @@
 use Rattle.std.proofs.Common.{◌≡◌, ◌++◌, drop, map}
-use Rattle.ra_progress_by_name.specs.Contents.{kept_item}
-use Rattle.ra_progress_by_name.specs.Saying.{said_items}
-use Rattle.ra_progress_by_name.proofs.reading.said_items.Given as goal
+use Rattle.ra_progress.specs.Contents.{kept_item}
+use Rattle.ra_progress.specs.Saying.{said_items}
+use Rattle.ra_progress.proofs.reading.said_items.Given as goal
 
 -- what is left to say
 abbrev pub invariant-loop-k : goal.invariant-loop-k

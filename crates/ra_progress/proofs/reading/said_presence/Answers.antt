@@ -1,9 +1,9 @@
 use Rattle.std.proofs.Common.{◌≡◌, ◌<◌, ◌∙◌, sym, ap, None, length, get_or, arith}
-use Rattle.ra_progress_by_name.specs.Contents.{shape_contents, own_entries, own_at, OfPresence}
-use Rattle.ra_progress_by_name.specs.Layout.{block_length}
-use Rattle.ra_progress_by_name.proofs.Owns.{own_count, own_script, script_count}
-use Rattle.ra_progress_by_name.proofs.Placed.{own_within, places_count, if_some}
-use Rattle.ra_progress_by_name.proofs.reading.said_presence.Goals as goal
+use Rattle.ra_progress.specs.Contents.{shape_contents, own_entries, own_at, OfPresence}
+use Rattle.ra_progress.specs.Layout.{block_length}
+use Rattle.ra_progress.proofs.Owns.{own_count, own_script, script_count}
+use Rattle.ra_progress.proofs.Placed.{own_within, places_count, if_some}
+use Rattle.ra_progress.proofs.reading.said_presence.Goals as goal
 
 pub bounds-places-len : goal.bounds-places-len
 bounds-places-len c =

@@ -1,11 +1,11 @@
 use Rattle.std.proofs.Common.{◌≡◌, ◌+◌, ◌-◌, ◌==◌, ◌<◌, ◌≤◌, ◌∙◌, refl, sym, ap, length, false, arith}
 use Rattle.std.proofs.lemmas.Bool.{eq-eqb, ne_eqb}
-use Rattle.ra_progress_by_name.specs.Contents.{shape_contents, own_entries, own_at}
+use Rattle.ra_progress.specs.Contents.{shape_contents, own_entries, own_at}
 use Rattle.ra_words.specs.Words.{word_at}
-use Rattle.ra_progress_by_name.specs.Layout.{block_length, own_length, entries_in, entry_count, first_entry}
-use Rattle.ra_progress_by_name.proofs.Walks.{walk_next}
-use Rattle.ra_progress_by_name.proofs.Sizes.{entries_count, sizes_count, sizes_step, sizes_end}
-use Rattle.ra_progress_by_name.proofs.relation.have_sizes.Goals as goal
+use Rattle.ra_progress.specs.Layout.{block_length, own_length, entries_in, entry_count, first_entry}
+use Rattle.ra_progress.proofs.Walks.{walk_next}
+use Rattle.ra_progress.proofs.Sizes.{entries_count, sizes_count, sizes_step, sizes_end}
+use Rattle.ra_progress.proofs.relation.have_sizes.Goals as goal
 
 pub returns-then-entry_count-count : goal.returns-then-entry_count-count
 returns-then-entry_count-count c =

@@ -1,9 +1,9 @@
 use Rattle.std.proofs.Common.{◌≡◌, ◌-◌, length, drop}
-use Rattle.ra_progress_by_name.specs.Contents.{shape_contents, own_entries}
-use Rattle.ra_progress_by_name.specs.Layout.{entries_from, entries_in}
-use Rattle.ra_progress_by_name.specs.Reading.{have_sizes}
-use Rattle.ra_progress_by_name.proofs.Walks.{IsWalk}
-use Rattle.ra_progress_by_name.proofs.relation.have_sizes.Given as goal
+use Rattle.ra_progress.specs.Contents.{shape_contents, own_entries}
+use Rattle.ra_progress.specs.Layout.{entries_from, entries_in}
+use Rattle.ra_progress.specs.Reading.{have_sizes}
+use Rattle.ra_progress.proofs.Walks.{IsWalk}
+use Rattle.ra_progress.proofs.relation.have_sizes.Given as goal
 
 -- what is left to compare
 abbrev pub invariant-loop-number : goal.invariant-loop-number

@@ -1,10 +1,10 @@
 use Rattle.std.proofs.Common.{◌≡◌, ◌+◌, ◌<◌, ◌≤◌, ◌∙◌, sym, ap, length, drop, arith}
-use Rattle.ra_progress_by_name.specs.Contents.{shape_contents, own_entries, own_at, entry_shape, EntryShape}
-use Rattle.ra_progress_by_name.specs.Layout.{block_length, own_length}
-use Rattle.ra_progress_by_name.specs.Reading.{bad_state, bad_states, blocks_from}
-use Rattle.ra_progress_by_name.proofs.OwnOrder.{read_as}
-use Rattle.ra_progress_by_name.proofs.Passes.{from_next, from_end, sum_next, first_is, later_is}
-use Rattle.ra_progress_by_name.proofs.states.bad_state_1.Goals as goal
+use Rattle.ra_progress.specs.Contents.{shape_contents, own_entries, own_at, entry_shape, EntryShape}
+use Rattle.ra_progress.specs.Layout.{block_length, own_length}
+use Rattle.ra_progress.specs.Reading.{bad_state, bad_states, blocks_from}
+use Rattle.ra_progress.proofs.OwnOrder.{read_as}
+use Rattle.ra_progress.proofs.Passes.{from_next, from_end, sum_next, first_is, later_is}
+use Rattle.ra_progress.proofs.states.bad_state_1.Goals as goal
 
 pub bad_state-requires-clause-within : goal.bad_state-requires-clause-within
 bad_state-requires-clause-within c =

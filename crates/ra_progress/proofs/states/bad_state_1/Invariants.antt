@@ -1,8 +1,8 @@
 use Rattle.std.proofs.Common.{◌≡◌, ◌+◌, drop, length, sum_by}
-use Rattle.ra_progress_by_name.specs.Contents.{shape_contents, own_entries}
-use Rattle.ra_progress_by_name.specs.Layout.{own_length, blocks_at_1}
-use Rattle.ra_progress_by_name.specs.Reading.{bad_states, blocks_from}
-use Rattle.ra_progress_by_name.proofs.states.bad_state_1.Given as goal
+use Rattle.ra_progress.specs.Contents.{shape_contents, own_entries}
+use Rattle.ra_progress.specs.Layout.{own_length, blocks_at_1}
+use Rattle.ra_progress.specs.Reading.{bad_states, blocks_from}
+use Rattle.ra_progress.proofs.states.bad_state_1.Given as goal
 
 -- what is left to look at, and where it stands
 abbrev pub invariant-loop-number : goal.invariant-loop-number

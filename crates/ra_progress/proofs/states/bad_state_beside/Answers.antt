@@ -1,11 +1,11 @@
 use Rattle.std.proofs.Common.{◌≡◌, ◌+◌, ◌-◌, ◌<◌, ◌≤◌, ◌∙◌, sym, ap, length, arith}
-use Rattle.ra_progress_by_name.specs.Contents.{shape_contents, own_entries, own_at, entry_shape, EntryShape}
-use Rattle.ra_progress_by_name.specs.Layout.{block_length, own_length}
-use Rattle.ra_progress_by_name.specs.Reading.{bad_state, bad_states, blocks_beside, have_sizes}
-use Rattle.ra_progress_by_name.proofs.Walks.{walk_next}
-use Rattle.ra_progress_by_name.proofs.OwnOrder.{read_as}
-use Rattle.ra_progress_by_name.proofs.Passes.{this_set_entries, this_set_walk, sized_next, beside_next, beside_end, first_is, later_is}
-use Rattle.ra_progress_by_name.proofs.states.bad_state_beside.Goals as goal
+use Rattle.ra_progress.specs.Contents.{shape_contents, own_entries, own_at, entry_shape, EntryShape}
+use Rattle.ra_progress.specs.Layout.{block_length, own_length}
+use Rattle.ra_progress.specs.Reading.{bad_state, bad_states, blocks_beside, have_sizes}
+use Rattle.ra_progress.proofs.Walks.{walk_next}
+use Rattle.ra_progress.proofs.OwnOrder.{read_as}
+use Rattle.ra_progress.proofs.Passes.{this_set_entries, this_set_walk, sized_next, beside_next, beside_end, first_is, later_is}
+use Rattle.ra_progress.proofs.states.bad_state_beside.Goals as goal
 
 pub loop-number-init : goal.loop-number-init
 loop-number-init c =

@@ -1,11 +1,11 @@
 use Rattle.std.proofs.Common.{◌∙◌, sym, arith}
-use Rattle.ra_progress_by_name.specs.Contents.{shape_contents, own_entries}
-use Rattle.ra_progress_by_name.specs.Layout.{entry_at}
-use Rattle.ra_progress_by_name.specs.Reading.{bad_entry, bad_states, blocks_of_entry}
-use Rattle.ra_progress_by_name.proofs.Checks.{neither_is}
-use Rattle.ra_progress_by_name.proofs.Walks.{walk_next}
-use Rattle.ra_progress_by_name.proofs.Passes.{entries_next, named_next, first_is, later_is}
-use Rattle.ra_progress_by_name.proofs.states.bad_state_named.Goals as goal
+use Rattle.ra_progress.specs.Contents.{shape_contents, own_entries}
+use Rattle.ra_progress.specs.Layout.{entry_at}
+use Rattle.ra_progress.specs.Reading.{bad_entry, bad_states, blocks_of_entry}
+use Rattle.ra_progress.proofs.Checks.{neither_is}
+use Rattle.ra_progress.proofs.Walks.{walk_next}
+use Rattle.ra_progress.proofs.Passes.{entries_next, named_next, first_is, later_is}
+use Rattle.ra_progress.proofs.states.bad_state_named.Goals as goal
 
 pub bad_state_of_entry-requires-clause-sized : goal.bad_state_of_entry-requires-clause-sized
 bad_state_of_entry-requires-clause-sized c =

@@ -1,11 +1,11 @@
 use Rattle.std.proofs.Common.{◌≡◌, ◌+◌, ◌==◌, ◌∙◌, sym, ap, not, map, find, slice_index, arith}
-use Rattle.ra_progress_by_name.specs.Contents.{shape_contents, own_entries, own_at, entry_shape, EntryShape}
+use Rattle.ra_progress.specs.Contents.{shape_contents, own_entries, own_at, entry_shape, EntryShape}
 use Rattle.ra_words.specs.Words.{word_at}
-use Rattle.ra_progress_by_name.specs.Layout.{block_length, own_length, entry_at}
-use Rattle.ra_progress_by_name.specs.Reading.{bad_state, bad_states, owns_named}
-use Rattle.ra_progress_by_name.proofs.OwnOrder.{read_as, none_before}
-use Rattle.ra_progress_by_name.proofs.Passes.{between_next, sized_between, first_is, later_is}
-use Rattle.ra_progress_by_name.proofs.states.bad_state_of_entry.Goals as goal
+use Rattle.ra_progress.specs.Layout.{block_length, own_length, entry_at}
+use Rattle.ra_progress.specs.Reading.{bad_state, bad_states, owns_named}
+use Rattle.ra_progress.proofs.OwnOrder.{read_as, none_before}
+use Rattle.ra_progress.proofs.Passes.{between_next, sized_between, first_is, later_is}
+use Rattle.ra_progress.proofs.states.bad_state_of_entry.Goals as goal
 
 pub loop-place-init : goal.loop-place-init
 loop-place-init c =

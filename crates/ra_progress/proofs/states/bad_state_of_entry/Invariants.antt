@@ -1,10 +1,10 @@
 use Rattle.std.proofs.Common.{◌≡◌, ◌+◌, ◌-◌, ◌==◌, not, None, map, take, drop, find}
-use Rattle.ra_progress_by_name.specs.Contents.{shape_contents, own_entries, own_at}
+use Rattle.ra_progress.specs.Contents.{shape_contents, own_entries, own_at}
 use Rattle.ra_words.specs.Words.{word_at}
-use Rattle.ra_progress_by_name.specs.Layout.{own_length, entry_at}
-use Rattle.ra_progress_by_name.specs.Reading.{bad_states, blocks_of_entry}
-use Rattle.ra_progress_by_name.proofs.OwnOrder.{read_as}
-use Rattle.ra_progress_by_name.proofs.states.bad_state_of_entry.Given as goal
+use Rattle.ra_progress.specs.Layout.{own_length, entry_at}
+use Rattle.ra_progress.specs.Reading.{bad_states, blocks_of_entry}
+use Rattle.ra_progress.proofs.OwnOrder.{read_as}
+use Rattle.ra_progress.proofs.states.bad_state_of_entry.Given as goal
 
 -- what is left to look at, all of it as long as the entry
 abbrev pub invariant-loop-place : goal.invariant-loop-place

@@ -1,10 +1,10 @@
 use Rattle.std.proofs.Common.{◌≡◌, ◌++◌, ◌∙◌, ap, [], ◌∷◌, length, append_assoc}
 use Rattle.std.specs.Int.{w32, w64, to_le_bytes}
-use Rattle.ra_progress_by_name.specs.Contents.{shape_contents, snapshot_contents}
-use Rattle.ra_progress_by_name.specs.Names.{entry_names}
-use Rattle.ra_progress_by_name.specs.Spelling.{mark, named_words, named_blocks, blocks_of}
-use Rattle.ra_progress_by_name.proofs.Blocks.{steps_6}
-use Rattle.ra_progress_by_name.proofs.writing.put_body.Goals as goal
+use Rattle.ra_progress.specs.Contents.{shape_contents, snapshot_contents}
+use Rattle.ra_progress.specs.Names.{entry_names}
+use Rattle.ra_progress.specs.Spelling.{mark, named_words, named_blocks, blocks_of}
+use Rattle.ra_progress.proofs.Blocks.{steps_6}
+use Rattle.ra_progress.proofs.writing.put_body.Goals as goal
 
 pub returns : goal.returns
 returns c =

@@ -1,12 +1,12 @@
 use Rattle.std.proofs.Common.{◌≡◌, ◌++◌, ◌∙◌, sym, ap, length, map, option_map, option_to_list, arith}
 use Rattle.std.proofs.lemmas.List.{length-map}
 use Rattle.std.specs.Int.{w32, to_le_bytes}
-use Rattle.ra_progress_by_name.specs.Contents.{shape_contents, kept_item, kept_presence}
-use Rattle.ra_progress_by_name.specs.Names.{entry_names}
-use Rattle.ra_progress_by_name.specs.Spelling.{named_blocks, item_bytes, presence_block}
-use Rattle.ra_progress_by_name.proofs.Owns.{own_total, names_count}
-use Rattle.ra_progress_by_name.proofs.Blocks.{items_as_many, blocks_parts, steps_3}
-use Rattle.ra_progress_by_name.proofs.writing.put_entries.Goals as goal
+use Rattle.ra_progress.specs.Contents.{shape_contents, kept_item, kept_presence}
+use Rattle.ra_progress.specs.Names.{entry_names}
+use Rattle.ra_progress.specs.Spelling.{named_blocks, item_bytes, presence_block}
+use Rattle.ra_progress.proofs.Owns.{own_total, names_count}
+use Rattle.ra_progress.proofs.Blocks.{items_as_many, blocks_parts, steps_3}
+use Rattle.ra_progress.proofs.writing.put_entries.Goals as goal
 
 pub put_items-requires-clause-short : goal.put_items-requires-clause-short
 put_items-requires-clause-short c =

@@ -1,11 +1,11 @@
 use Rattle.std.proofs.Common.{◌++◌, ◌<◌, ◌∙◌, sym, ap, ap₂, [], length, take, map, get_or, arith, append_assoc}
 use Rattle.std.proofs.lemmas.List.{take_all, length-map, get_or-map}
 use Rattle.std.specs.Int.{w32, to_le_bytes}
-use Rattle.ra_progress_by_name.specs.declared.shape.ItemShape.TheVariants.{Achievement}
-use Rattle.ra_progress_by_name.specs.Contents.{kept_item}
-use Rattle.ra_progress_by_name.specs.Spelling.{named_blocks, item_bytes}
-use Rattle.ra_progress_by_name.proofs.Blocks.{blocks_more, item_fits, block_of}
-use Rattle.ra_progress_by_name.proofs.writing.put_items.Goals as goal
+use Rattle.ra_progress.specs.declared.shape.ItemShape.TheVariants.{Achievement}
+use Rattle.ra_progress.specs.Contents.{kept_item}
+use Rattle.ra_progress.specs.Spelling.{named_blocks, item_bytes}
+use Rattle.ra_progress.proofs.Blocks.{blocks_more, item_fits, block_of}
+use Rattle.ra_progress.proofs.writing.put_items.Goals as goal
 
 pub put_named-requires-clause-fits : goal.put_named-requires-clause-fits
 put_named-requires-clause-fits c =

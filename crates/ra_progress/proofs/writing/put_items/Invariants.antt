@@ -1,7 +1,7 @@
 use Rattle.std.proofs.Common.{◌≡◌, ◌++◌, take, map}
-use Rattle.ra_progress_by_name.specs.Contents.{kept_item}
-use Rattle.ra_progress_by_name.specs.Spelling.{named_blocks, item_bytes}
-use Rattle.ra_progress_by_name.proofs.writing.put_items.Given as goal
+use Rattle.ra_progress.specs.Contents.{kept_item}
+use Rattle.ra_progress.specs.Spelling.{named_blocks, item_bytes}
+use Rattle.ra_progress.proofs.writing.put_items.Given as goal
 
 -- the items so far with their names and lengths
 abbrev pub invariant-loop-k : goal.invariant-loop-k

@@ -1,9 +1,9 @@
 use Rattle.std.proofs.Common.{◌≡◌, ◌++◌, ◌∙◌, sym, ap, length}
 use Rattle.std.specs.Int.{w32, to_le_bytes}
-use Rattle.ra_progress_by_name.specs.Contents.{kept_item}
-use Rattle.ra_progress_by_name.specs.Spelling.{item_bytes}
-use Rattle.ra_progress_by_name.proofs.Blocks.{length_item, steps_3}
-use Rattle.ra_progress_by_name.proofs.writing.put_named.Goals as goal
+use Rattle.ra_progress.specs.Contents.{kept_item}
+use Rattle.ra_progress.specs.Spelling.{item_bytes}
+use Rattle.ra_progress.proofs.Blocks.{length_item, steps_3}
+use Rattle.ra_progress.proofs.writing.put_named.Goals as goal
 
 pub returns : goal.returns
 returns c =

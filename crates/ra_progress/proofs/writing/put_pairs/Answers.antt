@@ -1,8 +1,8 @@
 use Rattle.std.proofs.Common.{◌++◌, ◌∙◌, sym, ap, ap₂, take, get_or, arith, []}
 use Rattle.std.proofs.lemmas.List.{take_all}
-use Rattle.ra_progress_by_name.specs.Spelling.{named_words}
-use Rattle.ra_progress_by_name.proofs.Blocks.{words_more, steps_3}
-use Rattle.ra_progress_by_name.proofs.writing.put_pairs.Goals as goal
+use Rattle.ra_progress.specs.Spelling.{named_words}
+use Rattle.ra_progress.proofs.Blocks.{words_more, steps_3}
+use Rattle.ra_progress.proofs.writing.put_pairs.Goals as goal
 
 pub loop-k-preserved : goal.loop-k-preserved
 loop-k-preserved c =

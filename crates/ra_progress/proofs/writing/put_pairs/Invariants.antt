@@ -1,6 +1,6 @@
 use Rattle.std.proofs.Common.{◌≡◌, ◌++◌, take}
-use Rattle.ra_progress_by_name.specs.Spelling.{named_words}
-use Rattle.ra_progress_by_name.proofs.writing.put_pairs.Given as goal
+use Rattle.ra_progress.specs.Spelling.{named_words}
+use Rattle.ra_progress.proofs.writing.put_pairs.Given as goal
 
 -- the names so far with their numbers
 abbrev pub invariant-loop-k : goal.invariant-loop-k

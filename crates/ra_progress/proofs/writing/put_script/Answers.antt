@@ -1,9 +1,9 @@
 use Rattle.std.proofs.Common.{◌≡◌, ◌++◌, ◌∙◌, sym, ap, length}
 use Rattle.std.specs.Int.{w32, to_le_bytes}
-use Rattle.ra_progress_by_name.specs.Contents.{kept_presence}
-use Rattle.ra_progress_by_name.specs.Spelling.{presence_bytes}
-use Rattle.ra_progress_by_name.proofs.Blocks.{script_long, steps_3, one_block}
-use Rattle.ra_progress_by_name.proofs.writing.put_script.Goals as goal
+use Rattle.ra_progress.specs.Contents.{kept_presence}
+use Rattle.ra_progress.specs.Spelling.{presence_bytes}
+use Rattle.ra_progress.proofs.Blocks.{script_long, steps_3, one_block}
+use Rattle.ra_progress.proofs.writing.put_script.Goals as goal
 
 pub returns-in_ok-put_presence-in-Some-presence : goal.returns-in_ok-put_presence-in-Some-presence
 returns-in_ok-put_presence-in-Some-presence c =
