@@ -1,15 +1,15 @@
 -- What a snapshot and a shape contain. The contents of a snapshot are an opening: what stands before the first frame.
 use Rattle.std.specs.Prelude.{◌≡◌, ℕ, ◌-◌, ◌<◌, ◌≤◌, ◌^◌, Bool, true, false, Option, None, Some, option_map, List, [], ◌∷◌, ◌++◌, length, map, replicate, slice_index_or}
-use Rattle.ra_progress_by_name.specs.declared.own.OwnShape.{OwnShape}
-use Rattle.ra_progress_by_name.specs.declared.own.OwnShape.TheVariants as owned
-use Rattle.ra_progress_by_name.specs.declared.shape.ItemShape.{ItemShape}
-use Rattle.ra_progress_by_name.specs.declared.shape.ItemShape.TheVariants as shapes
-use Rattle.ra_progress_by_name.specs.declared.shape.PresenceShape.{PresenceShape}
-use Rattle.ra_progress_by_name.specs.declared.shape.Shape.{Shape}
-use Rattle.ra_progress_by_name.specs.declared.snapshot.ItemKept.{ItemKept}
-use Rattle.ra_progress_by_name.specs.declared.snapshot.ItemKept.TheVariants as kept
-use Rattle.ra_progress_by_name.specs.declared.snapshot.PresenceKept.{PresenceKept}
-use Rattle.ra_progress_by_name.specs.declared.snapshot.Snapshot.{Snapshot}
+use Rattle.ra_progress.specs.declared.own.OwnShape.{OwnShape}
+use Rattle.ra_progress.specs.declared.own.OwnShape.TheVariants as owned
+use Rattle.ra_progress.specs.declared.shape.ItemShape.{ItemShape}
+use Rattle.ra_progress.specs.declared.shape.ItemShape.TheVariants as shapes
+use Rattle.ra_progress.specs.declared.shape.PresenceShape.{PresenceShape}
+use Rattle.ra_progress.specs.declared.shape.Shape.{Shape}
+use Rattle.ra_progress.specs.declared.snapshot.ItemKept.{ItemKept}
+use Rattle.ra_progress.specs.declared.snapshot.ItemKept.TheVariants as kept
+use Rattle.ra_progress.specs.declared.snapshot.PresenceKept.{PresenceKept}
+use Rattle.ra_progress.specs.declared.snapshot.Snapshot.{Snapshot}
 use Rattle.ra_words.specs.Words.{AreWords}
 
 -- a name: sixteen bytes

@@ -1,13 +1,13 @@
 -- What a reader wants of the two directions of a progress file.
 use Rattle.std.specs.Prelude.{◌≡◌, ℕ, ◌<◌, ◌≤◌, ◌^◌, true, List, length, map, Some}
 use Rattle.std.specs.List.{AllByRecursion}
-use Rattle.ra_progress_by_name.specs.declared.shape.PresenceShape.{PresenceShape}
-use Rattle.ra_progress_by_name.specs.Contents.{ShapeContents, Opening}
-use Rattle.ra_progress_by_name.specs.Layout.{version_in, cells_in, priors_in, entries_in, length_of}
-use Rattle.ra_progress_by_name.specs.Names.{IsName, IsPaired, entry_names}
-use Rattle.ra_progress_by_name.specs.Spelling.{progress_bytes}
-use Rattle.ra_progress_by_name.specs.Reading.{of_this_set, IsAccepted}
-use Rattle.ra_progress_by_name.specs.Saying.{says}
+use Rattle.ra_progress.specs.declared.shape.PresenceShape.{PresenceShape}
+use Rattle.ra_progress.specs.Contents.{ShapeContents, Opening}
+use Rattle.ra_progress.specs.Layout.{version_in, cells_in, priors_in, entries_in, length_of}
+use Rattle.ra_progress.specs.Names.{IsName, IsPaired, entry_names}
+use Rattle.ra_progress.specs.Spelling.{progress_bytes}
+use Rattle.ra_progress.specs.Reading.{of_this_set, IsAccepted}
+use Rattle.ra_progress.specs.Saying.{says}
 
 -- the parts of a shape are within their types, and the set's own bytes are no longer than a file may be
 pub record IsShape (shape : ShapeContents) : Type 0 where

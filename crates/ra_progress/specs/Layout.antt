@@ -2,11 +2,11 @@
 use Rattle.std.specs.Prelude.{ℕ, zero, suc, ◌+◌, ◌-◌, ◌*◌, ◌==◌, if◌then◌else◌, nat_lt, Option, None, Some, List, [], ◌∷◌, length, map, take, drop, slice_index, sum_by}
 use Rattle.std.specs.List.{range_with_len}
 use Rattle.std.specs.Int.{w64, from_le_bytes}
-use Rattle.ra_progress_by_name.specs.declared.shape.ItemShape.{ItemShape}
-use Rattle.ra_progress_by_name.specs.declared.shape.ItemShape.TheVariants as shapes
-use Rattle.ra_progress_by_name.specs.declared.shape.PresenceShape.{PresenceShape}
+use Rattle.ra_progress.specs.declared.shape.ItemShape.{ItemShape}
+use Rattle.ra_progress.specs.declared.shape.ItemShape.TheVariants as shapes
+use Rattle.ra_progress.specs.declared.shape.PresenceShape.{PresenceShape}
 use Rattle.ra_words.specs.Words.{word_at}
-use Rattle.ra_progress_by_name.specs.Contents.{Name, ShapeContents, EntryShape, OfItem, OfPresence, Own, own_entries}
+use Rattle.ra_progress.specs.Contents.{Name, ShapeContents, EntryShape, OfItem, OfPresence, Own, own_entries}
 
 -- the name at a place
 abbrev pub name_at : List ℕ → ℕ → Name

@@ -3,5 +3,7 @@ pub mod Laws
 pub mod Layout
 pub mod Names
 pub mod Reading
+pub mod Refusals
+pub mod Room
 pub mod Saying
 pub mod Spelling

@@ -2,14 +2,14 @@
 use Rattle.std.specs.Prelude.{◌≡◌, ◌⊎◌, ℕ, ◌+◌, ◌≤◌, ◌==◌, ◌&&◌, ◌||◌, not, Bool, true, false, if◌then◌else◌, nat_lt, nat_le, Option, None, Some, option_map, List, [], ◌∷◌, length, map, filter, take, find, bytes_eq, slice_index}
 use Rattle.std.specs.List.{flat_map, list_any, AllByRecursion}
 use Rattle.md5.specs.Md5.{md5}
-use Rattle.ra_progress_by_name.specs.declared.shape.ItemShape.{ItemShape}
-use Rattle.ra_progress_by_name.specs.declared.shape.ItemShape.TheVariants as shapes
-use Rattle.ra_progress_by_name.specs.declared.refused.ProgressRefused.{ProgressRefused}
-use Rattle.ra_progress_by_name.specs.declared.refused.ProgressRefused.TheVariants.{WrongLength, WrongMark, WrongVersion, WrongSum, OtherSet, BadEntry, BadState}
-use Rattle.ra_progress_by_name.specs.Contents.{Name, ShapeContents, EntryShape, OfItem, OfPresence, Own, own_entries}
+use Rattle.ra_progress.specs.declared.shape.ItemShape.{ItemShape}
+use Rattle.ra_progress.specs.declared.shape.ItemShape.TheVariants as shapes
+use Rattle.ra_progress.specs.declared.refused.ProgressRefused.{ProgressRefused}
+use Rattle.ra_progress.specs.declared.refused.ProgressRefused.TheVariants.{WrongLength, WrongMark, WrongVersion, WrongSum, OtherSet, BadEntry, BadState}
+use Rattle.ra_progress.specs.Contents.{Name, ShapeContents, EntryShape, OfItem, OfPresence, Own, own_entries}
 use Rattle.ra_words.specs.Words.{word_at}
-use Rattle.ra_progress_by_name.specs.Layout.{Entry, version_in, digest_in, sum_in, summed_in, own_length, blocks_at_1, length_1_of, cell_count, prior_count, need_of, entries_in}
-use Rattle.ra_progress_by_name.specs.Spelling.{mark}
+use Rattle.ra_progress.specs.Layout.{Entry, version_in, digest_in, sum_in, summed_in, own_length, blocks_at_1, length_1_of, cell_count, prior_count, need_of, entries_in}
+use Rattle.ra_progress.specs.Spelling.{mark}
 
 -- the most and the fewest bytes of a file
 abbrev pub most_bytes : ℕ
@@ -134,7 +134,7 @@ bad_contents shape bytes =
 -- the first refusal of a file whole in itself: it is of another set, or something in it does not fit this one
 abbrev pub misfit : ShapeContents → List ℕ → Option ProgressRefused
 misfit shape bytes =
-    if not (is_related shape bytes) then Some (OtherSet (digest_in bytes)) else bad_contents shape bytes
+    if not (is_related shape bytes) then Some (OtherSet shape.digest (digest_in bytes)) else bad_contents shape bytes
 
 -- why a file is refused: the first of eight checks that fails
 abbrev pub refusal : ShapeContents → List ℕ → Option ProgressRefused

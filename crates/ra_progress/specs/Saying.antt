@@ -1,12 +1,12 @@
 -- What accepted bytes say.
 use Rattle.std.specs.Prelude.{ℕ, ◌+◌, ◌-◌, ◌*◌, ◌==◌, Bool, if◌then◌else◌, nat_le, Option, None, Some, option_map, List, [], ◌∷◌, length, map, bytes_eq, slice_index, slice_index_or}
-use Rattle.ra_progress_by_name.specs.declared.shape.ItemShape.{ItemShape}
-use Rattle.ra_progress_by_name.specs.declared.shape.ItemShape.TheVariants as shapes
-use Rattle.ra_progress_by_name.specs.declared.shape.PresenceShape.{PresenceShape}
-use Rattle.ra_progress_by_name.specs.Contents.{Name, ShapeContents, own_entries, KeptItem, OfAchievement, OfBoard, KeptPresence, Opening, plain_item, plain_presence}
+use Rattle.ra_progress.specs.declared.shape.ItemShape.{ItemShape}
+use Rattle.ra_progress.specs.declared.shape.ItemShape.TheVariants as shapes
+use Rattle.ra_progress.specs.declared.shape.PresenceShape.{PresenceShape}
+use Rattle.ra_progress.specs.Contents.{Name, ShapeContents, own_entries, KeptItem, OfAchievement, OfBoard, KeptPresence, Opening, plain_item, plain_presence}
 use Rattle.ra_words.specs.Words.{word_at, words_at}
-use Rattle.ra_progress_by_name.specs.Layout.{Numbered, Entry, version_in, frames_at, cells_in, priors_in, entries_in, blocks_at_1}
-use Rattle.ra_progress_by_name.specs.Reading.{of_this_set, blocks_from}
+use Rattle.ra_progress.specs.Layout.{Numbered, Entry, version_in, frames_at, cells_in, priors_in, entries_in, blocks_at_1}
+use Rattle.ra_progress.specs.Reading.{of_this_set, blocks_from}
 
 -- whether an achievement's state byte says that it is earned: in version 3 by itself, and in an older one where it is triggered
 abbrev pub is_earned : (version byte : ℕ) → Bool

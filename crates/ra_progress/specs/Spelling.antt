@@ -2,9 +2,9 @@
 use Rattle.std.specs.Prelude.{ℕ, ◌+◌, Bool, if◌then◌else◌, Option, None, Some, List, [], ◌∷◌, ◌++◌, codes, length, map}
 use Rattle.std.specs.Int.{w32, w64, to_le_bytes}
 use Rattle.md5.specs.Md5.{md5}
-use Rattle.ra_progress_by_name.specs.Contents.{Name, ShapeContents, KeptItem, OfAchievement, OfBoard, KeptPresence, Opening}
+use Rattle.ra_progress.specs.Contents.{Name, ShapeContents, KeptItem, OfAchievement, OfBoard, KeptPresence, Opening}
 use Rattle.ra_words.specs.Words.{words}
-use Rattle.ra_progress_by_name.specs.Names.{entry_names}
+use Rattle.ra_progress.specs.Names.{entry_names}
 
 -- the state byte of an achievement: its state, and 8 more where it is earned
 abbrev pub state_byte : (state : ℕ) → (earned : Bool) → ℕ

@@ -2,10 +2,10 @@
 
 ghost use Rattle.std.specs.Prelude.{◌≡◌, ◌≤◌, ◌↔◌, length as length_of_list, None, Some, IsOk, IfErr, MatchResult, false};
 ghost use Rattle.md5.specs.Md5.{md5};
-ghost use Rattle.ra_progress_by_name.specs.Contents.{shape_contents};
-ghost use Rattle.ra_progress_by_name.specs.Layout as layout;
-ghost use Rattle.ra_progress_by_name.specs.Names.{IsUsable};
-ghost use Rattle.ra_progress_by_name.specs.Reading as spec;
+ghost use Rattle.ra_progress.specs.Contents.{shape_contents};
+ghost use Rattle.ra_progress.specs.Layout as layout;
+ghost use Rattle.ra_progress.specs.Names.{IsUsable};
+ghost use Rattle.ra_progress.specs.Reading as spec;
 
 use crate::entries::{bad_entries, has_own};
 use crate::layout::need;
@@ -130,7 +130,10 @@ fn misfit_1(shape: &Shape, bytes: &[u8]) -> Result<(), ProgressRefused>
 {
     let digest = name_at(bytes, 5);
     if digest != shape.digest {
-        return Err(ProgressRefused::OtherSet { found: digest });
+        return Err(ProgressRefused::OtherSet {
+            wanted: shape.digest,
+            found: digest,
+        });
     }
     told(bad_state_1(shape, bytes))
 }
@@ -148,6 +151,7 @@ fn misfit_named(shape: &Shape, bytes: &[u8]) -> Result<(), ProgressRefused>
     }
     if !has_own(shape, bytes) {
         return Err(ProgressRefused::OtherSet {
+            wanted: shape.digest,
             found: name_at(bytes, 5),
         });
     }

@@ -2,10 +2,10 @@
 
 ghost use Rattle.std.specs.Prelude.{◌≡◌, ◌+◌, ◌-◌, ◌==◌, ◌≤◌, ◌<◌, ◌^◌, not, map, take, drop, find, option_map, slice_index, length as length_of_list};
 ghost use Rattle.std.specs.List.{list_any};
-ghost use Rattle.ra_progress_by_name.specs.Contents.{shape_contents, own_entries, own_at, entry_shape};
-ghost use Rattle.ra_progress_by_name.specs.Layout as layout;
-ghost use Rattle.ra_progress_by_name.specs.Names.{IsUsable};
-ghost use Rattle.ra_progress_by_name.specs.Reading as spec;
+ghost use Rattle.ra_progress.specs.Contents.{shape_contents, own_entries, own_at, entry_shape};
+ghost use Rattle.ra_progress.specs.Layout as layout;
+ghost use Rattle.ra_progress.specs.Names.{IsUsable};
+ghost use Rattle.ra_progress.specs.Reading as spec;
 
 use crate::layout::{entry_after, entry_count, first_entry};
 use crate::named::Named;

@@ -2,12 +2,12 @@
 
 ghost use Rattle.std.specs.Prelude.{◌≡◌, ℕ, ◌<◌, List};
 ghost use Rattle.std.specs.List.{AllByRecursion};
-ghost use Rattle.ra_progress_by_name.specs.Contents.{ShapeContents, Opening, IsOpening};
-ghost use Rattle.ra_progress_by_name.specs.Spelling.{progress_bytes};
-ghost use Rattle.ra_progress_by_name.specs.Names.{IsPaired};
-ghost use Rattle.ra_progress_by_name.specs.Reading.{IsAccepted};
-ghost use Rattle.ra_progress_by_name.specs.Saying.{says};
-ghost use Rattle.ra_progress_by_name.specs.Laws.{IsShape, HasLines, ComesBack, IsOwn};
+ghost use Rattle.ra_progress.specs.Contents.{ShapeContents, Opening, IsOpening};
+ghost use Rattle.ra_progress.specs.Spelling.{progress_bytes};
+ghost use Rattle.ra_progress.specs.Names.{IsPaired};
+ghost use Rattle.ra_progress.specs.Reading.{IsAccepted};
+ghost use Rattle.ra_progress.specs.Saying.{says};
+ghost use Rattle.ra_progress.specs.Laws.{IsShape, HasLines, ComesBack, IsOwn};
 
 /// The bytes of an opening are accepted, say it again and are the set's own; the set's own bytes
 /// are those of what they say; and what accepted bytes say is an opening, where a script has a line:

@@ -1,8 +1,8 @@
 //! Where the fields of versions 2 and 3 stand, and how long such a file has to be.
 
 ghost use Rattle.std.specs.Prelude.{◌≡◌, ◌+◌, ◌*◌, ◌≤◌, ◌<◌, length};
-ghost use Rattle.ra_progress_by_name.specs.Layout as spec;
-ghost use Rattle.ra_progress_by_name.specs.Reading.{HasLayout};
+ghost use Rattle.ra_progress.specs.Layout as spec;
+ghost use Rattle.ra_progress.specs.Reading.{HasLayout};
 
 use ra_words::word_at;
 

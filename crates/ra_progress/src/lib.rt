@@ -1,12 +1,13 @@
-//! Progress files by name: what a set keeps between runs, in three versions.
+//! Progress files: what a set keeps between runs, in three versions.
 //!
-//! Version 3 is written, and versions 1, 2 and 3 are read. All but `order_of`, `encode` and `decode`
-//! take no memory.
+//! Version 3 is written, and versions 1, 2 and 3 are read. All but `order_of`, `Said::new`, `encode`
+//! and `decode` take no memory.
 #![tactic(auto)]
 
 mod checking;
 mod entries;
 mod entry_places;
+mod hex;
 mod laws;
 mod layout;
 mod named;
@@ -19,6 +20,7 @@ mod range;
 mod reading;
 mod refused;
 mod relation;
+mod said;
 mod shape;
 mod snapshot;
 mod states;
@@ -27,6 +29,7 @@ mod tests;
 mod writing;
 
 pub use checking::check;
+pub use hex::Hex;
 pub use laws::both_ways;
 pub use layout::{cell_count, entry_after, entry_count, first_entry, prior_count};
 pub use named::Named;
@@ -38,6 +41,7 @@ pub use range::matches;
 pub use reading::decode;
 pub use refused::ProgressRefused;
 pub use relation::of_this_set;
+pub use said::Said;
 pub use shape::{ItemShape, PresenceShape, Shape};
 pub use snapshot::{ItemKept, PresenceKept, Snapshot};
 pub use writing::encode;

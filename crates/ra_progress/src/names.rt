@@ -1,5 +1,5 @@
 ghost use Rattle.std.specs.Prelude.{◌≡◌, ◌+◌, ◌≤◌, length};
-ghost use Rattle.ra_progress_by_name.specs.Layout as spec;
+ghost use Rattle.ra_progress.specs.Layout as spec;
 
 /// The name at a place, counted in bytes: docs/DEFINITIONS.md, "Progress file".
 pub fn name_at(bytes: &[u8], at: u64) -> [u8; 16]

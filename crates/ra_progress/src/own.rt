@@ -1,9 +1,9 @@
 //! The entries that a set writes, by their numbers: the items in set order, then the script.
 
 ghost use Rattle.std.specs.Prelude.{◌≡◌, ◌+◌, ◌<◌, ◌≤◌, ◌^◌, sum_by, length as length_of_list};
-ghost use Rattle.ra_progress_by_name.specs.Contents.{shape_contents, own_entries, own_at, entry_shape};
-ghost use Rattle.ra_progress_by_name.specs.Layout as layout;
-ghost use Rattle.ra_progress_by_name.specs.Names.{IsPaired};
+ghost use Rattle.ra_progress.specs.Contents.{shape_contents, own_entries, own_at, entry_shape};
+ghost use Rattle.ra_progress.specs.Layout as layout;
+ghost use Rattle.ra_progress.specs.Names.{IsPaired};
 
 use crate::shape::{ItemShape, PresenceShape, Shape};
 

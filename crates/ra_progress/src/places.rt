@@ -1,9 +1,9 @@
 //! Where the blocks stand in the set's own bytes, in bytes from the start.
 
 ghost use Rattle.std.specs.Prelude.{◌≡◌, ◌⊎◌, ◌+◌, ◌*◌, ◌<◌, ◌≤◌, ◌^◌, IsSome, length as length_of_list};
-ghost use Rattle.ra_progress_by_name.specs.Contents.{shape_contents};
-ghost use Rattle.ra_progress_by_name.specs.Layout as layout;
-ghost use Rattle.ra_progress_by_name.specs.Names.{IsSearchable, IsUsable};
+ghost use Rattle.ra_progress.specs.Contents.{shape_contents};
+ghost use Rattle.ra_progress.specs.Layout as layout;
+ghost use Rattle.ra_progress.specs.Names.{IsSearchable, IsUsable};
 
 use crate::own::{items_length, own_count, script_length};
 use crate::shape::Shape;

@@ -1,10 +1,10 @@
 //! Names that are looked up.
 
-ghost use Rattle.std.specs.Prelude.{◌≡◌, ◌++◌, ◌≤◌, ◌<◌, ◌^◌, length, option_to_list, ◌↔◌, ℕ, true, false, slice_index, slice_index_or};
+ghost use Rattle.std.specs.Prelude.{◌≡◌, ◌++◌, ◌≤◌, ◌<◌, ◌^◌, length, option_to_list, ◌↔◌, ℕ, true, false, slice_index, slice_index_or, replicate};
 ghost use Rattle.std.specs.Ordering.{is_lt, nat_cmp};
 ghost use Rattle.std.specs.Cmp.Lexicographic.{slice_cmp};
-ghost use Rattle.ra_progress_by_name.specs.Contents.{shape_contents};
-ghost use Rattle.ra_progress_by_name.specs.Names.{IsOrder, IsRange, IsUsable, names_of, order_in, named_by};
+ghost use Rattle.ra_progress.specs.Contents.{shape_contents};
+ghost use Rattle.ra_progress.specs.Names.{IsOrder, IsRange, IsUsable, names_of, order_in, named_by};
 
 use crate::named::Named;
 use crate::shape::Shape;
@@ -36,6 +36,15 @@ pub(crate) fn order_of_names(shape: &Shape, named: Named) -> &[u32]
         Named::Cell => &shape.cell_order,
         Named::Prior => &shape.prior_order,
         Named::Entry => &shape.entry_order,
+    }
+}
+
+/// Gives a value to all.
+pub(crate) fn fill_all<T: Copy>(values: &mut Vec<T>, value: T)
+    ensures { values.new.items ≡ replicate (length values.old.items) value }
+{
+    for place in 0..values.len() {
+        values[place] = value;
     }
 }
 

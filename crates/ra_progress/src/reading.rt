@@ -1,15 +1,14 @@
 //! What a progress file says.
 
 ghost use Rattle.std.specs.Prelude.{◌≡◌, ◌+◌, ◌<◌, ◌≤◌, length as length_of_list, map, option_map, IfOk, IfSome};
-ghost use Rattle.ra_progress_by_name.specs.Contents.{shape_contents, snapshot_contents, kept_item, kept_presence, OfPresence, plain_item, plain_presence};
-ghost use Rattle.ra_progress_by_name.specs.Layout as layout;
-ghost use Rattle.ra_progress_by_name.specs.Names.{IsUsable};
-ghost use Rattle.ra_progress_by_name.specs.Reading.{IsAccepted};
-ghost use Rattle.ra_progress_by_name.specs.Saying as spec;
+ghost use Rattle.ra_progress.specs.Contents.{shape_contents, snapshot_contents, kept_item, kept_presence, OfPresence, plain_item, plain_presence};
+ghost use Rattle.ra_progress.specs.Layout as layout;
+ghost use Rattle.ra_progress.specs.Names.{IsUsable};
+ghost use Rattle.ra_progress.specs.Reading.{IsAccepted};
+ghost use Rattle.ra_progress.specs.Saying as spec;
 
-use crate::entry_places::own_places;
-use crate::numbers::{said_cells, said_priors};
 use crate::places::frames_at;
+use crate::said::Said;
 use crate::shape::{ItemShape, PresenceShape, Shape};
 use crate::snapshot::{ItemKept, PresenceKept, Snapshot};
 use ra_text::OutOfMemory;
@@ -25,15 +24,14 @@ pub fn decode(alloc: Global, shape: &Shape, bytes: &[u8]) -> Result<Snapshot, Ou
     requires accepted { IsAccepted (shape_contents shape.now) bytes.now }
     ensures { IfOk result (λ snapshot. snapshot_contents snapshot ≡ spec.says (shape_contents shape.now) bytes.now) }
 {
-    let cells = said_cells(alloc, shape, bytes)?;
-    let priors = said_priors(alloc, shape, bytes)?;
-    let places = own_places(alloc, shape, bytes)?;
-    let items = said_items(alloc, shape, bytes, &places)?;
-    let presence = said_presence(alloc, shape, bytes, &places)?;
+    let mut said = Said::new(alloc, shape)?;
+    said.read(shape, bytes);
+    let items = said_items(alloc, shape, bytes, &said.places)?;
+    let presence = said_presence(alloc, shape, bytes, &said.places)?;
     Ok(Snapshot {
         frames: frames_at(bytes),
-        cells,
-        priors,
+        cells: said.cells,
+        priors: said.priors,
         items,
         presence,
     })

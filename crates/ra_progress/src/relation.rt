@@ -1,10 +1,10 @@
 //! Whether a file is of this set.
 
 ghost use Rattle.std.specs.Prelude.{◌≡◌, ◌&&◌, ◌==◌, bytes_eq};
-ghost use Rattle.ra_progress_by_name.specs.Contents.{shape_contents, own_entries};
-ghost use Rattle.ra_progress_by_name.specs.Layout as layout;
-ghost use Rattle.ra_progress_by_name.specs.Names.{IsPaired, IsUsable};
-ghost use Rattle.ra_progress_by_name.specs.Reading as spec;
+ghost use Rattle.ra_progress.specs.Contents.{shape_contents, own_entries};
+ghost use Rattle.ra_progress.specs.Layout as layout;
+ghost use Rattle.ra_progress.specs.Names.{IsPaired, IsUsable};
+ghost use Rattle.ra_progress.specs.Reading as spec;
 
 use crate::layout::{cell_count, entry_after, entry_count, first_entry, prior_count};
 use crate::names::name_at;

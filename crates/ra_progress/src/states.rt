@@ -1,10 +1,10 @@
 //! The first state byte or shown index that is not in its table.
 
 ghost use Rattle.std.specs.Prelude.{◌≡◌, ◌+◌, ◌<◌, ◌≤◌, length, None, true};
-ghost use Rattle.ra_progress_by_name.specs.Contents.{OfItem, OfPresence, shape_contents, own_entries, entry_shape};
-ghost use Rattle.ra_progress_by_name.specs.Layout as layout;
-ghost use Rattle.ra_progress_by_name.specs.Names.{IsUsable};
-ghost use Rattle.ra_progress_by_name.specs.Reading as spec;
+ghost use Rattle.ra_progress.specs.Contents.{OfItem, OfPresence, shape_contents, own_entries, entry_shape};
+ghost use Rattle.ra_progress.specs.Layout as layout;
+ghost use Rattle.ra_progress.specs.Names.{IsUsable};
+ghost use Rattle.ra_progress.specs.Reading as spec;
 
 use crate::entries::{own_in_order, own_range};
 use crate::layout::{entry_after, entry_count, first_entry};

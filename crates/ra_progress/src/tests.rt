@@ -1,7 +1,7 @@
 //! The worked file of one achievement in each version, and its neighbours.
 
 ghost use Rattle.std.specs.Prelude.{◌≤◌, ◌+◌, ◌≡◌, IfOk};
-ghost use Rattle.ra_progress_by_name.specs.Names.{IsUsable};
+ghost use Rattle.ra_progress.specs.Names.{IsUsable};
 
 use crate::{
     ItemKept, ItemShape, Named, PresenceShape, ProgressRefused, Shape, Snapshot, check, decode,
@@ -280,13 +280,19 @@ fn the_first_check_that_fails_is_told(rt: HostRuntime) -> Result<(), Fail> {
 fn files_of_other_sets(rt: HostRuntime) -> Result<(), Fail> {
     let alloc = rt.alloc();
     let shape = row_1(alloc)?;
-    let other = Some(ProgressRefused::OtherSet { found: OTHER });
+    let other = Some(ProgressRefused::OtherSet {
+        wanted: DIGEST,
+        found: OTHER,
+    });
     let cells_alone = [OTHER_FRONT, "01000000", C, "09000000 00000000 00000000"];
     assert_eq!(rt; refused(alloc, &shape, &cells_alone)?, other);
     let old = [OTHER_FRONT_1, "05000000 04 00000000 03000000"];
     assert_eq!(rt; refused(alloc, &shape, &old)?, other);
     let no_entry = [FRONT, "00000000 00000000 00000000"];
-    let none = Some(ProgressRefused::OtherSet { found: DIGEST });
+    let none = Some(ProgressRefused::OtherSet {
+        wanted: DIGEST,
+        found: DIGEST,
+    });
     assert_eq!(rt; refused(alloc, &shape, &no_entry)?, none);
     Ok(())
 }
@@ -483,7 +489,10 @@ fn longest(alloc: Global, last: &[u8; 16]) -> Result<Vec<u8>, OutOfMemory> {
 fn a_file_of_the_most_bytes(rt: HostRuntime) -> Result<(), Fail> {
     let shape = row_1(rt.alloc())?;
     let foreign = longest(rt.alloc(), &OTHER)?;
-    let other = ProgressRefused::OtherSet { found: OTHER };
+    let other = ProgressRefused::OtherSet {
+        wanted: DIGEST,
+        found: OTHER,
+    };
     assert_eq!(rt; foreign.len(), 8388608);
     assert_eq!(rt; check(&shape, &foreign), Err(other));
     let own = longest(rt.alloc(), &ITEM)?;

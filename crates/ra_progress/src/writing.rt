@@ -2,11 +2,11 @@
 
 ghost use Rattle.std.specs.Prelude.{◌≡◌, ◌++◌, ◌<◌, ◌≤◌, ◌∷◌, [], ◌^◌, length as length_of_list, map, option_map, option_to_list, sum_by, IfOk, OnOk};
 ghost use Rattle.std.specs.Int.{w32, to_le_bytes};
-ghost use Rattle.ra_progress_by_name.specs.Contents.{shape_contents, snapshot_contents, kept_item, kept_presence, IsOpening, ItemFits, ItemsFit, PresenceFits};
-ghost use Rattle.ra_progress_by_name.specs.Layout as layout;
-ghost use Rattle.ra_progress_by_name.specs.Names.{IsUsable, entry_names};
+ghost use Rattle.ra_progress.specs.Contents.{shape_contents, snapshot_contents, kept_item, kept_presence, IsOpening, ItemFits, ItemsFit, PresenceFits};
+ghost use Rattle.ra_progress.specs.Layout as layout;
+ghost use Rattle.ra_progress.specs.Names.{IsUsable, entry_names};
 ghost use Rattle.ra_words.specs.Words.{words};
-ghost use Rattle.ra_progress_by_name.specs.Spelling.{state_byte, item_bytes, presence_bytes, presence_block, blocks_of, named_words, named_blocks, body_bytes, progress_bytes};
+ghost use Rattle.ra_progress.specs.Spelling.{state_byte, item_bytes, presence_bytes, presence_block, blocks_of, named_words, named_blocks, body_bytes, progress_bytes};
 
 use crate::own::{OwnShape, block_length, own_count, script_length};
 use crate::places::length;

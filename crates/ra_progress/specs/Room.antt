@@ -1,0 +1,18 @@
+-- Room for what a progress file says, which is made once for a shape: docs/DEFINITIONS.md, "Progress file".
+use Rattle.std.specs.Prelude.{◌≡◌, ℕ, ◌+◌, ◌*◌, List, length}
+use Rattle.ra_progress.specs.declared.said.Said.{Said}
+use Rattle.ra_progress.specs.Contents.{ShapeContents, own_entries}
+use Rattle.ra_progress.specs.Layout.{cells_in, priors_in}
+use Rattle.ra_progress.specs.Saying.{said_numbers, own_places}
+
+-- there is a number for each cell and each tracked mask, and a place for each own entry
+pub record IsRoom (shape : ShapeContents) (said : Said) : Type 0 where
+  pub cells : length said.cells.items ≡ length shape.cells
+  pub priors : length said.priors.items ≡ length shape.priors
+  pub places : length said.places.items ≡ length (own_entries shape)
+
+-- the numbers and the places are those that the bytes say
+pub record Says (shape : ShapeContents) (bytes : List ℕ) (said : Said) : Type 0 where
+  pub cells : said.cells.items ≡ said_numbers shape bytes 29 shape.cells (cells_in bytes)
+  pub priors : said.priors.items ≡ said_numbers shape bytes (29 + 4 * length shape.cells) shape.priors (priors_in bytes)
+  pub places : said.places.items ≡ own_places shape bytes

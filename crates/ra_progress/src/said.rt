@@ -1,0 +1,59 @@
+ghost use Rattle.std.specs.Prelude.{IfOk};
+ghost use Rattle.ra_progress.specs.Contents.{shape_contents};
+ghost use Rattle.ra_progress.specs.Names.{IsPaired, IsUsable};
+ghost use Rattle.ra_progress.specs.Reading.{IsAccepted};
+
+use crate::entry_places::read_places;
+use crate::numbers::{read_cells, read_priors};
+use crate::own::own_count;
+use crate::shape::Shape;
+use ra_text::OutOfMemory;
+use std::alloc::Global;
+
+/// What a progress file says of the numbers of a set, and where it has the blocks of the set's entries:
+/// docs/DEFINITIONS.md, "Progress file".
+///
+/// It is made once for a shape, and then takes up one file after the other without memory.
+#[derive(Drop)]
+pub struct Said {
+    /// The number of each cell, in order of first occurrence.
+    pub cells: Vec<u32>,
+    /// The number of each tracked mask, in order of first occurrence.
+    pub priors: Vec<u32>,
+    /// Where the block of each item and then of the script begins, in bytes from the start; none
+    /// where the file has no block of it.
+    pub places: Vec<Option<u64>>,
+}
+
+impl Said {
+    ghost use Rattle.ra_progress.specs.Room.{IsRoom, Says};
+
+    /// Room for the files that the shape accepts.
+    pub fn new(alloc: Global, shape: &Shape) -> Result<Said, OutOfMemory>
+        requires { IsPaired (shape_contents shape.now) }
+        ensures { IfOk result (IsRoom (shape_contents shape.now)) }
+    {
+        Ok(Said {
+            cells: vec![in alloc; 0; shape.cells.len()]?,
+            priors: vec![in alloc; 0; shape.priors.len()]?,
+            places: vec![in alloc; None; own_count(shape) as usize]?,
+        })
+    }
+
+    /// Takes up what bytes say which `check` accepts. No memory is taken.
+    ///
+    /// In version 1 and in a file of this set all fields are read by their places, and else by the
+    /// names of the shape: the last one of a name counts. A cell or mask without a name in the file is
+    /// 0, and an entry without one has no place.
+    pub fn read(&mut self, shape: &Shape, bytes: &[u8])
+        requires usable { IsUsable shape.now }
+        requires accepted { IsAccepted (shape_contents shape.now) bytes.now }
+        requires room { IsRoom (shape_contents shape.now) self.old }
+        ensures says { Says (shape_contents shape.now) bytes.now self.new }
+        ensures room { IsRoom (shape_contents shape.now) self.new }
+    {
+        read_cells(&mut self.cells, shape, bytes);
+        read_priors(&mut self.priors, shape, bytes);
+        read_places(&mut self.places, shape, bytes);
+    }
+}
