@@ -3,6 +3,7 @@ use Rattle.std.proofs.Common.{◌≡◌, ℕ, List, length, map, sym, ◌∙◌,
 use Rattle.std.proofs.lemmas.List.{length-replicate}
 use Rattle.ra_condition.specs.Contents.{TriggerContents, groups_of, PartContents, counted_in}
 use Rattle.ra_indirect.specs.declared.node.Node.{Node}
+use Rattle.ra_trigger.specs.Steps.{cleared as cleared_hits}
 use Rattle.ra_value.specs.Kept.{cleared}
 use Rattle.ra_value.specs.Steps.{ValueKept}
 use Rattle.ra_member.specs.declared.trigger_run.TriggerRun.{TriggerRun}
@@ -16,6 +17,12 @@ pub test_stays : (bytes : List ℕ) (at : ℕ) (old new : TriggerRun) → PutsBa
 test_stays bytes at old new back nodes t is = record {
   laid = subst (IsLaid nodes (groups_of t)) (sym back.laid) is.laid;
   hits = ap length back.hits ∙ length-words_at bytes at (length old.trigger.hits) ∙ is.hits;
+}
+
+pub test_cleared : (old new : TriggerRun) → new.laid ≡ old.laid → new.trigger.hits ≡ cleared_hits old.trigger.hits → (nodes : List Node) (t : TriggerContents) → IsTriggerRun nodes t old → IsTriggerRun nodes t new
+test_cleared old new laid is nodes t run = record {
+  laid = subst (IsLaid nodes (groups_of t)) (sym laid) run.laid;
+  hits = ap length is ∙ length-replicate (length old.trigger.hits) 0 ∙ run.hits;
 }
 
 -- a value of which only the kept numbers change, and not how many there are

@@ -7,6 +7,8 @@ use Rattle.ra_indirect.specs.Trees.{Tree}
 use Rattle.ra_chain.specs.Occurrence.{trees_in_trigger, trees_in_value}
 use Rattle.ra_memref.specs.Values.{Start}
 use Rattle.ra_set.specs.Limits.{value_conditions}
+use Rattle.ra_trigger.specs.Steps.{cleared as cleared_hits}
+use Rattle.ra_value.specs.Kept.{cleared as cleared_value}
 use Rattle.ra_value.specs.Steps.{ValueKept, no_value}
 use Rattle.ra_member.specs.Beside.{AreBeside}
 use Rattle.ra_member.specs.Frames.{test_next, test_holds, value_next}
@@ -41,6 +43,10 @@ no_values values = map no_value values
 -- what is kept of a member that was never stepped: 0 everywhere
 abbrev pub no_member : MemberContents → MemberKept
 no_member m = record { tests = map no_hits m.tests; values = no_values m.values }
+
+-- what is kept of a member, with 0 everywhere
+abbrev pub cleared_member : MemberKept → MemberKept
+cleared_member kept = record { tests = map cleared_hits kept.tests; values = map cleared_value kept.values }
 
 -- the hits of tests after the last frame, from those before it
 abbrev pub tests_next : Start → List TriggerContents → History → List (List ℕ) → List (List ℕ)

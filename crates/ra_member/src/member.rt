@@ -4,7 +4,9 @@ ghost use Rattle.ra_condition.specs.Contents.{trigger_contents, trigger_hits, va
 ghost use Rattle.ra_condition.specs.Spelled.{IsTrigger, IsValue};
 ghost use Rattle.ra_set.specs.Limits.{value_conditions};
 ghost use Rattle.ra_value.specs.Kept.{cleared};
-ghost use Rattle.ra_member.specs.MemberRuns.{AddsTest, AddsValue, HasTest, HasValue, StepsTestAt, StepsValueAt, StaysMember, StayValues, kept_by};
+ghost use Rattle.ra_member.specs.MemberRuns.{AddsTest, AddsValue, HasTest, HasValue, StepsTestAt, StepsValueAt, StaysMember, StayTests, StayValues, kept_by};
+ghost use Rattle.ra_member.specs.Members.{cleared_member};
+ghost use Rattle.ra_trigger.specs.Steps.{cleared as cleared_hits};
 
 use crate::trigger_run::TriggerRun;
 use crate::value_run::ValueRun;
@@ -96,6 +98,25 @@ impl Member {
         } }
     {
         reset_each(&mut self.values);
+    }
+
+    /// Brings the member to its start: all hits and numbers are 0.
+    pub fn clear(&mut self)
+        ensures stays { StaysMember self.old self.new }
+        ensures kept { kept_by self.new ≡ cleared_member (kept_by self.old) }
+    {
+        clear_each(&mut self.tests);
+        reset_each(&mut self.values);
+    }
+}
+
+// Each test comes to its start.
+fn clear_each(tests: &mut [TriggerRun])
+    ensures stay { StayTests tests.old tests.new }
+    ensures kept { map (λ t. t.trigger.hits) tests.new ≡ map (λ t. cleared_hits t.trigger.hits) tests.old }
+{
+    for place in 0..tests.len() {
+        tests[place].trigger.clear();
     }
 }
 

@@ -60,7 +60,7 @@ tracked_number kept = number_at kept.member.values (length kept.member.values - 
 abbrev pub opened_board : BoardContents → KeptItem → BoardKept
 opened_board b (OfBoard state hits numbers) =
     record { state = board_state_of state; member = opened_member (board_member b) hits numbers }
-opened_board b (OfAchievement state measured hits) =
+opened_board b (OfAchievement state measured hits earned) =
     record { state = board_state_of state; member = opened_member (board_member b) hits [] }
 
 -- a board as a progress file keeps it: hits and numbers in the order start, cancel, submit, value, progress

@@ -5,13 +5,13 @@ use Rattle.ra_memref.specs.Values.{Start}
 use Rattle.ra_memref.specs.Table.{TableSeen}
 use Rattle.ra_set.specs.Contents.{ItemContents, Unlocks, Ranks}
 use Rattle.ra_set.specs.Limits.{item_conditions}
-use Rattle.ra_progress.specs.Contents.{KeptItem}
 use Rattle.ra_member.specs.Plans.{GrowsWithin}
 use Rattle.ra_member.specs.Runs.{HasValues}
 use Rattle.ra_runtime.specs.declared.item_run.ItemRun.{ItemRun}
 use Rattle.ra_runtime.specs.declared.item_run.ItemRun.TheVariants.{Achievement, Leaderboard}
 use Rattle.ra_runtime.specs.Boards.{kept_board}
-use Rattle.ra_runtime.specs.Openings.{item_after, kept_achievement, plain_item}
+use Rattle.ra_progress.specs.Contents.{KeptItem, plain_item}
+use Rattle.ra_runtime.specs.Openings.{item_after, kept_achievement}
 use Rattle.ra_runtime.specs.Order.{trees_in_item, item_shape}
 use Rattle.ra_runtime.specs.Play.{item_lines}
 use Rattle.ra_runtime.specs.Runs.{IsAchievementRun}
@@ -20,7 +20,7 @@ use Rattle.ra_runtime.specs.RunLines.{run_lines}
 
 -- what an opening keeps for an item
 abbrev pub kept_run : ItemRun → KeptItem
-kept_run (Achievement run) = kept_achievement run.run.trigger
+kept_run (Achievement run) = kept_achievement run.earned run.run.trigger
 kept_run (Leaderboard run) = kept_board (board_kept run)
 
 -- an item with its plans

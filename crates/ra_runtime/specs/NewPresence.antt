@@ -12,7 +12,7 @@ use Rattle.ra_member.specs.MemberRuns.{kept_by}
 use Rattle.ra_member.specs.Plans.{GrowsWithin}
 use Rattle.ra_runtime.specs.declared.presence_run.PresenceRun.{PresenceRun}
 use Rattle.ra_runtime.specs.Order.{line_member, trees_in_line, lines_in, presence_shape}
-use Rattle.ra_runtime.specs.Openings.{plain_presence}
+use Rattle.ra_progress.specs.Contents.{plain_presence}
 use Rattle.ra_runtime.specs.PresenceRuns.{IsLineRun, AreLineRuns, IsOptionalPresence, optional_presence_kept}
 
 -- a line of a display that some text spells

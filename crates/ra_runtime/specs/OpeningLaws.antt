@@ -5,7 +5,11 @@ use Rattle.ra_set.specs.Contents.{SetContents}
 use Rattle.ra_set.specs.Spelled.{IsSpelled}
 use Rattle.ra_progress.specs.Contents.{Opening, IsOpening}
 use Rattle.ra_progress.specs.Spelling.{progress_bytes}
-use Rattle.ra_progress.specs.Reading.{IsAccepted, says}
+use Rattle.ra_progress.specs.Laws.{IsOwn}
+use Rattle.ra_progress.specs.Reading.{IsAccepted}
+use Rattle.ra_progress.specs.Saying.{says}
+use Rattle.ra_set.specs.Limits.{IsWithinLimits}
+use Rattle.ra_set.specs.Names.{IsNamed}
 use Rattle.ra_runtime.specs.Order.{shape_of}
 use Rattle.ra_runtime.specs.Openings.{plain_opening, snapshot}
 

@@ -1,16 +1,13 @@
 -- What stands before the first frame of a set, and the opening after a history: docs/DEFINITIONS.md, "Openings and snapshots".
-use Rattle.std.specs.Prelude.{ℕ, ◌+◌, ◌-◌, ◌^◌, min, Option, None, Some, option_map, if◌then◌else◌, List, [], ◌∷◌, length, map, replicate, drop, zip, slice_index}
+use Rattle.std.specs.Prelude.{ℕ, ◌+◌, ◌^◌, min, ◌||◌, Bool, false, Option, None, Some, if◌then◌else◌, List, [], ◌∷◌, length, map, drop, zip, slice_index}
 use Rattle.ra_richpresence.specs.Contents.{ScriptContents}
 use Rattle.ra_set.specs.Contents.{ItemContents, Unlocks, Ranks, SetContents}
 use Rattle.ra_memory.specs.Image.{History}
 use Rattle.ra_indirect.specs.Trees.{Cell, Tracked, same_cell, same_tracked}
 use Rattle.ra_memref.specs.Values.{Start, cell_number, tracked_number}
-use Rattle.ra_trigger.specs.States.{state_byte, state_of}
+use Rattle.ra_trigger.specs.States.{state_byte, state_of, is_triggered}
 use Rattle.ra_trigger.specs.Steps.{TriggerKept}
-use Rattle.ra_progress.specs.declared.shape.ItemShape.{ItemShape}
-use Rattle.ra_progress.specs.declared.shape.ItemShape.TheVariants as shapes
-use Rattle.ra_progress.specs.declared.shape.PresenceShape.{PresenceShape}
-use Rattle.ra_progress.specs.Contents.{KeptItem, OfAchievement, OfBoard, KeptPresence, Opening, ShapeContents}
+use Rattle.ra_progress.specs.Contents.{KeptItem, OfAchievement, OfBoard, KeptPresence, Opening, plain_of}
 use Rattle.ra_runtime.specs.Order.{set_cells, set_tracked, shape_of}
 use Rattle.ra_runtime.specs.Histories.{achievement_after}
 use Rattle.ra_runtime.specs.Boards.{board_after, opened_board, kept_board}
@@ -37,17 +34,22 @@ start_of set o = record {
 
 -- what an opening keeps for an achievement
 abbrev pub opened_achievement : KeptItem → TriggerKept
-opened_achievement (OfAchievement state measured hits) = record { state = state_of state; measured = measured; hits = hits }
+opened_achievement (OfAchievement state measured hits earned) = record { state = state_of state; measured = measured; hits = hits }
 opened_achievement (OfBoard state hits numbers) = record { state = state_of state; measured = 0; hits = hits }
 
--- an achievement as a progress file keeps it
-abbrev pub kept_achievement : TriggerKept → KeptItem
-kept_achievement k = OfAchievement (state_byte k.state) k.measured k.hits
+-- an achievement as a progress file keeps it: earned where it was, or where it is triggered
+abbrev pub kept_achievement : Bool → TriggerKept → KeptItem
+kept_achievement earned k = OfAchievement (state_byte k.state) k.measured k.hits (earned || is_triggered k.state)
+
+-- whether an item is earned, which a board never is
+abbrev pub is_earned : KeptItem → Bool
+is_earned (OfAchievement state measured hits earned) = earned
+is_earned (OfBoard state hits numbers) = false
 
 -- what is kept of an item after a history, from what the opening keeps
 abbrev pub item_after : Start → History → ItemContents × KeptItem → KeptItem
 item_after start history (Unlocks id t, opened) =
-    kept_achievement (achievement_after start t (opened_achievement opened) history)
+    kept_achievement (is_earned opened) (achievement_after start t (opened_achievement opened) history)
 item_after start history (Ranks id format b, opened) =
     kept_board (board_after start b (opened_board b opened) history)
 
@@ -71,25 +73,6 @@ snapshot set o history =
       items = map (item_after start history) (zip set.items o.items);
       presence = optional_presence start history set.script o.presence;
     }
-
--- what an item keeps that was never stepped: it waits, and all numbers are 0
-abbrev pub plain_item : ItemShape → KeptItem
-plain_item (shapes.Achievement hits) = OfAchievement 0 0 (replicate hits 0)
-plain_item (shapes.Leaderboard hits parts) = OfBoard 0 (replicate hits 0) (replicate parts 0)
-
--- what a display keeps that was never stepped: its last line, and all numbers 0
-abbrev pub plain_presence : PresenceShape → KeptPresence
-plain_presence shape = record { shown = shape.lines - 1; hits = replicate shape.hits 0; numbers = replicate shape.parts 0 }
-
--- what a set of this shape keeps that was never played
-abbrev pub plain_of : ShapeContents → Opening
-plain_of shape = record {
-  frames = 0;
-  cells = replicate shape.cells 0;
-  priors = replicate shape.priors 0;
-  items = map plain_item shape.items;
-  presence = option_map plain_presence shape.presence;
-}
 
 -- the opening of a set that was never played
 abbrev pub plain_opening : SetContents → Opening

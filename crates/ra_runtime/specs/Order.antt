@@ -10,6 +10,7 @@ use Rattle.ra_chain.specs.Occurrence.{trees_in_trigger}
 use Rattle.ra_progress.specs.declared.shape.ItemShape.{ItemShape}
 use Rattle.ra_progress.specs.declared.shape.ItemShape.TheVariants as shapes
 use Rattle.ra_progress.specs.declared.shape.PresenceShape.{PresenceShape}
+use Rattle.ra_memref.specs.Names.{cell_name, tracked_name}
 use Rattle.ra_progress.specs.Contents.{ShapeContents}
 use Rattle.ra_member.specs.Members.{MemberContents, trees_in_member, member_hits, member_numbers}
 
@@ -77,12 +78,14 @@ presence_shape script = record {
   parts = sum (map member_numbers (script_members script));
 }
 
--- the shape of the progress of a set
+-- the shape of the progress of a set: names of cells, tracked masks, items and script, and how many numbers these keep
 abbrev pub shape_of : SetContents → ShapeContents
 shape_of set = record {
   digest = set.digest;
-  cells = length (set_cells set);
-  priors = length (set_tracked set);
+  cells = map cell_name (set_cells set);
+  priors = map tracked_name (set_tracked set);
   items = map item_shape set.items;
+  item_names = set.item_names;
   presence = option_map presence_shape set.script;
+  presence_name = set.script_name;
 }

@@ -5,7 +5,7 @@ use Rattle.ra_memory.specs.Image.{History, AreImages, written}
 use Rattle.ra_memref.specs.Values.{cell_place}
 use Rattle.ra_memref.specs.Marks.{marks_after, reads_of}
 use Rattle.ra_progress.specs.Contents.{Opening, IsOpening}
-use Rattle.ra_progress.specs.Reading.{says}
+use Rattle.ra_progress.specs.Saying.{says}
 use Rattle.ra_runtime.specs.Order.{set_cells, shape_of}
 use Rattle.ra_runtime.specs.Openings.{start_of, snapshot, plain_opening}
 use Rattle.ra_runtime.specs.Play.{lines, shown}

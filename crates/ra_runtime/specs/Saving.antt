@@ -20,4 +20,4 @@ FitOptional (Some kept) = FitPresence kept
 pub record IsSaved (set : SetContents) (bytes : List ℕ) : Type 0 where
   pub kept : Opening
   pub opening : IsOpening (shape_of set) kept
-  pub is : bytes ≡ progress_bytes set.digest kept
+  pub is : bytes ≡ progress_bytes (shape_of set) kept

@@ -12,7 +12,7 @@ use Rattle.ra_runtime.specs.declared.item_run.ItemRun.{ItemRun}
 use Rattle.ra_runtime.specs.declared.presence_run.PresenceRun.{PresenceRun}
 use Rattle.ra_runtime.specs.declared.item_run.ItemRun.TheVariants.{Achievement, Leaderboard}
 use Rattle.ra_runtime.specs.Order.{item_shape, presence_shape}
-use Rattle.ra_runtime.specs.Openings.{plain_item, plain_presence}
+use Rattle.ra_progress.specs.Contents.{plain_item, plain_presence}
 use Rattle.ra_runtime.specs.ItemRuns.{kept_run}
 use Rattle.ra_runtime.specs.AllRuns.{AreItemRuns, IsOver}
 use Rattle.ra_runtime.specs.PresenceRuns.{IsOptionalPresence, presence_kept, optional_presence_kept}
