@@ -1,5 +1,6 @@
 pub mod Added
 pub mod Agreeing
+pub mod Cleared
 pub mod Folds
 pub mod GoingOn
 pub mod GrowthLemmas

@@ -4,7 +4,7 @@ use Rattle.std.specs.List.{concat}
 use Rattle.std.proofs.lemmas.List.{append-nil, map-append, length-map, take-map, drop-map, take_at, drop_at, length-take-le, length-drop, replicate-append-replicate}
 use Rattle.std.proofs.lemmas.List.Sums.{sum_by-cons}
 use Rattle.std.proofs.lemmas.Simd.{map-map}
-use Rattle.ra_condition.specs.Contents.{trigger_hits, PartContents, value_hits}
+use Rattle.ra_condition.specs.Contents.{trigger_hits, value_hits}
 use Rattle.ra_value.specs.Steps.{ValueKept, no_value}
 use Rattle.ra_member.specs.Members.{MemberContents, MemberKept, HasShape, HaveShapes, no_hits, no_member, hit_lengths, number_lengths, hit_rows, number_rows, saved_hits, saved_numbers, values_of, opened_member, opened_members, member_hits, member_numbers}
 use Rattle.ra_member.specs.Rows.{rows_by}

@@ -22,12 +22,12 @@ use Rattle.ra_progress.proofs.Placed.{placed, places_count}
 use Rattle.ra_words.proofs.Pieces.{piece_below}
 
 -- a test that refuses where it fails, and did not
-passes : (b : Bool) (why : ProgressRefused) → (if b then None else Some why) ≡ None → b ≡ true
+pub passes : (b : Bool) (why : ProgressRefused) → (if b then None else Some why) ≡ None → b ≡ true
 passes true why none = refl
 passes false why none = absurd (cc none)
 
 -- the state that a byte of the table says, and that a triggered achievement is earned
-state_said_fits : (version hits byte : ℕ) → is_state version (Achievement hits) byte ≡ true
+pub state_said_fits : (version hits byte : ℕ) → is_state version (Achievement hits) byte ≡ true
     → (state_said version byte ≤ 4) × (state_said version byte ≡ 4 → is_earned version byte ≡ true)
 state_said_fits version hits byte good =
     (elim (version == 3) as (λ b.

@@ -1,5 +1,5 @@
 -- What is kept, laid in a row as in a file and cut again, is what was kept.
-use Rattle.std.proofs.Common.{◌≡◌, refl}
+use Rattle.std.proofs.Common.{◌≡◌, Bool, refl}
 use Rattle.ra_trigger.specs.declared.state.State.{State}
 use Rattle.ra_trigger.specs.declared.state.State.TheVariants.{Waiting, Active, Paused, Primed, Triggered}
 use Rattle.ra_trigger.specs.States.{state_byte, state_of}
@@ -21,8 +21,8 @@ state_again Paused = refl
 state_again Primed = refl
 state_again Triggered = refl
 
-pub achievement_again : (k : TriggerKept) → opened_achievement (kept_achievement k) ≡ k
-achievement_again k = λ i. record { state = state_again k.state i; measured = k.measured; hits = k.hits }
+pub achievement_again : (earned : Bool) (k : TriggerKept) → opened_achievement (kept_achievement earned k) ≡ k
+achievement_again earned k = λ i. record { state = state_again k.state i; measured = k.measured; hits = k.hits }
 
 board_state_again : (s : BoardState) → board_state_of (board_byte s) ≡ s
 board_state_again boards.Waiting = refl

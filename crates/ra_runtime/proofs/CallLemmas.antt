@@ -7,7 +7,7 @@ use Rattle.ra_set.specs.Contents.{SetContents}
 use Rattle.ra_progress.specs.Laws.{IsShape}
 use Rattle.ra_progress.specs.Reading.{IsAccepted, refusal}
 use Rattle.ra_progress.proofs.ComesBack.{comes_back}
-use Rattle.ra_progress.proofs.Fields.{accepted_none}
+use Rattle.ra_progress.proofs.Checks.{accepted_none}
 use Rattle.ra_runtime.specs.Order.{shape_of}
 use Rattle.ra_runtime.specs.Runtime.{RuntimeSeen}
 use Rattle.ra_runtime.specs.Saving.{IsSaved}

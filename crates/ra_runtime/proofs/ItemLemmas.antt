@@ -40,14 +40,16 @@ change_written frame id old new =
     rw (measured_same frame id old.measured new.measured (new.measured == old.measured), same_turned new.measured old.measured) refl
 
 pub achievement_item : (table : TableSeen) (id : ℕ) (t : TriggerContents) (old new : AchievementRun) → StepsAchievement table t old new → StepsItem table (Unlocks id t) (Achievement old) (Achievement new)
-achievement_item table id t old new steps = record {
-  kept = λ start image has.
-      ap kept_achievement (steps.kept start (image ∷ []) has ∙ ap (λ k. achievement_after start t k (image ∷ [])) (sym (achievement_again old.run.trigger)));
-  lines = λ start image frame has.
-      ap (change_lines frame id) steps.told
-      ∙ change_written frame id old.run.trigger new.run.trigger
-      ∙ ap₂ (achievement_lines frame id) (sym (achievement_again old.run.trigger)) (steps.kept start (image ∷ []) has ∙ ap (λ k. achievement_after start t k (image ∷ [])) (sym (achievement_again old.run.trigger)));
-}
+achievement_item table id t old new steps =
+    let again = sym (achievement_again old.earned old.run.trigger) in
+    record {
+      kept = λ start image has.
+          ap₂ kept_achievement steps.earned (steps.trigger.kept start (image ∷ []) has ∙ ap (λ k. achievement_after start t k (image ∷ [])) again);
+      lines = λ start image frame has.
+          ap (change_lines frame id) steps.trigger.told
+          ∙ change_written frame id old.run.trigger new.run.trigger
+          ∙ ap₂ (achievement_lines frame id) again (steps.trigger.kept start (image ∷ []) has ∙ ap (λ k. achievement_after start t k (image ∷ [])) again);
+    }
 
 -- the lines of a board by states and numbers
 abbrev lines_with : (frame id : ℕ) → Format → (before after : BoardState) → (tracked_before tracked value : ℤ) → List ℕ

@@ -1,5 +1,5 @@
 -- Items after a history keep numbers of 32 bits, as many as their texts say.
-use Rattle.std.proofs.Common.{◌≡◌, ℕ, ◌≤◌, Bool, true, false, if◌then◌else◌, List, [], ◌∷◌, length, map, refl, sym, ◌∙◌, zip, lit≤}
+use Rattle.std.proofs.Common.{◌≡◌, ℕ, ◌≤◌, ◌||◌, arith, Bool, true, false, if◌then◌else◌, List, [], ◌∷◌, length, map, refl, sym, ◌∙◌, zip, lit≤}
 use Rattle.std.specs.List.{AllByRecursion}
 use Rattle.std.proofs.lemmas.List.{length-replicate}
 use Rattle.ra_condition.specs.Contents.{TriggerContents, groups_of, trigger_hits, PartContents}
@@ -62,6 +62,15 @@ state_within Paused = lit≤ tt
 state_within Primed = lit≤ tt
 state_within Triggered = lit≤ tt
 
+-- what is triggered is earned
+earned_where_triggered : (earned : Bool) (state : State) → state_byte state ≡ 4 → (earned || is_triggered state) ≡ true
+earned_where_triggered true state four = refl
+earned_where_triggered false Waiting four = absurd (omega (arith, four))
+earned_where_triggered false Active four = absurd (omega (arith, four))
+earned_where_triggered false Paused four = absurd (omega (arith, four))
+earned_where_triggered false Primed four = absurd (omega (arith, four))
+earned_where_triggered false Triggered four = refl
+
 board_state_within : (state : BoardState) → board_byte state ≤ 4
 board_state_within boards.Waiting = lit≤ tt
 board_state_within boards.Active = lit≤ tt
@@ -96,12 +105,13 @@ module _ (start : Start) (start_words : AreStartWords start) where
       }
 
   pub item_fits : (item : ItemContents) → FitsItem item → (kept : KeptItem) → ItemFits (item_shape item) kept → (h : History) → AreImages h → ItemFits (item_shape item) (item_after start h (item, kept))
-  item_fits (Unlocks id t) fits (OfAchievement state measured hits) is h images =
-      let opened = opened_achievement (OfAchievement state measured hits) in
-      let words = achievement_words t fits opened (record { measured = is.1; hits = is.2.fit }) h images in
-      (state_within (achievement_after start t opened h).state, words.measured, record { as_many = length_achievement start t opened h is.2.as_many; fit = words.hits })
+  item_fits (Unlocks id t) fits (OfAchievement state measured hits earned) is h images =
+      let opened = opened_achievement (OfAchievement state measured hits earned) in
+      let words = achievement_words t fits opened (record { measured = is.2; hits = is.3.fit }) h images in
+      let last = (achievement_after start t opened h).state in
+      (state_within last, earned_where_triggered earned last, words.measured, record { as_many = length_achievement start t opened h is.3.as_many; fit = words.hits })
   item_fits (Unlocks id t) fits (OfBoard state hits numbers) is h images = absurd is
-  item_fits (Ranks id format b) fits (OfAchievement state measured hits) is h images = absurd is
+  item_fits (Ranks id format b) fits (OfAchievement state measured hits earned) is h images = absurd is
   item_fits (Ranks id format b) fits (OfBoard state hits numbers) is h images =
       let kept = OfBoard state hits numbers in
       let opened = opened_board b kept in

@@ -1,23 +1,24 @@
 -- The law of cuts: what a set keeps, prints and shows after a history is what it does from the opening at any
 -- frame of it, over the frames since then.
-use Rattle.std.proofs.Common.{◌≡◌, ◌≢◌, ℕ, ◌+◌, Option, None, Some, option_map, List, [], ◌∷◌, ◌++◌, length, map, zip, refl, sym, ◌∙◌, ap, arith, length-append, codes, decimal}
+use Rattle.std.proofs.Common.{◌≡◌, ◌≢◌, ℕ, ◌+◌, ◌||◌, Bool, true, false, if◌then◌else◌, Option, None, Some, option_map, List, [], ◌∷◌, ◌++◌, length, map, zip, refl, sym, ◌∙◌, ap, arith, length-append, codes, decimal}
 use Rattle.std.specs.List.{flat_map}
 use Rattle.ra_condition.specs.Contents.{TriggerContents}
 use Rattle.ra_leaderboard.specs.Contents.{BoardContents}
 use Rattle.ra_memory.specs.Image.{History}
 use Rattle.ra_chain.specs.Occurrence.{trees_in_trigger}
 use Rattle.ra_memref.specs.Values.{Start}
+use Rattle.ra_trigger.specs.States.{state_byte, is_triggered}
 use Rattle.ra_trigger.specs.Steps.{TriggerKept}
 use Rattle.ra_richpresence.specs.Contents.{ScriptContents}
 use Rattle.ra_set.specs.Contents.{ItemContents, Unlocks, Ranks, SetContents}
-use Rattle.ra_progress.specs.Contents.{KeptItem, KeptPresence, Opening, ItemFits, ItemsFit, PresenceFits, IsOpening}
+use Rattle.ra_progress.specs.Contents.{KeptItem, OfAchievement, KeptPresence, Opening, ItemFits, ItemsFit, PresenceFits, IsOpening}
 use Rattle.ra_member.specs.Members.{trees_in_member}
 use Rattle.ra_runtime.specs.Order.{board_member, trees_in_item, trees_in_line, lines_in, item_shape, presence_shape, shape_of}
 use Rattle.ra_runtime.specs.Histories.{achievement_after}
 use Rattle.ra_runtime.specs.Boards.{BoardKept, board_after, opened_board, kept_board}
 use Rattle.ra_runtime.specs.Presence.{opened_display, kept_display, display_text}
 use Rattle.ra_runtime.specs.Lines.{line_of, achievement_lines, board_lines}
-use Rattle.ra_runtime.specs.Openings.{start_of, opened_achievement, kept_achievement, item_after, optional_presence, frames_after, snapshot}
+use Rattle.ra_runtime.specs.Openings.{start_of, opened_achievement, kept_achievement, is_earned, item_after, optional_presence, frames_after, snapshot}
 use Rattle.ra_runtime.specs.Play.{item_lines, lines, shown_by, shown}
 use Rattle.ra_runtime.specs.Runtime.{CutsAnywhere}
 use Rattle.ra_member.proofs.GoingOn.{GoesOn, goes_on}
@@ -29,12 +30,29 @@ use Rattle.ra_runtime.proofs.OpeningFits.{opened_fits, script_fits}
 use Rattle.ra_runtime.proofs.PresenceCuts.{display_goes_on}
 use Rattle.ra_runtime.proofs.Covered.{tree_alike, cells_cut, priors_cut}
 
+-- what is triggered stays so
+stays : (b : Bool) (k other : TriggerKept) → b ≡ true → is_triggered k.state ≡ true → is_triggered (if b then k else other).state ≡ true
+stays true k other e is = is
+stays false k other e is = absurd (cc e)
+
+triggered_later : (start : Start) (t : TriggerContents) (k : TriggerKept) (earlier later : History) → is_triggered (achievement_after start t k earlier).state ≡ true → is_triggered (achievement_after start t k (later ++ earlier)).state ≡ true
+triggered_later start t k earlier [] is = is
+triggered_later start t k earlier (image ∷ later) is =
+    let before = triggered_later start t k earlier later is in
+    stays (is_triggered (achievement_after start t k (later ++ earlier)).state) (achievement_after start t k (later ++ earlier)) _ before before
+
+-- what was earned or triggered at a cut is earned behind it
+earned_once : (earned before after : Bool) → (before ≡ true → after ≡ true) → (earned || after) ≡ ((earned || before) || after)
+earned_once true before after stays = refl
+earned_once false true after stays = stays refl
+earned_once false false after stays = refl
+
 module _ (start opened : Start) (earlier : History) where
   -- an achievement, from what is kept of it
-  achievement_goes_on : (t : TriggerContents) → GoesOn start opened earlier (trees_in_trigger t) → (k : TriggerKept) (later : History) → achievement_after start t k (later ++ earlier) ≡ achievement_after opened t (opened_achievement (kept_achievement (achievement_after start t k earlier))) later
-  achievement_goes_on t goes k later =
+  achievement_goes_on : (t : TriggerContents) → GoesOn start opened earlier (trees_in_trigger t) → (k : TriggerKept) (earned : Bool) (later : History) → achievement_after start t k (later ++ earlier) ≡ achievement_after opened t (opened_achievement (kept_achievement earned (achievement_after start t k earlier))) later
+  achievement_goes_on t goes k earned later =
       achievement_cut start opened earlier t goes k later
-      ∙ ap (λ x. achievement_after opened t x later) (sym (achievement_again (achievement_after start t k earlier)))
+      ∙ ap (λ x. achievement_after opened t x later) (sym (achievement_again earned (achievement_after start t k earlier)))
 
   -- a board, from what is kept of it
   board_goes_on : (b : BoardContents) → GoesOn start opened earlier (trees_in_member (board_member b)) → (k : BoardKept) → BoardFits b k → (later : History) → board_after start b k (later ++ earlier) ≡ board_after opened b (opened_board b (kept_board (board_after start b k earlier))) later
@@ -44,7 +62,13 @@ module _ (start opened : Start) (earlier : History) where
 
   item_goes_on : (item : ItemContents) → GoesOn start opened earlier (trees_in_item item) → (kept : KeptItem) → ItemFits (item_shape item) kept → (later : History) → item_after start (later ++ earlier) (item, kept) ≡ item_after opened later (item, item_after start earlier (item, kept))
   item_goes_on (Unlocks id t) alike kept fits later =
-      ap kept_achievement (achievement_goes_on t alike (opened_achievement kept) later)
+      let k = opened_achievement kept in
+      let earned = is_earned kept in
+      let then = achievement_after start t k earlier in
+      let last = achievement_after start t k (later ++ earlier) in
+      ap (λ b. OfAchievement (state_byte last.state) last.measured last.hits b)
+      (earned_once earned (is_triggered then.state) (is_triggered last.state) (triggered_later start t k earlier later))
+      ∙ ap (kept_achievement (earned || is_triggered then.state)) (achievement_goes_on t alike k earned later)
   item_goes_on (Ranks id format b) alike kept fits later =
       ap kept_board (board_goes_on b alike (opened_board b kept) (opened_fits b id format kept fits) later)
 
@@ -59,8 +83,8 @@ module _ (start opened : Start) (earlier : History) where
   -- the lines of an item at the last frame
   line_goes_on : (item : ItemContents) → GoesOn start opened earlier (trees_in_item item) → (kept : KeptItem) → ItemFits (item_shape item) kept → (frame : ℕ) (image : List ℕ) (later : History) → item_lines start frame image (later ++ earlier) (item, kept) ≡ item_lines opened frame image later (item, item_after start earlier (item, kept))
   line_goes_on (Unlocks id t) alike kept fits frame image later =
-      let before = achievement_goes_on t alike (opened_achievement kept) later in
-      let after = achievement_goes_on t alike (opened_achievement kept) (image ∷ later) in
+      let before = achievement_goes_on t alike (opened_achievement kept) (is_earned kept) later in
+      let after = achievement_goes_on t alike (opened_achievement kept) (is_earned kept) (image ∷ later) in
       (λ i. achievement_lines frame id (before i) (after i))
   line_goes_on (Ranks id format b) alike kept fits frame image later =
       let opened_fit = opened_fits b id format kept fits in

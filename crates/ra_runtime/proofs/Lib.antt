@@ -5,6 +5,7 @@ pub mod BoardLemmas
 pub mod CallLemmas
 pub mod CellWords
 pub mod Covered
+pub mod Digests
 pub mod DisplayRows
 pub mod Each
 pub mod Fitting
@@ -37,6 +38,7 @@ pub mod SpelledScripts
 pub mod SpelledSets
 pub mod SpelledTrees
 pub mod SteppedLines
+pub mod TakenNumbers
 pub mod TakenUp
 pub mod TreeWords
 pub mod Unplayed

@@ -13,7 +13,7 @@ use Rattle.ra_runtime.proofs.Fitting.{BoardFits}
 use Rattle.ra_runtime.proofs.PresenceCuts.{DisplayFits}
 
 pub opened_fits : (b : BoardContents) (id : ℕ) (format : Format) (kept : KeptItem) → ItemFits (item_shape (Ranks id format b)) kept → BoardFits b (opened_board b kept)
-opened_fits b id format (OfAchievement state measured hits) fits = absurd fits
+opened_fits b id format (OfAchievement state measured hits earned) fits = absurd fits
 opened_fits b id format (OfBoard state hits numbers) fits =
     (member_opened (board_member b) hits numbers fits.1.as_many fits.2.as_many).shape
 

@@ -7,9 +7,9 @@ use Rattle.ra_progress.specs.declared.shape.ItemShape.{ItemShape}
 use Rattle.ra_progress.specs.declared.shape.ItemShape.TheVariants.{Achievement, Leaderboard}
 use Rattle.ra_progress.specs.declared.shape.PresenceShape.{PresenceShape}
 use Rattle.ra_words.specs.Words.{AreWords}
-use Rattle.ra_progress.specs.Contents.{ItemFits, ItemsFit, PresenceFits, IsOpening}
+use Rattle.ra_progress.specs.Contents.{ItemFits, ItemsFit, PresenceFits, IsOpening, plain_item, plain_presence}
 use Rattle.ra_runtime.specs.Order.{presence_shape, shape_of}
-use Rattle.ra_runtime.specs.Openings.{plain_item, plain_presence, plain_opening}
+use Rattle.ra_runtime.specs.Openings.{plain_opening}
 use Rattle.ra_runtime.proofs.Each.{each_replicate}
 use Rattle.ra_runtime.proofs.TreeWords.{IsWord}
 
@@ -21,7 +21,7 @@ zeros : (n : ℕ) → AreWords n (replicate n 0)
 zeros n = record { as_many = length-replicate n 0; fit = each_replicate IsWord n 0 (lit< tt) }
 
 plain_item_fits : (shape : ItemShape) → ItemFits shape (plain_item shape)
-plain_item_fits (Achievement hits) = (lit≤ tt, lit< tt, zeros hits)
+plain_item_fits (Achievement hits) = (lit≤ tt, λ four. absurd (omega (arith, four)), lit< tt, zeros hits)
 plain_item_fits (Leaderboard hits parts) = (lit≤ tt, zeros hits, zeros parts)
 
 plain_items_fit : (shapes : List ItemShape) → ItemsFit shapes (map plain_item shapes)
@@ -39,8 +39,8 @@ plain_presence_fits (Some script) has =
 pub plain_fits : (set : SetContents) → HasLines set → IsOpening (shape_of set) (plain_opening set)
 plain_fits set has = record {
   frames = lit< tt;
-  cells = zeros (shape_of set).cells;
-  priors = zeros (shape_of set).priors;
+  cells = zeros (length (shape_of set).cells);
+  priors = zeros (length (shape_of set).priors);
   items = plain_items_fit (shape_of set).items;
   presence = plain_presence_fits set.script has;
 }

@@ -1,8 +1,9 @@
 -- What runs keep is an opening of their set.
 use Rattle.std.proofs.Common.{◌≡◌, ℕ, ◌<◌, ◌^◌, Option, None, Some, List, [], ◌∷◌, ◌++◌, length, map, option_map, sym, ◌∙◌, ap, subst}
-use Rattle.std.proofs.lemmas.List.{map-append}
+use Rattle.std.proofs.lemmas.List.{map-append, length-map}
 use Rattle.ra_indirect.specs.declared.node.Node.{Node}
 use Rattle.ra_richpresence.specs.Contents.{ScriptContents}
+use Rattle.ra_memref.specs.Names.{cell_name, tracked_name}
 use Rattle.ra_memref.specs.Table.{TableSeen}
 use Rattle.ra_set.specs.Contents.{SetContents}
 use Rattle.ra_progress.specs.declared.shape.ItemShape.{ItemShape}
@@ -51,8 +52,8 @@ module _ (set : SetContents) (table : TableSeen) (runs : List ItemRun) (display 
   pub opening_taken : (o : Opening) (none none_too : List ℕ) → none ≡ [] → none_too ≡ [] → o.frames < 2 ^ 64 → PutsBehind none o.cells table.cells → PutsBehind none_too o.priors table.priors → ItemsFit (map run_shape runs) o.items → o.presence ≡ optional_presence_kept display → FitOptional o.presence → IsOpening (shape_of set) o
   opening_taken o none none_too empty empty_too frames cells priors fit same fit_too = record {
     frames = frames;
-    cells = words_fit none o.cells table.cells (length (set_cells set)) empty cells over.cells_many;
-    priors = words_fit none_too o.priors table.priors (length (set_tracked set)) empty_too priors over.priors_many;
+    cells = words_fit none o.cells table.cells (length (shape_of set).cells) empty cells (over.cells_many ∙ sym (length-map (set_cells set) cell_name));
+    priors = words_fit none_too o.priors table.priors (length (shape_of set).priors) empty_too priors (over.priors_many ∙ sym (length-map (set_tracked set) tracked_name));
     items = subst (λ (ss : List ItemShape). ItemsFit ss o.items) (runs_shaped table.nodes set.items runs are) fit;
     presence = subst (PresenceFits (option_map presence_shape set.script)) (sym same) (presence_kept_fits table.nodes set.script display is (subst FitOptional same fit_too));
   }

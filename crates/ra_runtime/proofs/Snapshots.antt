@@ -1,18 +1,31 @@
 -- What a set keeps after a history is an opening of it, and comes back from its bytes.
-use Rattle.std.proofs.Common.{◌≡◌, ℕ, ◌<◌, ◌^◌, Option, None, Some, option_map, unwrap_or, List, [], ◌∷◌, length, refl, ap, subst, arith}
+use Rattle.std.proofs.Common.{◌≡◌, ℕ, ◌<◌, ◌^◌, Option, None, Some, option_map, option_to_list, unwrap_or, is_some, IfSome, List, [], ◌∷◌, ◌++◌, length, map, refl, sym, ◌∙◌, ap, subst, arith}
+use Rattle.std.specs.List.{AllByRecursion}
+use Rattle.std.proofs.lemmas.List.{length-map}
 use Rattle.std.proofs.lemmas.Option.{none-some}
-use Rattle.ra_memory.specs.Image.{History, AreImages}
+use Rattle.ra_memory.specs.Image.{History, AreBytes, AreImages}
 use Rattle.ra_richpresence.specs.Contents.{LineContents, ScriptContents}
 use Rattle.ra_set.specs.Contents.{SetContents}
 use Rattle.ra_set.specs.Spelled.{IsSpelled}
 use Rattle.ra_progress.specs.declared.shape.PresenceShape.{PresenceShape}
 use Rattle.ra_progress.specs.Contents.{Opening, IsOpening}
 use Rattle.ra_progress.specs.Spelling.{progress_bytes}
-use Rattle.ra_progress.specs.Reading.{refusal, says}
-use Rattle.ra_progress.specs.Laws.{IsDigest, IsShape, ComesBack}
+use Rattle.ra_progress.specs.Reading.{IsAccepted, refusal}
+use Rattle.ra_progress.specs.Saying.{says}
+use Rattle.ra_progress.specs.Names.{IsName, IsPaired}
+use Rattle.ra_progress.specs.Laws.{IsShape, HasLines, ComesBack}
+use Rattle.ra_progress.proofs.SaysOpening.{says_opening}
+use Rattle.ra_set.specs.Limits.{IsWithinLimits}
+use Rattle.ra_set.specs.Names.{IsNamed, NamesScript}
+use Rattle.ra_indirect.specs.Trees.{Cell, Tracked}
+use Rattle.ra_memref.specs.Names.{cell_name, tracked_name}
+use Rattle.md5.proofs.StandardFacts.{length-md5}
+use Rattle.ra_runtime.proofs.Digests.{md5_bytes}
 use Rattle.ra_progress.proofs.ComesBack.{comes_back}
-use Rattle.ra_progress.proofs.Fields.{accepted_none}
-use Rattle.ra_runtime.specs.Order.{presence_shape, shape_of}
+use Rattle.ra_progress.proofs.Checks.{accepted_none}
+use Rattle.ra_runtime.specs.Order.{item_shape, presence_shape, set_cells, set_tracked, shape_of}
+use Rattle.ra_runtime.specs.OpeningLaws.{HasDigests}
+use Rattle.ra_runtime.proofs.SmallShape.{small_shape}
 use Rattle.ra_runtime.specs.Openings.{start_of, frames_after, plain_opening, snapshot}
 use Rattle.ra_runtime.proofs.PlainOpening.{plain_fits}
 pub use Rattle.ra_runtime.proofs.Unplayed.{snapshot_none}
@@ -34,7 +47,7 @@ HasFewLines set =
 -- an opening of a set, accepted from its bytes and said again
 abbrev pub ComesBackTo : SetContents → Opening → Type 0
 ComesBackTo set o =
-    (refusal (shape_of set) (progress_bytes set.digest o) ≡ None) × (says (shape_of set) (progress_bytes set.digest o) ≡ o)
+    (refusal (shape_of set) (progress_bytes (shape_of set) o) ≡ None) × (says (shape_of set) (progress_bytes (shape_of set) o) ≡ o)
 
 pub spelled_has_script : (set : SetContents) → IsSpelled set → HasScript set
 spelled_has_script set spelled script some =
@@ -75,20 +88,72 @@ few_in_shape (Some script) few shape is =
     let same : presence_shape script ≡ shape = ap (λ s. unwrap_or s shape) is in
     subst (λ (s : PresenceShape). s.lines < 2 ^ 32) same (few script refl)
 
--- the numbers of the shape of a set are within their types
-pub is_shape : (set : SetContents) → IsSpelled set → IsDigest set.digest → IsShape (shape_of set)
-is_shape set spelled digest = record {
-  digest = digest;
-  lines = few_in_shape set.script (spelled_has_few set spelled);
+-- the names of some things
+all_named : {A : Type 0} (name : A → List ℕ) → ((a : A) → IsName (name a)) → (things : List A) → AllByRecursion IsName (map name things)
+all_named name is [] = tt
+all_named name is (a ∷ things) = (is a, all_named name is things)
+
+-- what holds of names and of one more where there is one holds of all
+named_last : (names : List (List ℕ)) (last : Option (List ℕ)) → AllByRecursion IsName names → IfSome last IsName → AllByRecursion IsName (names ++ option_to_list last)
+named_last [] None all one = tt
+named_last [] (Some name) all one = (one, tt)
+named_last (n ∷ names) last all one = (all.0, named_last names last all.1 one)
+
+cell_named : (c : Cell) → IsName (cell_name c)
+cell_named c = record { long = length-md5 _; fit = md5_bytes _ }
+
+tracked_named : (t : Tracked) → IsName (tracked_name t)
+tracked_named t = record { long = length-md5 _; fit = md5_bytes _ }
+
+-- there is a name of a script exactly where there is a script
+script_paired : (name : Option (List ℕ)) (script : Option ScriptContents) → NamesScript name script → is_some name ≡ is_some (option_map presence_shape script)
+script_paired None None is = refl
+script_paired None (Some script) is = absurd is
+script_paired (Some name) None is = absurd is
+script_paired (Some name) (Some script) is = refl
+
+-- the names of a set stand beside what they are of
+pub is_paired : (set : SetContents) → IsWithinLimits set → IsNamed set → IsPaired (shape_of set)
+is_paired set limits named = record {
+  few = omega (arith, limits.items, length-map set.items item_shape);
+  items = named.count ∙ sym (length-map set.items item_shape);
+  presence = script_paired set.script_name set.script named.script;
 }
 
+-- the parts of the shape of a set are within their types
+pub is_shape : (set : SetContents) → IsWithinLimits set → IsSpelled set → IsNamed set → HasDigests set → IsShape (shape_of set)
+is_shape set limits spelled named digests = record {
+  digest = digests.digest;
+  cells = all_named cell_name cell_named (set_cells set);
+  priors = all_named tracked_name tracked_named (set_tracked set);
+  entries = named_last set.item_names set.script_name digests.items digests.script;
+  paired = is_paired set limits named;
+  lines = few_in_shape set.script (spelled_has_few set spelled);
+  short = small_shape set limits spelled named;
+}
+
+-- a script has a line
+pub has_lines : (set : SetContents) → IsSpelled set → HasLines (shape_of set)
+has_lines set spelled presence some = lines_in_shape set.script (λ script is. some_line script.lines (spelled_has_script set spelled script is).untested) presence some
+  where
+    lines_in_shape : (script : Option ScriptContents) → ((s : ScriptContents) → script ≡ Some s → 0 < length s.lines) → (shape : PresenceShape) → option_map presence_shape script ≡ Some shape → 0 < shape.lines
+    lines_in_shape None has shape is = absurd (none-some shape is)
+    lines_in_shape (Some script) has shape is =
+        let same : presence_shape script ≡ shape = ap (λ s. unwrap_or s shape) is in
+        subst (λ (s : PresenceShape). 0 < s.lines) same (has script refl)
+
+-- what accepted bytes say is an opening
+pub said_is_opening : (set : SetContents) (bytes : List ℕ) → IsWithinLimits set → IsSpelled set → IsNamed set → AreBytes bytes → IsAccepted (shape_of set) bytes → IsOpening (shape_of set) (says (shape_of set) bytes)
+said_is_opening set bytes limits spelled named fit accepted =
+    says_opening bytes fit (shape_of set) (is_paired set limits named) (has_lines set spelled) accepted
+
 -- the bytes of any opening of a set are accepted, and say it again
-pub opening_comes_back : (set : SetContents) (o : Opening) → IsSpelled set → IsDigest set.digest → IsOpening (shape_of set) o → ComesBackTo set o
-opening_comes_back set o spelled digest is =
-    let back : ComesBack (shape_of set) o = comes_back (shape_of set) o (is_shape set spelled digest) is in
-    (accepted_none (shape_of set) (progress_bytes set.digest o) back.accepted, back.says_it)
+pub opening_comes_back : (set : SetContents) (o : Opening) → IsShape (shape_of set) → IsOpening (shape_of set) o → ComesBackTo set o
+opening_comes_back set o shape is =
+    let back : ComesBack (shape_of set) o = comes_back (shape_of set) o shape is in
+    (accepted_none (shape_of set) (progress_bytes (shape_of set) o) back.accepted, back.says_it)
 
 -- and what is kept after a history is said again by its own bytes
-pub saved_fits : (set : SetContents) (o : Opening) (history : History) → IsSpelled set → IsDigest set.digest → IsOpening (shape_of set) o → AreImages history → ComesBackTo set (snapshot set o history)
-saved_fits set o history spelled digest is images =
-    opening_comes_back set (snapshot set o history) spelled digest (snapshot_fits set o history spelled is images)
+pub saved_fits : (set : SetContents) (o : Opening) (history : History) → IsSpelled set → IsShape (shape_of set) → IsOpening (shape_of set) o → AreImages history → ComesBackTo set (snapshot set o history)
+saved_fits set o history spelled shape is images =
+    opening_comes_back set (snapshot set o history) shape (snapshot_fits set o history spelled is images)

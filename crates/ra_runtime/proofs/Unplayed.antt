@@ -1,9 +1,11 @@
 -- What a set keeps after no frame at all is what the opening keeps.
-use Rattle.std.proofs.Common.{◌≡◌, ℕ, zero, suc, ◌≤◌, Option, None, Some, option_map, List, [], ◌∷◌, map, zip, refl, ap, ap₂, arith}
+use Rattle.std.proofs.Common.{◌≡◌, ℕ, zero, suc, ◌≤◌, ◌||◌, Bool, true, false, sym, ◌∙◌, Option, None, Some, option_map, List, [], ◌∷◌, map, zip, refl, ap, ap₂, arith}
 use Rattle.std.specs.List.{flat_map}
 use Rattle.ra_indirect.specs.Trees.{same_cell, same_tracked, cells_in, tracked_in}
+use Rattle.ra_memref.specs.Names.{cell_name, tracked_name}
 use Rattle.ra_memref.specs.Values.{Start, cell_number, tracked_number}
-use Rattle.ra_trigger.specs.States.{state_byte, state_of}
+use Rattle.std.proofs.lemmas.List.{length-map}
+use Rattle.ra_trigger.specs.States.{state_byte, state_of, is_triggered}
 use Rattle.ra_leaderboard.specs.States.{board_byte, board_state_of}
 use Rattle.ra_richpresence.specs.Contents.{ScriptContents}
 use Rattle.ra_set.specs.Contents.{ItemContents, Unlocks, Ranks, SetContents}
@@ -14,7 +16,7 @@ use Rattle.ra_runtime.specs.Openings.{start_of, frames_after, item_after, option
 use Rattle.ra_runtime.proofs.Beside.{apart_firsts, numbers_beside, priors_beside}
 
 -- a state byte in its table is that of the state that it says
-byte_again : (state : ℕ) → state ≤ 4 → state_byte (state_of state) ≡ state
+pub byte_again : (state : ℕ) → state ≤ 4 → state_byte (state_of state) ≡ state
 byte_again zero within = refl
 byte_again (suc zero) within = refl
 byte_again (suc (suc zero)) within = refl
@@ -22,7 +24,7 @@ byte_again (suc (suc (suc zero))) within = refl
 byte_again (suc (suc (suc (suc zero)))) within = refl
 byte_again (suc (suc (suc (suc (suc n))))) within = absurd (omega arith)
 
-board_byte_again : (state : ℕ) → state ≤ 4 → board_byte (board_state_of state) ≡ state
+pub board_byte_again : (state : ℕ) → state ≤ 4 → board_byte (board_state_of state) ≡ state
 board_byte_again zero within = refl
 board_byte_again (suc zero) within = refl
 board_byte_again (suc (suc zero)) within = refl
@@ -30,12 +32,22 @@ board_byte_again (suc (suc (suc zero))) within = refl
 board_byte_again (suc (suc (suc (suc zero)))) within = refl
 board_byte_again (suc (suc (suc (suc (suc n))))) within = absurd (omega arith)
 
+-- an achievement that is earned where it is triggered is earned as it was
+pub earned_again : (earned : Bool) (state : ℕ) → state ≤ 4 → (state ≡ 4 → earned ≡ true) → (earned || is_triggered (state_of state)) ≡ earned
+earned_again true state within fits = refl
+earned_again false zero within fits = refl
+earned_again false (suc zero) within fits = refl
+earned_again false (suc (suc zero)) within fits = refl
+earned_again false (suc (suc (suc zero))) within fits = refl
+earned_again false (suc (suc (suc (suc zero)))) within fits = sym (fits refl)
+earned_again false (suc (suc (suc (suc (suc n))))) within fits = absurd (omega arith)
+
 module _ (start : Start) where
   item_unplayed : (item : ItemContents) (kept : KeptItem) → ItemFits (item_shape item) kept → item_after start [] (item, kept) ≡ kept
-  item_unplayed (Unlocks id t) (OfAchievement state measured hits) is =
-      ap (λ s. OfAchievement s measured hits) (byte_again state is.0)
+  item_unplayed (Unlocks id t) (OfAchievement state measured hits earned) is =
+      ap₂ (λ s e. OfAchievement s measured hits e) (byte_again state is.0) (earned_again earned state is.0 is.1)
   item_unplayed (Unlocks id t) (OfBoard state hits numbers) is = absurd is
-  item_unplayed (Ranks id format b) (OfAchievement state measured hits) is = absurd is
+  item_unplayed (Ranks id format b) (OfAchievement state measured hits earned) is = absurd is
   item_unplayed (Ranks id format b) (OfBoard state hits numbers) is =
       let state_is = board_byte_again state is.0 in
       let opened = member_opened (board_member b) hits numbers is.1.as_many is.2.as_many in
@@ -61,8 +73,8 @@ pub snapshot_none : (set : SetContents) (o : Opening) → IsOpening (shape_of se
 snapshot_none set o is =
     let start = start_of set o in
     let frames : frames_after o.frames 0 ≡ o.frames = omega (arith, is.frames) in
-    let cells : map (λ c. cell_number start c []) (set_cells set) ≡ o.cells = numbers_beside (set_cells set) o.cells (apart_firsts same_cell (flat_map cells_in (trees_in_set set))) (is.cells.as_many) in
-    let priors : map (λ t. tracked_number start t []) (set_tracked set) ≡ o.priors = priors_beside (set_tracked set) o.priors (apart_firsts same_tracked (flat_map tracked_in (trees_in_set set))) (is.priors.as_many) in
+    let cells : map (λ c. cell_number start c []) (set_cells set) ≡ o.cells = numbers_beside (set_cells set) o.cells (apart_firsts same_cell (flat_map cells_in (trees_in_set set))) (is.cells.as_many ∙ length-map (set_cells set) cell_name) in
+    let priors : map (λ t. tracked_number start t []) (set_tracked set) ≡ o.priors = priors_beside (set_tracked set) o.priors (apart_firsts same_tracked (flat_map tracked_in (trees_in_set set))) (is.priors.as_many ∙ length-map (set_tracked set) tracked_name) in
     let items = items_unplayed start set.items o.items is.items in
     let presence = presence_unplayed start set.script o.presence is.presence in
     (λ i. record { frames = frames i; cells = cells i; priors = priors i; items = items i; presence = presence i })

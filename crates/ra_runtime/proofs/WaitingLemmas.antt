@@ -9,9 +9,9 @@ use Rattle.ra_leaderboard.specs.Contents.{BoardContents}
 use Rattle.ra_set.specs.Contents.{ItemContents, Unlocks, Ranks}
 use Rattle.ra_set.specs.Limits.{value_conditions, optional_value, item_conditions}
 use Rattle.ra_value_format.specs.declared.format.Format.{Format}
-use Rattle.ra_progress.specs.Contents.{OfBoard}
+use Rattle.ra_progress.specs.Contents.{OfBoard, plain_item}
 use Rattle.ra_member.specs.Members.{MemberContents, trees_in_member, member_conditions}
-use Rattle.ra_member.specs.Runs.{IsNewTrigger}
+use Rattle.ra_runtime.specs.Runs.{IsNewAchievement}
 use Rattle.ra_member.proofs.Added.{trigger_more, member_more}
 use Rattle.ra_member.proofs.Opened.{none_saved}
 use Rattle.ra_member.proofs.GrowthLemmas.{grows_more}
@@ -22,7 +22,7 @@ use Rattle.ra_runtime.specs.declared.item_run.ItemRun.{ItemRun}
 use Rattle.ra_runtime.specs.declared.item_run.ItemRun.TheVariants.{Achievement, Leaderboard}
 use Rattle.ra_runtime.specs.Order.{board_member, progress_in, trees_in_item, item_shape}
 use Rattle.ra_runtime.specs.Boards.{kept_board}
-use Rattle.ra_runtime.specs.Openings.{kept_achievement, plain_item}
+use Rattle.ra_runtime.specs.Openings.{kept_achievement}
 use Rattle.ra_runtime.specs.BoardRuns.{IsNewBoard}
 use Rattle.ra_runtime.specs.ItemRuns.{IsItemRun, IsNewItem, kept_run}
 use Rattle.ra_runtime.specs.AllRuns.{AreItemRuns}
@@ -53,8 +53,12 @@ board_conditions b id format =
     omega (arith, progress_conditions b.progress, sum_by-cons value_conditions b.value (progress_in b.progress))
 
 -- an item that waits
-pub achievement_made : (old new : List Node) (id : ℕ) (t : _) (run : AchievementRun) → IsNewTrigger old new t run.run → IsNewItem old new (Unlocks id t) (Achievement run)
-achievement_made old new id t run made = record { grows = made.grows; run_too = made.run_too; plain = ap kept_achievement made.plain }
+pub achievement_made : (old new : List Node) (id : ℕ) (t : _) (run : AchievementRun) → IsNewAchievement old new t run → IsNewItem old new (Unlocks id t) (Achievement run)
+achievement_made old new id t run made = record {
+  grows = made.trigger.grows;
+  run_too = made.trigger.run_too;
+  plain = ap₂ kept_achievement made.earned made.trigger.plain;
+}
 
 pub leaderboard_made : (old new : List Node) (id : ℕ) (format : Format) (b : BoardContents) (run : BoardRun) → IsNewBoard old new b run → IsNewItem old new (Ranks id format b) (Leaderboard run)
 leaderboard_made old new id format b run made =

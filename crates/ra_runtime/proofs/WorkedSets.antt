@@ -1,5 +1,5 @@
 -- Worked examples of whole sets, computed from the definitions.
-use Rattle.std.proofs.Common.{◌≡◌, ℕ, length, List, [], ◌∷◌, ◌++◌, refl, codes, replicate, Option, Some, None, pos, negsuc}
+use Rattle.std.proofs.Common.{◌≡◌, ℕ, false, List, [], ◌∷◌, ◌++◌, refl, codes, replicate, Option, Some, None, pos, negsuc}
 use Rattle.std.specs.Fmt.{digits}
 use Rattle.ra_operand.specs.declared.operand.Operand.{Operand}
 use Rattle.ra_operand.specs.declared.operand.Operand.TheVariants.{Cell, Const, Recall}
@@ -22,8 +22,6 @@ use Rattle.ra_richpresence.specs.Contents.{Bytes, Shows, ScriptContents}
 use Rattle.ra_set.specs.Contents.{SetContents, Unlocks, Ranks}
 use Rattle.ra_trace.specs.Entries.{Entry, Written, Framed, Shown, Ended}
 use Rattle.ra_progress.specs.Contents.{Opening, OfAchievement}
-use Rattle.md5.specs.Md5.{md5, digest_bytes, hash_after, compress, rounds, block_words}
-use Rattle.ra_progress.specs.Spelling.{progress_bytes}
 use Rattle.ra_runtime.specs.Openings.{plain_opening, snapshot}
 use Rattle.ra_runtime.specs.Play.{text_of, text_from, behind_end, moment_after, first_moment}
 
@@ -67,7 +65,7 @@ paused_by_its_hits = record {
   script_name = None;
 }
 
-paused_group_keeps : (snapshot paused_by_its_hits (plain_opening paused_by_its_hits) (behind_end [] 64 (Written 1 (1 ∷ 1 ∷ []) ∷ Framed ∷ Written 1 (0 ∷ 0 ∷ []) ∷ Framed ∷ Written 1 (1 ∷ 1 ∷ []) ∷ Framed ∷ Written 1 (0 ∷ 0 ∷ []) ∷ Framed ∷ Written 1 (1 ∷ 1 ∷ []) ∷ Framed ∷ Ended ∷ []))).items ≡ OfAchievement 2 0 (2 ∷ 1 ∷ []) ∷ []
+paused_group_keeps : (snapshot paused_by_its_hits (plain_opening paused_by_its_hits) (behind_end [] 64 (Written 1 (1 ∷ 1 ∷ []) ∷ Framed ∷ Written 1 (0 ∷ 0 ∷ []) ∷ Framed ∷ Written 1 (1 ∷ 1 ∷ []) ∷ Framed ∷ Written 1 (0 ∷ 0 ∷ []) ∷ Framed ∷ Written 1 (1 ∷ 1 ∷ []) ∷ Framed ∷ Ended ∷ []))).items ≡ OfAchievement 2 0 (2 ∷ 1 ∷ []) false ∷ []
 paused_group_keeps = refl
 
 -- the pass order where a pause chain stands last
@@ -123,18 +121,6 @@ stages_prints = refl
 stages_go_on : prints stages 256 stages_first ++ text_from stages (snapshot stages (plain_opening stages) (behind_end [] 256 stages_first)) (record { image = (moment_after (first_moment 256 []) stages_first).image; behind = []; slots = replicate 16 None }) stages_second ≡ prints stages 256 (stages_first ++ stages_second)
 unfolding digits stages_first stages_second
 stages_go_on = refl
-
--- the progress file there, by its sum
-stages_file : List ℕ
-stages_file = progress_bytes (10 ∷ 173 ∷ 193 ∷ 77 ∷ 56 ∷ 232 ∷ 112 ∷ 75 ∷ 42 ∷ 116 ∷ 149 ∷ 10 ∷ 39 ∷ 145 ∷ 59 ∷ 49 ∷ []) (snapshot stages (plain_opening stages) (behind_end [] 256 stages_first))
-
-stages_length : length stages_file ≡ 131
-unfolding stages_file stages_first md5 digest_bytes hash_after compress rounds block_words
-stages_length = refl
-
-stages_sum : md5 stages_file ≡ 172 ∷ 132 ∷ 145 ∷ 173 ∷ 72 ∷ 76 ∷ 202 ∷ 118 ∷ 185 ∷ 223 ∷ 52 ∷ 201 ∷ 20 ∷ 6 ∷ 1 ∷ 25 ∷ []
-unfolding stages_file stages_first md5 digest_bytes hash_after compress rounds block_words
-stages_sum = refl
 
 -- a value shown by `@Number`, with byte 4 at address 0x10
 abbrev shows : List PartContents → SetContents
@@ -208,13 +194,13 @@ last_count = record {
 }
 
 abbrev last_opening : Opening
-last_opening = record { frames = 18446744073709551615; cells = 0 ∷ 0 ∷ []; priors = []; items = OfAchievement 1 0 (7 ∷ 0 ∷ 4294967295 ∷ []) ∷ []; presence = None }
+last_opening = record { frames = 18446744073709551615; cells = 0 ∷ 0 ∷ []; priors = []; items = OfAchievement 1 0 (7 ∷ 0 ∷ 4294967295 ∷ []) false ∷ []; presence = None }
 
 last_count_prints : text_of last_count last_opening [] 64 (Written 0x10 (1 ∷ []) ∷ Framed ∷ Ended ∷ []) ≡ []
 unfolding digits
 last_count_prints = refl
 
-last_count_keeps : snapshot last_count last_opening (behind_end [] 64 (Written 0x10 (1 ∷ []) ∷ Framed ∷ Ended ∷ [])) ≡ record { frames = 18446744073709551615; cells = 1 ∷ 0 ∷ []; priors = []; items = OfAchievement 1 0 (8 ∷ 0 ∷ 4294967295 ∷ []) ∷ []; presence = None }
+last_count_keeps : snapshot last_count last_opening (behind_end [] 64 (Written 0x10 (1 ∷ []) ∷ Framed ∷ Ended ∷ [])) ≡ record { frames = 18446744073709551615; cells = 1 ∷ 0 ∷ []; priors = []; items = OfAchievement 1 0 (8 ∷ 0 ∷ 4294967295 ∷ []) false ∷ []; presence = None }
 last_count_keeps = refl
 
 -- an unknown macro

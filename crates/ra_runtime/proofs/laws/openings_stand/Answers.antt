@@ -1,7 +1,6 @@
 use Rattle.ra_progress.proofs.Again.{again}
-use Rattle.ra_progress.proofs.Said.{says_is_opening}
 use Rattle.ra_runtime.specs.Order.{shape_of}
-use Rattle.ra_runtime.proofs.Snapshots.{plain_is_opening, snapshot_fits}
+use Rattle.ra_runtime.proofs.Snapshots.{plain_is_opening, snapshot_fits, is_shape, said_is_opening}
 use Rattle.ra_runtime.proofs.Unplayed.{snapshot_none}
 use Rattle.ra_runtime.proofs.laws.openings_stand.Goals as goal
 
@@ -10,6 +9,7 @@ returns c = λ set. record {
   plain = plain_is_opening set;
   after = snapshot_fits set;
   none = snapshot_none set;
-  said = λ bytes fit. says_is_opening bytes fit (shape_of set);
-  again = λ bytes fit. again bytes fit (shape_of set);
+  shape = is_shape set;
+  said = said_is_opening set;
+  again = λ bytes shape fit accepted own. again bytes fit (shape_of set) shape accepted own;
 }

@@ -1,49 +1,43 @@
-use Rattle.std.proofs.Common.{◌≡◌, ◌<◌, length, take, ◌∙◌, arith}
-use Rattle.std.proofs.lemmas.List.{take_all}
-use Rattle.ra_runtime.proofs.RunsLemmas.{length_runs}
-use Rattle.ra_runtime.proofs.RestoredRuns.{item_within, item_state, place_next, kept_next, runs_next, rest_next}
+use Rattle.std.proofs.Common.{◌≡◌, ◌<◌, ◌++◌, [], refl, length, map, take, drop, slice_index_or, None, sym, ◌∙◌, ap, ap₂, append-nil, arith}
+use Rattle.std.proofs.lemmas.List.{take_all, drop_all, get_or_read}
+use Rattle.ra_progress.specs.Saying.{said_items}
+use Rattle.ra_runtime.specs.ItemRuns.{kept_run}
+use Rattle.ra_runtime.specs.Shapes.{run_shape}
+use Rattle.ra_runtime.proofs.RestoredRuns.{item_has, kept_next, runs_next, rest_next}
 use Rattle.ra_runtime.proofs.restored.put_back_runs.Goals as goal
 
-pub put_back_item-at-requires-clause-long : goal.put_back_item-at-requires-clause-long
-put_back_item-at-requires-clause-long c =
+pub put_back_item-requires : goal.put_back_item-requires
+put_back_item-requires c =
     let p = c.loop-place in
     let within : p.place < length c.args.runs.now = omega arith in
-    item_within c.args.bytes.now c.args.from p.at p.place c.args.runs.now p.runs c.index-runs-place.result within p.invariant.rest p.invariant.at c.requires.long
-
-pub put_back_item-at-requires-clause-state : goal.put_back_item-at-requires-clause-state
-put_back_item-at-requires-clause-state c =
-    let p = c.loop-place in
-    let within : p.place < length c.args.runs.now = omega arith in
-    item_state c.args.bytes.now c.args.from p.at p.place c.args.runs.now p.runs c.index-runs-place.result within p.invariant.rest p.invariant.at c.requires.states
+    let within_runs : p.place < length p.runs = omega arith in
+    let placed : p.place < length c.args.places.now = omega (arith, c.requires.many) in
+    item_has c.args.bytes.now c.args.places.now p.place c.args.runs.now p.runs c.index-runs-place.result within within_runs placed p.invariant.rest c.requires.blocks _ refl
 
 pub loop-place-preserved : goal.loop-place-preserved
 loop-place-preserved c =
     let p = c.loop-place in
     let bytes = c.args.bytes.now in
-    let from = c.args.from in
+    let places = c.args.places.now in
     let olds = c.args.runs.now in
     let d = c.index-runs-place.result in
-    let new = c.put_back_item-at.new.run in
+    let new = c.put_back_item.new.run in
     let within : p.place < length olds = omega arith in
     let within_runs : p.place < length p.runs = omega arith in
-    let back = c.put_back_item-at.ensures.item in
+    let placed : p.place < length places = omega (arith, c.requires.many) in
+    let back = c.put_back_item.ensures in
     record {
-      at = c.put_back_item-at.ensures.place ∙ place_next bytes from p.at p.place olds p.runs d within p.invariant.rest p.invariant.at;
-      kept = kept_next bytes from p.at p.place olds p.runs d within p.invariant.rest p.invariant.at new within_runs back p.invariant.kept;
-      runs = λ nodes items are. runs_next bytes from p.at p.place olds p.runs d within p.invariant.rest p.invariant.at new within_runs back nodes items are (p.invariant.runs nodes items are);
-      rest = rest_next bytes from p.at p.place olds p.runs d within p.invariant.rest p.invariant.at new within_runs back;
+      kept = kept_next bytes places p.place olds p.runs d within within_runs placed p.invariant.rest new _ refl back p.invariant.kept;
+      runs = λ nodes items are. runs_next bytes places p.place olds p.runs d within within_runs placed p.invariant.rest new _ refl back nodes items (p.invariant.runs nodes items are);
+      rest = rest_next bytes places p.place olds p.runs d within within_runs placed p.invariant.rest new _ refl back;
     }
 
-pub returns-clause-runs : goal.returns-clause-runs
-returns-clause-runs c nodes items are =
+pub returns-clause-kept : goal.returns-clause-kept
+returns-clause-kept c =
     let p = c.loop-place in
-    let many = length_runs nodes items c.args.runs.now are in
-    let all : take p.place items ≡ items = take_all p.place items (omega (arith, many)) in
-    let all_runs : take p.place p.runs ≡ p.runs = take_all p.place p.runs (omega arith) in
-    rw (all, all_runs) at (p.invariant.runs nodes items are)
-
-pub returns-clause-place : goal.returns-clause-place
-returns-clause-place c =
-    let p = c.loop-place in
-    let all : take p.place c.args.runs.now ≡ c.args.runs.now = take_all p.place c.args.runs.now (omega arith) in
-    rw all at p.invariant.at
+    let olds = c.args.runs.now in
+    let all : take p.place p.runs ≡ p.runs = take_all p.place p.runs (omega arith) in
+    let none : drop p.place olds ≡ [] = drop_all p.place olds (omega arith) in
+    sym (append-nil (map kept_run p.runs))
+    ∙ sym (ap₂ (λ runs left. map kept_run runs ++ said_items c.args.bytes.now (map run_shape left) (drop p.place c.args.places.now)) all none)
+    ∙ p.invariant.kept

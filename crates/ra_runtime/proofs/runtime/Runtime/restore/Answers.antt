@@ -1,7 +1,7 @@
 use Rattle.std.proofs.Common.{refl, ◌∙◌, ap, subst}
 use Rattle.ra_progress.specs.Contents.{ShapeContents}
 use Rattle.ra_progress.specs.Reading.{IsAccepted}
-use Rattle.ra_progress.proofs.Fields.{accepted_none}
+use Rattle.ra_progress.proofs.Checks.{accepted_none}
 use Rattle.ra_runtime.specs.Order.{shape_of}
 use Rattle.ra_runtime.specs.Runtime.{RuntimeSeen}
 use Rattle.ra_runtime.proofs.runtime.Runtime.restore.Goals as goal
