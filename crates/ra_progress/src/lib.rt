@@ -38,7 +38,7 @@ pub use order::order_of;
 pub use places::{frames_at, item_at, length, length_1, presence_at};
 pub use ra_words::word_at;
 pub use range::matches;
-pub use reading::decode;
+pub use reading::{decode, is_earned, state_said};
 pub use refused::ProgressRefused;
 pub use relation::of_this_set;
 pub use said::Said;

@@ -95,15 +95,17 @@ fn said_item(alloc: Global, bytes: &[u8], item: ItemShape, at: u64) -> Result<It
     }
 }
 
-/// Whether the state byte of an achievement says in this version that it is earned.
-fn is_earned(version: u8, byte: u8) -> bool
+/// Whether the state byte of an achievement says in this version that it is earned: docs/DEFINITIONS.md,
+/// "Progress file".
+pub fn is_earned(version: u8, byte: u8) -> bool
     ensures { result ≡ spec.is_earned version byte }
 {
     if version == 3 { 8 <= byte } else { byte == 4 }
 }
 
-/// The state that the state byte of an achievement says in this version.
-fn state_said(version: u8, byte: u8) -> u8
+/// The state that the state byte of an achievement says in this version: docs/DEFINITIONS.md, "Progress
+/// file".
+pub fn state_said(version: u8, byte: u8) -> u8
     ensures { result ≡ spec.state_said version byte }
 {
     if version == 3 && 8 <= byte {

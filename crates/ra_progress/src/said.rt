@@ -1,4 +1,4 @@
-ghost use Rattle.std.specs.Prelude.{IfOk};
+ghost use Rattle.std.specs.Prelude.{◌≡◌, None, slice_index_or, IfOk};
 ghost use Rattle.ra_progress.specs.Contents.{shape_contents};
 ghost use Rattle.ra_progress.specs.Names.{IsPaired, IsUsable};
 ghost use Rattle.ra_progress.specs.Reading.{IsAccepted};
@@ -55,5 +55,16 @@ impl Said {
         read_cells(&mut self.cells, shape, bytes);
         read_priors(&mut self.priors, shape, bytes);
         read_places(&mut self.places, shape, bytes);
+    }
+
+    /// Where the block of an own entry begins, in bytes from the start, where the file has one. Entries are
+    /// counted from 0, the items in set order and then the script.
+    pub fn place(&self, number: usize) -> Option<u64>
+        ensures { result ≡ slice_index_or self.now.places.items number None }
+    {
+        match self.places.get(number) {
+            Some(place) => *place,
+            None => None,
+        }
     }
 }

@@ -1,5 +1,5 @@
 -- What stands before the first frame of a set, and the opening after a history: docs/DEFINITIONS.md, "Openings and snapshots".
-use Rattle.std.specs.Prelude.{ℕ, ◌+◌, ◌^◌, min, ◌||◌, Bool, false, Option, None, Some, if◌then◌else◌, List, [], ◌∷◌, length, map, drop, zip, slice_index}
+use Rattle.std.specs.Prelude.{ℕ, ◌+◌, ◌-◌, ◌^◌, min, ◌||◌, Bool, false, Option, None, Some, if◌then◌else◌, List, [], ◌∷◌, length, map, drop, zip, slice_index}
 use Rattle.ra_richpresence.specs.Contents.{ScriptContents}
 use Rattle.ra_set.specs.Contents.{ItemContents, Unlocks, Ranks, SetContents}
 use Rattle.ra_memory.specs.Image.{History}

@@ -1,5 +1,5 @@
 -- What runs keep after the bytes of a progress file are put back: docs/DEFINITIONS.md, "What a runtime keeps".
-use Rattle.std.specs.Prelude.{◌≡◌, ℕ, ◌+◌, ◌<◌, Option, None, Some, option_map, List, [], ◌∷◌, slice_index}
+use Rattle.std.specs.Prelude.{◌≡◌, ℕ, ◌+◌, ◌<◌, ◌≤◌, true, Option, None, Some, option_map, List, length, replicate, slice_index}
 use Rattle.std.specs.List.{flat_map}
 use Rattle.ra_indirect.specs.declared.node.Node.{Node}
 use Rattle.ra_leaderboard.specs.Contents.{BoardContents}
@@ -8,7 +8,11 @@ use Rattle.ra_richpresence.specs.Contents.{LineContents, ScriptContents}
 use Rattle.ra_progress.specs.declared.shape.ItemShape.{ItemShape}
 use Rattle.ra_progress.specs.declared.shape.PresenceShape.{PresenceShape}
 use Rattle.ra_words.specs.Words.{word_at}
-use Rattle.ra_progress.specs.Reading.{item_length, said_item, said_presence}
+use Rattle.ra_progress.specs.Contents.{OfPresence, plain_item, plain_presence}
+use Rattle.ra_progress.specs.Layout.{version_in, item_length, block_length}
+use Rattle.ra_progress.specs.Reading.{is_state}
+use Rattle.ra_progress.specs.Saying.{said_or, said_item, said_presence}
+use Rattle.ra_memref.specs.Table.{TableSeen, SamePool}
 use Rattle.ra_runtime.specs.declared.board_run.BoardRun.{BoardRun}
 use Rattle.ra_runtime.specs.declared.item_run.ItemRun.{ItemRun}
 use Rattle.ra_member.specs.declared.member.Member.{Member}
@@ -16,35 +20,36 @@ use Rattle.ra_runtime.specs.declared.presence_run.PresenceRun.{PresenceRun}
 use Rattle.ra_runtime.specs.Boards.{kept_board}
 use Rattle.ra_member.specs.Members.{saved_hits, saved_numbers}
 use Rattle.ra_member.specs.MemberRuns.{kept_by}
-use Rattle.ra_runtime.specs.PresenceRuns.{AreLineRuns, IsOptionalPresence, optional_presence_kept}
+use Rattle.ra_runtime.specs.PresenceRuns.{AreLineRuns, IsPresenceRun, IsOptionalPresence, presence_kept, optional_presence_kept}
 use Rattle.ra_runtime.specs.BoardRuns.{IsBoardRun, board_kept}
 use Rattle.ra_runtime.specs.ItemRuns.{IsItemRun, kept_run}
-use Rattle.ra_runtime.specs.Shapes.{board_run_shape, run_shape, optional_run_shape}
+use Rattle.ra_runtime.specs.Shapes.{board_run_shape, run_shape, presence_run_shape, optional_run_shape}
 
--- the first byte of each item, from a place on, is that of a state
-abbrev pub HaveStates : List ℕ → ℕ → List ItemShape → Type 0
-HaveStates bytes at [] = Unit {0}
-HaveStates bytes at (shape ∷ shapes) = (slice_index bytes at < 5) × HaveStates bytes (at + item_length shape) shapes
+-- the block at a place lies within bytes that have a version
+abbrev pub Holds : List ℕ → (at size : ℕ) → Type 0
+Holds bytes at size = (4 < length bytes) × (at + size ≤ length bytes)
 
--- a board is what stands at a place, and stays one with its plans
-pub record PutsBackBoard (bytes : List ℕ) (at : ℕ) (old new : BoardRun) : Type 0 where
-  pub kept : kept_board (board_kept new) ≡ said_item bytes at (board_run_shape old)
+-- where there is a block of an item, it lies within the bytes and its state byte is in the table
+abbrev pub HasItem : List ℕ → Option ℕ → ItemShape → Type 0
+HasItem bytes None shape = Unit {0}
+HasItem bytes (Some at) shape =
+    Holds bytes at (item_length shape) × (is_state (version_in bytes) shape (slice_index bytes at) ≡ true)
+
+-- a board is what its block says, or plain without one, and stays one with its plans
+pub record PutsBackBoard (bytes : List ℕ) (place : Option ℕ) (old new : BoardRun) : Type 0 where
+  pub kept : kept_board (board_kept new) ≡ said_or (said_item bytes (board_run_shape old)) (plain_item (board_run_shape old)) place
   pub run : (nodes : List Node) (b : BoardContents) → IsBoardRun nodes b old → IsBoardRun nodes b new
 
--- an item is what stands at a place, and stays one with its plans
-pub record PutsBackItem (bytes : List ℕ) (at : ℕ) (old new : ItemRun) : Type 0 where
-  pub kept : kept_run new ≡ said_item bytes at (run_shape old)
+-- an item is what its block says, or plain without one, and stays one with its plans
+pub record PutsBackItem (bytes : List ℕ) (place : Option ℕ) (old new : ItemRun) : Type 0 where
+  pub kept : kept_run new ≡ said_or (said_item bytes (run_shape old)) (plain_item (run_shape old)) place
   pub run : (nodes : List Node) (item : ItemContents) → IsItemRun nodes item old → IsItemRun nodes item new
 
--- the word at a place is the index of a line of the display, if there is one
-abbrev pub HasShown : List ℕ → ℕ → Option PresenceShape → Type 0
-HasShown bytes at None = Unit {0}
-HasShown bytes at (Some shape) = word_at bytes at < shape.lines
-
--- how many hits a display of this shape keeps
-abbrev pub hits_in_shape : Option PresenceShape → ℕ
-hits_in_shape None = 0
-hits_in_shape (Some shape) = shape.hits
+-- where there is a block of a display, it lies within the bytes and its first word is the index of a line
+abbrev pub HasDisplay : List ℕ → Option ℕ → PresenceShape → Type 0
+HasDisplay bytes None shape = 0 < shape.lines
+HasDisplay bytes (Some at) shape =
+    Holds bytes at (block_length (OfPresence shape)) × (word_at bytes at < shape.lines)
 
 -- the hits that some lines keep, in a row
 abbrev pub hits_of_lines : List Member → List ℕ
@@ -59,7 +64,32 @@ abbrev pub StayLines : (olds news : List Member) → Type 0
 StayLines olds news =
     (nodes : List Node) (lines : List LineContents) → AreLineRuns nodes lines olds → AreLineRuns nodes lines news
 
--- a display that may be missing is what stands at a place, and stays one with its plans
-pub record PutsBackPresence (bytes : List ℕ) (at : ℕ) (old new : Option PresenceRun) : Type 0 where
-  pub kept : optional_presence_kept new ≡ option_map (said_presence bytes at) (optional_run_shape old)
+-- a display is what its block says, or plain without one, and stays one with its plans
+pub record PutsBackDisplay (bytes : List ℕ) (place : Option ℕ) (old new : PresenceRun) : Type 0 where
+  pub kept : presence_kept new ≡ said_or (said_presence bytes (presence_run_shape old)) (plain_presence (presence_run_shape old)) place
+  pub run : (nodes : List Node) (script : ScriptContents) → IsPresenceRun nodes script old → IsPresenceRun nodes script new
+
+-- the same of a display that may be missing
+pub record PutsBackPresence (bytes : List ℕ) (place : Option ℕ) (old new : Option PresenceRun) : Type 0 where
+  pub kept : optional_presence_kept new ≡ option_map (λ p. said_or (said_presence bytes p) (plain_presence p) place) (optional_run_shape old)
   pub run : (nodes : List Node) (script : Option ScriptContents) → IsOptionalPresence nodes script old → IsOptionalPresence nodes script new
+
+-- a table has these numbers of its cells, which are marked where there are any, and all else stays
+pub record TakesCells (old new : TableSeen) (numbers : List ℕ) : Type 0 where
+  pub is : new ≡ record old { cells = numbers; sampled = new.sampled; marked = new.marked }
+  pub marked : 0 < length numbers → new.marked ≡ replicate (length old.cells) true
+  pub kept : length numbers ≡ 0 → new.marked ≡ old.marked
+
+-- a table has these numbers of its masks, its cells are marked where there are any, and all else stays
+pub record TakesPriors (old new : TableSeen) (numbers : List ℕ) : Type 0 where
+  pub is : new ≡ record old { priors = numbers; sampled = new.sampled; marked = new.marked }
+  pub marked : 0 < length numbers → new.marked ≡ replicate (length old.cells) true
+  pub kept : length numbers ≡ 0 → new.marked ≡ old.marked
+
+-- a table has these numbers of its cells and masks, all its cells are marked, and nodes, size and places stay
+pub record TakesNumbers (old new : TableSeen) (cells priors : List ℕ) : Type 0 where
+  pub pool : SamePool old new
+  pub cells_too : new.cells ≡ cells
+  pub priors_too : new.priors ≡ priors
+  pub marked : new.marked ≡ replicate (length cells) true
+  pub places : new.places ≡ old.places

@@ -5,6 +5,8 @@ use Rattle.ra_set.specs.Contents.{set_contents}
 use Rattle.ra_set.specs.Limits.{IsWithinLimits}
 use Rattle.ra_set.specs.Spelled.{OptionalScript}
 use Rattle.ra_progress.specs.Contents.{shape_contents}
+use Rattle.ra_progress.specs.Names.{IsUsable}
+use Rattle.ra_progress.specs.Room.{IsRoom}
 use Rattle.ra_runtime.specs.declared.runtime.Runtime.TheInside.{Inside}
 use Rattle.ra_runtime.specs.Order.{shape_of}
 use Rattle.ra_runtime.specs.Runtime.{RuntimeSeen}
@@ -22,11 +24,13 @@ runtime_seen t = record {
   places = t.table.places;
 }
 
--- the set is within the limits, the table is over its cells and the memory, and there is a run for each item and for the display
+-- the set is within the limits, its shape can be searched and there is room for what a file says of it, the table is over its cells and the memory, and there is a run for each item and for the display
 pub record IsRuntime (t : Inside) : Type 0 where
   pub script : OptionalScript (set_contents t.set).script
   pub limits : IsWithinLimits (set_contents t.set)
   pub shape : shape_contents t.shape ≡ shape_of (set_contents t.set)
+  pub usable : IsUsable t.shape
+  pub room : IsRoom (shape_contents t.shape) t.said
   pub over : IsOver (set_contents t.set) t.table
   pub runs : AreItemRuns t.table.nodes (set_contents t.set).items t.runs.items
   pub presence : IsOptionalPresence t.table.nodes (set_contents t.set).script t.presence

@@ -11,7 +11,9 @@ use Rattle.ra_runtime.specs.declared.board_run.BoardRun.{BoardRun}
 use Rattle.ra_runtime.specs.declared.item_run.ItemRun.{ItemRun}
 use Rattle.ra_runtime.specs.declared.presence_run.PresenceRun.{PresenceRun}
 use Rattle.ra_runtime.specs.declared.item_run.ItemRun.TheVariants.{Achievement, Leaderboard}
-use Rattle.ra_runtime.specs.Order.{item_shape, presence_shape}
+use Rattle.ra_memref.specs.declared.names.Names.{Names}
+use Rattle.ra_memref.specs.Names.{cell_name, tracked_name}
+use Rattle.ra_runtime.specs.Order.{set_cells, set_tracked, item_shape, presence_shape}
 use Rattle.ra_progress.specs.Contents.{plain_item, plain_presence}
 use Rattle.ra_runtime.specs.ItemRuns.{kept_run}
 use Rattle.ra_runtime.specs.AllRuns.{AreItemRuns, IsOver}
@@ -48,6 +50,11 @@ IsSmallPresence (Some shape) = (shape.lines < 2 ^ 32) × (shape.hits ≤ 65536) 
 abbrev pub IsSmall : ItemShape → Type 0
 IsSmall (shapes.Achievement hits) = hits ≤ 65536
 IsSmall (shapes.Leaderboard hits parts) = (hits ≤ 65536) × (parts ≤ 65536)
+
+-- the names are those of the cells and of the tracked masks of a set
+pub record NameSet (set : SetContents) (names : Names) : Type 0 where
+  pub cells : names.cells.items ≡ map cell_name (set_cells set)
+  pub priors_too : names.priors.items ≡ map tracked_name (set_tracked set)
 
 -- a table without a frame over the trees of a set, runs that wait, and a display that shows its last line
 pub record IsLaidOut (set : SetContents) (size : ℕ) (table : TableSeen) (runs : List ItemRun) (presence : Option PresenceRun) : Type 0 where

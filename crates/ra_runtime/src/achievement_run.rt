@@ -2,7 +2,7 @@ ghost use Rattle.std.specs.Prelude.{◌≡◌, ◌+◌, ◌*◌, ◌≤◌, ◌^
 ghost use Rattle.ra_condition.specs.Contents.{trigger_contents, trigger_hits};
 ghost use Rattle.ra_condition.specs.Spelled.{IsTrigger};
 ghost use Rattle.ra_member.specs.Runs.{IsTriggerRun};
-ghost use Rattle.ra_runtime.specs.Runs.{StepsAchievement, IsNewAchievement};
+ghost use Rattle.ra_runtime.specs.Runs.{StepsAchievement, IsNewAchievement, earned_by};
 
 use ra_condition::TriggerText;
 use ra_indirect::Pool;
@@ -12,11 +12,12 @@ use ra_text::OutOfMemory;
 use ra_trigger::{Change, State};
 use std::alloc::Global;
 
-/// An achievement: its trigger, and what its last frame did.
+/// An achievement: its trigger, what its last frame did, and whether it was earned before that frame.
 #[derive(Drop)]
 pub(crate) struct AchievementRun {
     pub run: TriggerRun,
     pub change: Change,
+    pub earned: bool,
 }
 
 impl AchievementRun {
@@ -38,7 +39,15 @@ impl AchievementRun {
                 after: State::Waiting,
                 measured: None,
             },
+            earned: false,
         })
+    }
+
+    // Whether the achievement is earned: it was before its last frame, or it is triggered.
+    pub(crate) fn is_earned(&self) -> bool
+        ensures { result ≡ earned_by self.now }
+    {
+        self.earned || matches!(self.run.trigger.state(), State::Triggered)
     }
 
     // Steps the achievement by the frame of the table's last sample.
@@ -48,6 +57,7 @@ impl AchievementRun {
         ensures run { IsTriggerRun table.now.nodes (trigger_contents text.now) self.new.run }
         ensures steps { StepsAchievement table.now (trigger_contents text.now) self.old self.new }
     {
+        self.earned = self.is_earned();
         self.change = self.run.step(text, table);
     }
 }

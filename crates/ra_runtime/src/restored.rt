@@ -1,65 +1,125 @@
 //! What the runs keep, put back from the bytes of a progress file.
 
-ghost use Rattle.std.specs.Prelude.{◌≡◌, ◌+◌, ◌<◌, ◌≤◌, List, length, map, sum_by, slice_index};
+ghost use Rattle.std.specs.Prelude.{◌≡◌, ◌<◌, ◌≤◌, ◌^◌, ℕ, None, List, length, map, get_or, slice_index_or};
 ghost use Rattle.ra_indirect.specs.declared.node.Node.{Node};
 ghost use Rattle.ra_set.specs.Contents.{ItemContents};
-ghost use Rattle.ra_progress.specs.Reading as reading;
+ghost use Rattle.ra_progress.specs.declared.shape.ItemShape.{ItemShape};
+ghost use Rattle.ra_progress.specs.Saying.{said_items};
+ghost use Rattle.ra_runtime.specs.declared.item_run.ItemRun.TheVariants.{Achievement};
 ghost use Rattle.ra_runtime.specs.ItemRuns.{kept_run};
 ghost use Rattle.ra_runtime.specs.AllRuns.{AreItemRuns};
 ghost use Rattle.ra_runtime.specs.Shapes.{board_run_shape, run_shape};
-ghost use Rattle.ra_runtime.specs.Restoring.{HaveStates, PutsBackBoard, PutsBackItem};
+ghost use Rattle.ra_runtime.specs.Restoring.{HasItem, PutsBackBoard, PutsBackItem, TakesCells, TakesPriors, TakesNumbers};
 
+use crate::achievement_run::AchievementRun;
 use crate::board_run::BoardRun;
 use crate::item_run::ItemRun;
 use crate::state_bytes::{board_of_byte, state_of_byte};
+use ra_leaderboard::BoardState;
 use ra_member::Places;
-use ra_progress::word_at;
+use ra_memref::Table;
+use ra_progress::{is_earned, state_said, word_at};
 
-// Puts back what the bytes from a place on say of all items, and gives the place behind.
-pub(crate) fn put_back_runs(runs: &mut [ItemRun], bytes: &[u8], from: usize) -> usize
-    requires long { from + sum_by reading.item_length (map run_shape runs.old) ≤ length bytes.now }
-    requires states { HaveStates bytes.now from (map run_shape runs.old) }
-    ensures kept { map kept_run runs.new ≡ reading.said_items bytes.now from (map run_shape runs.old) }
-    ensures runs { (nodes : List Node) (items : List ItemContents) → AreItemRuns nodes items runs.old → AreItemRuns nodes items runs.new }
-    ensures place { result ≡ from + sum_by reading.item_length (map run_shape runs.old) }
+// Sets the kept numbers of all cells and tracked masks.
+pub(crate) fn take_numbers(table: &mut Table, cells: &[u32], priors: &[u32])
+    requires cells { length cells.now ≡ length table.old.cells }
+    requires priors { length priors.now ≡ length table.old.priors }
+    requires few_cells { length cells.now < 2 ^ 32 }
+    requires few_priors { length priors.now < 2 ^ 32 }
+    ensures { TakesNumbers table.old table.new cells.now priors.now }
 {
-    let mut at = from;
-    for place in 0..runs.len() {
-        at = put_back_item(&mut runs[place], bytes, at);
+    if cells.is_empty() && priors.is_empty() {
+        table.put_back(&[]);
+    } else {
+        take_cells(table, cells);
+        take_priors(table, priors);
     }
-    at
 }
 
-// Puts back what the bytes at a place say of an item, and gives the place behind.
-fn put_back_item(run: &mut ItemRun, bytes: &[u8], at: usize) -> usize
-    requires long { at + reading.item_length (run_shape run.old) ≤ length bytes.now }
-    requires state { slice_index bytes.now at < 5 }
-    ensures item { PutsBackItem bytes.now at run.old run.new }
-    ensures place { result ≡ at + reading.item_length (run_shape run.old) }
+// Sets the kept number of each cell.
+fn take_cells(table: &mut Table, numbers: &[u32])
+    requires many { length numbers.now ≡ length table.old.cells }
+    requires few { length numbers.now < 2 ^ 32 }
+    ensures { TakesCells table.old table.new numbers.now }
+{
+    for cell in 0..numbers.len() {
+        table.put_cell(cell as u32, numbers[cell]);
+    }
+}
+
+// Sets the kept number of each tracked mask.
+fn take_priors(table: &mut Table, numbers: &[u32])
+    requires many { length numbers.now ≡ length table.old.priors }
+    requires few { length numbers.now < 2 ^ 32 }
+    ensures { TakesPriors table.old table.new numbers.now }
+{
+    for prior in 0..numbers.len() {
+        table.put_prior(prior as u32, numbers[prior]);
+    }
+}
+
+// Puts back what the bytes say of all items, by the places of their blocks.
+pub(crate) fn put_back_runs(runs: &mut [ItemRun], bytes: &[u8], places: &[Option<u64>])
+    requires many { length runs.old ≤ length places.now }
+    requires blocks { (k : ℕ) (d : ItemShape) → k < length runs.old
+        → HasItem bytes.now (slice_index_or places.now k None) (get_or (map run_shape runs.old) k d) }
+    ensures kept { map kept_run runs.new ≡ said_items bytes.now (map run_shape runs.old) places.now }
+    ensures runs { (nodes : List Node) (items : List ItemContents) → AreItemRuns nodes items runs.old → AreItemRuns nodes items runs.new }
+{
+    for place in 0..runs.len() {
+        put_back_item(&mut runs[place], bytes, places[place]);
+    }
+}
+
+// Puts back what the bytes say of an item, by the place of its block; without one it waits.
+fn put_back_item(run: &mut ItemRun, bytes: &[u8], place: Option<u64>)
+    requires { HasItem bytes.now place (run_shape run.old) }
+    ensures { PutsBackItem bytes.now place run.old run.new }
 {
     match run {
-        ItemRun::Achievement(run) => {
-            let state = state_of_byte(bytes[at]);
-            let measured = word_at(bytes, (at + 1) as u64);
-            let hits = at + 5;
-            let end = hits + 4 * run.run.trigger.hits().len();
-            run.run.trigger.put_back(state, measured, &bytes[hits..end]);
-            end
-        }
-        ItemRun::Leaderboard(run) => put_back_board(run, bytes, at),
+        ItemRun::Achievement(run) => put_back_achievement(run, bytes, place),
+        ItemRun::Leaderboard(run) => put_back_board(run, bytes, place),
     }
 }
 
-// Puts back what the bytes at a place say of a board, and gives the place behind.
-fn put_back_board(run: &mut BoardRun, bytes: &[u8], at: usize) -> usize
-    requires long { at + reading.item_length (board_run_shape run.old) ≤ length bytes.now }
-    requires state { slice_index bytes.now at < 5 }
-    ensures board { PutsBackBoard bytes.now at run.old run.new }
-    ensures place { result ≡ at + reading.item_length (board_run_shape run.old) }
+// Puts back what the bytes say of an achievement, by the place of its block; without one it waits.
+fn put_back_achievement(run: &mut AchievementRun, bytes: &[u8], place: Option<u64>)
+    requires { HasItem bytes.now place (run_shape (Achievement run.old)) }
+    ensures { PutsBackItem bytes.now place (Achievement run.old) (Achievement run.new) }
 {
-    run.board.put_back(board_of_byte(bytes[at]));
-    let hits = at + 1;
-    let numbers = hits + 4 * run.member.shape().hits;
-    let behind = run.member.put_back(bytes, Places { hits, numbers });
-    behind.numbers
+    match place {
+        Some(at) => {
+            let at = at as usize;
+            let hits = at + 5;
+            let end = hits + 4 * run.run.trigger.hits().len();
+            let state = state_of_byte(state_said(bytes[4], bytes[at]));
+            let measured = word_at(bytes, (at + 1) as u64);
+            run.earned = is_earned(bytes[4], bytes[at]);
+            run.run.trigger.put_back(state, measured, &bytes[hits..end]);
+        }
+        None => {
+            run.earned = false;
+            run.run.trigger.clear();
+        }
+    }
+}
+
+// Puts back what the bytes say of a board, by the place of its block; without one it waits.
+fn put_back_board(run: &mut BoardRun, bytes: &[u8], place: Option<u64>)
+    requires { HasItem bytes.now place (board_run_shape run.old) }
+    ensures { PutsBackBoard bytes.now place run.old run.new }
+{
+    match place {
+        Some(at) => {
+            let at = at as usize;
+            run.board.put_back(board_of_byte(bytes[at]));
+            let hits = at + 1;
+            let numbers = hits + 4 * run.member.shape().hits;
+            run.member.put_back(bytes, Places { hits, numbers });
+        }
+        None => {
+            run.board.put_back(BoardState::Waiting);
+            run.member.clear();
+        }
+    }
 }

@@ -1,42 +1,50 @@
 //! What a display keeps, put back from the bytes of a progress file.
 
-ghost use Rattle.std.specs.Prelude.{◌≡◌, ◌+◌, ◌*◌, ◌≤◌, length};
+ghost use Rattle.std.specs.Prelude.{◌≡◌, ◌+◌, ◌*◌, ◌≤◌, length, map, IfSome};
 ghost use Rattle.ra_words.specs.Words.{words_at};
-ghost use Rattle.ra_progress.specs.Reading.{presence_length};
-ghost use Rattle.ra_runtime.specs.Shapes.{optional_run_shape};
-ghost use Rattle.ra_runtime.specs.Restoring.{HasShown, PutsBackPresence, StayLines, hits_in_shape, hits_of_lines, numbers_of_lines};
+ghost use Rattle.ra_member.specs.Members.{cleared_member};
+ghost use Rattle.ra_member.specs.MemberRuns.{kept_by};
+ghost use Rattle.ra_runtime.specs.Shapes.{presence_run_shape, optional_run_shape};
+ghost use Rattle.ra_runtime.specs.Restoring.{HasDisplay, PutsBackDisplay, PutsBackPresence, StayLines, hits_of_lines, numbers_of_lines};
 
 use crate::presence_run::PresenceRun;
 use ra_member::{Member, Places};
 use ra_progress::{PresenceShape, word_at};
 
-// Puts back what the bytes at a place say of the display, if there is one.
+// Puts back what the bytes say of the display, if there is one.
 pub(crate) fn put_back_presence(
     run: &mut Option<PresenceRun>,
     shape: &Option<PresenceShape>,
     bytes: &[u8],
-    at: usize,
+    place: Option<u64>,
 )
     requires shape { shape.now ≡ optional_run_shape run.old }
-    requires long { at + presence_length shape.now ≤ length bytes.now }
-    requires shown { HasShown bytes.now at shape.now }
-    ensures { PutsBackPresence bytes.now at run.old run.new }
+    requires block { IfSome shape.now (HasDisplay bytes.now place) }
+    ensures { PutsBackPresence bytes.now place run.old run.new }
 {
-    if let Some(run) = run {
-        run.shown = word_at(bytes, at as u64);
-        let hits = at + 4;
-        let numbers = hits + 4 * hits_of(shape);
-        put_back_lines(&mut run.lines, bytes, Places { hits, numbers });
+    if let (Some(run), Some(shape)) = (run, shape) {
+        put_back_display(run, shape, bytes, place);
     }
 }
 
-// How many hits a display of this shape keeps.
-fn hits_of(shape: &Option<PresenceShape>) -> usize
-    ensures { result ≡ hits_in_shape shape.now }
+// Puts back what the bytes say of a display, by the place of its block; without one it shows its last line.
+fn put_back_display(run: &mut PresenceRun, shape: &PresenceShape, bytes: &[u8], place: Option<u64>)
+    requires shape { shape.now ≡ presence_run_shape run.old }
+    requires block { HasDisplay bytes.now place shape.now }
+    ensures { PutsBackDisplay bytes.now place run.old run.new }
 {
-    match shape {
-        Some(shape) => shape.hits as usize,
-        None => 0,
+    match place {
+        Some(at) => {
+            let at = at as usize;
+            run.shown = word_at(bytes, at as u64);
+            let hits = at + 4;
+            let numbers = hits + 4 * shape.hits as usize;
+            put_back_lines(&mut run.lines, bytes, Places { hits, numbers });
+        }
+        None => {
+            run.shown = shape.lines - 1;
+            clear_lines(&mut run.lines);
+        }
     }
 }
 
@@ -53,5 +61,15 @@ fn put_back_lines(lines: &mut [Member], bytes: &[u8], from: Places)
     let mut at = from;
     for place in 0..lines.len() {
         at = lines[place].put_back(bytes, at);
+    }
+}
+
+// Brings all lines to their start.
+fn clear_lines(lines: &mut [Member])
+    ensures stay { StayLines lines.old lines.new }
+    ensures kept { map kept_by lines.new ≡ map (λ line. cleared_member (kept_by line)) lines.old }
+{
+    for place in 0..lines.len() {
+        lines[place].clear();
     }
 }

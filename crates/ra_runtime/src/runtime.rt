@@ -1,7 +1,9 @@
 ghost use Rattle.std.specs.Prelude.{◌≡◌, ◌+◌, ◌-◌, ◌≤◌, ◌^◌, None, Some, length, IfOk, IfErr, OnOk, OnErr};
 ghost use Rattle.ra_set.specs.Contents.{set_contents};
 ghost use Rattle.ra_set.specs.Limits.{IsWithinLimits};
+ghost use Rattle.ra_set.specs.Names.{IsNamed};
 ghost use Rattle.ra_progress.specs.Contents.{shape_contents};
+ghost use Rattle.ra_progress.specs.Names.{IsUsable};
 ghost use Rattle.ra_progress.specs.Reading.{IsAccepted, refusal};
 ghost use Rattle.ra_progress.specs.Spelling.{progress_bytes};
 ghost use Rattle.ra_runtime.specs.Order.{shape_of};
@@ -10,7 +12,7 @@ ghost use Rattle.ra_set.specs.Spelled.{IsSpelled};
 
 use crate::item_run::ItemRun;
 use crate::presence_run::{PresenceRun, step_presence};
-use crate::restored::put_back_runs;
+use crate::restored::{put_back_runs, take_numbers};
 use crate::restored_presence::put_back_presence;
 use crate::runs::{put_runs, step_runs};
 use crate::saved::{kept_items, kept_presence};
@@ -19,7 +21,7 @@ use crate::shown::shown_line;
 use ra_member::put_numbers;
 use ra_memory::{Counted, Memory, Steps};
 use ra_memref::Table;
-use ra_progress::{ProgressRefused, Shape, Snapshot, check, encode, frames_at};
+use ra_progress::{ProgressRefused, Said, Shape, Snapshot, check, encode, frames_at};
 use ra_set::Set;
 use ra_text::OutOfMemory;
 use std::alloc::Global;
@@ -33,6 +35,8 @@ use std::sync::ledger::Ledger;
 pub struct Runtime {
     set: Set,
     shape: Shape,
+    // room for what a progress file says, so that a restore takes no memory
+    said: Said,
     memory: Memory,
     table: Table,
     runs: Vec<ItemRun>,
@@ -67,15 +71,18 @@ impl Runtime {
     pub fn new(alloc: Global, set: Set, size: u32) -> Result<Runtime, OutOfMemory>
         requires limits { IsWithinLimits (set_contents set) }
         requires spelled { IsSpelled (set_contents set) }
+        requires named { IsNamed (set_contents set) }
         requires size { size ≤ 2 ^ 27 }
         ensures { IfOk result (IsMade (set_contents set) size) }
     {
-        let (table, runs, presence) = laid_out(alloc, &set, size)?;
-        let shape = shape_over(alloc, &set, &table, &runs, &presence)?;
+        let (table, runs, presence, names) = laid_out(alloc, &set, size)?;
+        let shape = shape_over(alloc, &set, &runs, &presence, names)?;
+        let said = Said::new(alloc, &shape)?;
         let memory = Memory::new(alloc, size)?;
         Ok(Runtime {
             set,
             shape,
+            said,
             memory,
             table,
             runs,
@@ -88,7 +95,8 @@ impl Runtime {
 
     /// The shape of the set: docs/DEFINITIONS.md, "Shape of a set".
     pub fn shape(&self) -> &Shape
-        ensures { shape_contents result.now ≡ shape_of self.now.set }
+        ensures shape { shape_contents result.now ≡ shape_of self.now.set }
+        ensures usable { IsUsable result.now }
     {
         &self.shape
     }
@@ -106,7 +114,7 @@ impl Runtime {
 
     /// The progress bytes of the present state: docs/DEFINITIONS.md, "Progress file".
     pub fn save(&self, alloc: Global) -> Result<Vec<u8>, OutOfMemory>
-        ensures bytes { IfOk result (λ bytes. bytes.items ≡ progress_bytes self.now.set.digest self.now.kept) }
+        ensures bytes { IfOk result (λ bytes. bytes.items ≡ progress_bytes (shape_of self.now.set) self.now.kept) }
         ensures saved { IfOk result (λ bytes. IsSaved self.now.set bytes.items) }
     {
         let frames = self.count;
@@ -124,7 +132,7 @@ impl Runtime {
         encode(alloc, &self.shape, &snapshot)
     }
 
-    /// Takes up what progress bytes of this set say: docs/DEFINITIONS.md, "What a runtime keeps".
+    /// Takes up what progress bytes say, of this set or of a changed one: docs/DEFINITIONS.md, "What a runtime keeps".
     ///
     /// Bytes that `check` refuses change nothing. No memory is taken.
     pub fn restore(&mut self, bytes: &[u8]) -> Result<(), ProgressRefused>
@@ -143,10 +151,11 @@ impl Runtime {
         requires { IsAccepted (shape_of self.old.set) bytes.now }
         ensures { TakesUp self.old self.new bytes.now }
     {
-        let items = 29 + 4 * (self.table.cells().len() + self.table.priors().len());
-        self.table.put_back(&bytes[29..items]);
-        let presence = put_back_runs(&mut self.runs, bytes, items);
-        put_back_presence(&mut self.presence, &self.shape.presence, bytes, presence);
+        self.said.read(&self.shape, bytes);
+        take_numbers(&mut self.table, &self.said.cells, &self.said.priors);
+        put_back_runs(&mut self.runs, bytes, &self.said.places);
+        let display = self.said.place(self.runs.len());
+        put_back_presence(&mut self.presence, &self.shape.presence, bytes, display);
         self.count = frames_at(bytes);
         self.framed = false;
     }

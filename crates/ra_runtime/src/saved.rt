@@ -46,6 +46,7 @@ fn item_kept(alloc: Global, run: &ItemRun) -> Result<ItemKept, OutOfMemory>
                 state: byte_of_state(run.run.trigger.state()),
                 measured: run.run.trigger.measured(),
                 hits,
+                earned: run.is_earned(),
             })
         }
         ItemRun::Leaderboard(run) => {

@@ -3,11 +3,13 @@
 ghost use Rattle.std.specs.Prelude.{◌≡◌, ◌≤◌, ◌<◌, ◌^◌, ◌+◌, length, map, option_map, All, IfOk};
 ghost use Rattle.ra_set.specs.Contents.{set_contents};
 ghost use Rattle.ra_set.specs.Limits.{IsWithinLimits};
+ghost use Rattle.ra_set.specs.Names.{IsNamed};
 ghost use Rattle.ra_progress.specs.Contents.{shape_contents};
+ghost use Rattle.ra_progress.specs.Layout.{length_of};
+ghost use Rattle.ra_progress.specs.Names.{IsUsable};
 ghost use Rattle.ra_runtime.specs.Order as spec;
-ghost use Rattle.ra_runtime.specs.AllRuns.{IsOver};
 ghost use Rattle.ra_runtime.specs.Restoring.{hits_of_lines, numbers_of_lines};
-ghost use Rattle.ra_runtime.specs.Shapes.{run_shape, board_run_shape, optional_run_shape, IsSmall, IsSmallPresence, IsLaidOut};
+ghost use Rattle.ra_runtime.specs.Shapes.{run_shape, board_run_shape, optional_run_shape, IsSmall, IsSmallPresence, IsLaidOut, NameSet};
 ghost use Rattle.ra_set.specs.Spelled.{IsSpelled};
 
 use crate::board_run::BoardRun;
@@ -16,8 +18,8 @@ use crate::presence_run::{PresenceRun, new_presence};
 use crate::runs::new_runs;
 use ra_indirect::Pool;
 use ra_member::{Member, Places};
-use ra_memref::Table;
-use ra_progress::{ItemShape, PresenceShape, Shape};
+use ra_memref::{Names, Table, names_of};
+use ra_progress::{ItemShape, PresenceShape, Shape, order_of};
 use ra_set::Set;
 use ra_text::OutOfMemory;
 use std::alloc::Global;
@@ -26,53 +28,69 @@ use std::alloc::Global;
 pub fn shape_of(alloc: Global, set: &Set) -> Result<Shape, OutOfMemory>
     requires limits { IsWithinLimits (set_contents set.now) }
     requires spelled { IsSpelled (set_contents set.now) }
-    ensures { IfOk result (λ shape. shape_contents shape ≡ spec.shape_of (set_contents set.now)) }
+    requires named { IsNamed (set_contents set.now) }
+    ensures shape { IfOk result (λ shape. shape_contents shape ≡ spec.shape_of (set_contents set.now)) }
+    ensures usable { IfOk result IsUsable }
 {
-    let (table, runs, presence) = laid_out(alloc, set, 0)?;
-    shape_over(alloc, set, &table, &runs, &presence)
+    let (_, runs, presence, names) = laid_out(alloc, set, 0)?;
+    shape_over(alloc, set, &runs, &presence, names)
 }
 
-// A table over the trees of a set, a run for each item, and one for the display.
+// A table over the trees of a set, a run for each item, one for the display, and the names of cells and masks.
 pub(crate) fn laid_out(
     alloc: Global,
     set: &Set,
     size: u32,
-) -> Result<(Table, Vec<ItemRun>, Option<PresenceRun>), OutOfMemory>
+) -> Result<(Table, Vec<ItemRun>, Option<PresenceRun>, Names), OutOfMemory>
     requires limits { IsWithinLimits (set_contents set.now) }
     requires spelled { IsSpelled (set_contents set.now) }
     requires size { size ≤ 2 ^ 27 }
-    ensures { IfOk result (λ laid. IsLaidOut (set_contents set.now) size laid.0 laid.1.items laid.2) }
+    ensures laid { IfOk result (λ laid. IsLaidOut (set_contents set.now) size laid.0 laid.1.items laid.2) }
+    ensures names { IfOk result (λ laid. NameSet (set_contents set.now) laid.3) }
 {
     let mut pool = Pool::new(alloc);
     let runs = new_runs(alloc, &set.items, &mut pool)?;
     let presence = new_presence(alloc, &set.script, &mut pool)?;
+    let names = names_of(alloc, &pool)?;
     let table = Table::new(alloc, pool, size)?;
-    Ok((table, runs, presence))
+    Ok((table, runs, presence, names))
 }
 
-// The shape of a set, by its table and its runs.
+// The shape of a set, by its runs and the names of its cells and masks.
 pub(crate) fn shape_over(
     alloc: Global,
     set: &Set,
-    table: &Table,
     runs: &[ItemRun],
     presence: &Option<PresenceRun>,
+    names: Names,
 ) -> Result<Shape, OutOfMemory>
-    requires over { IsOver (set_contents set.now) table.now }
-    requires few { length table.now.cells + length table.now.priors < 2 ^ 32 }
+    requires limits { IsWithinLimits (set_contents set.now) }
+    requires named { IsNamed (set_contents set.now) }
+    requires names { NameSet (set_contents set.now) names }
+    requires short { length_of (spec.shape_of (set_contents set.now)) ≤ 8388608 }
     requires small { All IsSmall (map run_shape runs.now) }
     requires items { map run_shape runs.now ≡ map spec.item_shape (set_contents set.now).items }
     requires small_presence { IsSmallPresence (optional_run_shape presence.now) }
     requires presence { optional_run_shape presence.now ≡ option_map spec.presence_shape (set_contents set.now).script }
-    ensures { IfOk result (λ shape. shape_contents shape ≡ spec.shape_of (set_contents set.now)) }
+    ensures shape { IfOk result (λ shape. shape_contents shape ≡ spec.shape_of (set_contents set.now)) }
+    ensures usable { IfOk result IsUsable }
 {
     let items = item_shapes(alloc, runs)?;
+    let item_names = set.item_names.clone()?;
+    let cell_order = order_of(alloc, &names.cells, &None)?;
+    let prior_order = order_of(alloc, &names.priors, &None)?;
+    let entry_order = order_of(alloc, &item_names, &set.script_name)?;
     Ok(Shape {
         digest: set.digest,
-        cells: table.cells().len() as u32,
-        priors: table.priors().len() as u32,
+        cells: names.cells,
+        priors: names.priors,
         items,
+        item_names,
         presence: presence_shape(presence),
+        presence_name: set.script_name,
+        cell_order,
+        prior_order,
+        entry_order,
     })
 }
 
