@@ -1,5 +1,5 @@
 -- A member that grows by a test or a value, over a pool that grows by their trees.
-use Rattle.std.proofs.Common.{◌≡◌, ◌+◌, ◌*◌, List, [], ◌∷◌, ◌++◌, map, sum_by, sym, ◌∙◌, ap, ap₂, subst, arith, append_assoc}
+use Rattle.std.proofs.Common.{◌≡◌, ◌+◌, List, [], ◌∷◌, ◌++◌, map, sum_by, sym, ◌∙◌, ap, ap₂, subst, arith, append_assoc}
 use Rattle.std.specs.List.{flat_map}
 use Rattle.std.proofs.lemmas.List.{append-nil, map-append}
 use Rattle.std.proofs.lemmas.List.Sums.{sum_by_push}
@@ -66,9 +66,9 @@ module _ (first old new : List Node) (before after : Member) where
       → (tests : List TriggerContents) → IsNewMember first old (record { tests = tests; values = [] }) before → IsNewMember first new (record { tests = tests ++ t ∷ []; values = [] }) after
   test_added t run made items same tests is =
       let front : IsFront old new = made.grows.grows.front in
-      let alone : GrowsWithin first old (flat_map trees_in_trigger tests) (13 * sum_by trigger_hits tests) =
-      within_as first old (flat_map trees_in_trigger tests ++ []) (flat_map trees_in_trigger tests) (13 * (sum_by trigger_hits tests + 0)) (13 * sum_by trigger_hits tests) (append-nil (flat_map trees_in_trigger tests)) (omega arith) is.grows in
-      let more : GrowsWithin first new (flat_map trees_in_trigger (tests ++ t ∷ [])) (13 * sum_by trigger_hits (tests ++ t ∷ [])) = grows_more trees_in_trigger trigger_hits first old new tests t alone made.grows in
+      let alone : GrowsWithin first old (flat_map trees_in_trigger tests) (sum_by trigger_hits tests) =
+      within_as first old (flat_map trees_in_trigger tests ++ []) (flat_map trees_in_trigger tests) (sum_by trigger_hits tests + 0) (sum_by trigger_hits tests) (append-nil (flat_map trees_in_trigger tests)) (omega arith) is.grows in
+      let more : GrowsWithin first new (flat_map trees_in_trigger (tests ++ t ∷ [])) (sum_by trigger_hits (tests ++ t ∷ [])) = grows_more trees_in_trigger trigger_hits first old new tests t alone made.grows in
       let row : map (λ (r : TriggerRun). r.trigger.hits) after.tests.items ≡ map no_hits (tests ++ t ∷ []) =
       ap (map (λ (r : TriggerRun). r.trigger.hits)) items
       ∙ map-append (λ (r : TriggerRun). r.trigger.hits) before.tests.items (run ∷ [])
@@ -76,7 +76,7 @@ module _ (first old new : List Node) (before after : Member) where
       ∙ sym (map-append no_hits tests (t ∷ [])) in
       let values = ap (λ (vs : _). map (λ (v : ValueRun). v.value) vs.items) same ∙ ap (λ (k : MemberKept). k.values) is.plain in
       record {
-        grows = within_as first new (flat_map trees_in_trigger (tests ++ t ∷ [])) (flat_map trees_in_trigger (tests ++ t ∷ []) ++ []) (13 * sum_by trigger_hits (tests ++ t ∷ [])) (13 * (sum_by trigger_hits (tests ++ t ∷ []) + 0)) (sym (append-nil (flat_map trees_in_trigger (tests ++ t ∷ [])))) (omega arith) more;
+        grows = within_as first new (flat_map trees_in_trigger (tests ++ t ∷ [])) (flat_map trees_in_trigger (tests ++ t ∷ []) ++ []) (sum_by trigger_hits (tests ++ t ∷ [])) (sum_by trigger_hits (tests ++ t ∷ []) + 0) (sym (append-nil (flat_map trees_in_trigger (tests ++ t ∷ [])))) (omega arith) more;
         member_too = record {
           tests = subst (AreBeside (IsTriggerRun new) (tests ++ t ∷ [])) (sym items) (beside_more (IsTriggerRun new) tests before.tests.items t run (member_more old new front _ before is.member_too).tests made.run_too);
           values = subst (λ vs. AreBeside (IsValueRun new) [] vs) (sym (ap (λ vs. vs.items) same)) (member_more old new front _ before is.member_too).values;
@@ -94,8 +94,8 @@ module _ (first old new : List Node) (before after : Member) where
       let trees : (tests ++ values) ++ trees_in_value parts ≡ tests ++ flat_map trees_in_value (m.values ++ parts ∷ []) =
       append_assoc tests values (trees_in_value parts) ∙ ap (λ ts. tests ++ ts) (sym (one_more trees_in_value m.values parts)) in
       let count : sum_by value_conditions (m.values ++ parts ∷ []) ≡ sum_by value_conditions m.values + value_conditions parts = sum_by_push value_conditions m.values parts in
-      let both : GrowsWithin first new ((tests ++ values) ++ trees_in_value parts) (13 * member_conditions m + 13 * value_conditions parts) =
-      within_through first old new (tests ++ values) (trees_in_value parts) (13 * member_conditions m) (13 * value_conditions parts) (13 * member_conditions m + 13 * value_conditions parts) (omega arith) is.grows made.grows in
+      let both : GrowsWithin first new ((tests ++ values) ++ trees_in_value parts) (member_conditions m + value_conditions parts) =
+      within_through first old new (tests ++ values) (trees_in_value parts) (member_conditions m) (value_conditions parts) (member_conditions m + value_conditions parts) (omega arith) is.grows made.grows in
       let row : map (λ (r : ValueRun). r.value) after.values.items ≡ map no_value (m.values ++ parts ∷ []) =
       ap (map (λ (r : ValueRun). r.value)) items
       ∙ map-append (λ (r : ValueRun). r.value) before.values.items (run ∷ [])
@@ -103,7 +103,7 @@ module _ (first old new : List Node) (before after : Member) where
       ∙ sym (map-append no_value m.values (parts ∷ [])) in
       let kept = ap (λ (ts : _). map (λ (t : TriggerRun). t.trigger.hits) ts.items) same ∙ ap (λ (k : MemberKept). k.tests) is.plain in
       record {
-        grows = within_as first new ((tests ++ values) ++ trees_in_value parts) (tests ++ flat_map trees_in_value (m.values ++ parts ∷ [])) (13 * member_conditions m + 13 * value_conditions parts) (13 * (sum_by trigger_hits m.tests + sum_by value_conditions (m.values ++ parts ∷ []))) trees (omega (arith, count)) both;
+        grows = within_as first new ((tests ++ values) ++ trees_in_value parts) (tests ++ flat_map trees_in_value (m.values ++ parts ∷ [])) (member_conditions m + value_conditions parts) (sum_by trigger_hits m.tests + sum_by value_conditions (m.values ++ parts ∷ [])) trees (omega (arith, count)) both;
         member_too = record {
           tests = subst (λ ts. AreBeside (IsTriggerRun new) m.tests ts) (sym (ap (λ ts. ts.items) same)) (member_more old new front m before is.member_too).tests;
           values = subst (AreBeside (IsValueRun new) (m.values ++ parts ∷ [])) (sym items) (beside_more (IsValueRun new) m.values before.values.items parts run (member_more old new front m before is.member_too).values made.run_too);

@@ -1,5 +1,5 @@
 -- A pool that grows by the trees of a list, one element after the other.
-use Rattle.std.proofs.Common.{◌≡◌, ℕ, ◌+◌, ◌*◌, ◌<◌, ◌≤◌, List, [], ◌∷◌, ◌++◌, length, map, take, drop, get_or, sum_by, All, sym, ◌∙◌, ap, ap₂, subst, arith, add-one}
+use Rattle.std.proofs.Common.{◌≡◌, ℕ, ◌+◌, ◌<◌, ◌≤◌, List, [], ◌∷◌, ◌++◌, length, map, take, drop, get_or, sum_by, All, sym, ◌∙◌, ap, ap₂, subst, arith, add-one}
 use Rattle.std.proofs.Math.Seq.{drop-cons}
 use Rattle.std.specs.List.{flat_map}
 use Rattle.std.proofs.lemmas.List.{take-map, length-map, get_or-map, map_more}
@@ -10,11 +10,11 @@ use Rattle.ra_member.specs.Plans.{GrowsWithin}
 use Rattle.ra_member.proofs.PlanLemmas.{one_more, within_through, within_as}
 
 module _ {X : Type 0} (trees : X → List Tree) (weight : X → ℕ) where
-  pub grows_more : (a b c : List Node) (xs : List X) (x : X) → GrowsWithin a b (flat_map trees xs) (13 * sum_by weight xs) → GrowsWithin b c (trees x) (13 * weight x) → GrowsWithin a c (flat_map trees (xs ++ x ∷ [])) (13 * sum_by weight (xs ++ x ∷ []))
+  pub grows_more : (a b c : List Node) (xs : List X) (x : X) → GrowsWithin a b (flat_map trees xs) (sum_by weight xs) → GrowsWithin b c (trees x) (weight x) → GrowsWithin a c (flat_map trees (xs ++ x ∷ [])) (sum_by weight (xs ++ x ∷ []))
   grows_more a b c xs x grows more =
       let sum : sum_by weight (xs ++ x ∷ []) ≡ sum_by weight xs + weight x = sum_by_push weight xs x in
-      within_as a c (flat_map trees xs ++ trees x) (flat_map trees (xs ++ x ∷ [])) (13 * sum_by weight xs + 13 * weight x) (13 * sum_by weight (xs ++ x ∷ [])) (sym (one_more trees xs x)) (omega arith)
-      (within_through a b c (flat_map trees xs) (trees x) (13 * sum_by weight xs) (13 * weight x) (13 * sum_by weight xs + 13 * weight x) (omega arith) grows more)
+      within_as a c (flat_map trees xs ++ trees x) (flat_map trees (xs ++ x ∷ [])) (sum_by weight xs + weight x) (sum_by weight (xs ++ x ∷ [])) (sym (one_more trees xs x)) (omega arith)
+      (within_through a b c (flat_map trees xs) (trees x) (sum_by weight xs) (weight x) (sum_by weight xs + weight x) (omega arith) grows more)
 
 -- an element of a list that is taken from its start
 module _ {X Y : Type 0} (contents : Y → X) (ys : List Y) (k : ℕ) (y : Y) (within : k < length ys) (is : y ≡ get_or ys k y) where

@@ -20,19 +20,28 @@ use Rattle.ra_member.specs.declared.planning.ValuePlan.{ValuePlan}
 use Rattle.ra_member.specs.Plans.{AreSpelled, IsPlan, AreSums, IsValuePlan}
 use Rattle.ra_member.specs.Plans.{GrowsWithin}
 
-pub within_none : (nodes : List Node) (most : ℕ) → IsPool nodes → GrowsWithin nodes nodes [] most
-within_none nodes most pool = record { grows = grows_none nodes pool; few = omega arith }
+pub within_none : (nodes : List Node) (conditions : ℕ) → IsPool nodes → GrowsWithin nodes nodes [] conditions
+within_none nodes conditions pool = record {
+  grows = grows_none nodes pool;
+  few = omega arith;
+  few_cells = omega arith;
+  few_views = omega arith;
+}
 
 pub within_through : (a b c : List Node) (ts us : List Tree) (m n k : ℕ) → m + n ≤ k → GrowsWithin a b ts m → GrowsWithin b c us n → GrowsWithin a c (ts ++ us) k
 within_through a b c ts us m n k enough first next = record {
   grows = grows_through a b c ts us first.grows next.grows;
   few = omega (arith, first.few, next.few);
+  few_cells = omega (arith, first.few_cells, next.few_cells);
+  few_views = omega (arith, first.few_views, next.few_views);
 }
 
 pub within_as : (a b : List Node) (ts us : List Tree) (m n : ℕ) → ts ≡ us → m ≤ n → GrowsWithin a b ts m → GrowsWithin a b us n
 within_as a b ts us m n same enough grows = record {
   grows = subst (GrowsBy a b) same grows.grows;
   few = omega (arith, grows.few);
+  few_cells = omega (arith, grows.few_cells);
+  few_views = omega (arith, grows.few_views);
 }
 
 spelled_row : (nodes : List Node) (ns : List ℕ) (trees : List Tree) (ns' : List ℕ) (trees' : List Tree) → AreSpelled nodes ns trees → AreSpelled nodes ns' trees' → AreSpelled nodes (ns ++ ns') (trees ++ trees')

@@ -1,5 +1,5 @@
 -- Members with their plans, and what their calls do: docs/DEFINITIONS.md, "Members".
-use Rattle.std.specs.Prelude.{◌≡◌, ℕ, ◌*◌, ◌<◌, ◌^◌, Bool, List, [], ◌∷◌, ◌++◌, length, map, set, get_or}
+use Rattle.std.specs.Prelude.{◌≡◌, ℕ, ◌<◌, ◌^◌, Bool, List, [], ◌∷◌, ◌++◌, length, map, set, get_or}
 use Rattle.std.specs.List.{AllByRecursion}
 use Rattle.ra_condition.specs.Contents.{TriggerContents, PartContents}
 use Rattle.ra_indirect.specs.declared.node.Node.{Node}
@@ -29,7 +29,7 @@ kept_by member = record {
 
 -- a member has its plans over a pool that grew by its trees, and nothing is kept of it yet
 pub record IsNewMember (old new : List Node) (m : MemberContents) (member : Member) : Type 0 where
-  pub grows : GrowsWithin old new (trees_in_member m) (13 * member_conditions m)
+  pub grows : GrowsWithin old new (trees_in_member m) (member_conditions m)
   pub member_too : IsMember new m member
   pub plain : kept_by member ≡ no_member m
 

@@ -1,13 +1,13 @@
 -- Plans of triggers and values: pass orders, and nodes that spell the trees of conditions: docs/DEFINITIONS.md, "Trees of a group".
-use Rattle.std.specs.Prelude.{◌≡◌, ℕ, ◌+◌, ◌≤◌, Option, None, Some, List, [], ◌∷◌, length, map}
+use Rattle.std.specs.Prelude.{◌≡◌, ℕ, ◌+◌, ◌*◌, ◌≤◌, Option, None, Some, List, [], ◌∷◌, length, map, filter}
 use Rattle.std.specs.List.{flat_map}
 use Rattle.ra_condition.specs.declared.condition.Condition.{Condition}
 use Rattle.ra_condition.specs.Contents.{PartContents, Legacy, Grouped, counted_in}
 use Rattle.ra_condition.specs.Chains.{pass_order}
 use Rattle.ra_indirect.specs.declared.node.Node.{Node}
 use Rattle.ra_indirect.specs.Trees.{Tree}
-use Rattle.ra_indirect.specs.Pools.{Spells}
-use Rattle.ra_indirect.specs.Growing.{GrowsBy}
+use Rattle.ra_indirect.specs.Pools.{Spells, cells_of}
+use Rattle.ra_indirect.specs.Growing.{GrowsBy, is_view}
 use Rattle.ra_chain.specs.declared.plan.GroupPlan.{GroupPlan}
 use Rattle.ra_chain.specs.Elaboration.{lefts_of, rights_of, terms_tree}
 use Rattle.ra_group.specs.Along.{pause_count}
@@ -38,7 +38,9 @@ pub record IsValuePlan (nodes : List Node) (parts : List PartContents) (plan : V
   pub groups : IsPlan nodes (map counted_in parts) plan.groups
   pub sums : AreSums nodes parts plan.sums.items
 
--- the pool grows by the trees, and by so many nodes at most
-pub record GrowsWithin (old new : List Node) (trees : List Tree) (most : ℕ) : Type 0 where
+-- the pool grows by the trees of so many conditions: by thirteen nodes, two cells and two views for each of them at most
+pub record GrowsWithin (old new : List Node) (trees : List Tree) (conditions : ℕ) : Type 0 where
   pub grows : GrowsBy old new trees
-  pub few : length new ≤ length old + most
+  pub few : length new ≤ length old + 13 * conditions
+  pub few_cells : length (cells_of new) ≤ length (cells_of old) + 2 * conditions
+  pub few_views : length (filter is_view new) ≤ length (filter is_view old) + 2 * conditions

@@ -1,5 +1,5 @@
 -- Triggers and values with their plans, and what a frame of a table does to them: docs/DEFINITIONS.md, "Members".
-use Rattle.std.specs.Prelude.{◌≡◌, ℕ, ◌*◌, Bool, List, length, map}
+use Rattle.std.specs.Prelude.{◌≡◌, ℕ, Bool, List, length, map}
 use Rattle.ra_condition.specs.declared.condition.Condition.{Condition}
 use Rattle.ra_condition.specs.Contents.{TriggerContents, groups_of, trigger_hits, PartContents, counted_in, value_hits}
 use Rattle.ra_memory.specs.Image.{History}
@@ -53,7 +53,7 @@ pub record IsTriggerRun (nodes : List Node) (t : TriggerContents) (run : Trigger
 
 -- a trigger has its plan over a pool that grew by its trees, and nothing is kept of it yet
 pub record IsNewTrigger (old new : List Node) (t : TriggerContents) (run : TriggerRun) : Type 0 where
-  pub grows : GrowsWithin old new (trees_in_trigger t) (13 * trigger_hits t)
+  pub grows : GrowsWithin old new (trees_in_trigger t) (trigger_hits t)
   pub run_too : IsTriggerRun new t run
   pub plain : run.trigger ≡ no_trigger t
 
@@ -77,7 +77,7 @@ pub record IsValueRun (nodes : List Node) (parts : List PartContents) (run : Val
 
 -- a value has its plan over a pool that grew by its trees, and all its numbers are 0
 pub record IsNewValue (old new : List Node) (parts : List PartContents) (run : ValueRun) : Type 0 where
-  pub grows : GrowsWithin old new (trees_in_value parts) (13 * value_conditions parts)
+  pub grows : GrowsWithin old new (trees_in_value parts) (value_conditions parts)
   pub run_too : IsValueRun new parts run
   pub plain : run.value ≡ no_value parts
 

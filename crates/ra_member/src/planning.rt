@@ -34,7 +34,7 @@ pub(crate) fn trigger_plan(
     requires room { length pool.old + 13 * trigger_hits (trigger_contents text.now) + 2 ≤ 2 ^ 31 }
     ensures plan { IfOk result (IsPlan pool.new (groups_of (trigger_contents text.now))) }
     ensures grows { OnOk result (GrowsWithin pool.old pool.new (trees_in_trigger (trigger_contents text.now))
-        (13 * trigger_hits (trigger_contents text.now))) }
+        (trigger_hits (trigger_contents text.now))) }
 {
     let mut plan = no_groups(alloc);
     put_group(alloc, &mut plan, &text.core, pool)?;
@@ -71,7 +71,7 @@ fn put_group(
     ensures plan { OnOk result ((groups : List (List Condition)) → IsPlan pool.old groups plan.old
         → IsPlan pool.new (groups ++ group_contents group.now ∷ []) plan.new) }
     ensures grows { OnOk result (GrowsWithin pool.old pool.new (trees_in_group (group_contents group.now))
-        (13 * length (group_contents group.now))) }
+        (length (group_contents group.now))) }
 {
     let added = elaborate(alloc, group, pool)?;
     plan.order.extend_from_slice(&added.order)?;
@@ -91,7 +91,7 @@ pub(crate) fn value_plan(
     requires room { length pool.old + 13 * value_conditions (value_contents text.now) + 2 ≤ 2 ^ 31 }
     ensures plan { IfOk result (IsValuePlan pool.new (value_contents text.now)) }
     ensures grows { OnOk result (GrowsWithin pool.old pool.new (trees_in_value (value_contents text.now))
-        (13 * value_conditions (value_contents text.now))) }
+        (value_conditions (value_contents text.now))) }
 {
     let mut plan = ValuePlan {
         groups: no_groups(alloc),
@@ -117,7 +117,7 @@ fn put_part(
     ensures plan { OnOk result ((parts : List PartContents) → IsValuePlan pool.old parts plan.old
         → IsValuePlan pool.new (parts ++ part_contents part.now ∷ []) plan.new) }
     ensures grows { OnOk result (GrowsWithin pool.old pool.new (trees_in_part (part_contents part.now))
-        (13 * part_conditions (part_contents part.now))) }
+        (part_conditions (part_contents part.now))) }
 {
     match part {
         Part::Terms(terms) => {

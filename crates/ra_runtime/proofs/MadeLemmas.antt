@@ -1,5 +1,5 @@
 -- A table that is laid out for a set is over it.
-use Rattle.std.proofs.Common.{◌≡◌, ℕ, ◌*◌, Option, List, [], length, sum_by, sym, ◌∙◌, ap, subst, arith}
+use Rattle.std.proofs.Common.{◌≡◌, ℕ, Option, List, [], length, sum_by, sym, ◌∙◌, ap, subst, arith}
 use Rattle.std.specs.List.{flat_map}
 use Rattle.std.proofs.lemmas.List.{length-replicate}
 use Rattle.ra_indirect.specs.declared.node.Node.{Node}
@@ -38,9 +38,9 @@ module _ (set : SetContents) where
 
   -- items that wait and a new display over a fresh table
   module _ (items pool : List Node) (size : ℕ) (table : TableSeen) (runs : List ItemRun) (presence : Option PresenceRun) (limits : IsWithinLimits set) (are : AreWaiting [] items set.items runs) (is : IsNewPresence items pool set.script presence) (fresh : IsFresh pool size table) where
-    all_grown : GrowsWithin [] pool (trees_in_set set) (13 * set_conditions set)
+    all_grown : GrowsWithin [] pool (trees_in_set set) (set_conditions set)
     all_grown =
-        within_through [] items pool (flat_map trees_in_item set.items) (flat_map trees_in_line (lines_in set.script)) (13 * sum_by item_conditions set.items) (13 * script_conditions set.script) (13 * set_conditions set) (omega arith) are.grows is.grows
+        within_through [] items pool (flat_map trees_in_item set.items) (flat_map trees_in_line (lines_in set.script)) (sum_by item_conditions set.items) (script_conditions set.script) (set_conditions set) (omega arith) are.grows is.grows
 
     all_runs : AreItemRuns pool set.items runs
     all_runs = item_runs_more items pool is.grows.grows.front set.items runs are.runs_too

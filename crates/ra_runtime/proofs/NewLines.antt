@@ -1,5 +1,5 @@
 -- Lines of a display that were never stepped, one after the other over a pool that grows.
-use Rattle.std.proofs.Common.{◌≡◌, ◌+◌, ◌*◌, ◌-◌, Option, None, Some, List, [], ◌∷◌, ◌++◌, length, map, get_or, sum_by, All, IfSome, refl, sym, ◌∙◌, ap, ap₂, subst, arith, length-append}
+use Rattle.std.proofs.Common.{◌≡◌, ◌+◌, ◌-◌, Option, None, Some, List, [], ◌∷◌, ◌++◌, length, map, get_or, sum_by, All, IfSome, refl, sym, ◌∙◌, ap, ap₂, subst, arith, length-append}
 use Rattle.std.specs.List.{filter_map}
 use Rattle.std.proofs.lemmas.List.{map-append}
 use Rattle.std.proofs.lemmas.List.Elements.{All-append, All-cons, All-nil}
@@ -47,7 +47,7 @@ test_conditions (Some t) = omega arith
 -- a line of a test and of values
 pub line_made : (a b : List Node) (line : LineContents) (run : Member) → IsNewMember a b (line_member line) run → IsNewLine a b line run
 line_made a b line run is = record {
-  grows = within_as a b (trees_in_line line) (trees_in_line line) (13 * member_conditions (line_member line)) (13 * line_conditions line) refl (omega (arith, test_conditions line.test)) is.grows;
+  grows = within_as a b (trees_in_line line) (trees_in_line line) (member_conditions (line_member line)) (line_conditions line) refl (omega (arith, test_conditions line.test)) is.grows;
   run_too = is.member_too;
   plain = is.plain;
 }

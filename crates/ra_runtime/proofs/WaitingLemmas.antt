@@ -1,5 +1,5 @@
 -- Items that wait, one after the other over a pool that grows.
-use Rattle.std.proofs.Common.{◌≡◌, ℕ, ◌*◌, Option, None, Some, List, [], ◌∷◌, ◌++◌, map, sum_by, refl, sym, ◌∙◌, ap, ap₂, arith}
+use Rattle.std.proofs.Common.{◌≡◌, ℕ, Option, None, Some, List, [], ◌∷◌, ◌++◌, map, sum_by, refl, sym, ◌∙◌, ap, ap₂, arith}
 use Rattle.std.proofs.lemmas.List.{map-append}
 use Rattle.std.proofs.lemmas.List.Sums.{sum_by-cons}
 use Rattle.ra_condition.specs.Contents.{PartContents}
@@ -65,7 +65,7 @@ leaderboard_made old new id format b run made =
     let m : MemberContents = board_member b in
     let zero = none_saved m in
     record {
-      grows = within_as old new (trees_in_member m) (trees_in_member m) (13 * member_conditions m) (13 * item_conditions (Ranks id format b)) refl (omega (arith, board_conditions b id format)) made.made.grows;
+      grows = within_as old new (trees_in_member m) (trees_in_member m) (member_conditions m) (item_conditions (Ranks id format b)) refl (omega (arith, board_conditions b id format)) made.made.grows;
       run_too = made.made.member_too;
       plain = (λ i. kept_board (record { state = made.waits i; member = made.made.plain i })) ∙ ap₂ (OfBoard 0) zero.0 zero.1;
     }

@@ -1,5 +1,5 @@
 -- How items are kept and stepped: docs/DEFINITIONS.md, "What a runtime keeps".
-use Rattle.std.specs.Prelude.{◌≡◌, ℕ, ◌*◌, List, [], ◌∷◌}
+use Rattle.std.specs.Prelude.{◌≡◌, ℕ, List, [], ◌∷◌}
 use Rattle.ra_indirect.specs.declared.node.Node.{Node}
 use Rattle.ra_memref.specs.Values.{Start}
 use Rattle.ra_memref.specs.Table.{TableSeen}
@@ -31,7 +31,7 @@ IsItemRun nodes _ _ = ⊥
 
 -- an item that waits, over a pool that grew by its trees
 pub record IsNewItem (old new : List Node) (item : ItemContents) (run : ItemRun) : Type 0 where
-  pub grows : GrowsWithin old new (trees_in_item item) (13 * item_conditions item)
+  pub grows : GrowsWithin old new (trees_in_item item) (item_conditions item)
   pub run_too : IsItemRun new item run
   pub plain : kept_run run ≡ plain_item (item_shape item)
 

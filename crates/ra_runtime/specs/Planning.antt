@@ -1,5 +1,5 @@
 -- What planning leaves in a pool, and how many nodes it takes at most: docs/DEFINITIONS.md, "Trees, cells and tracked masks".
-use Rattle.std.specs.Prelude.{◌≡◌, ◌*◌, List, map, sum_by}
+use Rattle.std.specs.Prelude.{◌≡◌, List, map, sum_by}
 use Rattle.std.specs.List.{flat_map}
 use Rattle.ra_indirect.specs.declared.node.Node.{Node}
 use Rattle.ra_set.specs.Contents.{ItemContents}
@@ -11,9 +11,9 @@ use Rattle.ra_progress.specs.Contents.{plain_item}
 use Rattle.ra_runtime.specs.ItemRuns.{kept_run}
 use Rattle.ra_runtime.specs.AllRuns.{AreItemRuns}
 
--- the pool grows by the trees of these items, by thirteen nodes for each condition at most
+-- the pool grows by the trees of these items, and by what their conditions may add at most
 abbrev pub GrowsByItems : (old new : List Node) → List ItemContents → Type 0
-GrowsByItems old new items = GrowsWithin old new (flat_map trees_in_item items) (13 * sum_by item_conditions items)
+GrowsByItems old new items = GrowsWithin old new (flat_map trees_in_item items) (sum_by item_conditions items)
 
 -- each item has its plan over the pool, and waits
 pub record AreWaiting (old new : List Node) (items : List ItemContents) (runs : List ItemRun) : Type 0 where

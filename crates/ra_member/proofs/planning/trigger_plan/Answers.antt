@@ -1,4 +1,4 @@
-use Rattle.std.proofs.Common.{◌≡◌, ◌+◌, ◌*◌, ◌<◌, ◌∷◌, ◌++◌, [], length, map, take, get_or, sum_by, sym, ◌∙◌, ap, subst, arith}
+use Rattle.std.proofs.Common.{◌≡◌, ◌+◌, ◌<◌, ◌∷◌, ◌++◌, [], length, map, take, get_or, sum_by, sym, ◌∙◌, ap, subst, arith}
 use Rattle.std.specs.List.{flat_map}
 use Rattle.std.proofs.lemmas.List.{append-nil}
 use Rattle.std.proofs.lemmas.List.Sums.{sum_by-cons}
@@ -20,7 +20,7 @@ loop-alt-init c =
     let core = group_contents c.args.text.now.core in
     record {
       plan = e.plan [] (plan_none c.args.pool.now c.no_groups-plan.result n.order n.pauses n.lefts n.rights);
-      grows = within_as c.args.pool.now c.put_group.new.pool (trees_in_group core) (trees_in_group core ++ []) (13 * length core) (13 * (0 + length core)) (sym (append-nil (trees_in_group core))) (omega arith) e.grows;
+      grows = within_as c.args.pool.now c.put_group.new.pool (trees_in_group core) (trees_in_group core ++ []) (length core) (0 + length core) (sym (append-nil (trees_in_group core))) (omega arith) e.grows;
     }
 
 pub put_group-requires-in-loop-alt-clause-joins : goal.put_group-requires-in-loop-alt-clause-joins
@@ -56,6 +56,6 @@ loop-alt-preserved c =
     record {
       plan = subst (λ gs. IsPlan c.put_group-in-loop-alt.new.pool gs c.put_group-in-loop-alt.new.plan) (sym next) (e.plan groups c.loop-alt.invariant.plan);
       grows =
-          subst (λ gs. GrowsWithin c.args.pool.now c.put_group-in-loop-alt.new.pool (flat_map trees_in_group gs) (13 * sum_by length gs)) (sym next)
+          subst (λ gs. GrowsWithin c.args.pool.now c.put_group-in-loop-alt.new.pool (flat_map trees_in_group gs) (sum_by length gs)) (sym next)
           (grows_more trees_in_group length c.args.pool.now c.loop-alt.pool c.put_group-in-loop-alt.new.pool groups (group_contents alt) c.loop-alt.invariant.grows e.grows);
     }

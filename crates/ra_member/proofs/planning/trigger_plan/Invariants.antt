@@ -1,4 +1,4 @@
-use Rattle.std.proofs.Common.{◌*◌, ◌∷◌, map, sum_by, length, take}
+use Rattle.std.proofs.Common.{◌∷◌, map, sum_by, length, take}
 use Rattle.std.specs.List.{flat_map}
 use Rattle.ra_condition.specs.Contents.{group_contents}
 use Rattle.ra_chain.specs.Occurrence.{trees_in_group}
@@ -11,5 +11,5 @@ invariant-loop-alt l =
     let groups = group_contents l.text.core ∷ map group_contents (take l.alt-index l.text.alts.items) in
     record {
       plan : IsPlan l.pool groups l.plan;
-      grows : GrowsWithin l.fn.pool l.pool (flat_map trees_in_group groups) (13 * sum_by length groups);
+      grows : GrowsWithin l.fn.pool l.pool (flat_map trees_in_group groups) (sum_by length groups);
     }

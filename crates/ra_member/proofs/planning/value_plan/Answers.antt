@@ -1,4 +1,4 @@
-use Rattle.std.proofs.Common.{◌≡◌, ◌+◌, ◌*◌, ◌<◌, ◌∷◌, ◌++◌, [], length, map, take, get_or, sum_by, sym, ◌∙◌, ap, subst, arith}
+use Rattle.std.proofs.Common.{◌≡◌, ◌+◌, ◌<◌, ◌∷◌, ◌++◌, [], length, map, take, get_or, sum_by, sym, ◌∙◌, ap, subst, arith}
 use Rattle.std.specs.List.{flat_map}
 use Rattle.ra_condition.specs.Contents.{part_contents}
 use Rattle.ra_condition.specs.Spelled.{IsPart}
@@ -40,6 +40,6 @@ loop-part-preserved c =
     record {
       plan = subst (λ ps. IsValuePlan c.put_part.new.pool ps c.put_part.new.plan) (sym next) (e.plan before c.loop-part.invariant.plan);
       grows =
-          subst (λ ps. GrowsWithin c.args.pool.now c.put_part.new.pool (flat_map trees_in_part ps) (13 * sum_by part_conditions ps)) (sym next)
+          subst (λ ps. GrowsWithin c.args.pool.now c.put_part.new.pool (flat_map trees_in_part ps) (sum_by part_conditions ps)) (sym next)
           (grows_more trees_in_part part_conditions c.args.pool.now c.loop-part.pool c.put_part.new.pool before (part_contents part) c.loop-part.invariant.grows e.grows);
     }

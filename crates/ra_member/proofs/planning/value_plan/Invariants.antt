@@ -1,4 +1,4 @@
-use Rattle.std.proofs.Common.{◌*◌, map, sum_by, take}
+use Rattle.std.proofs.Common.{map, sum_by, take}
 use Rattle.std.specs.List.{flat_map}
 use Rattle.ra_condition.specs.Contents.{part_contents}
 use Rattle.ra_chain.specs.Occurrence.{trees_in_part}
@@ -12,5 +12,5 @@ invariant-loop-part l =
     let parts = map part_contents (take l.part-index l.text.parts.items) in
     record {
       plan : IsValuePlan l.pool parts l.plan;
-      grows : GrowsWithin l.fn.pool l.pool (flat_map trees_in_part parts) (13 * sum_by part_conditions parts);
+      grows : GrowsWithin l.fn.pool l.pool (flat_map trees_in_part parts) (sum_by part_conditions parts);
     }
