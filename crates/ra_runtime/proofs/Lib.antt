@@ -19,6 +19,7 @@ pub mod ItemWords
 pub mod Law
 pub mod LineLemmas
 pub mod MadeLemmas
+pub mod MaskCounts
 pub mod MemberWords
 pub mod NewLines
 pub mod OpeningFits

@@ -1,11 +1,11 @@
 -- A table that is laid out for a set is over it.
-use Rattle.std.proofs.Common.{◌≡◌, ℕ, Option, List, [], length, sum_by, sym, ◌∙◌, ap, subst, arith}
+use Rattle.std.proofs.Common.{◌≡◌, ℕ, ◌+◌, ◌*◌, ◌≤◌, Option, List, [], length, filter, sum_by, sym, ◌∙◌, ap, subst, arith}
 use Rattle.std.specs.List.{flat_map}
 use Rattle.std.proofs.lemmas.List.{length-replicate}
 use Rattle.ra_indirect.specs.declared.node.Node.{Node}
 use Rattle.ra_indirect.specs.Trees.{cells_in, tracked_in, same_cell, same_tracked}
 use Rattle.ra_indirect.specs.Pools.{cells_of, tracked_of}
-use Rattle.ra_indirect.specs.Growing.{GrowsBy}
+use Rattle.ra_indirect.specs.Growing.{GrowsBy, is_view}
 use Rattle.ra_indirect.proofs.SameLemmas.{cell_is, cell_itself, tracked_is, tracked_itself}
 use Rattle.ra_indirect.proofs.GrowingLemmas.{grown-firsts}
 use Rattle.ra_memref.specs.Table.{TableSeen, IsFresh}
@@ -21,14 +21,24 @@ use Rattle.ra_runtime.specs.Planning.{AreWaiting}
 use Rattle.ra_runtime.specs.PresenceRuns.{IsOptionalPresence}
 use Rattle.ra_runtime.specs.Shapes.{IsLaidOut}
 use Rattle.ra_member.proofs.PlanLemmas.{within_through}
+use Rattle.ra_runtime.proofs.MaskCounts.{masks_few}
 use Rattle.ra_runtime.proofs.WaitingLemmas.{item_runs_more}
 
 module _ (set : SetContents) where
-  -- a table over a pool that grew by the trees of the set is over the set
+  -- a pool that grew by the trees of the set has the cells and the tracked masks of the set
+  grown_cells : (nodes : List Node) → GrowsBy [] nodes (trees_in_set set) → cells_of nodes ≡ set_cells set
+  grown_cells nodes grows =
+      grows.cells ∙ grown-firsts same_cell cell_is cell_itself [] (flat_map cells_in (trees_in_set set))
+
+  grown_tracked : (nodes : List Node) → GrowsBy [] nodes (trees_in_set set) → tracked_of nodes ≡ set_tracked set
+  grown_tracked nodes grows =
+      grows.tracked ∙ grown-firsts same_tracked tracked_is tracked_itself [] (flat_map tracked_in (trees_in_set set))
+
+  -- a table over such a pool is over the set
   pub over_fresh : (nodes : List Node) (size : ℕ) (table : TableSeen) → GrowsBy [] nodes (trees_in_set set) → IsFresh nodes size table → IsOver set table
   over_fresh nodes size table grows fresh =
-      let cells : cells_of nodes ≡ set_cells set = grows.cells ∙ grown-firsts same_cell cell_is cell_itself [] (flat_map cells_in (trees_in_set set)) in
-      let tracked : tracked_of nodes ≡ set_tracked set = grows.tracked ∙ grown-firsts same_tracked tracked_is tracked_itself [] (flat_map tracked_in (trees_in_set set)) in
+      let cells : cells_of nodes ≡ set_cells set = grown_cells nodes grows in
+      let tracked : tracked_of nodes ≡ set_tracked set = grown_tracked nodes grows in
       record {
         cells = ap cells_of fresh.pool ∙ cells;
         tracked = ap tracked_of fresh.pool ∙ tracked;
@@ -42,6 +52,17 @@ module _ (set : SetContents) where
     all_grown =
         within_through [] items pool (flat_map trees_in_item set.items) (flat_map trees_in_line (lines_in set.script)) (sum_by item_conditions set.items) (script_conditions set.script) (set_conditions set) (omega arith) are.grows is.grows
 
+    -- two cells and two views for each of 65,536 conditions
+    few_cells : length (set_cells set) ≤ 131072
+    few_cells =
+        let most : length (cells_of pool) ≤ 0 + 2 * set_conditions set = all_grown.few_cells in
+        omega (arith, most, limits.conditions, ap length (grown_cells pool all_grown.grows))
+
+    few_tracked : length (set_tracked set) ≤ 131072
+    few_tracked =
+        let most : length (filter is_view pool) ≤ 0 + 2 * set_conditions set = all_grown.few_views in
+        omega (arith, most, masks_few pool, limits.conditions, ap length (grown_tracked pool all_grown.grows))
+
     all_runs : AreItemRuns pool set.items runs
     all_runs = item_runs_more items pool is.grows.grows.front set.items runs are.runs_too
 
@@ -50,6 +71,8 @@ module _ (set : SetContents) where
       fresh = subst (λ (ns : List Node). IsFresh ns size table) (sym fresh.pool) fresh;
       few = omega (arith, ap length fresh.pool, all_grown.few, limits.conditions);
       over = over_fresh pool size table all_grown.grows fresh;
+      few_cells = few_cells;
+      few_tracked = few_tracked;
       runs_too = subst (λ (ns : List Node). AreItemRuns ns set.items runs) (sym fresh.pool) all_runs;
       plain = are.plain;
       presence_too = subst (λ (ns : List Node). IsOptionalPresence ns set.script presence) (sym fresh.pool) is.run_too;

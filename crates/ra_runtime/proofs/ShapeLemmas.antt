@@ -1,19 +1,14 @@
 -- The shape of a set is that of its runs, and within the types of its numbers.
-use Rattle.std.proofs.Common.{◌≡◌, ℕ, suc, ◌+◌, ◌<◌, ◌≤◌, ◌^◌, Bool, false, true, not, filter, if◌then◌else◌, Option, None, Some, option_map, List, [], ◌∷◌, length, map, get_or, sum, sum_by, All, IfSome, refl, sym, ◌∙◌, ap, ap₂, subst, arith, length-append}
-use Rattle.std.specs.List.{flat_map, filter_map}
-use Rattle.std.proofs.lemmas.List.{length-replicate}
+use Rattle.std.proofs.Common.{◌≡◌, ℕ, suc, ◌+◌, ◌<◌, ◌≤◌, ◌^◌, false, true, Option, None, Some, option_map, List, [], ◌∷◌, length, map, get_or, sum, sum_by, All, IfSome, refl, sym, ap, ap₂, subst, arith}
+use Rattle.std.specs.List.{filter_map}
 use Rattle.std.proofs.lemmas.List.Sums.{sum_by-cons, sum_by-append, sum_by-le-sum_by, get_or-le-sum_by, sum-map}
 use Rattle.std.proofs.lemmas.List.Elements.{All-map}
 use Rattle.ra_condition.specs.Contents.{TriggerContents, trigger_hits, PartContents, Legacy, Grouped, counted_in, value_hits}
 use Rattle.ra_condition.specs.Spelled.{IsPart, IsValue}
 use Rattle.ra_indirect.specs.declared.node.Node.{Node}
-use Rattle.ra_indirect.specs.Trees.{constant, join, view, Cell, cell_of, tracked_by, firsts, same_tracked}
-use Rattle.ra_indirect.specs.Pools.{Spelled, IsTree, IsCell, cell_in, tracked_at, spelled_by, cells_of, tracked_of}
-use Rattle.ra_indirect.proofs.Spelling.{length-spelled_by}
 use Rattle.ra_memref.specs.Table.{TableSeen}
-use Rattle.ra_operand.specs.declared.kind.Kind.{Kind}
-use Rattle.ra_operand.specs.declared.kind.Kind.TheVariants.{Mem, Delta, Prior, Bcd, Inverted}
-use Rattle.ra_operand.specs.declared.size.Size.{Size}
+use Rattle.ra_leaderboard.specs.Contents.{BoardContents}
+use Rattle.ra_leaderboard.specs.Spelled.{IsBoard}
 use Rattle.ra_richpresence.specs.Contents.{PieceContents, Bytes, Shows, LineContents, ScriptContents, value_in, values_in_line}
 use Rattle.ra_richpresence.specs.Spelled.{IsPiece}
 use Rattle.ra_set.specs.Contents.{ItemContents, Unlocks, Ranks, SetContents}
@@ -34,6 +29,7 @@ use Rattle.ra_runtime.specs.ItemRuns.{IsItemRun}
 use Rattle.ra_runtime.specs.AllRuns.{AreItemRuns, HaveDigits}
 use Rattle.ra_runtime.specs.Shapes.{run_shape, optional_run_shape, IsSmall, IsSmallPresence, IsLaidOut}
 use Rattle.ra_set.specs.Spelled.{IsItem, OptionalScript, IsSpelled}
+use Rattle.ra_value_format.specs.declared.format.Format.{Format}
 use Rattle.ra_runtime.proofs.NewLines.{shown_lines}
 use Rattle.ra_runtime.proofs.ShownLines.{lines_fit_runs}
 
@@ -78,10 +74,10 @@ progress_within : (progress : Option (List PartContents)) → IfSome progress Is
 progress_within None is = (omega arith, omega arith)
 progress_within (Some parts) is = (omega (arith, hits_within parts), omega (arith, parts_within parts is.each))
 
-item_small : (item : ItemContents) → IsItem item → item_conditions item ≤ 65536 → IsSmall (item_shape item)
-item_small (Unlocks id t) is few = few
-item_small (Ranks id format b) is few =
-    let progress = progress_within b.progress is.0.progress in
+-- a board keeps at most a hit and a number for each of its conditions
+pub board_within : (id : ℕ) (format : Format) (b : BoardContents) → IsBoard b → (member_hits (board_member b) ≤ item_conditions (Ranks id format b)) × (member_numbers (board_member b) ≤ item_conditions (Ranks id format b))
+board_within id format b is =
+    let progress = progress_within b.progress is.progress in
     let own = λ (x : ℕ). x in
     let a = trigger_hits b.start in
     let c = trigger_hits b.cancel in
@@ -89,7 +85,13 @@ item_small (Ranks id format b) is few =
     let v = value_hits b.value in
     let p = map value_hits (progress_in b.progress) in
     let ps = map length (progress_in b.progress) in
-    (omega (arith, few, hits_within b.value, progress.0, sum_by-cons own a (c ∷ s ∷ v ∷ p), sum_by-cons own c (s ∷ v ∷ p), sum_by-cons own s (v ∷ p), sum_by-cons own v p), omega (arith, few, parts_within b.value is.0.value.each, progress.1, sum_by-cons own (length b.value) ps))
+    (omega (arith, hits_within b.value, progress.0, sum_by-cons own a (c ∷ s ∷ v ∷ p), sum_by-cons own c (s ∷ v ∷ p), sum_by-cons own s (v ∷ p), sum_by-cons own v p), omega (arith, parts_within b.value is.value.each, progress.1, sum_by-cons own (length b.value) ps))
+
+item_small : (item : ItemContents) → IsItem item → item_conditions item ≤ 65536 → IsSmall (item_shape item)
+item_small (Unlocks id t) is few = few
+item_small (Ranks id format b) is few =
+    let within = board_within id format b is.0 in
+    (omega (arith, few, within.0), omega (arith, few, within.1))
 
 pub items_small : (items : List ItemContents) → All IsItem items → sum_by item_conditions items ≤ 65536 → All IsSmall (map item_shape items)
 items_small items spelled few =
@@ -101,47 +103,6 @@ have_digits [] spelled = tt
 have_digits (Unlocks id t ∷ items) spelled = (tt, have_digits items (λ k d within. spelled (suc k) d (omega arith)))
 have_digits (Ranks id format b ∷ items) spelled =
     ((spelled 0 (Ranks id format b) (omega arith)).1, have_digits items (λ k d within. spelled (suc k) d (omega arith)))
-
--- a pool has no more cells and masks than nodes
-cell_one : (s : Spelled) → length (cell_in s) ≤ 1
-cell_one (IsCell c) = omega arith
-cell_one (IsTree tree) = omega arith
-
-by_kind : (kind : Kind) (size : Size) (c : Cell) → length (tracked_by kind size c) ≤ 1
-by_kind Mem size c = omega arith
-by_kind Delta size c = omega arith
-by_kind Prior size c = omega arith
-by_kind Bcd size c = omega arith
-by_kind Inverted size c = omega arith
-
-filtered_fewer : {A : Type 0} (p : A → Bool) (xs : List A) → length (filter p xs) ≤ length xs
-filtered_fewer p [] = omega arith
-filtered_fewer p (x ∷ xs) = elim (p x) as (λ b. length (if b then x ∷ filter p xs else filter p xs) ≤ length (x ∷ xs)) [
-  | true ↦ omega (arith, filtered_fewer p xs)
-  | false ↦ omega (arith, filtered_fewer p xs)
-]
-
-mask_one : (s : Spelled) → length (tracked_at s) ≤ 1
-mask_one (IsCell c) = omega arith
-mask_one (IsTree (constant n)) = omega arith
-mask_one (IsTree (join op left right)) = omega arith
-mask_one (IsTree (view kind size pointer address)) = by_kind kind size (cell_of size pointer address)
-
-at_most : {B : Type 0} (f : Spelled → List B) → ((s : Spelled) → length (f s) ≤ 1) → (xs : List Spelled) → length (flat_map f xs) ≤ length xs
-at_most f one [] = omega arith
-at_most f one (x ∷ xs) = omega (arith, length-append (f x) (flat_map f xs), one x, at_most f one xs)
-
-fewer : {A : Type 0} (same : A → A → Bool) (xs : List A) → length (firsts same xs) ≤ length xs
-fewer same [] = omega arith
-fewer same (x ∷ xs) =
-    let some : length (filter (λ y. not (same x y)) (firsts same xs)) ≤ length (firsts same xs) = filtered_fewer (λ y. not (same x y)) (firsts same xs) in
-    omega (arith, some, fewer same xs)
-
-pub cells_few : (nodes : List Node) → length (cells_of nodes) ≤ length nodes
-cells_few nodes = omega (arith, at_most cell_in cell_one (spelled_by nodes), length-spelled_by nodes)
-
-pub tracked_few : (nodes : List Node) → length (tracked_of nodes) ≤ length nodes
-tracked_few nodes = omega (arith, fewer same_tracked (flat_map tracked_at (spelled_by nodes)), at_most tracked_at mask_one (spelled_by nodes), length-spelled_by nodes)
 
 -- what a display keeps has the counts of its script
 pub presence_shaped : (nodes : List Node) (script : Option ScriptContents) (run : Option PresenceRun) → IsOptionalPresence nodes script run → optional_run_shape run ≡ option_map presence_shape script
@@ -170,7 +131,7 @@ macros_within (Shows name parts ∷ pieces) each =
     let one : IsValue parts = each 0 (Shows name parts) (omega arith) in
     omega (arith, parts_within parts one.each, macros_within pieces (λ k d within. each (suc k) d (omega arith)), sum_by-cons length parts (filter_map value_in pieces), sum_by-cons value_conditions parts (filter_map value_in pieces))
 
-lines_within : (lines : List LineContents) → All IsShownLine lines → (sum (map member_hits (map line_member lines)) ≤ sum_by line_conditions lines) × (sum (map member_numbers (map line_member lines)) ≤ sum_by line_conditions lines)
+pub lines_within : (lines : List LineContents) → All IsShownLine lines → (sum (map member_hits (map line_member lines)) ≤ sum_by line_conditions lines) × (sum (map member_numbers (map line_member lines)) ≤ sum_by line_conditions lines)
 lines_within [] each = (omega arith, omega arith)
 lines_within (line ∷ lines) each =
     let one : IsShownLine line = each 0 line (omega arith) in
@@ -190,10 +151,7 @@ presence_small (Some script) is few =
 -- what a table that is laid out keeps fits into the shape
 module _ (set : SetContents) (size : ℕ) (table : TableSeen) (runs : List ItemRun) (presence : Option PresenceRun) (is : IsLaidOut set size table runs presence) where
   pub laid_few : length table.cells + length table.priors < 2 ^ 32
-  laid_few =
-      let cells : length table.cells ≡ length (cells_of table.nodes) = ap length is.fresh.cells ∙ length-replicate (length (cells_of table.nodes)) 0 in
-      let priors : length table.priors ≡ length (tracked_of table.nodes) = ap length is.fresh.priors ∙ length-replicate (length (tracked_of table.nodes)) 0 in
-      omega (arith, is.few, cells_few table.nodes, tracked_few table.nodes)
+  laid_few = omega (arith, is.over.cells_many, is.over.priors_many, is.few_cells, is.few_tracked)
 
   pub laid_shapes : map run_shape runs ≡ map item_shape set.items
   laid_shapes = runs_shaped table.nodes set.items runs is.runs_too

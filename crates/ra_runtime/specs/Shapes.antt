@@ -56,11 +56,13 @@ pub record NameSet (set : SetContents) (names : Names) : Type 0 where
   pub cells : names.cells.items ≡ map cell_name (set_cells set)
   pub priors_too : names.priors.items ≡ map tracked_name (set_tracked set)
 
--- a table without a frame over the trees of a set, runs that wait, and a display that shows its last line
+-- a table without a frame over the trees of a set, of at most 131,072 cells and as many tracked masks; runs that wait, and a display that shows its last line
 pub record IsLaidOut (set : SetContents) (size : ℕ) (table : TableSeen) (runs : List ItemRun) (presence : Option PresenceRun) : Type 0 where
   pub fresh : IsFresh table.nodes size table
   pub few : length table.nodes < 2 ^ 30
   pub over : IsOver set table
+  pub few_cells : length (set_cells set) ≤ 131072
+  pub few_tracked : length (set_tracked set) ≤ 131072
   pub runs_too : AreItemRuns table.nodes set.items runs
   pub plain : map kept_run runs ≡ map plain_item (map item_shape set.items)
   pub presence_too : IsOptionalPresence table.nodes set.script presence
