@@ -35,6 +35,7 @@ pub mod ShapeLemmas
 pub mod ShowLemmas
 pub mod ShownLines
 pub mod Snapshots
+pub mod SmallShape
 pub mod SpelledScripts
 pub mod SpelledSets
 pub mod SpelledTrees
