@@ -1,5 +1,5 @@
 -- Cells and tracked masks of a set keep numbers of 32 bits after a history.
-use Rattle.std.proofs.Common.{◌≡◌, ℕ, ◌≤◌, List, [], ◌∷◌, inl, inr, length, map, drop, slice_index, sym, subst, lit<, refl}
+use Rattle.std.proofs.Common.{◌≡◌, ℕ, ◌≤◌, List, [], ◌∷◌, inl, inr, length, map, drop, slice_index, sym, ◌∙◌, subst, lit<, refl}
 use Rattle.std.specs.List.{flat_map}
 use Rattle.std.proofs.lemmas.List.{length-map}
 use Rattle.ra_operand.specs.declared.size.Size.{Size}
@@ -12,6 +12,7 @@ use Rattle.ra_set.specs.Contents.{SetContents}
 use Rattle.ra_words.specs.Words.{AreWords}
 use Rattle.ra_progress.specs.Contents.{Opening, IsOpening}
 use Rattle.ra_runtime.specs.Order.{trees_in_set, set_cells, set_tracked, shape_of}
+use Rattle.ra_memref.specs.Names.{cell_name, tracked_name}
 use Rattle.ra_runtime.specs.Openings.{number_beside, prior_beside, start_of, snapshot}
 use Rattle.ra_member.proofs.Listed.{In, In_split, In_of_firsts, In_one}
 use Rattle.ra_runtime.proofs.Each.{each_at, each_drop}
@@ -73,20 +74,20 @@ module _ (set : SetContents) (o : Opening) (is : IsOpening (shape_of set) o) whe
     priors = prior_words (set_tracked set) o.priors is.priors.fit;
   }
 
-  pub cells_fit : (history : History) → AreImages history → AreWords (length (set_cells set)) (snapshot set o history).cells
+  pub cells_fit : (history : History) → AreImages history → AreWords (length (shape_of set).cells) (snapshot set o history).cells
   cells_fit history images =
       let start = start_of set o in
       let narrow : (c : Cell) → In c (set_cells set) → c.width ≤ 4 = λ c there. let one = In_one cells_in c (trees_in_set set) (In_of_firsts same_cell c (flat_map cells_in (trees_in_set set)) there) in cell_narrow c one.which one.there in
       record {
-        as_many = length-map (set_cells set) (λ c. cell_number start c history);
+        as_many = length-map (set_cells set) (λ c. cell_number start c history) ∙ sym (length-map (set_cells set) cell_name);
         fit = mapped_words (λ c. cell_number start c history) (set_cells set) (λ c there. cell_word start start_words c (narrow c there) history images);
       }
 
-  pub priors_fit : (history : History) → AreImages history → AreWords (length (set_tracked set)) (snapshot set o history).priors
+  pub priors_fit : (history : History) → AreImages history → AreWords (length (shape_of set).priors) (snapshot set o history).priors
   priors_fit history images =
       let start = start_of set o in
       let narrow : (t : Tracked) → In t (set_tracked set) → t.cell.width ≤ 4 = λ t there. let one = In_one tracked_in t (trees_in_set set) (In_of_firsts same_tracked t (flat_map tracked_in (trees_in_set set)) there) in tracked_narrow t one.which one.there in
       record {
-        as_many = length-map (set_tracked set) (λ t. tracked_number start t history);
+        as_many = length-map (set_tracked set) (λ t. tracked_number start t history) ∙ sym (length-map (set_tracked set) tracked_name);
         fit = mapped_words (λ t. tracked_number start t history) (set_tracked set) (λ t there. tracked_word start start_words t (narrow t there) history images);
       }

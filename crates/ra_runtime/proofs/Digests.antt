@@ -1,12 +1,12 @@
 -- The bytes of a digest are bytes.
-use Rattle.std.proofs.Common.{ℕ, zero, suc, ◌<◌, List, ◌++◌, slice_index, arith}
+use Rattle.std.proofs.Common.{ℕ, zero, suc, ◌<◌, List, slice_index, arith}
 use Rattle.std.specs.Int.{w32, to_le_bytes}
 use Rattle.std.specs.List.{AllByRecursion}
 use Rattle.md5.specs.Md5.{md5, digest_bytes}
 use Rattle.ra_progress.proofs.Placed.{all_join}
 
 word_bytes : (n : ℕ) → AllByRecursion (λ b. b < 256) (to_le_bytes w32 n)
-word_bytes n = (omega arith, omega arith, omega arith, omega arith, tt)
+word_bytes n = (omega arith, (omega arith, (omega arith, (omega arith, tt))))
 
 bytes_of : (h : List ℕ) (n : ℕ) → AllByRecursion (λ b. b < 256) (digest_bytes h n)
 unfolding digest_bytes

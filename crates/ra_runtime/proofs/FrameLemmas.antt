@@ -1,10 +1,11 @@
 -- One frame of all items, from what is kept, is one frame of the set by the definitions.
-use Rattle.std.proofs.Common.{◌≡◌, ℕ, ◌<◌, ◌^◌, Option, None, Some, List, [], ◌∷◌, ◌++◌, length, map, zip, refl, sym, ◌∙◌, ap, ap₂, subst, arith}
+use Rattle.std.proofs.Common.{◌≡◌, ℕ, ◌<◌, ◌^◌, Option, None, Some, false, List, [], ◌∷◌, ◌++◌, length, map, replicate, zip, refl, sym, ◌∙◌, ap, ap₂, subst, arith}
 use Rattle.std.specs.List.{flat_map}
 use Rattle.ra_indirect.specs.Trees.{cells_in, tracked_in, same_cell, same_tracked}
 use Rattle.ra_indirect.specs.Pools.{cells_of, tracked_of, spelled_by}
-use Rattle.ra_memref.specs.Values.{Start, cell_number, tracked_number}
-use Rattle.ra_memref.specs.Table.{TableSeen, AreKept, Samples, spelled_value}
+use Rattle.ra_memref.specs.Marks.{reads_of}
+use Rattle.ra_memref.specs.Values.{Start, cell_number, cell_place, tracked_number}
+use Rattle.ra_memref.specs.Table.{TableSeen, AreKept, Samples, ReadsWanted, spelled_value}
 use Rattle.ra_richpresence.specs.Contents.{ScriptContents}
 use Rattle.ra_set.specs.Contents.{ItemContents, SetContents}
 use Rattle.ra_progress.specs.Contents.{Opening}
@@ -18,7 +19,7 @@ use Rattle.ra_runtime.specs.ItemRuns.{kept_run}
 use Rattle.ra_runtime.specs.AllRuns.{AreStepped, all_lines, opening_by, IsOver}
 use Rattle.ra_runtime.specs.PresenceRuns.{StepsOptional, optional_presence_kept}
 use Rattle.std.proofs.lemmas.List.{length-map}
-use Rattle.ra_runtime.specs.Runtime.{RuntimeSeen, TakesFrame}
+use Rattle.ra_runtime.specs.Runtime.{RuntimeSeen, TakesFrame, ReadsFew}
 use Rattle.ra_runtime.proofs.Law.{cuts_anywhere}
 use Rattle.ra_runtime.proofs.Beside.{apart_firsts, numbers_beside, priors_beside}
 
@@ -101,4 +102,18 @@ takes_frame old new set image kept printed = record {
       kept ∙ ap (λ k. snapshot old.set k (old.image ∷ [])) is ∙ sym ((cuts_anywhere old.set).kept o history (old.image ∷ []) opening);
   lines = λ o history opening images is.
       printed ∙ ap (λ k. lines old.set k (old.image ∷ [])) is ∙ sym ((cuts_anywhere old.set).prints o history (old.image ∷ []) opening (λ e. let bad : old.image ∷ [] ≡ [] = e in cc));
+}
+
+-- a sample of a table over a set reads the cells that were marked or moved
+pub reads_few : (old new : RuntimeSeen) (table after : TableSeen) (reads : ℕ) → IsOver old.set table → Samples table after old.image → ReadsWanted table after reads → old.kept.cells ≡ table.cells → old.kept.priors ≡ table.priors → old.marked ≡ table.marked → old.places ≡ table.places → new.marked ≡ after.marked → new.places ≡ after.places → ReadsFew old new reads
+reads_few old new table after reads over samples wanted cells priors marked places new_marked new_places = record {
+  unmarked = new_marked ∙ wanted.unmarked ∙ ap (λ cs. replicate (length cs) false) over.cells;
+  places = λ o history opening is.
+      let start = start_of old.set o in
+      let are : AreKept start history table.nodes table.cells table.priors = record {
+        numbers = sym cells ∙ ap (λ (k : Opening). k.cells) is ∙ ap (map (λ c. cell_number start c history)) (sym over.cells);
+        priors_too = sym priors ∙ ap (λ (k : Opening). k.priors) is ∙ ap (map (λ t. tracked_number start t history)) (sym over.tracked);
+      } in
+      new_places ∙ samples.places start history are ∙ ap (map (λ c. cell_place start c (old.image ∷ history))) over.cells;
+  counted = wanted.counted ∙ sym (λ i. reads_of (marked i) (places i) (new_places i));
 }

@@ -1,5 +1,5 @@
 -- What items keep after a history that is cut, by an opening whose trees go on from the earlier part.
-use Rattle.std.proofs.Common.{◌≡◌, ℕ, List, [], ◌∷◌, ◌++◌, refl, ap, ◌∙◌, if◌then◌else◌}
+use Rattle.std.proofs.Common.{◌≡◌, List, [], ◌∷◌, ◌++◌, refl, ap, ◌∙◌, if◌then◌else◌}
 use Rattle.std.specs.List.{flat_map}
 use Rattle.ra_condition.specs.Contents.{TriggerContents}
 use Rattle.ra_leaderboard.specs.declared.state.BoardState.{BoardState}

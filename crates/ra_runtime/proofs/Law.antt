@@ -64,11 +64,11 @@ module _ (start opened : Start) (earlier : History) where
   item_goes_on (Unlocks id t) alike kept fits later =
       let k = opened_achievement kept in
       let earned = is_earned kept in
-      let then = achievement_after start t k earlier in
+      let cut = achievement_after start t k earlier in
       let last = achievement_after start t k (later ++ earlier) in
       ap (λ b. OfAchievement (state_byte last.state) last.measured last.hits b)
-      (earned_once earned (is_triggered then.state) (is_triggered last.state) (triggered_later start t k earlier later))
-      ∙ ap (kept_achievement (earned || is_triggered then.state)) (achievement_goes_on t alike k earned later)
+      (earned_once earned (is_triggered cut.state) (is_triggered last.state) (triggered_later start t k earlier later))
+      ∙ ap (kept_achievement (earned || is_triggered cut.state)) (achievement_goes_on t alike k earned later)
   item_goes_on (Ranks id format b) alike kept fits later =
       ap kept_board (board_goes_on b alike (opened_board b kept) (opened_fits b id format kept fits) later)
 

@@ -1,5 +1,5 @@
 -- The presence after a history: what it keeps has the counts of its script, and it may be cut.
-use Rattle.std.proofs.Common.{◌≡◌, ℕ, List, [], ◌∷◌, ◌++◌, map, zip, refl, sym, ◌∙◌, ap, subst}
+use Rattle.std.proofs.Common.{◌≡◌, List, [], ◌∷◌, ◌++◌, refl, sym, ◌∙◌, ap, subst}
 use Rattle.std.specs.List.{flat_map}
 use Rattle.std.proofs.lemmas.List.Folds.{flat_map-map}
 use Rattle.ra_memory.specs.Image.{History}
@@ -7,7 +7,7 @@ use Rattle.ra_chain.specs.Occurrence.{trees_in_trigger, trees_in_value}
 use Rattle.ra_memref.specs.Values.{Start}
 use Rattle.ra_richpresence.specs.Contents.{ScriptContents}
 use Rattle.ra_indirect.specs.Trees.{Tree}
-use Rattle.ra_member.specs.Members.{MemberContents, MemberKept, HaveShapes, tests_hold, trees_in_member}
+use Rattle.ra_member.specs.Members.{MemberContents, MemberKept, HaveShapes, trees_in_member}
 use Rattle.ra_member.proofs.Agreeing.{Agree, agree_front, agree_behind, tests_hold_agree, members_agree}
 use Rattle.ra_member.proofs.Folds.{after_keeps}
 use Rattle.ra_member.proofs.GoingOn.{GoesOn, fold_goes_on}

@@ -1,11 +1,11 @@
 -- Runs whose numbers are put back or cleared keep what a file says of them, and stay runs of their items.
-use Rattle.std.proofs.Common.{◌≡◌, ℕ, ◌+◌, ◌*◌, ◌≤◌, ◌<◌, ◌||◌, false, true, nat_lt, None, Some, Option, List, length, slice_index, replicate, sym, ◌∙◌, ap, ap₂, subst, arith}
+use Rattle.std.proofs.Common.{◌≡◌, ℕ, ◌+◌, ◌*◌, ◌≤◌, false, true, nat_lt, None, Some, Option, List, length, slice_index, sym, ◌∙◌, ap, ap₂, subst, arith}
 use Rattle.std.proofs.lemmas.Bool.{ltb-true}
 use Rattle.std.proofs.lemmas.List.{length-replicate}
 use Rattle.ra_condition.specs.Contents.{groups_of}
 use Rattle.ra_indirect.specs.declared.node.Node.{Node}
 use Rattle.ra_trigger.specs.Steps.{TriggerKept, cleared}
-use Rattle.ra_trigger.specs.States.{state_byte, state_of, is_triggered}
+use Rattle.ra_trigger.specs.States.{state_of}
 use Rattle.ra_trigger.specs.declared.state.State.TheVariants.{Waiting}
 use Rattle.ra_leaderboard.specs.States.{board_byte, board_state_of}
 use Rattle.ra_leaderboard.specs.declared.state.BoardState.TheVariants as boards
@@ -25,8 +25,7 @@ use Rattle.ra_runtime.specs.declared.board_run.BoardRun.{BoardRun}
 use Rattle.ra_runtime.specs.declared.item_run.ItemRun.TheVariants.{Achievement, Leaderboard}
 use Rattle.ra_runtime.specs.Openings.{kept_achievement}
 use Rattle.ra_member.specs.Runs.{IsLaid}
-use Rattle.ra_runtime.specs.Boards.{BoardKept, kept_board}
-use Rattle.ra_runtime.specs.BoardRuns.{board_kept}
+use Rattle.ra_runtime.specs.Boards.{kept_board}
 use Rattle.ra_runtime.specs.Order.{board_member}
 use Rattle.ra_runtime.specs.ItemRuns.{IsItemRun}
 use Rattle.ra_runtime.specs.Restoring.{PutsBackBoard, PutsBackItem}

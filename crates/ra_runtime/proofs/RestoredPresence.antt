@@ -7,8 +7,6 @@ use Rattle.ra_member.specs.MemberRuns.{kept_by}
 use Rattle.ra_indirect.specs.declared.node.Node.{Node}
 use Rattle.ra_richpresence.specs.Contents.{ScriptContents}
 use Rattle.ra_words.specs.Words.{word_at, words_at}
-use Rattle.ra_progress.specs.Saying.{said_presence}
-use Rattle.ra_progress.specs.Contents.{plain_presence}
 use Rattle.ra_member.proofs.SideBySide.{beside_length}
 use Rattle.ra_runtime.specs.declared.presence_run.PresenceRun.{PresenceRun}
 use Rattle.ra_runtime.specs.PresenceRuns.{IsLineRun, IsPresenceRun, IsOptionalPresence}

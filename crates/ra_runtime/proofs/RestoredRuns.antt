@@ -1,5 +1,5 @@
 -- All items, put back one after the other, each from the place of its block.
-use Rattle.std.proofs.Common.{◌≡◌, ℕ, zero, suc, ◌+◌, ◌<◌, ◌≤◌, true, nat_lt, Option, None, Some, List, [], ◌∷◌, ◌++◌, length, map, take, drop, get_or, set, slice_index, slice_index_or, IfSome, refl, sym, ◌∙◌, ap, ap₂, subst, arith, add-one, append_assoc}
+use Rattle.std.proofs.Common.{◌≡◌, ℕ, zero, suc, ◌+◌, ◌<◌, ◌≤◌, true, nat_lt, Option, None, Some, List, [], ◌∷◌, ◌++◌, length, map, take, drop, get_or, set, slice_index, slice_index_or, refl, sym, ◌∙◌, ap, ap₂, subst, arith, add-one, append_assoc}
 use Rattle.std.proofs.lemmas.Bool.{ltb-true}
 use Rattle.std.proofs.Math.Seq.{drop-cons}
 use Rattle.std.proofs.lemmas.List.{map-append, take_more_set, get_or-drop, get_or-map, get_or_default}
@@ -7,13 +7,12 @@ use Rattle.ra_indirect.specs.declared.node.Node.{Node}
 use Rattle.ra_set.specs.Contents.{ItemContents}
 use Rattle.ra_words.specs.Words.{word_at}
 use Rattle.ra_progress.specs.declared.shape.ItemShape.{ItemShape}
-use Rattle.ra_progress.specs.declared.shape.ItemShape.TheVariants as shapes
 use Rattle.ra_progress.specs.declared.shape.PresenceShape.{PresenceShape}
 use Rattle.ra_progress.specs.Contents.{ShapeContents, OfItem, OfPresence, EntryShape, own_entries, own_at, plain_item}
-use Rattle.ra_progress.specs.Layout.{version_in, item_length, block_length}
+use Rattle.ra_progress.specs.Layout.{version_in, block_length}
 use Rattle.ra_progress.specs.Names.{IsPaired}
 use Rattle.ra_progress.specs.Reading.{is_state, bad_state, IsAccepted}
-use Rattle.ra_progress.specs.Saying.{own_places, script_place, said_or, said_item, said_items}
+use Rattle.ra_progress.specs.Saying.{own_places, said_or, said_item, said_items}
 use Rattle.ra_progress.proofs.Owns.{own_count, own_item, own_script, script_count}
 use Rattle.ra_progress.proofs.Placed.{own_within, placed}
 use Rattle.ra_progress.proofs.SaysOpening.{passes}

@@ -1,12 +1,12 @@
 -- What a set keeps after a history is an opening of it, and comes back from its bytes.
-use Rattle.std.proofs.Common.{◌≡◌, ℕ, ◌<◌, ◌^◌, Option, None, Some, option_map, option_to_list, unwrap_or, is_some, IfSome, List, [], ◌∷◌, ◌++◌, length, map, refl, sym, ◌∙◌, ap, subst, arith}
+use Rattle.std.proofs.Common.{◌≡◌, ℕ, ◌<◌, ◌≤◌, ◌^◌, Option, None, Some, option_map, option_to_list, unwrap_or, is_some, IfSome, List, [], ◌∷◌, ◌++◌, length, map, refl, sym, ◌∙◌, ap, subst, arith}
 use Rattle.std.specs.List.{AllByRecursion}
 use Rattle.std.proofs.lemmas.List.{length-map}
 use Rattle.std.proofs.lemmas.Option.{none-some}
 use Rattle.ra_memory.specs.Image.{History, AreBytes, AreImages}
 use Rattle.ra_richpresence.specs.Contents.{LineContents, ScriptContents}
 use Rattle.ra_set.specs.Contents.{SetContents}
-use Rattle.ra_set.specs.Spelled.{IsSpelled}
+use Rattle.ra_set.specs.Spelled.{IsSpelled, OptionalScript}
 use Rattle.ra_progress.specs.declared.shape.PresenceShape.{PresenceShape}
 use Rattle.ra_progress.specs.Contents.{Opening, IsOpening}
 use Rattle.ra_progress.specs.Spelling.{progress_bytes}
@@ -25,7 +25,7 @@ use Rattle.ra_progress.proofs.ComesBack.{comes_back}
 use Rattle.ra_progress.proofs.Checks.{accepted_none}
 use Rattle.ra_runtime.specs.Order.{item_shape, presence_shape, set_cells, set_tracked, shape_of}
 use Rattle.ra_runtime.specs.OpeningLaws.{HasDigests}
-use Rattle.ra_runtime.proofs.SmallShape.{small_shape}
+use Rattle.ra_progress.specs.Layout.{length_of}
 use Rattle.ra_runtime.specs.Openings.{start_of, frames_after, plain_opening, snapshot}
 use Rattle.ra_runtime.proofs.PlainOpening.{plain_fits}
 pub use Rattle.ra_runtime.proofs.Unplayed.{snapshot_none}
@@ -121,26 +121,30 @@ is_paired set limits named = record {
 }
 
 -- the parts of the shape of a set are within their types
-pub is_shape : (set : SetContents) → IsWithinLimits set → IsSpelled set → IsNamed set → HasDigests set → IsShape (shape_of set)
-is_shape set limits spelled named digests = record {
+pub is_shape : (set : SetContents) → IsWithinLimits set → IsSpelled set → IsNamed set → HasDigests set → length_of (shape_of set) ≤ 8388608 → IsShape (shape_of set)
+is_shape set limits spelled named digests short = record {
   digest = digests.digest;
   cells = all_named cell_name cell_named (set_cells set);
   priors = all_named tracked_name tracked_named (set_tracked set);
   entries = named_last set.item_names set.script_name digests.items digests.script;
   paired = is_paired set limits named;
   lines = few_in_shape set.script (spelled_has_few set spelled);
-  short = small_shape set limits spelled named;
+  short = short;
 }
 
+lines_in_shape : (script : Option ScriptContents) → ((s : ScriptContents) → script ≡ Some s → 0 < length s.lines) → (shape : PresenceShape) → option_map presence_shape script ≡ Some shape → 0 < shape.lines
+lines_in_shape None has shape is = absurd (none-some shape is)
+lines_in_shape (Some script) has shape is =
+    let same : presence_shape script ≡ shape = ap (λ s. unwrap_or s shape) is in
+    subst (λ (s : PresenceShape). 0 < s.lines) same (has script refl)
+
 -- a script has a line
+pub script_has_lines : (set : SetContents) → OptionalScript set.script → HasLines (shape_of set)
+script_has_lines set spelled =
+    lines_in_shape set.script (λ script some. some_line script.lines (spelled_script script (script_in set.script spelled script some).0).untested)
+
 pub has_lines : (set : SetContents) → IsSpelled set → HasLines (shape_of set)
-has_lines set spelled presence some = lines_in_shape set.script (λ script is. some_line script.lines (spelled_has_script set spelled script is).untested) presence some
-  where
-    lines_in_shape : (script : Option ScriptContents) → ((s : ScriptContents) → script ≡ Some s → 0 < length s.lines) → (shape : PresenceShape) → option_map presence_shape script ≡ Some shape → 0 < shape.lines
-    lines_in_shape None has shape is = absurd (none-some shape is)
-    lines_in_shape (Some script) has shape is =
-        let same : presence_shape script ≡ shape = ap (λ s. unwrap_or s shape) is in
-        subst (λ (s : PresenceShape). 0 < s.lines) same (has script refl)
+has_lines set spelled = script_has_lines set spelled.script
 
 -- what accepted bytes say is an opening
 pub said_is_opening : (set : SetContents) (bytes : List ℕ) → IsWithinLimits set → IsSpelled set → IsNamed set → AreBytes bytes → IsAccepted (shape_of set) bytes → IsOpening (shape_of set) (says (shape_of set) bytes)

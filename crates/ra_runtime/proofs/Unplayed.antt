@@ -1,5 +1,5 @@
 -- What a set keeps after no frame at all is what the opening keeps.
-use Rattle.std.proofs.Common.{◌≡◌, ℕ, zero, suc, ◌≤◌, ◌||◌, Bool, true, false, sym, ◌∙◌, Option, None, Some, option_map, List, [], ◌∷◌, map, zip, refl, ap, ap₂, arith}
+use Rattle.std.proofs.Common.{◌≡◌, ℕ, zero, suc, ◌≤◌, ◌||◌, Bool, true, false, sym, ◌∙◌, Option, None, Some, option_map, List, [], ◌∷◌, map, zip, refl, ap₂, arith}
 use Rattle.std.specs.List.{flat_map}
 use Rattle.ra_indirect.specs.Trees.{same_cell, same_tracked, cells_in, tracked_in}
 use Rattle.ra_memref.specs.Names.{cell_name, tracked_name}

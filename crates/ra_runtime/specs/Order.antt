@@ -1,5 +1,5 @@
 -- The cells and tracked masks of a set, and its shape: docs/DEFINITIONS.md, "Order of first occurrence" and "Shape of a set".
-use Rattle.std.specs.Prelude.{ℕ, Option, None, Some, option_map, List, [], ◌∷◌, ◌++◌, length, map, sum}
+use Rattle.std.specs.Prelude.{Option, None, Some, option_map, List, [], ◌∷◌, ◌++◌, length, map, sum}
 use Rattle.std.specs.List.{flat_map}
 use Rattle.ra_condition.specs.Contents.{TriggerContents, trigger_hits, PartContents}
 use Rattle.ra_leaderboard.specs.Contents.{BoardContents}

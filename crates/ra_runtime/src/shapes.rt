@@ -32,7 +32,7 @@ pub fn shape_of(alloc: Global, set: &Set) -> Result<Shape, OutOfMemory>
     ensures shape { IfOk result (λ shape. shape_contents shape ≡ spec.shape_of (set_contents set.now)) }
     ensures usable { IfOk result IsUsable }
 {
-    let (_, runs, presence, names) = laid_out(alloc, set, 0)?;
+    let (_table, runs, presence, names) = laid_out(alloc, set, 0)?;
     shape_over(alloc, set, &runs, &presence, names)
 }
 
@@ -76,7 +76,8 @@ pub(crate) fn shape_over(
     ensures usable { IfOk result IsUsable }
 {
     let items = item_shapes(alloc, runs)?;
-    let item_names = set.item_names.clone()?;
+    let mut item_names = Vec::new(alloc);
+    item_names.extend_from_slice(&set.item_names)?;
     let cell_order = order_of(alloc, &names.cells, &None)?;
     let prior_order = order_of(alloc, &names.priors, &None)?;
     let entry_order = order_of(alloc, &item_names, &set.script_name)?;

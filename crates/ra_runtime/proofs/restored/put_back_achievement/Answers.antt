@@ -1,4 +1,4 @@
-use Rattle.std.proofs.Common.{◌+◌, ◌-◌, ◌*◌, Option, ℕ, Some, None, length, refl, sym, ◌∙◌, ap, subst, arith}
+use Rattle.std.proofs.Common.{◌+◌, ◌-◌, ◌*◌, Option, ℕ, Some, length, refl, sym, ◌∙◌, ap, subst, arith}
 use Rattle.ra_trigger.specs.States.{state_of}
 use Rattle.ra_words.proofs.Rows.{words_piece}
 use Rattle.ra_runtime.specs.declared.achievement_run.AchievementRun.{AchievementRun}

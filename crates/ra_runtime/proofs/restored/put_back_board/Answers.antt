@@ -1,4 +1,4 @@
-use Rattle.std.proofs.Common.{◌+◌, ◌*◌, ◌∙◌, Option, ℕ, Some, None, sym, subst, arith}
+use Rattle.std.proofs.Common.{◌+◌, ◌*◌, ◌∙◌, Option, ℕ, Some, sym, subst, arith}
 use Rattle.ra_runtime.specs.declared.board_run.BoardRun.{BoardRun}
 use Rattle.ra_runtime.specs.Restoring.{HasItem, PutsBackBoard}
 use Rattle.ra_runtime.specs.Shapes.{board_run_shape}

@@ -1,5 +1,5 @@
-use Rattle.std.proofs.Common.{◌≡◌, ◌<◌, ◌++◌, [], refl, length, map, take, drop, slice_index_or, None, sym, ◌∙◌, ap, ap₂, append-nil, arith}
-use Rattle.std.proofs.lemmas.List.{take_all, drop_all, get_or_read}
+use Rattle.std.proofs.Common.{◌≡◌, ◌<◌, ◌++◌, [], refl, length, map, take, drop, sym, ◌∙◌, ap₂, append-nil, arith}
+use Rattle.std.proofs.lemmas.List.{take_all, drop_all}
 use Rattle.ra_progress.specs.Saying.{said_items}
 use Rattle.ra_runtime.specs.ItemRuns.{kept_run}
 use Rattle.ra_runtime.specs.Shapes.{run_shape}

@@ -1,4 +1,4 @@
-use Rattle.std.proofs.Common.{◌≡◌, ◌+◌, ◌<◌, ◌++◌, ◌∷◌, [], true, Bool, ℕ, List, length, length-append, replicate, take, drop, slice_set, slice_index, refl, sym, ◌∙◌, ap, arith, append-nil}
+use Rattle.std.proofs.Common.{◌≡◌, ◌+◌, ◌<◌, ◌++◌, true, length, replicate, take, drop, slice_set, slice_index, sym, ◌∙◌, ap, arith, append-nil}
 use Rattle.std.proofs.lemmas.List.{take_all, drop_all}
 use Rattle.ra_memref.specs.Table.{TableSeen}
 use Rattle.ra_runtime.proofs.TakenNumbers.{row_next, row_long}

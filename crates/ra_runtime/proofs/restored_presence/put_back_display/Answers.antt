@@ -9,7 +9,6 @@ use Rattle.ra_member.specs.Members.{cleared_member}
 use Rattle.ra_member.specs.MemberRuns.{kept_by}
 use Rattle.ra_runtime.specs.declared.presence_run.PresenceRun.{PresenceRun}
 use Rattle.ra_runtime.specs.Restoring.{HasDisplay, PutsBackDisplay, StayLines, hits_of_lines, numbers_of_lines}
-use Rattle.ra_runtime.specs.Shapes.{presence_run_shape}
 use Rattle.ra_runtime.proofs.DisplayRows.{lines_hits, lines_numbers}
 use Rattle.ra_runtime.proofs.RestoredPresence.{display_back, display_cleared}
 use Rattle.ra_runtime.proofs.restored_presence.put_back_display.Goals as goal

@@ -1,12 +1,14 @@
-use Rattle.std.proofs.Common.{◌≡◌, List, [], map, ap, subst}
+use Rattle.std.proofs.Common.{◌≡◌, List, [], map, sym, ◌∙◌, ap, subst}
 use Rattle.ra_indirect.specs.declared.node.Node.{Node}
+use Rattle.ra_indirect.specs.Pools.{cells_of, tracked_of}
+use Rattle.ra_memref.specs.Names.{cell_name, tracked_name}
 use Rattle.ra_set.specs.Contents.{ItemContents, item_contents, set_contents}
 use Rattle.ra_runtime.specs.Planning.{AreWaiting}
 use Rattle.ra_runtime.proofs.MadeLemmas.{laid}
 use Rattle.ra_runtime.proofs.shapes.laid_out.Goals as goal
 
-pub returns : goal.returns
-returns c =
+pub returns-clause-laid : goal.returns-clause-laid
+returns-clause-laid c =
     let set = set_contents c.args.set.now in
     let items = c.new_runs.new.pool in
     let pool = c.new_presence.new.pool in
@@ -14,3 +16,18 @@ returns c =
     let same : map item_contents c.deref.result.now ≡ set.items = ap (map item_contents) c.deref.ensures.value in
     let are : AreWaiting [] items set.items runs = subst (λ (xs : List ItemContents). AreWaiting [] items xs runs) same (subst (λ (ns : List Node). AreWaiting ns items (map item_contents c.deref.result.now) runs) c.new-pool.ensures c.in_ok-runs.ensures) in
     laid set items pool c.args.size c.in_ok-table.table runs c.in_ok-presence.presence c.requires.limits are c.in_ok-presence.ensures c.in_ok-table.ensures
+
+pub returns-clause-names : goal.returns-clause-names
+returns-clause-names c =
+    let set = set_contents c.args.set.now in
+    let items = c.new_runs.new.pool in
+    let pool = c.new_presence.new.pool in
+    let runs = c.in_ok-runs.runs.items in
+    let same : map item_contents c.deref.result.now ≡ set.items = ap (map item_contents) c.deref.ensures.value in
+    let are : AreWaiting [] items set.items runs = subst (λ (xs : List ItemContents). AreWaiting [] items xs runs) same (subst (λ (ns : List Node). AreWaiting ns items (map item_contents c.deref.result.now) runs) c.new-pool.ensures c.in_ok-runs.ensures) in
+    let is = laid set items pool c.args.size c.in_ok-table.table runs c.in_ok-presence.presence c.requires.limits are c.in_ok-presence.ensures c.in_ok-table.ensures in
+    let nodes = sym c.in_ok-table.ensures.pool in
+    record {
+      cells = c.in_ok-names.ensures.cells ∙ ap (λ ns. map cell_name (cells_of ns)) nodes ∙ ap (map cell_name) is.over.cells;
+      priors_too = c.in_ok-names.ensures.priors ∙ ap (λ ns. map tracked_name (tracked_of ns)) nodes ∙ ap (map tracked_name) is.over.tracked;
+    }

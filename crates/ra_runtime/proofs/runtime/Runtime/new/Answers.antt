@@ -5,37 +5,41 @@ use Rattle.ra_memref.proofs.AgreeLemmas.{Agrees-marked}
 use Rattle.ra_set.specs.Contents.{set_contents}
 use Rattle.ra_runtime.specs.declared.item_run.ItemRun.{ItemRun}
 use Rattle.ra_runtime.specs.Shapes.{run_shape, IsSmall}
-use Rattle.ra_runtime.proofs.ShapeLemmas.{laid_few, laid_shapes, laid_small, laid_presence, laid_small_presence, have_digits}
+use Rattle.ra_runtime.proofs.ShapeLemmas.{laid_shapes, laid_small, laid_presence, laid_small_presence, have_digits}
+use Rattle.ra_runtime.proofs.SmallShape.{small_shape}
 use Rattle.ra_runtime.proofs.runtime.Runtime.new.Goals as goal
 
-pub shape_over-requires-clause-few : goal.shape_over-requires-clause-few
-shape_over-requires-clause-few c =
-    laid_few (set_contents c.args.set) c.args.size c.in_ok-table.table c.in_ok-table.runs.items c.in_ok-table.presence c.in_ok-table.ensures
+pub shape_over-requires-clause-short : goal.shape_over-requires-clause-short
+shape_over-requires-clause-short c =
+    let laid = c.in_ok-table.ensures.laid in
+    small_shape (set_contents c.args.set) c.requires.limits c.requires.spelled laid.few_cells laid.few_tracked
 
 pub shape_over-requires-clause-small : goal.shape_over-requires-clause-small
 shape_over-requires-clause-small c =
     subst (λ (runs : List ItemRun). All IsSmall (map run_shape runs)) (sym c.deref.ensures.value)
-    (laid_small (set_contents c.args.set) c.args.size c.in_ok-table.table c.in_ok-table.runs.items c.in_ok-table.presence c.in_ok-table.ensures c.requires.limits c.requires.spelled)
+    (laid_small (set_contents c.args.set) c.args.size c.in_ok-table.table c.in_ok-table.runs.items c.in_ok-table.presence c.in_ok-table.ensures.laid c.requires.limits c.requires.spelled)
 
 pub shape_over-requires-clause-items : goal.shape_over-requires-clause-items
 shape_over-requires-clause-items c =
-    ap (map run_shape) c.deref.ensures.value ∙ laid_shapes (set_contents c.args.set) c.args.size c.in_ok-table.table c.in_ok-table.runs.items c.in_ok-table.presence c.in_ok-table.ensures
+    ap (map run_shape) c.deref.ensures.value ∙ laid_shapes (set_contents c.args.set) c.args.size c.in_ok-table.table c.in_ok-table.runs.items c.in_ok-table.presence c.in_ok-table.ensures.laid
 
 pub shape_over-requires-clause-small_presence : goal.shape_over-requires-clause-small_presence
 shape_over-requires-clause-small_presence c =
-    laid_small_presence (set_contents c.args.set) c.args.size c.in_ok-table.table c.in_ok-table.runs.items c.in_ok-table.presence c.in_ok-table.ensures c.requires.limits c.requires.spelled
+    laid_small_presence (set_contents c.args.set) c.args.size c.in_ok-table.table c.in_ok-table.runs.items c.in_ok-table.presence c.in_ok-table.ensures.laid c.requires.limits c.requires.spelled
 
 pub shape_over-requires-clause-presence : goal.shape_over-requires-clause-presence
 shape_over-requires-clause-presence c =
-    laid_presence (set_contents c.args.set) c.args.size c.in_ok-table.table c.in_ok-table.runs.items c.in_ok-table.presence c.in_ok-table.ensures
+    laid_presence (set_contents c.args.set) c.args.size c.in_ok-table.table c.in_ok-table.runs.items c.in_ok-table.presence c.in_ok-table.ensures.laid
 
 pub invariant_of-result : goal.invariant_of-result
 invariant_of-result c =
-    let laid = c.in_ok-table.ensures in
+    let laid = c.in_ok-table.ensures.laid in
     record {
       script = c.requires.spelled.script;
       limits = c.requires.limits;
-      shape = c.in_ok-shape.ensures;
+      shape = c.in_ok-shape.ensures.shape;
+      usable = c.in_ok-shape.ensures.usable;
+      room = c.in_ok-said.ensures;
       over = laid.over;
       runs = laid.runs_too;
       presence = laid.presence_too;

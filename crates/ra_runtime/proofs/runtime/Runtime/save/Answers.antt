@@ -2,7 +2,7 @@ use Rattle.std.proofs.Common.{◌≡◌, ◌<◌, ◌^◌, List, IfOk, map, sym,
 use Rattle.std.proofs.lemmas.Result.{IfOk-weaker}
 use Rattle.ra_set.specs.Contents.{SetContents, set_contents}
 use Rattle.ra_progress.specs.declared.snapshot.Snapshot.{Snapshot}
-use Rattle.ra_progress.specs.Contents.{ShapeContents, kept_item, snapshot_contents, ItemsFit, IsOpening}
+use Rattle.ra_progress.specs.Contents.{ShapeContents, shape_contents, kept_item, snapshot_contents, ItemsFit, IsOpening}
 use Rattle.ra_progress.specs.Spelling.{progress_bytes}
 use Rattle.ra_runtime.specs.declared.item_run.ItemRun.{ItemRun}
 use Rattle.ra_runtime.specs.Runtime.{RuntimeSeen}
@@ -34,5 +34,5 @@ returns-clause-saved c =
     let fit = subst (λ (rs : List ItemRun). ItemsFit (map run_shape rs) (map kept_item c.in_ok-kept_items.field-0.items)) c.deref.ensures.value c.in_ok-kept_items.ensures.fit in
     let opening = opening_taken set c.self.inside.table c.self.inside.runs.items c.self.inside.presence inv.over inv.runs inv.presence (snapshot_contents snapshot) c.new-cells.result.items c.new-priors.result.items c.new-cells.ensures.items c.new-priors.ensures.items small cells priors fit c.in_ok-kept_presence.ensures.same c.in_ok-kept_presence.ensures.fits in
     subst (λ (s : SetContents). IfOk c.encode.result (λ bytes. IsSaved s bytes.items)) (ap (λ (r : RuntimeSeen). r.set) c.self.view_is)
-    (IfOk-weaker c.encode.result (λ bytes. bytes.items ≡ progress_bytes c.self.inside.shape.digest (snapshot_contents snapshot)) (λ bytes. IsSaved set bytes.items)
-    (λ bytes is. record { kept = snapshot_contents snapshot; opening = opening; is = is ∙ ap (λ (s : ShapeContents). progress_bytes s.digest (snapshot_contents snapshot)) inv.shape }) c.encode.ensures)
+    (IfOk-weaker c.encode.result (λ bytes. bytes.items ≡ progress_bytes (shape_contents c.self.inside.shape) (snapshot_contents snapshot)) (λ bytes. IsSaved set bytes.items)
+    (λ bytes is. record { kept = snapshot_contents snapshot; opening = opening; is = is ∙ ap (λ (s : ShapeContents). progress_bytes s (snapshot_contents snapshot)) inv.shape }) c.encode.ensures)

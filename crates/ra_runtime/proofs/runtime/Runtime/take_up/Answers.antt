@@ -1,2 +1,126 @@
-use Rattle.std.proofs.Common.{◌≡◌, ◌<◌, ◌≤◌, ◌^◌, Some, None, List, length, refl, sym, ◌∙◌, ap, subst, arith}
+use Rattle.std.proofs.Common.{◌≡◌, ◌<◌, None, Option, List, length, map, slice_index_or, refl, sym, ◌∙◌, ap, subst, arith}
+use Rattle.std.specs.Vec.{with_items}
+use Rattle.std.proofs.lemmas.List.{with_items_is, length-map}
+use Rattle.ra_indirect.specs.declared.node.Node.{Node}
+use Rattle.ra_memref.proofs.AgreeLemmas.{Agrees-marked}
+use Rattle.ra_set.specs.Contents.{set_contents}
+use Rattle.ra_progress.specs.Contents.{ShapeContents, shape_contents}
+use Rattle.ra_progress.specs.Reading.{IsAccepted}
+use Rattle.ra_progress.specs.Room.{IsRoom, Says}
+use Rattle.ra_progress.specs.Saying.{own_places}
+use Rattle.ra_progress.proofs.Owns.{own_count}
+use Rattle.ra_progress.proofs.Placed.{if_some}
+use Rattle.ra_runtime.specs.declared.item_run.ItemRun.{ItemRun}
+use Rattle.ra_runtime.specs.Order.{shape_of}
+use Rattle.ra_runtime.specs.AllRuns.{AreItemRuns, opening_by}
+use Rattle.ra_runtime.specs.PresenceRuns.{IsOptionalPresence}
+use Rattle.ra_runtime.specs.Restoring.{HasDisplay, TakesNumbers}
+use Rattle.ra_runtime.specs.Runtime.{RuntimeSeen}
+use Rattle.ra_runtime.specs.Shapes.{run_shape}
+use Rattle.ra_runtime.proofs.RestoredRuns.{items_have, display_has}
+use Rattle.ra_runtime.proofs.ShapeLemmas.{runs_shaped, presence_shaped}
+use Rattle.ra_runtime.proofs.Snapshots.{script_has_lines}
+use Rattle.ra_runtime.proofs.TakenUp.{over_restored, marked_restored, kept_restored}
 use Rattle.ra_runtime.proofs.runtime.Runtime.take_up.Goals as goal
+
+pub read-requires-clause-accepted : goal.read-requires-clause-accepted
+read-requires-clause-accepted c =
+    let seen = ap (λ (r : RuntimeSeen). shape_of r.set) c.self.view_is in
+    subst (λ (s : ShapeContents). IsAccepted s c.args.bytes.now) (sym (c.self.invariant.shape ∙ seen)) c.requires
+
+pub put_back_runs-requires-clause-many : goal.put_back_runs-requires-clause-many
+put_back_runs-requires-clause-many c =
+    let t = c.self.inside in
+    let shape = shape_contents t.shape in
+    let inv = c.self.invariant in
+    let shaped = runs_shaped t.table.nodes (set_contents t.set).items t.runs.items inv.runs in
+    let runs : length t.runs.items ≡ length shape.items = sym (length-map t.runs.items run_shape) ∙ ap length shaped ∙ ap (λ (s : ShapeContents). length s.items) (sym inv.shape) in
+    omega (arith, ap length c.deref_mut.ensures.value, ap length c.deref-3.ensures.value, runs, c.read.ensures.room.places, own_count shape inv.usable.searchable.paired)
+
+pub put_back_runs-requires-clause-blocks : goal.put_back_runs-requires-clause-blocks
+put_back_runs-requires-clause-blocks c =
+    let t = c.self.inside in
+    let shape = shape_contents t.shape in
+    let inv = c.self.invariant in
+    let bytes = c.args.bytes.now in
+    let seen = ap (λ (r : RuntimeSeen). shape_of r.set) c.self.view_is in
+    let accepted : IsAccepted shape bytes = subst (λ (s : ShapeContents). IsAccepted s bytes) (sym (inv.shape ∙ seen)) c.requires in
+    let shaped : map run_shape t.runs.items ≡ shape.items = runs_shaped t.table.nodes (set_contents t.set).items t.runs.items inv.runs ∙ ap (λ (s : ShapeContents). s.items) (sym inv.shape) in
+    let same : map run_shape c.deref_mut.result.now ≡ shape.items = ap (map run_shape) c.deref_mut.ensures.value ∙ shaped in
+    let places = c.deref-3.ensures.value ∙ c.read.ensures.says.places in
+    λ k d less.
+    let below : k < length shape.items = omega (arith, less, ap length same, length-map c.deref_mut.result.now run_shape) in
+    rw (places, same) (items_have shape bytes inv.usable.searchable.paired accepted k d below)
+
+pub put_back_presence-requires-clause-shape : goal.put_back_presence-requires-clause-shape
+put_back_presence-requires-clause-shape c =
+    let t = c.self.inside in
+    ap (λ (s : ShapeContents). s.presence) c.self.invariant.shape ∙ sym (presence_shaped t.table.nodes (set_contents t.set).script t.presence c.self.invariant.presence)
+
+pub put_back_presence-requires-clause-block : goal.put_back_presence-requires-clause-block
+put_back_presence-requires-clause-block c =
+    let t = c.self.inside in
+    let set = set_contents t.set in
+    let shape = shape_contents t.shape in
+    let inv = c.self.invariant in
+    let bytes = c.args.bytes.now in
+    let seen = ap (λ (r : RuntimeSeen). shape_of r.set) c.self.view_is in
+    let accepted : IsAccepted shape bytes = subst (λ (s : ShapeContents). IsAccepted s bytes) (sym (inv.shape ∙ seen)) c.requires in
+    let shaped = runs_shaped t.table.nodes set.items t.runs.items inv.runs in
+    let many : c.len.result ≡ length shape.items = omega (arith, c.len.ensures, c.put_back_runs.auto.runs, c.deref_mut.ensures.len, length-map t.runs.items run_shape, ap length shaped, ap (λ (s : ShapeContents). length s.items) inv.shape) in
+    let place : c.place-display.result ≡ slice_index_or (own_places shape bytes) (length shape.items) None = c.place-display.ensures ∙ (λ i. slice_index_or (c.read.ensures.says.places i) (many i) None) in
+    if_some (HasDisplay bytes c.place-display.result) t.shape.presence
+    (λ p some. subst (λ (o : Option _). HasDisplay bytes o p) (sym place) (display_has shape bytes inv.usable.searchable.paired accepted p some (script_has_lines set inv.script p (sym (ap (λ (s : ShapeContents). s.presence) inv.shape) ∙ some))))
+
+pub invariant_of-self : goal.invariant_of-self
+invariant_of-self c =
+    let t = c.self.inside in
+    let set = set_contents t.set in
+    let inv = c.self.invariant in
+    let table = c.take_numbers.new.table in
+    let said = c.read.new.self in
+    let news = c.put_back_runs.new.runs in
+    let room : IsRoom (shape_of set) said = subst (λ (s : ShapeContents). IsRoom s said) inv.shape c.read.ensures.room in
+    let takes : TakesNumbers t.table table said.cells.items said.priors.items = rw (c.deref.ensures.value, c.deref-2.ensures.value) at c.take_numbers.ensures in
+    let same : (with_items t.runs news).items ≡ news = with_items_is t.runs news (c.put_back_runs.auto.runs ∙ c.deref_mut.ensures.len) in
+    let before : AreItemRuns t.table.nodes set.items c.deref_mut.result.now = subst (λ (rs : List ItemRun). AreItemRuns t.table.nodes set.items rs) (sym c.deref_mut.ensures.value) inv.runs in
+    let after : AreItemRuns t.table.nodes set.items news = c.put_back_runs.ensures.runs t.table.nodes set.items before in
+    record {
+      script = inv.script;
+      limits = inv.limits;
+      shape = inv.shape;
+      usable = inv.usable;
+      room = c.read.ensures.room;
+      over = over_restored set t.table table inv.over c.args.bytes.now said room takes;
+      runs = subst (λ (rs : List ItemRun). AreItemRuns table.nodes set.items rs) (sym same) (subst (λ (ns : List Node). AreItemRuns ns set.items news) (sym takes.pool.0) after);
+      presence = subst (λ (ns : List Node). IsOptionalPresence ns set.script c.put_back_presence.new.run) (sym takes.pool.0) (c.put_back_presence.ensures.run t.table.nodes set.script inv.presence);
+      digits = inv.digits;
+      size = takes.pool.1 ∙ inv.size;
+      agrees = Agrees-marked table t.memory _ takes.marked;
+    }
+
+pub returns : goal.returns
+returns c =
+    let t = c.self.inside in
+    let set = set_contents t.set in
+    let inv = c.self.invariant in
+    let table = c.take_numbers.new.table in
+    let said = c.read.new.self in
+    let news = c.put_back_runs.new.runs in
+    let display = c.put_back_presence.new.run in
+    let bytes = c.args.bytes.now in
+    let room : IsRoom (shape_of set) said = subst (λ (s : ShapeContents). IsRoom s said) inv.shape c.read.ensures.room in
+    let says : Says (shape_of set) bytes said = subst (λ (s : ShapeContents). Says s bytes said) inv.shape c.read.ensures.says in
+    let takes : TakesNumbers t.table table said.cells.items said.priors.items = rw (c.deref.ensures.value, c.deref-2.ensures.value) at c.take_numbers.ensures in
+    let same : (with_items t.runs news).items ≡ news = with_items_is t.runs news (c.put_back_runs.auto.runs ∙ c.deref_mut.ensures.len) in
+    let kept = rw (c.deref_mut.ensures.value, c.deref-3.ensures.value) at c.put_back_runs.ensures.kept in
+    let many : c.len.result ≡ length t.runs.items = omega (arith, c.len.ensures, c.put_back_runs.auto.runs, c.deref_mut.ensures.len) in
+    let place : c.place-display.result ≡ slice_index_or said.places.items (length t.runs.items) None = c.place-display.ensures ∙ ap (λ n. slice_index_or said.places.items n None) many in
+    rw (← c.self.view_is) (record {
+      set = refl;
+      image = refl;
+      kept = (λ i. opening_by c.frames_at-self-inside.result table (same i) display) ∙ kept_restored set t.table table inv.over bytes said room takes says t.runs.items news t.presence display inv.runs inv.presence kept c.place-display.result place c.put_back_presence.ensures c.frames_at-self-inside.result c.frames_at-self-inside.ensures;
+      lines = refl;
+      marked = marked_restored set t.table table inv.over bytes said room takes;
+      places = takes.places;
+    })
