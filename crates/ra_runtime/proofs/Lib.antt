@@ -18,6 +18,7 @@ pub mod ItemLemmas
 pub mod ItemWords
 pub mod Law
 pub mod LineLemmas
+pub mod LinesOfEvents
 pub mod MadeLemmas
 pub mod MaskCounts
 pub mod MemberWords

@@ -3,6 +3,7 @@ pub mod BoardLaws
 pub mod BoardRuns
 pub mod Boards
 pub mod Calls
+pub mod Events
 pub mod FoldLaws
 pub mod Histories
 pub mod ItemRuns

@@ -1,16 +1,16 @@
 -- The lines that items print at a frame, none of which sees another item: docs/DEFINITIONS.md, "Printed lines".
-use Rattle.std.specs.Prelude.{ℕ, ◌==◌, ◌&&◌, ◌||◌, not, Bool, true, false, if◌then◌else◌, List, [], ◌∷◌, ◌++◌, codes, decimal, ℤ}
+use Rattle.std.specs.Prelude.{ℕ, ◌==◌, ◌&&◌, ◌||◌, not, Bool, if◌then◌else◌, List, [], ◌∷◌, ◌++◌, codes, decimal}
 use Rattle.std.specs.Fmt.{signed_decimal}
-use Rattle.std.specs.List.{join_with_byte}
-use Rattle.std.specs.Int.{w32, cast_unsigned}
+use Rattle.std.specs.List.{join_with_byte, flat_map}
 use Rattle.ra_value_format.specs.declared.format.Format.{Format}
 use Rattle.ra_value_format.specs.Formats.{formatted}
 use Rattle.ra_trigger.specs.States.{is_primed, is_triggered}
 use Rattle.ra_trigger.specs.Steps.{TriggerKept}
 use Rattle.ra_leaderboard.specs.States.{became_started, became_cancelled, became_submitted}
-use Rattle.ra_leaderboard.specs.declared.state.BoardState.{BoardState}
-use Rattle.ra_leaderboard.specs.declared.state.BoardState.TheVariants.{Started}
+use Rattle.ra_runtime.specs.declared.event.Event.{Event}
+use Rattle.ra_runtime.specs.declared.event.Event.TheVariants.{Measured, Primed, Unprimed, Unlock, Start, Track, Cancel, Submit}
 use Rattle.ra_runtime.specs.Boards.{BoardKept, tracked_number, value_number}
+pub use Rattle.ra_runtime.specs.Events.{is_started, same_number}
 
 -- words with a blank between each two, and a line feed
 abbrev pub line_of : List (List ℕ) → List ℕ
@@ -28,15 +28,6 @@ achievement_lines frame id before after =
     ++ line_if (is_primed before.state && not (is_primed after.state)) (codes "unprimed" ∷ decimal frame ∷ decimal id ∷ [])
     ++ line_if (not (is_triggered before.state) && is_triggered after.state) (codes "unlock" ∷ decimal frame ∷ decimal id ∷ [])
 
--- whether the state is that of an attempt that runs
-abbrev pub is_started : BoardState → Bool
-is_started Started = true
-is_started _ = false
-
--- two signed numbers of 32 bits are the same
-abbrev pub same_number : ℤ → ℤ → Bool
-same_number v w = cast_unsigned w32 v == cast_unsigned w32 w
-
 -- the lines of a board at a frame; while it runs its tracked number is told where it just started or changed
 abbrev pub board_lines : (frame id : ℕ) → Format → (before after : BoardKept) → List ℕ
 board_lines frame id format before after =
@@ -48,3 +39,20 @@ board_lines frame id format before after =
     ++ line_if (became_cancelled before.state after.state) (codes "cancel" ∷ decimal frame ∷ decimal id ∷ [])
     ++ line_if (became_submitted before.state after.state)
     (codes "submit" ∷ decimal frame ∷ decimal id ∷ signed_decimal (value_number after) ∷ formatted format (value_number after) ∷ [])
+
+-- the line of an event at the frame of this number
+abbrev pub event_line : (frame : ℕ) → Event → List ℕ
+event_line frame (Measured id number) = line_of (codes "measured" ∷ decimal frame ∷ decimal id ∷ decimal number ∷ [])
+event_line frame (Primed id) = line_of (codes "primed" ∷ decimal frame ∷ decimal id ∷ [])
+event_line frame (Unprimed id) = line_of (codes "unprimed" ∷ decimal frame ∷ decimal id ∷ [])
+event_line frame (Unlock id) = line_of (codes "unlock" ∷ decimal frame ∷ decimal id ∷ [])
+event_line frame (Start id) = line_of (codes "start" ∷ decimal frame ∷ decimal id ∷ [])
+event_line frame (Track id number format) =
+    line_of (codes "track" ∷ decimal frame ∷ decimal id ∷ formatted format number ∷ [])
+event_line frame (Cancel id) = line_of (codes "cancel" ∷ decimal frame ∷ decimal id ∷ [])
+event_line frame (Submit id number format) =
+    line_of (codes "submit" ∷ decimal frame ∷ decimal id ∷ signed_decimal number ∷ formatted format number ∷ [])
+
+-- the lines of events at the frame of this number
+abbrev pub event_lines : (frame : ℕ) → List Event → List ℕ
+event_lines frame events = flat_map (event_line frame) events

@@ -10,6 +10,8 @@ use Rattle.ra_trace.specs.Entries.{Entry, Written, Framed, Saved, Restored, Show
 use Rattle.ra_runtime.specs.Histories.{achievement_after}
 use Rattle.ra_runtime.specs.Boards.{board_after, opened_board}
 use Rattle.ra_runtime.specs.Presence.{presence_text}
+use Rattle.ra_runtime.specs.declared.event.Event.{Event}
+use Rattle.ra_runtime.specs.Events.{achievement_events, board_events}
 use Rattle.ra_runtime.specs.Lines.{line_of, achievement_lines, board_lines}
 use Rattle.ra_runtime.specs.Openings.{start_of, opened_achievement, frames_after}
 
@@ -27,6 +29,20 @@ abbrev pub lines : SetContents → Opening → History → List ℕ
 lines set o [] = []
 lines set o (image ∷ earlier) =
     flat_map (item_lines (start_of set o) (frames_after o.frames (length earlier)) image earlier) (zip set.items o.items)
+
+-- the events of one item at the last frame, by what it keeps after the history and after that without its last image
+abbrev pub item_events : Start → (image : List ℕ) → (earlier : History) → ItemContents × KeptItem → List Event
+item_events start image earlier (Unlocks id t, opened) =
+    let after = achievement_after start t (opened_achievement opened) in
+    achievement_events id (after earlier) (after (image ∷ earlier))
+item_events start image earlier (Ranks id format b, opened) =
+    let after = board_after start b (opened_board b opened) in
+    board_events id format (after earlier) (after (image ∷ earlier))
+
+-- the events of a set at the last frame, items in set order
+abbrev pub events : SetContents → Opening → History → List Event
+events set o [] = []
+events set o (image ∷ earlier) = flat_map (item_events (start_of set o) image earlier) (zip set.items o.items)
 
 -- the presence line after a history, with the count of frames
 abbrev pub shown_by : Start → (count : ℕ) → History → Option ScriptContents → Option KeptPresence → List ℕ

@@ -3,6 +3,7 @@
 
 mod achievement_run;
 mod board_run;
+mod event;
 mod item_run;
 mod laws;
 mod line_run;
@@ -17,6 +18,9 @@ mod shown;
 mod state_bytes;
 mod written;
 
-pub use laws::{calls_succeed, histories_are_folds, histories_may_be_cut, openings_stand};
+pub use event::Event;
+pub use laws::{
+    calls_succeed, histories_are_folds, histories_may_be_cut, lines_are_of_events, openings_stand,
+};
 pub use runtime::Runtime;
 pub use shapes::shape_of;
