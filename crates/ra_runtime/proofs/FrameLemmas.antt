@@ -13,10 +13,11 @@ use Rattle.ra_runtime.specs.declared.item_run.ItemRun.{ItemRun}
 use Rattle.ra_runtime.specs.declared.presence_run.PresenceRun.{PresenceRun}
 use Rattle.ra_runtime.specs.Order.{trees_in_set, set_cells, set_tracked}
 use Rattle.ra_runtime.specs.Openings.{start_of, snapshot, item_after, number_beside, prior_beside, frames_after, optional_presence}
-use Rattle.ra_runtime.specs.Play.{item_lines, lines}
+use Rattle.ra_runtime.specs.Lines.{event_lines}
+use Rattle.ra_runtime.specs.Play.{item_events, events, lines}
 use Rattle.ra_member.specs.Runs.{HasValues}
 use Rattle.ra_runtime.specs.ItemRuns.{kept_run}
-use Rattle.ra_runtime.specs.AllRuns.{AreStepped, all_lines, opening_by, IsOver}
+use Rattle.ra_runtime.specs.AllRuns.{AreStepped, all_events, opening_by, IsOver}
 use Rattle.ra_runtime.specs.PresenceRuns.{StepsOptional, optional_presence_kept}
 use Rattle.std.proofs.lemmas.List.{length-map}
 use Rattle.ra_runtime.specs.Runtime.{RuntimeSeen, TakesFrame, ReadsFew}
@@ -33,14 +34,14 @@ module _ (table : TableSeen) (start : Start) (image : List ℕ) (has : HasValues
   stepped_kept (item ∷ items) (old ∷ olds) (new ∷ news) are =
       ap₂ (λ x xs. x ∷ xs) (are.0.kept start image has) (stepped_kept items olds news are.1)
 
-  stepped_lines : (frame : ℕ) (items : List ItemContents) (olds news : List ItemRun) → AreStepped table items olds news → all_lines frame items news ≡ flat_map (item_lines start frame image []) (zip items (map kept_run olds))
-  stepped_lines frame [] [] [] are = refl
-  stepped_lines frame [] [] (new ∷ news) are = absurd are
-  stepped_lines frame [] (old ∷ olds) news are = absurd are
-  stepped_lines frame (item ∷ items) [] news are = absurd are
-  stepped_lines frame (item ∷ items) (old ∷ olds) [] are = absurd are
-  stepped_lines frame (item ∷ items) (old ∷ olds) (new ∷ news) are =
-      ap₂ (λ x xs. x ++ xs) (are.0.lines start image frame has) (stepped_lines frame items olds news are.1)
+  stepped_events : (items : List ItemContents) (olds news : List ItemRun) → AreStepped table items olds news → all_events items news ≡ flat_map (item_events start image []) (zip items (map kept_run olds))
+  stepped_events [] [] [] are = refl
+  stepped_events [] [] (new ∷ news) are = absurd are
+  stepped_events [] (old ∷ olds) news are = absurd are
+  stepped_events (item ∷ items) [] news are = absurd are
+  stepped_events (item ∷ items) (old ∷ olds) [] are = absurd are
+  stepped_events (item ∷ items) (old ∷ olds) (new ∷ news) are =
+      ap₂ (λ x xs. x ++ xs) (are.0.events start image has) (stepped_events items olds news are.1)
 
 -- one frame of a display that may be missing
 presence_kept_on : (table : TableSeen) (start : Start) (image : List ℕ) → HasValues table start (image ∷ []) → (script : Option ScriptContents) (old new : Option PresenceRun) → StepsOptional table script old new → optional_presence_kept new ≡ optional_presence start (image ∷ []) script (optional_presence_kept old)
@@ -77,11 +78,13 @@ module _ (set : SetContents) (count : ℕ) (old new : TableSeen) (image : List �
       let presence = presence_kept_on new start image has_values set.script shown shown' steps in
       (λ i. record { frames = frames_after count 1; cells = cells i; priors = priors i; items = items i; presence = presence i })
 
-  pub frame_lines : count < 2 ^ 64 → all_lines count set.items news ≡ lines set kept (image ∷ [])
+  pub frame_events : all_events set.items news ≡ events set kept (image ∷ [])
+  frame_events = stepped_events new start image has_values set.items olds news stepped
+
+  pub frame_lines : count < 2 ^ 64 → event_lines count (all_events set.items news) ≡ lines set kept (image ∷ [])
   frame_lines small =
       let same : frames_after count 0 ≡ count = omega arith in
-      stepped_lines new start image has_values count set.items olds news stepped
-      ∙ ap (λ n. flat_map (item_lines start n image []) (zip set.items (map kept_run olds))) (sym same)
+      ap (event_lines count) frame_events ∙ ap (λ n. event_lines n (events set kept (image ∷ []))) (sym same)
 
   pub over_after : IsOver set new
   over_after =
@@ -94,12 +97,14 @@ module _ (set : SetContents) (count : ℕ) (old new : TableSeen) (image : List �
       }
 
 -- what holds of one frame from the kept opening holds of every opening and history that it stands for
-pub takes_frame : (old new : RuntimeSeen) → new.set ≡ old.set → new.image ≡ old.image → new.kept ≡ snapshot old.set old.kept (old.image ∷ []) → new.lines ≡ lines old.set old.kept (old.image ∷ []) → TakesFrame old new
-takes_frame old new set image kept printed = record {
+pub takes_frame : (old new : RuntimeSeen) → new.set ≡ old.set → new.image ≡ old.image → new.kept ≡ snapshot old.set old.kept (old.image ∷ []) → new.events ≡ events old.set old.kept (old.image ∷ []) → new.lines ≡ lines old.set old.kept (old.image ∷ []) → TakesFrame old new
+takes_frame old new set image kept told printed = record {
   set = set;
   image = image;
   kept = λ o history opening images is.
       kept ∙ ap (λ k. snapshot old.set k (old.image ∷ [])) is ∙ sym ((cuts_anywhere old.set).kept o history (old.image ∷ []) opening);
+  events = λ o history opening images is.
+      told ∙ ap (λ k. events old.set k (old.image ∷ [])) is ∙ sym ((cuts_anywhere old.set).tells o history (old.image ∷ []) opening (λ e. let bad : old.image ∷ [] ≡ [] = e in cc));
   lines = λ o history opening images is.
       printed ∙ ap (λ k. lines old.set k (old.image ∷ [])) is ∙ sym ((cuts_anywhere old.set).prints o history (old.image ∷ []) opening (λ e. let bad : old.image ∷ [] ≡ [] = e in cc));
 }

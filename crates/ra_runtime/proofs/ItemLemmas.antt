@@ -1,13 +1,11 @@
 -- One frame of an item by its run is one frame of it by the definitions.
-use Rattle.std.proofs.Common.{◌≡◌, ℕ, ℤ, ◌&&◌, ◌||◌, ◌==◌, Bool, true, false, not, if◌then◌else◌, None, Some, List, [], ◌∷◌, ◌++◌, codes, decimal, refl, sym, ◌∙◌, ap, ap₂, arith}
+use Rattle.std.proofs.Common.{◌≡◌, ℕ, ℤ, ◌&&◌, ◌||◌, ◌==◌, Bool, true, false, not, if◌then◌else◌, None, Some, List, [], ◌∷◌, ◌++◌, refl, sym, ◌∙◌, ap, ap₂, arith}
 use Rattle.ra_condition.specs.Contents.{TriggerContents}
 use Rattle.ra_indirect.specs.declared.node.Node.{Node}
 use Rattle.ra_memref.specs.Table.{TableSeen}
 use Rattle.ra_trigger.specs.Kept.{change_between}
 use Rattle.ra_trigger.specs.Steps.{TriggerKept}
 use Rattle.ra_value_format.specs.declared.format.Format.{Format}
-use Rattle.ra_value_format.specs.Formats.{formatted}
-use Rattle.std.specs.Fmt.{signed_decimal}
 use Rattle.ra_leaderboard.specs.declared.state.BoardState.{BoardState}
 use Rattle.ra_leaderboard.specs.States.{became_started, became_cancelled, became_submitted}
 use Rattle.ra_leaderboard.specs.Contents.{BoardContents}
@@ -17,27 +15,29 @@ use Rattle.ra_runtime.specs.declared.achievement_run.AchievementRun.{Achievement
 use Rattle.ra_runtime.specs.declared.board_run.BoardRun.{BoardRun}
 use Rattle.ra_runtime.specs.declared.item_run.ItemRun.TheVariants.{Achievement, Leaderboard}
 use Rattle.ra_runtime.specs.Boards.{tracked_number, value_number, board_after, kept_board}
-use Rattle.ra_runtime.specs.Lines.{line_if, is_started, same_number, achievement_lines, board_lines}
+use Rattle.ra_runtime.specs.declared.event.Event.{Event}
+use Rattle.ra_runtime.specs.declared.event.Event.TheVariants as events
+use Rattle.ra_runtime.specs.Events.{event_if, is_started, same_number, achievement_events, board_events}
 use Rattle.ra_runtime.specs.Openings.{kept_achievement}
 use Rattle.ra_runtime.specs.Histories.{achievement_after}
 use Rattle.ra_runtime.specs.Order.{board_member}
 use Rattle.ra_runtime.specs.Runs.{StepsAchievement}
 use Rattle.ra_runtime.specs.BoardRuns.{IsBoardRun, StepsBoard, board_kept}
-use Rattle.ra_runtime.specs.RunLines.{measured_line, change_lines, board_run_lines}
+use Rattle.ra_runtime.specs.RunEvents.{measured_event, change_events, board_run_events}
 use Rattle.ra_runtime.specs.ItemRuns.{StepsItem}
 use Rattle.ra_runtime.proofs.Again.{achievement_again, board_again}
 
 same_turned : (m n : ℕ) → (m == n) ≡ (n == m)
 same_turned m n = grind arith
 
-measured_same : (frame id m n : ℕ) (same : Bool) → measured_line frame id (if same then None else Some n) ≡ line_if (not same) (codes "measured" ∷ decimal frame ∷ decimal id ∷ decimal n ∷ [])
-measured_same frame id m n true = refl
-measured_same frame id m n false = refl
+measured_same : (id n : ℕ) (same : Bool) → measured_event id (if same then None else Some n) ≡ event_if (not same) (events.Measured id n)
+measured_same id n true = refl
+measured_same id n false = refl
 
--- the lines by the record of a frame are those by what stood before and after it
-change_written : (frame id : ℕ) (old new : TriggerKept) → change_lines frame id (change_between old new) ≡ achievement_lines frame id old new
-change_written frame id old new =
-    rw (measured_same frame id old.measured new.measured (new.measured == old.measured), same_turned new.measured old.measured) refl
+-- the events by the record of a frame are those by what stood before and after it
+change_told : (id : ℕ) (old new : TriggerKept) → change_events id (change_between old new) ≡ achievement_events id old new
+change_told id old new =
+    rw (measured_same id new.measured (new.measured == old.measured), same_turned new.measured old.measured) refl
 
 pub achievement_item : (table : TableSeen) (id : ℕ) (t : TriggerContents) (old new : AchievementRun) → StepsAchievement table t old new → StepsItem table (Unlocks id t) (Achievement old) (Achievement new)
 achievement_item table id t old new steps =
@@ -45,32 +45,32 @@ achievement_item table id t old new steps =
     record {
       kept = λ start image has.
           ap₂ kept_achievement steps.earned (steps.trigger.kept start (image ∷ []) has ∙ ap (λ k. achievement_after start t k (image ∷ [])) again);
-      lines = λ start image frame has.
-          ap (change_lines frame id) steps.trigger.told
-          ∙ change_written frame id old.run.trigger new.run.trigger
-          ∙ ap₂ (achievement_lines frame id) again (steps.trigger.kept start (image ∷ []) has ∙ ap (λ k. achievement_after start t k (image ∷ [])) again);
+      events = λ start image has.
+          ap (change_events id) steps.trigger.told
+          ∙ change_told id old.run.trigger new.run.trigger
+          ∙ ap₂ (achievement_events id) again (steps.trigger.kept start (image ∷ []) has ∙ ap (λ k. achievement_after start t k (image ∷ [])) again);
     }
 
--- the lines of a board by states and numbers
-abbrev lines_with : (frame id : ℕ) → Format → (before after : BoardState) → (tracked_before tracked value : ℤ) → List ℕ
-lines_with frame id format before after tracked_before tracked value =
+-- the events of a board by states and numbers
+abbrev events_with : (id : ℕ) → Format → (before after : BoardState) → (tracked_before tracked value : ℤ) → List Event
+events_with id format before after tracked_before tracked value =
     let started = became_started before after in
     let changed = not (same_number tracked_before tracked) in
-    line_if started (codes "start" ∷ decimal frame ∷ decimal id ∷ [])
-    ++ line_if (is_started after && (started || changed)) (codes "track" ∷ decimal frame ∷ decimal id ∷ formatted format tracked ∷ [])
-    ++ line_if (became_cancelled before after) (codes "cancel" ∷ decimal frame ∷ decimal id ∷ [])
-    ++ line_if (became_submitted before after) (codes "submit" ∷ decimal frame ∷ decimal id ∷ signed_decimal value ∷ formatted format value ∷ [])
+    event_if started (events.Start id)
+    ++ event_if (is_started after && (started || changed)) (events.Track id tracked format)
+    ++ event_if (became_cancelled before after) (events.Cancel id)
+    ++ event_if (became_submitted before after) (events.Submit id value format)
 
-board_written : (table : TableSeen) (frame id : ℕ) (format : Format) (b : BoardContents) (old new : BoardRun) → StepsBoard table b old new → board_run_lines frame id format new ≡ board_lines frame id format (board_kept old) (board_kept new)
-board_written table frame id format b old new steps =
-    (λ i. lines_with frame id format (steps.before i) (steps.after i) (steps.tracked i) (tracked_number (board_kept new)) (value_number (board_kept new)))
+board_told : (table : TableSeen) (id : ℕ) (format : Format) (b : BoardContents) (old new : BoardRun) → StepsBoard table b old new → board_run_events id format new ≡ board_events id format (board_kept old) (board_kept new)
+board_told table id format b old new steps =
+    (λ i. events_with id format (steps.before i) (steps.after i) (steps.tracked i) (tracked_number (board_kept new)) (value_number (board_kept new)))
 
 pub board_item : (nodes : List Node) (table : TableSeen) (id : ℕ) (format : Format) (b : BoardContents) (old new : BoardRun) → IsBoardRun nodes b old → StepsBoard table b old new → StepsItem table (Ranks id format b) (Leaderboard old) (Leaderboard new)
 board_item nodes table id format b old new is steps =
     let again = sym (board_again b (board_kept old) (member_shape nodes (board_member b) old.member is)) in
     record {
       kept = λ start image has. ap kept_board (steps.kept start image has ∙ ap (λ k. board_after start b k (image ∷ [])) again);
-      lines = λ start image frame has.
-          board_written table frame id format b old new steps
-          ∙ ap₂ (board_lines frame id format) again (steps.kept start image has ∙ ap (λ k. board_after start b k (image ∷ [])) again);
+      events = λ start image has.
+          board_told table id format b old new steps
+          ∙ ap₂ (board_events id format) again (steps.kept start image has ∙ ap (λ k. board_after start b k (image ∷ [])) again);
     }

@@ -1,4 +1,4 @@
--- The law of cuts: what a set keeps, prints and shows after a history is what it does from the opening at any
+-- The law of cuts: what a set keeps, tells, prints and shows after a history is what it does from the opening at any
 -- frame of it, over the frames since then.
 use Rattle.std.proofs.Common.{◌≡◌, ◌≢◌, ℕ, ◌+◌, ◌||◌, Bool, true, false, if◌then◌else◌, Option, None, Some, option_map, List, [], ◌∷◌, ◌++◌, length, map, zip, refl, sym, ◌∙◌, ap, arith, length-append, codes, decimal}
 use Rattle.std.specs.List.{flat_map}
@@ -17,9 +17,10 @@ use Rattle.ra_runtime.specs.Order.{board_member, trees_in_item, trees_in_line, l
 use Rattle.ra_runtime.specs.Histories.{achievement_after}
 use Rattle.ra_runtime.specs.Boards.{BoardKept, board_after, opened_board, kept_board}
 use Rattle.ra_runtime.specs.Presence.{opened_display, kept_display, display_text}
-use Rattle.ra_runtime.specs.Lines.{line_of, achievement_lines, board_lines}
+use Rattle.ra_runtime.specs.Events.{achievement_events, board_events}
+use Rattle.ra_runtime.specs.Lines.{line_of, event_lines}
 use Rattle.ra_runtime.specs.Openings.{start_of, opened_achievement, kept_achievement, is_earned, item_after, optional_presence, frames_after, snapshot}
-use Rattle.ra_runtime.specs.Play.{item_lines, lines, shown_by, shown}
+use Rattle.ra_runtime.specs.Play.{item_events, events, lines, shown_by, shown}
 use Rattle.ra_runtime.specs.Runtime.{CutsAnywhere}
 use Rattle.ra_member.proofs.GoingOn.{GoesOn, goes_on}
 use Rattle.ra_member.proofs.Listed.{In_front, In_behind}
@@ -80,24 +81,24 @@ module _ (start opened : Start) (earlier : History) where
       let rest = items_go_on items (goes_behind start opened earlier (trees_in_item item) (flat_map trees_in_item items) alike) kept fits.1 later in
       (λ i. first i ∷ rest i)
 
-  -- the lines of an item at the last frame
-  line_goes_on : (item : ItemContents) → GoesOn start opened earlier (trees_in_item item) → (kept : KeptItem) → ItemFits (item_shape item) kept → (frame : ℕ) (image : List ℕ) (later : History) → item_lines start frame image (later ++ earlier) (item, kept) ≡ item_lines opened frame image later (item, item_after start earlier (item, kept))
-  line_goes_on (Unlocks id t) alike kept fits frame image later =
+  -- the events of an item at the last frame
+  events_of_item : (item : ItemContents) → GoesOn start opened earlier (trees_in_item item) → (kept : KeptItem) → ItemFits (item_shape item) kept → (image : List ℕ) (later : History) → item_events start image (later ++ earlier) (item, kept) ≡ item_events opened image later (item, item_after start earlier (item, kept))
+  events_of_item (Unlocks id t) alike kept fits image later =
       let before = achievement_goes_on t alike (opened_achievement kept) (is_earned kept) later in
       let after = achievement_goes_on t alike (opened_achievement kept) (is_earned kept) (image ∷ later) in
-      (λ i. achievement_lines frame id (before i) (after i))
-  line_goes_on (Ranks id format b) alike kept fits frame image later =
+      (λ i. achievement_events id (before i) (after i))
+  events_of_item (Ranks id format b) alike kept fits image later =
       let opened_fit = opened_fits b id format kept fits in
       let before = board_goes_on b alike (opened_board b kept) opened_fit later in
       let after = board_goes_on b alike (opened_board b kept) opened_fit (image ∷ later) in
-      (λ i. board_lines frame id format (before i) (after i))
+      (λ i. board_events id format (before i) (after i))
 
-  lines_go_on : (items : List ItemContents) → GoesOn start opened earlier (flat_map trees_in_item items) → (kept : List KeptItem) → ItemsFit (map item_shape items) kept → (frame : ℕ) (image : List ℕ) (later : History) → flat_map (item_lines start frame image (later ++ earlier)) (zip items kept) ≡ flat_map (item_lines opened frame image later) (zip items (map (item_after start earlier) (zip items kept)))
-  lines_go_on [] alike kept fits frame image later = refl
-  lines_go_on (item ∷ items) alike [] fits frame image later = refl
-  lines_go_on (item ∷ items) alike (k ∷ kept) fits frame image later =
-      let first = line_goes_on item (goes_front start opened earlier (trees_in_item item) (flat_map trees_in_item items) alike) k fits.0 frame image later in
-      let rest = lines_go_on items (goes_behind start opened earlier (trees_in_item item) (flat_map trees_in_item items) alike) kept fits.1 frame image later in
+  events_go_on : (items : List ItemContents) → GoesOn start opened earlier (flat_map trees_in_item items) → (kept : List KeptItem) → ItemsFit (map item_shape items) kept → (image : List ℕ) (later : History) → flat_map (item_events start image (later ++ earlier)) (zip items kept) ≡ flat_map (item_events opened image later) (zip items (map (item_after start earlier) (zip items kept)))
+  events_go_on [] alike kept fits image later = refl
+  events_go_on (item ∷ items) alike [] fits image later = refl
+  events_go_on (item ∷ items) alike (k ∷ kept) fits image later =
+      let first = events_of_item item (goes_front start opened earlier (trees_in_item item) (flat_map trees_in_item items) alike) k fits.0 image later in
+      let rest = events_go_on items (goes_behind start opened earlier (trees_in_item item) (flat_map trees_in_item items) alike) kept fits.1 image later in
       (λ i. first i ++ rest i)
 
   -- what is kept of the presence
@@ -121,7 +122,7 @@ length_both : (later earlier : History) → length (later ++ earlier) ≡ length
 length_both later earlier = length-append later earlier
 
 pub cuts_anywhere : (set : SetContents) → CutsAnywhere set
-cuts_anywhere set = record { kept = kept; shows = shows; prints = prints }
+cuts_anywhere set = record { kept = kept; shows = shows; prints = prints; tells = tells }
   where
     items_alike : (o : Opening) (earlier : History) → GoesOn (start_of set o) (start_of set (snapshot set o earlier)) earlier (flat_map trees_in_item set.items)
     items_alike o earlier =
@@ -153,10 +154,13 @@ cuts_anywhere set = record { kept = kept; shows = shows; prints = prints }
         ap (λ n. shown_by start n (later ++ earlier) set.script o.presence) (counts o earlier later)
         ∙ shown_goes_on start opened earlier (frames_after (snapshot set o earlier).frames (length later)) set.script (script_alike o earlier) o.presence fits.presence later
 
+    tells : (o : Opening) (earlier later : History) → IsOpening (shape_of set) o → later ≢ [] → events set o (later ++ earlier) ≡ events set (snapshot set o earlier) later
+    tells o earlier [] fits some = absurd (some refl)
+    tells o earlier (image ∷ later) fits some =
+        events_go_on (start_of set o) (start_of set (snapshot set o earlier)) earlier set.items (items_alike o earlier) o.items fits.items image later
+
     prints : (o : Opening) (earlier later : History) → IsOpening (shape_of set) o → later ≢ [] → lines set o (later ++ earlier) ≡ lines set (snapshot set o earlier) later
     prints o earlier [] fits some = absurd (some refl)
     prints o earlier (image ∷ later) fits some =
-        let start : Start = start_of set o in
-        let opened : Start = start_of set (snapshot set o earlier) in
-        ap (λ n. flat_map (item_lines start n image (later ++ earlier)) (zip set.items o.items)) (counts o earlier later)
-        ∙ lines_go_on start opened earlier set.items (items_alike o earlier) o.items fits.items (frames_after (snapshot set o earlier).frames (length later)) image later
+        ap (λ n. event_lines n (events set o (image ∷ (later ++ earlier)))) (counts o earlier later)
+        ∙ ap (event_lines (frames_after (snapshot set o earlier).frames (length later))) (tells o earlier (image ∷ later) fits some)

@@ -8,6 +8,7 @@ pub mod Covered
 pub mod Digests
 pub mod DisplayRows
 pub mod Each
+pub mod EventLemmas
 pub mod Fitting
 pub mod FoldedBoards
 pub mod FoldedLines
@@ -15,10 +16,10 @@ pub mod FrameLemmas
 pub mod GroupWords
 pub mod ItemCuts
 pub mod ItemLemmas
+pub mod ItemStates
 pub mod ItemWords
 pub mod Law
 pub mod LineLemmas
-pub mod LinesOfEvents
 pub mod MadeLemmas
 pub mod MaskCounts
 pub mod MemberWords

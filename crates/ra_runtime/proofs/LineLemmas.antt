@@ -7,7 +7,3 @@ track_words frame id text = simp append_assoc
 
 pub submit_words : (frame id value text : List ℕ) → (codes "submit " ++ (frame ++ 32 ∷ (id ++ 32 ∷ (value ++ 32 ∷ [])))) ++ (text ++ 10 ∷ []) ≡ line_of (codes "submit" ∷ frame ∷ id ∷ value ∷ text ∷ [])
 submit_words frame id value text = simp append_assoc
-
--- four texts in a row
-pub four_rows : (old a b c d : List ℕ) → (((old ++ a) ++ b) ++ c) ++ d ≡ old ++ (((a ++ b) ++ c) ++ d)
-four_rows old a b c d = simp append_assoc

@@ -1,7 +1,7 @@
 -- All items, one after the other.
-use Rattle.std.proofs.Common.{◌≡◌, ℕ, zero, suc, ◌+◌, ◌<◌, List, [], ◌∷◌, ◌++◌, length, map, take, drop, get_or, refl, sym, ◌∙◌, ap, subst, arith, add-one, append_assoc}
+use Rattle.std.proofs.Common.{◌≡◌, ℕ, zero, suc, ◌+◌, ◌<◌, List, [], ◌∷◌, ◌++◌, length, map, take, drop, get_or, refl, sym, ◌∙◌, ap, subst, arith, add-one}
 use Rattle.std.proofs.Common.{set}
-use Rattle.std.proofs.lemmas.List.{append-nil, map_more, take_more, take_more_set, get_or-drop, drop-set-lt, length-map, length-take, get_or-map}
+use Rattle.std.proofs.lemmas.List.{map_more, take_more, take_more_set, get_or-drop, drop-set-lt, length-map, get_or-map}
 use Rattle.std.proofs.Math.Seq.{drop-cons}
 use Rattle.ra_indirect.specs.declared.node.Node.{Node}
 use Rattle.ra_memref.specs.Table.{TableSeen}
@@ -9,8 +9,7 @@ use Rattle.ra_set.specs.declared.item.Item.{Item}
 use Rattle.ra_set.specs.Contents.{ItemContents, item_contents}
 use Rattle.ra_runtime.specs.declared.item_run.ItemRun.{ItemRun}
 use Rattle.ra_runtime.specs.ItemRuns.{IsItemRun, StepsItem}
-use Rattle.ra_runtime.specs.RunLines.{run_lines, HasItemDigits}
-use Rattle.ra_runtime.specs.AllRuns.{AreItemRuns, AreStepped, HaveDigits, all_lines}
+use Rattle.ra_runtime.specs.AllRuns.{AreItemRuns, AreStepped}
 
 module _ (nodes : List Node) where
   pub length_runs : (items : List ItemContents) (runs : List ItemRun) → AreItemRuns nodes items runs → length runs ≡ length items
@@ -38,19 +37,6 @@ stepped_more table [] (o ∷ olds) news item old new are steps = absurd are
 stepped_more table (i ∷ items) [] news item old new are steps = absurd are
 stepped_more table (i ∷ items) (o ∷ olds) [] item old new are steps = absurd are
 stepped_more table (i ∷ items) (o ∷ olds) (n ∷ news) item old new are steps = (are.0, stepped_more table items olds news item old new are.1 steps)
-
-pub digits_at : (items : List ItemContents) → HaveDigits items → (k : ℕ) (d : ItemContents) → k < length items → HasItemDigits (get_or items k d)
-digits_at [] have k d within = absurd (omega arith)
-digits_at (item ∷ items) have zero d within = have.0
-digits_at (item ∷ items) have (suc k) d within = digits_at items have.1 k d (omega arith)
-
-pub lines_more : (frame : ℕ) (items : List ItemContents) (runs : List ItemRun) (item : ItemContents) (run : ItemRun) → length runs ≡ length items → all_lines frame (items ++ item ∷ []) (runs ++ run ∷ []) ≡ all_lines frame items runs ++ run_lines frame item run
-lines_more frame [] [] item run same = append-nil (run_lines frame item run)
-lines_more frame [] (r ∷ runs) item run same = absurd (omega arith)
-lines_more frame (i ∷ items) [] item run same = absurd (omega arith)
-lines_more frame (i ∷ items) (r ∷ runs) item run same =
-    ap (λ l. run_lines frame i r ++ l) (lines_more frame items runs item run (omega arith))
-    ∙ sym (append_assoc (run_lines frame i r) (all_lines frame items runs) (run_lines frame item run))
 
 -- one element more of each list
 items_more : (items : List Item) (k : ℕ) (item : Item) → k < length items → item ≡ get_or items k item → map item_contents (take (k + 1) items) ≡ map item_contents (take k items) ++ item_contents item ∷ []
@@ -86,14 +72,3 @@ module _ (table : TableSeen) (items : List Item) (olds runs : List ItemRun) (k :
       let there : get_or olds k run ≡ get_or runs k run = ap (λ n. get_or olds n run) (let e : k ≡ k + 0 = omega arith in e) ∙ sym (get_or-drop k olds 0 run) ∙ ap (λ l. get_or l 0 run) (sym rest) ∙ get_or-drop k runs 0 run ∙ ap (λ n. get_or runs n run) (let e : k + 0 ≡ k = omega arith in e) in
       let seen : get_or (map item_contents items) k (item_contents item) ≡ item_contents item = get_or-map item_contents items k item (item_contents item) within ∙ ap item_contents (sym is) in
       subst (λ (x : ItemContents). IsItemRun table.nodes x (get_or runs k run)) seen (subst (λ (x : ItemRun). IsItemRun table.nodes (get_or (map item_contents items) k (item_contents item)) x) there one)
-
-pub digits_step : (items : List Item) (k : ℕ) (item : Item) → HaveDigits (map item_contents items) → k < length items → item ≡ get_or items k item → HasItemDigits (item_contents item)
-digits_step items k item have within is =
-    let one : HasItemDigits (get_or (map item_contents items) k (item_contents item)) = digits_at (map item_contents items) have k (item_contents item) (omega (arith, length-map items item_contents)) in
-    let seen : get_or (map item_contents items) k (item_contents item) ≡ item_contents item = get_or-map item_contents items k item (item_contents item) within ∙ ap item_contents (sym is) in
-    subst HasItemDigits seen one
-
-pub lines_step : (frame : ℕ) (items : List Item) (runs : List ItemRun) (k : ℕ) (item : Item) (run : ItemRun) → length runs ≡ length items → k < length items → item ≡ get_or items k item → all_lines frame (map item_contents (take (k + 1) items)) (take (k + 1) runs) ≡ all_lines frame (map item_contents (take k items)) (take k runs) ++ run_lines frame (item_contents item) (get_or runs k run)
-lines_step frame items runs k item run same within is =
-    let many : length (take k runs) ≡ length (map item_contents (take k items)) = omega (arith, length-map (take k items) item_contents, length-take k runs, length-take k items) in
-    rw (items_more items k item within is, take_more runs k run (omega arith)) (lines_more frame (map item_contents (take k items)) (take k runs) (item_contents item) (get_or runs k run) many)

@@ -1,4 +1,4 @@
--- How all items of a set are kept and stepped, and their lines: docs/DEFINITIONS.md, "What a runtime keeps".
+-- How all items of a set are kept and stepped, and their events: docs/DEFINITIONS.md, "What a runtime keeps".
 use Rattle.std.specs.Prelude.{◌≡◌, ℕ, Option, List, [], ◌∷◌, ◌++◌, length, map}
 use Rattle.ra_indirect.specs.Pools.{cells_of, tracked_of}
 use Rattle.ra_progress.specs.Contents.{Opening}
@@ -10,7 +10,8 @@ use Rattle.ra_runtime.specs.declared.item_run.ItemRun.{ItemRun}
 use Rattle.ra_runtime.specs.declared.presence_run.PresenceRun.{PresenceRun}
 use Rattle.ra_runtime.specs.PresenceRuns.{optional_presence_kept}
 use Rattle.ra_runtime.specs.ItemRuns.{IsItemRun, StepsItem, kept_run}
-use Rattle.ra_runtime.specs.RunLines.{run_lines, HasItemDigits}
+use Rattle.ra_runtime.specs.declared.event.Event.{Event}
+use Rattle.ra_runtime.specs.RunEvents.{run_events, HasItemDigits}
 
 -- each item with its plans
 abbrev pub AreItemRuns : List Node → List ItemContents → List ItemRun → Type 0
@@ -24,10 +25,10 @@ AreStepped table [] [] [] = Unit {0}
 AreStepped table (item ∷ items) (old ∷ olds) (new ∷ news) = StepsItem table item old new × AreStepped table items olds news
 AreStepped table _ _ _ = ⊥
 
--- the lines of all items, in set order
-abbrev pub all_lines : (frame : ℕ) → List ItemContents → List ItemRun → List ℕ
-all_lines frame (item ∷ items) (run ∷ runs) = run_lines frame item run ++ all_lines frame items runs
-all_lines frame _ _ = []
+-- the events of all items, in set order
+abbrev pub all_events : List ItemContents → List ItemRun → List Event
+all_events (item ∷ items) (run ∷ runs) = run_events item run ++ all_events items runs
+all_events _ _ = []
 
 -- the format of each board has digits
 abbrev pub HaveDigits : List ItemContents → Type 0

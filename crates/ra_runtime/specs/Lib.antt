@@ -7,6 +7,8 @@ pub mod Events
 pub mod FoldLaws
 pub mod Histories
 pub mod ItemRuns
+pub mod ItemStates
+pub mod Left
 pub mod Lines
 pub mod NewPresence
 pub mod Openings
@@ -18,7 +20,7 @@ pub mod Presence
 pub mod PresenceLaws
 pub mod PresenceRuns
 pub mod Restoring
-pub mod RunLines
+pub mod RunEvents
 pub mod Runs
 pub mod Runtime
 pub mod Saving

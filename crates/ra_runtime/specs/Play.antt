@@ -1,4 +1,4 @@
--- What a set prints over the records of a trace: docs/DEFINITIONS.md, "Frames that lie behind" and "Printed lines".
+-- What a set tells and prints over the records of a trace: docs/DEFINITIONS.md, "Events", "Frames that lie behind" and "Printed lines".
 use Rattle.std.specs.Prelude.{ℕ, Option, None, Some, List, [], ◌∷◌, ◌++◌, length, replicate, zip, codes, decimal, slice_set, slice_index_or}
 use Rattle.std.specs.List.{flat_map}
 use Rattle.ra_set.specs.Contents.{ItemContents, Unlocks, Ranks, SetContents}
@@ -12,23 +12,8 @@ use Rattle.ra_runtime.specs.Boards.{board_after, opened_board}
 use Rattle.ra_runtime.specs.Presence.{presence_text}
 use Rattle.ra_runtime.specs.declared.event.Event.{Event}
 use Rattle.ra_runtime.specs.Events.{achievement_events, board_events}
-use Rattle.ra_runtime.specs.Lines.{line_of, achievement_lines, board_lines}
+use Rattle.ra_runtime.specs.Lines.{line_of, event_lines}
 use Rattle.ra_runtime.specs.Openings.{start_of, opened_achievement, frames_after}
-
--- the lines of one item at the last frame, by what it keeps after the history and after that without its last image
-abbrev pub item_lines : Start → (frame : ℕ) → (image : List ℕ) → (earlier : History) → ItemContents × KeptItem → List ℕ
-item_lines start frame image earlier (Unlocks id t, opened) =
-    let after = achievement_after start t (opened_achievement opened) in
-    achievement_lines frame id (after earlier) (after (image ∷ earlier))
-item_lines start frame image earlier (Ranks id format b, opened) =
-    let after = board_after start b (opened_board b opened) in
-    board_lines frame id format (after earlier) (after (image ∷ earlier))
-
--- the lines of a set at the last frame, items in set order; its number is the count before it
-abbrev pub lines : SetContents → Opening → History → List ℕ
-lines set o [] = []
-lines set o (image ∷ earlier) =
-    flat_map (item_lines (start_of set o) (frames_after o.frames (length earlier)) image earlier) (zip set.items o.items)
 
 -- the events of one item at the last frame, by what it keeps after the history and after that without its last image
 abbrev pub item_events : Start → (image : List ℕ) → (earlier : History) → ItemContents × KeptItem → List Event
@@ -43,6 +28,12 @@ item_events start image earlier (Ranks id format b, opened) =
 abbrev pub events : SetContents → Opening → History → List Event
 events set o [] = []
 events set o (image ∷ earlier) = flat_map (item_events (start_of set o) image earlier) (zip set.items o.items)
+
+-- the lines of a set at the last frame, those of its events; its number is the count before it
+abbrev pub lines : SetContents → Opening → History → List ℕ
+lines set o [] = []
+lines set o (image ∷ earlier) =
+    event_lines (frames_after o.frames (length earlier)) (events set o (image ∷ earlier))
 
 -- the presence line after a history, with the count of frames
 abbrev pub shown_by : Start → (count : ℕ) → History → Option ScriptContents → Option KeptPresence → List ℕ

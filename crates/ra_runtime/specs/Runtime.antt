@@ -8,25 +8,28 @@ use Rattle.ra_progress.specs.Contents.{Opening, IsOpening}
 use Rattle.ra_progress.specs.Saying.{says}
 use Rattle.ra_runtime.specs.Order.{set_cells, shape_of}
 use Rattle.ra_runtime.specs.Openings.{start_of, snapshot, plain_opening}
-use Rattle.ra_runtime.specs.Play.{lines, shown}
+use Rattle.ra_runtime.specs.declared.event.Event.{Event}
+use Rattle.ra_runtime.specs.Play.{events, lines, shown}
 
--- what a caller sees of a runtime: its set, the image, and what it keeps and prints
+-- what a caller sees of a runtime: its set, the image, and what it keeps, tells and prints
 pub record RuntimeSeen : Type 0 where
   pub set : SetContents
   pub image : List ℕ
   -- the opening that it keeps
   pub kept : Opening
-  -- the lines of the last frame
+  -- the events of the last frame, and their lines
+  pub events : List Event
   pub lines : List ℕ
   -- which cells of the set are marked, and where each lies
   pub marked : List Bool
   pub places : List ℕ
 
--- A runtime over an image of zeros: the plain opening, no lines, and each cell marked and at its address.
+-- A runtime over an image of zeros: the plain opening, no events and no lines, and each cell marked and at its address.
 pub record IsMade (set : SetContents) (size : ℕ) (runtime : RuntimeSeen) : Type 0 where
   pub set_too : runtime.set ≡ set
   pub image : runtime.image ≡ replicate size 0
   pub kept : runtime.kept ≡ plain_opening set
+  pub events : runtime.events ≡ []
   pub lines : runtime.lines ≡ []
   pub marked : runtime.marked ≡ replicate (length (set_cells set)) true
   pub places : runtime.places ≡ map (λ c. c.address) (set_cells set)
@@ -41,6 +44,7 @@ pub record TakesFrame (old new : RuntimeSeen) : Type 0 where
   pub set : new.set ≡ old.set
   pub image : new.image ≡ old.image
   pub kept : (o : Opening) (history : History) → IsOpening (shape_of old.set) o → AreImages history → old.kept ≡ snapshot old.set o history → new.kept ≡ snapshot old.set o (old.image ∷ history)
+  pub events : (o : Opening) (history : History) → IsOpening (shape_of old.set) o → AreImages history → old.kept ≡ snapshot old.set o history → new.events ≡ events old.set o (old.image ∷ history)
   pub lines : (o : Opening) (history : History) → IsOpening (shape_of old.set) o → AreImages history → old.kept ≡ snapshot old.set o history → new.lines ≡ lines old.set o (old.image ∷ history)
 
 -- A frame reads the cells that are marked or moved, and leaves none marked.
@@ -49,11 +53,12 @@ pub record ReadsFew (old new : RuntimeSeen) (reads : ℕ) : Type 0 where
   pub places : (o : Opening) (history : History) → IsOpening (shape_of old.set) o → old.kept ≡ snapshot old.set o history → new.places ≡ map (λ c. cell_place (start_of old.set o) c (old.image ∷ history)) (set_cells old.set)
   pub counted : reads ≡ reads_of old.marked old.places new.places
 
--- A restore keeps what the bytes say: the last lines go, set and image stay.
+-- A restore keeps what the bytes say: the last events and lines go, set and image stay.
 pub record TakesUp (old new : RuntimeSeen) (bytes : List ℕ) : Type 0 where
   pub set : new.set ≡ old.set
   pub image : new.image ≡ old.image
   pub kept : new.kept ≡ says (shape_of old.set) bytes
+  pub events : new.events ≡ []
   pub lines : new.lines ≡ []
   pub marked : new.marked ≡ replicate (length (set_cells old.set)) true
   pub places : new.places ≡ old.places
@@ -68,3 +73,4 @@ pub record CutsAnywhere (set : SetContents) : Type 0 where
   pub kept : (o : Opening) (earlier later : History) → IsOpening (shape_of set) o → snapshot set o (later ++ earlier) ≡ snapshot set (snapshot set o earlier) later
   pub shows : (o : Opening) (earlier later : History) → IsOpening (shape_of set) o → shown set o (later ++ earlier) ≡ shown set (snapshot set o earlier) later
   pub prints : (o : Opening) (earlier later : History) → IsOpening (shape_of set) o → later ≢ [] → lines set o (later ++ earlier) ≡ lines set (snapshot set o earlier) later
+  pub tells : (o : Opening) (earlier later : History) → IsOpening (shape_of set) o → later ≢ [] → events set o (later ++ earlier) ≡ events set (snapshot set o earlier) later

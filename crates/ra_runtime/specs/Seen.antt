@@ -1,5 +1,5 @@
 -- What a runtime is seen as, by its fields, and what these always have: docs/DEFINITIONS.md, "What a runtime keeps".
-use Rattle.std.specs.Prelude.{◌≡◌, [], length, if◌then◌else◌}
+use Rattle.std.specs.Prelude.{◌≡◌, List, [], length, if◌then◌else◌}
 use Rattle.ra_memref.specs.Table.{Agrees}
 use Rattle.ra_set.specs.Contents.{set_contents}
 use Rattle.ra_set.specs.Limits.{IsWithinLimits}
@@ -10,8 +10,14 @@ use Rattle.ra_progress.specs.Room.{IsRoom}
 use Rattle.ra_runtime.specs.declared.runtime.Runtime.TheInside.{Inside}
 use Rattle.ra_runtime.specs.Order.{shape_of}
 use Rattle.ra_runtime.specs.Runtime.{RuntimeSeen}
-use Rattle.ra_runtime.specs.AllRuns.{AreItemRuns, HaveDigits, IsOver, all_lines, opening_by}
+use Rattle.ra_runtime.specs.AllRuns.{AreItemRuns, HaveDigits, IsOver, all_events, opening_by}
+use Rattle.ra_runtime.specs.declared.event.Event.{Event}
+use Rattle.ra_runtime.specs.Lines.{event_lines}
 use Rattle.ra_runtime.specs.PresenceRuns.{IsOptionalPresence}
+
+-- the events of the last frame; none where no frame came
+abbrev pub last_events : Inside → List Event
+last_events t = if t.framed then all_events (set_contents t.set).items t.runs.items else []
 
 -- what a caller sees of the inside of a runtime
 abbrev pub runtime_seen : Inside → RuntimeSeen
@@ -19,7 +25,8 @@ runtime_seen t = record {
   set = set_contents t.set;
   image = t.memory;
   kept = opening_by t.count t.table t.runs.items t.presence;
-  lines = if t.framed then all_lines t.frame (set_contents t.set).items t.runs.items else [];
+  events = last_events t;
+  lines = event_lines t.frame (last_events t);
   marked = t.table.marked;
   places = t.table.places;
 }

@@ -3,9 +3,11 @@ ghost use Rattle.ra_set.specs.Contents.{item_contents};
 ghost use Rattle.ra_set.specs.Limits.{item_conditions};
 ghost use Rattle.ra_set.specs.Spelled.{IsItem};
 ghost use Rattle.ra_runtime.specs.ItemRuns.{IsItemRun, IsNewItem, StepsItem};
+ghost use Rattle.ra_runtime.specs.ItemStates.{run_state};
 
 use crate::achievement_run::AchievementRun;
 use crate::board_run::BoardRun;
+use crate::item_state::ItemState;
 use ra_indirect::Pool;
 use ra_memref::Table;
 use ra_set::Item;
@@ -49,6 +51,22 @@ impl ItemRun {
             (ItemRun::Achievement(run), Item::Achievement { text, .. }) => run.step(text, table),
             (ItemRun::Leaderboard(run), Item::Leaderboard { text, .. }) => run.step(text, table),
             _ => unreachable!(),
+        }
+    }
+
+    // Where the item stands.
+    pub(crate) fn state(&self) -> ItemState
+        ensures { result ≡ run_state self.now }
+    {
+        match self {
+            ItemRun::Achievement(run) => ItemState::Achievement {
+                state: run.run.trigger.state(),
+                measured: run.run.trigger.measured(),
+            },
+            ItemRun::Leaderboard(run) => ItemState::Leaderboard {
+                state: run.board.state(),
+                tracked: run.tracked(),
+            },
         }
     }
 }

@@ -1,16 +1,10 @@
 //! Laws on the definitions, for whoever reads them.
 
-ghost use Rattle.std.specs.Prelude.{◌≡◌, ℕ, List, ◌∷◌, length};
-ghost use Rattle.ra_memory.specs.Image.{History};
-ghost use Rattle.ra_progress.specs.Contents.{Opening};
 ghost use Rattle.ra_set.specs.Contents.{SetContents};
 ghost use Rattle.ra_memref.specs.Values.{Start};
 ghost use Rattle.ra_runtime.specs.Calls.{CallsSucceed};
 ghost use Rattle.ra_runtime.specs.FoldLaws.{AreFolds};
-ghost use Rattle.ra_runtime.specs.Lines.{event_lines};
 ghost use Rattle.ra_runtime.specs.OpeningLaws.{HasOpenings};
-ghost use Rattle.ra_runtime.specs.Openings.{frames_after};
-ghost use Rattle.ra_runtime.specs.Play.{events, lines};
 ghost use Rattle.ra_runtime.specs.Runtime.{CutsAnywhere};
 
 /// A history may be cut at any frame: docs/DEFINITIONS.md, "The law of cuts".
@@ -44,12 +38,4 @@ pub fn openings_stand()
 /// A law: it does nothing.
 pub fn histories_are_folds()
     ensures { (start : Start) → AreFolds start }
-{}
-
-/// The lines of a set at a frame are the lines of its events: docs/DEFINITIONS.md, "Printed lines".
-///
-/// A law: it does nothing.
-pub fn lines_are_of_events()
-    ensures { (set : SetContents) (o : Opening) (image : List ℕ) (earlier : History) → lines set o (image ∷ earlier)
-        ≡ event_lines (frames_after o.frames (length earlier)) (events set o (image ∷ earlier)) }
 {}

@@ -4,7 +4,9 @@
 mod achievement_run;
 mod board_run;
 mod event;
+mod events;
 mod item_run;
+mod item_state;
 mod laws;
 mod line_run;
 mod presence_run;
@@ -16,11 +18,12 @@ mod saved;
 mod shapes;
 mod shown;
 mod state_bytes;
+mod told;
 mod written;
 
 pub use event::Event;
-pub use laws::{
-    calls_succeed, histories_are_folds, histories_may_be_cut, lines_are_of_events, openings_stand,
-};
+pub use events::Events;
+pub use item_state::ItemState;
+pub use laws::{calls_succeed, histories_are_folds, histories_may_be_cut, openings_stand};
 pub use runtime::Runtime;
 pub use shapes::shape_of;

@@ -1,15 +1,16 @@
 //! All items of a set over one table.
 
-ghost use Rattle.std.specs.Prelude.{◌≡◌, ◌+◌, ◌*◌, ◌≤◌, ◌^◌, ◌++◌, true, length, map, sum_by, All, IfOk};
-ghost use Rattle.std.specs.Result.{OnOk};
+ghost use Rattle.std.specs.Prelude.{◌≡◌, ◌+◌, ◌*◌, ◌≤◌, ◌^◌, true, option_map, length, map, sum_by, All, IfOk};
+ghost use Rattle.std.specs.List.{slice_get};
 ghost use Rattle.ra_set.specs.Contents.{item_contents};
 ghost use Rattle.ra_set.specs.Limits.{item_conditions};
-ghost use Rattle.ra_runtime.specs.AllRuns.{AreItemRuns, AreStepped, HaveDigits, all_lines};
+ghost use Rattle.ra_runtime.specs.AllRuns.{AreItemRuns, AreStepped};
+ghost use Rattle.ra_runtime.specs.ItemStates.{run_state};
 ghost use Rattle.ra_runtime.specs.Planning.{AreWaiting};
 ghost use Rattle.ra_set.specs.Spelled.{IsItem};
 
 use crate::item_run::ItemRun;
-use crate::written::put_lines;
+use crate::item_state::ItemState;
 use ra_indirect::Pool;
 use ra_memref::Table;
 use ra_set::Item;
@@ -50,20 +51,13 @@ pub(crate) fn step_runs(runs: &mut [ItemRun], items: &[Item], table: &Table)
     }
 }
 
-// Puts the lines of all items at the end of a text, in set order.
-pub(crate) fn put_runs(
-    alloc: Global,
-    out: &mut Vec<u8>,
-    frame: u64,
-    items: &[Item],
-    runs: &[ItemRun],
-) -> Result<(), OutOfMemory>
-    requires digits { HaveDigits (map item_contents items.now) }
-    requires as_many { length runs.now ≡ length items.now }
-    ensures { OnOk result (out.new.items ≡ out.old.items ++ all_lines frame (map item_contents items.now) runs.now) }
+// Where the item of the run at a place stands, if there is one.
+pub(crate) fn state_in(runs: &[ItemRun], place: usize) -> Option<ItemState>
+    ensures { result ≡ option_map run_state (slice_get runs.now place) }
 {
-    for (place, item) in items.iter().enumerate() {
-        put_lines(alloc, out, frame, item, &runs[place])?;
+    if place < runs.len() {
+        Some(runs[place].state())
+    } else {
+        None
     }
-    Ok(())
 }

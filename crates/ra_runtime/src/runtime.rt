@@ -1,4 +1,4 @@
-ghost use Rattle.std.specs.Prelude.{◌≡◌, ◌+◌, ◌-◌, ◌≤◌, ◌^◌, None, Some, length, IfOk, IfErr, OnOk, OnErr};
+ghost use Rattle.std.specs.Prelude.{◌≡◌, ◌+◌, ◌-◌, ◌<◌, ◌≤◌, ◌^◌, None, Some, option_map, length, IfOk, IfErr, OnOk, OnErr};
 ghost use Rattle.ra_set.specs.Contents.{set_contents};
 ghost use Rattle.ra_set.specs.Limits.{IsWithinLimits};
 ghost use Rattle.ra_set.specs.Names.{IsNamed};
@@ -6,18 +6,23 @@ ghost use Rattle.ra_progress.specs.Contents.{shape_contents};
 ghost use Rattle.ra_progress.specs.Names.{IsUsable};
 ghost use Rattle.ra_progress.specs.Reading.{IsAccepted, refusal};
 ghost use Rattle.ra_progress.specs.Spelling.{progress_bytes};
+ghost use Rattle.ra_memref.specs.Marks.{reads_of};
+ghost use Rattle.ra_runtime.specs.ItemStates.{state_at};
 ghost use Rattle.ra_runtime.specs.Order.{shape_of};
 ghost use Rattle.ra_runtime.specs.Saving.{IsSaved};
 ghost use Rattle.ra_set.specs.Spelled.{IsSpelled};
 
+use crate::events::Events;
 use crate::item_run::ItemRun;
+use crate::item_state::ItemState;
 use crate::presence_run::{PresenceRun, step_presence};
 use crate::restored::{put_back_runs, take_numbers};
 use crate::restored_presence::put_back_presence;
-use crate::runs::{put_runs, step_runs};
+use crate::runs::{state_in, step_runs};
 use crate::saved::{kept_items, kept_presence};
 use crate::shapes::{laid_out, shape_over};
 use crate::shown::shown_line;
+use crate::written::put_events;
 use ra_member::put_numbers;
 use ra_memory::{Counted, Memory, Steps};
 use ra_memref::Table;
@@ -25,12 +30,12 @@ use ra_progress::{ProgressRefused, Said, Shape, Snapshot, check, encode, frames_
 use ra_set::Set;
 use ra_text::OutOfMemory;
 use std::alloc::Global;
-use std::marker::Model;
-use std::sync::ledger::Ledger;
+use std::marker::{Brand, Model};
+use std::sync::ledger::{Blank, Ledger};
 
 /// A set over a memory, between frames: docs/DEFINITIONS.md, "What a runtime keeps".
 ///
-/// It is seen as its set, the image, the opening that it keeps, and the lines of the last frame.
+/// It is seen as its set, the image, the opening that it keeps, and the events and lines of the last frame.
 #[derive(Drop)]
 pub struct Runtime {
     set: Set,
@@ -177,15 +182,77 @@ impl Runtime {
         self.framed = true;
     }
 
-    /// The lines of the last frame; none where no frame came.
+    /// Takes one frame, as `frame` does, where nobody counts what is read. No memory is taken.
+    pub fn advance(&mut self)
+        ensures taken { TakesFrame self.old self.new }
+        ensures reads { ReadsFew self.old self.new (reads_of self.old.marked self.old.places self.new.places) }
+    {
+        self.take_frame::<Brand>(Blank::new(1));
+    }
+
+    // Takes one frame, and counts what is read by this blank.
+    fn take_frame<L: Ledger>(&mut self, blank: Blank)
+        requires name { blank.name ≡ L.name }
+        requires parts { blank.parts ≡ L.parts }
+        requires held { 0 < blank.parts }
+        ensures taken { TakesFrame self.old self.new }
+        ensures reads { ReadsFew self.old self.new (reads_of self.old.marked self.old.places self.new.places) }
+    {
+        let mut steps = Steps::<L>::open(blank);
+        self.frame(&mut steps);
+    }
+
+    /// The events of the last frame, items in set order: docs/DEFINITIONS.md, "Events". None where no
+    /// frame came. No memory is taken.
+    pub fn events(&self) -> Events<'_>
+        ensures { result ≡ self.now.events }
+    {
+        if self.framed {
+            Events::new(&self.set.items, &self.runs)
+        } else {
+            Events::new(&[], &[])
+        }
+    }
+
+    /// The lines of the events of the last frame: docs/DEFINITIONS.md, "Printed lines". None where no
+    /// frame came.
     pub fn lines(&self, alloc: Global) -> Result<Vec<u8>, OutOfMemory>
         ensures { IfOk result (λ text. text.items ≡ self.now.lines) }
     {
         let mut out = Vec::new(alloc);
-        if self.framed {
-            put_runs(alloc, &mut out, self.frame, &self.set.items, &self.runs)?;
-        }
+        put_events(alloc, &mut out, self.frame, self.events())?;
         Ok(out)
+    }
+
+    /// How many bytes the image has.
+    pub fn size(&self) -> u32
+        ensures { result ≡ length self.now.image }
+    {
+        self.memory.size()
+    }
+
+    /// The count of frames, which stops at 18,446,744,073,709,551,615.
+    pub fn frames(&self) -> u64
+        ensures { result ≡ self.now.kept.frames }
+    {
+        self.count
+    }
+
+    /// Where the item at a place of the set stands; none past the last one.
+    pub fn item(&self, place: usize) -> Option<ItemState>
+        ensures { result ≡ state_at self.now.set self.now.kept place }
+    {
+        state_in(&self.runs, place)
+    }
+
+    /// The index of the display line that is shown; none where the set has no script.
+    pub fn shown(&self) -> Option<u32>
+        ensures { result ≡ option_map (λ presence. presence.shown) self.now.kept.presence }
+    {
+        match &self.presence {
+            Some(run) => Some(run.shown),
+            None => None,
+        }
     }
 
     /// The presence line after the last frame, with the count of frames: docs/DEFINITIONS.md, "Presence

@@ -1,13 +1,12 @@
-use Rattle.std.proofs.Common.{◌∙◌, ap, sym, length, map}
-use Rattle.std.proofs.lemmas.List.{length-map}
-use Rattle.ra_set.specs.Contents.{item_contents}
-use Rattle.ra_runtime.proofs.RunsLemmas.{length_runs}
+use Rattle.std.proofs.Common.{List, sym, ◌∙◌, ap, subst}
+use Rattle.ra_set.specs.Contents.{set_contents}
+use Rattle.ra_runtime.specs.declared.event.Event.{Event}
+use Rattle.ra_runtime.specs.Runtime.{RuntimeSeen}
+use Rattle.ra_runtime.proofs.EventLemmas.{Have, last_have}
 use Rattle.ra_runtime.proofs.runtime.Runtime.lines.Goals as goal
 
-pub put_runs-requires-clause-as_many : goal.put_runs-requires-clause-as_many
-put_runs-requires-clause-as_many c =
-    let items = c.self.inside.set.items.items in
-    let runs = c.self.inside.runs.items in
-    let table = c.self.inside.table in
-    let many = length_runs table.nodes (map item_contents items) runs c.self.invariant.runs ∙ length-map items item_contents in
-    ap length c.deref-then-self.ensures.value ∙ many ∙ ap length (sym c.deref.ensures.value)
+pub put_events-requires : goal.put_events-requires
+put_events-requires c =
+    let t = c.self.inside in
+    let seen = c.events.ensures ∙ sym (ap (λ (r : RuntimeSeen). r.events) c.self.view_is) in
+    subst (λ (events : List Event). Have events) (sym seen) (last_have t.framed (set_contents t.set).items t.runs.items c.self.invariant.digits)

@@ -120,6 +120,7 @@ returns c =
       set = refl;
       image = refl;
       kept = (λ i. opening_by c.frames_at-self-inside.result table (same i) display) ∙ kept_restored set t.table table inv.over bytes said room takes says t.runs.items news t.presence display inv.runs inv.presence kept c.place-display.result place c.put_back_presence.ensures c.frames_at-self-inside.result c.frames_at-self-inside.ensures;
+      events = refl;
       lines = refl;
       marked = marked_restored set t.table table inv.over bytes said room takes;
       places = takes.places;
