@@ -8,6 +8,8 @@ mod damaged;
 #[cfg(test)]
 mod displays;
 #[cfg(test)]
+mod events;
+#[cfg(test)]
 mod items;
 #[cfg(test)]
 mod played;

@@ -65,6 +65,11 @@ impl Played {
         self.take_frame::<Brand>(Blank::new(1));
     }
 
+    /// Takes a frame whose reads nobody counts.
+    pub(crate) fn advance(&mut self) {
+        self.runtime.advance();
+    }
+
     fn take_frame<L: Ledger>(&mut self, blank: Blank)
         requires name { blank.name ≡ L.name }
         requires parts { blank.parts ≡ L.parts }

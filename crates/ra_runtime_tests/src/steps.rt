@@ -15,8 +15,14 @@ pub enum Step {
     Frame,
     /// Writes the byte at 0x10 and takes a frame: its lines.
     At(u8),
+    /// Takes a frame: its number with each of its events.
+    Advance,
     /// The lines of the last frame.
     Lines,
+    /// Where the item at a place stands.
+    Item(usize),
+    /// How many bytes and frames there are, and the index of the shown line.
+    Numbers,
     /// The presence line.
     Show,
     /// Numbers of a save, from a place on, each with a blank behind it.
@@ -108,7 +114,10 @@ fn tell(
             tell_frame(alloc, played, out)
         }
         Step::Frame => tell_frame(alloc, played, out),
+        Step::Advance => tell_events(alloc, played, out),
         Step::Lines => tell_lines(alloc, played, out),
+        Step::Item(place) => tell_item(alloc, played, place, out),
+        Step::Numbers => tell_numbers(alloc, played, out),
         Step::Show => tell_shown(alloc, played, out),
         Step::Words(at, count) => tell_words(alloc, played, at, count, out),
         Step::Restore => tell_restore(alloc, played, out),
@@ -132,6 +141,33 @@ fn tell_frame(alloc: Global, played: &mut Played, out: &mut Vec<u8>) -> Result<(
 fn tell_lines(alloc: Global, played: &Played, out: &mut Vec<u8>) -> Result<(), OutOfMemory> {
     let lines = played.runtime().lines(alloc)?;
     put(out, lines.as_slice())
+}
+
+fn tell_events(alloc: Global, played: &mut Played, out: &mut Vec<u8>) -> Result<(), OutOfMemory> {
+    let frame = played.runtime().frames();
+    played.advance();
+    for event in played.runtime().events() {
+        let text = format!(in alloc; "{frame} {event:?}\n")?;
+        put(out, text.as_bytes())?;
+    }
+    Ok(())
+}
+
+fn tell_item(
+    alloc: Global,
+    played: &Played,
+    place: usize,
+    out: &mut Vec<u8>,
+) -> Result<(), OutOfMemory> {
+    let text = format!(in alloc; "{:?}\n", played.runtime().item(place))?;
+    put(out, text.as_bytes())
+}
+
+fn tell_numbers(alloc: Global, played: &Played, out: &mut Vec<u8>) -> Result<(), OutOfMemory> {
+    let runtime = played.runtime();
+    let (size, frames) = (runtime.size(), runtime.frames());
+    let text = format!(in alloc; "{size} bytes {frames} frames {:?}\n", runtime.shown())?;
+    put(out, text.as_bytes())
 }
 
 fn tell_shown(alloc: Global, played: &Played, out: &mut Vec<u8>) -> Result<(), OutOfMemory> {
