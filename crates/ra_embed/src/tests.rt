@@ -3,7 +3,7 @@
 ghost use Rattle.std.specs.Prelude.{◌≡◌, IfOk, length};
 
 use crate::{Told, load, play_frame};
-use ra_runtime::Runtime;
+use ra_runtime::{Event, Runtime};
 use std::alloc::Global;
 use std::test::Fail;
 
@@ -22,17 +22,17 @@ fn loaded(alloc: Global) -> Result<Runtime, Fail>
     }
 }
 
-fn tells(told: &Told, lines: &str, presence: &str) -> bool {
-    told.lines.as_slice() == lines.as_bytes() && told.presence.as_slice() == presence.as_bytes()
+fn tells(told: &Told, events: &[Event], presence: &str) -> bool {
+    told.events.as_slice() == events && told.presence.as_slice() == presence.as_bytes()
 }
 
 #[test]
-fn a_frame_tells_its_lines_and_the_presence(rt: HostRuntime) -> Result<(), Fail> {
+fn a_frame_tells_its_events_and_the_presence(rt: HostRuntime) -> Result<(), Fail> {
     let mut runtime = loaded(rt.alloc())?;
     let first = play_frame(rt.alloc(), &mut runtime, 0x10, &[3])?;
-    assert!(rt; tells(&first, "", "presence 1 Lives 3\n"));
+    assert!(rt; tells(&first, &[], "presence 1 Lives 3\n"));
     let second = play_frame(rt.alloc(), &mut runtime, 0x10, &[5])?;
-    assert!(rt; tells(&second, "unlock 1 1\n", "presence 2 Lives 5\n"));
+    assert!(rt; tells(&second, &[Event::Unlock { id: 1 }], "presence 2 Lives 5\n"));
     Ok(())
 }
 

@@ -3,4 +3,4 @@ use Rattle.ra_embed.proofs.frame.play_frame.Goals as goal
 
 pub returns-clause-played : goal.returns-clause-played
 returns-clause-played c =
-    plays_frame c.args.runtime.now c.write.new.self c.take_frame.new.runtime c.args.at c.args.bytes.now c.requires c.write.ensures c.take_frame.ensures
+    plays_frame c.args.runtime.now c.write.new.self c.advance.new.self c.args.at c.args.bytes.now c.requires c.write.ensures c.advance.ensures.taken
