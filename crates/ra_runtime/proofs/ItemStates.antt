@@ -29,7 +29,7 @@ run_past (run ∷ runs) (suc place) past = run_past runs place (omega arith)
 module _ (nodes : List Node) where
   stands : (item : ItemContents) (run : ItemRun) → IsItemRun nodes item run → run_state run ≡ item_state (item, kept_run run)
   stands (Unlocks id t) (Achievement run) is =
-      ap (λ k. states.Achievement k.state k.measured) (sym (achievement_again run.run.trigger))
+      ap (λ k. states.Achievement k.state k.measured) (sym (achievement_again run.earned run.run.trigger))
   stands (Unlocks id t) (Leaderboard run) is = absurd is
   stands (Ranks id format b) (Achievement run) is = absurd is
   stands (Ranks id format b) (Leaderboard run) is =
