@@ -1,5 +1,5 @@
 -- A legacy part and its condition part at a frame.
-use Rattle.std.proofs.Common.{ℕ, zero, suc, ◌<◌, ◌^◌, Option, None, Some, List, [], ◌∷◌, length, map, refl, arith}
+use Rattle.std.proofs.Common.{ℕ, suc, Option, None, Some, List, [], ◌∷◌, map, refl, arith}
 use Rattle.std.specs.Prelude.{All}
 use Rattle.ra_operand.specs.declared.operand.Operand.{Operand}
 use Rattle.ra_operand.specs.declared.operand.Operand.TheVariants.{Cell, Const, Recall}

@@ -30,7 +30,7 @@ use Rattle.ra_normal.specs.Contents.{adding, term_condition, measured_zero, lega
 
 -- ---- the conditions
 
-adding_flag : (operand : Operand) (factor : Option Operand) → (adding operand factor).flag ≡ AddSource
+pub adding_flag : (operand : Operand) (factor : Option Operand) → (adding operand factor).flag ≡ AddSource
 adding_flag operand None = refl
 adding_flag operand (Some factor) = refl
 

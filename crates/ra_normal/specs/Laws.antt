@@ -1,5 +1,5 @@
 -- What a legacy part and its condition part give at a frame: docs/DEFINITIONS.md, "Normal text".
-use Rattle.std.specs.Prelude.{◌≡◌, ℕ, Bool, false, List, map}
+use Rattle.std.specs.Prelude.{◌≡◌, ℕ, false, List, map}
 use Rattle.ra_condition.specs.declared.condition.Condition.{Condition}
 use Rattle.ra_condition.specs.declared.part.Term.{Term}
 use Rattle.ra_condition.specs.Chains.{places}

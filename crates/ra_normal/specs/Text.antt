@@ -34,11 +34,18 @@ abbrev pub progress_text : Option (List PartContents) → List ℕ
 progress_text None = []
 progress_text (Some parts) = codes "::PRO:" ++ value_text (normal_value parts)
 
--- a board in the order STA, CAN, SUB, VAL, PRO
+-- the tests of a board, in the order STA, CAN, SUB
+abbrev pub tests_text : BoardContents → List ℕ
+tests_text b =
+    codes "STA:" ++ (trigger_text b.start ++ (codes "::CAN:" ++ (trigger_text b.cancel ++ (codes "::SUB:" ++ trigger_text b.submit))))
+
+-- the values of a board, VAL before PRO
+abbrev pub values_text : BoardContents → List ℕ
+values_text b = codes "::VAL:" ++ (value_text (normal_value b.value) ++ progress_text b.progress)
+
+-- a board, its tests before its values
 abbrev pub board_text : BoardContents → List ℕ
-board_text b =
-    codes "STA:" ++ (trigger_text b.start ++ (codes "::CAN:" ++ (trigger_text b.cancel ++ (codes "::SUB:" ++ (trigger_text b.submit
-    ++ (codes "::VAL:" ++ (value_text (normal_value b.value) ++ progress_text b.progress)))))))
+board_text b = tests_text b ++ values_text b
 
 -- the line of an item
 abbrev pub item_text : ItemContents → List ℕ
