@@ -1,3 +1,5 @@
 pub mod Contents
+pub mod Counting
 pub mod Laws
 pub mod Text
+pub mod Words
