@@ -4,6 +4,7 @@ ghost use Rattle.std.specs.Prelude.{◌≡◌, ◌≤◌, ◌↔◌, IfErr, IfOk
 ghost use Rattle.ra_set.specs.Accepted.{IsSet};
 ghost use Rattle.ra_set.specs.Contents.{set_contents};
 ghost use Rattle.ra_set.specs.Limits.{most_of};
+ghost use Rattle.ra_normal.specs.Meaning.{KeepsMeaning};
 ghost use Rattle.ra_normal.specs.Text.{IsNormal, IsPastLimit};
 ghost use Rattle.ra_normal.specs.Text as spec;
 
@@ -15,12 +16,14 @@ use ra_set::{Set, Which};
 use ra_text::OutOfMemory;
 use std::alloc::Global;
 
-/// The normal text of a set that a file spells: docs/DEFINITIONS.md, "Normal text". It is a set file.
+/// The normal text of a set that a file spells: docs/DEFINITIONS.md, "Normal text". It is a set file, which prints
+/// the same over every trace and is its own normal text.
 ///
 /// `Limit` comes exactly where the text passes the limit of bytes, or else that of conditions.
 pub fn normal(alloc: Global, bytes: &[u8], set: &Set) -> Result<Vec<u8>, NormalRefused>
     requires { IsSet bytes.now (set_contents set.now) }
     ensures ok { IfOk result (λ text. IsNormal bytes.now (set_contents set.now) text.items) }
+    ensures keeps { IfOk result (λ text. KeepsMeaning bytes.now (set_contents set.now) text.items) }
     ensures refused { IfErr result (IsPastLimit bytes.now (set_contents set.now)) }
 {
     let text = normal_text(alloc, bytes, set)?;

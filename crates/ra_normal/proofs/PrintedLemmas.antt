@@ -1,0 +1,86 @@
+-- A set and its normal set print the same over every trace from their plain openings.
+use Rattle.std.proofs.Common.{◌≡◌, ◌∙◌, ℕ, zero, suc, Bool, true, false, if◌then◌else◌, List, [], ◌∷◌, ◌++◌, length, map, replicate, zip, refl, sym, ap, ap₂}
+use Rattle.std.specs.List.{AllByRecursion, flat_map}
+use Rattle.ra_memory.specs.Image.{History}
+use Rattle.ra_indirect.specs.Trees.{Cell, Tracked, same_cell, same_tracked}
+use Rattle.ra_memref.specs.Values.{Start}
+use Rattle.ra_set.specs.Contents.{ItemContents, Unlocks, Ranks, SetContents}
+use Rattle.ra_set.specs.Spelled.{IsItem}
+use Rattle.ra_trace.specs.Entries.{Entry, Written, Framed, Saved, Restored, Shown, Ended}
+use Rattle.ra_runtime.specs.Boards.{opened_board}
+use Rattle.ra_runtime.specs.Openings.{number_beside, prior_beside, start_of, frames_after, plain_item, plain_opening}
+use Rattle.ra_runtime.specs.Order.{set_cells, set_tracked, item_shape}
+use Rattle.ra_runtime.specs.Play.{item_lines, lines, shown_by, shown, Moment, moved, printed, first_moment, text_from, text_of}
+use Rattle.ra_normal.specs.Contents.{normal_board, normal_item}
+use Rattle.ra_normal.proofs.AcceptedLemmas.{normal_set}
+use Rattle.ra_normal.proofs.BoardsAlike.{board_alike, same_lines, plain_match}
+
+-- ---- the start
+
+if_zero : (same : Bool) (n : ℕ) → n ≡ 0 → (if same then 0 else n) ≡ 0
+if_zero true n is = refl
+if_zero false n is = is
+
+-- each cell has the number 0 among zeros
+no_number : (cells : List Cell) (n : ℕ) (c : Cell) → number_beside cells (replicate n 0) c ≡ 0
+no_number [] n c = refl
+no_number (d ∷ cells) zero c = if_zero (same_cell d c) (number_beside cells [] c) (no_number cells 0 c)
+no_number (d ∷ cells) (suc n) c = if_zero (same_cell d c) (number_beside cells (replicate n 0) c) (no_number cells n c)
+
+no_prior : (tracked : List Tracked) (n : ℕ) (t : Tracked) → prior_beside tracked (replicate n 0) t ≡ 0
+no_prior [] n t = refl
+no_prior (s ∷ tracked) zero t = if_zero (same_tracked s t) (prior_beside tracked [] t) (no_prior tracked 0 t)
+no_prior (s ∷ tracked) (suc n) t = if_zero (same_tracked s t) (prior_beside tracked (replicate n 0) t) (no_prior tracked n t)
+
+-- two sets that were never played start alike
+same_start : (set other : SetContents) → start_of set (plain_opening set) ≡ start_of other (plain_opening other)
+same_start set other =
+    let number = λ (c : Cell). no_number (set_cells set) (length (set_cells set)) c ∙ sym (no_number (set_cells other) (length (set_cells other)) c) in
+    let prior = λ (t : Tracked). no_prior (set_tracked set) (length (set_tracked set)) t ∙ sym (no_prior (set_tracked other) (length (set_tracked other)) t) in
+    (λ i. record { number = λ c. number c i; prior = λ t. prior t i })
+
+-- ---- lines
+
+item_alike : (start : Start) (frame : ℕ) (image : List ℕ) (earlier : History) (x : ItemContents) → IsItem x → item_lines start frame image earlier (x, plain_item (item_shape x)) ≡ item_lines start frame image earlier (normal_item x, plain_item (item_shape (normal_item x)))
+item_alike start frame image earlier (Unlocks id t) is = refl
+item_alike start frame image earlier (Ranks id format b) is =
+    let kept = opened_board b (plain_item (item_shape (Ranks id format b))) in
+    let other = opened_board (normal_board b) (plain_item (item_shape (Ranks id format (normal_board b)))) in
+    let alike = board_alike start b is.0 kept other (plain_match id format b) in
+    same_lines b frame id format _ _ _ _ (alike earlier) (alike (image ∷ earlier))
+
+items_alike : (start : Start) (frame : ℕ) (image : List ℕ) (earlier : History) (items : List ItemContents) → AllByRecursion IsItem items
+    → flat_map (item_lines start frame image earlier) (zip (map normal_item items) (map plain_item (map item_shape (map normal_item items)))) ≡ flat_map (item_lines start frame image earlier) (zip items (map plain_item (map item_shape items)))
+items_alike start frame image earlier [] each = refl
+items_alike start frame image earlier (x ∷ items) each = ap₂ (λ s t. s ++ t) (sym (item_alike start frame image earlier x each.0)) (items_alike start frame image earlier items each.1)
+
+-- ---- a trace
+
+module _ (set : SetContents) (text : List ℕ) (each : AllByRecursion IsItem set.items) where
+  abbrev normal : SetContents
+  normal = normal_set set text
+
+  lines_alike : (history : History) → lines normal (plain_opening normal) history ≡ lines set (plain_opening set) history
+  lines_alike [] = refl
+  lines_alike (image ∷ earlier) =
+      ap (λ start. flat_map (item_lines start (frames_after 0 (length earlier)) image earlier) (zip normal.items (plain_opening normal).items)) (same_start normal set)
+      ∙ items_alike (start_of set (plain_opening set)) (frames_after 0 (length earlier)) image earlier set.items each
+
+  shown_alike : (history : History) → shown normal (plain_opening normal) history ≡ shown set (plain_opening set) history
+  shown_alike history = ap (λ start. shown_by start (frames_after 0 (length history)) history set.script (plain_opening set).presence) (same_start normal set)
+
+  printed_alike : (entry : Entry) (m : Moment) → printed normal (plain_opening normal) entry m ≡ printed set (plain_opening set) entry m
+  printed_alike (Written at bytes) m = refl
+  printed_alike Framed m = lines_alike m.behind
+  printed_alike (Saved slot) m = refl
+  printed_alike (Restored slot) m = refl
+  printed_alike Shown m = shown_alike m.behind
+  printed_alike Ended m = refl
+
+  from_alike : (m : Moment) (entries : List Entry) → text_from normal (plain_opening normal) m entries ≡ text_from set (plain_opening set) m entries
+  from_alike m [] = refl
+  from_alike m (entry ∷ entries) = ap₂ (λ s t. s ++ t) (printed_alike entry (moved entry m)) (from_alike (moved entry m) entries)
+
+  -- the text over a trace, whatever frames lie before it
+  pub text_alike : (behind : History) (size : ℕ) (entries : List Entry) → text_of normal (plain_opening normal) behind size entries ≡ text_of set (plain_opening set) behind size entries
+  text_alike behind size entries = from_alike (first_moment size behind) entries
