@@ -4,6 +4,7 @@ pub mod CommandLemmas
 pub mod ImportShape
 pub mod LintShape
 pub mod MakeShape
+pub mod NormalShape
 pub mod NumberWords
 pub mod RestoreShape
 pub mod RunShape

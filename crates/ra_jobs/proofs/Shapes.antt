@@ -5,13 +5,14 @@ use Rattle.std.proofs.lemmas.Bool.{not-true}
 use Rattle.std.proofs.lemmas.Slice.Eq.{bytes_eq-Decides}
 use Rattle.clap.specs.Words.{Text, takes}
 use Rattle.ra_jobs.specs.Words.{Job, is_name}
-use Rattle.ra_jobs.specs.JobWords.{is_number, job_of, run_of, check_of, make_of, import_of, lint_of, options_of}
+use Rattle.ra_jobs.specs.JobWords.{is_number, job_of, run_of, check_of, make_of, import_of, lint_of, normal_of, options_of}
 use Rattle.ra_jobs.specs.JobCommand.{player_app, job_read}
 use Rattle.ra_jobs.proofs.BothShape as both
 use Rattle.ra_jobs.proofs.CheckShape as check
 use Rattle.ra_jobs.proofs.ImportShape as import_
 use Rattle.ra_jobs.proofs.LintShape as lint
 use Rattle.ra_jobs.proofs.MakeShape as make
+use Rattle.ra_jobs.proofs.NormalShape as normal
 use Rattle.ra_jobs.proofs.NumberWords.{dashed, nothing}
 use Rattle.ra_jobs.proofs.RestoreShape as restore
 use Rattle.ra_jobs.proofs.RunShape as run
@@ -93,6 +94,14 @@ lint_is (c ∷ cs) s =
     let hc : (c == 45) ≡ false = not-true (c == 45) s in
     record { taken = lint.taken c cs hc; read = lint.read c cs hc ∙ rw hc refl }
 
+normal_is : (set out : Text) → is_name set ≡ true → is_name out ≡ true → IsTaken (codes "normal" ∷ set ∷ out ∷ [])
+normal_is [] out s t = cc
+normal_is (c ∷ cs) [] s t = cc
+normal_is (c ∷ cs) (d ∷ ds) s t =
+    let hc : (c == 45) ≡ false = not-true (c == 45) s in
+    let hd : (d == 45) ≡ false = not-true (d == 45) t in
+    record { taken = normal.taken c d cs ds hc hd; read = normal.read c d cs ds hc hd ∙ rw (hc, hd) refl }
+
 -- one option with its file
 one_option : (option file : Text) → is_some (options_of (option ∷ file ∷ [])) ≡ true → (is_name file ≡ true) × ((option ≡ codes "--restore") ⊎ (option ≡ codes "--save"))
 one_option option file h = search (rules, bytes_eq-Decides option (codes "--restore"), bytes_eq-Decides option (codes "--save"))
@@ -152,6 +161,16 @@ lint_words [] h = cc
 lint_words (set ∷ []) h = lint_is set (search rules)
 lint_words (set ∷ more ∷ words) h = cc
 
+-- two names behind `normal`
+set_and_out : (set out : Text) → is_some (normal_of (set ∷ out ∷ [])) ≡ true → (is_name set ≡ true) × (is_name out ≡ true)
+set_and_out set out h = search rules
+
+normal_words : (words : List Text) → is_some (normal_of words) ≡ true → IsTaken (codes "normal" ∷ words)
+normal_words [] h = cc
+normal_words (set ∷ []) h = cc
+normal_words (set ∷ out ∷ []) h = let p = set_and_out set out h in normal_is set out p.0 p.1
+normal_words (set ∷ out ∷ more ∷ words) h = cc
+
 -- the words begin with this name, and those behind it are of this job
 abbrev Begins : Text → (List Text → Option Job) → Text → List Text → Type 0
 Begins name of word words = (word ≡ name) × (is_some (of words) ≡ true)
@@ -168,15 +187,25 @@ begun : (name word : Text) (of : List Text → Option Job) (words : List Text) �
 begun name word of words taken r = subst (λ (w : Text). IsTaken (w ∷ words)) (sym r.0) (taken words r.1)
 
 -- the words of a job, by their name: one name after the other
-by_lint : (word : Text) (words : List Text) → is_some (if bytes_eq word (codes "lint") then lint_of words else None) ≡ true → IsTaken (word ∷ words)
-by_lint word words h = elim (choose (codes "lint") word lint_of words None (bytes_eq word (codes "lint")) refl h) [
-  | inl r ↦ begun (codes "lint") word lint_of words lint_words r
+by_normal : (word : Text) (words : List Text) → is_some (if bytes_eq word (codes "normal") then normal_of words else None) ≡ true → IsTaken (word ∷ words)
+by_normal word words h = elim (choose (codes "normal") word normal_of words None (bytes_eq word (codes "normal")) refl h) [
+  | inl r ↦ begun (codes "normal") word normal_of words normal_words r
   | inr e ↦ cc
+]
+
+-- the job that words behind the name of an import ask for
+abbrev last_job : Text → List Text → Option Job
+last_job word words = if bytes_eq word (codes "lint") then lint_of words else if bytes_eq word (codes "normal") then normal_of words else None
+
+by_lint : (word : Text) (words : List Text) → is_some (last_job word words) ≡ true → IsTaken (word ∷ words)
+by_lint word words h = elim (choose (codes "lint") word lint_of words _ (bytes_eq word (codes "lint")) refl h) [
+  | inl r ↦ begun (codes "lint") word lint_of words lint_words r
+  | inr e ↦ by_normal word words e
 ]
 
 -- the job that words behind these names ask for
 abbrev later_job : Text → List Text → Option Job
-later_job word words = if bytes_eq word (codes "import") then import_of words else if bytes_eq word (codes "lint") then lint_of words else None
+later_job word words = if bytes_eq word (codes "import") then import_of words else last_job word words
 
 by_import : (word : Text) (words : List Text) → is_some (later_job word words) ≡ true → IsTaken (word ∷ words)
 by_import word words h = elim (choose (codes "import") word import_of words _ (bytes_eq word (codes "import")) refl h) [

@@ -1,6 +1,6 @@
 -- The job of the words: docs/DEFINITIONS.md, "Jobs".
 use Rattle.std.specs.Prelude.{ℕ, ◌+◌, ◌-◌, ◌*◌, ◌^◌, ◌&&◌, Bool, not, if◌then◌else◌, nat_lt, Option, None, Some, option_map, List, [], ◌∷◌, fold, codes, bytes_eq, decimal}
-use Rattle.ra_jobs.specs.Words.{Job, Run, Check, Make, Import, Lint, is_name}
+use Rattle.ra_jobs.specs.Words.{Job, Run, Check, Make, Import, Lint, Normal, is_name}
 use Rattle.ra_jobs.specs.declared.job_words.Job.{Job as ReadJob}
 use Rattle.ra_jobs.specs.declared.job_words.Job.TheVariants as read
 
@@ -56,6 +56,11 @@ abbrev pub lint_of : List (List ℕ) → Option Job
 lint_of (set ∷ []) = if is_name set then Some (Lint set) else None
 lint_of _ = None
 
+-- the words behind `normal`: a set and the file of its normal text
+abbrev pub normal_of : List (List ℕ) → Option Job
+normal_of (set ∷ out ∷ []) = if is_name set && is_name out then Some (Normal set out) else None
+normal_of _ = None
+
 -- the job that the words ask for, where they are one
 abbrev pub job_of : List (List ℕ) → Option Job
 job_of [] = None
@@ -65,6 +70,7 @@ job_of (name ∷ words) =
     else if bytes_eq name (codes "make") then make_of words
     else if bytes_eq name (codes "import") then import_of words
     else if bytes_eq name (codes "lint") then lint_of words
+    else if bytes_eq name (codes "normal") then normal_of words
     else None
 
 -- what a job that was read asks for
@@ -75,3 +81,4 @@ job_contents (read.Check set) = Check set.now
 job_contents (read.Make number) = Make number
 job_contents (read.Import file set) = Import file.now set.now
 job_contents (read.Lint set) = Lint set.now
+job_contents (read.Normal set out) = Normal set.now out.now

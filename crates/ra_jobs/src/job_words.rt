@@ -41,6 +41,11 @@ pub enum Job<'a> {
     Lint {
         set: &'a str,
     },
+    /// To put the normal text of a set.
+    Normal {
+        set: &'a str,
+        out: &'a str,
+    },
 }
 
 // Whether a word names a file.
@@ -138,6 +143,16 @@ fn is_lint(words: &[String]) -> bool
     }
 }
 
+// Whether the words behind `normal` are a set and a file to put.
+fn is_normal(words: &[String]) -> bool
+    ensures { result ≡ is_some (spec.normal_of (map string_bytes words.now)) }
+{
+    match words {
+        [set, out] => is_name(set.as_str()) && is_name(out.as_str()),
+        _ => false,
+    }
+}
+
 // Whether the words are a job, by their count and places.
 fn is_job(words: &[String]) -> bool
     ensures { result ≡ is_some (job_of (map string_bytes words.now)) }
@@ -151,6 +166,7 @@ fn is_job(words: &[String]) -> bool
         "make" => is_make(behind),
         "import" => is_import(behind),
         "lint" => is_lint(behind),
+        "normal" => is_normal(behind),
         _ => false,
     }
 }
@@ -257,7 +273,8 @@ fn player_command<'a>(alloc: Global) -> Result<Command<'a>, AllocError>
     let make = with_short(alloc, check, "make", "N")?;
     let import = with_pair(alloc, make, "import", "FILE", "SET")?;
     let lint = with_short(alloc, import, "lint", "SET")?;
-    Ok(lint)
+    let normal = with_pair(alloc, lint, "normal", "SET", "OUT")?;
+    Ok(normal)
 }
 
 // What clap reads of the words.
@@ -327,6 +344,15 @@ fn lint_given<'a>(given: &ArgMatches<'a>) -> Option<Job<'a>>
     Some(Job::Lint { set })
 }
 
+// The normal text of the values that were given.
+fn normal_given<'a>(given: &ArgMatches<'a>) -> Option<Job<'a>>
+    ensures { option_map job_contents result ≡ command.normal_given (rows_of (found_of given.now)) }
+{
+    let set = value_of(given, "SET")?;
+    let out = value_of(given, "OUT")?;
+    Some(Job::Normal { set, out })
+}
+
 // The job of a name, with the values that were given.
 fn job_given<'a>(name: &str, given: &ArgMatches<'a>) -> Option<Job<'a>>
     ensures { option_map job_contents result ≡ command.job_given name.now (rows_of (found_of given.now)) }
@@ -337,6 +363,7 @@ fn job_given<'a>(name: &str, given: &ArgMatches<'a>) -> Option<Job<'a>>
         "make" => make_given(given),
         "import" => import_given(given),
         "lint" => lint_given(given),
+        "normal" => normal_given(given),
         _ => None,
     }
 }
@@ -396,7 +423,7 @@ mod tests {
 
     #[test]
     fn each_shape_is_a_job(rt: HostRuntime) -> Result<(), OutOfMemory> {
-        let rows: [(&[&str], Job<'_>); 11] = [
+        let rows: [(&[&str], Job<'_>); 12] = [
             (&["run", "S", "T"], run(None, None)),
             (&["run", "S", "T", "--restore", "P"], run(Some("P"), None)),
             (&["run", "S", "T", "--save", "Q"], run(None, Some("Q"))),
@@ -407,6 +434,7 @@ mod tests {
             (&["check", "S"], Job::Check { set: "S" }),
             (&["check", "a b=-"], Job::Check { set: "a b=-" }),
             (&["lint", "S"], Job::Lint { set: "S" }),
+            (&["normal", "S", "O"], Job::Normal { set: "S", out: "O" }),
             (&["make", "0"], Job::Make { number: 0 }),
             (&["make", "17"], Job::Make { number: 17 }),
             (&["make", "4294967295"], Job::Make { number: 4294967295 }),
@@ -426,7 +454,7 @@ mod tests {
 
     #[test]
     fn other_words_are_no_job(rt: HostRuntime) -> Result<(), OutOfMemory> {
-        let rows: [&[&str]; 37] = [
+        let rows: [&[&str]; 42] = [
             &[],
             &["run", "S"],
             &["run", "S", "T", "--save"],
@@ -459,6 +487,11 @@ mod tests {
             &["lint"],
             &["lint", ""],
             &["lint", "S", "T"],
+            &["normal"],
+            &["normal", "S"],
+            &["normal", "S", "O", "T"],
+            &["normal", "S", "-O"],
+            &["normal", "S", "--save", "O"],
             &["import"],
             &["import", "F"],
             &["import", "F", "S", "T"],
