@@ -1,15 +1,13 @@
 -- An import: its document gives no set, its set is not put, or its line is printed behind the put.
-use Rattle.std.proofs.Common.{arith, ◌≡◌, ◌≢◌, ◌⊎◌, inl, inr, ap, length, sym, subst, refl, ◌∙◌, ℕ, ◌+◌, take, List, [], ◌∷◌, Option, Some, None, Err, is_some, true, IfSome, string_bytes}
-use Rattle.std.specs.List.{concat, AllByRecursion}
+use Rattle.std.proofs.Common.{arith, ◌≡◌, ◌≢◌, ◌⊎◌, inl, inr, ap, sym, subst, refl, ◌∙◌, ℕ, ◌+◌, take, List, [], ◌∷◌, Option, Some, Err, string_bytes}
+use Rattle.std.specs.List.{concat}
 use Rattle.std.specs.Result.{IsErrOf}
 use Rattle.std.proofs.lemmas.List.{take_all, length-take}
 use Rattle.ra_io.specs.Causes.{Rose}
-use Rattle.ra_io.specs.Files.{SameContent}
 use Rattle.ra_io.specs.declared.files.PutFailed.{PutFailed}
 use Rattle.ra_io.specs.declared.files.PutFailed.TheVariants as put
 use Rattle.ra_set.proofs.AnswerLemmas.{same-set}
 use Rattle.ra_set.specs.Accepted.{IsSet}
-use Rattle.ra_set.specs.Contents.{SetContents}
 use Rattle.ra_patch.specs.Answers.{document_limit, Imports, RefusesDocument}
 use Rattle.ra_patch.specs.declared.refused.PatchRefused.{PatchRefused}
 use Rattle.ra_patch.specs.declared.refused.PatchRefused.TheVariants as patch
@@ -20,15 +18,15 @@ use Rattle.ra_session.specs.Closing.{EndsBefore}
 use Rattle.ra_session.specs.Failures.{document_refused, ending_of_document, ending_of_put, ending_of_refused}
 use Rattle.ra_session.specs.Importing.{HasNoDocument, IsDocument}
 use Rattle.ra_session.specs.Outside.{Outside, ReadsRose, SinkRose, AreTold}
-use Rattle.ra_session.specs.Running.{Ran, Leaves, HasBytes, IsTold, IsCounted, IsSaved, OnlyThen, PrintsSoFar, deciding}
+use Rattle.ra_session.specs.Running.{Ran, Leaves, HasBytes, IsTold, IsCounted, PrintsSoFar, deciding}
 use Rattle.ra_session.specs.declared.document.Document.{Document}
 use Rattle.ra_session.specs.declared.ending.Ending.{Ending}
-use Rattle.ra_session.specs.declared.ending.Ending.TheVariants.{Done, NoMemory, NoJob, BadSet, ReadFault, SinkFault, BadProgress, SaveFault, BadDocument}
+use Rattle.ra_session.specs.declared.ending.Ending.TheVariants.{Done, BadSet, BadProgress, BadDocument}
 use Rattle.ra_session.specs.declared.failures.DocumentFailed.{DocumentFailed}
 use Rattle.ra_session.specs.declared.failures.DocumentFailed.TheVariants as no_document
 use Rattle.ra_session.proofs.Pieces.{grown-nil}
 use Rattle.ra_session.proofs.Parts.{part_none}
-use Rattle.ra_session.proofs.CheckLemmas.{ran_line}
+use Rattle.ra_session.proofs.PutLemmas.{leaves_put, ran_put, ran_unput}
 use Rattle.ra_session.proofs.ReadLemmas.{import_read}
 use Rattle.ra_session.proofs.RunLemmas.{any_first, file_of}
 
@@ -38,14 +36,6 @@ whole_document bytes text is = take_all (document_limit + 1) bytes (let few = is
 
 pub document_read : (bytes text : List ℕ) → Imports bytes text → take (document_limit + 1) bytes ≡ bytes
 document_read bytes text is = take_all (document_limit + 1) bytes (let few = is.document.few in omega (arith, few))
-
--- a put of a name whose bytes were told
-some_put : {P : Type 0} (o : Option (List ℕ)) → is_some o ≡ true → IfSome o (λ bytes. P) → P
-some_put (Some bytes) told put = put
-some_put None told put = cc
-
-pub has_bytes : (bytes : List ℕ) (old mid new : List ℕ → Option (List ℕ)) (name : List ℕ) → SameContent old mid → IfSome (mid name) (λ before. new name ≡ Some bytes) → HasBytes bytes old new name
-has_bytes bytes old mid new name same put = λ told. some_put (mid name) (ap is_some (same.each name) ∙ told) put
 
 -- a document that gives a set in what is read of it gives it as a whole
 pub imports_whole : (bytes file text : List ℕ) → bytes ≡ take (document_limit + 1) file → Imports bytes text → Imports file text
@@ -153,66 +143,18 @@ module _ (file set : List ℕ) (old new : Outside) where
         let bytes = file_of old.content file (subst (AreTold old.content) (import_decides ending) told).0 in
         (_, imports bytes.0 d.text.items is.set bytes.1 (is.imports bytes.0 bytes.1) is.accepted)
 
-    -- a line behind a put ends as a line does
-    behind_put : (ending : Ending) → EndsBefore (prints_line (string_bytes d.line)) ⊥ ⊥ (SinkRose old new) ending old.text new.text
-        → EndsBefore (puts_then_prints d.text.items (string_bytes d.line)) ⊥ ⊥ (SinkRose old new) ending old.text new.text
-    behind_put SaveFault before = absurd before.0
-    behind_put ReadFault before = absurd before.0
-    behind_put _ before = before
-
     -- an import whose line was printed behind its put, or a front of it
     pub ran_import : (ending : Ending) → EndsBefore (prints_line (string_bytes d.line)) ⊥ ⊥ (SinkRose old new) ending old.text new.text → Ran job old new ending
-    ran_import ending before =
-        ran_line job old new (puts_then_prints d.text.items (string_bytes d.line)) refl ending import_says (import_said ending) (behind_put ending before)
-
-    not_put_prints : (f : PutFailed) (e : Expected) → (IsErrOf {T = Unit {0}} (Err f) put.Failed → Rose (old.put_faults set) (new.put_faults set)) → new.text ≡ old.text → e ≡ puts_then_prints d.text.items (string_bytes d.line)
-        → PrintsSoFar job old new (ending_of_put f) e
-    not_put_prints put.Memory e rose same says = part_none old.text new.text (concat e.pieces) same
-    not_put_prints put.Failed e rose same says =
-        subst (PrintsSoFar job old new SaveFault) (sym says) (any_first _ set [] (rose refl), refl, same ∙ sym (grown-nil old.text))
-
-    not_put_counted : (f : PutFailed) → (IsErrOf {T = Unit {0}} (Err f) put.Failed → Rose (old.put_faults set) (new.put_faults set)) → IsCounted job old new (ending_of_put f)
-    not_put_counted put.Memory rose = tt
-    not_put_counted put.Failed rose = any_first _ set [] (rose refl)
-
-    not_put_told : (f : PutFailed) → IsTold (ending_of_put f) → ⊥
-    not_put_told put.Failed told = told
-    not_put_told put.Memory told = told
+    ran_import ending before = ran_put job set refl tt old new d.text.items (string_bytes d.line) import_says ending (import_said ending) before
 
     -- an import whose set was not put
-    pub ran_unput : (f : PutFailed) (ending : Ending) → ending ≡ ending_of_put f → (IsErrOf {T = Unit {0}} (Err f) put.Failed → Rose (old.put_faults set) (new.put_faults set)) → new.text ≡ old.text → Ran job old new ending
-    ran_unput f ending ends rose same = subst (Ran job old new) (sym ends) (record {
-      printed = λ e says. not_put_prints f e rose same (import_says e says);
-      said = λ told. absurd (not_put_told f told);
-      counted = not_put_counted f rose;
-    })
+    pub ran_no_put : (f : PutFailed) (ending : Ending) → ending ≡ ending_of_put f → (IsErrOf {T = Unit {0}} (Err f) put.Failed → Rose (old.put_faults set) (new.put_faults set)) → new.text ≡ old.text → Ran job old new ending
+    ran_no_put f ending ends rose same = ran_unput job set refl tt old new d.text.items (string_bytes d.line) import_says f ending ends rose same
 
-    -- the file has the set
-    set_saved : HasBytes d.text.items old.content new.content set → IsSaved job old new
-    set_saved has e says = subst (λ (x : Expected). AllByRecursion (HasBytes x.saved old.content new.content) (set ∷ [])) (sym (import_says e says)) (has, tt)
-
-    -- what an import leaves that put its set: the line behind the put was written, or a front of it
+    -- what an import leaves that put its set
     pub leaves_import : (ending : Ending) → EndsBefore (prints_line (string_bytes d.line)) ⊥ ⊥ (SinkRose old new) ending old.text new.text → HasBytes d.text.items old.content new.content set
         → ((name : List ℕ) → name ≢ set → new.content name ≡ old.content name) → Leaves job old new ending
-    leaves_import ending before has others = record {
-      others = λ name other. others name other.0;
-      only = only_then ending before;
-      saved = λ done. set_saved has;
-    }
-      where
-        only_then : (ending : Ending) → EndsBefore (prints_line (string_bytes d.line)) ⊥ ⊥ (SinkRose old new) ending old.text new.text → OnlyThen job old new ending
-        only_then Done before = inl refl
-        only_then NoMemory before = inr (inr (inr (record { behind = tt; cut = inl refl; saved = set_saved has })))
-        only_then SinkFault before = inr (inr (inr (record { behind = tt; cut = inr refl; saved = set_saved has })))
-        only_then ReadFault before = absurd before.0
-        only_then SaveFault before = absurd before.0
-        only_then _ before = absurd (let bad = before.0 in cc)
-
-  -- what an import leaves whose set was not put
-  pub leaves_unput : (f : PutFailed) (ending : Ending) → ending ≡ ending_of_put f → (IsErrOf {T = Unit {0}} (Err f) put.Failed → Rose (old.put_faults set) (new.put_faults set))
-      → (IsErrOf {T = Unit {0}} (Err f) put.Memory → SameContent old.content new.content) → ((name : List ℕ) → name ≢ set → new.content name ≡ old.content name) → Leaves job old new ending
-  leaves_unput put.Failed ending is rose same others = record { others = λ name other. others name other.0; only = inr (inl (any_first _ set [] (rose refl))); saved = λ done. absurd (let bad = sym is ∙ done in cc) }
-  leaves_unput put.Memory ending is rose same others = record { others = λ name other. others name other.0; only = inr (inr (inl (same refl))); saved = λ done. absurd (let bad = sym is ∙ done in cc) }
+    leaves_import ending before has others = leaves_put job set refl tt old new d.text.items (string_bytes d.line) import_says ending before has others
 
 -- an import that has no document is not done
 pub document_not_done : (f : DocumentFailed) → ending_of_document f ≡ Done → ⊥

@@ -1,12 +1,14 @@
 pub mod Whole
 pub mod Pieces
 pub mod Stays
+pub mod NormalLemmas
 pub mod Parts
 pub mod SlotRefusals
 pub mod LeftLemmas
 pub mod TraceLemmas
 pub mod StandLemmas
 pub mod NextLemmas
+pub mod PutLemmas
 pub mod ReadLemmas
 pub mod SaysLemmas
 pub mod LengthLemmas

@@ -12,7 +12,7 @@ use Rattle.ra_runtime.specs.Openings.{plain_opening}
 use Rattle.ra_runtime.specs.Play.{Moment, first_moment}
 use Rattle.ra_session.specs.Endings.{ending_of}
 use Rattle.ra_session.specs.declared.ending.Ending.TheVariants.{Done, BadTrace, LongTrace}
-use Rattle.ra_session.specs.Expected.{Expected, IsReadBehind, RunSays, refuses_set, refuses_file, begins, goes_on, SetSays, tells, ImportSays, refuses_document, imports, played, pieces_from, trace_limit}
+use Rattle.ra_session.specs.Expected.{Expected, IsReadBehind, RunSays, refuses_set, refuses_file, begins, goes_on, SetSays, tells, ImportSays, refuses_document, imports, NormalSays, passes_limit, puts_text, played, pieces_from, trace_limit}
 use Rattle.ra_session.specs.Playing.{IsLeft, says_from}
 
 -- a trace that is refused is not at its end
@@ -79,3 +79,9 @@ pub import_read : (content : List ℕ → Option (List ℕ)) (file : List ℕ) (
 import_read content file e (refuses_document bytes why told of_document is) = record { there = omega arith; before_end = λ done. absurd (cc) }
 import_read content file e (refuses_set bytes why told is) = record { there = omega arith; before_end = λ done. absurd (cc) }
 import_read content file e (imports bytes text c told gives is) = record { there = omega arith; before_end = λ done. omega arith }
+
+-- before the line of a normal text
+pub normal_read : (content : List ℕ → Option (List ℕ)) (set : List ℕ) (e : Expected) → NormalSays content set e → IsReadBehind e 0
+normal_read content set e (refuses_set file why told refuses) = record { there = omega arith; before_end = λ done. absurd (cc) }
+normal_read content set e (passes_limit file s which found told is past) = record { there = omega arith; before_end = λ done. absurd (cc) }
+normal_read content set e (puts_text file s text told is text_is) = record { there = omega arith; before_end = λ done. omega arith }

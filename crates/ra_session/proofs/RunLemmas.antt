@@ -26,7 +26,7 @@ use Rattle.ra_runtime.specs.Openings.{snapshot}
 use Rattle.ra_runtime.specs.Play.{first_moment, moment_after, behind_end}
 use Rattle.ra_session.specs.Endings.{ending_of}
 use Rattle.ra_session.specs.declared.ending.Ending.{Ending}
-use Rattle.ra_session.specs.declared.ending.Ending.TheVariants.{Done, NoMemory, NoJob, BadSet, ReadFault, SinkFault, BadProgress, BadTrace, LongTrace, SaveFault, BadDocument}
+use Rattle.ra_session.specs.declared.ending.Ending.TheVariants.{Done, NoMemory, NoJob, BadSet, ReadFault, SinkFault, BadProgress, BadTrace, LongTrace, SaveFault, BadDocument, LongNormal}
 use Rattle.ra_session.specs.Expected.{Expected, played, pieces_from, trace_limit}
 use Rattle.ra_session.specs.Closing.{EndsBefore}
 use Rattle.ra_session.specs.Failures.{ending_at, ending_of_trace, trace_failed}
@@ -72,6 +72,7 @@ ends_same a b reads puts sink ending old new pieces end first before =
     same_saved LongTrace h = h
     same_saved SaveFault h = h
     same_saved (BadDocument why) h = h
+    same_saved (LongNormal which found) h = h
 
 -- behind a good header the trace is what is left of it
 pub played_behind : (set : SetContents) (o : Opening) (behind : History) (bytes : List ℕ) (size : ℕ) (ending : Ending) (old new : Option (List ℕ)) → header_size (take trace_limit bytes) ≡ Some size

@@ -1,12 +1,13 @@
 -- How a job ends: the status and the last line: docs/DEFINITIONS.md, "Statuses".
 use Rattle.std.specs.Prelude.{ℕ, List, [], ◌∷◌, ◌++◌, codes, decimal}
 use Rattle.ra_set.specs.Words.{set_words}
+use Rattle.ra_set.specs.declared.refused.SetRefused.TheVariants.{Limit}
 use Rattle.ra_progress.specs.Refusals.{progress_words}
 use Rattle.ra_patch.specs.Words.{document_words}
 use Rattle.ra_trace.specs.Refusals.{trace_word}
 use Rattle.ra_trace.specs.Cutting.{Stop, Reached, RefusedAt, PastLimit}
 use Rattle.ra_session.specs.declared.ending.Ending.{Ending}
-use Rattle.ra_session.specs.declared.ending.Ending.TheVariants.{Done, NoMemory, NoJob, BadSet, ReadFault, SinkFault, BadProgress, BadTrace, LongTrace, SaveFault, BadDocument}
+use Rattle.ra_session.specs.declared.ending.Ending.TheVariants.{Done, NoMemory, NoJob, BadSet, ReadFault, SinkFault, BadProgress, BadTrace, LongTrace, SaveFault, BadDocument, LongNormal}
 
 -- the status of each ending
 abbrev pub status_of : Ending → ℕ
@@ -21,10 +22,11 @@ status_of (BadTrace at why) = 7
 status_of LongTrace = 8
 status_of SaveFault = 9
 status_of (BadDocument why) = 10
+status_of (LongNormal which found) = 11
 
 -- the line that says how the program is called, without its end
 abbrev pub usage : List ℕ
-usage = codes "usage: ra_player run SET TRACE [--restore FILE] [--save FILE] | check SET | make N | import FILE SET | lint SET"
+usage = codes "usage: ra_player run SET TRACE [--restore FILE] [--save FILE] | check SET | make N | import FILE SET | lint SET | normal SET OUT"
 
 -- the last line, where there is one
 abbrev pub last_line : Ending → List ℕ
@@ -39,6 +41,7 @@ last_line (BadTrace at why) = codes "trace refused at " ++ decimal at ++ codes "
 last_line LongTrace = codes "trace too long\n"
 last_line SaveFault = codes "save fault\n"
 last_line (BadDocument why) = codes "import refused: " ++ document_words why ++ 10 ∷ []
+last_line (LongNormal which found) = codes "normal refused: " ++ set_words (Limit which found) ++ 10 ∷ []
 
 -- how a trace ends a run
 abbrev pub ending_of : Stop → Ending

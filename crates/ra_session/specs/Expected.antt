@@ -23,11 +23,14 @@ use Rattle.ra_richpresence.specs.Contents.{ScriptContents}
 use Rattle.ra_patch.specs.declared.refused.PatchRefused.{PatchRefused}
 use Rattle.ra_patch.specs.declared.refused.PatchRefused.TheVariants as patch
 use Rattle.ra_patch.specs.Answers.{document_limit, Imports, RefusesDocument}
-use Rattle.ra_jobs.specs.Words.{Job, Run, Check, Make, Import, Lint}
+use Rattle.ra_normal.specs.Text.{IsNormal, IsPastLimit, normal_conditions}
+use Rattle.ra_normal.specs.declared.refused.NormalRefused.TheVariants as normal
+use Rattle.ra_set.specs.declared.refused.Which.{Which}
+use Rattle.ra_jobs.specs.Words.{Job, Run, Check, Make, Import, Lint, Normal}
 use Rattle.ra_session.specs.Endings.{ending_of}
 use Rattle.ra_session.specs.Linting.{lint_text}
 use Rattle.ra_session.specs.declared.ending.Ending.{Ending}
-use Rattle.ra_session.specs.declared.ending.Ending.TheVariants.{Done, BadSet, BadProgress, BadDocument}
+use Rattle.ra_session.specs.declared.ending.Ending.TheVariants.{Done, BadSet, BadProgress, BadDocument, LongNormal}
 
 -- what a job says where nothing fails
 pub record Expected : Type 0 where
@@ -168,6 +171,19 @@ pub data ImportSays (content : List ℕ → Option (List ℕ)) (file : List ℕ)
   imports : (bytes text : List ℕ) (s : SetContents) → content file ≡ Some bytes → Imports bytes text → IsSet text s
       → ImportSays content file (puts_then_prints text (import_line s))
 
+-- the line of `normal`, of a set whose normal text has so many bytes
+abbrev pub normal_line : SetContents → (bytes : ℕ) → List ℕ
+normal_line set bytes =
+    join_with_byte 32 (codes "normal" ∷ codes "bytes" ∷ decimal bytes ∷ codes "conditions" ∷ decimal (normal_conditions set) ∷ []) ++ 10 ∷ []
+
+-- What `normal` of the set of this file says, where its bytes are told.
+pub data NormalSays (content : List ℕ → Option (List ℕ)) (set : List ℕ) : Expected → Type 0 where
+  refuses_set : (file : List ℕ) (why : SetRefused) → content set ≡ Some file → Refuses (take (set_limit + 1) file) why → NormalSays content set (prints_nothing (BadSet why))
+  passes_limit : (file : List ℕ) (s : SetContents) (which : Which) (found : ℕ) → content set ≡ Some file → IsSet file s → IsPastLimit file s (normal.Limit which found)
+      → NormalSays content set (prints_nothing (LongNormal which found))
+  puts_text : (file : List ℕ) (s : SetContents) (text : List ℕ) → content set ≡ Some file → IsSet file s → IsNormal file s text
+      → NormalSays content set (puts_then_prints text (normal_line s (length text)))
+
 -- what a job says over files whose bytes are told
 abbrev pub JobSays : (content : List ℕ → Option (List ℕ)) → Job → Expected → Type 0
 JobSays content (Run set trace restore save) e = RunSays content set trace restore e
@@ -175,3 +191,4 @@ JobSays content (Check set) e = SetSays check_line content set e
 JobSays content (Make number) e = MakeSays number e
 JobSays content (Import file set) e = ImportSays content file e
 JobSays content (Lint set) e = SetSays lint_text content set e
+JobSays content (Normal set out) e = NormalSays content set e

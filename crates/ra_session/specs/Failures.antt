@@ -7,11 +7,14 @@ use Rattle.ra_io.specs.declared.sink.SinkFailed.TheVariants as write
 use Rattle.ra_trace.specs.declared.error.TraceError.{TraceError}
 use Rattle.ra_trace.specs.declared.error.TraceError.TheVariants as error
 use Rattle.ra_session.specs.declared.ending.Ending.{Ending}
-use Rattle.ra_session.specs.declared.ending.Ending.TheVariants.{Done, NoMemory, BadSet, ReadFault, SinkFault, BadProgress, BadTrace, LongTrace, SaveFault, BadDocument}
+use Rattle.ra_session.specs.declared.ending.Ending.TheVariants.{Done, NoMemory, BadSet, ReadFault, SinkFault, BadProgress, BadTrace, LongTrace, SaveFault, BadDocument, LongNormal}
 use Rattle.ra_patch.specs.declared.refused.PatchRefused.{PatchRefused}
 use Rattle.ra_patch.specs.declared.refused.PatchRefused.TheVariants as patch
 use Rattle.ra_session.specs.declared.failures.DocumentFailed.{DocumentFailed}
 use Rattle.ra_session.specs.declared.failures.DocumentFailed.TheVariants as document
+use Rattle.ra_normal.specs.declared.refused.NormalRefused.TheVariants as normal
+use Rattle.ra_session.specs.declared.failures.NormalFailed.{NormalFailed}
+use Rattle.ra_session.specs.declared.failures.NormalFailed.TheVariants as no_normal
 use Rattle.ra_session.specs.declared.failures.ReadFailed.{ReadFailed}
 use Rattle.ra_session.specs.declared.failures.ReadFailed.TheVariants as read
 use Rattle.ra_session.specs.declared.failures.SetFailed.{SetFailed}
@@ -32,6 +35,10 @@ set_unread read.Failed = set.Read
 abbrev pub document_unread : ReadFailed → DocumentFailed
 document_unread read.Memory = document.Memory
 document_unread read.Failed = document.Read
+
+-- a file that is not read gives no normal text
+abbrev pub normal_unread : ReadFailed → NormalFailed
+normal_unread why = no_normal.Set (set_unread why)
 
 -- a document that is refused; want of memory is no refusal of it
 abbrev pub document_refused : PatchRefused → DocumentFailed
@@ -71,6 +78,12 @@ abbrev pub ending_of_document : DocumentFailed → Ending
 ending_of_document document.Memory = NoMemory
 ending_of_document document.Read = ReadFault
 ending_of_document (document.Refused why) = ending_of_refused why
+
+-- how a job ends whose set has no normal text
+abbrev pub ending_of_normal : NormalFailed → Ending
+ending_of_normal (no_normal.Set failed) = ending_of_set failed
+ending_of_normal (no_normal.Refused (normal.Limit which found)) = LongNormal which found
+ending_of_normal (no_normal.Refused normal.Memory) = NoMemory
 
 -- how a run ends that does not begin
 abbrev pub ending_of_load : LoadFailed → Ending

@@ -12,3 +12,4 @@ pub mod Playing
 pub mod Loading
 pub mod RunFiles
 pub mod Importing
+pub mod Normalizing

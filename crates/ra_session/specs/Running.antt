@@ -2,7 +2,7 @@
 use Rattle.std.specs.Prelude.{◌≡◌, ◌≢◌, ◌⊎◌, ⊤, ℕ, Option, Some, List, is_some, true}
 use Rattle.std.specs.List.{AllByRecursion}
 use Rattle.ra_io.specs.Files.{SameContent}
-use Rattle.ra_jobs.specs.Words.{Job, Import, reads_of, puts_of, set_read, first_reads}
+use Rattle.ra_jobs.specs.Words.{Job, Import, Normal, reads_of, puts_of, set_read, first_reads}
 use Rattle.ra_session.specs.Expected.{Expected, JobSays}
 use Rattle.ra_session.specs.Closing.{EndsBefore}
 use Rattle.ra_session.specs.Outside.{Outside, ReadsRose, PutsRose, SinkRose, AreTold}
@@ -56,6 +56,7 @@ HasSaved job e old new = AllByRecursion (HasBytes e.saved old new) (puts_of job)
 -- the job prints its line behind its put
 abbrev pub PrintsBehindPut : Job → Type 0
 PrintsBehindPut (Import file set) = Unit {0}
+PrintsBehindPut (Normal set out) = Unit {0}
 PrintsBehindPut _ = ⊥
 
 module _ (job : Job) (old new : Outside) where

@@ -8,13 +8,14 @@ ghost use Rattle.ra_session.specs.Endings as spec;
 use crate::ending::Ending;
 use crate::writing::write_all;
 use ra_io::{Sink, SinkFailed};
+use ra_set::SetRefused;
 use ra_text::OutOfMemory;
 use std::alloc::Global;
 use std::fmt::Write;
 
 // How the program is called.
 const USAGE: &str =
-    "usage: ra_player run SET TRACE [--restore FILE] [--save FILE] | check SET | make N | import FILE SET | lint SET\n";
+    "usage: ra_player run SET TRACE [--restore FILE] [--save FILE] | check SET | make N | import FILE SET | lint SET | normal SET OUT\n";
 
 // Writes a last line, and answers its status.
 //
@@ -45,6 +46,10 @@ fn last_line(alloc: Global, ending: Ending) -> Result<String, OutOfMemory>
         Ending::LongTrace => line.push_str("trace too long\n")?,
         Ending::SaveFault => line.push_str("save fault\n")?,
         Ending::BadDocument(why) => writeln!(line, "import refused: {why}")?,
+        Ending::LongNormal { which, found } => {
+            let limit = SetRefused::Limit { which, found };
+            writeln!(line, "normal refused: {limit}")?
+        }
     }
     Ok(line)
 }
@@ -65,6 +70,7 @@ fn status_of(ending: Ending) -> u8
         Ending::LongTrace => 8,
         Ending::SaveFault => 9,
         Ending::BadDocument(_) => 10,
+        Ending::LongNormal { .. } => 11,
     }
 }
 

@@ -1,7 +1,7 @@
-/// What an import puts, and the line that it prints behind it.
+/// What a job puts, and the line that it prints behind it.
 #[derive(Drop)]
 pub(crate) struct Document {
-    /// The set file.
+    /// The file.
     pub text: Vec<u8>,
     /// The line, with its end.
     pub line: String,

@@ -1,12 +1,15 @@
 ghost use Rattle.std.specs.Prelude.{◌≡◌};
-ghost use Rattle.ra_session.specs.Failures.{ending_of_document, ending_of_load, ending_of_put, ending_of_set, ending_of_trace};
+ghost use Rattle.ra_session.specs.Failures.{ending_of_document, ending_of_load, ending_of_normal, ending_of_put, ending_of_set, ending_of_trace};
 ghost use Rattle.ra_session.specs.declared.ending.Ending.TheVariants as ends;
 
-use crate::failures::{DocumentFailed, LoadFailed, ProgressFailed, SetFailed, TraceFailed};
+use crate::failures::{
+    DocumentFailed, LoadFailed, NormalFailed, ProgressFailed, SetFailed, TraceFailed,
+};
 use ra_io::PutFailed;
+use ra_normal::NormalRefused;
 use ra_patch::PatchRefused;
 use ra_progress::ProgressRefused;
-use ra_set::SetRefused;
+use ra_set::{SetRefused, Which};
 use ra_text::OutOfMemory;
 use ra_trace::Why;
 
@@ -35,6 +38,8 @@ pub enum Ending {
     SaveFault,
     /// A document gives no set, for another reason than that its set file is refused.
     BadDocument(PatchRefused),
+    /// The normal text of a set passes a limit, with how many there are.
+    LongNormal { which: Which, found: u64 },
 }
 
 impl From<OutOfMemory> for Ending {
@@ -68,6 +73,20 @@ impl From<DocumentFailed> for Ending {
             DocumentFailed::Read => Ending::ReadFault,
             DocumentFailed::Refused(PatchRefused::Set(why)) => Ending::BadSet(why),
             DocumentFailed::Refused(why) => Ending::BadDocument(why),
+        }
+    }
+}
+
+impl From<NormalFailed> for Ending {
+    ghost from_gives = { λ failed e. e ≡ ending_of_normal failed };
+
+    fn from(failed: NormalFailed) -> Ending {
+        match failed {
+            NormalFailed::Set(failed) => Ending::from(failed),
+            NormalFailed::Refused(NormalRefused::Limit { which, found }) => {
+                Ending::LongNormal { which, found }
+            }
+            NormalFailed::Refused(NormalRefused::Memory) => Ending::NoMemory,
         }
     }
 }

@@ -1,14 +1,16 @@
 //! What each phase of a job can end with before it is done.
 
 ghost use Rattle.std.specs.Prelude.{◌≡◌};
-ghost use Rattle.ra_session.specs.Failures.{document_refused, document_unread, progress_unread, set_unread, trace_failed, trace_unwritten};
+ghost use Rattle.ra_session.specs.Failures.{document_refused, document_unread, normal_unread, progress_unread, set_unread, trace_failed, trace_unwritten};
 ghost use Rattle.ra_session.specs.declared.failures.DocumentFailed.TheVariants as document;
 ghost use Rattle.ra_session.specs.declared.failures.LoadFailed.TheVariants as load;
+ghost use Rattle.ra_session.specs.declared.failures.NormalFailed.TheVariants as no_normal;
 ghost use Rattle.ra_session.specs.declared.failures.ProgressFailed.TheVariants as progress;
 ghost use Rattle.ra_session.specs.declared.failures.ReadFailed.TheVariants as read;
 ghost use Rattle.ra_session.specs.declared.failures.TraceFailed.TheVariants as trace;
 
 use ra_io::SinkFailed;
+use ra_normal::NormalRefused;
 use ra_patch::PatchRefused;
 use ra_progress::ProgressRefused;
 use ra_set::SetRefused;
@@ -45,6 +47,15 @@ pub enum DocumentFailed {
     Read,
     /// The document is refused.
     Refused(PatchRefused),
+}
+
+/// Why a set gives no normal text.
+#[derive(Clone, Copy, Debug, PartialEq, Eq)]
+pub enum NormalFailed {
+    /// There is no set.
+    Set(SetFailed),
+    /// Its normal text passes a limit, or there was no memory for it.
+    Refused(NormalRefused),
 }
 
 /// Why there are no progress bytes.
@@ -128,6 +139,30 @@ impl From<OutOfMemory> for DocumentFailed {
 
     fn from(_error: OutOfMemory) -> DocumentFailed {
         DocumentFailed::Memory
+    }
+}
+
+impl From<ReadFailed> for NormalFailed {
+    ghost from_gives = { λ failed e. e ≡ normal_unread failed };
+
+    fn from(failed: ReadFailed) -> NormalFailed {
+        NormalFailed::Set(SetFailed::from(failed))
+    }
+}
+
+impl From<SetFailed> for NormalFailed {
+    ghost from_gives = { λ failed e. e ≡ no_normal.Set failed };
+
+    fn from(failed: SetFailed) -> NormalFailed {
+        NormalFailed::Set(failed)
+    }
+}
+
+impl From<NormalRefused> for NormalFailed {
+    ghost from_gives = { λ why e. e ≡ no_normal.Refused why };
+
+    fn from(why: NormalRefused) -> NormalFailed {
+        NormalFailed::Refused(why)
     }
 }
 

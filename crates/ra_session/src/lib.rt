@@ -1,5 +1,5 @@
 //! A job from its files to its last line: a set is loaded, a trace played, a progress file put, a set counted, a workload
-//! made, a set taken of a document, and a set warned of.
+//! made, a set taken of a document, a set warned of, and a normal text put.
 #![tactic(auto)]
 
 mod beginning;
@@ -14,6 +14,7 @@ mod laws;
 mod linting;
 mod loading;
 mod make;
+mod normalizing;
 mod player;
 mod playing;
 mod reading;
@@ -27,5 +28,6 @@ pub use importing::import_job;
 pub use laws::runs_print_their_texts;
 pub use linting::lint_job;
 pub use make::make_job;
+pub use normalizing::normal_job;
 pub use run::{check_job, run_job};
 pub use run_files::RunFiles;

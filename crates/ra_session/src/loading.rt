@@ -24,8 +24,8 @@ use ra_runtime::shape_of;
 use ra_set::{Set, SetRefused, parse_set};
 use std::alloc::Global;
 
-// A byte more than a set may have.
-const SET_READ: usize = 4_194_305;
+/// A byte more than a set may have.
+pub(crate) const SET_READ: usize = 4_194_305;
 
 /// The set of a file: docs/DEFINITIONS.md, "Set file". No file changes.
 pub fn load_set<F: Files>(alloc: Global, name: &str, files: &mut F) -> Result<Set, SetFailed>

@@ -4,8 +4,9 @@ use Rattle.ra_jobs.specs.Words.{Import}
 use Rattle.ra_session.specs.Closing.{EndsBefore}
 use Rattle.ra_session.specs.Expected.{prints_line}
 use Rattle.ra_session.specs.Running.{HasBytes}
-use Rattle.ra_session.proofs.ImportLemmas.{document_not_done, has_bytes, leaves_import, leaves_unput, ran_import, ran_no_document, ran_unput}
+use Rattle.ra_session.proofs.ImportLemmas.{document_not_done, leaves_import, ran_import, ran_no_document, ran_no_put}
 use Rattle.ra_session.proofs.JobLemmas.{leaves_same}
+use Rattle.ra_session.proofs.PutLemmas.{has_bytes, leaves_unput}
 use Rattle.ra_session.proofs.Stays.{same_after}
 use Rattle.ra_session.proofs.importing.import_job.Goals as goal
 
@@ -37,13 +38,13 @@ returns-in-Ok-put-clause-leaves g c =
 pub returns-clause-ran : goal.returns-clause-ran
 returns-clause-ran g c =
     let stays = c.in-Ok.ensures.stays in
-    ran_unput c.args.file.now c.args.set.now _ _ c.in-Ok.document c.in-Ok.ensures.given c.in-Err-put.failed c.from-in-Err-put.result c.from-in-Err-put.ensures
+    ran_no_put c.args.file.now c.args.set.now _ _ c.in-Ok.document c.in-Ok.ensures.given c.in-Err-put.failed c.from-in-Err-put.result c.from-in-Err-put.ensures
     (λ is. let rose = c.in-Err-put.ensures.failed is in omega (arith, rose, stays.puts.each c.args.set.now)) refl
 
 pub returns-clause-leaves : goal.returns-clause-leaves
 returns-clause-leaves g c =
     let stays = c.in-Ok.ensures.stays in
-    leaves_unput c.args.file.now c.args.set.now _ _ c.in-Err-put.failed c.from-in-Err-put.result c.from-in-Err-put.ensures
+    leaves_unput (Import c.args.file.now c.args.set.now) c.args.set.now refl tt _ _ c.in-Err-put.failed c.from-in-Err-put.result c.from-in-Err-put.ensures
     (λ is. let rose = c.in-Err-put.ensures.failed is in omega (arith, rose, stays.puts.each c.args.set.now))
     (λ is. same_after _ _ _ stays.same (c.in-Err-put.ensures.memory is))
     (λ name other. c.in-Err-put.ensures.others.each name other ∙ stays.same.each name)
