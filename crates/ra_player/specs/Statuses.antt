@@ -9,12 +9,12 @@ use Rattle.ra_session.specs.Expected.{Expected, JobSays}
 use Rattle.ra_session.specs.Outside.{Outside, GrewBy, ReadsRose, PutsRose, SinkRose, AreTold}
 use Rattle.ra_session.specs.Running.{IsSaved, PrintsBehindPut, HasSaved, deciding}
 use Rattle.ra_session.specs.declared.ending.Ending.{Ending}
-use Rattle.ra_session.specs.declared.ending.Ending.TheVariants.{Done, NoMemory, NoJob, BadSet, ReadFault, SinkFault, BadProgress, BadTrace, LongTrace, SaveFault, BadDocument}
+use Rattle.ra_session.specs.declared.ending.Ending.TheVariants.{Done, NoMemory, NoJob, BadSet, ReadFault, SinkFault, BadProgress, BadTrace, LongTrace, SaveFault, BadDocument, LongNormal}
 use Rattle.ra_player.specs.Headline.{PlaysAs, RefusesWords}
 
 -- the statuses that a call of `play` may answer
 abbrev pub IsStatus : ℕ → Type 0
-IsStatus s = s ≤ 10
+IsStatus s = s ≤ 11
 
 -- the set was refused
 abbrev pub IsBadSet : Ending → Type 0
@@ -35,6 +35,11 @@ IsBadTrace _ = ⊥
 abbrev pub IsBadDocument : Ending → Type 0
 IsBadDocument (BadDocument why) = Unit {0}
 IsBadDocument _ = ⊥
+
+-- the set was accepted, and its normal text passes a limit
+abbrev pub IsLongNormal : Ending → Type 0
+IsLongNormal (LongNormal which found) = Unit {0}
+IsLongNormal _ = ⊥
 
 module _ (words : List (List ℕ)) (old new : Outside) where
   -- The words are a job, and where the files that decide are told, the job says that it ends so, and the text grew by
@@ -127,3 +132,4 @@ module _ (words : List (List ℕ)) (old new : Outside) where
     pub long : status ≡ 8 → EndsAsSaid reads_of (λ ending. ending ≡ LongTrace)
     pub save : status ≡ 9 → MeetsSaveFault
     pub document : status ≡ 10 → EndsAsSaid reads_of IsBadDocument
+    pub normal : status ≡ 11 → EndsAsSaid reads_of IsLongNormal

@@ -8,7 +8,9 @@ ghost use Rattle.ra_player.specs.Statuses.{Answers, LeavesFiles};
 
 use ra_io::{Files, Sink};
 use ra_jobs::{Job, read_job};
-use ra_session::{Ending, RunFiles, check_job, finish, import_job, lint_job, make_job, run_job};
+use ra_session::{
+    Ending, RunFiles, check_job, finish, import_job, lint_job, make_job, normal_job, run_job,
+};
 use std::alloc::Global;
 
 // Does a job, up to its last line.
@@ -42,6 +44,7 @@ fn do_job<F: Files, K: Sink>(alloc: Global, job: &Job<'_>, files: &mut F, out: &
         Job::Make { number } => make_job(alloc, number, out),
         Job::Import { file, set } => import_job(alloc, file, set, files, out),
         Job::Lint { set } => lint_job(alloc, set, files, out),
+        Job::Normal { set, out: file } => normal_job(alloc, set, file, files, out),
     }
 }
 

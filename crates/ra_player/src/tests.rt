@@ -36,11 +36,11 @@ fn plays(alloc: Global, texts: &[&str], status: u8, text: &[u8]) -> Result<bool,
 }
 
 const USAGE: &[u8] =
-    b"usage: ra_player run SET TRACE [--restore FILE] [--save FILE] | check SET | make N | import FILE SET | lint SET\n";
+    b"usage: ra_player run SET TRACE [--restore FILE] [--save FILE] | check SET | make N | import FILE SET | lint SET | normal SET OUT\n";
 
 #[test]
 fn plays_jobs_and_tells_other_words_the_usage(rt: HostRuntime) -> Result<(), OutOfMemory> {
-    let rows: [(&[&str], u8, &[u8]); 15] = [
+    let rows: [(&[&str], u8, &[u8]); 17] = [
         (&["run", "S", "T"], 0, b"unlock 4 1\n"),
         (
             &["check", "S"],
@@ -56,6 +56,8 @@ fn plays_jobs_and_tells_other_words_the_usage(rt: HostRuntime) -> Result<(), Out
         (&["import", "T", "p"], 10, b"import refused: json\n"),
         (&["lint", "S"], 0, b"warnings 0\n"),
         (&["lint", "T"], 3, b"set refused: syntax at 0\n"),
+        (&["normal", "S", "N"], 0, b"normal bytes 17 conditions 1\n"),
+        (&["normal", "T", "N"], 3, b"set refused: syntax at 0\n"),
         (&[], 2, USAGE),
         (&["run", "S"], 2, USAGE),
         (&["run", "S", "T", "--save"], 2, USAGE),
