@@ -1,0 +1,6 @@
+//! Why an unlock came: an achievement is recorded frame by frame, with the comparisons of its conditions.
+#![tactic(auto)]
+
+mod indices;
+mod row;
+mod row_list;

@@ -1,0 +1,34 @@
+//! The comparisons of a plan's conditions, read from a table.
+
+ghost use Rattle.std.specs.Prelude.{◌≡◌, true, length};
+ghost use Rattle.ra_operand.specs.Operators.{compared};
+ghost use Rattle.ra_member.specs.Runs.{MayFill};
+ghost use Rattle.ra_explain.specs.RowLists.{truths_laid};
+
+use ra_member::Laid;
+use ra_memref::Table;
+use ra_operand::{Op, compare};
+
+// Reads whether each comparison holds at the table's last sample.
+pub(crate) fn read_row(laid: &Laid, table: &Table, row: &mut [bool])
+    requires may { MayFill table.now.nodes laid.now }
+    requires sampled { table.now.sampled ≡ true }
+    requires long { length row.old ≡ length laid.now.ops.items }
+    ensures { row.new ≡ truths_laid table.now.values laid.now }
+{
+    for (place, op) in laid.ops.iter().enumerate() {
+        let left = table.value(laid.plan.lefts[place]);
+        let right = table.value(laid.plan.rights[place]);
+        row[place] = holds(*op, left, right);
+    }
+}
+
+// Whether a comparison holds; arithmetic compares nothing.
+fn holds(op: Op, left: u32, right: u32) -> bool
+    ensures { result ≡ compared op left right }
+{
+    match op {
+        Op::Mul | Op::Div | Op::And | Op::Xor | Op::Rem | Op::Add | Op::Sub => false,
+        _ => compare(op, left, right),
+    }
+}
