@@ -1,2 +1,5 @@
+pub mod FrameLemmas
 pub mod IndexLemmas
+pub mod MadeLemmas
 pub mod RowLemmas
+pub mod SlotLemmas

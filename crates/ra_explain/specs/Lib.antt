@@ -1,2 +1,5 @@
+pub mod Making
+pub mod Recorders
 pub mod RowLists
 pub mod RowsInside
+pub mod Slots

@@ -2,5 +2,10 @@
 #![tactic(auto)]
 
 mod indices;
+mod laying;
+mod refused;
 mod row;
 mod row_list;
+mod slot;
+
+pub use refused::ExplainRefused;
