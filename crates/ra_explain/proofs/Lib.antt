@@ -3,3 +3,4 @@ pub mod IndexLemmas
 pub mod MadeLemmas
 pub mod RowLemmas
 pub mod SlotLemmas
+pub mod TakenLemmas

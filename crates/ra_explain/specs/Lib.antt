@@ -2,4 +2,5 @@ pub mod Making
 pub mod Recorders
 pub mod RowLists
 pub mod RowsInside
+pub mod Seen
 pub mod Slots

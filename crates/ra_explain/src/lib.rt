@@ -3,9 +3,11 @@
 
 mod indices;
 mod laying;
+mod recorder;
 mod refused;
 mod row;
 mod row_list;
 mod slot;
 
+pub use recorder::Recorder;
 pub use refused::ExplainRefused;
