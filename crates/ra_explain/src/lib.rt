@@ -1,7 +1,9 @@
 //! Why an unlock came: an achievement is recorded frame by frame, with the comparisons of its conditions.
 #![tactic(auto)]
 
+mod explanation;
 mod indices;
+mod laws;
 mod laying;
 mod recorder;
 mod refused;
@@ -9,5 +11,7 @@ mod row;
 mod row_list;
 mod slot;
 
+pub use explanation::{Event, Events, Explanation};
+pub use laws::explained_rows_unlock;
 pub use recorder::Recorder;
 pub use refused::ExplainRefused;
