@@ -13,7 +13,7 @@ use Rattle.ra_explain.proofs.LeftLemmas.{together_reset, together_valid, togethe
 
 -- ---- before the first row no hits are said
 
-none_said : (own : List Event) (hits before from last row : ℕ) → AreRising from last before own → row < from → said_from hits own row ≡ hits
+pub none_said : (own : List Event) (hits before from last row : ℕ) → AreRising from last before own → row < from → said_from hits own row ≡ hits
 none_said [] hits before from last row rising below = refl
 none_said (e ∷ es) hits before from last row rising below =
     ap (λ b. cond b (said_from e.hits es row) (said_from hits es row)) (lt-leb e.row row (omega (arith, rising.0, below)))
@@ -23,7 +23,7 @@ all_none : (events : List (List Event)) (from last row : ℕ) → AllByRecursion
 all_none [] from last row rising below = refl
 all_none (own ∷ events) from last row rising below = ap₂ (λ n ns. n ∷ ns) (none_said own 0 0 from last row rising.0 below) (all_none events from last row rising.1 below)
 
-begins_with : (e : ExplanationContents) (since : ℕ) → AllByRecursion (AreRising since e.last 0) e.events → said_before e since ≡ replicate (length e.events) 0
+pub begins_with : (e : ExplanationContents) (since : ℕ) → AllByRecursion (AreRising since e.last 0) e.events → said_before e since ≡ replicate (length e.events) 0
 begins_with e zero rising = refl
 begins_with e (suc row) rising = all_none e.events (suc row) e.last row rising (omega arith)
 

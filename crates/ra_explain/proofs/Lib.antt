@@ -1,8 +1,10 @@
 pub mod FollowLemmas
 pub mod FrameLemmas
+pub mod GroupsLemmas
 pub mod IndexLemmas
 pub mod LeftLemmas
 pub mod MadeLemmas
+pub mod PauseLemmas
 pub mod RowLemmas
 pub mod SlotLemmas
 pub mod TakenLemmas

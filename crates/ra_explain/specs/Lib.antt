@@ -1,6 +1,7 @@
 pub mod Explains
 pub mod Making
 pub mod Recorders
+pub mod Replays
 pub mod RowLists
 pub mod RowsInside
 pub mod Seen

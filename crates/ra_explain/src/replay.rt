@@ -1,0 +1,103 @@
+//! An achievement's groups over rows of comparisons.
+
+ghost use Rattle.std.specs.Prelude.{◌≡◌, length, replicate, IfOk};
+ghost use Rattle.ra_condition.specs.Contents.{trigger_contents, trigger_hits};
+ghost use Rattle.ra_trigger.specs.Steps.{together};
+ghost use Rattle.ra_explain.specs.Replays.{AreOrders, IsReplay, StepsRow};
+
+use crate::orders::{Orders, orders_of};
+use ra_condition::TriggerText;
+use ra_group::{Form, step_at};
+use ra_text::OutOfMemory;
+use ra_trigger::Trigger;
+use std::alloc::Global;
+
+/// What the groups say together at a row.
+#[derive(Clone, Copy)]
+pub(crate) struct Said {
+    pub reset: bool,
+    pub valid: bool,
+}
+
+/// The hits of an achievement, stepped row by row.
+#[derive(Drop)]
+pub(crate) struct Replay {
+    pub orders: Orders,
+    pub trigger: Trigger,
+    // the hits before the last row
+    pub before: Vec<u32>,
+    // left values, which count for no hits
+    pub zeros: Vec<u32>,
+    pub room: Vec<u32>,
+}
+
+impl Replay {
+    // All hits are 0.
+    pub(crate) fn new(alloc: Global, text: &TriggerText) -> Result<Replay, OutOfMemory>
+        ensures replay { IfOk result (IsReplay (trigger_contents text.now)) }
+        ensures hits { IfOk result (λ replay. replay.trigger.hits ≡ replicate (trigger_hits (trigger_contents text.now)) 0) }
+    {
+        let orders = orders_of(alloc, text)?;
+        let trigger = Trigger::new(alloc, text)?;
+        let count = trigger.hits().len();
+        let before = vec![in alloc; 0; count]?;
+        let zeros = vec![in alloc; 0; count]?;
+        let room = vec![in alloc; 0; count]?;
+        Ok(Replay {
+            orders,
+            trigger,
+            before,
+            zeros,
+            room,
+        })
+    }
+
+    // Steps all groups by a row.
+    pub(crate) fn step(&mut self, text: &TriggerText, row: &[bool]) -> Said
+        requires replay { IsReplay (trigger_contents text.now) self.old }
+        requires row { length row.now ≡ trigger_hits (trigger_contents text.now) }
+        ensures replay { IsReplay (trigger_contents text.now) self.new }
+        ensures steps { StepsRow (trigger_contents text.now) row.now self.old self.new result }
+    {
+        self.before.copy_from_slice(self.trigger.hits());
+        self.room.copy_from_slice(self.trigger.hits());
+        let reset = resets(text, &self.orders, row, &self.zeros, &mut self.room);
+        let valid = self.trigger.truth(
+            text,
+            &self.orders.order,
+            &self.orders.pauses,
+            row,
+            &self.zeros,
+        );
+        Said { reset, valid }
+    }
+}
+
+// Whether some group resets, from these hits, which are used up.
+fn resets(
+    text: &TriggerText,
+    orders: &Orders,
+    row: &[bool],
+    lefts: &[u32],
+    hits: &mut [u32],
+) -> bool
+    requires orders { AreOrders (trigger_contents text.now) orders.now }
+    requires row { length row.now ≡ trigger_hits (trigger_contents text.now) }
+    requires lefts { length lefts.now ≡ trigger_hits (trigger_contents text.now) }
+    requires hits { length hits.old ≡ trigger_hits (trigger_contents text.now) }
+    ensures { result ≡ (together (trigger_contents text.now) row.now lefts.now hits.old).reset }
+{
+    let form = Form::InTrigger;
+    let order = orders.order.as_slice();
+    let pauses = orders.pauses.as_slice();
+    let core = step_at(&text.core, form, 0, order, pauses[0], row, lefts, hits);
+    let mut resets = core.reset;
+    let mut start = text.core.conditions.len();
+    for (place, alt) in text.alts.iter().enumerate() {
+        let count = pauses[place + 1];
+        let outcome = step_at(alt, form, start, order, count, row, lefts, hits);
+        resets |= outcome.reset;
+        start += alt.conditions.len();
+    }
+    resets
+}
