@@ -1,10 +1,13 @@
+pub mod ColumnLemmas
 pub mod FollowLemmas
 pub mod FrameLemmas
 pub mod GroupsLemmas
 pub mod IndexLemmas
 pub mod LeftLemmas
 pub mod MadeLemmas
+pub mod NoteLemmas
 pub mod PauseLemmas
 pub mod RowLemmas
 pub mod SlotLemmas
 pub mod TakenLemmas
+pub mod TraceLemmas

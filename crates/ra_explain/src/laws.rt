@@ -5,5 +5,4 @@ ghost use Rattle.ra_explain.specs.Explains.{ExplanationContents, Explains, Unloc
 /// From explained rows the unlock follows: docs/DEFINITIONS.md, "Explanations".
 pub fn explained_rows_unlock()
     ensures { (t : TriggerContents) (rows : List Bool) (e : ExplanationContents) → Explains t rows e → UnlockFollows t rows e }
-{
-}
+{}

@@ -1,6 +1,7 @@
 //! Why an unlock came: an achievement is recorded frame by frame, with the comparisons of its conditions.
 #![tactic(auto)]
 
+mod checking;
 mod explanation;
 mod indices;
 mod laws;
@@ -12,7 +13,9 @@ mod replay;
 mod row;
 mod row_list;
 mod slot;
+mod tracing;
 
+pub use checking::verify;
 pub use explanation::{Event, Events, Explanation};
 pub use laws::explained_rows_unlock;
 pub use recorder::Recorder;

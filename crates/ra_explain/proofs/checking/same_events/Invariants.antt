@@ -1,0 +1,7 @@
+use Rattle.std.proofs.Common.{◌≡◌, take}
+use Rattle.ra_explain.specs.Replays.{contents_of}
+use Rattle.ra_explain.proofs.checking.same_events.Given as goal
+
+-- the events are the same so far
+abbrev pub invariant-loop-place : goal.invariant-loop-place
+invariant-loop-place l = contents_of (take l.place l.events) ≡ contents_of (take l.place l.others)

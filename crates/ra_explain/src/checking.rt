@@ -1,0 +1,67 @@
+//! Whether an explanation holds.
+
+ghost use Rattle.std.specs.Prelude.{◌≡◌, ◌↔◌, ◌+◌, ◌*◌, ◌≤◌, length, true, IfOk};
+ghost use Rattle.ra_condition.specs.Contents.{trigger_contents, trigger_hits};
+ghost use Rattle.ra_explain.specs.Explains.{Explains, UnlockFollows, explanation_contents};
+ghost use Rattle.ra_explain.specs.Replays.{contents_of};
+
+use crate::explanation::{Event, Events, Explanation};
+use crate::tracing::trace;
+use ra_condition::TriggerText;
+use ra_text::OutOfMemory;
+use std::alloc::Global;
+
+/// Whether rows are explained: docs/DEFINITIONS.md, "Explanations".
+///
+/// There are `last` + 1 rows, one behind the other, `since` is one of them, and there is a list of events for each
+/// condition.
+pub fn verify(
+    alloc: Global,
+    text: &TriggerText,
+    rows: &[bool],
+    explanation: &Explanation,
+) -> Result<bool, OutOfMemory>
+    requires rows { length rows.now ≡ (explanation.now.last + 1) * trigger_hits (trigger_contents text.now) }
+    requires since { explanation.now.since ≤ explanation.now.last }
+    requires events { length explanation.now.events.items ≡ trigger_hits (trigger_contents text.now) }
+    ensures exact { IfOk result (λ yes. (yes ≡ true)
+        ↔ Explains (trigger_contents text.now) rows.now (explanation_contents explanation.now)) }
+    ensures unlocks { IfOk result (λ yes. yes ≡ true
+        → UnlockFollows (trigger_contents text.now) rows.now (explanation_contents explanation.now)) }
+{
+    if explanation.waited && explanation.since == explanation.last {
+        return Ok(false);
+    }
+    match trace(alloc, text, rows, explanation.since, explanation.last)? {
+        Some(events) => Ok(same_events(&events, &explanation.events)),
+        None => Ok(false),
+    }
+}
+
+// Whether the events of all conditions are the same.
+fn same_events(events: &[Events], others: &[Events]) -> bool
+    requires { length events.now ≡ length others.now }
+    ensures { (result ≡ true) ↔ (contents_of events.now ≡ contents_of others.now) }
+{
+    for place in 0..events.len() {
+        if !same_list(&events[place].list, &others[place].list) {
+            return false;
+        }
+    }
+    true
+}
+
+// Whether the events of a condition are the same.
+fn same_list(list: &[Event], other: &[Event]) -> bool
+    ensures { (result ≡ true) ↔ (list.now ≡ other.now) }
+{
+    if list.len() != other.len() {
+        return false;
+    }
+    for place in 0..list.len() {
+        if list[place].row != other[place].row || list[place].hits != other[place].hits {
+            return false;
+        }
+    }
+    true
+}
