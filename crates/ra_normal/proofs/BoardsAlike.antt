@@ -1,6 +1,5 @@
--- A board and its normal board are in the same state after each frame, and print the same lines.
-use Rattle.std.proofs.Common.{◌≡◌, ◌∙◌, ℕ, ◌-◌, ◌&&◌, ◌||◌, not, ℤ, Bool, true, false, if◌then◌else◌, List, [], ◌∷◌, ◌++◌, length, map, get_or, replicate, Option, None, Some, option_map, IfSome, refl, sym, ap, ap₂, subst, subst₂, codes, decimal}
-use Rattle.std.specs.Fmt.{signed_decimal}
+-- A board and its normal board are in the same state after each frame, and tell the same events.
+use Rattle.std.proofs.Common.{◌≡◌, ◌∙◌, ℕ, ◌-◌, ◌&&◌, ◌||◌, not, ℤ, Bool, true, false, if◌then◌else◌, List, [], ◌∷◌, ◌++◌, length, map, get_or, replicate, Option, None, Some, option_map, IfSome, refl, sym, ap, ap₂, subst, subst₂}
 use Rattle.std.specs.List.{AllByRecursion}
 use Rattle.std.proofs.Math.ListN.{get_or-map}
 use Rattle.std.proofs.lemmas.List.{length-map}
@@ -12,7 +11,6 @@ use Rattle.ra_leaderboard.specs.Contents.{BoardContents}
 use Rattle.ra_leaderboard.specs.Spelled.{IsBoard}
 use Rattle.ra_leaderboard.specs.States.{is_running, begins, became_started, became_cancelled, became_submitted}
 use Rattle.ra_value_format.specs.declared.format.Format.{Format}
-use Rattle.ra_value_format.specs.Formats.{formatted}
 use Rattle.ra_memory.specs.Image.{History}
 use Rattle.ra_memref.specs.Values.{Start}
 use Rattle.ra_value.specs.Steps.{ValueKept, no_value, signed_greatest}
@@ -20,8 +18,10 @@ use Rattle.ra_member.specs.Members.{MemberContents, no_member, no_values, tests_
 use Rattle.ra_member.proofs.Opened.{member_again, none_saved}
 use Rattle.ra_member.proofs.Shaped.{no_member_shape}
 use Rattle.ra_runtime.specs.Boards.{BoardKept, state_by, running_values, board_next, board_after, number_at, value_number, tracked_number, opened_board}
-use Rattle.ra_runtime.specs.Lines.{line_if, is_started, same_number, board_lines}
-use Rattle.ra_runtime.specs.Openings.{plain_item}
+use Rattle.ra_progress.specs.Contents.{plain_item}
+use Rattle.ra_runtime.specs.declared.event.Event.{Event}
+use Rattle.ra_runtime.specs.declared.event.Event.TheVariants as events
+use Rattle.ra_runtime.specs.Events.{event_if, is_started, same_number, board_events}
 use Rattle.ra_runtime.specs.Order.{progress_in, board_member, item_shape}
 use Rattle.ra_set.specs.Contents.{Ranks}
 use Rattle.ra_normal.specs.Contents.{normal_value, normal_board}
@@ -122,20 +122,17 @@ pub board_alike : (start : Start) (b : BoardContents) → IsBoard b → (kept ot
 board_alike start b is kept other h [] = h
 board_alike start b is kept other h (image ∷ earlier) = board_step start (image ∷ earlier) b is (board_after start b kept earlier) (board_after start (normal_board b) other earlier) (board_alike start b is kept other h earlier)
 
--- ---- lines
+-- ---- events
 
--- the lines of a board by its states and numbers
-abbrev told : (frame id : ℕ) → Format → (old new : BoardState) → (before tracked value : ℤ) → List ℕ
-told frame id format old new before tracked value =
+-- the events of a board by its states and numbers
+abbrev told : (id : ℕ) → Format → (old new : BoardState) → (before tracked value : ℤ) → List Event
+told id format old new before tracked value =
     let started = became_started old new in
     let changed = not (same_number before tracked) in
-    line_if started (codes "start" ∷ decimal frame ∷ decimal id ∷ [])
-    ++ line_if (is_started new && (started || changed)) (codes "track" ∷ decimal frame ∷ decimal id ∷ formatted format tracked ∷ [])
-    ++ line_if (became_cancelled old new) (codes "cancel" ∷ decimal frame ∷ decimal id ∷ [])
-    ++ line_if (became_submitted old new) (codes "submit" ∷ decimal frame ∷ decimal id ∷ signed_decimal value ∷ formatted format value ∷ [])
-
-told_so : (frame id : ℕ) (format : Format) (before after : BoardKept) → board_lines frame id format before after ≡ told frame id format before.state after.state (tracked_number before) (tracked_number after) (value_number after)
-told_so frame id format before after = refl
+    event_if started (events.Start id)
+    ++ event_if (is_started new && (started || changed)) (events.Track id tracked format)
+    ++ event_if (became_cancelled old new) (events.Cancel id)
+    ++ event_if (became_submitted old new) (events.Submit id value format)
 
 module _ (b : BoardContents) (kept other : BoardKept) (h : BoardsMatch b kept other) where
   same : map (λ k. k.numbers) kept.member.values ≡ map (λ k. k.numbers) other.member.values
@@ -147,15 +144,15 @@ module _ (b : BoardContents) (kept other : BoardKept) (h : BoardsMatch b kept ot
   same_tracked : tracked_number kept ≡ tracked_number other
   same_tracked = ap (λ n. number_at kept.member.values (n - 1)) (same_many kept.member.values other.member.values same) ∙ same_number_at kept.member.values other.member.values same (length other.member.values - 1)
 
--- boards that match before and after a frame print the same
-pub same_lines : (b : BoardContents) (frame id : ℕ) (format : Format) (before before' after after' : BoardKept) → BoardsMatch b before before' → BoardsMatch b after after' → board_lines frame id format before after ≡ board_lines frame id format before' after'
-same_lines b frame id format before before' after after' h h' =
+-- boards that match before and after a frame tell the same
+pub same_events : (b : BoardContents) (id : ℕ) (format : Format) (before before' after after' : BoardKept) → BoardsMatch b before before' → BoardsMatch b after after' → board_events id format before after ≡ board_events id format before' after'
+same_events b id format before before' after after' h h' =
     let old = h.state in
     let new = h'.state in
     let tracked = same_tracked b before before' h in
     let tracked' = same_tracked b after after' h' in
     let value = same_value b after after' h' in
-    (λ i. told frame id format (old i) (new i) (tracked i) (tracked' i) (value i))
+    (λ i. told id format (old i) (new i) (tracked i) (tracked' i) (value i))
 
 -- ---- the plain opening
 

@@ -8,12 +8,14 @@ use Rattle.ra_set.specs.Contents.{ItemContents, Unlocks, Ranks, SetContents}
 use Rattle.ra_set.specs.Spelled.{IsItem}
 use Rattle.ra_trace.specs.Entries.{Entry, Written, Framed, Saved, Restored, Shown, Ended}
 use Rattle.ra_runtime.specs.Boards.{opened_board}
-use Rattle.ra_runtime.specs.Openings.{number_beside, prior_beside, start_of, frames_after, plain_item, plain_opening}
-use Rattle.ra_runtime.specs.Order.{set_cells, set_tracked, item_shape}
-use Rattle.ra_runtime.specs.Play.{item_lines, lines, shown_by, shown, Moment, moved, printed, first_moment, text_from, text_of}
+use Rattle.ra_runtime.specs.Openings.{number_beside, prior_beside, start_of, frames_after, plain_opening}
+use Rattle.ra_progress.specs.Contents.{plain_item}
+use Rattle.ra_runtime.specs.Lines.{event_lines}
+use Rattle.ra_runtime.specs.Order.{set_cells, set_tracked, item_shape, shape_of}
+use Rattle.ra_runtime.specs.Play.{item_events, lines, shown_by, shown, Moment, moved, printed, first_moment, text_from, text_of}
 use Rattle.ra_normal.specs.Contents.{normal_board, normal_item}
 use Rattle.ra_normal.proofs.AcceptedLemmas.{normal_set}
-use Rattle.ra_normal.proofs.BoardsAlike.{board_alike, same_lines, plain_match}
+use Rattle.ra_normal.proofs.BoardsAlike.{board_alike, same_events, plain_match}
 
 -- ---- the start
 
@@ -35,24 +37,24 @@ no_prior (s ∷ tracked) (suc n) t = if_zero (same_tracked s t) (prior_beside tr
 -- two sets that were never played start alike
 same_start : (set other : SetContents) → start_of set (plain_opening set) ≡ start_of other (plain_opening other)
 same_start set other =
-    let number = λ (c : Cell). no_number (set_cells set) (length (set_cells set)) c ∙ sym (no_number (set_cells other) (length (set_cells other)) c) in
-    let prior = λ (t : Tracked). no_prior (set_tracked set) (length (set_tracked set)) t ∙ sym (no_prior (set_tracked other) (length (set_tracked other)) t) in
+    let number = λ (c : Cell). no_number (set_cells set) (length (shape_of set).cells) c ∙ sym (no_number (set_cells other) (length (shape_of other).cells) c) in
+    let prior = λ (t : Tracked). no_prior (set_tracked set) (length (shape_of set).priors) t ∙ sym (no_prior (set_tracked other) (length (shape_of other).priors) t) in
     (λ i. record { number = λ c. number c i; prior = λ t. prior t i })
 
--- ---- lines
+-- ---- events
 
-item_alike : (start : Start) (frame : ℕ) (image : List ℕ) (earlier : History) (x : ItemContents) → IsItem x → item_lines start frame image earlier (x, plain_item (item_shape x)) ≡ item_lines start frame image earlier (normal_item x, plain_item (item_shape (normal_item x)))
-item_alike start frame image earlier (Unlocks id t) is = refl
-item_alike start frame image earlier (Ranks id format b) is =
+item_alike : (start : Start) (image : List ℕ) (earlier : History) (x : ItemContents) → IsItem x → item_events start image earlier (x, plain_item (item_shape x)) ≡ item_events start image earlier (normal_item x, plain_item (item_shape (normal_item x)))
+item_alike start image earlier (Unlocks id t) is = refl
+item_alike start image earlier (Ranks id format b) is =
     let kept = opened_board b (plain_item (item_shape (Ranks id format b))) in
     let other = opened_board (normal_board b) (plain_item (item_shape (Ranks id format (normal_board b)))) in
     let alike = board_alike start b is.0 kept other (plain_match id format b) in
-    same_lines b frame id format _ _ _ _ (alike earlier) (alike (image ∷ earlier))
+    same_events b id format _ _ _ _ (alike earlier) (alike (image ∷ earlier))
 
-items_alike : (start : Start) (frame : ℕ) (image : List ℕ) (earlier : History) (items : List ItemContents) → AllByRecursion IsItem items
-    → flat_map (item_lines start frame image earlier) (zip (map normal_item items) (map plain_item (map item_shape (map normal_item items)))) ≡ flat_map (item_lines start frame image earlier) (zip items (map plain_item (map item_shape items)))
-items_alike start frame image earlier [] each = refl
-items_alike start frame image earlier (x ∷ items) each = ap₂ (λ s t. s ++ t) (sym (item_alike start frame image earlier x each.0)) (items_alike start frame image earlier items each.1)
+items_alike : (start : Start) (image : List ℕ) (earlier : History) (items : List ItemContents) → AllByRecursion IsItem items
+    → flat_map (item_events start image earlier) (zip (map normal_item items) (map plain_item (map item_shape (map normal_item items)))) ≡ flat_map (item_events start image earlier) (zip items (map plain_item (map item_shape items)))
+items_alike start image earlier [] each = refl
+items_alike start image earlier (x ∷ items) each = ap₂ (λ s t. s ++ t) (sym (item_alike start image earlier x each.0)) (items_alike start image earlier items each.1)
 
 -- ---- a trace
 
@@ -63,8 +65,9 @@ module _ (set : SetContents) (text : List ℕ) (each : AllByRecursion IsItem set
   lines_alike : (history : History) → lines normal (plain_opening normal) history ≡ lines set (plain_opening set) history
   lines_alike [] = refl
   lines_alike (image ∷ earlier) =
-      ap (λ start. flat_map (item_lines start (frames_after 0 (length earlier)) image earlier) (zip normal.items (plain_opening normal).items)) (same_start normal set)
-      ∙ items_alike (start_of set (plain_opening set)) (frames_after 0 (length earlier)) image earlier set.items each
+      ap (event_lines (frames_after 0 (length earlier)))
+      (ap (λ start. flat_map (item_events start image earlier) (zip normal.items (plain_opening normal).items)) (same_start normal set)
+      ∙ items_alike (start_of set (plain_opening set)) image earlier set.items each)
 
   shown_alike : (history : History) → shown normal (plain_opening normal) history ≡ shown set (plain_opening set) history
   shown_alike history = ap (λ start. shown_by start (frames_after 0 (length history)) history set.script (plain_opening set).presence) (same_start normal set)
