@@ -1,5 +1,5 @@
 -- The printed line of an event: docs/DEFINITIONS.md, "Printed lines".
-use Rattle.std.specs.Prelude.{ℕ, List, [], ◌∷◌, ◌++◌, codes, decimal}
+use Rattle.std.specs.Prelude.{◌≡◌, ℕ, List, [], ◌∷◌, ◌++◌, codes, decimal}
 use Rattle.std.specs.Fmt.{signed_decimal}
 use Rattle.std.specs.List.{join_with_byte, flat_map}
 use Rattle.ra_value_format.specs.Formats.{formatted, HasDigits}
@@ -26,6 +26,11 @@ event_line frame (Submit id number format) =
 -- the lines of events at the frame of this number
 abbrev pub event_lines : (frame : ℕ) → List Event → List ℕ
 event_lines frame events = flat_map (event_line frame) events
+
+-- the text is the lines of these events, at the frame of some number
+pub record IsTextOf (text : List ℕ) (events : List Event) : Type 0 where
+  pub frame : ℕ
+  pub is : text ≡ event_lines frame events
 
 -- the format of an event's number, if it has one, has digits
 abbrev pub HasEventDigits : Event → Type 0

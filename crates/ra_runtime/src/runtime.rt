@@ -67,6 +67,7 @@ impl Model for Runtime {
 }
 
 impl Runtime {
+    ghost use Rattle.ra_runtime.specs.Lines.{IsTextOf};
     ghost use Rattle.ra_runtime.specs.Runtime.{IsMade, IsWritten, ReadsFew, ShowsKept, TakesFrame, TakesUp};
 
     /// A set over a memory of `size` bytes, all 0, before the first frame: docs/DEFINITIONS.md, "What a
@@ -217,7 +218,8 @@ impl Runtime {
     /// The lines of the events of the last frame: docs/DEFINITIONS.md, "Printed lines". None where no
     /// frame came.
     pub fn lines(&self, alloc: Global) -> Result<Vec<u8>, OutOfMemory>
-        ensures { IfOk result (λ text. text.items ≡ self.now.lines) }
+        ensures lines { IfOk result (λ text. text.items ≡ self.now.lines) }
+        ensures of_events { IfOk result (λ text. IsTextOf text.items self.now.events) }
     {
         let mut out = Vec::new(alloc);
         put_events(alloc, &mut out, self.frame, self.events())?;
