@@ -28,7 +28,7 @@ use Rattle.ra_session.specs.declared.failures.TraceFailed.{TraceFailed}
 use Rattle.ra_session.specs.declared.failures.TraceFailed.TheVariants as failed
 use Rattle.ra_session.proofs.Parts.{part_all}
 use Rattle.ra_session.proofs.RunLemmas.{any_first, any_later, file_of}
-use Rattle.ra_session.proofs.LoadLemmas.{PlaysFrom, begins_somewhere, loaded_says, loaded_said, stop_decides}
+use Rattle.ra_session.proofs.LoadLemmas.{PlaysFrom, loaded_says, loaded_said, stop_decides}
 
 -- a job that is not done, and changed no file
 pub leaves_same : (job : Job) (old new : Outside) (ending : Ending) → (ending ≡ Done → ⊥) → SameContent old.content new.content → Leaves job old new ending
@@ -96,9 +96,8 @@ module _ (set trace : List ℕ) (restore save : Option (List ℕ)) (old new : Ou
 
     played_said : AreTold old.content (reads_of job) → (e : Expected) × RunSays old.content set trace restore e
     played_said told =
-        let (o, behind, at) = begins_somewhere c progress p.loaded.accepted in
         let file = file_of old.content trace told.1.0 in
-        (played c o behind file.0, loaded_said old.content set trace restore c progress o behind file.0 p.loaded told file.1 at)
+        loaded_said old.content set trace restore c progress file.0 p.loaded told file.1
 
   played_counted : {T : Type 0} (r : Result T TraceFailed) → (IsErrOf r failed.Read → Rose (old.read_faults trace) (new.read_faults trace)) → (IsErrOf r failed.Write → SinkRose old new) → IsCounted job old new (ending_at r)
   played_counted (Err failed.Read) read wrote = trace_rose (read refl)

@@ -11,7 +11,6 @@ pub mod NextLemmas
 pub mod PutLemmas
 pub mod ReadLemmas
 pub mod SaysLemmas
-pub mod LengthLemmas
 pub mod RunLemmas
 pub mod LoadLemmas
 pub mod ImportLemmas

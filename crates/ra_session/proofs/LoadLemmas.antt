@@ -13,16 +13,19 @@ use Rattle.ra_set.proofs.AnswerLemmas.{one-refusal, set-not_refused, same-set}
 use Rattle.ra_progress.specs.declared.refused.ProgressRefused.{ProgressRefused}
 use Rattle.ra_progress.specs.Contents.{Opening, IsOpening}
 use Rattle.ra_progress.specs.Spelling.{progress_bytes}
-use Rattle.ra_progress.specs.Reading.{length_of, refusal, says}
+use Rattle.ra_progress.specs.Reading.{refusal}
+use Rattle.ra_progress.specs.Laws.{IsShape}
+use Rattle.ra_progress.specs.Saying.{says}
 use Rattle.ra_trace.specs.Cutting.{Stop, Reached, RefusedAt, PastLimit}
 use Rattle.ra_runtime.specs.Order.{shape_of}
 use Rattle.ra_runtime.specs.Openings.{snapshot, plain_opening}
 use Rattle.ra_jobs.specs.Words.{Job, Run, file_in, reads_of}
 use Rattle.ra_session.specs.Endings.{ending_of}
-use Rattle.ra_session.specs.Expected.{Expected, RunSays, refuses_set, refuses_file, begins, goes_on, played, prints_nothing, set_limit}
+use Rattle.ra_session.specs.Expected.{Expected, RunSays, refuses_set, refuses_file, begins, goes_on, takes_up, played, prints_nothing, progress_limit, set_limit}
 use Rattle.ra_session.specs.Failures.{ending_of_load}
 use Rattle.ra_session.specs.Loading.{BeginsAt, AreAccepted, AreOfFile, RefusesFile, IsTaken, HasNoProgress, IsLoaded, IsNotLoaded}
 use Rattle.ra_session.specs.Outside.{Outside, AnyRose, AreTold}
+use Rattle.ra_session.specs.Playing.{IsPlayable}
 use Rattle.ra_session.specs.Running.{IsTold, deciding, PrintsSoFar, IsCounted, Ran}
 use Rattle.ra_session.specs.declared.ending.Ending.{Ending}
 use Rattle.ra_session.specs.declared.ending.Ending.TheVariants.{BadSet, BadProgress}
@@ -48,20 +51,24 @@ never_bad file c taken bytes why told refuses =
 
 -- What a run says whose set is this one.
 pub data SaysOf (content : List ℕ → Option (List ℕ)) (trace : List ℕ) (c : SetContents) : Option (List ℕ) → Expected → Type 0 where
-  bad_file : (name file : List ℕ) (why : ProgressRefused) → content name ≡ Some file → refusal (shape_of c) (take (length_of (shape_of c) + 1) file) ≡ Some why → SaysOf content trace c (Some name) (prints_nothing (BadProgress why))
+  bad_file : (name file : List ℕ) (why : ProgressRefused) → content name ≡ Some file → refusal (shape_of c) (take progress_limit file) ≡ Some why → SaysOf content trace c (Some name) (prints_nothing (BadProgress why))
   anew : (file : List ℕ) → content trace ≡ Some file → SaysOf content trace c None (played c (plain_opening c) [] file)
-  again : (name file : List ℕ) (o : Opening) (behind : History) → content trace ≡ Some file → content name ≡ Some (progress_bytes c.digest (snapshot c o behind)) → IsOpening (shape_of c) o → AreImages behind → SaysOf content trace c (Some name) (played c o behind file)
+  again : (name file : List ℕ) (o : Opening) (behind : History) → content trace ≡ Some file → content name ≡ Some (progress_bytes (shape_of c) (snapshot c o behind)) → IsOpening (shape_of c) o → AreImages behind → SaysOf content trace c (Some name) (played c o behind file)
+  taken_up : (name kept file : List ℕ) → content trace ≡ Some file → content name ≡ Some kept → refusal (shape_of c) kept ≡ None → SaysOf content trace c (Some name) (played c (says (shape_of c) kept) [] file)
 
 pub says_of : (content : List ℕ → Option (List ℕ)) (set trace : List ℕ) (restore : Option (List ℕ)) (c : SetContents) (e : Expected) → IsTaken (content set) c → RunSays content set trace restore e → SaysOf content trace c restore e
 says_of content set trace restore c e taken (refuses_set file why told refuses) = absurd (never_bad (content set) c taken file why told refuses)
 says_of content set trace restore c e taken (refuses_file name set_file file d why told_set told_file is refused) =
-    subst (λ (s : SetContents). refusal (shape_of s) (take (length_of (shape_of s) + 1) file) ≡ Some why → SaysOf content trace c (Some name) (prints_nothing (BadProgress why)))
+    subst (λ (s : SetContents). refusal (shape_of s) (take progress_limit file) ≡ Some why → SaysOf content trace c (Some name) (prints_nothing (BadProgress why)))
     (same-set set_file c d (taken.is_set set_file told_set) is) (λ lacks. bad_file name file why told_file lacks) refused
 says_of content set trace restore c e taken (begins set_file trace_file d told_set told_trace is) =
     subst (λ (s : SetContents). SaysOf content trace c None (played s (plain_opening s) [] trace_file)) (same-set set_file c d (taken.is_set set_file told_set) is) (anew trace_file told_trace)
 says_of content set trace restore c e taken (goes_on name set_file trace_file d o behind told_set told_trace told_file is opening images) =
-    subst (λ (s : SetContents). content name ≡ Some (progress_bytes s.digest (snapshot s o behind)) → IsOpening (shape_of s) o → SaysOf content trace c (Some name) (played s o behind trace_file))
+    subst (λ (s : SetContents). content name ≡ Some (progress_bytes (shape_of s) (snapshot s o behind)) → IsOpening (shape_of s) o → SaysOf content trace c (Some name) (played s o behind trace_file))
     (same-set set_file c d (taken.is_set set_file told_set) is) (λ told fits. again name trace_file o behind told_trace told fits images) told_file opening
+says_of content set trace restore c e taken (takes_up name set_file file trace_file d told_set told_trace told_file is accepted) =
+    subst (λ (s : SetContents). refusal (shape_of s) file ≡ None → SaysOf content trace c (Some name) (played s (says (shape_of s) file) [] trace_file))
+    (same-set set_file c d (taken.is_set set_file told_set) is) (λ none. taken_up name file trace_file told_trace told_file none) accepted
 
 -- all files of a job decide how its trace ends
 pub stop_decides : (s : Stop) (job : Job) → deciding (ending_of s) job ≡ reads_of job
@@ -87,6 +94,7 @@ module _ (set trace : List ℕ) (save : Option (List ℕ)) (old new : Outside) w
   file_decides c _ e (bad_file name file why told refused) rose = any_later _ set (file_in (Some name)) rose
   file_decides c _ e (anew file told) rose = subst Rises (sym (stop_decides _ (job None))) (any_later _ set (trace ∷ []) (any_later _ trace [] rose))
   file_decides c _ e (again name file o behind told kept opening images) rose = subst Rises (sym (stop_decides _ (job (Some name)))) (any_later _ set (trace ∷ name ∷ []) (any_later _ trace (name ∷ []) rose))
+  file_decides c _ e (taken_up name kept file told is accepted) rose = subst Rises (sym (stop_decides _ (job (Some name)))) (any_later _ set (trace ∷ name ∷ []) (any_later _ trace (name ∷ []) rose))
 
   -- why bytes are refused has one answer
   refused_so : (c : SetContents) (restore : Option (List ℕ)) (e : Expected) (found : ProgressRefused) → IsTaken (old.content set) c → SaysOf old.content trace c restore e → RefusesFile c old.content restore found → new.text ≡ old.text → PrintsSoFar (job restore) old new (BadProgress found) e
@@ -95,8 +103,10 @@ module _ (set trace : List ℕ) (save : Option (List ℕ)) (old new : Outside) w
       (ap BadProgress (same_in why found (sym refused ∙ here)), same ∙ sym (grown-nil old.text))
   refused_so c _ e found taken (anew file told) at same = absurd (none-some at.name at.named)
   refused_so c _ e found taken (again name file o behind told kept opening images) at same =
-      let good = whole_accepted c _ (comes_back_of c o behind taken.playable opening images).accepted in
+      let good = whole_accepted c (progress_bytes (shape_of c) (snapshot c o behind)) (comes_back_of c o behind taken.playable at.shape opening images).accepted in
       absurd (none-some found (sym good ∙ at.refused _ (ap old.content (sym (same_in name at.name at.named)) ∙ kept)))
+  refused_so c _ e found taken (taken_up name kept file told is accepted) at same =
+      absurd (none-some found (sym (whole_accepted c kept accepted) ∙ at.refused kept (ap old.content (sym (same_in name at.name at.named)) ∙ is)))
 
   never_set : (file : List ℕ) (d : SetContents) (why : SetRefused) → old.content set ≡ Some file → IsSet file d → Refuses (take (set_limit + 1) file) why → ⊥
   never_set file d why told is refuses = set-not_refused (take 4194305 file) d why (set_read_of (take 4194305 file) file d refl is) refuses
@@ -110,6 +120,7 @@ module _ (set trace : List ℕ) (save : Option (List ℕ)) (old new : Outside) w
   no_set_prints restore e why lacks (refuses_file name set_file file d found told_set told_file is refused) same = absurd (never_set set_file d why told_set is (lacks set_file told_set))
   no_set_prints restore e why lacks (begins set_file trace_file d told_set told_trace is) same = absurd (never_set set_file d why told_set is (lacks set_file told_set))
   no_set_prints restore e why lacks (goes_on name set_file trace_file d o behind told_set told_trace told_file is opening images) same = absurd (never_set set_file d why told_set is (lacks set_file told_set))
+  no_set_prints restore e why lacks (takes_up name set_file file trace_file d told_set told_trace told_file is accepted) same = absurd (never_set set_file d why told_set is (lacks set_file told_set))
 
   -- what a run has printed that did not begin
   not_begun : (restore : Option (List ℕ)) (e : Expected) (failed : LoadFailed) → Lacks restore failed → RunSays old.content set trace restore e → new.text ≡ old.text → PrintsSoFar (job restore) old new (ending_of_load failed) e
@@ -158,18 +169,19 @@ module _ (set trace : List ℕ) (save : Option (List ℕ)) (old new : Outside) w
   })
 
 -- what judged bytes say of their file
-pub refused_at : (content : List ℕ → Option (List ℕ)) (c : SetContents) (name bytes : List ℕ) (why : ProgressRefused) → refusal (shape_of c) bytes ≡ Some why → ((file : List ℕ) → content name ≡ Some file → bytes ≡ take (length_of (shape_of c) + 1) file) → RefusesFile c content (Some name) why
-refused_at content c name bytes why is read = record {
+pub refused_at : (content : List ℕ → Option (List ℕ)) (c : SetContents) (name bytes : List ℕ) (why : ProgressRefused) → IsShape (shape_of c) → refusal (shape_of c) bytes ≡ Some why → ((file : List ℕ) → content name ≡ Some file → bytes ≡ take progress_limit file) → RefusesFile c content (Some name) why
+refused_at content c name bytes why shape is read = record {
   name = name;
   named = refl;
   refused = λ file told. ap (refusal (shape_of c)) (sym (read file told)) ∙ is;
+  shape = shape;
 }
 
 -- the contents after a read are those before
 pub not_progress_since : (a b : List ℕ → Option (List ℕ)) (c : SetContents) (restore : Option (List ℕ)) (some all : Type 0) (failed : ProgressFailed) → SameContent a b → (some → all) → HasNoProgress c b restore some failed → HasNoProgress c a restore all failed
 not_progress_since a b c restore some all no_file.Memory same f lacks = lacks
 not_progress_since a b c restore some all no_file.Read same f lacks = f lacks
-not_progress_since a b c restore some all (no_file.Refused why) same f lacks = record { name = lacks.name; named = lacks.named; refused = λ file told. lacks.refused file (same.each lacks.name ∙ told) }
+not_progress_since a b c restore some all (no_file.Refused why) same f lacks = record { name = lacks.name; named = lacks.named; refused = λ file told. lacks.refused file (same.each lacks.name ∙ told); shape = lacks.shape }
 
 pub of_file_since : (a b : List ℕ → Option (List ℕ)) (restore progress : Option (List ℕ)) → SameContent a b → AreOfFile b restore progress → AreOfFile a restore progress
 of_file_since a b None progress same of_file = of_file
@@ -185,17 +197,17 @@ pub record PlaysFrom (content : List ℕ → Option (List ℕ)) (trace : List �
   pub is : e ≡ played c opening behind file
 
 -- a run begins somewhere
-pub begins_somewhere : (c : SetContents) (progress : Option (List ℕ)) → AreAccepted c progress → (o : Opening) × (behind : History) × BeginsAt c progress o behind
-begins_somewhere c None accepted = (plain_opening c, [], (refl, refl))
-begins_somewhere c (Some bytes) accepted = (says (shape_of c) bytes, [], says_begins c bytes accepted)
+pub begins_somewhere : (c : SetContents) (progress : Option (List ℕ)) → IsPlayable c → AreAccepted c progress → (o : Opening) × (behind : History) × BeginsAt c progress o behind
+begins_somewhere c None playable accepted = (plain_opening c, [], (refl, refl))
+begins_somewhere c (Some bytes) playable accepted = (says (shape_of c) bytes, [], says_begins c bytes playable accepted)
 
 -- what the files of a run say whose set and progress file were accepted
-plays_from : (content : List ℕ → Option (List ℕ)) (trace : List ℕ) (restore : Option (List ℕ)) (c : SetContents) (progress : Option (List ℕ)) (e : Expected) → SaysOf content trace c restore e → AreAccepted c progress → AreOfFile content restore progress → PlaysFrom content trace c progress e
-plays_from content trace _ c progress e (bad_file name file why told refused) accepted (bytes, is, whole) =
+plays_from : (content : List ℕ → Option (List ℕ)) (trace : List ℕ) (restore : Option (List ℕ)) (c : SetContents) (progress : Option (List ℕ)) (e : Expected) → SaysOf content trace c restore e → IsPlayable c → AreAccepted c progress → AreOfFile content restore progress → PlaysFrom content trace c progress e
+plays_from content trace _ c progress e (bad_file name file why told refused) playable accepted (bytes, is, whole) =
     let own : AreAccepted c (Some bytes) = subst (AreAccepted c) is accepted in
-    let none : refusal (shape_of c) file ≡ None = ap (refusal (shape_of c)) (sym (whole file told)) ∙ own.1 in
+    let none : refusal (shape_of c) file ≡ None = ap (refusal (shape_of c)) (sym (whole file told)) ∙ own.2 in
     absurd (none-some why (sym (whole_accepted c file none) ∙ refused))
-plays_from content trace _ c progress e (anew file told) accepted none = record {
+plays_from content trace _ c progress e (anew file told) playable accepted none = record {
   opening = plain_opening c;
   behind = [];
   file = file;
@@ -203,32 +215,43 @@ plays_from content trace _ c progress e (anew file told) accepted none = record 
   told = told;
   is = refl;
 }
-plays_from content trace _ c progress e (again name file o behind told kept opening images) accepted (bytes, is, whole) = record {
-  opening = o;
-  behind = behind;
-  file = file;
-  at = subst (λ (p : Option (List ℕ)). BeginsAt c p o behind) (sym is) (opening, images, whole _ kept);
-  told = told;
-  is = refl;
-}
+plays_from content trace _ c progress e (again name file o behind told kept opening images) playable accepted (bytes, is, whole) =
+    let own : AreAccepted c (Some bytes) = subst (AreAccepted c) is accepted in
+    let said : says (shape_of c) bytes ≡ snapshot c o behind = ap (says (shape_of c)) (whole _ kept) ∙ (comes_back_of c o behind playable own.0 opening images).says_it in
+    record {
+      opening = o;
+      behind = behind;
+      file = file;
+      at = subst (λ (p : Option (List ℕ)). BeginsAt c p o behind) (sym is) (opening, images, said);
+      told = told;
+      is = refl;
+    }
+plays_from content trace _ c progress e (taken_up name kept file told there none) playable accepted (bytes, is, whole) =
+    let own : AreAccepted c (Some bytes) = subst (AreAccepted c) is accepted in
+    let at : BeginsAt c (Some bytes) (says (shape_of c) kept) [] = subst (λ (f : List ℕ). BeginsAt c (Some bytes) (says (shape_of c) f) []) (whole kept there) (says_begins c bytes playable own) in
+    record {
+      opening = says (shape_of c) kept;
+      behind = [];
+      file = file;
+      at = subst (λ (p : Option (List ℕ)). BeginsAt c p (says (shape_of c) kept) []) (sym is) at;
+      told = told;
+      is = refl;
+    }
 
 module _ (content : List ℕ → Option (List ℕ)) (set trace : List ℕ) where
   pub loaded_says : (restore : Option (List ℕ)) (c : SetContents) (progress : Option (List ℕ)) (e : Expected) → IsLoaded content set restore c progress → RunSays content set trace restore e → PlaysFrom content trace c progress e
-  loaded_says restore c progress e loaded says = plays_from content trace restore c progress e (says_of content set trace restore c e loaded.taken says) loaded.accepted loaded.of_file
+  loaded_says restore c progress e loaded says = plays_from content trace restore c progress e (says_of content set trace restore c e loaded.taken says) loaded.taken.playable loaded.accepted loaded.of_file
 
-  -- and what is played is said by them
-  pub loaded_said : (restore : Option (List ℕ)) (c : SetContents) (progress : Option (List ℕ)) (o : Opening) (behind : History) (trace_file : List ℕ) → IsLoaded content set restore c progress → AreTold content (set ∷ trace ∷ file_in restore) → content trace ≡ Some trace_file
-      → BeginsAt c progress o behind → RunSays content set trace restore (played c o behind trace_file)
-  loaded_said None c progress o behind trace_file loaded told told_trace at =
+  -- and they say something: what is played from the plain opening, or from what the progress file says
+  pub loaded_said : (restore : Option (List ℕ)) (c : SetContents) (progress : Option (List ℕ)) (trace_file : List ℕ) → IsLoaded content set restore c progress → AreTold content (set ∷ trace ∷ file_in restore) → content trace ≡ Some trace_file
+      → (e : Expected) × RunSays content set trace restore e
+  loaded_said None c progress trace_file loaded told told_trace =
       let set_file = file_of content set told.0 in
-      let none : progress ≡ None = loaded.of_file in
-      let plain : BeginsAt c None o behind = subst (λ (p : Option (List ℕ)). BeginsAt c p o behind) none at in
-      let says : RunSays content set trace None (played c (plain_opening c) [] trace_file) = begins set_file.0 trace_file c set_file.1 told_trace (loaded.taken.is_set set_file.0 set_file.1) in
-      subst (λ (k : Opening). RunSays content set trace None (played c k behind trace_file)) (sym plain.0)
-      (subst (λ (h : History). RunSays content set trace None (played c (plain_opening c) h trace_file)) (sym plain.1) says)
-  loaded_said (Some name) c progress o behind trace_file loaded told told_trace at =
+      (played c (plain_opening c) [] trace_file, begins set_file.0 trace_file c set_file.1 told_trace (loaded.taken.is_set set_file.0 set_file.1))
+  loaded_said (Some name) c progress trace_file loaded told told_trace =
       let set_file = file_of content set told.0 in
       let (bytes, is, whole) = loaded.of_file in
       let file = file_of content name told.1.1.0 in
-      let kept : BeginsAt c (Some bytes) o behind = subst (λ (p : Option (List ℕ)). BeginsAt c p o behind) is at in
-      goes_on name set_file.0 trace_file c o behind set_file.1 told_trace (file.1 ∙ ap Some (sym (whole file.0 file.1) ∙ kept.2)) (loaded.taken.is_set set_file.0 set_file.1) kept.0 kept.1
+      let own : AreAccepted c (Some bytes) = subst (AreAccepted c) is loaded.accepted in
+      let none : refusal (shape_of c) file.0 ≡ None = ap (refusal (shape_of c)) (sym (whole file.0 file.1)) ∙ own.2 in
+      (played c (says (shape_of c) file.0) [] trace_file, takes_up name set_file.0 file.0 trace_file c set_file.1 told_trace file.1 (loaded.taken.is_set set_file.0 set_file.1) none)

@@ -3,6 +3,8 @@ use Rattle.std.proofs.Common.{arith, ◌≡◌, ◌<◌, sym, subst, ℕ, zero, 
 use Rattle.ra_memory.specs.Image.{History}
 use Rattle.ra_set.specs.Contents.{SetContents}
 use Rattle.ra_progress.specs.Contents.{Opening}
+use Rattle.ra_progress.specs.Saying.{says}
+use Rattle.ra_runtime.specs.Order.{shape_of}
 use Rattle.ra_trace.specs.declared.error.Why.{Why}
 use Rattle.ra_trace.specs.declared.error.Why.TheVariants.{Header, Cut}
 use Rattle.ra_trace.specs.Entries.{Entry, Written}
@@ -12,7 +14,7 @@ use Rattle.ra_runtime.specs.Openings.{plain_opening}
 use Rattle.ra_runtime.specs.Play.{Moment, first_moment}
 use Rattle.ra_session.specs.Endings.{ending_of}
 use Rattle.ra_session.specs.declared.ending.Ending.TheVariants.{Done, BadTrace, LongTrace}
-use Rattle.ra_session.specs.Expected.{Expected, IsReadBehind, RunSays, refuses_set, refuses_file, begins, goes_on, SetSays, tells, ImportSays, refuses_document, imports, NormalSays, passes_limit, puts_text, played, pieces_from, trace_limit}
+use Rattle.ra_session.specs.Expected.{Expected, IsReadBehind, RunSays, refuses_set, refuses_file, begins, goes_on, SetSays, tells, ImportSays, refuses_document, imports, NormalSays, passes_limit, puts_text, played, pieces_from, trace_limit, takes_up}
 use Rattle.ra_session.specs.Playing.{IsLeft, says_from}
 
 -- a trace that is refused is not at its end
@@ -68,6 +70,7 @@ run_read content set trace restore e (refuses_set file why told refuses) = recor
 run_read content set trace restore e (refuses_file name set_file file c why told_set told_file is refused) = record { there = omega arith; before_end = λ done. absurd (cc) }
 run_read content set trace restore e (begins set_file trace_file c told_set told_trace is) = played_read c (plain_opening c) [] trace_file
 run_read content set trace restore e (goes_on name set_file trace_file c o behind told_set told_trace told_file is opening images) = played_read c o behind trace_file
+run_read content set trace restore e (takes_up name set_file file trace_file c told_set told_trace told_file is accepted) = played_read c (says (shape_of c) file) [] trace_file
 
 -- before a text of a set
 pub set_told : (text : SetContents → List ℕ) (content : List ℕ → Option (List ℕ)) (set : List ℕ) (e : Expected) → SetSays text content set e → IsReadBehind e 0

@@ -1,18 +1,20 @@
 -- A set and a trace that are read, and a job that is stopped there.
-use Rattle.std.proofs.Common.{arith, ◌≡◌, ◌≤◌, ap, sym, subst, refl, ◌∙◌, ℕ, zero, suc, slice_index, nat_le, if◌then◌else◌, length, take, List, ◌∷◌, true, false, Option, Some, None, is_some, Result, Ok, Err, IfErr, Any}
+use Rattle.std.proofs.Common.{arith, ◌≡◌, ◌≤◌, ap, sym, subst, refl, ◌∙◌, ℕ, suc, nat_le, if◌then◌else◌, length, take, map, List, [], ◌∷◌, true, false, Option, Some, None, is_some, option_map, IfSome, Result, Ok, Err, IfErr, Any}
 use Rattle.std.specs.Bool.{⊤}
-use Rattle.std.specs.Int.{w32, to_le_bytes}
-use Rattle.md5.specs.Md5.{md5, digest_bytes}
+use Rattle.md5.specs.Md5.{md5}
 use Rattle.md5.proofs.StandardFacts.{length-md5}
 use Rattle.ra_io.specs.Causes.{NoneFell}
-use Rattle.ra_memory.specs.Image.{History, AreBytes}
-use Rattle.ra_progress.specs.Laws.{IsDigest}
-use Rattle.ra_session.proofs.StandLemmas.{append_bytes}
-use Rattle.std.specs.List.{concat}
+use Rattle.ra_memory.specs.Image.{History}
+use Rattle.ra_progress.specs.Names.{IsName}
+use Rattle.ra_runtime.specs.Order.{shape_of}
+use Rattle.ra_runtime.specs.OpeningLaws.{HasDigests}
+use Rattle.ra_runtime.proofs.Digests.{md5_bytes}
+use Rattle.std.specs.List.{concat, AllByRecursion}
 use Rattle.std.specs.Result.{IsErrAnd, IsErrOf}
 use Rattle.std.proofs.lemmas.List.{take_all, length-take}
 use Rattle.ra_io.specs.Sink.{grown}
 use Rattle.ra_set.specs.Accepted.{IsSet}
+use Rattle.ra_set.specs.Texts.{item_texts, script_text}
 use Rattle.ra_set.specs.Contents.{SetContents}
 use Rattle.ra_progress.specs.Contents.{Opening}
 use Rattle.ra_progress.specs.Spelling.{progress_bytes}
@@ -112,8 +114,8 @@ pub saved_behind : (set : SetContents) (o : Opening) (behind : History) (bytes :
     → StandsAt set o (moment_after (first_moment size behind) (pieces_of size bytes).entries) runtime slots → kept_bytes runtime ≡ (played set o behind bytes).saved
 saved_behind set o behind bytes size slots runtime is stands =
     let seen = take trace_limit bytes in
-    ap (λ (s : SetContents). progress_bytes s.digest runtime.kept) stands.same ∙ ap (progress_bytes set.digest) stands.kept
-    ∙ ap (λ header. progress_bytes set.digest (snapshot set o (behind_end behind (trace_behind no_slots header seen).size (trace_behind no_slots header seen).entries))) (sym is)
+    ap (λ (s : SetContents). progress_bytes (shape_of s) runtime.kept) stands.same ∙ ap (progress_bytes (shape_of set)) stands.kept
+    ∙ ap (λ header. progress_bytes (shape_of set) (snapshot set o (behind_end behind (trace_behind no_slots header seen).size (trace_behind no_slots header seen).entries))) (sym is)
 
 -- what is known of the error that a `?` hands on
 pub err_by : {T E : Type 0} (r : Result T E) (x : E) (P : E → Type 0) → IsErrAnd r (λ k. k ≡ x) → P x → IfErr r P
@@ -154,18 +156,22 @@ any_map P Q names f (k, x, below, is, p) = (k, x, below, is, f x p)
 pub rose_before : (a b c : List ℕ → ℕ) (names : List (List ℕ)) → NoneFell a b → AnyRose b c names → AnyRose a c names
 rose_before a b c names fell rose = any_map _ _ names (λ name later. omega (arith, fell.each name, later)) rose
 
--- the digest of a file is sixteen bytes
-le_bytes : (n : ℕ) → AreBytes (to_le_bytes w32 n)
-le_bytes n = (omega arith, (omega arith, (omega arith, (omega arith, tt))))
+-- a digest is sixteen bytes
+md5_named : (text : List ℕ) → IsName (md5 text)
+md5_named text = record { long = length-md5 text; fit = md5_bytes text }
 
-digest_is_bytes : (h : List ℕ) (n : ℕ) → AreBytes (digest_bytes h n)
-unfolding digest_bytes
-digest_is_bytes h zero = tt
-digest_is_bytes h (suc n) = append_bytes (digest_bytes h n) (to_le_bytes w32 (slice_index h n)) (digest_is_bytes h n) (le_bytes (slice_index h n))
+all_digests : (texts : List (List ℕ)) → AllByRecursion IsName (map md5 texts)
+all_digests [] = tt
+all_digests (text ∷ texts) = (md5_named text, all_digests texts)
 
-md5_is_bytes : (file : List ℕ) → AreBytes (md5 file)
-unfolding md5
-md5_is_bytes file = digest_is_bytes _ 4
+some_digest : (text : Option (List ℕ)) → IfSome (option_map md5 text) IsName
+some_digest None = tt
+some_digest (Some text) = md5_named text
 
-pub is_digest : (digest file : List ℕ) → digest ≡ md5 file → IsDigest digest
-is_digest digest file is = subst IsDigest (sym is) (record { long = length-md5 file; fit = md5_is_bytes file })
+-- the digest and the names of a set that a file spells
+pub digests_of : (file : List ℕ) (set : SetContents) → IsSet file set → HasDigests set
+digests_of file set is = record {
+  digest = subst IsName (sym is.digest) (md5_named file);
+  items = subst (AllByRecursion IsName) (sym is.item_names) (all_digests (item_texts file));
+  script = subst (λ (name : Option (List ℕ)). IfSome name IsName) (sym is.script_name) (some_digest (script_text file));
+}

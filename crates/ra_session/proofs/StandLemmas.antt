@@ -6,7 +6,9 @@ use Rattle.ra_memory.specs.Image.{History, AreBytes, AreImages, written}
 use Rattle.ra_set.specs.Contents.{SetContents}
 use Rattle.ra_progress.specs.Contents.{Opening, IsOpening}
 use Rattle.ra_progress.specs.Spelling.{progress_bytes}
-use Rattle.ra_progress.specs.Reading.{refusal, says}
+use Rattle.ra_progress.specs.Laws.{IsShape}
+use Rattle.ra_progress.specs.Reading.{refusal}
+use Rattle.ra_progress.specs.Saying.{says}
 use Rattle.ra_trace.specs.declared.record.Record.{Record}
 use Rattle.ra_trace.specs.Entries.{entry_of, Written, Framed, Saved, Restored, Shown, Ended}
 use Rattle.ra_runtime.specs.Runtime.{RuntimeSeen, IsMade, IsWritten, ShowsKept, TakesFrame, TakesUp}
@@ -19,7 +21,7 @@ use Rattle.ra_session.specs.Loading.{AreAccepted, BeginsAt}
 use Rattle.ra_session.specs.Playing.{StandsAt, IsPlayable, HoldsKept, HoldEachKept, TakesEmpty, TakesUpFrom, Plays, slots_of}
 
 -- bytes of parts are bytes of the whole
-pub append_bytes : (a b : List ℕ) → AreBytes a → AreBytes b → AreBytes (a ++ b)
+append_bytes : (a b : List ℕ) → AreBytes a → AreBytes b → AreBytes (a ++ b)
 append_bytes [] b of_a of_b = of_b
 append_bytes (x ∷ a) b of_a of_b = (of_a.0, append_bytes a b of_a.1 of_b)
 
@@ -70,14 +72,15 @@ module _ (set : SetContents) (o : Opening) where
   hold_none (suc n) = (tt, hold_none n)
 
 -- a save keeps what stands behind in its slot
-pub stands_saved : (set : SetContents) (o : Opening) (m : Moment) (runtime : RuntimeSeen) (slots : List (Option (Vec ℕ))) (k : ℕ) (bytes : Vec ℕ) → bytes.items ≡ progress_bytes runtime.set.digest runtime.kept
+pub stands_saved : (set : SetContents) (o : Opening) (m : Moment) (runtime : RuntimeSeen) (slots : List (Option (Vec ℕ))) (k : ℕ) (bytes : Vec ℕ) → bytes.items ≡ progress_bytes (shape_of runtime.set) runtime.kept
     → StandsAt set o m runtime (slots_of slots) → StandsAt set o (moved (Saved k) m) runtime (slots_of (slice_set slots k (Some bytes)))
 stands_saved set o m runtime slots k bytes is stands =
-    let kept_bytes : bytes.items ≡ progress_bytes set.digest (snapshot set o m.behind) = is ∙ ap (λ (s : SetContents). progress_bytes s.digest runtime.kept) stands.same ∙ ap (progress_bytes set.digest) stands.kept in
+    let kept_bytes : bytes.items ≡ progress_bytes (shape_of set) (snapshot set o m.behind) = is ∙ ap (λ (s : SetContents). progress_bytes (shape_of s) runtime.kept) stands.same ∙ ap (progress_bytes (shape_of set)) stands.kept in
     let now : slots_of (slice_set slots k (Some bytes)) ≡ slice_set (slots_of slots) k (Some bytes.items) = map-set (option_map (λ (b : Vec ℕ). b.items)) slots k (Some bytes) in
     record {
       same = stands.same;
       playable = stands.playable;
+      shape = stands.shape;
       opening = stands.opening;
       image = stands.image;
       bytes = stands.bytes;
@@ -91,6 +94,7 @@ pub stands_past : (set : SetContents) (o : Opening) (m : Moment) (runtime : Runt
 stands_past set o m runtime slots k past stands = record {
   same = stands.same;
   playable = stands.playable;
+  shape = stands.shape;
   opening = stands.opening;
   image = stands.image;
   bytes = stands.bytes;
@@ -106,6 +110,7 @@ own_frame old new o m slots takes stands = (
   record {
     same = takes.set;
     playable = stands.playable;
+    shape = stands.shape;
     opening = stands.opening;
     image = takes.image ∙ stands.image;
     bytes = stands.bytes;
@@ -128,6 +133,7 @@ plays_write set o m old new slots at bytes are is stands = record {
   stands = record {
     same = ap (λ (r : RuntimeSeen). r.set) is.rest ∙ stands.same;
     playable = stands.playable;
+    shape = stands.shape;
     opening = stands.opening;
     image = ap (λ (r : RuntimeSeen). r.image) is.rest ∙ ap (λ i. written i at bytes) stands.image;
     bytes = written_bytes m.image at bytes stands.bytes are;
@@ -154,15 +160,15 @@ plays_end set o m runtime slots stands = record { filled = λ no. no; stands = s
 
 -- The bytes of what an opening and a history leave are accepted, and say it again.
 pub record SavedComesBack (set : SetContents) (kept : Opening) : Type 0 where
-  pub accepted : refusal (shape_of set) (progress_bytes set.digest kept) ≡ None
-  pub says_it : says (shape_of set) (progress_bytes set.digest kept) ≡ kept
+  pub accepted : refusal (shape_of set) (progress_bytes (shape_of set) kept) ≡ None
+  pub says_it : says (shape_of set) (progress_bytes (shape_of set) kept) ≡ kept
 
 -- a slot that keeps bytes has kept some frames, and their bytes
 pub record Keeps (set : SetContents) (o : Opening) (m : Moment) (k : ℕ) (bytes : List ℕ) : Type 0 where
   pub kept : History
   pub is : slice_index_or m.slots k None ≡ Some kept
   pub images : AreImages kept
-  pub saved : bytes ≡ progress_bytes set.digest (snapshot set o kept)
+  pub saved : bytes ≡ progress_bytes (shape_of set) (snapshot set o kept)
 
 keeps_by : (set : SetContents) (o : Opening) (m : Moment) (k : ℕ) (bytes : List ℕ) (kept : Option History) → slice_index_or m.slots k None ≡ kept → HoldsKept set o kept (Some bytes) → Keeps set o m k bytes
 keeps_by set o m k bytes None is holds = absurd holds
@@ -185,6 +191,7 @@ own_restore : (old new : RuntimeSeen) (o : Opening) (m : Moment) (slots : List (
 own_restore old new o m slots k bytes keep back takes stands = record {
   same = takes.set;
   playable = stands.playable;
+  shape = stands.shape;
   opening = stands.opening;
   image = takes.image ∙ stands.image;
   bytes = stands.bytes;
@@ -209,23 +216,24 @@ never_refused set o m runtime slots k bytes some comes_back refused stands =
     refused (ap (λ (s : SetContents). refusal (shape_of s) bytes) stands.same ∙ ap (refusal (shape_of set)) keep.saved ∙ (comes_back keep.kept keep.images).accepted)
 
 -- what an opening and a history leave comes back from its bytes
-pub comes_back_of : (set : SetContents) (o : Opening) (behind : History) → IsPlayable set → IsOpening (shape_of set) o → AreImages behind → SavedComesBack set (snapshot set o behind)
-comes_back_of set o behind playable opening images =
-    let back = saved_fits set o behind playable.spelled playable.digest opening images in
+pub comes_back_of : (set : SetContents) (o : Opening) (behind : History) → IsPlayable set → IsShape (shape_of set) → IsOpening (shape_of set) o → AreImages behind → SavedComesBack set (snapshot set o behind)
+comes_back_of set o behind playable shape opening images =
+    let back = saved_fits set o behind playable.spelled shape opening images in
     record { accepted = back.0; says_it = back.1 }
 
 -- accepted bytes are those that the runtime of a set takes up
 pub accepted_for : (set : SetContents) (progress : Option (Vec ℕ)) (runtime : RuntimeSeen) → runtime.set ≡ set → AreAccepted set (option_map (λ b. b.items) progress) → IfSome progress (λ b. refusal (shape_of runtime.set) b.items ≡ None)
 accepted_for set None runtime same accepted = tt
-accepted_for set (Some bytes) runtime same accepted = ap (λ (s : SetContents). refusal (shape_of s) bytes.items) same ∙ accepted.1
+accepted_for set (Some bytes) runtime same accepted = ap (λ (s : SetContents). refusal (shape_of s) bytes.items) same ∙ accepted.2
 
 -- before the first record of a run that begins anew
-stands_anew : (set : SetContents) (size : ℕ) (runtime : RuntimeSeen) (slots : List (Option (List ℕ))) → IsPlayable set → IsMade set size runtime → slots ≡ replicate 16 None → StandsAt set (plain_opening set) (first_moment size []) runtime slots
-stands_anew set size runtime slots playable made none =
+stands_anew : (set : SetContents) (size : ℕ) (runtime : RuntimeSeen) (slots : List (Option (List ℕ))) → IsPlayable set → IsShape (shape_of set) → IsMade set size runtime → slots ≡ replicate 16 None → StandsAt set (plain_opening set) (first_moment size []) runtime slots
+stands_anew set size runtime slots playable shape made none =
     let opening = plain_is_opening set playable.spelled in
     record {
       same = made.set_too;
       playable = playable;
+      shape = shape;
       opening = opening;
       image = made.image;
       bytes = zero_bytes size;
@@ -234,31 +242,32 @@ stands_anew set size runtime slots playable made none =
       held = subst (HoldEachKept set (plain_opening set) (replicate 16 None)) (sym none) (hold_none set (plain_opening set) 16);
     }
 
--- before the first record of a run that goes on from the bytes of an opening and a history
-stands_behind : (set : SetContents) (size : ℕ) (o : Opening) (behind : History) (bytes : List ℕ) (made runtime : RuntimeSeen) (slots : List (Option (List ℕ))) → IsPlayable set → IsMade set size made → TakesUp made runtime bytes
+-- before the first record of a run that goes on from bytes that say what is kept after an opening and a history
+stands_behind : (set : SetContents) (size : ℕ) (o : Opening) (behind : History) (bytes : List ℕ) (made runtime : RuntimeSeen) (slots : List (Option (List ℕ))) → IsPlayable set → IsShape (shape_of set) → IsMade set size made → TakesUp made runtime bytes
     → BeginsAt set (Some bytes) o behind → slots ≡ replicate 16 None → StandsAt set o (first_moment size behind) runtime slots
-stands_behind set size o behind bytes made runtime slots playable is takes begins none =
+stands_behind set size o behind bytes made runtime slots playable shape is takes begins none =
     let said : runtime.kept ≡ says (shape_of set) bytes = takes.kept ∙ ap (λ (s : SetContents). says (shape_of s) bytes) is.set_too in
     record {
       same = takes.set ∙ is.set_too;
       playable = playable;
+      shape = shape;
       opening = begins.0;
       image = takes.image ∙ is.image;
       bytes = zero_bytes size;
       behind = begins.1;
-      kept = said ∙ ap (says (shape_of set)) begins.2 ∙ (comes_back_of set o behind playable begins.0 begins.1).says_it;
+      kept = said ∙ begins.2;
       held = subst (HoldEachKept set o (replicate 16 None)) (sym none) (hold_none set o 16);
     }
 
 -- before the first record, wherever a run begins
-pub stands_first : (set : SetContents) (size : ℕ) (progress : Option (List ℕ)) (o : Opening) (behind : History) (made runtime : RuntimeSeen) (slots : List (Option (List ℕ))) → IsPlayable set → IsMade set size made → TakesUpFrom progress made runtime
+pub stands_first : (set : SetContents) (size : ℕ) (progress : Option (List ℕ)) (o : Opening) (behind : History) (made runtime : RuntimeSeen) (slots : List (Option (List ℕ))) → IsPlayable set → IsShape (shape_of set) → IsMade set size made → TakesUpFrom progress made runtime
     → BeginsAt set progress o behind → slots ≡ replicate 16 None → StandsAt set o (first_moment size behind) runtime slots
-stands_first set size None o behind made runtime slots playable is takes begins none =
+stands_first set size None o behind made runtime slots playable shape is takes begins none =
     subst (λ (k : Opening). StandsAt set k (first_moment size behind) runtime slots) (sym begins.0)
     (subst (λ (h : History). StandsAt set (plain_opening set) (first_moment size h) runtime slots) (sym begins.1)
-    (subst (λ (r : RuntimeSeen). StandsAt set (plain_opening set) (first_moment size []) r slots) (sym takes) (stands_anew set size made slots playable is none)))
-stands_first set size (Some bytes) o behind made runtime slots playable is takes begins none =
-    stands_behind set size o behind bytes made runtime slots playable is takes begins none
+    (subst (λ (r : RuntimeSeen). StandsAt set (plain_opening set) (first_moment size []) r slots) (sym takes) (stands_anew set size made slots playable shape is none)))
+stands_first set size (Some bytes) o behind made runtime slots playable shape is takes begins none =
+    stands_behind set size o behind bytes made runtime slots playable shape is takes begins none
 
 -- a record that is read, played by a player that is seen so
 pub plays_by : (set : SetContents) (o : Opening) (m : Moment) (record_read : Record) (e : Record) (old new : Player) (text : List ℕ) → record_read ≡ e → new ≡ old → text ≡ []
@@ -277,7 +286,7 @@ plays_restored set o m k runtime slots stands = record { filled = stands.1; stan
 
 -- what each slot has kept comes back
 pub kept_comes_back : (set : SetContents) (o : Opening) (m : Moment) (runtime : RuntimeSeen) (slots : List (Option (List ℕ))) → StandsAt set o m runtime slots → (behind : History) → AreImages behind → SavedComesBack set (snapshot set o behind)
-kept_comes_back set o m runtime slots stands behind images = comes_back_of set o behind stands.playable stands.opening images
+kept_comes_back set o m runtime slots stands behind images = comes_back_of set o behind stands.playable stands.shape stands.opening images
 
 -- nothing and something are not the same
 pub never_some : {T : Type 0} (o : Option T) (x : T) → o ≡ Some x → o ≡ None → ⊥

@@ -8,7 +8,8 @@ use Rattle.ra_set.specs.Limits.{most_bytes, set_conditions}
 use Rattle.ra_memory.specs.Image.{History, AreImages}
 use Rattle.ra_progress.specs.Contents.{Opening, IsOpening}
 use Rattle.ra_progress.specs.Spelling.{progress_bytes}
-use Rattle.ra_progress.specs.Reading.{length_of, refusal}
+use Rattle.ra_progress.specs.Reading.{refusal}
+use Rattle.ra_progress.specs.Saying.{says}
 use Rattle.ra_progress.specs.Refusals.{hex}
 use Rattle.ra_trace.specs.Entries.{Entry}
 use Rattle.ra_trace.specs.Cutting.{Trace, no_slots, trace_within}
@@ -72,6 +73,10 @@ trace_limit = 2 ^ 40
 abbrev pub set_limit : ℕ
 set_limit = most_bytes
 
+-- the most bytes that are read of a progress file: a byte more than one may have
+abbrev pub progress_limit : ℕ
+progress_limit = 8388609
+
 -- what each of these records prints, played one after the other from a moment on
 abbrev pub pieces_from : SetContents → Opening → Moment → List Entry → List (List ℕ)
 pieces_from set o m [] = []
@@ -89,22 +94,25 @@ played set o behind bytes =
     record {
       pieces = pieces_from set o (first_moment trace.size behind) trace.entries;
       ending = ending_of trace.stop;
-      saved = progress_bytes set.digest (snapshot set o (behind_end behind trace.size trace.entries));
+      saved = progress_bytes (shape_of set) (snapshot set o (behind_end behind trace.size trace.entries));
       puts_first = false;
     }
 
 -- What a run of these files says, where their bytes are told: it begins with the plain opening, or goes on from a
--- progress file, for every opening and history that the file keeps.
+-- progress file: for every opening and history whose bytes the file is, and from what an accepted file of any version
+-- and of any set says.
 pub data RunSays (content : List ℕ → Option (List ℕ)) (set trace : List ℕ) : Option (List ℕ) → Expected → Type 0 where
   refuses_set : {restore : Option (List ℕ)} (file : List ℕ) (why : SetRefused) → content set ≡ Some file
       → Refuses (take (set_limit + 1) file) why → RunSays content set trace restore (prints_nothing (BadSet why))
   refuses_file : (name set_file file : List ℕ) (s : SetContents) (why : ProgressRefused) → content set ≡ Some set_file → content name ≡ Some file
-      → IsSet set_file s → refusal (shape_of s) (take (length_of (shape_of s) + 1) file) ≡ Some why → RunSays content set trace (Some name) (prints_nothing (BadProgress why))
+      → IsSet set_file s → refusal (shape_of s) (take progress_limit file) ≡ Some why → RunSays content set trace (Some name) (prints_nothing (BadProgress why))
   begins : (set_file trace_file : List ℕ) (s : SetContents) → content set ≡ Some set_file → content trace ≡ Some trace_file
       → IsSet set_file s → RunSays content set trace None (played s (plain_opening s) [] trace_file)
   goes_on : (name set_file trace_file : List ℕ) (s : SetContents) (o : Opening) (behind : History) → content set ≡ Some set_file → content trace ≡ Some trace_file
-      → content name ≡ Some (progress_bytes s.digest (snapshot s o behind)) → IsSet set_file s → IsOpening (shape_of s) o → AreImages behind
+      → content name ≡ Some (progress_bytes (shape_of s) (snapshot s o behind)) → IsSet set_file s → IsOpening (shape_of s) o → AreImages behind
       → RunSays content set trace (Some name) (played s o behind trace_file)
+  takes_up : (name set_file file trace_file : List ℕ) (s : SetContents) → content set ≡ Some set_file → content trace ≡ Some trace_file → content name ≡ Some file
+      → IsSet set_file s → refusal (shape_of s) file ≡ None → RunSays content set trace (Some name) (played s (says (shape_of s) file) [] trace_file)
 
 -- how many achievements a set has
 abbrev pub achievements_in : List ItemContents → ℕ

@@ -6,13 +6,14 @@ use Rattle.ra_set.specs.Contents.{SetContents}
 use Rattle.ra_set.specs.Refusals.{Refuses}
 use Rattle.ra_progress.specs.declared.refused.ProgressRefused.{ProgressRefused}
 use Rattle.ra_progress.specs.Contents.{Opening, IsOpening}
-use Rattle.ra_progress.specs.Spelling.{progress_bytes}
-use Rattle.ra_progress.specs.Reading.{length_of, refusal}
+use Rattle.ra_progress.specs.Laws.{IsShape}
+use Rattle.ra_progress.specs.Reading.{refusal}
+use Rattle.ra_progress.specs.Saying.{says}
 use Rattle.ra_runtime.specs.Order.{shape_of}
 use Rattle.ra_runtime.specs.Openings.{snapshot, plain_opening}
 use Rattle.ra_io.specs.Causes.{Rose}
 use Rattle.ra_jobs.specs.Words.{file_in}
-use Rattle.ra_session.specs.Expected.{set_limit}
+use Rattle.ra_session.specs.Expected.{progress_limit, set_limit}
 use Rattle.ra_session.specs.Outside.{AnyRose}
 use Rattle.ra_session.specs.Playing.{IsPlayable}
 use Rattle.ra_session.specs.declared.beginning.Beginning.{Beginning}
@@ -27,26 +28,27 @@ use Rattle.ra_session.specs.declared.failures.LoadFailed.TheVariants as load
 abbrev pub progress_in : Beginning → Option (List ℕ)
 progress_in beginning = option_map (λ bytes. bytes.items) beginning.progress
 
--- an opening and the frames behind it that a run begins with: the plain one and none, or those that its bytes keep
+-- an opening and the frames behind it that a run begins with: the plain one and none, or those after which is kept what its bytes say
 abbrev pub BeginsAt : SetContents → Option (List ℕ) → Opening → History → Type 0
 BeginsAt set None o behind = (o ≡ plain_opening set) × (behind ≡ [])
-BeginsAt set (Some bytes) o behind = IsOpening (shape_of set) o × AreImages behind × (bytes ≡ progress_bytes set.digest (snapshot set o behind))
+BeginsAt set (Some bytes) o behind = IsOpening (shape_of set) o × AreImages behind × (says (shape_of set) bytes ≡ snapshot set o behind)
 
--- the bytes, where there are some, are a progress file of the set
+-- the bytes, where there are some, are a progress file that the set accepts, whose own bytes may be read
 abbrev pub AreAccepted : SetContents → Option (List ℕ) → Type 0
 AreAccepted set None = ⊤
-AreAccepted set (Some bytes) = AreBytes bytes × (refusal (shape_of set) bytes ≡ None)
+AreAccepted set (Some bytes) = IsShape (shape_of set) × AreBytes bytes × (refusal (shape_of set) bytes ≡ None)
 
 -- the bytes are those of the file that is named, where these are told; none where none is named
 abbrev pub AreOfFile : (content : List ℕ → Option (List ℕ)) → (restore progress : Option (List ℕ)) → Type 0
 AreOfFile content None progress = progress ≡ None
 AreOfFile content (Some name) progress = (bytes : List ℕ) × (progress ≡ Some bytes) × ((file : List ℕ) → content name ≡ Some file → bytes ≡ file)
 
--- What is read of the file that is named, at most a byte more than a progress file of the set has, is refused so.
+-- What is read of the file that is named, at most a byte more than a progress file may have, is refused so.
 pub record RefusesFile (set : SetContents) (content : List ℕ → Option (List ℕ)) (restore : Option (List ℕ)) (why : ProgressRefused) : Type 0 where
   pub name : List ℕ
   pub named : restore ≡ Some name
-  pub refused : (file : List ℕ) → content name ≡ Some file → refusal (shape_of set) (take (length_of (shape_of set) + 1) file) ≡ Some why
+  pub refused : (file : List ℕ) → content name ≡ Some file → refusal (shape_of set) (take progress_limit file) ≡ Some why
+  pub shape : IsShape (shape_of set)
 
 -- What the file of a set tells of one that was accepted, where its bytes are told.
 pub record IsTaken (file : Option (List ℕ)) (c : SetContents) : Type 0 where

@@ -4,10 +4,11 @@ use Rattle.std.specs.Global.{Vec}
 use Rattle.ra_io.specs.Sink.{grown}
 use Rattle.ra_memory.specs.Image.{History, AreBytes, AreImages}
 use Rattle.ra_progress.specs.Contents.{Opening, IsOpening}
-use Rattle.ra_progress.specs.Laws.{IsDigest}
+use Rattle.ra_progress.specs.Laws.{IsShape}
 use Rattle.ra_progress.specs.Spelling.{progress_bytes}
 use Rattle.ra_set.specs.Contents.{SetContents}
 use Rattle.ra_set.specs.Limits.{IsWithinLimits}
+use Rattle.ra_set.specs.Names.{IsNamed}
 use Rattle.ra_set.specs.Spelled.{IsSpelled}
 use Rattle.ra_lint.specs.Fewness.{HasFewAlts}
 use Rattle.ra_trace.specs.Entries.{Entry, Restored, Ended}
@@ -15,6 +16,7 @@ use Rattle.ra_trace.specs.Cutting.{Pieces, Reached, cut, with_entry, stop_within
 use Rattle.ra_trace.specs.Reading.{ReaderSeen, Holds, seen_from}
 use Rattle.ra_runtime.specs.Runtime.{RuntimeSeen, TakesUp}
 use Rattle.ra_runtime.specs.Order.{shape_of}
+use Rattle.ra_runtime.specs.OpeningLaws.{HasDigests}
 use Rattle.ra_runtime.specs.Openings.{snapshot}
 use Rattle.ra_runtime.specs.Play.{Moment, moved, printed}
 use Rattle.ra_session.specs.Endings.{ending_of}
@@ -23,17 +25,18 @@ use Rattle.ra_session.specs.Closing.{EndsBefore}
 use Rattle.ra_session.specs.Failures.{ending_of_trace}
 use Rattle.ra_session.specs.declared.failures.TraceFailed.{TraceFailed}
 
--- a set that a runtime can be made for: it is within the limits, and some file spells it
+-- a set that a runtime can be made for: it is within the limits, some file spells it, and digests name it and its parts
 pub record IsPlayable (set : SetContents) : Type 0 where
   pub limits : IsWithinLimits set
   pub spelled : IsSpelled set
-  pub digest : IsDigest set.digest
+  pub named : IsNamed set
+  pub digests : HasDigests set
   pub alts : HasFewAlts set
 
 -- a slot holds the progress bytes of the frames that it has kept, and nothing where it is empty
 abbrev pub HoldsKept : SetContents → Opening → Option History → Option (List ℕ) → Type 0
 HoldsKept set o None None = Unit {0}
-HoldsKept set o (Some kept) (Some bytes) = AreImages kept × (bytes ≡ progress_bytes set.digest (snapshot set o kept))
+HoldsKept set o (Some kept) (Some bytes) = AreImages kept × (bytes ≡ progress_bytes (shape_of set) (snapshot set o kept))
 HoldsKept set o _ _ = ⊥
 
 -- each slot holds what it has kept
@@ -46,6 +49,7 @@ HoldEachKept set o _ _ = ⊥
 pub record StandsAt (set : SetContents) (o : Opening) (m : Moment) (runtime : RuntimeSeen) (slots : List (Option (List ℕ))) : Type 0 where
   pub same : runtime.set ≡ set
   pub playable : IsPlayable set
+  pub shape : IsShape (shape_of set)
   pub opening : IsOpening (shape_of set) o
   pub image : runtime.image ≡ m.image
   pub bytes : AreBytes m.image
@@ -67,7 +71,7 @@ TakesUpFrom (Some bytes) old new = TakesUp old new bytes
 
 -- the progress bytes of what a runtime keeps
 abbrev pub kept_bytes : RuntimeSeen → List ℕ
-kept_bytes runtime = progress_bytes runtime.set.digest runtime.kept
+kept_bytes runtime = progress_bytes (shape_of runtime.set) runtime.kept
 
 -- the bytes in each slot
 abbrev pub slots_of : List (Option (Vec ℕ)) → List (Option (List ℕ))

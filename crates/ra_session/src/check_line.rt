@@ -1,15 +1,14 @@
 //! The line of `check`: docs/DEFINITIONS.md, "Counts of a set".
 
-ghost use Rattle.std.specs.Prelude.{◌≡◌, ◌<◌, ◌^◌, map, IfOk, string_bytes};
-ghost use Rattle.ra_progress.specs.Contents.{shape_contents};
-ghost use Rattle.ra_runtime.specs.Order.{shape_of};
+ghost use Rattle.std.specs.Prelude.{◌≡◌, ◌<◌, ◌^◌, length, map, IfOk, string_bytes};
+ghost use Rattle.ra_runtime.specs.Order.{set_cells, set_tracked};
 ghost use Rattle.ra_set.specs.Contents.{item_contents, set_contents};
 ghost use Rattle.ra_set.specs.Limits.{set_conditions};
 ghost use Rattle.ra_session.specs.Expected as spec;
 ghost use Rattle.ra_session.specs.Expected.{achievements_in, boards_in};
 ghost use Rattle.ra_session.specs.Playing.{IsPlayable};
 
-use ra_progress::{Hex, Shape};
+use ra_progress::Hex;
 use ra_set::{Item, Set, conditions};
 use ra_text::OutOfMemory;
 use std::alloc::Global;
@@ -41,16 +40,21 @@ pub(crate) fn leaderboards(items: &[Item]) -> usize
     count
 }
 
-// What a set has, in one line, by its shape.
-fn counted_line(alloc: Global, set: &Set, shape: &Shape) -> Result<String, OutOfMemory>
+// What a set has, in one line, by its cells and tracked masks.
+fn counted_line(
+    alloc: Global,
+    set: &Set,
+    cells: usize,
+    priors: usize,
+) -> Result<String, OutOfMemory>
     requires conditions { set_conditions (set_contents set.now) < 2 ^ 64 }
-    requires shape { shape_contents shape.now ≡ shape_of (set_contents set.now) }
+    requires cells { cells ≡ length (set_cells (set_contents set.now)) }
+    requires priors { priors ≡ length (set_tracked (set_contents set.now)) }
     ensures { IfOk result (λ line. string_bytes line ≡ spec.check_line (set_contents set.now)) }
 {
     let achievements = achievements(&set.items);
     let leaderboards = leaderboards(&set.items);
     let conditions = conditions(set);
-    let (cells, priors) = (shape.cells, shape.priors);
     let digest = Hex(&set.digest);
     let mut line = String::new(alloc);
     writeln!(
@@ -66,5 +70,10 @@ pub fn check_line(alloc: Global, set: &Set) -> Result<String, OutOfMemory>
     ensures { IfOk result (λ line. string_bytes line ≡ spec.check_line (set_contents set.now)) }
 {
     let shape = ra_runtime::shape_of(alloc, set)?;
-    counted_line(alloc, set, &shape)
+    counted_line(
+        alloc,
+        set,
+        shape.cells.as_slice().len(),
+        shape.priors.as_slice().len(),
+    )
 }

@@ -1,14 +1,14 @@
 //! What a run begins with: its set, and the progress file that it goes on from.
 
-ghost use Rattle.std.specs.Prelude.{◌≡◌, ◌≤◌, ◌+◌, ◌^◌, Some, None, All, OnOk, length as length_of_list, option_map, IfOk, IfErr};
+ghost use Rattle.std.specs.Prelude.{◌≡◌, Some, None, OnOk, option_map, IfOk, IfErr};
 ghost use Rattle.ra_io.specs.Causes.{Rose};
 ghost use Rattle.ra_io.specs.Files.{OnlyRead};
 ghost use Rattle.ra_set.specs.Contents.{set_contents};
 ghost use Rattle.ra_progress.specs.Contents.{shape_contents};
-ghost use Rattle.ra_progress.specs.Reading.{length_of, presence_length, refusal};
+ghost use Rattle.ra_progress.specs.Names.{IsUsable};
+ghost use Rattle.ra_progress.specs.Reading.{refusal};
 ghost use Rattle.ra_memory.specs.Image.{AreBytes};
 ghost use Rattle.ra_runtime.specs.Order as order;
-ghost use Rattle.ra_runtime.specs.Shapes.{IsSmall};
 ghost use Rattle.ra_session.specs.Loading.{AreAccepted, AreOfFile, HasNoProgress, HasNoSet, IsLoaded, IsNotLoaded, IsTaken, progress_in};
 ghost use Rattle.ra_session.specs.Outside.{AnyRose};
 ghost use Rattle.ra_session.specs.Playing.{IsPlayable};
@@ -19,13 +19,16 @@ use crate::failures::{LoadFailed, ProgressFailed, SetFailed};
 use crate::reading::read_whole;
 use crate::run_files::RunFiles;
 use ra_io::Files;
-use ra_progress::{PresenceShape, ProgressRefused, Shape, check, length};
+use ra_progress::{ProgressRefused, Shape, check};
 use ra_runtime::shape_of;
 use ra_set::{Set, SetRefused, parse_set};
 use std::alloc::Global;
 
 /// A byte more than a set may have.
 pub(crate) const SET_READ: usize = 4_194_305;
+
+// A byte more than a progress file may have.
+const PROGRESS_READ: usize = 8_388_609;
 
 /// The set of a file: docs/DEFINITIONS.md, "Set file". No file changes.
 pub fn load_set<F: Files>(alloc: Global, name: &str, files: &mut F) -> Result<Set, SetFailed>
@@ -42,39 +45,9 @@ pub fn load_set<F: Files>(alloc: Global, name: &str, files: &mut F) -> Result<Se
     }
 }
 
-// The numbers of a presence are counted by words, so that it takes few bytes.
-fn small_presence(presence: &Option<PresenceShape>)
-    ensures { presence_length presence.now ≤ 2 ^ 36 }
-{
-    if let Some(shape) = presence {
-        prove!(shape.hits <= u32::MAX && shape.parts <= u32::MAX);
-    }
-}
-
-// The numbers of a shape are counted by words.
-fn small_counts(shape: &Shape)
-    ensures cells { shape.now.cells ≤ 2 ^ 32 }
-    ensures priors { shape.now.priors ≤ 2 ^ 32 }
-    ensures presence { presence_length shape.now.presence ≤ 2 ^ 36 }
-{
-    prove!(shape.cells <= u32::MAX && shape.priors <= u32::MAX);
-    small_presence(&shape.presence);
-}
-
-// A byte more than a progress file of the shape has.
-fn progress_limit(shape: &Shape) -> usize
-    requires few { length_of_list shape.now.items.items ≤ 16384 }
-    requires small { All IsSmall shape.now.items.items }
-    ensures more { result ≡ length_of (shape_contents shape.now) + 1 }
-    ensures most { result ≤ 2 ^ 40 }
-{
-    small_counts(shape);
-    length(shape) as usize + 1
-}
-
 // Judges bytes as a progress file of a set, by its shape.
 fn judge(set: &Set, shape: &Shape, bytes: &[u8]) -> Result<(), ProgressRefused>
-    requires few { length_of_list shape.now.items.items ≤ 16384 }
+    requires usable { IsUsable shape.now }
     requires shape { shape_contents shape.now ≡ order.shape_of (set_contents set.now) }
     ensures bytes { AreBytes bytes.now }
     ensures accepted { OnOk result (refusal (order.shape_of (set_contents set.now)) bytes.now ≡ None) }
@@ -86,7 +59,7 @@ fn judge(set: &Set, shape: &Shape, bytes: &[u8]) -> Result<(), ProgressRefused>
     }
 }
 
-// The bytes of a progress file of a set: one byte more than it is to have is read at most.
+// The bytes of a progress file of a set: one byte more than it may have is read at most.
 fn read_progress<F: Files>(
     alloc: Global,
     set: &Set,
@@ -102,7 +75,7 @@ fn read_progress<F: Files>(
     ensures stays { OnlyRead F.content F.read_faults F.put_faults files.old files.new }
 {
     let shape = shape_of(alloc, set)?;
-    let bytes = read_whole(alloc, name, progress_limit(&shape), files)?;
+    let bytes = read_whole(alloc, name, PROGRESS_READ, files)?;
     match judge(set, &shape, bytes.as_slice()) {
         Ok(()) => Ok(bytes),
         Err(why) => Err(ProgressFailed::Refused(why)),

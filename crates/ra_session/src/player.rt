@@ -3,6 +3,7 @@
 ghost use Rattle.std.specs.Prelude.{◌≡◌, ◌≤◌, ◌<◌, ◌+◌, ◌^◌, None, Some, length, option_map, slice_index_or, IfSome, IfOk, IfErr, OnOk, OnErr};
 ghost use Rattle.ra_memory.specs.Image.{AreBytes, History};
 ghost use Rattle.ra_progress.specs.Contents.{Opening};
+ghost use Rattle.ra_progress.specs.Layout.{length_of};
 ghost use Rattle.ra_progress.specs.Reading.{refusal};
 ghost use Rattle.ra_set.specs.Contents.{SetContents, set_contents};
 ghost use Rattle.ra_trace.specs.Entries.{entry_of, Saved, Restored};
@@ -60,11 +61,13 @@ fn take_frame<L: Ledger>(runtime: &mut Runtime, blank: Blank)
     runtime.frame(&mut steps);
 }
 
-// Takes up progress bytes of the runtime's set, where there are some.
+// Takes up progress bytes, where there are some. The own bytes of the runtime's set are no longer than a file may be.
 fn take_up(runtime: &mut Runtime, progress: &Option<Vec<u8>>)
     requires { IfSome progress.now (λ bytes. refusal (shape_of runtime.old.set) bytes.items ≡ None) }
-    ensures { TakesUpFrom (option_map (λ bytes. bytes.items) progress.now) runtime.old runtime.new }
+    ensures taken { TakesUpFrom (option_map (λ bytes. bytes.items) progress.now) runtime.old runtime.new }
+    ensures short { length_of (shape_of runtime.old.set) ≤ 8388608 }
 {
+    let _shape = runtime.shape();
     if let Some(bytes) = progress {
         let _ = runtime.restore(bytes.as_slice());
     }

@@ -1,6 +1,6 @@
 use Rattle.std.proofs.Common.{◌∙◌, ◌<◌, ℕ, ap, sym, refl, slice_index, rules}
 use Rattle.ra_progress.specs.Reading.{refusal}
-use Rattle.ra_progress.proofs.Fields.{accepted_none}
+use Rattle.ra_progress.proofs.Checks.{accepted_none}
 use Rattle.ra_session.proofs.SaysLemmas.{bytes_of}
 use Rattle.ra_session.proofs.loading.judge.Goals as goal
 

@@ -37,7 +37,7 @@ returns-in_err-player-clause-printed g c = λ bytes o behind is_told at. no_memo
 pub play_records-requires-clause-stands : goal.play_records-requires-clause-stands
 play_records-requires-clause-stands g c =
     let set = set_contents c.args.beginning.set in
-    let (o, behind, at) = begins_somewhere set (progress_in c.args.beginning) c.requires.accepted in
+    let (o, behind, at) = begins_somewhere set (progress_in c.args.beginning) c.requires.playable c.requires.accepted in
     record { set = set; opening = o; moment = first_moment c.in_ok-size.size behind; stands = c.in_ok-player.ensures.stands o behind at }
 
 pub returns-in_err-play_records-clause-printed : goal.returns-in_err-play_records-clause-printed
