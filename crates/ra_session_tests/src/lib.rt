@@ -19,6 +19,8 @@ mod large;
 #[cfg(test)]
 mod lints;
 #[cfg(test)]
+mod normals;
+#[cfg(test)]
 mod pieces;
 #[cfg(test)]
 mod progress;
