@@ -35,7 +35,7 @@ pub struct Recorded {
 }
 
 // The trigger of a text, which has at most 65,536 conditions.
-fn trigger_of(alloc: Global, text: &str) -> Result<TriggerText, Fail>
+pub(crate) fn trigger_of(alloc: Global, text: &str) -> Result<TriggerText, Fail>
     ensures few { IfOk result (λ t. trigger_hits (trigger_contents t) ≤ 65536) }
     ensures spelled { IfOk result (λ t. IsTrigger (trigger_contents t)) }
 {
