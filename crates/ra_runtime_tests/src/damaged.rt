@@ -1,8 +1,7 @@
 //! Damaged progress files are refused, and what is played behind a refusal goes on as without it.
 
 use crate::played::Played;
-use crate::steps::Step::{At, Save};
-use crate::steps::{put_word, saved};
+use crate::steps::put_word;
 use md5::{Digest, Md5};
 use ra_text::OutOfMemory;
 use std::alloc::Global;
@@ -77,11 +76,18 @@ enum Damage {
     Flip,
 }
 
-// What is told of the file that is saved after a frame at which the byte is 5, damaged in each of these ways: the
+// What is told of a progress file of the moment after a frame at which the byte is 5, damaged in each of these ways: the
 // refusal, and a frame behind it, at which the byte is 6 and 5 by turns.
-fn damaged(alloc: Global, file: &str, damage: Damage, places: &[usize]) -> Result<Vec<u8>, Fail> {
+fn damaged(
+    alloc: Global,
+    file: &str,
+    kept: &[u8],
+    damage: Damage,
+    places: &[usize],
+) -> Result<Vec<u8>, Fail> {
     let mut out = Vec::new(alloc);
     let mut pair = Pair::new(alloc, file)?;
+    pair.tried.keep(alloc, kept)?;
     take_damaged(alloc, &mut pair, damage, places, &mut out)?;
     Ok(out)
 }
@@ -94,7 +100,6 @@ fn take_damaged(
     out: &mut Vec<u8>,
 ) -> Result<(), OutOfMemory> {
     pair.frame(5);
-    pair.tried.save(alloc)?;
     let mut byte = 6u8;
     let length = pair.tried.kept().len();
     for at in 0..length {
@@ -127,7 +132,7 @@ fn put_flip(alloc: Global, file: &[u8], at: usize, out: &mut Vec<u8>) -> Result<
         1 => format!(in alloc; "mark 52405047 wanted 52415047\n")?,
         2 => format!(in alloc; "mark 52415147 wanted 52415047\n")?,
         3 => format!(in alloc; "mark 52415046 wanted 52415047\n")?,
-        4 => format!(in alloc; "version 0 wanted 1\n")?,
+        4 => format!(in alloc; "version 0 wanted 1, 2 or 3\n")?,
         _ => {
             let (kept, found) = (hex_of(alloc, kept)?, hex_of(alloc, &Md5::digest(before))?);
             format!(in alloc; "sum {kept} is {found}\n")?
@@ -149,6 +154,21 @@ fn hex_of(alloc: Global, bytes: &[u8]) -> Result<String, OutOfMemory> {
 
 const THREE_HITS: &str = "A 1 0xH0010=5.3.\n";
 
+// What is kept of it after that frame, in the first version: mark and version, digest, 1 frame, the cell 5, active, measured
+// 0, 1 hit, sum.
+const THREE_HITS_KEPT: &[u8] =
+    b"RAPG\x01\x95\xc3\x20\x26\xa3\xa7\xb6\xfc\x1a\xa5\x3d\x35\x5d\x82\xba\x02\x01\0\0\0\0\0\0\0\x05\0\0\0\x01\0\0\0\0\x01\0\0\0\x53\x4e\x06\x04\x58\xee\x51\xc5\xc6\xf4\xa1\xa9\xb3\xd8\x3a\x44";
+
+// The same in the third version, with the names of the cell and of the line.
+const THREE_HITS_NAMED: &[u8] =
+    b"RAPG\x03\x95\xc3\x20\x26\xa3\xa7\xb6\xfc\x1a\xa5\x3d\x35\x5d\x82\xba\x02\x01\0\0\0\0\0\0\0\x01\0\0\0\x59\x74\x9b\xd5\xca\x8a\xbe\x76\x8e\xb1\x37\x06\x1a\x4f\x30\xc6\x05\0\0\0\0\0\0\0\x01\0\0\0\x79\x8a\x55\xfc\x59\x9d\x9d\x9b\x40\x6c\x25\xa6\x42\xfa\x8a\x9a\x09\0\0\0\x01\0\0\0\0\x01\0\0\0\xea\xf0\xf8\x08\x02\xaf\x9a\xc2\x52\x07\xb4\x0e\x7d\x06\xf4\x2e";
+
+// How long the first version has to be, once its first 45 bytes are there.
+const THREE_HITS_NEEDS: &[usize] = &[45, 58];
+
+// How long the third has to be, once so many bytes tell it: the counts of cells, priors and entries, and the length.
+const THREE_HITS_NAMED_NEEDS: &[usize] = &[45, 49, 73, 77, 97, 106];
+
 // A count, a prior and the shown line move at each frame at which the byte is 6 and 5 by turns.
 const MOVING: &str = "A 1 0xH0010<9.1000._p0xH0010=9
 P
@@ -157,8 +177,15 @@ Display:
 Six
 ";
 
-// The prior, the count and the shown line of it.
-const PLACES: [usize; 3] = [33, 42, 50];
+// What is kept of it in the first version: as above, with the prior 0 behind the cell, 2 hits, and the shown line 0 with its
+// hit.
+const MOVING_KEPT: &[u8] =
+    b"RAPG\x01\xc5\x07\x12\x6f\xc7\xcd\xbd\x79\xfa\xef\xa3\x37\x27\xb4\xcd\0\x01\0\0\0\0\0\0\0\x05\0\0\0\0\0\0\0\x01\0\0\0\0\x01\0\0\0\0\0\0\0\0\0\0\0\x01\0\0\0\x7a\xb6\xbd\x1e\x71\xf4\x89\xac\xfd\x06\xe5\x30\xc7\x53\x48\x9a";
+
+const MOVING_NEEDS: &[usize] = &[45, 74];
+
+// The prior, the count and the shown line in a save of it.
+const PLACES: [usize; 3] = [73, 106, 134];
 
 // Each of them behind the row of this number, counted from 0.
 fn put_moved(alloc: Global, row: usize, out: &mut Vec<u8>) -> Result<(), OutOfMemory> {
@@ -169,11 +196,23 @@ fn put_moved(alloc: Global, row: usize, out: &mut Vec<u8>) -> Result<(), OutOfMe
     Ok(())
 }
 
-fn wanted_cuts(alloc: Global, length: usize, moves: bool) -> Result<Vec<u8>, OutOfMemory> {
+// The first of these lengths that so many bytes do not have.
+fn need(left: usize, needs: &[usize]) -> usize {
+    needs.iter().copied().find(|need| left < *need).unwrap_or(0)
+}
+
+// The words of each cut of a file of so many bytes, by the lengths that it has to have.
+fn wanted_cuts(
+    alloc: Global,
+    length: usize,
+    needs: &[usize],
+    moves: bool,
+) -> Result<Vec<u8>, OutOfMemory> {
     let mut out = Vec::new(alloc);
     for row in 0..length {
         let left = length.saturating_sub(row).saturating_sub(1);
-        let text = format!(in alloc; "length {left} wanted {length}\n")?;
+        let wanted = need(left, needs);
+        let text = format!(in alloc; "length {left} wanted {wanted}\n")?;
         out.extend_from_slice(text.as_bytes())?;
         put_behind(alloc, row, moves, &mut out)?;
     }
@@ -204,42 +243,37 @@ fn put_behind(
 
 #[test]
 fn each_cut_is_refused_by_its_length(rt: HostRuntime) -> Result<(), Fail> {
-    let found = damaged(rt.alloc(), THREE_HITS, Damage::Cut, &[])?;
-    assert_eq!(rt;
-        found.as_slice(),
-        wanted_cuts(rt.alloc(), 58, false)?.as_slice()
-    );
+    for (kept, needs) in [
+        (THREE_HITS_KEPT, THREE_HITS_NEEDS),
+        (THREE_HITS_NAMED, THREE_HITS_NAMED_NEEDS),
+    ] {
+        let found = damaged(rt.alloc(), THREE_HITS, kept, Damage::Cut, &[])?;
+        let wanted = wanted_cuts(rt.alloc(), kept.len(), needs, false)?;
+        assert_eq!(rt; found.as_slice(), wanted.as_slice());
+    }
     Ok(())
 }
 
 #[test]
 fn each_flip_is_refused_by_its_field(rt: HostRuntime) -> Result<(), Fail> {
-    let file = saved(rt.alloc(), THREE_HITS, &[At(5), Save])?;
-    let found = damaged(rt.alloc(), THREE_HITS, Damage::Flip, &[])?;
-    assert_eq!(rt;
-        found.as_slice(),
-        wanted_flips(rt.alloc(), &file, false)?.as_slice()
-    );
+    let found = damaged(rt.alloc(), THREE_HITS, THREE_HITS_KEPT, Damage::Flip, &[])?;
+    let wanted = wanted_flips(rt.alloc(), THREE_HITS_KEPT, false)?;
+    assert_eq!(rt; found.as_slice(), wanted.as_slice());
     Ok(())
 }
 
 #[test]
 fn counts_priors_and_lines_go_on_behind_a_cut(rt: HostRuntime) -> Result<(), Fail> {
-    let found = damaged(rt.alloc(), MOVING, Damage::Cut, &PLACES)?;
-    assert_eq!(rt;
-        found.as_slice(),
-        wanted_cuts(rt.alloc(), 74, true)?.as_slice()
-    );
+    let found = damaged(rt.alloc(), MOVING, MOVING_KEPT, Damage::Cut, &PLACES)?;
+    let wanted = wanted_cuts(rt.alloc(), 74, MOVING_NEEDS, true)?;
+    assert_eq!(rt; found.as_slice(), wanted.as_slice());
     Ok(())
 }
 
 #[test]
 fn counts_priors_and_lines_go_on_behind_a_flip(rt: HostRuntime) -> Result<(), Fail> {
-    let file = saved(rt.alloc(), MOVING, &[At(5), Save])?;
-    let found = damaged(rt.alloc(), MOVING, Damage::Flip, &PLACES)?;
-    assert_eq!(rt;
-        found.as_slice(),
-        wanted_flips(rt.alloc(), &file, true)?.as_slice()
-    );
+    let found = damaged(rt.alloc(), MOVING, MOVING_KEPT, Damage::Flip, &PLACES)?;
+    let wanted = wanted_flips(rt.alloc(), MOVING_KEPT, true)?;
+    assert_eq!(rt; found.as_slice(), wanted.as_slice());
     Ok(())
 }

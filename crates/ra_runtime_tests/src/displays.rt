@@ -12,7 +12,7 @@ const TWICE_WORDS: &str = "1 0 0 0 \n1 0 0 0 \n1 1 0 5 \n0 2 0 5 \n0 2 0 7 \n1 0
 
 #[test]
 fn a_test_keeps_its_hits(rt: HostRuntime) -> Result<(), Fail> {
-    let words = Words(33, 4);
+    let words = Words(81, 4);
     let steps = [
         words,
         At(0),
@@ -45,7 +45,7 @@ const THREE_WORDS: &str = "2 0 0 0 0 0 \n1 1 1 1 2 3 \n0 2 1 1 2 3 \n0 2 1 4 8 1
 
 #[test]
 fn the_first_line_that_holds_is_shown(rt: HostRuntime) -> Result<(), Fail> {
-    let words = Words(33, 6);
+    let words = Words(81, 6);
     let steps = [At(0), words, At(1), words, At(1), words, At(4), words];
     let found = told(rt.alloc(), THREE_LINES, &steps)?;
     assert_eq!(rt; found.as_slice(), THREE_WORDS.as_bytes());
@@ -55,7 +55,7 @@ fn the_first_line_that_holds_is_shown(rt: HostRuntime) -> Result<(), Fail> {
 // A display of one line: what it keeps after a frame at which the byte is 4, with so many cells before it.
 fn words_of_line(alloc: Global, line: &str, cells: usize, count: usize) -> Result<Vec<u8>, Fail> {
     let file = format!(in alloc; "P\nDisplay:\n{line}\n")?;
-    let place = 29usize.wrapping_add(cells.wrapping_mul(4));
+    let place = 61usize.wrapping_add(cells.wrapping_mul(20));
     told(alloc, &file, &[At(4), Words(place, count)])
 }
 
@@ -228,9 +228,9 @@ fn a_restore_takes_back_line_hits_and_numbers(rt: HostRuntime) -> Result<(), Fai
     Ok(())
 }
 
-const ANOTHER_LINE: &str = "state 2 at 33
+const ANOTHER_LINE: &str = "state 2 at 81
 presence 2 Twice
-state 255 at 33
+state 255 at 81
 presence 2 Twice
 taken
 presence 1 Twice
@@ -242,15 +242,15 @@ fn a_line_that_is_not_there_is_refused(rt: HostRuntime) -> Result<(), Fail> {
         At(5),
         Save,
         At(5),
-        Put(33, 2),
+        Put(81, 2),
         Close,
         Restore,
         Show,
-        Put(33, 255),
+        Put(81, 255),
         Close,
         Restore,
         Show,
-        Put(33, 0),
+        Put(81, 0),
         Close,
         Restore,
         Show,

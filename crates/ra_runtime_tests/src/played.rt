@@ -3,6 +3,7 @@
 ghost use Rattle.std.specs.Prelude.{◌≡◌, ◌<◌, length, IfOk};
 ghost use Rattle.ra_set.specs.Contents.{set_contents};
 ghost use Rattle.ra_set.specs.Limits.{IsWithinLimits};
+ghost use Rattle.ra_set.specs.Names.{IsNamed};
 ghost use Rattle.ra_set.specs.Spelled.{IsSpelled};
 
 use md5::{Digest, Md5};
@@ -20,6 +21,7 @@ use std::test::Fail;
 pub(crate) fn set_of(alloc: Global, file: &str) -> Result<Set, Fail>
     ensures limits { IfOk result (λ set. IsWithinLimits (set_contents set)) }
     ensures spelled { IfOk result (λ set. IsSpelled (set_contents set)) }
+    ensures named { IfOk result (λ set. IsNamed (set_contents set)) }
 {
     match parse_set(alloc, file.as_bytes()) {
         Ok(set) => Ok(set),
@@ -82,6 +84,12 @@ impl Played {
     /// Keeps the bytes of a save.
     pub(crate) fn save(&mut self, alloc: Global) -> Result<(), OutOfMemory> {
         self.kept = self.runtime.save(alloc)?;
+        Ok(())
+    }
+
+    /// Keeps these bytes.
+    pub(crate) fn keep(&mut self, alloc: Global, bytes: &[u8]) -> Result<(), OutOfMemory> {
+        self.kept = bytes.to_vec(alloc)?;
         Ok(())
     }
 

@@ -2,30 +2,20 @@
 
 use crate::steps::Step::{At, Close, Cut, Flips, Lines, Put, Restore, Same, Save};
 use crate::steps::{saved, told};
-use md5::{Digest, Md5};
-use ra_text::OutOfMemory;
-use std::alloc::Global;
 use std::test::Fail;
 
 const THREE_HITS: &str = "A 1 0xH0010=5.3.\n";
 
-// The file of the set after the byte was 0, 5, 5, 0 and 5.
-fn three_hits_file(alloc: Global) -> Result<Vec<u8>, OutOfMemory> {
-    let mut file = Vec::new(alloc);
-    file.extend_from_slice(b"RAPG\x01")?;
-    file.extend_from_slice(&Md5::digest(THREE_HITS.as_bytes()))?;
-    file.extend_from_slice(b"\x05\0\0\0\0\0\0\0\x05\0\0\0\x04\0\0\0\0\x03\0\0\0")?;
-    let sum = Md5::digest(file.as_slice());
-    file.extend_from_slice(&sum)?;
-    Ok(file)
-}
+// The file of the set after the byte was 0, 5, 5, 0 and 5: mark and version, digest, 5 frames, one cell with its name and
+// 5, no priors, one entry with its name and nine bytes, which are triggered and earned, measured 0 and 3 hits, and the sum.
+const THREE_HITS_FILE: &[u8] =
+    b"RAPG\x03\x95\xc3\x20\x26\xa3\xa7\xb6\xfc\x1a\xa5\x3d\x35\x5d\x82\xba\x02\x05\0\0\0\0\0\0\0\x01\0\0\0\x59\x74\x9b\xd5\xca\x8a\xbe\x76\x8e\xb1\x37\x06\x1a\x4f\x30\xc6\x05\0\0\0\0\0\0\0\x01\0\0\0\x79\x8a\x55\xfc\x59\x9d\x9d\x9b\x40\x6c\x25\xa6\x42\xfa\x8a\x9a\x09\0\0\0\x0c\0\0\0\0\x03\0\0\0\x0f\x6e\x03\x50\xbb\xea\x97\x1c\xff\xa0\x49\x3d\xd7\x38\xd4\x41";
 
 #[test]
 fn a_saved_file_has_its_fields_in_order(rt: HostRuntime) -> Result<(), Fail> {
     let steps = [At(0), At(5), At(5), At(0), At(5), Save];
     let found = saved(rt.alloc(), THREE_HITS, &steps)?;
-    let wanted = three_hits_file(rt.alloc())?;
-    assert_eq!(rt; found.as_slice(), wanted.as_slice());
+    assert_eq!(rt; found.as_slice(), THREE_HITS_FILE);
     Ok(())
 }
 
@@ -52,15 +42,17 @@ fn refused_bytes_change_nothing(rt: HostRuntime) -> Result<(), Fail> {
     Ok(())
 }
 
-const REFUSALS: &str = "length 57 wanted 58
+const REFUSALS: &str = "length 57 wanted 73
 mark 00415047 wanted 52415047
-version 9 wanted 1
+version 9 wanted 1, 2 or 3
+taken
 set 00c32026a3a7b6fc1aa53d355d82ba02 wanted 95c32026a3a7b6fc1aa53d355d82ba02
-state 7 at 33
+state 7 at 81
 taken
 ";
 
-// Each change is taken back by the next save, but for that of the digest.
+// Each change is taken back by the next save. With another digest the entry is found by its name, and with another name too
+// the file is one of another set.
 #[test]
 fn each_refusal_tells_what_differs(rt: HostRuntime) -> Result<(), Fail> {
     let steps = [
@@ -77,8 +69,11 @@ fn each_refusal_tells_what_differs(rt: HostRuntime) -> Result<(), Fail> {
         Put(5, 0),
         Close,
         Restore,
+        Put(61, 0),
+        Close,
+        Restore,
         Save,
-        Put(33, 7),
+        Put(81, 7),
         Close,
         Restore,
         Save,
@@ -104,16 +99,16 @@ fn counts_stand_still_at_their_ends(rt: HostRuntime) -> Result<(), Fail> {
         Put(26, 255),
         Put(27, 255),
         Put(28, 255),
-        Put(50, 255),
-        Put(51, 255),
-        Put(52, 255),
-        Put(53, 255),
-        Put(37, 1),
+        Put(114, 255),
+        Put(115, 255),
+        Put(116, 255),
+        Put(117, 255),
+        Put(101, 1),
         Close,
         Restore,
         At(1),
-        Put(29, 1),
-        Put(42, 1),
+        Put(49, 1),
+        Put(106, 1),
         Close,
         Same,
     ];

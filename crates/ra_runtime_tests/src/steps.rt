@@ -29,6 +29,8 @@ pub enum Step {
     Words(usize, usize),
     /// Keeps a save.
     Save,
+    /// Keeps these bytes in place of a save.
+    Keep(&'static [u8]),
     /// Replaces one byte of the kept save.
     Put(usize, u8),
     /// Keeps so many bytes of the kept save.
@@ -96,6 +98,7 @@ fn take(
         Step::Put(at, byte) => played.put(at, byte),
         Step::Cut(count) => played.cut(count),
         Step::Save => played.save(alloc)?,
+        Step::Keep(bytes) => played.keep(alloc, bytes)?,
         Step::Close => played.close()?,
         other => tell(alloc, played, other, out)?,
     }
@@ -241,7 +244,8 @@ pub(crate) fn put_shape(
     shape: &Shape,
     out: &mut Vec<u8>,
 ) -> Result<(), OutOfMemory> {
-    let counts = format!(in alloc; "cells {} priors {}\n", shape.cells, shape.priors)?;
+    let (cells, priors) = (shape.cells.len(), shape.priors.len());
+    let counts = format!(in alloc; "cells {cells} priors {priors}\n")?;
     put(out, counts.as_bytes())?;
     for item in shape.items.as_slice() {
         let text = format!(in alloc; "{item:?}\n")?;
