@@ -28,4 +28,4 @@ pub record PlaysFrame (old new : RuntimeSeen) (at : ℕ) (bytes : List ℕ) : Ty
 pub record TellsOf (runtime : RuntimeSeen) (last : List Event) (presence progress : List ℕ) : Type 0 where
   pub last_events : last ≡ runtime.events
   pub shown : ShowsKept runtime presence
-  pub saved : progress ≡ progress_bytes runtime.set.digest runtime.kept
+  pub saved : progress ≡ progress_bytes (shape_of runtime.set) runtime.kept
