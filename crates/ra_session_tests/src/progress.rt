@@ -23,11 +23,17 @@ pub const RESTORE: RunFiles<'static> = RunFiles {
     save: None,
 };
 
-// What is kept of the fives: mark and version, digest, 5 frames, the cell 5, triggered, measured 0, 3 hits, sum.
+// What is kept of the fives, in the first version: mark and version, digest, 5 frames, the cell 5, triggered, measured 0,
+// 3 hits, sum.
 const KEPT: &[u8; 58] =
     b"RAPG\x01\x95\xc3\x20\x26\xa3\xa7\xb6\xfc\x1a\xa5\x3d\x35\x5d\x82\xba\x02\x05\0\0\0\0\0\0\0\x05\0\0\0\x04\0\0\0\0\x03\0\0\0\x38\x7d\x76\x84\x89\x35\xcb\x04\xa4\x62\x48\xfe\xdd\xd5\x9e\xa9";
 
-// The same trace against a set that wants the byte to be 6.
+// The same as it is written: the counts of cells, priors and entries, the names of the cell and of the line, the length of
+// its nine bytes, and triggered and earned.
+const WRITTEN: &[u8] =
+    b"RAPG\x03\x95\xc3\x20\x26\xa3\xa7\xb6\xfc\x1a\xa5\x3d\x35\x5d\x82\xba\x02\x05\0\0\0\0\0\0\0\x01\0\0\0\x59\x74\x9b\xd5\xca\x8a\xbe\x76\x8e\xb1\x37\x06\x1a\x4f\x30\xc6\x05\0\0\0\0\0\0\0\x01\0\0\0\x79\x8a\x55\xfc\x59\x9d\x9d\x9b\x40\x6c\x25\xa6\x42\xfa\x8a\x9a\x09\0\0\0\x0c\0\0\0\0\x03\0\0\0\x0f\x6e\x03\x50\xbb\xea\x97\x1c\xff\xa0\x49\x3d\xd7\x38\xd4\x41";
+
+// The same trace against a set that wants the byte to be 6, in the first version.
 const KEPT_OF_SIXES: &[u8] =
     b"RAPG\x01\x6e\x7d\x24\xea\x6f\xa9\xd6\x18\x6f\xf4\x05\x4d\x2e\x60\xac\x14\x05\0\0\0\0\0\0\0\x05\0\0\0\x01\0\0\0\0\0\0\0\0\x5a\x0c\x56\x37\xd5\xcb\x89\x46\x34\x7d\x87\xf9\xb7\x0a\x8a\x59";
 
@@ -37,7 +43,7 @@ const BAD_STATE: &[u8] =
 
 // Whether a file has these bytes.
 fn has(files: &mut SureFiles, name: &str, bytes: &[u8]) -> bool {
-    let mut buf = [0; 128];
+    let mut buf = [0; 512];
     match files.read_at(name, 0, &mut buf) {
         Ok(read) => &buf[..read] == bytes,
         Err(_) => false,
@@ -68,15 +74,15 @@ fn puts(
 #[test]
 fn puts_what_is_kept_at_the_end(rt: HostRuntime) -> Result<(), OutOfMemory> {
     let rows: [(&[u8], &[u8], &str, &[u8], &[u8]); 4] = [
-        (THREE_HITS, FIVES, "p", b"unlock 4 1\n", KEPT),
-        (THREE_HITS, FIVES, "S", b"unlock 4 1\n", KEPT),
-        (THREE_HITS, FIVES, "T", b"unlock 4 1\n", KEPT),
+        (THREE_HITS, FIVES, "p", b"unlock 4 1\n", WRITTEN),
+        (THREE_HITS, FIVES, "S", b"unlock 4 1\n", WRITTEN),
+        (THREE_HITS, FIVES, "T", b"unlock 4 1\n", WRITTEN),
         (
             b"A 1 P:0xH0001=1.2._0xH0002=1.2.\n",
             b"RATR\x01\x40\0\0\0W\x01\0\0\0\x02\0\x01\x01FW\x01\0\0\0\x02\0\0\0FW\x01\0\0\0\x02\0\x01\x01FW\x01\0\0\0\x02\0\0\0FW\x01\0\0\0\x02\0\x01\x01FE",
             "p",
             b"",
-            b"RAPG\x01\xe3\xfe\xbd\x0c\x71\x96\x92\xfa\xb6\x2c\x18\x79\x33\xcf\xe6\x4a\x05\0\0\0\0\0\0\0\x01\0\0\0\x01\0\0\0\x02\0\0\0\0\x02\0\0\0\x01\0\0\0\xe7\x51\x3f\xaf\xd5\x75\x0f\x46\xe5\x8c\x62\x1e\xd6\x76\x5b\x67",
+            b"RAPG\x03\xe3\xfe\xbd\x0c\x71\x96\x92\xfa\xb6\x2c\x18\x79\x33\xcf\xe6\x4a\x05\0\0\0\0\0\0\0\x02\0\0\0\x11\x67\x39\xea\x97\x09\x8d\xb8\xaa\xc8\x5e\xb7\x2f\xe3\x1e\x97\x01\0\0\0\x09\x4e\x96\xf9\x3d\x27\xc9\x10\x19\xcd\xa8\xc4\xc4\x08\x4e\xed\x01\0\0\0\0\0\0\0\x01\0\0\0\x23\x4f\xab\x81\x48\x29\x45\xd6\x35\x2e\xd2\x59\xcf\xbc\x8e\xf4\x0d\0\0\0\x02\0\0\0\0\x02\0\0\0\x01\0\0\0\x73\x42\xef\xb0\xa8\x9f\0\xd3\x35\x56\xe3\xad\x26\xc3\x69\x89",
         ),
     ];
     for (set, trace, save, text, kept) in rows {
@@ -109,7 +115,7 @@ fn goes_on(
     Ok(ends_so(alloc, &GO_ON, &mut files, 0, b"") && has(&mut files, "p", after))
 }
 
-// The count of frames and a hit stand at the last number, and a saved file is taken up by the next run.
+// The count of frames and a hit stand at the last number. A file of the first version is taken up, and the third is put.
 #[test]
 fn goes_on_at_the_last_numbers(rt: HostRuntime) -> Result<(), OutOfMemory> {
     let went = goes_on(
@@ -117,7 +123,7 @@ fn goes_on_at_the_last_numbers(rt: HostRuntime) -> Result<(), OutOfMemory> {
         b"A 1 0xH0010=1S0xH0010=0_0xH0011=1.2.\n",
         b"RATR\x01\x40\0\0\0W\x10\0\0\0\x01\0\x01FE",
         b"RAPG\x01\x05\xf3\x35\xab\xac\x3e\xc4\x7b\x4e\x37\x81\x9b\x90\x94\x1e\x99\xff\xff\xff\xff\xff\xff\xff\xff\0\0\0\0\0\0\0\0\x01\0\0\0\0\0\0\0\0\0\0\0\0\xff\xff\xff\xff\x26\x68\x00\x59\x5d\xf6\xea\x7e\xef\x14\x59\x61\xbf\x09\x16\x1e",
-        b"RAPG\x01\x05\xf3\x35\xab\xac\x3e\xc4\x7b\x4e\x37\x81\x9b\x90\x94\x1e\x99\xff\xff\xff\xff\xff\xff\xff\xff\x01\0\0\0\0\0\0\0\x01\0\0\0\0\x01\0\0\0\0\0\0\0\xff\xff\xff\xff\xbc\x1a\x9a\x54\xbe\xcc\x5c\x82\xa9\x96\x18\x1e\x1c\xfb\x47\xfa",
+        b"RAPG\x03\x05\xf3\x35\xab\xac\x3e\xc4\x7b\x4e\x37\x81\x9b\x90\x94\x1e\x99\xff\xff\xff\xff\xff\xff\xff\xff\x02\0\0\0\x59\x74\x9b\xd5\xca\x8a\xbe\x76\x8e\xb1\x37\x06\x1a\x4f\x30\xc6\x01\0\0\0\xa6\xcc\xac\x7d\x84\x86\xed\xe9\x78\x19\x79\x2e\x86\xc3\xa9\x3f\0\0\0\0\0\0\0\0\x01\0\0\0\xce\x7e\x32\xfe\x7b\xea\x2f\x19\x92\x8d\xac\x35\x28\x72\xbc\xa2\x11\0\0\0\x01\0\0\0\0\x01\0\0\0\0\0\0\0\xff\xff\xff\xff\xc6\xb1\x4d\x38\xc4\x3b\x2a\xdb\xc5\xb6\x37\x21\xb1\xab\xef\x20",
     )?;
     assert!(rt; went);
     Ok(())
@@ -132,7 +138,7 @@ fn is_refused(alloc: Global, kept: &[u8], why: &[u8]) -> Result<bool, OutOfMemor
     Ok(ends_so(alloc, &RESTORE, &mut files, 6, text.as_slice()))
 }
 
-// Each change of the file of three hits is refused, with both values.
+// Each change of the files of three hits is refused, with both values.
 #[test]
 fn refuses_progress_files(rt: HostRuntime) -> Result<(), OutOfMemory> {
     let mut version = *KEPT;
@@ -141,10 +147,13 @@ fn refuses_progress_files(rt: HostRuntime) -> Result<(), OutOfMemory> {
     hits[40] = 1;
     let mut mark = *KEPT;
     mark[0] = 0;
-    let rows: [(&[u8], &[u8]); 7] = [
+    let rows: [(&[u8], &[u8]); 10] = [
         (&KEPT[..57], b"length 57 wanted 58\n"),
-        (&[0; 99], b"length 59 wanted 58\n"),
-        (&version, b"version 9 wanted 1\n"),
+        (&KEPT[..44], b"length 44 wanted 45\n"),
+        (&WRITTEN[..57], b"length 57 wanted 73\n"),
+        (&[0; 44], b"length 44 wanted 45\n"),
+        (&[0; 99], b"mark 00000000 wanted 52415047\n"),
+        (&version, b"version 9 wanted 1, 2 or 3\n"),
         (
             &hits,
             b"sum 387d76848935cb04a46248feddd59ea9 is f4f5cfaf08ad5ba5f03727c704af780b\n",
@@ -213,7 +222,7 @@ fn whole_ends_so(alloc: Global, files: &mut SureFiles, cut: &Cut<'_>) -> Result<
 
 // Whether two of the files p have the same bytes.
 fn agree(one: &mut SureFiles, other: &mut SureFiles) -> bool {
-    let mut buf = [0; 128];
+    let mut buf = [0; 512];
     match one.read_at("p", 0, &mut buf) {
         Ok(read) => has(other, "p", &buf[..read]),
         Err(_) => false,
