@@ -7,6 +7,14 @@ many.set     4,000 achievements of 8 conditions, over many.trace: FRAMES frames,
 none.set     no items, over great.trace: one frame over an image of 128 MiB
              over frames.trace: 1,048,576 frames, and over writes.trace: 1,048,576 writes of one byte
              over long.trace: 16 MiB of frames; bench/long.sh plays a trace of 1 GiB
+
+Those of bench/parts.sh:
+real.set     120 achievements of 12 conditions with pointers, deltas and hits, 2 leaderboards, and a script of 30 lines,
+             over real.trace: FRAMES frames, each behind 30 writes of one byte; real-one.trace has one of these frames
+items.set    16,384 achievements of one condition, over one.trace: one frame
+lines.set    an achievement that tells a measured number at each frame, over counts.trace: 65,536 frames
+             quiet.set has the same achievement and tells nothing
+many.set     over saves.trace and restores.trace: 100 of these records; over saved.trace: one save
 """
 
 import random
@@ -46,6 +54,47 @@ def many_trace(frames):
     return bytes(trace + b"E")
 
 
+def real_condition(turn):
+    """Every third condition is behind a pointer, every fourth looks at a delta, every fifth counts hits."""
+    place = random.randrange(0x4000)
+    kind = "d" if turn % 4 == 1 else ""
+    target = f".{random.randrange(2, 60)}." if turn % 5 == 2 else ""
+    value = random.randrange(64)
+    if turn % 3 == 0:
+        return f"I:0x {0x4000 + 4 * random.randrange(256):04x}&1023_{kind}0xH{place % 64:04x}={value}{target}"
+    return f"{kind}0xH{place:04x}={value}{target}"
+
+
+def real_achievement(number):
+    conditions, turn = [], 0
+    while len(conditions) < 12:
+        conditions += real_condition(turn).split("_")
+        turn += 1
+    last = conditions[11]
+    conditions[11] = "0xH0010=5" if last.startswith("I:") else last
+    return f"A {number} " + "_".join(conditions[:12]) + "\n"
+
+
+def real_set():
+    items = "".join(real_achievement(i + 1) for i in range(120))
+    boards = "".join(
+        f"L {i} SECS STA:0xH{16 + i:04x}=1::CAN:0xH{32 + i:04x}=1::SUB:0xH{48 + i:04x}=1::VAL:0x {64 + i:04x}\n"
+        for i in (1, 2)
+    )
+    lookup = "Lookup:Stage\n" + "".join(f"{i}=Stage {i}\n" for i in range(8)) + "*=Elsewhere\n"
+    tests = "".join(f"?0xH{i:04x}={200 + i}?On @Stage(0xH{128 + i:04x}) with @Number(0x {256 + 2 * i:04x})\n" for i in range(19))
+    return items + boards + "P\n" + lookup + "Display:\n" + tests + "In @Stage(0xH0080)\n"
+
+
+def real_trace(frames):
+    trace = bytearray(header(0x8000))
+    for _ in range(frames):
+        for _ in range(30):
+            trace += write(random.randrange(0x4400), random.randrange(64))
+        trace += b"F"
+    return bytes(trace + b"E")
+
+
 def main(folder, frames):
     random.seed(1)
     files = {
@@ -58,6 +107,17 @@ def main(folder, frames):
         "frames.trace": header(65536) + b"F" * 1_048_576 + b"E",
         "writes.trace": header(65536) + write(16, 5) * 1_048_576 + b"E",
         "long.trace": header(0) + b"F" * 16_777_216 + b"E",
+        "real.set": real_set().encode(),
+        "real.trace": real_trace(frames),
+        "real-one.trace": real_trace(1),
+        "items.set": "".join(f"A {i + 1} 0xH{i:04x}=1\n" for i in range(16384)).encode(),
+        "one.trace": header(65536) + b"FE",
+        "lines.set": b"A 1 M:0xH0000=0.4000000.\n",
+        "quiet.set": b"A 1 0xH0000=0.4000000.\n",
+        "counts.trace": header(65536) + b"F" * 65_536 + b"E",
+        "saved.trace": header(65536) + b"FS\0E",
+        "saves.trace": header(65536) + b"F" + b"S\0" * 101 + b"E",
+        "restores.trace": header(65536) + b"FS\0" + b"R\0" * 100 + b"E",
     }
     for name, content in files.items():
         with open(f"{folder}/{name}", "wb") as file:

@@ -1,0 +1,29 @@
+#!/bin/sh
+# What the parts of a run cost: instructions for each frame, save, restore, line and item, by the difference of two runs.
+# usage: bench/parts.sh [PLAYER [FRAMES]]
+# PLAYER is the built program; where it is not named it is found, or built. FRAMES are those of the real-sized set, 1,000
+# where they are not named. Instructions are counted by callgrind, so they are the same on every machine.
+set -eu
+. "$(dirname "$0")/player.sh"
+need valgrind python3
+find_player "${1:-}"
+frames=${2:-1000}
+folder=$(mktemp -d)
+trap 'rm -rf "$folder"' EXIT
+python3 "$here/bench/workloads.py" "$folder" "$frames"
+
+# row WHAT TIMES SET TRACE SET TRACE: what the first run costs more than the other, each of so many times
+row() {
+    more=$(instructions /dev/null run "$folder/$3" "$folder/$4")
+    less=$(instructions /dev/null run "$folder/$5" "$folder/$6")
+    awk -v what="$1" -v times="$2" -v more="$more" -v less="$less" \
+        'BEGIN { printf "| %s | %.0f |\n", what, (more - less) / times }'
+}
+
+echo "| What | Instructions |"
+echo "|---|---|"
+row 'a frame of a real-sized set' $((frames - 1)) real.set real.trace real.set real-one.trace
+row 'a save of 4,000 achievements of 8 conditions' 100 many.set saves.trace many.set saved.trace
+row 'a restore of them' 100 many.set restores.trace many.set saved.trace
+row 'loading and making an item, of 16,384' 16384 items.set one.trace none.set one.trace
+row 'a line of a measured number' 65536 lines.set counts.trace quiet.set counts.trace
