@@ -1,7 +1,8 @@
 #!/usr/bin/env python3
 """Processor minutes of a run of `rt ci`, by crate and kind of work, user and system time together.
 
-    bench/gate.py             runs `rt ci` with one job and prints the table
+    bench/gate.py             runs `rt ci --anew` with one job and prints the table
+    bench/gate.py NAME..      the same for these crates and those below them
     bench/gate.py --watch PID prints the table of a run that goes on already, from now on
 
 Proofs are those of the crates, tests those of the crates with their tests; a seed is what the edits of a crate
@@ -102,7 +103,7 @@ def main(words):
         table(seen)
         return 0
     environment = dict(os.environ, RT_JOBS=os.environ.get("RT_JOBS", "1"))
-    with subprocess.Popen(["rt", "ci", *words], env=environment, stdout=subprocess.DEVNULL) as run:
+    with subprocess.Popen(["rt", "ci", "--anew", *words], env=environment, stdout=subprocess.DEVNULL) as run:
         while run.poll() is None:
             look(run.pid, seen)
             time.sleep(0.25)
