@@ -9,6 +9,7 @@ ghost use Rattle.ra_progress.specs.Names.{IsUsable};
 ghost use Rattle.ra_progress.specs.Reading.{refusal};
 ghost use Rattle.ra_memory.specs.Image.{AreBytes};
 ghost use Rattle.ra_runtime.specs.Order as order;
+ghost use Rattle.ra_session.specs.Expected.{progress_limit};
 ghost use Rattle.ra_session.specs.Loading.{AreAccepted, AreOfFile, HasNoProgress, HasNoSet, IsLoaded, IsNotLoaded, IsTaken, progress_in};
 ghost use Rattle.ra_session.specs.Outside.{AnyRose};
 ghost use Rattle.ra_session.specs.Playing.{IsPlayable};
@@ -27,8 +28,12 @@ use std::alloc::Global;
 /// A byte more than a set may have.
 pub(crate) const SET_READ: usize = 4_194_305;
 
-// A byte more than a progress file may have.
-const PROGRESS_READ: usize = 8_388_609;
+// How many bytes of a progress file are read: a byte more than it may have.
+fn progress_read() -> usize
+    ensures { result ≡ progress_limit }
+{
+    8_388_609
+}
 
 /// The set of a file: docs/DEFINITIONS.md, "Set file". No file changes.
 pub fn load_set<F: Files>(alloc: Global, name: &str, files: &mut F) -> Result<Set, SetFailed>
@@ -75,7 +80,7 @@ fn read_progress<F: Files>(
     ensures stays { OnlyRead F.content F.read_faults F.put_faults files.old files.new }
 {
     let shape = shape_of(alloc, set)?;
-    let bytes = read_whole(alloc, name, PROGRESS_READ, files)?;
+    let bytes = read_whole(alloc, name, progress_read(), files)?;
     match judge(set, &shape, bytes.as_slice()) {
         Ok(()) => Ok(bytes),
         Err(why) => Err(ProgressFailed::Refused(why)),
