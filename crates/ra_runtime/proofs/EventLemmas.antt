@@ -57,8 +57,13 @@ board_has id format run has =
     rows_have (event_if started (events.Start id)) (event_if told (events.Track id tracked format)) (event_if cancelled (events.Cancel id)) (event_if submitted submit)
     (one_of started (events.Start id) tt) (one_of told (events.Track id tracked format) has) (one_of cancelled (events.Cancel id) tt) (one_of submitted submit has)
 
+-- an achievement that was earned has none
+achievement_has : (id : ℕ) (change : Change) (earned : Bool) → Have (if earned then [] else change_events id change)
+achievement_has id change true = tt
+achievement_has id change false = change_has id change
+
 item_has : (item : ItemContents) (run : ItemRun) → HasItemDigits item → Have (run_events item run)
-item_has (Unlocks id t) (Achievement run) has = change_has id run.change
+item_has (Unlocks id t) (Achievement run) has = achievement_has id run.change run.earned
 item_has (Unlocks id t) (Leaderboard run) has = tt
 item_has (Ranks id format b) (Achievement run) has = tt
 item_has (Ranks id format b) (Leaderboard run) has = board_has id format run has

@@ -1,6 +1,7 @@
 -- One frame of all items, from what is kept, is one frame of the set by the definitions.
-use Rattle.std.proofs.Common.{◌≡◌, ℕ, ◌<◌, ◌^◌, Option, None, Some, false, List, [], ◌∷◌, ◌++◌, length, map, replicate, zip, refl, sym, ◌∙◌, ap, ap₂, subst, arith}
+use Rattle.std.proofs.Common.{◌≡◌, ◌≢◌, ℕ, ◌<◌, ◌^◌, Option, None, Some, false, List, [], ◌∷◌, ◌++◌, length, map, replicate, zip, refl, sym, ◌∙◌, ap, ap₂, subst, arith}
 use Rattle.std.specs.List.{flat_map}
+use Rattle.ra_memory.specs.Image.{History}
 use Rattle.ra_indirect.specs.Trees.{cells_in, tracked_in, same_cell, same_tracked}
 use Rattle.ra_indirect.specs.Pools.{cells_of, tracked_of, spelled_by}
 use Rattle.ra_memref.specs.Marks.{reads_of}
@@ -12,16 +13,18 @@ use Rattle.ra_progress.specs.Contents.{Opening}
 use Rattle.ra_runtime.specs.declared.item_run.ItemRun.{ItemRun}
 use Rattle.ra_runtime.specs.declared.presence_run.PresenceRun.{PresenceRun}
 use Rattle.ra_runtime.specs.Order.{trees_in_set, set_cells, set_tracked}
+use Rattle.ra_runtime.specs.Earned.{Earned, is_earned, earned_in, with_earned}
 use Rattle.ra_runtime.specs.Openings.{start_of, snapshot, item_after, number_beside, prior_beside, frames_after, optional_presence}
 use Rattle.ra_runtime.specs.Lines.{event_lines}
-use Rattle.ra_runtime.specs.Play.{item_events, events, lines}
+use Rattle.ra_runtime.specs.Play.{item_events, events, lines, earns, unless_earned}
 use Rattle.ra_member.specs.Runs.{HasValues}
 use Rattle.ra_runtime.specs.ItemRuns.{kept_run}
-use Rattle.ra_runtime.specs.AllRuns.{AreStepped, all_events, opening_by, IsOver}
+use Rattle.ra_runtime.specs.AllRuns.{AreItemRuns, AreStepped, all_events, opening_by, IsOver}
 use Rattle.ra_runtime.specs.PresenceRuns.{StepsOptional, optional_presence_kept}
 use Rattle.std.proofs.lemmas.List.{length-map}
 use Rattle.ra_runtime.specs.Runtime.{RuntimeSeen, TakesFrame, ReadsFew}
 use Rattle.ra_runtime.proofs.Law.{cuts_anywhere}
+use Rattle.ra_runtime.proofs.EarnedFrames.{snapshot_with, events_with, earns_with, runs_earn}
 use Rattle.ra_runtime.proofs.Beside.{apart_firsts, numbers_beside, priors_beside}
 
 module _ (table : TableSeen) (start : Start) (image : List ℕ) (has : HasValues table start (image ∷ [])) where
@@ -34,7 +37,7 @@ module _ (table : TableSeen) (start : Start) (image : List ℕ) (has : HasValues
   stepped_kept (item ∷ items) (old ∷ olds) (new ∷ news) are =
       ap₂ (λ x xs. x ∷ xs) (are.0.kept start image has) (stepped_kept items olds news are.1)
 
-  stepped_events : (items : List ItemContents) (olds news : List ItemRun) → AreStepped table items olds news → all_events items news ≡ flat_map (item_events start image []) (zip items (map kept_run olds))
+  stepped_events : (items : List ItemContents) (olds news : List ItemRun) → AreStepped table items olds news → all_events items news ≡ flat_map (unless_earned (item_events start image [])) (zip (map is_earned (map kept_run olds)) (zip items (map kept_run olds)))
   stepped_events [] [] [] are = refl
   stepped_events [] [] (new ∷ news) are = absurd are
   stepped_events [] (old ∷ olds) news are = absurd are
@@ -78,13 +81,16 @@ module _ (set : SetContents) (count : ℕ) (old new : TableSeen) (image : List �
       let presence = presence_kept_on new start image has_values set.script shown shown' steps in
       (λ i. record { frames = frames_after count 1; cells = cells i; priors = priors i; items = items i; presence = presence i })
 
-  pub frame_events : all_events set.items news ≡ events set kept (image ∷ [])
+  pub frame_earned : AreItemRuns old.nodes set.items olds → earned_in (snapshot set kept (image ∷ [])) ≡ earns set kept (image ∷ []) (earned_in kept)
+  frame_earned are = runs_earn old.nodes start image set.items olds are
+
+  pub frame_events : all_events set.items news ≡ events set kept (image ∷ []) (earned_in kept)
   frame_events = stepped_events new start image has_values set.items olds news stepped
 
-  pub frame_lines : count < 2 ^ 64 → event_lines count (all_events set.items news) ≡ lines set kept (image ∷ [])
+  pub frame_lines : count < 2 ^ 64 → event_lines count (all_events set.items news) ≡ lines set kept (image ∷ []) (earned_in kept)
   frame_lines small =
       let same : frames_after count 0 ≡ count = omega arith in
-      ap (event_lines count) frame_events ∙ ap (λ n. event_lines n (events set kept (image ∷ []))) (sym same)
+      ap (event_lines count) frame_events ∙ ap (λ n. event_lines n (events set kept (image ∷ []) (earned_in kept))) (sym same)
 
   pub over_after : IsOver set new
   over_after =
@@ -97,17 +103,36 @@ module _ (set : SetContents) (count : ℕ) (old new : TableSeen) (image : List �
       }
 
 -- what holds of one frame from the kept opening holds of every opening and history that it stands for
-pub takes_frame : (old new : RuntimeSeen) → new.set ≡ old.set → new.image ≡ old.image → new.kept ≡ snapshot old.set old.kept (old.image ∷ []) → new.events ≡ events old.set old.kept (old.image ∷ []) → new.lines ≡ lines old.set old.kept (old.image ∷ []) → TakesFrame old new
-takes_frame old new set image kept told printed = record {
+pub takes_frame : (old new : RuntimeSeen) → new.set ≡ old.set → new.image ≡ old.image → new.kept ≡ snapshot old.set old.kept (old.image ∷ [])
+    → earned_in (snapshot old.set old.kept (old.image ∷ [])) ≡ earns old.set old.kept (old.image ∷ []) (earned_in old.kept)
+    → new.events ≡ events old.set old.kept (old.image ∷ []) (earned_in old.kept) → new.lines ≡ lines old.set old.kept (old.image ∷ []) (earned_in old.kept) → TakesFrame old new
+takes_frame old new set image kept more told printed = record {
   set = set;
   image = image;
   kept = λ o history opening images is.
-      kept ∙ ap (λ k. snapshot old.set k (old.image ∷ [])) is ∙ sym ((cuts_anywhere old.set).kept o history (old.image ∷ []) opening);
+      let whole : new.kept ≡ snapshot old.set (with_earned (snapshot old.set o history) earned) last = kept ∙ ap (λ k. snapshot old.set k last) is in
+      let behind : snapshot old.set (snapshot old.set o history) last ≡ snapshot new.set o (old.image ∷ history) = sym ((cuts_anywhere old.set).kept o history last opening) ∙ ap (λ s. snapshot s o (old.image ∷ history)) (sym set) in
+      whole ∙ snapshot_with old.set (snapshot old.set o history) earned last ∙ (λ i. with_earned (behind i) (earned_in (sym whole i)));
+  earned = λ o history opening images is.
+      ap earned_in kept ∙ more ∙ ap (λ k. earns old.set k last earned) is ∙ earns_with old.set (snapshot old.set o history) earned old.image
+      ∙ sym ((cuts_anywhere old.set).earned_too o history last earned opening some);
   events = λ o history opening images is.
-      told ∙ ap (λ k. events old.set k (old.image ∷ [])) is ∙ sym ((cuts_anywhere old.set).tells o history (old.image ∷ []) opening (λ e. let bad : old.image ∷ [] ≡ [] = e in cc));
+      told ∙ ap (λ k. events old.set k last earned) is ∙ events_with old.set (snapshot old.set o history) earned old.image
+      ∙ sym ((cuts_anywhere old.set).tells o history last earned opening some);
   lines = λ o history opening images is.
-      printed ∙ ap (λ k. lines old.set k (old.image ∷ [])) is ∙ sym ((cuts_anywhere old.set).prints o history (old.image ∷ []) opening (λ e. let bad : old.image ∷ [] ≡ [] = e in cc));
+      let count = frames_after (snapshot old.set o history).frames 0 in
+      printed ∙ ap (λ k. lines old.set k last earned) is ∙ ap (event_lines count) (events_with old.set (snapshot old.set o history) earned old.image)
+      ∙ sym ((cuts_anywhere old.set).prints o history last earned opening some);
 }
+  where
+    last : History
+    last = old.image ∷ []
+
+    earned : Earned
+    earned = earned_in old.kept
+
+    some : last ≢ []
+    some e = let bad : old.image ∷ [] ≡ [] = e in cc
 
 -- a sample of a table over a set reads the cells that were marked or moved
 pub reads_few : (old new : RuntimeSeen) (table after : TableSeen) (reads : ℕ) → IsOver old.set table → Samples table after old.image → ReadsWanted table after reads → old.kept.cells ≡ table.cells → old.kept.priors ≡ table.priors → old.marked ≡ table.marked → old.places ≡ table.places → new.marked ≡ after.marked → new.places ≡ after.places → ReadsFew old new reads

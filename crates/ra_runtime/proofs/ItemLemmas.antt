@@ -9,7 +9,8 @@ use Rattle.ra_value_format.specs.declared.format.Format.{Format}
 use Rattle.ra_leaderboard.specs.declared.state.BoardState.{BoardState}
 use Rattle.ra_leaderboard.specs.States.{became_started, became_cancelled, became_submitted}
 use Rattle.ra_leaderboard.specs.Contents.{BoardContents}
-use Rattle.ra_set.specs.Contents.{Unlocks, Ranks}
+use Rattle.ra_set.specs.Contents.{ItemContents, Unlocks, Ranks}
+use Rattle.ra_progress.specs.Contents.{KeptItem}
 use Rattle.ra_member.proofs.Shaped.{member_shape}
 use Rattle.ra_runtime.specs.declared.achievement_run.AchievementRun.{AchievementRun}
 use Rattle.ra_runtime.specs.declared.board_run.BoardRun.{BoardRun}
@@ -21,10 +22,11 @@ use Rattle.ra_runtime.specs.Events.{event_if, is_started, same_number, achieveme
 use Rattle.ra_runtime.specs.Openings.{kept_achievement}
 use Rattle.ra_runtime.specs.Histories.{achievement_after}
 use Rattle.ra_runtime.specs.Order.{board_member}
-use Rattle.ra_runtime.specs.Runs.{StepsAchievement}
+use Rattle.ra_runtime.specs.Runs.{StepsAchievement, earned_by}
 use Rattle.ra_runtime.specs.BoardRuns.{IsBoardRun, StepsBoard, board_kept}
 use Rattle.ra_runtime.specs.RunEvents.{measured_event, change_events, board_run_events}
-use Rattle.ra_runtime.specs.ItemRuns.{StepsItem}
+use Rattle.ra_runtime.specs.ItemRuns.{StepsItem, kept_run}
+use Rattle.ra_runtime.specs.Play.{item_events, unless_earned}
 use Rattle.ra_runtime.proofs.Again.{achievement_again, board_again}
 
 same_turned : (m n : ℕ) → (m == n) ≡ (n == m)
@@ -39,6 +41,11 @@ change_told : (id : ℕ) (old new : TriggerKept) → change_events id (change_be
 change_told id old new =
     rw (measured_same id new.measured (new.measured == old.measured), same_turned new.measured old.measured) refl
 
+-- nothing is told of what was earned, and of what was not what stands for it
+unless_is : (earned : Bool) (told : List Event) (tells : ItemContents × KeptItem → List Event) (item : ItemContents × KeptItem) → told ≡ tells item → (if earned then [] else told) ≡ unless_earned tells (earned, item)
+unless_is true told tells item is = refl
+unless_is false told tells item is = is
+
 pub achievement_item : (table : TableSeen) (id : ℕ) (t : TriggerContents) (old new : AchievementRun) → StepsAchievement table t old new → StepsItem table (Unlocks id t) (Achievement old) (Achievement new)
 achievement_item table id t old new steps =
     let again = sym (achievement_again old.earned old.run.trigger) in
@@ -46,9 +53,11 @@ achievement_item table id t old new steps =
       kept = λ start image has.
           ap₂ kept_achievement steps.earned (steps.trigger.kept start (image ∷ []) has ∙ ap (λ k. achievement_after start t k (image ∷ [])) again);
       events = λ start image has.
-          ap (change_events id) steps.trigger.told
+          ap (λ earned. if earned then [] else change_events id new.change) steps.earned
+          ∙ unless_is (earned_by old) (change_events id new.change) (item_events start image []) (Unlocks id t, kept_run (Achievement old))
+          (ap (change_events id) steps.trigger.told
           ∙ change_told id old.run.trigger new.run.trigger
-          ∙ ap₂ (achievement_events id) again (steps.trigger.kept start (image ∷ []) has ∙ ap (λ k. achievement_after start t k (image ∷ [])) again);
+          ∙ ap₂ (achievement_events id) again (steps.trigger.kept start (image ∷ []) has ∙ ap (λ k. achievement_after start t k (image ∷ [])) again));
     }
 
 -- the events of a board by states and numbers

@@ -1,6 +1,6 @@
 -- The law of cuts: what a set keeps, tells, prints and shows after a history is what it does from the opening at any
 -- frame of it, over the frames since then.
-use Rattle.std.proofs.Common.{◌≡◌, ◌≢◌, ℕ, ◌+◌, ◌||◌, Bool, true, false, if◌then◌else◌, Option, None, Some, option_map, List, [], ◌∷◌, ◌++◌, length, map, zip, refl, sym, ◌∙◌, ap, arith, length-append, codes, decimal}
+use Rattle.std.proofs.Common.{◌≡◌, ◌≢◌, ℕ, ◌+◌, ◌&&◌, ◌||◌, not, Bool, true, false, if◌then◌else◌, Option, None, Some, option_map, List, [], ◌∷◌, ◌++◌, length, map, zip, refl, sym, ◌∙◌, ap, arith, length-append, codes, decimal}
 use Rattle.std.specs.List.{flat_map}
 use Rattle.ra_condition.specs.Contents.{TriggerContents}
 use Rattle.ra_leaderboard.specs.Contents.{BoardContents}
@@ -19,8 +19,9 @@ use Rattle.ra_runtime.specs.Boards.{BoardKept, board_after, opened_board, kept_b
 use Rattle.ra_runtime.specs.Presence.{opened_display, kept_display, display_text}
 use Rattle.ra_runtime.specs.Events.{achievement_events, board_events}
 use Rattle.ra_runtime.specs.Lines.{line_of, event_lines}
-use Rattle.ra_runtime.specs.Openings.{start_of, opened_achievement, kept_achievement, is_earned, item_after, optional_presence, frames_after, snapshot}
-use Rattle.ra_runtime.specs.Play.{item_events, events, lines, shown_by, shown}
+use Rattle.ra_runtime.specs.Earned.{Earned, both_earned, is_earned}
+use Rattle.ra_runtime.specs.Openings.{start_of, opened_achievement, kept_achievement, item_after, optional_presence, frames_after, snapshot}
+use Rattle.ra_runtime.specs.Play.{item_events, events, lines, earns, unless_earned, unlocks, shown_by, shown}
 use Rattle.ra_runtime.specs.Runtime.{CutsAnywhere}
 use Rattle.ra_member.proofs.GoingOn.{GoesOn, goes_on}
 use Rattle.ra_member.proofs.Listed.{In_front, In_behind}
@@ -93,13 +94,35 @@ module _ (start opened : Start) (earlier : History) where
       let after = board_goes_on b alike (opened_board b kept) opened_fit (image ∷ later) in
       (λ i. board_events id format (before i) (after i))
 
-  events_go_on : (items : List ItemContents) → GoesOn start opened earlier (flat_map trees_in_item items) → (kept : List KeptItem) → ItemsFit (map item_shape items) kept → (image : List ℕ) (later : History) → flat_map (item_events start image (later ++ earlier)) (zip items kept) ≡ flat_map (item_events opened image later) (zip items (map (item_after start earlier) (zip items kept)))
-  events_go_on [] alike kept fits image later = refl
-  events_go_on (item ∷ items) alike [] fits image later = refl
-  events_go_on (item ∷ items) alike (k ∷ kept) fits image later =
-      let first = events_of_item item (goes_front start opened earlier (trees_in_item item) (flat_map trees_in_item items) alike) k fits.0 image later in
-      let rest = events_go_on items (goes_behind start opened earlier (trees_in_item item) (flat_map trees_in_item items) alike) kept fits.1 image later in
+  -- what is told of an item, unless it is earned
+  told_of_item : (earned : Bool) (item : ItemContents) → GoesOn start opened earlier (trees_in_item item) → (kept : KeptItem) → ItemFits (item_shape item) kept → (image : List ℕ) (later : History) → unless_earned (item_events start image (later ++ earlier)) (earned, (item, kept)) ≡ unless_earned (item_events opened image later) (earned, (item, item_after start earlier (item, kept)))
+  told_of_item true item alike kept fits image later = refl
+  told_of_item false item alike kept fits image later = events_of_item item alike kept fits image later
+
+  events_go_on : (earned : Earned) (items : List ItemContents) → GoesOn start opened earlier (flat_map trees_in_item items) → (kept : List KeptItem) → ItemsFit (map item_shape items) kept → (image : List ℕ) (later : History) → flat_map (unless_earned (item_events start image (later ++ earlier))) (zip earned (zip items kept)) ≡ flat_map (unless_earned (item_events opened image later)) (zip earned (zip items (map (item_after start earlier) (zip items kept))))
+  events_go_on [] items alike kept fits image later = refl
+  events_go_on (e ∷ earned) [] alike kept fits image later = refl
+  events_go_on (e ∷ earned) (item ∷ items) alike [] fits image later = refl
+  events_go_on (e ∷ earned) (item ∷ items) alike (k ∷ kept) fits image later =
+      let first = told_of_item e item (goes_front start opened earlier (trees_in_item item) (flat_map trees_in_item items) alike) k fits.0 image later in
+      let rest = events_go_on earned items (goes_behind start opened earlier (trees_in_item item) (flat_map trees_in_item items) alike) kept fits.1 image later in
       (λ i. first i ++ rest i)
+
+  -- whether an item unlocks at the last frame
+  unlocks_of_item : (item : ItemContents) → GoesOn start opened earlier (trees_in_item item) → (kept : KeptItem) → (image : List ℕ) (later : History) → unlocks start image (later ++ earlier) (item, kept) ≡ unlocks opened image later (item, item_after start earlier (item, kept))
+  unlocks_of_item (Unlocks id t) alike kept image later =
+      let before = achievement_goes_on t alike (opened_achievement kept) (is_earned kept) later in
+      let after = achievement_goes_on t alike (opened_achievement kept) (is_earned kept) (image ∷ later) in
+      (λ i. not (is_triggered (before i).state) && is_triggered (after i).state)
+  unlocks_of_item (Ranks id format b) alike kept image later = refl
+
+  unlocks_go_on : (items : List ItemContents) → GoesOn start opened earlier (flat_map trees_in_item items) → (kept : List KeptItem) → (image : List ℕ) (later : History) → map (unlocks start image (later ++ earlier)) (zip items kept) ≡ map (unlocks opened image later) (zip items (map (item_after start earlier) (zip items kept)))
+  unlocks_go_on [] alike kept image later = refl
+  unlocks_go_on (item ∷ items) alike [] image later = refl
+  unlocks_go_on (item ∷ items) alike (k ∷ kept) image later =
+      let first = unlocks_of_item item (goes_front start opened earlier (trees_in_item item) (flat_map trees_in_item items) alike) k image later in
+      let rest = unlocks_go_on items (goes_behind start opened earlier (trees_in_item item) (flat_map trees_in_item items) alike) kept image later in
+      (λ i. first i ∷ rest i)
 
   -- what is kept of the presence
   presence_goes_on : (script : Option ScriptContents) → GoesOn start opened earlier (flat_map trees_in_line (lines_in script)) → (kept : Option KeptPresence) → PresenceFits (option_map presence_shape script) kept → (later : History) → optional_presence start (later ++ earlier) script kept ≡ optional_presence opened later script (optional_presence start earlier script kept)
@@ -122,7 +145,7 @@ length_both : (later earlier : History) → length (later ++ earlier) ≡ length
 length_both later earlier = length-append later earlier
 
 pub cuts_anywhere : (set : SetContents) → CutsAnywhere set
-cuts_anywhere set = record { kept = kept; shows = shows; prints = prints; tells = tells }
+cuts_anywhere set = record { kept = kept; shows = shows; prints = prints; tells = tells; earned_too = earned_too }
   where
     items_alike : (o : Opening) (earlier : History) → GoesOn (start_of set o) (start_of set (snapshot set o earlier)) earlier (flat_map trees_in_item set.items)
     items_alike o earlier =
@@ -154,13 +177,18 @@ cuts_anywhere set = record { kept = kept; shows = shows; prints = prints; tells 
         ap (λ n. shown_by start n (later ++ earlier) set.script o.presence) (counts o earlier later)
         ∙ shown_goes_on start opened earlier (frames_after (snapshot set o earlier).frames (length later)) set.script (script_alike o earlier) o.presence fits.presence later
 
-    tells : (o : Opening) (earlier later : History) → IsOpening (shape_of set) o → later ≢ [] → events set o (later ++ earlier) ≡ events set (snapshot set o earlier) later
-    tells o earlier [] fits some = absurd (some refl)
-    tells o earlier (image ∷ later) fits some =
-        events_go_on (start_of set o) (start_of set (snapshot set o earlier)) earlier set.items (items_alike o earlier) o.items fits.items image later
+    tells : (o : Opening) (earlier later : History) (earned : Earned) → IsOpening (shape_of set) o → later ≢ [] → events set o (later ++ earlier) earned ≡ events set (snapshot set o earlier) later earned
+    tells o earlier [] earned fits some = absurd (some refl)
+    tells o earlier (image ∷ later) earned fits some =
+        events_go_on (start_of set o) (start_of set (snapshot set o earlier)) earlier earned set.items (items_alike o earlier) o.items fits.items image later
 
-    prints : (o : Opening) (earlier later : History) → IsOpening (shape_of set) o → later ≢ [] → lines set o (later ++ earlier) ≡ lines set (snapshot set o earlier) later
-    prints o earlier [] fits some = absurd (some refl)
-    prints o earlier (image ∷ later) fits some =
-        ap (λ n. event_lines n (events set o (image ∷ (later ++ earlier)))) (counts o earlier later)
-        ∙ ap (event_lines (frames_after (snapshot set o earlier).frames (length later))) (tells o earlier (image ∷ later) fits some)
+    prints : (o : Opening) (earlier later : History) (earned : Earned) → IsOpening (shape_of set) o → later ≢ [] → lines set o (later ++ earlier) earned ≡ lines set (snapshot set o earlier) later earned
+    prints o earlier [] earned fits some = absurd (some refl)
+    prints o earlier (image ∷ later) earned fits some =
+        ap (λ n. event_lines n (events set o (image ∷ (later ++ earlier)) earned)) (counts o earlier later)
+        ∙ ap (event_lines (frames_after (snapshot set o earlier).frames (length later))) (tells o earlier (image ∷ later) earned fits some)
+
+    earned_too : (o : Opening) (earlier later : History) (earned : Earned) → IsOpening (shape_of set) o → later ≢ [] → earns set o (later ++ earlier) earned ≡ earns set (snapshot set o earlier) later earned
+    earned_too o earlier [] earned fits some = absurd (some refl)
+    earned_too o earlier (image ∷ later) earned fits some =
+        ap (both_earned earned) (unlocks_go_on (start_of set o) (start_of set (snapshot set o earlier)) earlier set.items (items_alike o earlier) o.items image later)

@@ -8,6 +8,8 @@ pub mod Covered
 pub mod Digests
 pub mod DisplayRows
 pub mod Each
+pub mod EarnedFrames
+pub mod EarnedItems
 pub mod EventLemmas
 pub mod Fitting
 pub mod FoldedBoards

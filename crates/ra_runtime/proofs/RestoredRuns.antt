@@ -8,11 +8,11 @@ use Rattle.ra_set.specs.Contents.{ItemContents}
 use Rattle.ra_words.specs.Words.{word_at}
 use Rattle.ra_progress.specs.declared.shape.ItemShape.{ItemShape}
 use Rattle.ra_progress.specs.declared.shape.PresenceShape.{PresenceShape}
-use Rattle.ra_progress.specs.Contents.{ShapeContents, OfItem, OfPresence, EntryShape, own_entries, own_at, plain_item}
+use Rattle.ra_progress.specs.Contents.{ShapeContents, OfItem, OfPresence, EntryShape, own_entries, own_at}
 use Rattle.ra_progress.specs.Layout.{version_in, block_length}
 use Rattle.ra_progress.specs.Names.{IsPaired}
 use Rattle.ra_progress.specs.Reading.{is_state, bad_state, IsAccepted}
-use Rattle.ra_progress.specs.Saying.{own_places, said_or, said_item, said_items}
+use Rattle.ra_progress.specs.Saying.{own_places}
 use Rattle.ra_progress.proofs.Owns.{own_count, own_item, own_script, script_count}
 use Rattle.ra_progress.proofs.Placed.{own_within, placed}
 use Rattle.ra_progress.proofs.SaysOpening.{passes}
@@ -20,8 +20,7 @@ use Rattle.ra_runtime.specs.declared.item_run.ItemRun.{ItemRun}
 use Rattle.ra_runtime.specs.ItemRuns.{IsItemRun, kept_run}
 use Rattle.ra_runtime.specs.AllRuns.{AreItemRuns}
 use Rattle.ra_runtime.specs.Shapes.{run_shape}
-use Rattle.ra_runtime.specs.Restoring.{HasItem, HasDisplay, PutsBackItem}
-use Rattle.ra_member.proofs.GrowthLemmas.{dropped_next}
+use Rattle.ra_runtime.specs.Restoring.{HasItem, HasDisplay, PutsBackItem, restored_item, restored_items}
 use Rattle.ra_runtime.proofs.RunsLemmas.{rest_more}
 
 -- what follows the same is the same
@@ -54,18 +53,17 @@ module _ (bytes : List ℕ) (places : List (Option ℕ)) (k : ℕ) (olds runs : 
       subst (λ p. HasItem bytes p (run_shape run)) (sym is) (subst (HasItem bytes (slice_index_or places k None)) shape (blocks k (run_shape run) within))
 
   module _ (new : ItemRun) (place : Option ℕ) (is : place ≡ slice_index_or places k None) (back : PutsBackItem bytes place run new) where
-    pub kept_next : map kept_run (take k runs) ++ said_items bytes (map run_shape (drop k olds)) (drop k places) ≡ said_items bytes (map run_shape olds) places
-        → map kept_run (take (k + 1) (set runs k new)) ++ said_items bytes (map run_shape (drop (k + 1) olds)) (drop (k + 1) places) ≡ said_items bytes (map run_shape olds) places
+    pub kept_next : map kept_run (take k runs) ++ restored_items bytes (drop k olds) (drop k places) ≡ restored_items bytes olds places
+        → map kept_run (take (k + 1) (set runs k new)) ++ restored_items bytes (drop (k + 1) olds) (drop (k + 1) places) ≡ restored_items bytes olds places
     kept_next kept =
-        let later = said_items bytes (map run_shape (drop (k + 1) olds)) (drop (k + 1) places) in
-        let said = said_or (said_item bytes (run_shape run)) (plain_item (run_shape run)) in
-        let shapes_next : map run_shape (drop k olds) ≡ run_shape run ∷ map run_shape (drop (k + 1) olds) = dropped_next run_shape olds k run within old_is in
+        let later = restored_items bytes (drop (k + 1) olds) (drop (k + 1) places) in
+        let olds_next : drop k olds ≡ run ∷ drop (k + 1) olds = drop-cons olds k run within ∙ ap₂ (λ x n. x ∷ drop n olds) (sym old_is) (sym (add-one k)) in
         let places_next : drop k places ≡ slice_index_or places k None ∷ drop (k + 1) places = drop-cons places k None placed ∙ ap (λ n. slice_index_or places k None ∷ drop n places) (sym (add-one k)) in
         ap (λ xs. map kept_run xs ++ later) (take_more_set runs k new within_runs)
         ∙ ap (λ xs. xs ++ later) (map-append kept_run (take k runs) (new ∷ []))
         ∙ append_assoc (map kept_run (take k runs)) (kept_run new ∷ []) later
-        ∙ ap (λ x. map kept_run (take k runs) ++ (x ∷ later)) (back.kept ∙ ap said is)
-        ∙ sym (ap₂ (λ (ss : List ItemShape) (ps : List (Option ℕ)). map kept_run (take k runs) ++ said_items bytes ss ps) shapes_next places_next)
+        ∙ ap (λ x. map kept_run (take k runs) ++ (x ∷ later)) (back.kept ∙ ap (restored_item bytes run) is)
+        ∙ sym (ap₂ (λ (rs : List ItemRun) (ps : List (Option ℕ)). map kept_run (take k runs) ++ restored_items bytes rs ps) olds_next places_next)
         ∙ kept
 
     pub runs_next : (nodes : List Node) (items : List ItemContents) → AreItemRuns nodes items runs → AreItemRuns nodes items (set runs k new)

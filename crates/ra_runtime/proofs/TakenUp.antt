@@ -1,5 +1,5 @@
 -- What a runtime keeps after a restore is what the bytes say.
-use Rattle.std.proofs.Common.{◌≡◌, ℕ, true, Option, List, length, map, replicate, option_map, slice_index_or, None, ◌∙◌, ap, ap₂, sym}
+use Rattle.std.proofs.Common.{◌≡◌, ℕ, true, Option, List, [], ◌∷◌, refl, length, map, replicate, option_map, slice_index_or, None, ◌∙◌, ap, ap₂, sym}
 use Rattle.std.proofs.lemmas.List.{length-map}
 use Rattle.ra_indirect.specs.Pools.{cells_of, tracked_of}
 use Rattle.ra_memref.specs.Table.{TableSeen}
@@ -12,13 +12,21 @@ use Rattle.ra_progress.specs.Saying.{own_places, said_items, said_or, said_prese
 use Rattle.ra_memref.specs.Names.{cell_name, tracked_name}
 use Rattle.ra_runtime.specs.declared.item_run.ItemRun.{ItemRun}
 use Rattle.ra_runtime.specs.declared.presence_run.PresenceRun.{PresenceRun}
+use Rattle.ra_runtime.specs.Earned.{is_earned, items_with, both_earned, earned_in, with_earned}
 use Rattle.ra_runtime.specs.Order.{set_cells, set_tracked, item_shape, presence_shape, shape_of}
 use Rattle.ra_runtime.specs.ItemRuns.{kept_run}
 use Rattle.ra_runtime.specs.AllRuns.{AreItemRuns, IsOver, opening_by}
 use Rattle.ra_runtime.specs.PresenceRuns.{IsOptionalPresence, optional_presence_kept}
-use Rattle.ra_runtime.specs.Restoring.{PutsBackPresence, TakesNumbers}
+use Rattle.ra_runtime.specs.Restoring.{PutsBackPresence, TakesNumbers, restored_item, restored_items}
 use Rattle.ra_runtime.specs.Shapes.{run_shape}
 use Rattle.ra_runtime.proofs.ShapeLemmas.{runs_shaped, presence_shaped}
+
+-- what items keep after a restore is what the bytes say, earned where it was before, or is said to be
+restored_are : (bytes : List ℕ) (runs : List ItemRun) (places : List (Option ℕ))
+    → restored_items bytes runs places ≡ items_with (both_earned (map is_earned (map kept_run runs)) (map is_earned (said_items bytes (map run_shape runs) places))) (said_items bytes (map run_shape runs) places)
+restored_are bytes [] places = refl
+restored_are bytes (run ∷ runs) [] = refl
+restored_are bytes (run ∷ runs) (place ∷ places) = ap (λ items. restored_item bytes run place ∷ items) (restored_are bytes runs places)
 
 module _ (set : SetContents) (table after : TableSeen) (over : IsOver set table) (bytes : List ℕ) (said : Said) (room : IsRoom (shape_of set) said) (takes : TakesNumbers table after said.cells.items said.priors.items) where
   cells_many : length said.cells.items ≡ length (set_cells set)
@@ -36,15 +44,17 @@ module _ (set : SetContents) (table after : TableSeen) (over : IsOver set table)
   marked_restored = takes.marked ∙ ap (λ m. replicate m true) cells_many
 
   pub kept_restored : (says_it : Says (shape_of set) bytes said) (runs news : List ItemRun) (display new : Option PresenceRun) → AreItemRuns table.nodes set.items runs → IsOptionalPresence table.nodes set.script display
-      → map kept_run news ≡ said_items bytes (map run_shape runs) said.places.items
+      → map kept_run news ≡ restored_items bytes runs said.places.items
       → (place : Option ℕ) → place ≡ slice_index_or said.places.items (length runs) None → PutsBackPresence bytes place display new
-      → (count : ℕ) → count ≡ frames_at bytes → opening_by count after news new ≡ says (shape_of set) bytes
+      → (count : ℕ) → count ≡ frames_at bytes → opening_by count after news new ≡ with_earned (says (shape_of set) bytes) (both_earned (map is_earned (map kept_run runs)) (earned_in (says (shape_of set) bytes)))
   kept_restored says_it runs news display new are is kept place there back count frames =
       let numbers = takes.cells_too ∙ says_it.cells in
       let priors = takes.priors_too ∙ says_it.priors in
       let shaped : map run_shape runs ≡ map item_shape set.items = runs_shaped table.nodes set.items runs are in
-      let items : map kept_run news ≡ said_items bytes (map item_shape set.items) (own_places (shape_of set) bytes) =
-      kept ∙ ap₂ (said_items bytes) shaped says_it.places
+      let earned = map is_earned (map kept_run runs) in
+      let said_too : said_items bytes (map run_shape runs) said.places.items ≡ said_items bytes (map item_shape set.items) (own_places (shape_of set) bytes) = ap₂ (said_items bytes) shaped says_it.places in
+      let items : map kept_run news ≡ items_with (both_earned earned (map is_earned (said_items bytes (map item_shape set.items) (own_places (shape_of set) bytes)))) (said_items bytes (map item_shape set.items) (own_places (shape_of set) bytes)) =
+      kept ∙ restored_are bytes runs said.places.items ∙ ap (λ items. items_with (both_earned earned (map is_earned items)) items) said_too
       in
       let many : length runs ≡ length (map item_shape set.items) = sym (length-map runs run_shape) ∙ ap length shaped in
       let stands : place ≡ script_place (shape_of set) bytes = there ∙ ap₂ (λ places n. slice_index_or places n None) says_it.places many in

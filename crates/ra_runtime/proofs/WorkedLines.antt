@@ -1,5 +1,5 @@
 -- Worked examples of lines, computed from the definitions.
-use Rattle.std.proofs.Common.{◌≡◌, ℕ, List, [], ◌∷◌, refl, codes, Some, None}
+use Rattle.std.proofs.Common.{◌≡◌, ℕ, true, List, [], ◌∷◌, ◌++◌, refl, codes, Some, None}
 use Rattle.std.specs.Fmt.{digits}
 use Rattle.ra_operand.specs.declared.operand.Operand.{Operand}
 use Rattle.ra_operand.specs.declared.operand.Operand.TheVariants.{Cell, Const, Recall}
@@ -15,8 +15,10 @@ use Rattle.ra_value_format.specs.declared.format.Format.TheVariants.{Value}
 use Rattle.ra_set.specs.Contents.{SetContents, Unlocks, Ranks}
 use Rattle.ra_trace.specs.Entries.{Entry, Written, Framed, Saved, Restored, Ended}
 use Rattle.ra_trace.specs.Cutting.{trace_of, Reached}
+use Rattle.ra_progress.specs.Contents.{OfAchievement, Opening}
+use Rattle.ra_runtime.specs.Earned.{earned_in, none_earned}
 use Rattle.ra_runtime.specs.Openings.{plain_opening}
-use Rattle.ra_runtime.specs.Play.{text_of}
+use Rattle.ra_runtime.specs.Play.{saved_end, text_of}
 
 abbrev one : Flag → Operand → Op → Operand → ℕ → Condition
 one flag left op right target = record { flag = flag; left = left; op = op; right = right; target = target }
@@ -30,7 +32,7 @@ only core alts = record { items = Unlocks 1 (record { core = core; alts = alts }
 
 -- what a set prints over records, from the plain opening
 abbrev prints : SetContents → ℕ → List Entry → List ℕ
-prints set size entries = text_of set (plain_opening set) [] size entries
+prints set size entries = text_of set (plain_opening set) [] (none_earned set) size entries
 
 abbrev three_hits : SetContents
 three_hits = only (one Plain (byte 0x10) Eq (Const 5) 3 ∷ []) []
@@ -94,10 +96,32 @@ restore_brings_the_delta_back : prints (only (one Plain (Cell Delta Byte 16) Eq 
 unfolding digits
 restore_brings_the_delta_back = refl
 
--- a restore brings the state back
-restore_brings_the_state_back : prints (only (one Plain (byte 16) Eq (Const 5) 0 ∷ []) ([])) 64 (Framed ∷ Saved 0 ∷ Written 16 (5 ∷ []) ∷ Framed ∷ Restored 0 ∷ Framed ∷ Ended ∷ []) ≡ codes "unlock 1 1\nunlock 1 1\n"
+-- an achievement that any memory of 5 at 16 unlocks
+abbrev five : SetContents
+five = only (one Plain (byte 16) Eq (Const 5) 0 ∷ []) []
+
+-- a frame, a save before the unlock, the unlock, and the save restored
+abbrev saved_before : List Entry
+saved_before = Framed ∷ Saved 0 ∷ Written 16 (5 ∷ []) ∷ Framed ∷ Restored 0 ∷ []
+
+-- a restore brings the state back, but an unlock comes once
+unlocks_once : prints five 64 (saved_before ++ Framed ∷ Ended ∷ []) ≡ codes "unlock 1 1\n"
 unfolding digits
-restore_brings_the_state_back = refl
+unlocks_once = refl
+
+-- what is kept at the end of such a run: active again, and earned
+abbrev earned_before : Opening
+earned_before = saved_end five (plain_opening five) [] (none_earned five) 64 (saved_before ++ Ended ∷ [])
+
+active_and_earned : earned_before.items ≡ OfAchievement 1 0 (0 ∷ []) true ∷ []
+active_and_earned = refl
+
+-- a run that goes on from there prints nothing, while the achievement is stepped as ever
+silent_for_good : text_of five earned_before [] (earned_in earned_before) 64 (Framed ∷ Written 16 (5 ∷ []) ∷ Framed ∷ Ended ∷ []) ≡ codes ""
+silent_for_good = refl
+
+triggered_again : (saved_end five earned_before [] (earned_in earned_before) 64 (Framed ∷ Written 16 (5 ∷ []) ∷ Framed ∷ Ended ∷ [])).items ≡ OfAchievement 4 0 (1 ∷ []) true ∷ []
+triggered_again = refl
 
 -- primed and then unlocked
 primed_then_unlocked : prints (only (one TriggerIf (byte 1) Eq (Const 1) 0 ∷ one Plain (byte 2) Eq (Const 1) 0 ∷ []) ([])) 64 (Framed ∷ Written 2 (1 ∷ []) ∷ Framed ∷ Written 1 (1 ∷ []) ∷ Framed ∷ Ended ∷ []) ≡ codes "primed 1 1\nunprimed 2 1\nunlock 2 1\n"

@@ -22,8 +22,9 @@ use Rattle.ra_richpresence.specs.Contents.{Bytes, Shows, ScriptContents}
 use Rattle.ra_set.specs.Contents.{SetContents, Unlocks, Ranks}
 use Rattle.ra_trace.specs.Entries.{Entry, Written, Framed, Shown, Ended}
 use Rattle.ra_progress.specs.Contents.{Opening, OfAchievement}
+use Rattle.ra_runtime.specs.Earned.{earned_in, none_earned}
 use Rattle.ra_runtime.specs.Openings.{plain_opening, snapshot}
-use Rattle.ra_runtime.specs.Play.{text_of, text_from, behind_end, moment_after, first_moment}
+use Rattle.ra_runtime.specs.Play.{text_of, text_from, behind_end, earned_end, moment_after, first_moment}
 
 abbrev pub one : Flag → Operand → Op → Operand → ℕ → Condition
 one flag left op right target = record { flag = flag; left = left; op = op; right = right; target = target }
@@ -35,7 +36,7 @@ abbrev hands : Flag → Operand → Condition
 hands flag left = one flag left Bare (Const 0) 0
 
 abbrev prints : SetContents → ℕ → List Entry → List ℕ
-prints set size entries = text_of set (plain_opening set) [] size entries
+prints set size entries = text_of set (plain_opening set) [] (none_earned set) size entries
 
 abbrev pub trigger : List Condition → List (List Condition) → TriggerContents
 trigger core alts = record { core = core; alts = alts }
@@ -118,7 +119,7 @@ unfolding digits stages_first stages_second
 stages_prints = refl
 
 -- cut after the third frame, and gone on from the opening there over the same image
-stages_go_on : prints stages 256 stages_first ++ text_from stages (snapshot stages (plain_opening stages) (behind_end [] 256 stages_first)) (record { image = (moment_after (first_moment 256 []) stages_first).image; behind = []; slots = replicate 16 None }) stages_second ≡ prints stages 256 (stages_first ++ stages_second)
+stages_go_on : prints stages 256 stages_first ++ text_from stages (snapshot stages (plain_opening stages) (behind_end [] 256 stages_first)) (record { image = (moment_after (first_moment 256 []) stages_first).image; behind = []; slots = replicate 16 None }) (earned_end stages (plain_opening stages) [] (none_earned stages) 256 stages_first) stages_second ≡ prints stages 256 (stages_first ++ stages_second)
 unfolding digits stages_first stages_second
 stages_go_on = refl
 
@@ -196,7 +197,7 @@ last_count = record {
 abbrev last_opening : Opening
 last_opening = record { frames = 18446744073709551615; cells = 0 ∷ 0 ∷ []; priors = []; items = OfAchievement 1 0 (7 ∷ 0 ∷ 4294967295 ∷ []) false ∷ []; presence = None }
 
-last_count_prints : text_of last_count last_opening [] 64 (Written 0x10 (1 ∷ []) ∷ Framed ∷ Ended ∷ []) ≡ []
+last_count_prints : text_of last_count last_opening [] (earned_in last_opening) 64 (Written 0x10 (1 ∷ []) ∷ Framed ∷ Ended ∷ []) ≡ []
 unfolding digits
 last_count_prints = refl
 

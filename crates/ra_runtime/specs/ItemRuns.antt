@@ -11,9 +11,10 @@ use Rattle.ra_runtime.specs.declared.item_run.ItemRun.{ItemRun}
 use Rattle.ra_runtime.specs.declared.item_run.ItemRun.TheVariants.{Achievement, Leaderboard}
 use Rattle.ra_runtime.specs.Boards.{kept_board}
 use Rattle.ra_progress.specs.Contents.{KeptItem, plain_item}
+use Rattle.ra_runtime.specs.Earned.{is_earned}
 use Rattle.ra_runtime.specs.Openings.{item_after, kept_achievement}
 use Rattle.ra_runtime.specs.Order.{trees_in_item, item_shape}
-use Rattle.ra_runtime.specs.Play.{item_events}
+use Rattle.ra_runtime.specs.Play.{item_events, unless_earned}
 use Rattle.ra_runtime.specs.Runs.{IsAchievementRun}
 use Rattle.ra_runtime.specs.BoardRuns.{IsBoardRun, board_kept}
 use Rattle.ra_runtime.specs.RunEvents.{run_events}
@@ -35,7 +36,7 @@ pub record IsNewItem (old new : List Node) (item : ItemContents) (run : ItemRun)
   pub run_too : IsItemRun new item run
   pub plain : kept_run run ≡ plain_item (item_shape item)
 
--- One frame of an item, from what it keeps: what it keeps after it, and its events.
+-- One frame of an item, from what it keeps: what it keeps after it, and its events, which are none where it was earned.
 pub record StepsItem (table : TableSeen) (item : ItemContents) (old new : ItemRun) : Type 0 where
   pub kept : (start : Start) (image : List ℕ) → HasValues table start (image ∷ []) → kept_run new ≡ item_after start (image ∷ []) (item, kept_run old)
-  pub events : (start : Start) (image : List ℕ) → HasValues table start (image ∷ []) → run_events item new ≡ item_events start image [] (item, kept_run old)
+  pub events : (start : Start) (image : List ℕ) → HasValues table start (image ∷ []) → run_events item new ≡ unless_earned (item_events start image []) (is_earned (kept_run old), (item, kept_run old))

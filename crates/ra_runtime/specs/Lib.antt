@@ -3,6 +3,8 @@ pub mod BoardLaws
 pub mod BoardRuns
 pub mod Boards
 pub mod Calls
+pub mod Earned
+pub mod EarnedLaws
 pub mod Events
 pub mod FoldLaws
 pub mod Histories

@@ -1,5 +1,5 @@
 -- What stands before the first frame of a set, and the opening after a history: docs/DEFINITIONS.md, "Openings and snapshots".
-use Rattle.std.specs.Prelude.{ℕ, ◌+◌, ◌-◌, ◌^◌, min, ◌||◌, Bool, false, Option, None, Some, if◌then◌else◌, List, [], ◌∷◌, length, map, drop, zip, slice_index}
+use Rattle.std.specs.Prelude.{ℕ, ◌+◌, ◌-◌, ◌^◌, min, ◌||◌, Bool, Option, None, Some, if◌then◌else◌, List, [], ◌∷◌, length, map, drop, zip, slice_index}
 use Rattle.ra_richpresence.specs.Contents.{ScriptContents}
 use Rattle.ra_set.specs.Contents.{ItemContents, Unlocks, Ranks, SetContents}
 use Rattle.ra_memory.specs.Image.{History}
@@ -8,6 +8,7 @@ use Rattle.ra_memref.specs.Values.{Start, cell_number, tracked_number}
 use Rattle.ra_trigger.specs.States.{state_byte, state_of, is_triggered}
 use Rattle.ra_trigger.specs.Steps.{TriggerKept}
 use Rattle.ra_progress.specs.Contents.{KeptItem, OfAchievement, OfBoard, KeptPresence, Opening, plain_of}
+use Rattle.ra_runtime.specs.Earned.{is_earned}
 use Rattle.ra_runtime.specs.Order.{set_cells, set_tracked, shape_of}
 use Rattle.ra_runtime.specs.Histories.{achievement_after}
 use Rattle.ra_runtime.specs.Boards.{board_after, opened_board, kept_board}
@@ -40,11 +41,6 @@ opened_achievement (OfBoard state hits numbers) = record { state = state_of stat
 -- an achievement as a progress file keeps it: earned where it was, or where it is triggered
 abbrev pub kept_achievement : Bool → TriggerKept → KeptItem
 kept_achievement earned k = OfAchievement (state_byte k.state) k.measured k.hits (earned || is_triggered k.state)
-
--- whether an item is earned, which a board never is
-abbrev pub is_earned : KeptItem → Bool
-is_earned (OfAchievement state measured hits earned) = earned
-is_earned (OfBoard state hits numbers) = false
 
 -- what is kept of an item after a history, from what the opening keeps
 abbrev pub item_after : Start → History → ItemContents × KeptItem → KeptItem

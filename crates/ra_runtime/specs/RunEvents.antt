@@ -1,5 +1,5 @@
 -- The events of an item by the record of its last frame: docs/DEFINITIONS.md, "Events".
-use Rattle.std.specs.Prelude.{ℕ, ◌&&◌, ◌||◌, not, Option, None, Some, List, [], ◌∷◌, ◌++◌}
+use Rattle.std.specs.Prelude.{ℕ, ◌&&◌, ◌||◌, not, if◌then◌else◌, Option, None, Some, List, [], ◌∷◌, ◌++◌}
 use Rattle.std.specs.Option.{option_to_list}
 use Rattle.ra_value_format.specs.declared.format.Format.{Format}
 use Rattle.ra_value_format.specs.Formats.{HasDigits}
@@ -7,6 +7,7 @@ use Rattle.ra_trigger.specs.declared.change.Change.{Change}
 use Rattle.ra_trigger.specs.States.{is_primed, is_triggered}
 use Rattle.ra_leaderboard.specs.States.{became_started, became_cancelled, became_submitted}
 use Rattle.ra_set.specs.Contents.{ItemContents, Unlocks, Ranks}
+use Rattle.ra_runtime.specs.declared.achievement_run.AchievementRun.{AchievementRun}
 use Rattle.ra_runtime.specs.declared.board_run.BoardRun.{BoardRun}
 use Rattle.ra_runtime.specs.declared.event.Event.{Event}
 use Rattle.ra_runtime.specs.declared.event.Event.TheVariants as events
@@ -41,9 +42,13 @@ board_run_events id format run =
     ++ event_if (became_cancelled run.change.before run.change.after) (events.Cancel id)
     ++ event_if (became_submitted run.change.before run.change.after) (events.Submit id (value_number (board_kept run)) format)
 
+-- the events of an achievement, which has none where it was earned before its last frame
+abbrev pub achievement_run_events : (id : ℕ) → AchievementRun → List Event
+achievement_run_events id run = if run.earned then [] else change_events id run.change
+
 -- the events of an item
 abbrev pub run_events : ItemContents → ItemRun → List Event
-run_events (Unlocks id t) (Achievement run) = change_events id run.change
+run_events (Unlocks id t) (Achievement run) = achievement_run_events id run
 run_events (Ranks id format b) (Leaderboard run) = board_run_events id format run
 run_events _ _ = []
 

@@ -3,6 +3,7 @@
 ghost use Rattle.ra_set.specs.Contents.{SetContents};
 ghost use Rattle.ra_memref.specs.Values.{Start};
 ghost use Rattle.ra_runtime.specs.Calls.{CallsSucceed};
+ghost use Rattle.ra_runtime.specs.EarnedLaws.{StayEarned};
 ghost use Rattle.ra_runtime.specs.FoldLaws.{AreFolds};
 ghost use Rattle.ra_runtime.specs.OpeningLaws.{HasOpenings};
 ghost use Rattle.ra_runtime.specs.Runtime.{CutsAnywhere};
@@ -12,6 +13,14 @@ ghost use Rattle.ra_runtime.specs.Runtime.{CutsAnywhere};
 /// A law: it does nothing. It holds for every set, every opening of its shape, and every history.
 pub fn histories_may_be_cut()
     ensures { (set : SetContents) → CutsAnywhere set }
+{}
+
+/// Nothing is earned before the first frame, each opening has earned what is triggered in it, and neither a frame nor a
+/// restore takes back what was earned: docs/DEFINITIONS.md, "Earned achievements".
+///
+/// A law: it does nothing. It holds for every set.
+pub fn earned_achievements_stay_earned()
+    ensures { (set : SetContents) → StayEarned set }
 {}
 
 /// Writes that fit, frames and restores of saved bytes succeed over a made runtime, in any number and

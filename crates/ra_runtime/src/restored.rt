@@ -4,12 +4,11 @@ ghost use Rattle.std.specs.Prelude.{◌≡◌, ◌<◌, ◌≤◌, ◌^◌, ℕ,
 ghost use Rattle.ra_indirect.specs.declared.node.Node.{Node};
 ghost use Rattle.ra_set.specs.Contents.{ItemContents};
 ghost use Rattle.ra_progress.specs.declared.shape.ItemShape.{ItemShape};
-ghost use Rattle.ra_progress.specs.Saying.{said_items};
 ghost use Rattle.ra_runtime.specs.declared.item_run.ItemRun.TheVariants.{Achievement};
 ghost use Rattle.ra_runtime.specs.ItemRuns.{kept_run};
 ghost use Rattle.ra_runtime.specs.AllRuns.{AreItemRuns};
 ghost use Rattle.ra_runtime.specs.Shapes.{board_run_shape, run_shape};
-ghost use Rattle.ra_runtime.specs.Restoring.{HasItem, PutsBackBoard, PutsBackItem, TakesCells, TakesPriors, TakesNumbers};
+ghost use Rattle.ra_runtime.specs.Restoring.{HasItem, PutsBackBoard, PutsBackItem, restored_items, TakesCells, TakesPriors, TakesNumbers};
 
 use crate::achievement_run::AchievementRun;
 use crate::board_run::BoardRun;
@@ -58,12 +57,12 @@ fn take_priors(table: &mut Table, numbers: &[u32])
     }
 }
 
-// Puts back what the bytes say of all items, by the places of their blocks.
+// Puts back what the bytes say of all items, by the places of their blocks. What is earned stays earned.
 pub(crate) fn put_back_runs(runs: &mut [ItemRun], bytes: &[u8], places: &[Option<u64>])
     requires many { length runs.old ≤ length places.now }
     requires blocks { (k : ℕ) (d : ItemShape) → k < length runs.old
         → HasItem bytes.now (slice_index_or places.now k None) (get_or (map run_shape runs.old) k d) }
-    ensures kept { map kept_run runs.new ≡ said_items bytes.now (map run_shape runs.old) places.now }
+    ensures kept { map kept_run runs.new ≡ restored_items bytes.now runs.old places.now }
     ensures runs { (nodes : List Node) (items : List ItemContents) → AreItemRuns nodes items runs.old → AreItemRuns nodes items runs.new }
 {
     for place in 0..runs.len() {
@@ -82,11 +81,12 @@ fn put_back_item(run: &mut ItemRun, bytes: &[u8], place: Option<u64>)
     }
 }
 
-// Puts back what the bytes say of an achievement, by the place of its block; without one it waits.
+// Puts back what the bytes say of an achievement, by the place of its block; without one it waits. It stays earned.
 fn put_back_achievement(run: &mut AchievementRun, bytes: &[u8], place: Option<u64>)
     requires { HasItem bytes.now place (run_shape (Achievement run.old)) }
     ensures { PutsBackItem bytes.now place (Achievement run.old) (Achievement run.new) }
 {
+    let earned = run.is_earned();
     match place {
         Some(at) => {
             let at = at as usize;
@@ -94,11 +94,11 @@ fn put_back_achievement(run: &mut AchievementRun, bytes: &[u8], place: Option<u6
             let end = hits + 4 * run.run.trigger.hits().len();
             let state = state_of_byte(state_said(bytes[4], bytes[at]));
             let measured = word_at(bytes, (at + 1) as u64);
-            run.earned = is_earned(bytes[4], bytes[at]);
+            run.earned = earned | is_earned(bytes[4], bytes[at]);
             run.run.trigger.put_back(state, measured, &bytes[hits..end]);
         }
         None => {
-            run.earned = false;
+            run.earned = earned;
             run.run.trigger.clear();
         }
     }

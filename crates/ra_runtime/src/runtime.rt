@@ -140,7 +140,7 @@ impl Runtime {
 
     /// Takes up what progress bytes say, of this set or of a changed one: docs/DEFINITIONS.md, "What a runtime keeps".
     ///
-    /// Bytes that `check` refuses change nothing. No memory is taken.
+    /// What was earned before stays earned. Bytes that `check` refuses change nothing. No memory is taken.
     pub fn restore(&mut self, bytes: &[u8]) -> Result<(), ProgressRefused>
         ensures ok { OnOk result (TakesUp self.old self.new bytes.now) }
         ensures accepted { OnOk result (refusal (shape_of self.old.set) bytes.now ≡ None) }

@@ -3,8 +3,9 @@ ghost use Rattle.std.specs.Option.{option_to_list};
 ghost use Rattle.ra_set.specs.Contents.{item_contents};
 ghost use Rattle.ra_leaderboard.specs.States as states;
 ghost use Rattle.ra_runtime.specs.Events.{event_if, is_started, same_number};
-ghost use Rattle.ra_runtime.specs.RunEvents.{board_run_events, change_events, measured_event, run_events, told_events};
+ghost use Rattle.ra_runtime.specs.RunEvents.{achievement_run_events, board_run_events, change_events, measured_event, run_events, told_events};
 
+use crate::achievement_run::AchievementRun;
 use crate::board_run::BoardRun;
 use crate::event::Event;
 use crate::item_run::ItemRun;
@@ -41,7 +42,7 @@ impl Told {
     {
         match (item, run) {
             (Item::Achievement { id, .. }, ItemRun::Achievement(run)) => {
-                Told::of_change(*id, &run.change)
+                Told::of_achievement(*id, run)
             }
             (Item::Leaderboard { id, format, .. }, ItemRun::Leaderboard(run)) => {
                 Told::of_board(*id, *format, run)
@@ -50,7 +51,18 @@ impl Told {
         }
     }
 
-    // The events of an achievement.
+    // The events of an achievement, which has none where it was earned before its last frame.
+    fn of_achievement(id: u32, run: &AchievementRun) -> Told
+        ensures { told_events result ≡ achievement_run_events id run.now }
+    {
+        if run.earned {
+            Told::nothing()
+        } else {
+            Told::of_change(id, &run.change)
+        }
+    }
+
+    // The events of an achievement by what its last frame did.
     fn of_change(id: u32, change: &Change) -> Told
         ensures { told_events result ≡ change_events id change.now }
     {

@@ -1,8 +1,7 @@
 use Rattle.std.proofs.Common.{◌≡◌, ◌<◌, ◌++◌, [], refl, length, map, take, drop, sym, ◌∙◌, ap₂, append-nil, arith}
 use Rattle.std.proofs.lemmas.List.{take_all, drop_all}
-use Rattle.ra_progress.specs.Saying.{said_items}
 use Rattle.ra_runtime.specs.ItemRuns.{kept_run}
-use Rattle.ra_runtime.specs.Shapes.{run_shape}
+use Rattle.ra_runtime.specs.Restoring.{restored_items}
 use Rattle.ra_runtime.proofs.RestoredRuns.{item_has, kept_next, runs_next, rest_next}
 use Rattle.ra_runtime.proofs.restored.put_back_runs.Goals as goal
 
@@ -39,5 +38,5 @@ returns-clause-kept c =
     let all : take p.place p.runs ≡ p.runs = take_all p.place p.runs (omega arith) in
     let none : drop p.place olds ≡ [] = drop_all p.place olds (omega arith) in
     sym (append-nil (map kept_run p.runs))
-    ∙ sym (ap₂ (λ runs left. map kept_run runs ++ said_items c.args.bytes.now (map run_shape left) (drop p.place c.args.places.now)) all none)
+    ∙ sym (ap₂ (λ runs left. map kept_run runs ++ restored_items c.args.bytes.now left (drop p.place c.args.places.now)) all none)
     ∙ p.invariant.kept

@@ -1,16 +1,15 @@
 use Rattle.std.proofs.Common.{◌≡◌, List, ◌++◌, map, take, drop}
 use Rattle.ra_indirect.specs.declared.node.Node.{Node}
 use Rattle.ra_set.specs.Contents.{ItemContents}
-use Rattle.ra_progress.specs.Saying.{said_items}
 use Rattle.ra_runtime.specs.ItemRuns.{kept_run}
 use Rattle.ra_runtime.specs.AllRuns.{AreItemRuns}
-use Rattle.ra_runtime.specs.Shapes.{run_shape}
+use Rattle.ra_runtime.specs.Restoring.{restored_items}
 use Rattle.ra_runtime.proofs.restored.put_back_runs.Given as goal
 
 -- what is put back so far, and what the bytes say of the rest
 abbrev pub invariant-loop-place : goal.invariant-loop-place
 invariant-loop-place l = record {
-  kept : map kept_run (take l.place l.runs) ++ said_items l.bytes (map run_shape (drop l.place l.fn.runs)) (drop l.place l.places) ≡ said_items l.bytes (map run_shape l.fn.runs) l.places;
+  kept : map kept_run (take l.place l.runs) ++ restored_items l.bytes (drop l.place l.fn.runs) (drop l.place l.places) ≡ restored_items l.bytes l.fn.runs l.places;
   runs : (nodes : List Node) (items : List ItemContents) → AreItemRuns nodes items l.fn.runs → AreItemRuns nodes items l.runs;
   rest : drop l.place l.runs ≡ drop l.place l.fn.runs;
 }

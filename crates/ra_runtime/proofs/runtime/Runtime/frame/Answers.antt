@@ -7,7 +7,7 @@ use Rattle.ra_runtime.specs.declared.item_run.ItemRun.{ItemRun}
 use Rattle.ra_runtime.specs.Lines.{event_lines}
 use Rattle.ra_runtime.specs.Seen.{runtime_seen}
 use Rattle.ra_runtime.proofs.RunsLemmas.{length_runs}
-use Rattle.ra_runtime.proofs.FrameLemmas.{frame_kept, frame_events, frame_lines, over_after, takes_frame, reads_few}
+use Rattle.ra_runtime.proofs.FrameLemmas.{frame_kept, frame_earned, frame_events, frame_lines, over_after, takes_frame, reads_few}
 use Rattle.ra_runtime.proofs.runtime.Runtime.frame.Goals as goal
 
 pub step_runs-requires-clause-as_many : goal.step_runs-requires-clause-as_many
@@ -49,6 +49,7 @@ returns-clause-taken g c =
     let stepped : AreStepped c.sample.new.self set.items olds news = rw (c.deref.ensures.value, c.deref_mut.ensures.value) at c.step_runs.ensures.stepped in
     rw (← c.self.view_is) (takes_frame (runtime_seen c.self.inside) (runtime_seen (record { set = c.self.inside.set; shape = c.self.inside.shape; said = c.self.inside.said; memory = c.self.inside.memory; table = c.sample.new.self; runs = with_items c.self.inside.runs news; presence = c.step_presence.new.run; count = c.saturating_add-self-inside.result; frame = count; framed = true })) refl refl
     ((λ i. opening_by (c.saturating_add-self-inside.ensures i) c.sample.new.self (same i) c.step_presence.new.run) ∙ frame_kept set count c.self.inside.table c.sample.new.self c.self.inside.memory olds news c.self.inside.presence c.step_presence.new.run c.self.invariant.over c.sample.ensures.taken stepped c.step_presence.ensures.steps)
+    (frame_earned set count c.self.inside.table c.sample.new.self c.self.inside.memory olds news c.self.inside.presence c.step_presence.new.run c.self.invariant.over c.sample.ensures.taken stepped c.step_presence.ensures.steps c.self.invariant.runs)
     (ap (all_events set.items) same ∙ frame_events set count c.self.inside.table c.sample.new.self c.self.inside.memory olds news c.self.inside.presence c.step_presence.new.run c.self.invariant.over c.sample.ensures.taken stepped c.step_presence.ensures.steps)
     (ap (λ rs. event_lines count (all_events set.items rs)) same ∙ frame_lines set count c.self.inside.table c.sample.new.self c.self.inside.memory olds news c.self.inside.presence c.step_presence.new.run c.self.invariant.over c.sample.ensures.taken stepped c.step_presence.ensures.steps small))
 
