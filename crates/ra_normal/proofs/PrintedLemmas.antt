@@ -12,7 +12,8 @@ use Rattle.ra_runtime.specs.Openings.{number_beside, prior_beside, start_of, fra
 use Rattle.ra_progress.specs.Contents.{plain_item}
 use Rattle.ra_runtime.specs.Lines.{event_lines}
 use Rattle.ra_runtime.specs.Order.{set_cells, set_tracked, item_shape, shape_of}
-use Rattle.ra_runtime.specs.Play.{item_events, lines, shown_by, shown, Moment, moved, printed, first_moment, text_from, text_of}
+use Rattle.ra_runtime.specs.Earned.{Earned, both_earned}
+use Rattle.ra_runtime.specs.Play.{item_events, unless_earned, lines, unlocks, earns, shown_by, shown, Moment, moved, printed, earned_next, first_moment, text_from, text_of}
 use Rattle.ra_normal.specs.Contents.{normal_board, normal_item}
 use Rattle.ra_normal.proofs.AcceptedLemmas.{normal_set}
 use Rattle.ra_normal.proofs.BoardsAlike.{board_alike, same_events, plain_match}
@@ -51,10 +52,27 @@ item_alike start image earlier (Ranks id format b) is =
     let alike = board_alike start b is.0 kept other (plain_match id format b) in
     same_events b id format _ _ _ _ (alike earlier) (alike (image ∷ earlier))
 
-items_alike : (start : Start) (image : List ℕ) (earlier : History) (items : List ItemContents) → AllByRecursion IsItem items
-    → flat_map (item_events start image earlier) (zip (map normal_item items) (map plain_item (map item_shape (map normal_item items)))) ≡ flat_map (item_events start image earlier) (zip items (map plain_item (map item_shape items)))
-items_alike start image earlier [] each = refl
-items_alike start image earlier (x ∷ items) each = ap₂ (λ s t. s ++ t) (sym (item_alike start image earlier x each.0)) (items_alike start image earlier items each.1)
+-- the same, unless it is earned
+told_alike : (start : Start) (image : List ℕ) (earlier : History) (earned : Bool) (x : ItemContents) → IsItem x
+    → unless_earned (item_events start image earlier) (earned, (normal_item x, plain_item (item_shape (normal_item x)))) ≡ unless_earned (item_events start image earlier) (earned, (x, plain_item (item_shape x)))
+told_alike start image earlier true x is = refl
+told_alike start image earlier false x is = sym (item_alike start image earlier x is)
+
+items_alike : (start : Start) (image : List ℕ) (earlier : History) (earned : Earned) (items : List ItemContents) → AllByRecursion IsItem items
+    → flat_map (unless_earned (item_events start image earlier)) (zip earned (zip (map normal_item items) (map plain_item (map item_shape (map normal_item items))))) ≡ flat_map (unless_earned (item_events start image earlier)) (zip earned (zip items (map plain_item (map item_shape items))))
+items_alike start image earlier [] items each = refl
+items_alike start image earlier (e ∷ earned) [] each = refl
+items_alike start image earlier (e ∷ earned) (x ∷ items) each = ap₂ (λ s t. s ++ t) (told_alike start image earlier e x each.0) (items_alike start image earlier earned items each.1)
+
+-- an item and its normal item unlock alike
+unlock_alike : (start : Start) (image : List ℕ) (earlier : History) (x : ItemContents) → unlocks start image earlier (normal_item x, plain_item (item_shape (normal_item x))) ≡ unlocks start image earlier (x, plain_item (item_shape x))
+unlock_alike start image earlier (Unlocks id t) = refl
+unlock_alike start image earlier (Ranks id format b) = refl
+
+unlocks_alike : (start : Start) (image : List ℕ) (earlier : History) (items : List ItemContents)
+    → map (unlocks start image earlier) (zip (map normal_item items) (map plain_item (map item_shape (map normal_item items)))) ≡ map (unlocks start image earlier) (zip items (map plain_item (map item_shape items)))
+unlocks_alike start image earlier [] = refl
+unlocks_alike start image earlier (x ∷ items) = ap₂ (λ u us. u ∷ us) (unlock_alike start image earlier x) (unlocks_alike start image earlier items)
 
 -- ---- a trace
 
@@ -62,28 +80,46 @@ module _ (set : SetContents) (text : List ℕ) (each : AllByRecursion IsItem set
   abbrev normal : SetContents
   normal = normal_set set text
 
-  lines_alike : (history : History) → lines normal (plain_opening normal) history ≡ lines set (plain_opening set) history
-  lines_alike [] = refl
-  lines_alike (image ∷ earlier) =
+  lines_alike : (history : History) (earned : Earned) → lines normal (plain_opening normal) history earned ≡ lines set (plain_opening set) history earned
+  lines_alike [] earned = refl
+  lines_alike (image ∷ earlier) earned =
       ap (event_lines (frames_after 0 (length earlier)))
-      (ap (λ start. flat_map (item_events start image earlier) (zip normal.items (plain_opening normal).items)) (same_start normal set)
-      ∙ items_alike (start_of set (plain_opening set)) image earlier set.items each)
+      (ap (λ start. flat_map (unless_earned (item_events start image earlier)) (zip earned (zip normal.items (plain_opening normal).items))) (same_start normal set)
+      ∙ items_alike (start_of set (plain_opening set)) image earlier earned set.items each)
+
+  earns_alike : (history : History) (earned : Earned) → earns normal (plain_opening normal) history earned ≡ earns set (plain_opening set) history earned
+  earns_alike [] earned = refl
+  earns_alike (image ∷ earlier) earned =
+      ap (both_earned earned)
+      (ap (λ start. map (unlocks start image earlier) (zip normal.items (plain_opening normal).items)) (same_start normal set)
+      ∙ unlocks_alike (start_of set (plain_opening set)) image earlier set.items)
 
   shown_alike : (history : History) → shown normal (plain_opening normal) history ≡ shown set (plain_opening set) history
   shown_alike history = ap (λ start. shown_by start (frames_after 0 (length history)) history set.script (plain_opening set).presence) (same_start normal set)
 
-  printed_alike : (entry : Entry) (m : Moment) → printed normal (plain_opening normal) entry m ≡ printed set (plain_opening set) entry m
-  printed_alike (Written at bytes) m = refl
-  printed_alike Framed m = lines_alike m.behind
-  printed_alike (Saved slot) m = refl
-  printed_alike (Restored slot) m = refl
-  printed_alike Shown m = shown_alike m.behind
-  printed_alike Ended m = refl
+  printed_alike : (entry : Entry) (m : Moment) (earned : Earned) → printed normal (plain_opening normal) entry m earned ≡ printed set (plain_opening set) entry m earned
+  printed_alike (Written at bytes) m earned = refl
+  printed_alike Framed m earned = lines_alike m.behind earned
+  printed_alike (Saved slot) m earned = refl
+  printed_alike (Restored slot) m earned = refl
+  printed_alike Shown m earned = shown_alike m.behind
+  printed_alike Ended m earned = refl
 
-  from_alike : (m : Moment) (entries : List Entry) → text_from normal (plain_opening normal) m entries ≡ text_from set (plain_opening set) m entries
-  from_alike m [] = refl
-  from_alike m (entry ∷ entries) = ap₂ (λ s t. s ++ t) (printed_alike entry (moved entry m)) (from_alike (moved entry m) entries)
+  next_alike : (entry : Entry) (m : Moment) (earned : Earned) → earned_next normal (plain_opening normal) entry m earned ≡ earned_next set (plain_opening set) entry m earned
+  next_alike (Written at bytes) m earned = refl
+  next_alike Framed m earned = earns_alike m.behind earned
+  next_alike (Saved slot) m earned = refl
+  next_alike (Restored slot) m earned = refl
+  next_alike Shown m earned = refl
+  next_alike Ended m earned = refl
 
-  -- the text over a trace, whatever frames lie before it
-  pub text_alike : (behind : History) (size : ℕ) (entries : List Entry) → text_of normal (plain_opening normal) behind size entries ≡ text_of set (plain_opening set) behind size entries
-  text_alike behind size entries = from_alike (first_moment size behind) entries
+  from_alike : (m : Moment) (earned : Earned) (entries : List Entry) → text_from normal (plain_opening normal) m earned entries ≡ text_from set (plain_opening set) m earned entries
+  from_alike m earned [] = refl
+  from_alike m earned (entry ∷ entries) =
+      ap₂ (λ s t. s ++ t) (printed_alike entry (moved entry m) earned)
+      (ap (λ next. text_from normal (plain_opening normal) (moved entry m) next entries) (next_alike entry (moved entry m) earned)
+      ∙ from_alike (moved entry m) (earned_next set (plain_opening set) entry (moved entry m) earned) entries)
+
+  -- the text over a trace, whatever frames lie before it and whatever is earned
+  pub text_alike : (behind : History) (earned : Earned) (size : ℕ) (entries : List Entry) → text_of normal (plain_opening normal) behind earned size entries ≡ text_of set (plain_opening set) behind earned size entries
+  text_alike behind earned size entries = from_alike (first_moment size behind) earned entries
