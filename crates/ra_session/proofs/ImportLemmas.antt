@@ -1,6 +1,6 @@
 -- An import: its document gives no set, its set is not put, or its line is printed behind the put.
-use Rattle.std.proofs.Common.{arith, ◌≡◌, ◌≢◌, ◌⊎◌, inl, inr, ap, sym, subst, refl, ◌∙◌, ℕ, ◌+◌, take, List, [], ◌∷◌, Option, Some, Err, string_bytes, None, is_some, true, IfSome}
-use Rattle.std.specs.List.{concat, AllByRecursion}
+use Rattle.std.proofs.Common.{arith, ◌≡◌, ◌≢◌, ◌⊎◌, inl, inr, ap, sym, subst, refl, ◌∙◌, ℕ, ◌+◌, take, List, [], ◌∷◌, Option, Some, Err, string_bytes}
+use Rattle.std.specs.List.{concat}
 use Rattle.std.specs.Result.{IsErrOf}
 use Rattle.std.proofs.lemmas.List.{take_all, length-take}
 use Rattle.ra_io.specs.Causes.{Rose}
@@ -21,7 +21,7 @@ use Rattle.ra_session.specs.Outside.{Outside, ReadsRose, SinkRose, AreTold}
 use Rattle.ra_session.specs.Running.{Ran, Leaves, HasBytes, IsTold, IsCounted, PrintsSoFar, deciding}
 use Rattle.ra_session.specs.declared.document.Document.{Document}
 use Rattle.ra_session.specs.declared.ending.Ending.{Ending}
-use Rattle.ra_session.specs.declared.ending.Ending.TheVariants.{Done, BadSet, BadProgress, BadDocument, NoMemory, ReadFault, SinkFault, SaveFault}
+use Rattle.ra_session.specs.declared.ending.Ending.TheVariants.{Done, BadSet, BadProgress, BadDocument}
 use Rattle.ra_session.specs.declared.failures.DocumentFailed.{DocumentFailed}
 use Rattle.ra_session.specs.declared.failures.DocumentFailed.TheVariants as no_document
 use Rattle.ra_session.proofs.Pieces.{grown-nil}

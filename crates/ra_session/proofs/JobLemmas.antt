@@ -12,6 +12,7 @@ use Rattle.ra_memory.specs.Image.{History}
 use Rattle.ra_set.specs.Contents.{SetContents}
 use Rattle.ra_progress.specs.Contents.{Opening}
 use Rattle.ra_jobs.specs.Words.{Job, Run, file_in, puts_of, reads_of}
+use Rattle.ra_runtime.specs.Earned.{Earned}
 use Rattle.ra_session.specs.Expected.{Expected, RunSays, played}
 use Rattle.ra_session.specs.Closing.{EndsBefore}
 use Rattle.ra_session.specs.Failures.{ending_at, ending_of_load, ending_of_put, ending_of_trace}
@@ -71,7 +72,7 @@ module _ (set trace : List ℕ) (restore save : Option (List ℕ)) (old new : Ou
   -- What was played of a set and a progress file that were accepted.
   pub record PlayedSet {T : Type 0} (c : SetContents) (progress : Option (List ℕ)) (r : Result T TraceFailed) : Type 0 where
     pub loaded : IsLoaded old.content set restore c progress
-    pub printed : (bytes : List ℕ) (o : Opening) (behind : History) → old.content trace ≡ Some bytes → BeginsAt c progress o behind → EndsBefore (played c o behind bytes) ⊤ ⊤ ⊤ (ending_at r) old.text new.text
+    pub printed : (bytes : List ℕ) (o : Opening) (behind : History) (earned : Earned) → old.content trace ≡ Some bytes → BeginsAt c progress o behind earned → EndsBefore (played c o behind earned bytes) ⊤ ⊤ ⊤ (ending_at r) old.text new.text
     pub read : IsErrOf r failed.Read → Rose (old.read_faults trace) (new.read_faults trace)
     pub wrote : IsErrOf r failed.Write → SinkRose old new
 
@@ -92,7 +93,7 @@ module _ (set trace : List ℕ) (restore save : Option (List ℕ)) (old new : Ou
         let from = from_there e says in
         let decides : deciding e.ending job ≡ reads_of job = ap (λ (e : Expected). deciding e.ending job) from.is ∙ stop_decides _ job in
         with_causes e (ReadsRose (deciding e.ending job) old new) (PutsRose (puts_of job) old new) (SinkRose old new) old.text new.text r (λ is. subst (λ names. ReadsRose names old new) (sym decides) (trace_rose (p.read is))) p.wrote
-        (subst (λ (e : Expected). EndsBefore e ⊤ ⊤ ⊤ (ending_at r) old.text new.text) (sym from.is) (p.printed from.file from.opening from.behind from.told from.at))
+        (subst (λ (e : Expected). EndsBefore e ⊤ ⊤ ⊤ (ending_at r) old.text new.text) (sym from.is) (p.printed from.file from.opening from.behind from.earned from.told from.at))
 
     played_said : AreTold old.content (reads_of job) → (e : Expected) × RunSays old.content set trace restore e
     played_said told =
@@ -136,13 +137,13 @@ module _ (set trace : List ℕ) (restore save : Option (List ℕ)) (old new : Ou
 
     -- the file that is put has the bytes of what is kept
     pub leaves_put : (bytes : List ℕ) → AllByRecursion (HasBytes bytes old.content new.content) (file_in save) → ((name : List ℕ) → AllByRecursion (λ put. name ≢ put) (file_in save) → new.content name ≡ old.content name)
-        → ((file : List ℕ) (o : Opening) (behind : History) → old.content trace ≡ Some file → BeginsAt c progress o behind → bytes ≡ (played c o behind file).saved) → Leaves job old new Done
+        → ((file : List ℕ) (o : Opening) (behind : History) (earned : Earned) → old.content trace ≡ Some file → BeginsAt c progress o behind earned → bytes ≡ (played c o behind earned file).saved) → Leaves job old new Done
     leaves_put bytes saved others kept = record {
       others = others;
       only = inl refl;
       saved = λ done e says.
           let from = from_there c progress (Ok player) p e says in
-          let same : bytes ≡ e.saved = kept from.file from.opening from.behind from.told from.at ∙ ap (λ (e : Expected). e.saved) (sym from.is) in
+          let same : bytes ≡ e.saved = kept from.file from.opening from.behind from.earned from.told from.at ∙ ap (λ (e : Expected). e.saved) (sym from.is) in
           subst (λ (b : List ℕ). AllByRecursion (HasBytes b old.content new.content) (file_in save)) same saved;
     }
 

@@ -13,6 +13,7 @@ pub mod ReadLemmas
 pub mod SaysLemmas
 pub mod RunLemmas
 pub mod LoadLemmas
+pub mod EarnedLemmas
 pub mod ImportLemmas
 pub mod JobLemmas
 pub mod CountLemmas

@@ -18,6 +18,7 @@ use Rattle.ra_progress.specs.Laws.{IsShape}
 use Rattle.ra_progress.specs.Saying.{says}
 use Rattle.ra_trace.specs.Cutting.{Stop, Reached, RefusedAt, PastLimit}
 use Rattle.ra_runtime.specs.Order.{shape_of}
+use Rattle.ra_runtime.specs.Earned.{Earned, HoldTriggered, earned_in, none_earned, with_earned}
 use Rattle.ra_runtime.specs.Openings.{snapshot, plain_opening}
 use Rattle.ra_jobs.specs.Words.{Job, Run, file_in, reads_of}
 use Rattle.ra_session.specs.Endings.{ending_of}
@@ -52,9 +53,9 @@ never_bad file c taken bytes why told refuses =
 -- What a run says whose set is this one.
 pub data SaysOf (content : List ℕ → Option (List ℕ)) (trace : List ℕ) (c : SetContents) : Option (List ℕ) → Expected → Type 0 where
   bad_file : (name file : List ℕ) (why : ProgressRefused) → content name ≡ Some file → refusal (shape_of c) (take progress_limit file) ≡ Some why → SaysOf content trace c (Some name) (prints_nothing (BadProgress why))
-  anew : (file : List ℕ) → content trace ≡ Some file → SaysOf content trace c None (played c (plain_opening c) [] file)
-  again : (name file : List ℕ) (o : Opening) (behind : History) → content trace ≡ Some file → content name ≡ Some (progress_bytes (shape_of c) (snapshot c o behind)) → IsOpening (shape_of c) o → AreImages behind → SaysOf content trace c (Some name) (played c o behind file)
-  taken_up : (name kept file : List ℕ) → content trace ≡ Some file → content name ≡ Some kept → refusal (shape_of c) kept ≡ None → SaysOf content trace c (Some name) (played c (says (shape_of c) kept) [] file)
+  anew : (file : List ℕ) → content trace ≡ Some file → SaysOf content trace c None (played c (plain_opening c) [] (none_earned c) file)
+  again : (name file : List ℕ) (o : Opening) (behind : History) (earned : Earned) → content trace ≡ Some file → content name ≡ Some (progress_bytes (shape_of c) (with_earned (snapshot c o behind) earned)) → IsOpening (shape_of c) o → AreImages behind → HoldTriggered earned (snapshot c o behind).items → SaysOf content trace c (Some name) (played c o behind earned file)
+  taken_up : (name kept file : List ℕ) → content trace ≡ Some file → content name ≡ Some kept → refusal (shape_of c) kept ≡ None → SaysOf content trace c (Some name) (played c (says (shape_of c) kept) [] (earned_in (says (shape_of c) kept)) file)
 
 pub says_of : (content : List ℕ → Option (List ℕ)) (set trace : List ℕ) (restore : Option (List ℕ)) (c : SetContents) (e : Expected) → IsTaken (content set) c → RunSays content set trace restore e → SaysOf content trace c restore e
 says_of content set trace restore c e taken (refuses_set file why told refuses) = absurd (never_bad (content set) c taken file why told refuses)
@@ -62,12 +63,12 @@ says_of content set trace restore c e taken (refuses_file name set_file file d w
     subst (λ (s : SetContents). refusal (shape_of s) (take progress_limit file) ≡ Some why → SaysOf content trace c (Some name) (prints_nothing (BadProgress why)))
     (same-set set_file c d (taken.is_set set_file told_set) is) (λ lacks. bad_file name file why told_file lacks) refused
 says_of content set trace restore c e taken (begins set_file trace_file d told_set told_trace is) =
-    subst (λ (s : SetContents). SaysOf content trace c None (played s (plain_opening s) [] trace_file)) (same-set set_file c d (taken.is_set set_file told_set) is) (anew trace_file told_trace)
-says_of content set trace restore c e taken (goes_on name set_file trace_file d o behind told_set told_trace told_file is opening images) =
-    subst (λ (s : SetContents). content name ≡ Some (progress_bytes (shape_of s) (snapshot s o behind)) → IsOpening (shape_of s) o → SaysOf content trace c (Some name) (played s o behind trace_file))
-    (same-set set_file c d (taken.is_set set_file told_set) is) (λ told fits. again name trace_file o behind told_trace told fits images) told_file opening
+    subst (λ (s : SetContents). SaysOf content trace c None (played s (plain_opening s) [] (none_earned s) trace_file)) (same-set set_file c d (taken.is_set set_file told_set) is) (anew trace_file told_trace)
+says_of content set trace restore c e taken (goes_on name set_file trace_file d o behind earned told_set told_trace told_file is opening images holds) =
+    subst (λ (s : SetContents). content name ≡ Some (progress_bytes (shape_of s) (with_earned (snapshot s o behind) earned)) → IsOpening (shape_of s) o → HoldTriggered earned (snapshot s o behind).items → SaysOf content trace c (Some name) (played s o behind earned trace_file))
+    (same-set set_file c d (taken.is_set set_file told_set) is) (λ told fits. again name trace_file o behind earned told_trace told fits images) told_file opening holds
 says_of content set trace restore c e taken (takes_up name set_file file trace_file d told_set told_trace told_file is accepted) =
-    subst (λ (s : SetContents). refusal (shape_of s) file ≡ None → SaysOf content trace c (Some name) (played s (says (shape_of s) file) [] trace_file))
+    subst (λ (s : SetContents). refusal (shape_of s) file ≡ None → SaysOf content trace c (Some name) (played s (says (shape_of s) file) [] (earned_in (says (shape_of s) file)) trace_file))
     (same-set set_file c d (taken.is_set set_file told_set) is) (λ none. taken_up name file trace_file told_trace told_file none) accepted
 
 -- all files of a job decide how its trace ends
@@ -93,7 +94,7 @@ module _ (set trace : List ℕ) (save : Option (List ℕ)) (old new : Outside) w
   file_decides : (c : SetContents) (restore : Option (List ℕ)) (e : Expected) → SaysOf old.content trace c restore e → Rises (file_in restore) → Rises (deciding e.ending (job restore))
   file_decides c _ e (bad_file name file why told refused) rose = any_later _ set (file_in (Some name)) rose
   file_decides c _ e (anew file told) rose = subst Rises (sym (stop_decides _ (job None))) (any_later _ set (trace ∷ []) (any_later _ trace [] rose))
-  file_decides c _ e (again name file o behind told kept opening images) rose = subst Rises (sym (stop_decides _ (job (Some name)))) (any_later _ set (trace ∷ name ∷ []) (any_later _ trace (name ∷ []) rose))
+  file_decides c _ e (again name file o behind earned told kept opening images holds) rose = subst Rises (sym (stop_decides _ (job (Some name)))) (any_later _ set (trace ∷ name ∷ []) (any_later _ trace (name ∷ []) rose))
   file_decides c _ e (taken_up name kept file told is accepted) rose = subst Rises (sym (stop_decides _ (job (Some name)))) (any_later _ set (trace ∷ name ∷ []) (any_later _ trace (name ∷ []) rose))
 
   -- why bytes are refused has one answer
@@ -102,8 +103,8 @@ module _ (set trace : List ℕ) (save : Option (List ℕ)) (old new : Outside) w
       let here = at.refused file (ap old.content (sym (same_in name at.name at.named)) ∙ told) in
       (ap BadProgress (same_in why found (sym refused ∙ here)), same ∙ sym (grown-nil old.text))
   refused_so c _ e found taken (anew file told) at same = absurd (none-some at.name at.named)
-  refused_so c _ e found taken (again name file o behind told kept opening images) at same =
-      let good = whole_accepted c (progress_bytes (shape_of c) (snapshot c o behind)) (comes_back_of c o behind taken.playable at.shape opening images).accepted in
+  refused_so c _ e found taken (again name file o behind earned told kept opening images holds) at same =
+      let good = whole_accepted c (progress_bytes (shape_of c) (with_earned (snapshot c o behind) earned)) (comes_back_of c o behind earned taken.playable at.shape opening images holds).accepted in
       absurd (none-some found (sym good ∙ at.refused _ (ap old.content (sym (same_in name at.name at.named)) ∙ kept)))
   refused_so c _ e found taken (taken_up name kept file told is accepted) at same =
       absurd (none-some found (sym (whole_accepted c kept accepted) ∙ at.refused kept (ap old.content (sym (same_in name at.name at.named)) ∙ is)))
@@ -119,7 +120,7 @@ module _ (set trace : List ℕ) (save : Option (List ℕ)) (old new : Outside) w
   no_set_prints restore e why lacks (refuses_set file found told refuses) same = (ap BadSet (one-refusal (take 4194305 file) found why refuses (lacks file told)), same ∙ sym (grown-nil old.text))
   no_set_prints restore e why lacks (refuses_file name set_file file d found told_set told_file is refused) same = absurd (never_set set_file d why told_set is (lacks set_file told_set))
   no_set_prints restore e why lacks (begins set_file trace_file d told_set told_trace is) same = absurd (never_set set_file d why told_set is (lacks set_file told_set))
-  no_set_prints restore e why lacks (goes_on name set_file trace_file d o behind told_set told_trace told_file is opening images) same = absurd (never_set set_file d why told_set is (lacks set_file told_set))
+  no_set_prints restore e why lacks (goes_on name set_file trace_file d o behind earned told_set told_trace told_file is opening images holds) same = absurd (never_set set_file d why told_set is (lacks set_file told_set))
   no_set_prints restore e why lacks (takes_up name set_file file trace_file d told_set told_trace told_file is accepted) same = absurd (never_set set_file d why told_set is (lacks set_file told_set))
 
   -- what a run has printed that did not begin
@@ -191,15 +192,16 @@ of_file_since a b (Some name) progress same (bytes, is, whole) = (bytes, is, λ 
 pub record PlaysFrom (content : List ℕ → Option (List ℕ)) (trace : List ℕ) (c : SetContents) (progress : Option (List ℕ)) (e : Expected) : Type 0 where
   pub opening : Opening
   pub behind : History
+  pub earned : Earned
   pub file : List ℕ
-  pub at : BeginsAt c progress opening behind
+  pub at : BeginsAt c progress opening behind earned
   pub told : content trace ≡ Some file
-  pub is : e ≡ played c opening behind file
+  pub is : e ≡ played c opening behind earned file
 
 -- a run begins somewhere
-pub begins_somewhere : (c : SetContents) (progress : Option (List ℕ)) → IsPlayable c → AreAccepted c progress → (o : Opening) × (behind : History) × BeginsAt c progress o behind
-begins_somewhere c None playable accepted = (plain_opening c, [], (refl, refl))
-begins_somewhere c (Some bytes) playable accepted = (says (shape_of c) bytes, [], says_begins c bytes playable accepted)
+pub begins_somewhere : (c : SetContents) (progress : Option (List ℕ)) → IsPlayable c → AreAccepted c progress → (o : Opening) × (behind : History) × (earned : Earned) × BeginsAt c progress o behind earned
+begins_somewhere c None playable accepted = (plain_opening c, [], none_earned c, (refl, refl, refl))
+begins_somewhere c (Some bytes) playable accepted = (says (shape_of c) bytes, [], earned_in (says (shape_of c) bytes), says_begins c bytes playable accepted)
 
 -- what the files of a run say whose set and progress file were accepted
 plays_from : (content : List ℕ → Option (List ℕ)) (trace : List ℕ) (restore : Option (List ℕ)) (c : SetContents) (progress : Option (List ℕ)) (e : Expected) → SaysOf content trace c restore e → IsPlayable c → AreAccepted c progress → AreOfFile content restore progress → PlaysFrom content trace c progress e
@@ -210,30 +212,33 @@ plays_from content trace _ c progress e (bad_file name file why told refused) pl
 plays_from content trace _ c progress e (anew file told) playable accepted none = record {
   opening = plain_opening c;
   behind = [];
+  earned = none_earned c;
   file = file;
-  at = subst (λ (p : Option (List ℕ)). BeginsAt c p (plain_opening c) []) (sym none) (refl, refl);
+  at = subst (λ (p : Option (List ℕ)). BeginsAt c p (plain_opening c) [] (none_earned c)) (sym none) (refl, refl, refl);
   told = told;
   is = refl;
 }
-plays_from content trace _ c progress e (again name file o behind told kept opening images) playable accepted (bytes, is, whole) =
+plays_from content trace _ c progress e (again name file o behind earned told kept opening images holds) playable accepted (bytes, is, whole) =
     let own : AreAccepted c (Some bytes) = subst (AreAccepted c) is accepted in
-    let said : says (shape_of c) bytes ≡ snapshot c o behind = ap (says (shape_of c)) (whole _ kept) ∙ (comes_back_of c o behind playable own.0 opening images).says_it in
+    let said : says (shape_of c) bytes ≡ with_earned (snapshot c o behind) earned = ap (says (shape_of c)) (whole _ kept) ∙ (comes_back_of c o behind earned playable own.0 opening images holds).says_it in
     record {
       opening = o;
       behind = behind;
+      earned = earned;
       file = file;
-      at = subst (λ (p : Option (List ℕ)). BeginsAt c p o behind) (sym is) (opening, images, said);
+      at = subst (λ (p : Option (List ℕ)). BeginsAt c p o behind earned) (sym is) (opening, images, holds, said);
       told = told;
       is = refl;
     }
 plays_from content trace _ c progress e (taken_up name kept file told there none) playable accepted (bytes, is, whole) =
     let own : AreAccepted c (Some bytes) = subst (AreAccepted c) is accepted in
-    let at : BeginsAt c (Some bytes) (says (shape_of c) kept) [] = subst (λ (f : List ℕ). BeginsAt c (Some bytes) (says (shape_of c) f) []) (whole kept there) (says_begins c bytes playable own) in
+    let at : BeginsAt c (Some bytes) (says (shape_of c) kept) [] (earned_in (says (shape_of c) kept)) = subst (λ (f : List ℕ). BeginsAt c (Some bytes) (says (shape_of c) f) [] (earned_in (says (shape_of c) f))) (whole kept there) (says_begins c bytes playable own) in
     record {
       opening = says (shape_of c) kept;
       behind = [];
+      earned = earned_in (says (shape_of c) kept);
       file = file;
-      at = subst (λ (p : Option (List ℕ)). BeginsAt c p (says (shape_of c) kept) []) (sym is) at;
+      at = subst (λ (p : Option (List ℕ)). BeginsAt c p (says (shape_of c) kept) [] (earned_in (says (shape_of c) kept))) (sym is) at;
       told = told;
       is = refl;
     }
@@ -247,11 +252,11 @@ module _ (content : List ℕ → Option (List ℕ)) (set trace : List ℕ) where
       → (e : Expected) × RunSays content set trace restore e
   loaded_said None c progress trace_file loaded told told_trace =
       let set_file = file_of content set told.0 in
-      (played c (plain_opening c) [] trace_file, begins set_file.0 trace_file c set_file.1 told_trace (loaded.taken.is_set set_file.0 set_file.1))
+      (played c (plain_opening c) [] (none_earned c) trace_file, begins set_file.0 trace_file c set_file.1 told_trace (loaded.taken.is_set set_file.0 set_file.1))
   loaded_said (Some name) c progress trace_file loaded told told_trace =
       let set_file = file_of content set told.0 in
       let (bytes, is, whole) = loaded.of_file in
       let file = file_of content name told.1.1.0 in
       let own : AreAccepted c (Some bytes) = subst (AreAccepted c) is loaded.accepted in
       let none : refusal (shape_of c) file.0 ≡ None = ap (refusal (shape_of c)) (sym (whole file.0 file.1)) ∙ own.2 in
-      (played c (says (shape_of c) file.0) [] trace_file, takes_up name set_file.0 file.0 trace_file c set_file.1 told_trace file.1 (loaded.taken.is_set set_file.0 set_file.1) none)
+      (played c (says (shape_of c) file.0) [] (earned_in (says (shape_of c) file.0)) trace_file, takes_up name set_file.0 file.0 trace_file c set_file.1 told_trace file.1 (loaded.taken.is_set set_file.0 set_file.1) none)

@@ -14,6 +14,7 @@ use Rattle.ra_trace.specs.Workload.{made_set, made_trace}
 use Rattle.ra_trace.proofs.MadeTrace.{made_cut, made_short}
 use Rattle.ra_runtime.specs.Openings.{plain_opening}
 use Rattle.ra_jobs.specs.Words.{Make}
+use Rattle.ra_runtime.specs.Earned.{none_earned}
 use Rattle.ra_session.specs.Endings.{ending_of}
 use Rattle.ra_session.specs.Expected.{Expected, MakeSays, made, make_line, played, prints_line, trace_limit}
 use Rattle.ra_session.specs.Closing.{EndsBefore}
@@ -34,7 +35,7 @@ use Rattle.ra_session.proofs.RunLemmas.{set_read_of}
 -- ---- the text of a workload
 
 -- the trace of a workload is lacks longer than a run may take, and reaches its end
-pub made_end : (set : SetContents) (number : ℕ) → (played set (plain_opening set) [] (made_trace number)).ending ≡ Done
+pub made_end : (set : SetContents) (number : ℕ) → (played set (plain_opening set) [] (none_earned set) (made_trace number)).ending ≡ Done
 made_end set number =
     let bytes = made_trace number in
     let whole : take trace_limit bytes ≡ bytes = take_all trace_limit bytes (let short = made_short number in omega (arith, short)) in
@@ -73,7 +74,7 @@ printed_whole e text before = let grew : Some text ≡ Some (concat e.pieces) = 
 make_says : (number : ℕ) (text : List ℕ) → IsMadeText number text → (e : Expected) → MakeSays number e → e ≡ prints_line (make_line number text)
 make_says number text played_so e (made c is) =
     ap (λ t. prints_line (make_line number t))
-    (ap (λ (s : SetContents). concat (played s (plain_opening s) [] (made_trace number)).pieces) (same-set (made_set number) c played_so.set is played_so.accepted) ∙ sym played_so.all)
+    (ap (λ (s : SetContents). concat (played s (plain_opening s) [] (none_earned s) (made_trace number)).pieces) (same-set (made_set number) c played_so.set is played_so.accepted) ∙ sym played_so.all)
 
 -- a job whose line was written, or a front of it
 pub ran_made : (number : ℕ) (text : List ℕ) (old new : Outside) (ending : Ending) → IsMadeText number text → EndsBefore (prints_line (make_line number text)) ⊥ ⊥ (SinkRose old new) ending old.text new.text → Ran (Make number) old new ending

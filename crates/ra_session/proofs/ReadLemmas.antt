@@ -10,6 +10,7 @@ use Rattle.ra_trace.specs.declared.error.Why.TheVariants.{Header, Cut}
 use Rattle.ra_trace.specs.Entries.{Entry, Written}
 use Rattle.ra_trace.specs.Cutting.{Stop, RefusedAt, Pieces, cut, cut_unless, cut_behind, refusal, front, header_size, no_slots, trace_behind, stop_within}
 use Rattle.ra_trace.specs.Reading.{ReaderSeen, seen_from}
+use Rattle.ra_runtime.specs.Earned.{Earned, earned_in, none_earned}
 use Rattle.ra_runtime.specs.Openings.{plain_opening}
 use Rattle.ra_runtime.specs.Play.{Moment, first_moment}
 use Rattle.ra_session.specs.Endings.{ending_of}
@@ -43,24 +44,24 @@ header_one : (header : Option ℕ) (bytes : List ℕ) → EndsBehindOne (trace_b
 header_one None bytes = λ full is. absurd (never_done full 0 Header is)
 header_one (Some size) bytes = cut_one (suc (length bytes)) size no_slots 9 (drop 9 bytes)
 
-some_pieces : (set : SetContents) (o : Opening) (m : Moment) (entries : List Entry) → 0 < length entries → 0 < length (pieces_from set o m entries)
-some_pieces set o m [] some = absurd (omega (arith, some))
-some_pieces set o m (entry ∷ entries) some = omega arith
+some_pieces : (set : SetContents) (o : Opening) (m : Moment) (earned : Earned) (entries : List Entry) → 0 < length entries → 0 < length (pieces_from set o m earned entries)
+some_pieces set o m earned [] some = absurd (omega (arith, some))
+some_pieces set o m earned (entry ∷ entries) some = omega arith
 
 -- before the records that are left
-pub left_read : (bytes : List ℕ) (set : SetContents) (o : Opening) (m : Moment) (left : Pieces) (reader : ReaderSeen) → IsLeft bytes m reader left → IsReadBehind (says_from bytes set o m left) 0
-left_read bytes set o m left reader is = record {
+pub left_read : (bytes : List ℕ) (set : SetContents) (o : Opening) (m : Moment) (earned : Earned) (left : Pieces) (reader : ReaderSeen) → IsLeft bytes m reader left → IsReadBehind (says_from bytes set o m earned left) 0
+left_read bytes set o m earned left reader is = record {
   there = omega arith;
-  before_end = λ done. some_pieces set o m left.entries (subst (λ (p : Pieces). EndsBehindOne p.stop p.entries) (sym is.is) (cut_one (suc is.more) is.size (map is_some m.slots) reader.next (seen_from trace_limit reader.next bytes)) (nat_le trace_limit (length bytes)) done);
+  before_end = λ done. some_pieces set o m earned left.entries (subst (λ (p : Pieces). EndsBehindOne p.stop p.entries) (sym is.is) (cut_one (suc is.more) is.size (map is_some m.slots) reader.next (seen_from trace_limit reader.next bytes)) (nat_le trace_limit (length bytes)) done);
 }
 
 -- before the records of a trace
-pub played_read : (set : SetContents) (o : Opening) (behind : History) (bytes : List ℕ) → IsReadBehind (played set o behind bytes) 0
-played_read set o behind bytes =
+pub played_read : (set : SetContents) (o : Opening) (behind : History) (earned : Earned) (bytes : List ℕ) → IsReadBehind (played set o behind earned bytes) 0
+played_read set o behind earned bytes =
     let seen = take trace_limit bytes in
     record {
       there = omega arith;
-      before_end = λ done. some_pieces set o (first_moment (trace_behind no_slots (header_size seen) seen).size behind) (trace_behind no_slots (header_size seen) seen).entries
+      before_end = λ done. some_pieces set o (first_moment (trace_behind no_slots (header_size seen) seen).size behind) earned (trace_behind no_slots (header_size seen) seen).entries
           (header_one (header_size seen) seen (nat_le trace_limit (length bytes)) done);
     }
 
@@ -68,9 +69,9 @@ played_read set o behind bytes =
 pub run_read : (content : List ℕ → Option (List ℕ)) (set trace : List ℕ) (restore : Option (List ℕ)) (e : Expected) → RunSays content set trace restore e → IsReadBehind e 0
 run_read content set trace restore e (refuses_set file why told refuses) = record { there = omega arith; before_end = λ done. absurd (cc) }
 run_read content set trace restore e (refuses_file name set_file file c why told_set told_file is refused) = record { there = omega arith; before_end = λ done. absurd (cc) }
-run_read content set trace restore e (begins set_file trace_file c told_set told_trace is) = played_read c (plain_opening c) [] trace_file
-run_read content set trace restore e (goes_on name set_file trace_file c o behind told_set told_trace told_file is opening images) = played_read c o behind trace_file
-run_read content set trace restore e (takes_up name set_file file trace_file c told_set told_trace told_file is accepted) = played_read c (says (shape_of c) file) [] trace_file
+run_read content set trace restore e (begins set_file trace_file c told_set told_trace is) = played_read c (plain_opening c) [] (none_earned c) trace_file
+run_read content set trace restore e (goes_on name set_file trace_file c o behind earned told_set told_trace told_file is opening images holds) = played_read c o behind earned trace_file
+run_read content set trace restore e (takes_up name set_file file trace_file c told_set told_trace told_file is accepted) = played_read c (says (shape_of c) file) [] (earned_in (says (shape_of c) file)) trace_file
 
 -- before a text of a set
 pub set_told : (text : SetContents → List ℕ) (content : List ℕ → Option (List ℕ)) (set : List ℕ) (e : Expected) → SetSays text content set e → IsReadBehind e 0

@@ -24,8 +24,8 @@ use Rattle.ra_trace.specs.declared.error.TraceError.TheVariants as errors
 use Rattle.ra_trace.specs.Cutting.{Stop, RefusedAt, header_size, no_slots, trace_behind, stop_within}
 use Rattle.ra_trace.specs.Reading.{IsStop, header_stop}
 use Rattle.ra_runtime.specs.Runtime.{RuntimeSeen}
-use Rattle.ra_runtime.specs.Openings.{snapshot}
-use Rattle.ra_runtime.specs.Play.{first_moment, moment_after, behind_end}
+use Rattle.ra_runtime.specs.Earned.{Earned}
+use Rattle.ra_runtime.specs.Play.{first_moment, moment_after, earned_after, saved_end}
 use Rattle.ra_session.specs.Endings.{ending_of}
 use Rattle.ra_session.specs.declared.ending.Ending.{Ending}
 use Rattle.ra_session.specs.declared.ending.Ending.TheVariants.{Done, NoMemory, NoJob, BadSet, ReadFault, SinkFault, BadProgress, BadTrace, LongTrace, SaveFault, BadDocument, LongNormal}
@@ -77,45 +77,45 @@ ends_same a b reads puts sink ending old new pieces end first before =
     same_saved (LongNormal which found) h = h
 
 -- behind a good header the trace is what is left of it
-pub played_behind : (set : SetContents) (o : Opening) (behind : History) (bytes : List ℕ) (size : ℕ) (ending : Ending) (old new : Option (List ℕ)) → header_size (take trace_limit bytes) ≡ Some size
-    → EndsBefore (says_from bytes set o (first_moment size behind) (pieces_of size bytes)) ⊤ ⊤ ⊤ ending old new → EndsBefore (played set o behind bytes) ⊤ ⊤ ⊤ ending old new
-played_behind set o behind bytes size ending old new is before =
+pub played_behind : (set : SetContents) (o : Opening) (behind : History) (earned : Earned) (bytes : List ℕ) (size : ℕ) (ending : Ending) (old new : Option (List ℕ)) → header_size (take trace_limit bytes) ≡ Some size
+    → EndsBefore (says_from bytes set o (first_moment size behind) earned (pieces_of size bytes)) ⊤ ⊤ ⊤ ending old new → EndsBefore (played set o behind earned bytes) ⊤ ⊤ ⊤ ending old new
+played_behind set o behind earned bytes size ending old new is before =
     let seen = take trace_limit bytes in
-    ends_same (says_from bytes set o (first_moment size behind) (pieces_of size bytes)) (played set o behind bytes) ⊤ ⊤ ⊤ ending old new
-    (ap (λ header. pieces_from set o (first_moment (trace_behind no_slots header seen).size behind) (trace_behind no_slots header seen).entries) (sym is))
+    ends_same (says_from bytes set o (first_moment size behind) earned (pieces_of size bytes)) (played set o behind earned bytes) ⊤ ⊤ ⊤ ending old new
+    (ap (λ header. pieces_from set o (first_moment (trace_behind no_slots header seen).size behind) earned (trace_behind no_slots header seen).entries) (sym is))
     (ap (λ header. ending_of (stop_within (nat_le trace_limit (length bytes)) (trace_behind no_slots header seen).stop)) (sym is)) refl before
 
 some_same : (x y : Stop) → Some x ≡ Some y → x ≡ y
 some_same x y same = cc
 
 -- a header that is refused
-pub bad_header : (set : SetContents) (o : Opening) (behind : History) (bytes : List ℕ) (why : TraceError) (old : Option (List ℕ)) → IsStop why (header_stop trace_limit bytes) → EndsBefore (played set o behind bytes) ⊤ ⊤ ⊤ (ending_of_trace (trace_failed why)) old old
-bad_header set o behind bytes why old stop = by_header why (header_size (take trace_limit bytes)) refl stop
+pub bad_header : (set : SetContents) (o : Opening) (behind : History) (earned : Earned) (bytes : List ℕ) (why : TraceError) (old : Option (List ℕ)) → IsStop why (header_stop trace_limit bytes) → EndsBefore (played set o behind earned bytes) ⊤ ⊤ ⊤ (ending_of_trace (trace_failed why)) old old
+bad_header set o behind earned bytes why old stop = by_header why (header_size (take trace_limit bytes)) refl stop
   where
     stop_by : Option ℕ → Option Stop
     stop_by header = if is_some header then None else Some (RefusedAt 0 Header)
 
-    none_here : header_size (take trace_limit bytes) ≡ None → EndsBefore (played set o behind bytes) ⊤ ⊤ ⊤ (BadTrace 0 Header) old old
+    none_here : header_size (take trace_limit bytes) ≡ None → EndsBefore (played set o behind earned bytes) ⊤ ⊤ ⊤ (BadTrace 0 Header) old old
     none_here none =
         let seen = take trace_limit bytes in (
           ap (λ header. ending_of (stop_within (nat_le trace_limit (length bytes)) (trace_behind no_slots header seen).stop)) none,
-          sym (grown-nil old) ∙ ap (λ header. grown old (concat (pieces_from set o (first_moment (trace_behind no_slots header seen).size behind) (trace_behind no_slots header seen).entries))) (sym none),
+          sym (grown-nil old) ∙ ap (λ header. grown old (concat (pieces_from set o (first_moment (trace_behind no_slots header seen).size behind) earned (trace_behind no_slots header seen).entries))) (sym none),
         )
 
-    by_header : (why : TraceError) (header : Option ℕ) → header_size (take trace_limit bytes) ≡ header → IsStop why (stop_by header) → EndsBefore (played set o behind bytes) ⊤ ⊤ ⊤ (ending_of_trace (trace_failed why)) old old
-    by_header errors.Read header is stop = (tt, (0, played_read set o behind bytes, sym (grown-nil old)))
-    by_header (errors.Refused at w) None is stop = subst (λ (k : Stop). EndsBefore (played set o behind bytes) ⊤ ⊤ ⊤ (ending_of k) old old) (some_same (RefusedAt 0 Header) (RefusedAt at w) stop) (none_here is)
+    by_header : (why : TraceError) (header : Option ℕ) → header_size (take trace_limit bytes) ≡ header → IsStop why (stop_by header) → EndsBefore (played set o behind earned bytes) ⊤ ⊤ ⊤ (ending_of_trace (trace_failed why)) old old
+    by_header errors.Read header is stop = (tt, (0, played_read set o behind earned bytes, sym (grown-nil old)))
+    by_header (errors.Refused at w) None is stop = subst (λ (k : Stop). EndsBefore (played set o behind earned bytes) ⊤ ⊤ ⊤ (ending_of k) old old) (some_same (RefusedAt 0 Header) (RefusedAt at w) stop) (none_here is)
     by_header errors.TooLong None is stop = absurd (cc)
     by_header (errors.Refused at w) (Some size) is stop = absurd (cc)
     by_header errors.TooLong (Some size) is stop = absurd (cc)
 
 -- at the end of a good trace the bytes are those that a run saves
-pub saved_behind : (set : SetContents) (o : Opening) (behind : History) (bytes : List ℕ) (size : ℕ) (slots : List (Option (List ℕ))) (runtime : RuntimeSeen) → header_size (take trace_limit bytes) ≡ Some size
-    → StandsAt set o (moment_after (first_moment size behind) (pieces_of size bytes).entries) runtime slots → kept_bytes runtime ≡ (played set o behind bytes).saved
-saved_behind set o behind bytes size slots runtime is stands =
+pub saved_behind : (set : SetContents) (o : Opening) (behind : History) (earned : Earned) (bytes : List ℕ) (size : ℕ) (slots : List (Option (List ℕ))) (runtime : RuntimeSeen) → header_size (take trace_limit bytes) ≡ Some size
+    → StandsAt set o (moment_after (first_moment size behind) (pieces_of size bytes).entries) (earned_after set o (first_moment size behind) earned (pieces_of size bytes).entries) runtime slots → kept_bytes runtime ≡ (played set o behind earned bytes).saved
+saved_behind set o behind earned bytes size slots runtime is stands =
     let seen = take trace_limit bytes in
     ap (λ (s : SetContents). progress_bytes (shape_of s) runtime.kept) stands.same ∙ ap (progress_bytes (shape_of set)) stands.kept
-    ∙ ap (λ header. progress_bytes (shape_of set) (snapshot set o (behind_end behind (trace_behind no_slots header seen).size (trace_behind no_slots header seen).entries))) (sym is)
+    ∙ ap (λ header. progress_bytes (shape_of set) (saved_end set o behind earned (trace_behind no_slots header seen).size (trace_behind no_slots header seen).entries)) (sym is)
 
 -- what is known of the error that a `?` hands on
 pub err_by : {T E : Type 0} (r : Result T E) (x : E) (P : E → Type 0) → IsErrAnd r (λ k. k ≡ x) → P x → IfErr r P

@@ -1,5 +1,5 @@
 -- A player at the moments of a trace.
-use Rattle.std.proofs.Common.{arith, ◌≡◌, ◌≤◌, ◌+◌, ap, sym, subst, refl, ◌∙◌, ℕ, zero, suc, slice_index_or, slice_set, replicate, length, take, drop, option_map, IfSome, Option, Some, None, List, [], ◌∷◌, ◌++◌}
+use Rattle.std.proofs.Common.{arith, ◌≡◌, ◌≤◌, ◌+◌, ap, sym, subst, refl, ◌∙◌, ℕ, zero, suc, slice_index_or, slice_set, replicate, length, take, drop, map, zip, option_map, IfSome, Option, Some, None, List, [], ◌∷◌, ◌++◌}
 use Rattle.std.specs.Global.{Vec}
 use Rattle.std.proofs.lemmas.List.{map-set}
 use Rattle.ra_memory.specs.Image.{History, AreBytes, AreImages, written}
@@ -11,14 +11,17 @@ use Rattle.ra_progress.specs.Reading.{refusal}
 use Rattle.ra_progress.specs.Saying.{says}
 use Rattle.ra_trace.specs.declared.record.Record.{Record}
 use Rattle.ra_trace.specs.Entries.{entry_of, Written, Framed, Saved, Restored, Shown, Ended}
-use Rattle.ra_runtime.specs.Runtime.{RuntimeSeen, IsMade, IsWritten, ShowsKept, TakesFrame, TakesUp}
+use Rattle.ra_runtime.specs.Runtime.{RuntimeSeen, IsMade, IsWritten, ShowsKept, StandsAfter, TakesFrame, TakesUp}
 use Rattle.ra_runtime.specs.Order.{shape_of}
-use Rattle.ra_runtime.specs.Openings.{snapshot, plain_opening}
-use Rattle.ra_runtime.specs.Play.{Moment, moved, lines, shown, first_moment, kept_in}
+use Rattle.ra_runtime.specs.Earned.{Earned, HoldTriggered, both_earned, earned_in, none_earned, with_earned}
+use Rattle.ra_runtime.specs.Openings.{start_of, snapshot, plain_opening}
+use Rattle.ra_runtime.specs.Play.{Moment, moved, lines, unlocks, earns, shown, first_moment, kept_in}
 use Rattle.ra_session.specs.declared.player.Player.{Player}
-use Rattle.ra_runtime.proofs.Snapshots.{plain_is_opening, saved_fits, snapshot_none}
+use Rattle.ra_runtime.proofs.EarnedItems.{opening_with}
+use Rattle.ra_runtime.proofs.Snapshots.{plain_is_opening, opening_comes_back, snapshot_fits}
 use Rattle.ra_session.specs.Loading.{AreAccepted, BeginsAt}
-use Rattle.ra_session.specs.Playing.{StandsAt, IsPlayable, HoldsKept, HoldEachKept, TakesEmpty, TakesUpFrom, Plays, slots_of}
+use Rattle.ra_session.proofs.EarnedLemmas.{earned_self, earned_later, kept_earned, earns_hold, save_holds, restored_with, none_and_file, opened_with, opened_holds, plain_earned}
+use Rattle.ra_session.specs.Playing.{StandsAt, IsPlayable, IsSaveOf, HoldsKept, HoldEachKept, TakesEmpty, TakesUpFrom, Plays, slots_of}
 
 -- bytes of parts are bytes of the whole
 append_bytes : (a b : List ℕ) → AreBytes a → AreBytes b → AreBytes (a ++ b)
@@ -44,15 +47,15 @@ written_bytes image at bytes of_image of_bytes =
     append_bytes (take at image) (bytes ++ drop (at + length bytes) image) (take_bytes at image of_image)
     (append_bytes bytes (drop (at + length bytes) image) of_bytes (drop_bytes (at + length bytes) image of_image))
 
-module _ (set : SetContents) (o : Opening) where
-  hold_at : (kepts : List (Option History)) (slots : List (Option (List ℕ))) → HoldEachKept set o kepts slots → (k : ℕ) → HoldsKept set o (slice_index_or kepts k None) (slice_index_or slots k None)
+module _ (set : SetContents) (o : Opening) (earned : Earned) where
+  hold_at : (kepts : List (Option History)) (slots : List (Option (List ℕ))) → HoldEachKept set o earned kepts slots → (k : ℕ) → HoldsKept set o earned (slice_index_or kepts k None) (slice_index_or slots k None)
   hold_at [] [] held k = tt
   hold_at (kept ∷ kepts) (bytes ∷ slots) held zero = held.0
   hold_at (kept ∷ kepts) (bytes ∷ slots) held (suc k) = hold_at kepts slots held.1 k
   hold_at [] (bytes ∷ slots) held k = absurd held
   hold_at (kept ∷ kepts) [] held k = absurd held
 
-  hold_set : (kepts : List (Option History)) (slots : List (Option (List ℕ))) → HoldEachKept set o kepts slots → (k : ℕ) (kept : History) (bytes : List ℕ) → HoldsKept set o (Some kept) (Some bytes) → HoldEachKept set o (slice_set kepts k (Some kept)) (slice_set slots k (Some bytes))
+  hold_set : (kepts : List (Option History)) (slots : List (Option (List ℕ))) → HoldEachKept set o earned kepts slots → (k : ℕ) (kept : History) (bytes : List ℕ) → HoldsKept set o earned (Some kept) (Some bytes) → HoldEachKept set o earned (slice_set kepts k (Some kept)) (slice_set slots k (Some bytes))
   hold_set [] [] held k kept bytes holds = tt
   hold_set (old ∷ kepts) (was ∷ slots) held zero kept bytes holds = (holds, held.1)
   hold_set (old ∷ kepts) (was ∷ slots) held (suc k) kept bytes holds = (held.0, hold_set kepts slots held.1 k kept bytes holds)
@@ -60,22 +63,34 @@ module _ (set : SetContents) (o : Opening) where
   hold_set (old ∷ kepts) [] held k kept bytes holds = absurd held
 
   -- past the last slot nothing is kept
-  hold_past : (kepts : List (Option History)) (slots : List (Option (List ℕ))) → HoldEachKept set o kepts slots → (k : ℕ) (kept : Option History) → length slots ≤ k → HoldEachKept set o (slice_set kepts k kept) slots
+  hold_past : (kepts : List (Option History)) (slots : List (Option (List ℕ))) → HoldEachKept set o earned kepts slots → (k : ℕ) (kept : Option History) → length slots ≤ k → HoldEachKept set o earned (slice_set kepts k kept) slots
   hold_past [] [] held k kept past = tt
   hold_past (old ∷ kepts) (was ∷ slots) held zero kept past = absurd (omega (arith, past))
   hold_past (old ∷ kepts) (was ∷ slots) held (suc k) kept past = (held.0, hold_past kepts slots held.1 k kept (omega (arith, past)))
   hold_past [] (was ∷ slots) held k kept past = absurd held
   hold_past (old ∷ kepts) [] held k kept past = absurd held
 
-  hold_none : (n : ℕ) → HoldEachKept set o (replicate n None) (replicate n None)
+  hold_none : (n : ℕ) → HoldEachKept set o earned (replicate n None) (replicate n None)
   hold_none zero = tt
   hold_none (suc n) = (tt, hold_none n)
 
+-- slots hold what they have kept when more is earned
+hold_more : (set : SetContents) (o : Opening) (earned others : Earned) (kepts : List (Option History)) (slots : List (Option (List ℕ))) → HoldEachKept set o earned kepts slots → HoldEachKept set o (both_earned earned others) kepts slots
+hold_more set o earned others [] [] held = tt
+hold_more set o earned others [] (bytes ∷ slots) held = absurd held
+hold_more set o earned others (kept ∷ kepts) [] held = absurd held
+hold_more set o earned others (None ∷ kepts) (None ∷ slots) held = (tt, hold_more set o earned others kepts slots held.1)
+hold_more set o earned others (None ∷ kepts) (Some bytes ∷ slots) held = absurd held.0
+hold_more set o earned others (Some kept ∷ kepts) (None ∷ slots) held = absurd held.0
+hold_more set o earned others (Some kept ∷ kepts) (Some bytes ∷ slots) held =
+    let save : IsSaveOf set o kept earned bytes = held.0 in
+    (record { before = save.before; images = save.images; holds = save.holds; still = earned_later save.before earned others save.still; is = save.is }, hold_more set o earned others kepts slots held.1)
+
 -- a save keeps what stands behind in its slot
-pub stands_saved : (set : SetContents) (o : Opening) (m : Moment) (runtime : RuntimeSeen) (slots : List (Option (Vec ℕ))) (k : ℕ) (bytes : Vec ℕ) → bytes.items ≡ progress_bytes (shape_of runtime.set) runtime.kept
-    → StandsAt set o m runtime (slots_of slots) → StandsAt set o (moved (Saved k) m) runtime (slots_of (slice_set slots k (Some bytes)))
-stands_saved set o m runtime slots k bytes is stands =
-    let kept_bytes : bytes.items ≡ progress_bytes (shape_of set) (snapshot set o m.behind) = is ∙ ap (λ (s : SetContents). progress_bytes (shape_of s) runtime.kept) stands.same ∙ ap (progress_bytes (shape_of set)) stands.kept in
+pub stands_saved : (set : SetContents) (o : Opening) (m : Moment) (earned : Earned) (runtime : RuntimeSeen) (slots : List (Option (Vec ℕ))) (k : ℕ) (bytes : Vec ℕ) → bytes.items ≡ progress_bytes (shape_of runtime.set) runtime.kept
+    → StandsAt set o m earned runtime (slots_of slots) → StandsAt set o (moved (Saved k) m) earned runtime (slots_of (slice_set slots k (Some bytes)))
+stands_saved set o m earned runtime slots k bytes is stands =
+    let kept_bytes : bytes.items ≡ progress_bytes (shape_of set) (with_earned (snapshot set o m.behind) earned) = is ∙ ap (λ (s : SetContents). progress_bytes (shape_of s) runtime.kept) stands.same ∙ ap (progress_bytes (shape_of set)) stands.kept in
     let now : slots_of (slice_set slots k (Some bytes)) ≡ slice_set (slots_of slots) k (Some bytes.items) = map-set (option_map (λ (b : Vec ℕ). b.items)) slots k (Some bytes) in
     record {
       same = stands.same;
@@ -86,12 +101,13 @@ stands_saved set o m runtime slots k bytes is stands =
       bytes = stands.bytes;
       behind = stands.behind;
       kept = stands.kept;
-      held = subst (HoldEachKept set o (slice_set m.slots k (Some m.behind))) (sym now) (hold_set set o m.slots (slots_of slots) stands.held k m.behind bytes.items (stands.behind, kept_bytes));
+      holds = stands.holds;
+      held = subst (HoldEachKept set o earned (slice_set m.slots k (Some m.behind))) (sym now) (hold_set set o earned m.slots (slots_of slots) stands.held k m.behind bytes.items (record { before = earned; images = stands.behind; holds = stands.holds; still = earned_self earned; is = kept_bytes }));
     }
 
-pub stands_past : (set : SetContents) (o : Opening) (m : Moment) (runtime : RuntimeSeen) (slots : List (Option (List ℕ))) (k : ℕ) → length slots ≤ k
-    → StandsAt set o m runtime slots → StandsAt set o (moved (Saved k) m) runtime slots
-stands_past set o m runtime slots k past stands = record {
+pub stands_past : (set : SetContents) (o : Opening) (m : Moment) (earned : Earned) (runtime : RuntimeSeen) (slots : List (Option (List ℕ))) (k : ℕ) → length slots ≤ k
+    → StandsAt set o m earned runtime slots → StandsAt set o (moved (Saved k) m) earned runtime slots
+stands_past set o m earned runtime slots k past stands = record {
   same = stands.same;
   playable = stands.playable;
   shape = stands.shape;
@@ -100,35 +116,46 @@ stands_past set o m runtime slots k past stands = record {
   bytes = stands.bytes;
   behind = stands.behind;
   kept = stands.kept;
-  held = hold_past set o m.slots slots stands.held k (Some m.behind) past;
+  holds = stands.holds;
+  held = hold_past set o earned m.slots slots stands.held k (Some m.behind) past;
 }
 
--- a frame takes the player to the moment after it
-own_frame : (old new : RuntimeSeen) (o : Opening) (m : Moment) (slots : List (Option (List ℕ))) → TakesFrame old new → StandsAt old.set o m old slots
-    → StandsAt old.set o (moved Framed m) new slots × (new.lines ≡ lines old.set o (m.image ∷ m.behind))
-own_frame old new o m slots takes stands = (
-  record {
-    same = takes.set;
-    playable = stands.playable;
-    shape = stands.shape;
-    opening = stands.opening;
-    image = takes.image ∙ stands.image;
-    bytes = stands.bytes;
-    behind = (stands.bytes, stands.behind);
-    kept = takes.kept o m.behind stands.opening stands.behind stands.kept ∙ ap (λ i. snapshot old.set o (i ∷ m.behind)) stands.image;
-    held = stands.held;
-  },
-  takes.lines o m.behind stands.opening stands.behind stands.kept ∙ ap (λ i. lines old.set o (i ∷ m.behind)) stands.image,
-)
+-- the runtime of a moment stands after the frames behind it, and has earned what is earned there
+stands_after : (o : Opening) (m : Moment) (earned : Earned) (runtime : RuntimeSeen) (slots : List (Option (List ℕ))) → StandsAt runtime.set o m earned runtime slots → StandsAfter runtime o m.behind × (earned_in runtime.kept ≡ earned)
+stands_after o m earned runtime slots stands =
+    let now = kept_earned runtime.set o m.behind earned runtime.kept stands.holds stands.kept in
+    (stands.kept ∙ ap (with_earned (snapshot runtime.set o m.behind)) (sym now), now)
 
-pub plays_frame : (set : SetContents) (o : Opening) (m : Moment) (old new : RuntimeSeen) (slots : List (Option (List ℕ))) (text : List ℕ) → TakesFrame old new → text ≡ new.lines → StandsAt set o m old slots → Plays set o Framed m new slots text
-plays_frame set o m old new slots text takes is stands =
-    let framed = subst (λ (s : SetContents). StandsAt s o m old slots → StandsAt s o (moved Framed m) new slots × (new.lines ≡ lines s o (m.image ∷ m.behind))) stands.same (own_frame old new o m slots takes) stands in
+-- a frame takes the player to the moment after it
+own_frame : (old new : RuntimeSeen) (o : Opening) (m : Moment) (earned : Earned) (slots : List (Option (List ℕ))) → TakesFrame old new → StandsAt old.set o m earned old slots
+    → StandsAt old.set o (moved Framed m) (earns old.set o (m.image ∷ m.behind) earned) new slots × (new.lines ≡ lines old.set o (m.image ∷ m.behind) earned)
+own_frame old new o m earned slots takes stands =
+    let after = stands_after o m earned old slots stands in
+    let more : earned_in new.kept ≡ earns old.set o (m.image ∷ m.behind) earned =
+    takes.earned o m.behind stands.opening stands.behind after.0 ∙ (λ i. earns old.set o (stands.image i ∷ m.behind) (after.1 i)) in (
+      record {
+        same = takes.set;
+        playable = stands.playable;
+        shape = stands.shape;
+        opening = stands.opening;
+        image = takes.image ∙ stands.image;
+        bytes = stands.bytes;
+        behind = (stands.bytes, stands.behind);
+        kept = takes.kept o m.behind stands.opening stands.behind after.0 ∙ (λ i. with_earned (snapshot (takes.set i) o (stands.image i ∷ m.behind)) (more i));
+        holds = earns_hold old.set o m.image m.behind earned stands.holds;
+        held = hold_more old.set o earned (map (unlocks (start_of old.set o) m.image m.behind) (zip old.set.items o.items)) m.slots slots stands.held;
+      },
+      takes.lines o m.behind stands.opening stands.behind after.0 ∙ (λ i. lines old.set o (stands.image i ∷ m.behind) (after.1 i)),
+    )
+
+pub plays_frame : (set : SetContents) (o : Opening) (m : Moment) (earned : Earned) (old new : RuntimeSeen) (slots : List (Option (List ℕ))) (text : List ℕ) → TakesFrame old new → text ≡ new.lines → StandsAt set o m earned old slots → Plays set o Framed m earned new slots text
+plays_frame set o m earned old new slots text takes is stands =
+    let framed = subst (λ (s : SetContents). StandsAt s o m earned old slots → StandsAt s o (moved Framed m) (earns s o (m.image ∷ m.behind) earned) new slots × (new.lines ≡ lines s o (m.image ∷ m.behind) earned)) stands.same (own_frame old new o m earned slots takes) stands in
     record { filled = λ no. no; stands = framed.0; prints = is ∙ framed.1 }
 
 -- a write changes the image alone
-pub plays_write : (set : SetContents) (o : Opening) (m : Moment) (old new : RuntimeSeen) (slots : List (Option (List ℕ))) (at : ℕ) (bytes : List ℕ) → AreBytes bytes → IsWritten old new at bytes → StandsAt set o m old slots → Plays set o (Written at bytes) m new slots []
-plays_write set o m old new slots at bytes are is stands = record {
+pub plays_write : (set : SetContents) (o : Opening) (m : Moment) (earned : Earned) (old new : RuntimeSeen) (slots : List (Option (List ℕ))) (at : ℕ) (bytes : List ℕ) → AreBytes bytes → IsWritten old new at bytes → StandsAt set o m earned old slots → Plays set o (Written at bytes) m earned new slots []
+plays_write set o m earned old new slots at bytes are is stands = record {
   filled = λ no. no;
   stands = record {
     same = ap (λ (r : RuntimeSeen). r.set) is.rest ∙ stands.same;
@@ -139,86 +166,99 @@ plays_write set o m old new slots at bytes are is stands = record {
     bytes = written_bytes m.image at bytes stands.bytes are;
     behind = stands.behind;
     kept = ap (λ (r : RuntimeSeen). r.kept) is.rest ∙ stands.kept;
+    holds = stands.holds;
     held = stands.held;
   };
   prints = refl;
 }
 
 -- a show tells what the set shows over the frames that lie behind
-own_show : (runtime : RuntimeSeen) (o : Opening) (m : Moment) (slots : List (Option (List ℕ))) (text : List ℕ) → ShowsKept runtime text → StandsAt runtime.set o m runtime slots → text ≡ shown runtime.set o m.behind
-own_show runtime o m slots text shows stands = shows o m.behind stands.opening stands.behind stands.kept
+own_show : (runtime : RuntimeSeen) (o : Opening) (m : Moment) (earned : Earned) (slots : List (Option (List ℕ))) (text : List ℕ) → ShowsKept runtime text → StandsAt runtime.set o m earned runtime slots → text ≡ shown runtime.set o m.behind
+own_show runtime o m earned slots text shows stands = shows o m.behind stands.opening stands.behind (stands_after o m earned runtime slots stands).0
 
-pub plays_show : (set : SetContents) (o : Opening) (m : Moment) (runtime : RuntimeSeen) (slots : List (Option (List ℕ))) (text : List ℕ) → ShowsKept runtime text → StandsAt set o m runtime slots → Plays set o Shown m runtime slots text
-plays_show set o m runtime slots text shows stands = record {
+pub plays_show : (set : SetContents) (o : Opening) (m : Moment) (earned : Earned) (runtime : RuntimeSeen) (slots : List (Option (List ℕ))) (text : List ℕ) → ShowsKept runtime text → StandsAt set o m earned runtime slots → Plays set o Shown m earned runtime slots text
+plays_show set o m earned runtime slots text shows stands = record {
   filled = λ no. no;
   stands = stands;
-  prints = subst (λ (s : SetContents). StandsAt s o m runtime slots → text ≡ shown s o m.behind) stands.same (own_show runtime o m slots text shows) stands;
+  prints = subst (λ (s : SetContents). StandsAt s o m earned runtime slots → text ≡ shown s o m.behind) stands.same (own_show runtime o m earned slots text shows) stands;
 }
 
-pub plays_end : (set : SetContents) (o : Opening) (m : Moment) (runtime : RuntimeSeen) (slots : List (Option (List ℕ))) → StandsAt set o m runtime slots → Plays set o Ended m runtime slots []
-plays_end set o m runtime slots stands = record { filled = λ no. no; stands = stands; prints = refl }
+pub plays_end : (set : SetContents) (o : Opening) (m : Moment) (earned : Earned) (runtime : RuntimeSeen) (slots : List (Option (List ℕ))) → StandsAt set o m earned runtime slots → Plays set o Ended m earned runtime slots []
+plays_end set o m earned runtime slots stands = record { filled = λ no. no; stands = stands; prints = refl }
 
 -- The bytes of what an opening and a history leave are accepted, and say it again.
 pub record SavedComesBack (set : SetContents) (kept : Opening) : Type 0 where
   pub accepted : refusal (shape_of set) (progress_bytes (shape_of set) kept) ≡ None
   pub says_it : says (shape_of set) (progress_bytes (shape_of set) kept) ≡ kept
 
+-- what some frames leave, with exactly these achievements earned, comes back
+abbrev pub SavesComeBack : SetContents → Opening → Type 0
+SavesComeBack set o =
+    (behind : History) (earned : Earned) → AreImages behind → HoldTriggered earned (snapshot set o behind).items → SavedComesBack set (with_earned (snapshot set o behind) earned)
+
 -- a slot that keeps bytes has kept some frames, and their bytes
-pub record Keeps (set : SetContents) (o : Opening) (m : Moment) (k : ℕ) (bytes : List ℕ) : Type 0 where
+pub record Keeps (set : SetContents) (o : Opening) (m : Moment) (earned : Earned) (k : ℕ) (bytes : List ℕ) : Type 0 where
   pub kept : History
   pub is : slice_index_or m.slots k None ≡ Some kept
-  pub images : AreImages kept
-  pub saved : bytes ≡ progress_bytes (shape_of set) (snapshot set o kept)
+  pub save : IsSaveOf set o kept earned bytes
 
-keeps_by : (set : SetContents) (o : Opening) (m : Moment) (k : ℕ) (bytes : List ℕ) (kept : Option History) → slice_index_or m.slots k None ≡ kept → HoldsKept set o kept (Some bytes) → Keeps set o m k bytes
-keeps_by set o m k bytes None is holds = absurd holds
-keeps_by set o m k bytes (Some kept) is holds = record { kept = kept; is = is; images = holds.0; saved = holds.1 }
+keeps_by : (set : SetContents) (o : Opening) (m : Moment) (earned : Earned) (k : ℕ) (bytes : List ℕ) (kept : Option History) → slice_index_or m.slots k None ≡ kept → HoldsKept set o earned kept (Some bytes) → Keeps set o m earned k bytes
+keeps_by set o m earned k bytes None is holds = absurd holds
+keeps_by set o m earned k bytes (Some kept) is holds = record { kept = kept; is = is; save = holds }
 
-pub keeps : (set : SetContents) (o : Opening) (m : Moment) (runtime : RuntimeSeen) (slots : List (Option (List ℕ))) (k : ℕ) (bytes : List ℕ) → slice_index_or slots k None ≡ Some bytes → StandsAt set o m runtime slots → Keeps set o m k bytes
-keeps set o m runtime slots k bytes some stands = keeps_by set o m k bytes _ refl (subst (HoldsKept set o (slice_index_or m.slots k None)) some (hold_at set o m.slots slots stands.held k))
+pub keeps : (set : SetContents) (o : Opening) (m : Moment) (earned : Earned) (runtime : RuntimeSeen) (slots : List (Option (List ℕ))) (k : ℕ) (bytes : List ℕ) → slice_index_or slots k None ≡ Some bytes → StandsAt set o m earned runtime slots → Keeps set o m earned k bytes
+keeps set o m earned runtime slots k bytes some stands = keeps_by set o m earned k bytes _ refl (subst (HoldsKept set o earned (slice_index_or m.slots k None)) some (hold_at set o earned m.slots slots stands.held k))
 
 -- a slot that keeps nothing is empty
-empty_by : (set : SetContents) (o : Opening) (kept : Option History) → HoldsKept set o kept None → kept ≡ None
-empty_by set o None holds = refl
-empty_by set o (Some kept) holds = absurd holds
+empty_by : (set : SetContents) (o : Opening) (earned : Earned) (kept : Option History) → HoldsKept set o earned kept None → kept ≡ None
+empty_by set o earned None holds = refl
+empty_by set o earned (Some kept) holds = absurd holds
 
-pub slot_empty : (set : SetContents) (o : Opening) (m : Moment) (runtime : RuntimeSeen) (slots : List (Option (List ℕ))) (k : ℕ) → slice_index_or slots k None ≡ None → StandsAt set o m runtime slots → TakesEmpty (Restored k) m
-slot_empty set o m runtime slots k none stands = empty_by set o _ (subst (HoldsKept set o (slice_index_or m.slots k None)) none (hold_at set o m.slots slots stands.held k))
+pub slot_empty : (set : SetContents) (o : Opening) (m : Moment) (earned : Earned) (runtime : RuntimeSeen) (slots : List (Option (List ℕ))) (k : ℕ) → slice_index_or slots k None ≡ None → StandsAt set o m earned runtime slots → TakesEmpty (Restored k) m
+slot_empty set o m earned runtime slots k none stands = empty_by set o earned _ (subst (HoldsKept set o earned (slice_index_or m.slots k None)) none (hold_at set o earned m.slots slots stands.held k))
 
--- a restore takes the frames of its slot up
-own_restore : (old new : RuntimeSeen) (o : Opening) (m : Moment) (slots : List (Option (List ℕ))) (k : ℕ) (bytes : List ℕ) → (keep : Keeps old.set o m k bytes) → SavedComesBack old.set (snapshot old.set o keep.kept) → TakesUp old new bytes → StandsAt old.set o m old slots
-    → StandsAt old.set o (moved (Restored k) m) new slots
-own_restore old new o m slots k bytes keep back takes stands = record {
-  same = takes.set;
-  playable = stands.playable;
-  shape = stands.shape;
-  opening = stands.opening;
-  image = takes.image ∙ stands.image;
-  bytes = stands.bytes;
-  behind = subst AreImages (ap (λ kept. kept_in kept m.behind) (sym keep.is)) keep.images;
-  kept = takes.kept ∙ ap (says (shape_of old.set)) keep.saved ∙ back.says_it ∙ ap (λ kept. snapshot old.set o (kept_in kept m.behind)) (sym keep.is);
-  held = stands.held;
-}
+-- a restore takes the frames of its slot up, and what is earned stays so
+own_restore : (old new : RuntimeSeen) (o : Opening) (m : Moment) (earned : Earned) (slots : List (Option (List ℕ))) (k : ℕ) (bytes : List ℕ) → (keep : Keeps old.set o m earned k bytes) → SavedComesBack old.set (with_earned (snapshot old.set o keep.kept) keep.save.before) → TakesUp old new bytes → StandsAt old.set o m earned old slots
+    → StandsAt old.set o (moved (Restored k) m) earned new slots
+own_restore old new o m earned slots k bytes keep back takes stands =
+    let save = keep.save in
+    let now = (stands_after o m earned old slots stands).1 in
+    let said : says (shape_of old.set) bytes ≡ with_earned (snapshot old.set o keep.kept) save.before = ap (says (shape_of old.set)) save.is ∙ back.says_it in
+    let still : both_earned (earned_in old.kept) save.before ≡ earned = ap (λ es. both_earned es save.before) now ∙ save.still in
+    let behind : keep.kept ≡ kept_in (slice_index_or m.slots k None) m.behind = ap (λ kept. kept_in kept m.behind) (sym keep.is) in
+    record {
+      same = takes.set;
+      playable = stands.playable;
+      shape = stands.shape;
+      opening = stands.opening;
+      image = takes.image ∙ stands.image;
+      bytes = stands.bytes;
+      behind = subst AreImages behind save.images;
+      kept = takes.kept ∙ restored_with old.set o keep.kept save.before earned (earned_in old.kept) (says (shape_of old.set) bytes) save.holds still said ∙ ap (λ kept. with_earned (snapshot old.set o kept) earned) behind;
+      holds = subst (λ kept. HoldTriggered earned (snapshot old.set o kept).items) behind (save_holds old.set o m.behind keep.kept save.before earned stands.holds save.holds save.still);
+      held = stands.held;
+    }
 
-pub stands_restored : (set : SetContents) (o : Opening) (m : Moment) (old new : RuntimeSeen) (slots : List (Option (List ℕ))) (k : ℕ) (bytes : List ℕ) → slice_index_or slots k None ≡ Some bytes
-    → ((behind : History) → AreImages behind → SavedComesBack set (snapshot set o behind)) → TakesUp old new bytes → StandsAt set o m old slots → StandsAt set o (moved (Restored k) m) new slots × (TakesEmpty (Restored k) m → ⊥)
-stands_restored set o m old new slots k bytes some comes_back takes stands =
-    let keep = keeps set o m old slots k bytes some stands in
-    let own = subst (λ (s : SetContents). (keep : Keeps s o m k bytes) → SavedComesBack s (snapshot s o keep.kept) → TakesUp old new bytes → StandsAt s o m old slots → StandsAt s o (moved (Restored k) m) new slots) stands.same (own_restore old new o m slots k bytes) in
+pub stands_restored : (set : SetContents) (o : Opening) (m : Moment) (earned : Earned) (old new : RuntimeSeen) (slots : List (Option (List ℕ))) (k : ℕ) (bytes : List ℕ) → slice_index_or slots k None ≡ Some bytes
+    → SavesComeBack set o → TakesUp old new bytes → StandsAt set o m earned old slots → StandsAt set o (moved (Restored k) m) earned new slots × (TakesEmpty (Restored k) m → ⊥)
+stands_restored set o m earned old new slots k bytes some comes_back takes stands =
+    let keep = keeps set o m earned old slots k bytes some stands in
+    let own = subst (λ (s : SetContents). (keep : Keeps s o m earned k bytes) → SavedComesBack s (with_earned (snapshot s o keep.kept) keep.save.before) → TakesUp old new bytes → StandsAt s o m earned old slots → StandsAt s o (moved (Restored k) m) earned new slots) stands.same (own_restore old new o m earned slots k bytes) in
     let other : TakesEmpty (Restored k) m → ⊥ = λ no. let bad : None ≡ Some keep.kept = sym no ∙ keep.is in absurd (cc) in
-    (own keep (comes_back keep.kept keep.images) takes stands, other)
+    (own keep (comes_back keep.kept keep.save.before keep.save.images keep.save.holds) takes stands, other)
 
 -- the runtime never refuses the bytes of a slot
-pub never_refused : (set : SetContents) (o : Opening) (m : Moment) (runtime : RuntimeSeen) (slots : List (Option (List ℕ))) (k : ℕ) (bytes : List ℕ) → slice_index_or slots k None ≡ Some bytes
-    → ((behind : History) → AreImages behind → SavedComesBack set (snapshot set o behind)) → (refusal (shape_of runtime.set) bytes ≡ None → ⊥) → StandsAt set o m runtime slots → ⊥
-never_refused set o m runtime slots k bytes some comes_back refused stands =
-    let keep = keeps set o m runtime slots k bytes some stands in
-    refused (ap (λ (s : SetContents). refusal (shape_of s) bytes) stands.same ∙ ap (refusal (shape_of set)) keep.saved ∙ (comes_back keep.kept keep.images).accepted)
+pub never_refused : (set : SetContents) (o : Opening) (m : Moment) (earned : Earned) (runtime : RuntimeSeen) (slots : List (Option (List ℕ))) (k : ℕ) (bytes : List ℕ) → slice_index_or slots k None ≡ Some bytes
+    → SavesComeBack set o → (refusal (shape_of runtime.set) bytes ≡ None → ⊥) → StandsAt set o m earned runtime slots → ⊥
+never_refused set o m earned runtime slots k bytes some comes_back refused stands =
+    let keep = keeps set o m earned runtime slots k bytes some stands in
+    refused (ap (λ (s : SetContents). refusal (shape_of s) bytes) stands.same ∙ ap (refusal (shape_of set)) keep.save.is ∙ (comes_back keep.kept keep.save.before keep.save.images keep.save.holds).accepted)
 
--- what an opening and a history leave comes back from its bytes
-pub comes_back_of : (set : SetContents) (o : Opening) (behind : History) → IsPlayable set → IsShape (shape_of set) → IsOpening (shape_of set) o → AreImages behind → SavedComesBack set (snapshot set o behind)
-comes_back_of set o behind playable shape opening images =
-    let back = saved_fits set o behind playable.spelled shape opening images in
+-- what an opening and a history leave comes back from its bytes, whatever is earned beside what is triggered
+pub comes_back_of : (set : SetContents) (o : Opening) (behind : History) (earned : Earned) → IsPlayable set → IsShape (shape_of set) → IsOpening (shape_of set) o → AreImages behind → HoldTriggered earned (snapshot set o behind).items → SavedComesBack set (with_earned (snapshot set o behind) earned)
+comes_back_of set o behind earned playable shape opening images holds =
+    let kept = snapshot set o behind in
+    let back = opening_comes_back set (with_earned kept earned) shape (opening_with set kept earned (snapshot_fits set o behind playable.spelled opening images) holds) in
     record { accepted = back.0; says_it = back.1 }
 
 -- accepted bytes are those that the runtime of a set takes up
@@ -227,9 +267,10 @@ accepted_for set None runtime same accepted = tt
 accepted_for set (Some bytes) runtime same accepted = ap (λ (s : SetContents). refusal (shape_of s) bytes.items) same ∙ accepted.2
 
 -- before the first record of a run that begins anew
-stands_anew : (set : SetContents) (size : ℕ) (runtime : RuntimeSeen) (slots : List (Option (List ℕ))) → IsPlayable set → IsShape (shape_of set) → IsMade set size runtime → slots ≡ replicate 16 None → StandsAt set (plain_opening set) (first_moment size []) runtime slots
+stands_anew : (set : SetContents) (size : ℕ) (runtime : RuntimeSeen) (slots : List (Option (List ℕ))) → IsPlayable set → IsShape (shape_of set) → IsMade set size runtime → slots ≡ replicate 16 None → StandsAt set (plain_opening set) (first_moment size []) (none_earned set) runtime slots
 stands_anew set size runtime slots playable shape made none =
     let opening = plain_is_opening set playable.spelled in
+    let plain = plain_opening set in
     record {
       same = made.set_too;
       playable = playable;
@@ -238,15 +279,18 @@ stands_anew set size runtime slots playable shape made none =
       image = made.image;
       bytes = zero_bytes size;
       behind = tt;
-      kept = made.kept ∙ sym (snapshot_none set (plain_opening set) opening);
-      held = subst (HoldEachKept set (plain_opening set) (replicate 16 None)) (sym none) (hold_none set (plain_opening set) 16);
+      kept = made.kept ∙ opened_with set plain opening ∙ ap (with_earned (snapshot set plain [])) (plain_earned set);
+      holds = subst (λ es. HoldTriggered es (snapshot set plain []).items) (plain_earned set) (opened_holds set plain opening);
+      held = subst (HoldEachKept set plain (none_earned set) (replicate 16 None)) (sym none) (hold_none set plain (none_earned set) 16);
     }
 
 -- before the first record of a run that goes on from bytes that say what is kept after an opening and a history
-stands_behind : (set : SetContents) (size : ℕ) (o : Opening) (behind : History) (bytes : List ℕ) (made runtime : RuntimeSeen) (slots : List (Option (List ℕ))) → IsPlayable set → IsShape (shape_of set) → IsMade set size made → TakesUp made runtime bytes
-    → BeginsAt set (Some bytes) o behind → slots ≡ replicate 16 None → StandsAt set o (first_moment size behind) runtime slots
-stands_behind set size o behind bytes made runtime slots playable shape is takes begins none =
-    let said : runtime.kept ≡ says (shape_of set) bytes = takes.kept ∙ ap (λ (s : SetContents). says (shape_of s) bytes) is.set_too in
+stands_behind : (set : SetContents) (size : ℕ) (o : Opening) (behind : History) (earned : Earned) (bytes : List ℕ) (made runtime : RuntimeSeen) (slots : List (Option (List ℕ))) → IsPlayable set → IsShape (shape_of set) → IsMade set size made → TakesUp made runtime bytes
+    → BeginsAt set (Some bytes) o behind earned → slots ≡ replicate 16 None → StandsAt set o (first_moment size behind) earned runtime slots
+stands_behind set size o behind earned bytes made runtime slots playable shape is takes begins none =
+    let nothing : earned_in made.kept ≡ none_earned set = ap earned_in is.kept ∙ plain_earned set in
+    let still : both_earned (earned_in made.kept) earned ≡ earned = ap (λ es. both_earned es earned) nothing ∙ none_and_file set o behind earned begins.0 begins.2 in
+    let said : says (shape_of made.set) bytes ≡ with_earned (snapshot set o behind) earned = ap (λ (s : SetContents). says (shape_of s) bytes) is.set_too ∙ begins.3 in
     record {
       same = takes.set ∙ is.set_too;
       playable = playable;
@@ -255,38 +299,40 @@ stands_behind set size o behind bytes made runtime slots playable shape is takes
       image = takes.image ∙ is.image;
       bytes = zero_bytes size;
       behind = begins.1;
-      kept = said ∙ begins.2;
-      held = subst (HoldEachKept set o (replicate 16 None)) (sym none) (hold_none set o 16);
+      kept = takes.kept ∙ restored_with set o behind earned earned (earned_in made.kept) (says (shape_of made.set) bytes) begins.2 still said;
+      holds = begins.2;
+      held = subst (HoldEachKept set o earned (replicate 16 None)) (sym none) (hold_none set o earned 16);
     }
 
 -- before the first record, wherever a run begins
-pub stands_first : (set : SetContents) (size : ℕ) (progress : Option (List ℕ)) (o : Opening) (behind : History) (made runtime : RuntimeSeen) (slots : List (Option (List ℕ))) → IsPlayable set → IsShape (shape_of set) → IsMade set size made → TakesUpFrom progress made runtime
-    → BeginsAt set progress o behind → slots ≡ replicate 16 None → StandsAt set o (first_moment size behind) runtime slots
-stands_first set size None o behind made runtime slots playable shape is takes begins none =
-    subst (λ (k : Opening). StandsAt set k (first_moment size behind) runtime slots) (sym begins.0)
-    (subst (λ (h : History). StandsAt set (plain_opening set) (first_moment size h) runtime slots) (sym begins.1)
-    (subst (λ (r : RuntimeSeen). StandsAt set (plain_opening set) (first_moment size []) r slots) (sym takes) (stands_anew set size made slots playable shape is none)))
-stands_first set size (Some bytes) o behind made runtime slots playable shape is takes begins none =
-    stands_behind set size o behind bytes made runtime slots playable shape is takes begins none
+pub stands_first : (set : SetContents) (size : ℕ) (progress : Option (List ℕ)) (o : Opening) (behind : History) (earned : Earned) (made runtime : RuntimeSeen) (slots : List (Option (List ℕ))) → IsPlayable set → IsShape (shape_of set) → IsMade set size made → TakesUpFrom progress made runtime
+    → BeginsAt set progress o behind earned → slots ≡ replicate 16 None → StandsAt set o (first_moment size behind) earned runtime slots
+stands_first set size None o behind earned made runtime slots playable shape is takes begins none =
+    subst (λ (k : Opening). StandsAt set k (first_moment size behind) earned runtime slots) (sym begins.0)
+    (subst (λ (h : History). StandsAt set (plain_opening set) (first_moment size h) earned runtime slots) (sym begins.1)
+    (subst (λ (e : Earned). StandsAt set (plain_opening set) (first_moment size []) e runtime slots) (sym begins.2)
+    (subst (λ (r : RuntimeSeen). StandsAt set (plain_opening set) (first_moment size []) (none_earned set) r slots) (sym takes) (stands_anew set size made slots playable shape is none))))
+stands_first set size (Some bytes) o behind earned made runtime slots playable shape is takes begins none =
+    stands_behind set size o behind earned bytes made runtime slots playable shape is takes begins none
 
 -- a record that is read, played by a player that is seen so
-pub plays_by : (set : SetContents) (o : Opening) (m : Moment) (record_read : Record) (e : Record) (old new : Player) (text : List ℕ) → record_read ≡ e → new ≡ old → text ≡ []
-    → Plays set o (entry_of e) m old.runtime (slots_of old.slots.items) [] → Plays set o (entry_of record_read) m new.runtime (slots_of new.slots.items) text
-plays_by set o m record_read e old new text is same none plays =
-    subst (λ (t : List ℕ). Plays set o (entry_of record_read) m new.runtime (slots_of new.slots.items) t) (sym none)
-    (subst (λ (p : Player). Plays set o (entry_of record_read) m p.runtime (slots_of p.slots.items) []) (sym same)
-    (subst (λ (r : Record). Plays set o (entry_of r) m old.runtime (slots_of old.slots.items) []) (sym is) plays))
+pub plays_by : (set : SetContents) (o : Opening) (m : Moment) (earned : Earned) (record_read : Record) (e : Record) (old new : Player) (text : List ℕ) → record_read ≡ e → new ≡ old → text ≡ []
+    → Plays set o (entry_of e) m earned old.runtime (slots_of old.slots.items) [] → Plays set o (entry_of record_read) m earned new.runtime (slots_of new.slots.items) text
+plays_by set o m earned record_read e old new text is same none plays =
+    subst (λ (t : List ℕ). Plays set o (entry_of record_read) m earned new.runtime (slots_of new.slots.items) t) (sym none)
+    (subst (λ (p : Player). Plays set o (entry_of record_read) m earned p.runtime (slots_of p.slots.items) []) (sym same)
+    (subst (λ (r : Record). Plays set o (entry_of r) m earned old.runtime (slots_of old.slots.items) []) (sym is) plays))
 
 -- a save prints nothing, and neither does a restore
-pub plays_saved : (set : SetContents) (o : Opening) (m : Moment) (k : ℕ) (runtime : RuntimeSeen) (slots : List (Option (List ℕ))) → StandsAt set o (moved (Saved k) m) runtime slots → Plays set o (Saved k) m runtime slots []
-plays_saved set o m k runtime slots stands = record { filled = λ empty. empty; stands = stands; prints = refl }
+pub plays_saved : (set : SetContents) (o : Opening) (m : Moment) (earned : Earned) (k : ℕ) (runtime : RuntimeSeen) (slots : List (Option (List ℕ))) → StandsAt set o (moved (Saved k) m) earned runtime slots → Plays set o (Saved k) m earned runtime slots []
+plays_saved set o m earned k runtime slots stands = record { filled = λ empty. empty; stands = stands; prints = refl }
 
-pub plays_restored : (set : SetContents) (o : Opening) (m : Moment) (k : ℕ) (runtime : RuntimeSeen) (slots : List (Option (List ℕ))) → StandsAt set o (moved (Restored k) m) runtime slots × (TakesEmpty (Restored k) m → ⊥) → Plays set o (Restored k) m runtime slots []
-plays_restored set o m k runtime slots stands = record { filled = stands.1; stands = stands.0; prints = refl }
+pub plays_restored : (set : SetContents) (o : Opening) (m : Moment) (earned : Earned) (k : ℕ) (runtime : RuntimeSeen) (slots : List (Option (List ℕ))) → StandsAt set o (moved (Restored k) m) earned runtime slots × (TakesEmpty (Restored k) m → ⊥) → Plays set o (Restored k) m earned runtime slots []
+plays_restored set o m earned k runtime slots stands = record { filled = stands.1; stands = stands.0; prints = refl }
 
 -- what each slot has kept comes back
-pub kept_comes_back : (set : SetContents) (o : Opening) (m : Moment) (runtime : RuntimeSeen) (slots : List (Option (List ℕ))) → StandsAt set o m runtime slots → (behind : History) → AreImages behind → SavedComesBack set (snapshot set o behind)
-kept_comes_back set o m runtime slots stands behind images = comes_back_of set o behind stands.playable stands.shape stands.opening images
+pub kept_comes_back : (set : SetContents) (o : Opening) (m : Moment) (earned : Earned) (runtime : RuntimeSeen) (slots : List (Option (List ℕ))) → StandsAt set o m earned runtime slots → SavesComeBack set o
+kept_comes_back set o m earned runtime slots stands behind before images holds = comes_back_of set o behind before stands.playable stands.shape stands.opening images holds
 
 -- nothing and something are not the same
 pub never_some : {T : Type 0} (o : Option T) (x : T) → o ≡ Some x → o ≡ None → ⊥

@@ -15,8 +15,9 @@ use Rattle.ra_trace.specs.Entries.{Entry}
 use Rattle.ra_trace.specs.Cutting.{Trace, no_slots, trace_within}
 use Rattle.ra_trace.specs.Workload.{made_set, made_trace}
 use Rattle.ra_runtime.specs.Order.{set_cells, set_tracked, shape_of}
+use Rattle.ra_runtime.specs.Earned.{Earned, HoldTriggered, earned_in, none_earned, with_earned}
 use Rattle.ra_runtime.specs.Openings.{snapshot, plain_opening}
-use Rattle.ra_runtime.specs.Play.{Moment, moved, printed, first_moment, behind_end}
+use Rattle.ra_runtime.specs.Play.{Moment, moved, printed, earned_next, first_moment, saved_end}
 use Rattle.ra_progress.specs.declared.refused.ProgressRefused.{ProgressRefused}
 use Rattle.ra_set.specs.Accepted.{IsSet}
 use Rattle.ra_set.specs.Refusals.{Refuses}
@@ -77,42 +78,43 @@ set_limit = most_bytes
 abbrev pub progress_limit : ℕ
 progress_limit = 8388609
 
--- what each of these records prints, played one after the other from a moment on
-abbrev pub pieces_from : SetContents → Opening → Moment → List Entry → List (List ℕ)
-pieces_from set o m [] = []
-pieces_from set o m (entry ∷ entries) =
-    printed set o entry (moved entry m) ∷ pieces_from set o (moved entry m) entries
+-- what each of these records prints, played one after the other from a moment on, at which this is earned
+abbrev pub pieces_from : SetContents → Opening → Moment → Earned → List Entry → List (List ℕ)
+pieces_from set o m earned [] = []
+pieces_from set o m earned (entry ∷ entries) =
+    printed set o entry (moved entry m) earned
+    ∷ pieces_from set o (moved entry m) (earned_next set o entry (moved entry m) earned) entries
 
 -- the trace that a run sees in a file
 abbrev pub trace_in : List ℕ → Trace
 trace_in bytes = trace_within trace_limit no_slots bytes
 
--- a run of a set over a trace file, where an opening and some frames lie before the first record
-abbrev pub played : SetContents → Opening → History → List ℕ → Expected
-played set o behind bytes =
+-- a run of a set over a trace file, where an opening and some frames lie before the first record and this is earned
+abbrev pub played : SetContents → Opening → History → Earned → List ℕ → Expected
+played set o behind earned bytes =
     let trace = trace_within trace_limit no_slots bytes in
     record {
-      pieces = pieces_from set o (first_moment trace.size behind) trace.entries;
+      pieces = pieces_from set o (first_moment trace.size behind) earned trace.entries;
       ending = ending_of trace.stop;
-      saved = progress_bytes (shape_of set) (snapshot set o (behind_end behind trace.size trace.entries));
+      saved = progress_bytes (shape_of set) (saved_end set o behind earned trace.size trace.entries);
       puts_first = false;
     }
 
--- What a run of these files says, where their bytes are told: it begins with the plain opening, or goes on from a
--- progress file: for every opening and history whose bytes the file is, and from what an accepted file of any version
--- and of any set says.
+-- What a run of these files says, where their bytes are told: it begins with the plain opening and nothing earned, or
+-- goes on from a progress file: for every opening, history and earned achievements whose bytes the file is, and from
+-- what an accepted file of any version and of any set says.
 pub data RunSays (content : List ℕ → Option (List ℕ)) (set trace : List ℕ) : Option (List ℕ) → Expected → Type 0 where
   refuses_set : {restore : Option (List ℕ)} (file : List ℕ) (why : SetRefused) → content set ≡ Some file
       → Refuses (take (set_limit + 1) file) why → RunSays content set trace restore (prints_nothing (BadSet why))
   refuses_file : (name set_file file : List ℕ) (s : SetContents) (why : ProgressRefused) → content set ≡ Some set_file → content name ≡ Some file
       → IsSet set_file s → refusal (shape_of s) (take progress_limit file) ≡ Some why → RunSays content set trace (Some name) (prints_nothing (BadProgress why))
   begins : (set_file trace_file : List ℕ) (s : SetContents) → content set ≡ Some set_file → content trace ≡ Some trace_file
-      → IsSet set_file s → RunSays content set trace None (played s (plain_opening s) [] trace_file)
-  goes_on : (name set_file trace_file : List ℕ) (s : SetContents) (o : Opening) (behind : History) → content set ≡ Some set_file → content trace ≡ Some trace_file
-      → content name ≡ Some (progress_bytes (shape_of s) (snapshot s o behind)) → IsSet set_file s → IsOpening (shape_of s) o → AreImages behind
-      → RunSays content set trace (Some name) (played s o behind trace_file)
+      → IsSet set_file s → RunSays content set trace None (played s (plain_opening s) [] (none_earned s) trace_file)
+  goes_on : (name set_file trace_file : List ℕ) (s : SetContents) (o : Opening) (behind : History) (earned : Earned) → content set ≡ Some set_file → content trace ≡ Some trace_file
+      → content name ≡ Some (progress_bytes (shape_of s) (with_earned (snapshot s o behind) earned)) → IsSet set_file s → IsOpening (shape_of s) o → AreImages behind
+      → HoldTriggered earned (snapshot s o behind).items → RunSays content set trace (Some name) (played s o behind earned trace_file)
   takes_up : (name set_file file trace_file : List ℕ) (s : SetContents) → content set ≡ Some set_file → content trace ≡ Some trace_file → content name ≡ Some file
-      → IsSet set_file s → refusal (shape_of s) file ≡ None → RunSays content set trace (Some name) (played s (says (shape_of s) file) [] trace_file)
+      → IsSet set_file s → refusal (shape_of s) file ≡ None → RunSays content set trace (Some name) (played s (says (shape_of s) file) [] (earned_in (says (shape_of s) file)) trace_file)
 
 -- how many achievements a set has
 abbrev pub achievements_in : List ItemContents → ℕ
@@ -151,7 +153,7 @@ make_line number text =
 
 -- What `make` of a number says.
 pub data MakeSays (number : ℕ) : Expected → Type 0 where
-  made : (s : SetContents) → IsSet (made_set number) s → MakeSays number (prints_line (make_line number (concat (played s (plain_opening s) [] (made_trace number)).pieces)))
+  made : (s : SetContents) → IsSet (made_set number) s → MakeSays number (prints_line (make_line number (concat (played s (plain_opening s) [] (none_earned s) (made_trace number)).pieces)))
 
 -- a script counts as one
 abbrev pub scripts_in : Option ScriptContents → ℕ

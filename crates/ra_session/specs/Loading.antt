@@ -10,6 +10,7 @@ use Rattle.ra_progress.specs.Laws.{IsShape}
 use Rattle.ra_progress.specs.Reading.{refusal}
 use Rattle.ra_progress.specs.Saying.{says}
 use Rattle.ra_runtime.specs.Order.{shape_of}
+use Rattle.ra_runtime.specs.Earned.{Earned, HoldTriggered, none_earned, with_earned}
 use Rattle.ra_runtime.specs.Openings.{snapshot, plain_opening}
 use Rattle.ra_io.specs.Causes.{Rose}
 use Rattle.ra_jobs.specs.Words.{file_in}
@@ -28,10 +29,12 @@ use Rattle.ra_session.specs.declared.failures.LoadFailed.TheVariants as load
 abbrev pub progress_in : Beginning → Option (List ℕ)
 progress_in beginning = option_map (λ bytes. bytes.items) beginning.progress
 
--- an opening and the frames behind it that a run begins with: the plain one and none, or those after which is kept what its bytes say
-abbrev pub BeginsAt : SetContents → Option (List ℕ) → Opening → History → Type 0
-BeginsAt set None o behind = (o ≡ plain_opening set) × (behind ≡ [])
-BeginsAt set (Some bytes) o behind = IsOpening (shape_of set) o × AreImages behind × (says (shape_of set) bytes ≡ snapshot set o behind)
+-- an opening, the frames behind it and what is earned that a run begins with: the plain one, none and nothing, or those after which is kept what its bytes say
+abbrev pub BeginsAt : SetContents → Option (List ℕ) → Opening → History → Earned → Type 0
+BeginsAt set None o behind earned = (o ≡ plain_opening set) × (behind ≡ []) × (earned ≡ none_earned set)
+BeginsAt set (Some bytes) o behind earned =
+    IsOpening (shape_of set) o × AreImages behind × HoldTriggered earned (snapshot set o behind).items
+    × (says (shape_of set) bytes ≡ with_earned (snapshot set o behind) earned)
 
 -- the bytes, where there are some, are a progress file that the set accepts, whose own bytes may be read
 abbrev pub AreAccepted : SetContents → Option (List ℕ) → Type 0

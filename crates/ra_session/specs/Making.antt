@@ -4,6 +4,7 @@ use Rattle.std.specs.List.{concat}
 use Rattle.ra_set.specs.Contents.{SetContents}
 use Rattle.ra_set.specs.Accepted.{IsSet}
 use Rattle.ra_trace.specs.Workload.{made_set, made_trace}
+use Rattle.ra_runtime.specs.Earned.{none_earned}
 use Rattle.ra_runtime.specs.Openings.{plain_opening}
 use Rattle.ra_session.specs.Expected.{played}
 
@@ -19,4 +20,4 @@ trace_name = codes "trace"
 pub record IsMadeText (number : ℕ) (text : List ℕ) : Type 0 where
   pub set : SetContents
   pub accepted : IsSet (made_set number) set
-  pub all : text ≡ concat (played set (plain_opening set) [] (made_trace number)).pieces
+  pub all : text ≡ concat (played set (plain_opening set) [] (none_earned set) (made_trace number)).pieces

@@ -17,8 +17,9 @@ use Rattle.ra_trace.specs.Reading.{ReaderSeen, Holds, seen_from}
 use Rattle.ra_runtime.specs.Runtime.{RuntimeSeen, TakesUp}
 use Rattle.ra_runtime.specs.Order.{shape_of}
 use Rattle.ra_runtime.specs.OpeningLaws.{HasDigests}
+use Rattle.ra_runtime.specs.Earned.{Earned, HoldTriggered, IsEarnedToo, with_earned}
 use Rattle.ra_runtime.specs.Openings.{snapshot}
-use Rattle.ra_runtime.specs.Play.{Moment, moved, printed}
+use Rattle.ra_runtime.specs.Play.{Moment, moved, printed, earned_next}
 use Rattle.ra_session.specs.Endings.{ending_of}
 use Rattle.ra_session.specs.Expected.{Expected, pieces_from, trace_limit}
 use Rattle.ra_session.specs.Closing.{EndsBefore}
@@ -33,20 +34,30 @@ pub record IsPlayable (set : SetContents) : Type 0 where
   pub digests : HasDigests set
   pub alts : HasFewAlts set
 
+-- The bytes are those of frames that were kept, with what was earned at their save and is earned still.
+pub record IsSaveOf (set : SetContents) (o : Opening) (kept : History) (earned : Earned) (bytes : List ℕ) : Type 0 where
+  pub before : Earned
+  pub images : AreImages kept
+  pub holds : HoldTriggered before (snapshot set o kept).items
+  pub still : IsEarnedToo before earned
+  pub is : bytes ≡ progress_bytes (shape_of set) (with_earned (snapshot set o kept) before)
+
 -- a slot holds the progress bytes of the frames that it has kept, and nothing where it is empty
-abbrev pub HoldsKept : SetContents → Opening → Option History → Option (List ℕ) → Type 0
-HoldsKept set o None None = Unit {0}
-HoldsKept set o (Some kept) (Some bytes) = AreImages kept × (bytes ≡ progress_bytes (shape_of set) (snapshot set o kept))
-HoldsKept set o _ _ = ⊥
+abbrev pub HoldsKept : SetContents → Opening → Earned → Option History → Option (List ℕ) → Type 0
+HoldsKept set o earned None None = Unit {0}
+HoldsKept set o earned (Some kept) (Some bytes) = IsSaveOf set o kept earned bytes
+HoldsKept set o earned _ _ = ⊥
 
 -- each slot holds what it has kept
-abbrev pub HoldEachKept : SetContents → Opening → List (Option History) → List (Option (List ℕ)) → Type 0
-HoldEachKept set o [] [] = Unit {0}
-HoldEachKept set o (kept ∷ more) (bytes ∷ slots) = HoldsKept set o kept bytes × HoldEachKept set o more slots
-HoldEachKept set o _ _ = ⊥
+abbrev pub HoldEachKept : SetContents → Opening → Earned → List (Option History) → List (Option (List ℕ)) → Type 0
+HoldEachKept set o earned [] [] = Unit {0}
+HoldEachKept set o earned (kept ∷ more) (bytes ∷ slots) =
+    HoldsKept set o earned kept bytes × HoldEachKept set o earned more slots
+HoldEachKept set o earned _ _ = ⊥
 
--- A runtime and the slots stand at a moment: the image is the moment's, and what is kept is what the frames behind it leave.
-pub record StandsAt (set : SetContents) (o : Opening) (m : Moment) (runtime : RuntimeSeen) (slots : List (Option (List ℕ))) : Type 0 where
+-- A runtime and the slots stand at a moment: the image is the moment's, and what is kept is what the frames behind it
+-- leave, with what is earned at the moment, which is all that is triggered and was earned at the save of a slot.
+pub record StandsAt (set : SetContents) (o : Opening) (m : Moment) (earned : Earned) (runtime : RuntimeSeen) (slots : List (Option (List ℕ))) : Type 0 where
   pub same : runtime.set ≡ set
   pub playable : IsPlayable set
   pub shape : IsShape (shape_of set)
@@ -54,15 +65,17 @@ pub record StandsAt (set : SetContents) (o : Opening) (m : Moment) (runtime : Ru
   pub image : runtime.image ≡ m.image
   pub bytes : AreBytes m.image
   pub behind : AreImages m.behind
-  pub kept : runtime.kept ≡ snapshot set o m.behind
-  pub held : HoldEachKept set o m.slots slots
+  pub kept : runtime.kept ≡ with_earned (snapshot set o m.behind) earned
+  pub holds : HoldTriggered earned (snapshot set o m.behind).items
+  pub held : HoldEachKept set o earned m.slots slots
 
--- A runtime and the slots stand at some moment of a set and an opening.
+-- A runtime and the slots stand at some moment of a set and an opening, at which some achievements are earned.
 pub record StandsSomewhere (runtime : RuntimeSeen) (slots : List (Option (List ℕ))) : Type 0 where
   pub set : SetContents
   pub opening : Opening
   pub moment : Moment
-  pub stands : StandsAt set opening moment runtime slots
+  pub earned : Earned
+  pub stands : StandsAt set opening moment earned runtime slots
 
 -- a runtime takes up progress bytes, and stays as it is where there are none
 abbrev pub TakesUpFrom : Option (List ℕ) → RuntimeSeen → RuntimeSeen → Type 0
@@ -83,15 +96,15 @@ TakesEmpty (Restored slot) m = slice_index_or m.slots slot None ≡ None
 TakesEmpty _ m = ⊥
 
 -- A record takes the player to the moment after it, and prints what the set does there.
-pub record Plays (set : SetContents) (o : Opening) (entry : Entry) (m : Moment) (runtime : RuntimeSeen) (slots : List (Option (List ℕ))) (text : List ℕ) : Type 0 where
+pub record Plays (set : SetContents) (o : Opening) (entry : Entry) (m : Moment) (earned : Earned) (runtime : RuntimeSeen) (slots : List (Option (List ℕ))) (text : List ℕ) : Type 0 where
   pub filled : TakesEmpty entry m → ⊥
-  pub stands : StandsAt set o (moved entry m) runtime slots
-  pub prints : text ≡ printed set o entry (moved entry m)
+  pub stands : StandsAt set o (moved entry m) (earned_next set o entry (moved entry m) earned) runtime slots
+  pub prints : text ≡ printed set o entry (moved entry m) earned
 
--- what a trace says from a moment on, where these records are left of it
-abbrev pub says_from : (bytes : List ℕ) → SetContents → Opening → Moment → Pieces → Expected
-says_from bytes set o m left = record {
-  pieces = pieces_from set o m left.entries;
+-- what a trace says from a moment on, at which this is earned, where these records are left of it
+abbrev pub says_from : (bytes : List ℕ) → SetContents → Opening → Moment → Earned → Pieces → Expected
+says_from bytes set o m earned left = record {
+  pieces = pieces_from set o m earned left.entries;
   ending = ending_of (stop_within (nat_le trace_limit (length bytes)) left.stop);
   saved = [];
   puts_first = false;
@@ -108,23 +121,23 @@ pub record IsLeft (bytes : List ℕ) (m : Moment) (reader : ReaderSeen) (left : 
   pub is : left ≡ cut (suc more) size (map is_some m.slots) reader.next (seen_from trace_limit reader.next bytes)
 
 -- One record of those that are left was played, and it was not the end.
-pub record GoesOn (bytes : List ℕ) (set : SetContents) (o : Opening) (m : Moment) (left : Pieces) (reader : ReaderSeen) (runtime : RuntimeSeen) (slots : List (Option (List ℕ))) (old new : Option (List ℕ)) : Type 0 where
+pub record GoesOn (bytes : List ℕ) (set : SetContents) (o : Opening) (m : Moment) (earned : Earned) (left : Pieces) (reader : ReaderSeen) (runtime : RuntimeSeen) (slots : List (Option (List ℕ))) (old new : Option (List ℕ)) : Type 0 where
   pub entry : Entry
   pub rest : Pieces
   pub first : left ≡ with_entry entry rest
   pub behind : IsLeft bytes (moved entry m) reader rest
-  pub stands : StandsAt set o (moved entry m) runtime slots
-  pub text : new ≡ grown old (printed set o entry (moved entry m))
+  pub stands : StandsAt set o (moved entry m) (earned_next set o entry (moved entry m) earned) runtime slots
+  pub text : new ≡ grown old (printed set o entry (moved entry m) earned)
 
 -- The end record was played: nothing is left behind it.
-pub record IsAtEnd (set : SetContents) (o : Opening) (m : Moment) (left : Pieces) (runtime : RuntimeSeen) (slots : List (Option (List ℕ))) (old new : Option (List ℕ)) : Type 0 where
+pub record IsAtEnd (set : SetContents) (o : Opening) (m : Moment) (earned : Earned) (left : Pieces) (runtime : RuntimeSeen) (slots : List (Option (List ℕ))) (old new : Option (List ℕ)) : Type 0 where
   pub at : ℕ
   pub last : left ≡ record { entries = Ended ∷ []; stop = Reached at }
-  pub stands : StandsAt set o m runtime slots
+  pub stands : StandsAt set o m earned runtime slots
   pub text : new ≡ old
 
 -- what reading and playing the next record does: it goes on, it was the end, or it stops as the trace says
-abbrev pub TakesNext : (bytes : List ℕ) → SetContents → Opening → Moment → Pieces → ReaderSeen → RuntimeSeen → List (Option (List ℕ)) → (old new : Option (List ℕ)) → Result Bool TraceFailed → Type 0
-TakesNext bytes set o m left reader runtime slots old new (Ok true) = IsAtEnd set o m left runtime slots old new
-TakesNext bytes set o m left reader runtime slots old new (Ok false) = GoesOn bytes set o m left reader runtime slots old new
-TakesNext bytes set o m left reader runtime slots old new (Err failed) = EndsBefore (says_from bytes set o m left) ⊤ ⊤ ⊤ (ending_of_trace failed) old new
+abbrev pub TakesNext : (bytes : List ℕ) → SetContents → Opening → Moment → Earned → Pieces → ReaderSeen → RuntimeSeen → List (Option (List ℕ)) → (old new : Option (List ℕ)) → Result Bool TraceFailed → Type 0
+TakesNext bytes set o m earned left reader runtime slots old new (Ok true) = IsAtEnd set o m earned left runtime slots old new
+TakesNext bytes set o m earned left reader runtime slots old new (Ok false) = GoesOn bytes set o m earned left reader runtime slots old new
+TakesNext bytes set o m earned left reader runtime slots old new (Err failed) = EndsBefore (says_from bytes set o m earned left) ⊤ ⊤ ⊤ (ending_of_trace failed) old new

@@ -8,6 +8,7 @@ ghost use Rattle.ra_progress.specs.Reading.{refusal};
 ghost use Rattle.ra_set.specs.Contents.{SetContents, set_contents};
 ghost use Rattle.ra_trace.specs.Entries.{entry_of, Saved, Restored};
 ghost use Rattle.ra_trace.specs.Reading.{LiesWithin};
+ghost use Rattle.ra_runtime.specs.Earned.{Earned};
 ghost use Rattle.ra_runtime.specs.Order.{shape_of};
 ghost use Rattle.ra_runtime.specs.Play.{Moment, moved, first_moment};
 ghost use Rattle.ra_runtime.specs.Runtime.{IsWritten, TakesFrame};
@@ -91,8 +92,8 @@ impl Player {
         requires playable { IsPlayable (set_contents beginning.set) }
         requires accepted { AreAccepted (set_contents beginning.set) (progress_in beginning) }
         requires size { size ≤ 2 ^ 27 }
-        ensures stands { IfOk result (λ p. (o : Opening) (behind : History) → BeginsAt (set_contents beginning.set) (progress_in beginning) o behind
-            → StandsAt (set_contents beginning.set) o (first_moment size behind) p.runtime (slots_of p.slots.items)) }
+        ensures stands { IfOk result (λ p. (o : Opening) (behind : History) (earned : Earned) → BeginsAt (set_contents beginning.set) (progress_in beginning) o behind earned
+            → StandsAt (set_contents beginning.set) o (first_moment size behind) earned p.runtime (slots_of p.slots.items)) }
         ensures image { IfOk result (λ p. length p.runtime.image ≡ size) }
     {
         let mut slots = Vec::new(alloc);
@@ -123,8 +124,8 @@ impl Player {
 
     // Keeps the progress bytes in a slot.
     fn save(&mut self, alloc: Global, slot: u8) -> Result<(), Unplayed>
-        ensures saved { OnOk result ((set : SetContents) (o : Opening) (m : Moment) → StandsAt set o m self.old.runtime (slots_of self.old.slots.items)
-            → StandsAt set o (moved (Saved slot) m) self.new.runtime (slots_of self.new.slots.items)) }
+        ensures saved { OnOk result ((set : SetContents) (o : Opening) (m : Moment) (earned : Earned) → StandsAt set o m earned self.old.runtime (slots_of self.old.slots.items)
+            → StandsAt set o (moved (Saved slot) m) earned self.new.runtime (slots_of self.new.slots.items)) }
         ensures image { self.new.runtime.image ≡ self.old.runtime.image }
         ensures only { IfErr result (λ e. e ≡ Unplayed.Memory) }
     {
@@ -138,9 +139,9 @@ impl Player {
     // Takes up the progress bytes of a slot. The runtime never refuses them, since it gave them out itself.
     fn restore(&mut self, slot: u8) -> Result<(), Unplayed>
         requires { StandsSomewhere self.old.runtime (slots_of self.old.slots.items) }
-        ensures restored { OnOk result ((set : SetContents) (o : Opening) (m : Moment) → StandsAt set o m self.old.runtime (slots_of self.old.slots.items)
-            → StandsAt set o (moved (Restored slot) m) self.new.runtime (slots_of self.new.slots.items) × (TakesEmpty (Restored slot) m → ⊥)) }
-        ensures empty { OnErr result ((set : SetContents) (o : Opening) (m : Moment) → StandsAt set o m self.old.runtime (slots_of self.old.slots.items) → TakesEmpty (Restored slot) m) }
+        ensures restored { OnOk result ((set : SetContents) (o : Opening) (m : Moment) (earned : Earned) → StandsAt set o m earned self.old.runtime (slots_of self.old.slots.items)
+            → StandsAt set o (moved (Restored slot) m) earned self.new.runtime (slots_of self.new.slots.items) × (TakesEmpty (Restored slot) m → ⊥)) }
+        ensures empty { OnErr result ((set : SetContents) (o : Opening) (m : Moment) (earned : Earned) → StandsAt set o m earned self.old.runtime (slots_of self.old.slots.items) → TakesEmpty (Restored slot) m) }
         ensures image { self.new.runtime.image ≡ self.old.runtime.image }
         ensures only { IfErr result (λ e. e ≡ Unplayed.EmptySlot) }
     {
@@ -157,9 +158,9 @@ impl Player {
     pub fn play(&mut self, alloc: Global, entry: &Record<'_>) -> Result<Vec<u8>, Unplayed>
         requires lies { LiesWithin (length self.old.runtime.image) (entry_of entry.now) }
         requires stands { StandsSomewhere self.old.runtime (slots_of self.old.slots.items) }
-        ensures played { IfOk result (λ text. (set : SetContents) (o : Opening) (m : Moment) → StandsAt set o m self.old.runtime (slots_of self.old.slots.items)
-            → Plays set o (entry_of entry.now) m self.new.runtime (slots_of self.new.slots.items) text.items) }
-        ensures empty { IfErr result (λ e. e ≡ Unplayed.EmptySlot → (set : SetContents) (o : Opening) (m : Moment) → StandsAt set o m self.old.runtime (slots_of self.old.slots.items) → TakesEmpty (entry_of entry.now) m) }
+        ensures played { IfOk result (λ text. (set : SetContents) (o : Opening) (m : Moment) (earned : Earned) → StandsAt set o m earned self.old.runtime (slots_of self.old.slots.items)
+            → Plays set o (entry_of entry.now) m earned self.new.runtime (slots_of self.new.slots.items) text.items) }
+        ensures empty { IfErr result (λ e. e ≡ Unplayed.EmptySlot → (set : SetContents) (o : Opening) (m : Moment) (earned : Earned) → StandsAt set o m earned self.old.runtime (slots_of self.old.slots.items) → TakesEmpty (entry_of entry.now) m) }
         ensures image { length self.new.runtime.image ≡ length self.old.runtime.image }
     {
         match entry {

@@ -6,7 +6,8 @@ ghost use Rattle.ra_io.specs.Files.{OnlyRead};
 ghost use Rattle.ra_set.specs.Contents.{SetContents};
 ghost use Rattle.ra_progress.specs.Contents.{Opening};
 ghost use Rattle.ra_trace.specs.Cutting.{Pieces};
-ghost use Rattle.ra_runtime.specs.Play.{Moment, moment_after};
+ghost use Rattle.ra_runtime.specs.Earned.{Earned};
+ghost use Rattle.ra_runtime.specs.Play.{Moment, earned_after, moment_after};
 ghost use Rattle.ra_session.specs.Closing.{EndsBefore};
 ghost use Rattle.ra_session.specs.Failures.{ending_at};
 ghost use Rattle.ra_session.specs.Playing.{StandsAt, StandsSomewhere, IsLeft, TakesNext, says_from, slots_of};
@@ -30,9 +31,9 @@ fn play_next<F: Files, K: Sink>(
     requires stands { StandsSomewhere player.old.runtime (slots_of player.old.slots.items) }
 
     // What was played and printed, where the bytes of the trace are told.
-    ensures next { (bytes : List ℕ) (set : SetContents) (o : Opening) (m : Moment) (left : Pieces) → F.content files.old reader.old.name ≡ Some bytes
-        → StandsAt set o m player.old.runtime (slots_of player.old.slots.items) → IsLeft bytes m reader.old left
-        → TakesNext bytes set o m left reader.new player.new.runtime (slots_of player.new.slots.items) (K.text out.old) (K.text out.new) result }
+    ensures next { (bytes : List ℕ) (set : SetContents) (o : Opening) (m : Moment) (earned : Earned) (left : Pieces) → F.content files.old reader.old.name ≡ Some bytes
+        → StandsAt set o m earned player.old.runtime (slots_of player.old.slots.items) → IsLeft bytes m reader.old left
+        → TakesNext bytes set o m earned left reader.new player.new.runtime (slots_of player.new.slots.items) (K.text out.old) (K.text out.new) result }
 
     // What stays, and why it stops.
     ensures size { IfOk result (λ end. reader.new.size ≡ Some (length player.new.runtime.image)) }
@@ -74,12 +75,12 @@ pub fn play_records<F: Files, K: Sink>(
     requires stands { StandsSomewhere player.old.runtime (slots_of player.old.slots.items) }
 
     // What was printed, where the bytes of the trace are told.
-    ensures printed { (bytes : List ℕ) (set : SetContents) (o : Opening) (m : Moment) (left : Pieces) → F.content files.old reader.old.name ≡ Some bytes
-        → StandsAt set o m player.old.runtime (slots_of player.old.slots.items) → IsLeft bytes m reader.old left
-        → EndsBefore (says_from bytes set o m left) ⊤ ⊤ ⊤ (ending_at result) (K.text out.old) (K.text out.new) }
-    ensures ends { OnOk result ((bytes : List ℕ) (set : SetContents) (o : Opening) (m : Moment) (left : Pieces) → F.content files.old reader.old.name ≡ Some bytes
-        → StandsAt set o m player.old.runtime (slots_of player.old.slots.items) → IsLeft bytes m reader.old left
-        → StandsAt set o (moment_after m left.entries) player.new.runtime (slots_of player.new.slots.items)) }
+    ensures printed { (bytes : List ℕ) (set : SetContents) (o : Opening) (m : Moment) (earned : Earned) (left : Pieces) → F.content files.old reader.old.name ≡ Some bytes
+        → StandsAt set o m earned player.old.runtime (slots_of player.old.slots.items) → IsLeft bytes m reader.old left
+        → EndsBefore (says_from bytes set o m earned left) ⊤ ⊤ ⊤ (ending_at result) (K.text out.old) (K.text out.new) }
+    ensures ends { OnOk result ((bytes : List ℕ) (set : SetContents) (o : Opening) (m : Moment) (earned : Earned) (left : Pieces) → F.content files.old reader.old.name ≡ Some bytes
+        → StandsAt set o m earned player.old.runtime (slots_of player.old.slots.items) → IsLeft bytes m reader.old left
+        → StandsAt set o (moment_after m left.entries) (earned_after set o m earned left.entries) player.new.runtime (slots_of player.new.slots.items)) }
 
     // Why it stops, and what stays.
     ensures read { IsErrOf result TraceFailed.Read → Rose (F.read_faults files.old reader.old.name) (F.read_faults files.new reader.old.name) }

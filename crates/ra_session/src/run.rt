@@ -7,6 +7,7 @@ ghost use Rattle.ra_io.specs.Files.{OnlyRead, SameContent};
 ghost use Rattle.ra_memory.specs.Image.{History};
 ghost use Rattle.ra_progress.specs.Contents.{Opening};
 ghost use Rattle.ra_set.specs.Contents.{set_contents};
+ghost use Rattle.ra_runtime.specs.Earned.{Earned};
 ghost use Rattle.ra_session.specs.Closing.{EndsBefore};
 ghost use Rattle.ra_session.specs.Expected.{played};
 ghost use Rattle.ra_session.specs.Failures.{ending_at};
@@ -48,10 +49,10 @@ pub fn play_trace<F: Files, K: Sink>(
     requires accepted { AreAccepted (set_contents beginning.set) (progress_in beginning) }
 
     // What was printed, and what is kept at the end, where the bytes of the trace are told.
-    ensures printed { (bytes : List ℕ) (o : Opening) (behind : History) → F.content files.old trace.now ≡ Some bytes → BeginsAt (set_contents beginning.set) (progress_in beginning) o behind
-        → EndsBefore (played (set_contents beginning.set) o behind bytes) ⊤ ⊤ ⊤ (ending_at result) (K.text out.old) (K.text out.new) }
-    ensures kept { IfOk result (λ p. (bytes : List ℕ) (o : Opening) (behind : History) → F.content files.old trace.now ≡ Some bytes → BeginsAt (set_contents beginning.set) (progress_in beginning) o behind
-        → kept_bytes p.runtime ≡ (played (set_contents beginning.set) o behind bytes).saved) }
+    ensures printed { (bytes : List ℕ) (o : Opening) (behind : History) (earned : Earned) → F.content files.old trace.now ≡ Some bytes → BeginsAt (set_contents beginning.set) (progress_in beginning) o behind earned
+        → EndsBefore (played (set_contents beginning.set) o behind earned bytes) ⊤ ⊤ ⊤ (ending_at result) (K.text out.old) (K.text out.new) }
+    ensures kept { IfOk result (λ p. (bytes : List ℕ) (o : Opening) (behind : History) (earned : Earned) → F.content files.old trace.now ≡ Some bytes → BeginsAt (set_contents beginning.set) (progress_in beginning) o behind earned
+        → kept_bytes p.runtime ≡ (played (set_contents beginning.set) o behind earned bytes).saved) }
 
     // Why it stops, and what stays.
     ensures read { IsErrOf result TraceFailed.Read → Rose (F.read_faults files.old trace.now) (F.read_faults files.new trace.now) }

@@ -4,6 +4,7 @@ use Rattle.ra_io.specs.Causes.{Rose}
 use Rattle.ra_io.specs.SureFiles.{names_of}
 use Rattle.ra_set.specs.Contents.{set_contents}
 use Rattle.ra_trace.specs.Workload.{made_set, made_trace}
+use Rattle.ra_runtime.specs.Earned.{none_earned}
 use Rattle.ra_runtime.specs.Openings.{plain_opening}
 use Rattle.ra_session.specs.Closing.{EndsBefore}
 use Rattle.ra_session.specs.declared.ending.Ending.TheVariants.{Done, NoMemory}
@@ -29,8 +30,8 @@ returns-in_err-play_trace-clause-memory c =
     let set = set_contents c.in_ok-set.set in
     let told = c.in_ok-set.ensures.stays.same.each trace_name ∙ told_name (names_of c.in_ok-files.files) trace_name (made_trace c.args.number) c.in_ok-files.ensures.trace in
     err_by c.from_residual-in_err-play_trace.result (ending_of_trace c.in_err-play_trace.field-0.0) (λ e. e ≡ NoMemory) c.from_residual-in_err-play_trace.ensures.1
-    (wanted_memory (played set (plain_opening set) [] (made_trace c.args.number)) c.in_err-play_trace.field-0.0 _ _ (made_end set c.args.number)
-    (λ is. none_rose (c.in_err-play_trace.ensures.read is)) (λ is. none_rose (c.in_err-play_trace.ensures.write is)) (c.in_err-play_trace.ensures.printed (made_trace c.args.number) (plain_opening set) [] told (refl, refl)))
+    (wanted_memory (played set (plain_opening set) [] (none_earned set) (made_trace c.args.number)) c.in_err-play_trace.field-0.0 _ _ (made_end set c.args.number)
+    (λ is. none_rose (c.in_err-play_trace.ensures.read is)) (λ is. none_rose (c.in_err-play_trace.ensures.write is)) (c.in_err-play_trace.ensures.printed (made_trace c.args.number) (plain_opening set) [] (none_earned set) told (refl, refl, refl)))
 
 pub returns-clause-text : goal.returns-clause-text
 returns-clause-text c =
@@ -39,6 +40,6 @@ returns-clause-text c =
     record {
       set = set;
       accepted = c.in_ok-set.ensures.set.is_set (made_set c.args.number) (told_name (names_of c.in_ok-files.files) set_name (made_set c.args.number) c.in_ok-files.ensures.set);
-      all = printed_whole (played set (plain_opening set) [] (made_trace c.args.number)) c.play_trace.new.out
-          (subst (λ t. EndsBefore (played set (plain_opening set) [] (made_trace c.args.number)) ⊤ ⊤ ⊤ Done (Some t) (Some c.play_trace.new.out)) c.new-text.ensures (c.in_ok-play_trace.ensures.printed (made_trace c.args.number) (plain_opening set) [] told (refl, refl)));
+      all = printed_whole (played set (plain_opening set) [] (none_earned set) (made_trace c.args.number)) c.play_trace.new.out
+          (subst (λ t. EndsBefore (played set (plain_opening set) [] (none_earned set) (made_trace c.args.number)) ⊤ ⊤ ⊤ Done (Some t) (Some c.play_trace.new.out)) c.new-text.ensures (c.in_ok-play_trace.ensures.printed (made_trace c.args.number) (plain_opening set) [] (none_earned set) told (refl, refl, refl)));
     }

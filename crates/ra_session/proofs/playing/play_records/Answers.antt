@@ -5,17 +5,17 @@ use Rattle.ra_session.proofs.TraceLemmas.{stops_with, goes_on_with, ends_with, s
 use Rattle.ra_session.proofs.playing.play_records.Goals as goal
 
 pub returns-in_err-play_next-clause-printed : goal.returns-in_err-play_next-clause-printed
-returns-in_err-play_next-clause-printed g c = λ bytes set o m left told stands is.
-    let to = c.loop.invariant.to bytes set o m left told stands is in
-    stops_with bytes set o m left c.loop.reader c.loop.player.runtime _ _ _ to c.in_err-play_next.field-0.0 c.from_residual.result c.from_residual.ensures.1 _
-    (c.in_err-play_next.ensures.next bytes set o to.moment to.rest (c.loop.invariant.stays.same.each c.loop.reader.name ∙ ap (g.F.Files.content c.args.files.now) c.loop.invariant.name ∙ told) to.stands to.left)
+returns-in_err-play_next-clause-printed g c = λ bytes set o m earned left told stands is.
+    let to = c.loop.invariant.to bytes set o m earned left told stands is in
+    stops_with bytes set o m earned left c.loop.reader c.loop.player.runtime _ _ _ to c.in_err-play_next.field-0.0 c.from_residual.result c.from_residual.ensures.1 _
+    (c.in_err-play_next.ensures.next bytes set o to.moment to.now_earned to.rest (c.loop.invariant.stays.same.each c.loop.reader.name ∙ ap (g.F.Files.content c.args.files.now) c.loop.invariant.name ∙ told) to.stands to.left)
 
 pub loop-preserved : goal.loop-preserved
 loop-preserved g c = record {
-  to = λ bytes set o m left told stands is.
-      let to = c.loop.invariant.to bytes set o m left told stands is in
-      goes_on_with bytes set o m left c.loop.reader c.loop.player.runtime _ _ _ to c.play_next.new.reader c.play_next.new.player.runtime _ _ c.in_ok-play_next.field-0 c.if-not-branch.true
-      (c.in_ok-play_next.ensures.next bytes set o to.moment to.rest (c.loop.invariant.stays.same.each c.loop.reader.name ∙ ap (g.F.Files.content c.args.files.now) c.loop.invariant.name ∙ told) to.stands to.left);
+  to = λ bytes set o m earned left told stands is.
+      let to = c.loop.invariant.to bytes set o m earned left told stands is in
+      goes_on_with bytes set o m earned left c.loop.reader c.loop.player.runtime _ _ _ to c.play_next.new.reader c.play_next.new.player.runtime _ _ c.in_ok-play_next.field-0 c.if-not-branch.true
+      (c.in_ok-play_next.ensures.next bytes set o to.moment to.now_earned to.rest (c.loop.invariant.stays.same.each c.loop.reader.name ∙ ap (g.F.Files.content c.args.files.now) c.loop.invariant.name ∙ told) to.stands to.left);
   somewhere = c.in_ok-play_next.ensures.stands;
   size = c.in_ok-play_next.ensures.size;
   name = c.play_next.ensures.name ∙ c.loop.invariant.name;
@@ -24,13 +24,13 @@ loop-preserved g c = record {
 }
 
 pub returns-clause-printed : goal.returns-clause-printed
-returns-clause-printed g c = λ bytes set o m left told stands is.
-    let to = c.loop.invariant.to bytes set o m left told stands is in
-    ends_with bytes set o m left c.loop.reader c.loop.player.runtime _ _ _ to c.play_next.new.reader c.play_next.new.player.runtime _ _ c.in_ok-play_next.field-0 c.if-not-branch.false
-    (c.in_ok-play_next.ensures.next bytes set o to.moment to.rest (c.loop.invariant.stays.same.each c.loop.reader.name ∙ ap (g.F.Files.content c.args.files.now) c.loop.invariant.name ∙ told) to.stands to.left)
+returns-clause-printed g c = λ bytes set o m earned left told stands is.
+    let to = c.loop.invariant.to bytes set o m earned left told stands is in
+    ends_with bytes set o m earned left c.loop.reader c.loop.player.runtime _ _ _ to c.play_next.new.reader c.play_next.new.player.runtime _ _ c.in_ok-play_next.field-0 c.if-not-branch.false
+    (c.in_ok-play_next.ensures.next bytes set o to.moment to.now_earned to.rest (c.loop.invariant.stays.same.each c.loop.reader.name ∙ ap (g.F.Files.content c.args.files.now) c.loop.invariant.name ∙ told) to.stands to.left)
 
 pub returns-clause-ends : goal.returns-clause-ends
-returns-clause-ends g c = λ bytes set o m left told stands is.
-    let to = c.loop.invariant.to bytes set o m left told stands is in
-    stands_with bytes set o m left c.loop.reader c.loop.player.runtime (slots_of c.loop.player.slots.items) (g.K.Sink.text c.args.out.now) (g.K.Sink.text c.loop.out) to c.play_next.new.reader c.play_next.new.player.runtime (slots_of c.play_next.new.player.slots.items) (g.K.Sink.text c.play_next.new.out) c.in_ok-play_next.field-0 c.if-not-branch.false
-    (c.in_ok-play_next.ensures.next bytes set o to.moment to.rest (c.loop.invariant.stays.same.each c.loop.reader.name ∙ ap (g.F.Files.content c.args.files.now) c.loop.invariant.name ∙ told) to.stands to.left)
+returns-clause-ends g c = λ bytes set o m earned left told stands is.
+    let to = c.loop.invariant.to bytes set o m earned left told stands is in
+    stands_with bytes set o m earned left c.loop.reader c.loop.player.runtime (slots_of c.loop.player.slots.items) (g.K.Sink.text c.args.out.now) (g.K.Sink.text c.loop.out) to c.play_next.new.reader c.play_next.new.player.runtime (slots_of c.play_next.new.player.slots.items) (g.K.Sink.text c.play_next.new.out) c.in_ok-play_next.field-0 c.if-not-branch.false
+    (c.in_ok-play_next.ensures.next bytes set o to.moment to.now_earned to.rest (c.loop.invariant.stays.same.each c.loop.reader.name ∙ ap (g.F.Files.content c.args.files.now) c.loop.invariant.name ∙ told) to.stands to.left)

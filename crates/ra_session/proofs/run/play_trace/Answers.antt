@@ -17,65 +17,65 @@ use Rattle.ra_session.proofs.RunLemmas.{played_behind, saved_behind, bad_header,
 use Rattle.ra_session.proofs.run.play_trace.Goals as goal
 
 pub returns-in_err-reader-clause-printed : goal.returns-in_err-reader-clause-printed
-returns-in_err-reader-clause-printed g c = λ bytes o behind is_told at. no_memory_left (played (set_contents c.args.beginning.set) o behind bytes) c.from_residual.result (g.K.Sink.text c.args.out.now) c.from_residual.ensures.1
+returns-in_err-reader-clause-printed g c = λ bytes o behind earned is_told at. no_memory_left (played (set_contents c.args.beginning.set) o behind earned bytes) c.from_residual.result (g.K.Sink.text c.args.out.now) c.from_residual.ensures.1
 
 pub returns-in_err-size-clause-printed : goal.returns-in_err-size-clause-printed
-returns-in_err-size-clause-printed g c = λ bytes o behind is_told at.
+returns-in_err-size-clause-printed g c = λ bytes o behind earned is_told at.
     let set = set_contents c.args.beginning.set in
     let name : c.in_ok-reader.reader.name ≡ c.args.trace.now = ap (λ r. r.name) c.in_ok-reader.ensures in
     let limit : c.in_ok-reader.reader.limit ≡ trace_limit = ap (λ r. r.limit) c.in_ok-reader.ensures in
     let said : IsStop c.in_err-size.field-0.0 (header_stop c.in_ok-reader.reader.limit bytes) = told _ _ bytes (ap (g.F.Files.content c.args.files.now) name ∙ is_told) c.in_err-size.ensures.err in
-    ends_by (played set o behind bytes) (trace_failed c.in_err-size.field-0.0) c.from_residual-in_err-size.result (g.K.Sink.text c.args.out.now) (g.K.Sink.text c.args.out.now) c.from_residual-in_err-size.ensures.1
-    (bad_header set o behind bytes c.in_err-size.field-0.0 (g.K.Sink.text c.args.out.now) (subst (λ l. IsStop c.in_err-size.field-0.0 (header_stop l bytes)) limit said))
+    ends_by (played set o behind earned bytes) (trace_failed c.in_err-size.field-0.0) c.from_residual-in_err-size.result (g.K.Sink.text c.args.out.now) (g.K.Sink.text c.args.out.now) c.from_residual-in_err-size.ensures.1
+    (bad_header set o behind earned bytes c.in_err-size.field-0.0 (g.K.Sink.text c.args.out.now) (subst (λ l. IsStop c.in_err-size.field-0.0 (header_stop l bytes)) limit said))
 
 pub new-requires-clause-size : goal.new-requires-clause-size
 new-requires-clause-size g c = omega (arith, c.in_ok-size.ensures.most)
 
 pub returns-in_err-player-clause-printed : goal.returns-in_err-player-clause-printed
-returns-in_err-player-clause-printed g c = λ bytes o behind is_told at. no_memory_left (played (set_contents c.args.beginning.set) o behind bytes) c.from_residual-in_err-player.result (g.K.Sink.text c.args.out.now) c.from_residual-in_err-player.ensures.1
+returns-in_err-player-clause-printed g c = λ bytes o behind earned is_told at. no_memory_left (played (set_contents c.args.beginning.set) o behind earned bytes) c.from_residual-in_err-player.result (g.K.Sink.text c.args.out.now) c.from_residual-in_err-player.ensures.1
 
 pub play_records-requires-clause-stands : goal.play_records-requires-clause-stands
 play_records-requires-clause-stands g c =
     let set = set_contents c.args.beginning.set in
-    let (o, behind, at) = begins_somewhere set (progress_in c.args.beginning) c.requires.playable c.requires.accepted in
-    record { set = set; opening = o; moment = first_moment c.in_ok-size.size behind; stands = c.in_ok-player.ensures.stands o behind at }
+    let (o, behind, earned, at) = begins_somewhere set (progress_in c.args.beginning) c.requires.playable c.requires.accepted in
+    record { set = set; opening = o; moment = first_moment c.in_ok-size.size behind; earned = earned; stands = c.in_ok-player.ensures.stands o behind earned at }
 
 pub returns-in_err-play_records-clause-printed : goal.returns-in_err-play_records-clause-printed
-returns-in_err-play_records-clause-printed g c = λ bytes o behind is_told at.
+returns-in_err-play_records-clause-printed g c = λ bytes o behind earned is_told at.
     let set = set_contents c.args.beginning.set in
     let name : c.in_ok-reader.reader.name ≡ c.args.trace.now = ap (λ r. r.name) c.in_ok-reader.ensures in
     let limit : c.in_ok-reader.reader.limit ≡ trace_limit = ap (λ r. r.limit) c.in_ok-reader.ensures in
     let there : g.F.Files.content c.args.files.now c.in_ok-reader.reader.name ≡ Some bytes = ap (g.F.Files.content c.args.files.now) name ∙ is_told in
     let header = told _ _ bytes there c.in_ok-size.ensures.ok in
     let left = left_whole bytes c.in_ok-size.size behind c.in_ok-reader.reader c.header.new.self limit c.in_ok-size.ensures.seen (told _ _ bytes there c.in_ok-size.ensures.held) in
-    ends_by (played set o behind bytes) c.in_err-play_records.field-0.0 c.from_residual-in_err-play_records.result (g.K.Sink.text c.args.out.now) (g.K.Sink.text c.play_records.new.out) c.from_residual-in_err-play_records.ensures.1
-    (played_behind set o behind bytes c.in_ok-size.size (ending_of_trace c.in_err-play_records.field-0.0) (g.K.Sink.text c.args.out.now) (g.K.Sink.text c.play_records.new.out) (subst (λ l. header_size (take l bytes) ≡ Some c.in_ok-size.size) limit header)
-    (c.in_err-play_records.ensures.printed bytes set o (first_moment c.in_ok-size.size behind) (pieces_of c.in_ok-size.size bytes)
-    (ap (g.F.Files.content c.header.new.files) c.in_ok-size.ensures.seen.same.name ∙ c.in_ok-size.ensures.stays.same.each c.in_ok-reader.reader.name ∙ there) (c.in_ok-player.ensures.stands o behind at) left))
+    ends_by (played set o behind earned bytes) c.in_err-play_records.field-0.0 c.from_residual-in_err-play_records.result (g.K.Sink.text c.args.out.now) (g.K.Sink.text c.play_records.new.out) c.from_residual-in_err-play_records.ensures.1
+    (played_behind set o behind earned bytes c.in_ok-size.size (ending_of_trace c.in_err-play_records.field-0.0) (g.K.Sink.text c.args.out.now) (g.K.Sink.text c.play_records.new.out) (subst (λ l. header_size (take l bytes) ≡ Some c.in_ok-size.size) limit header)
+    (c.in_err-play_records.ensures.printed bytes set o (first_moment c.in_ok-size.size behind) earned (pieces_of c.in_ok-size.size bytes)
+    (ap (g.F.Files.content c.header.new.files) c.in_ok-size.ensures.seen.same.name ∙ c.in_ok-size.ensures.stays.same.each c.in_ok-reader.reader.name ∙ there) (c.in_ok-player.ensures.stands o behind earned at) left))
 
 pub returns-clause-printed : goal.returns-clause-printed
-returns-clause-printed g c = λ bytes o behind is_told at.
+returns-clause-printed g c = λ bytes o behind earned is_told at.
     let set = set_contents c.args.beginning.set in
     let name : c.in_ok-reader.reader.name ≡ c.args.trace.now = ap (λ r. r.name) c.in_ok-reader.ensures in
     let limit : c.in_ok-reader.reader.limit ≡ trace_limit = ap (λ r. r.limit) c.in_ok-reader.ensures in
     let there : g.F.Files.content c.args.files.now c.in_ok-reader.reader.name ≡ Some bytes = ap (g.F.Files.content c.args.files.now) name ∙ is_told in
     let header = told _ _ bytes there c.in_ok-size.ensures.ok in
     let left = left_whole bytes c.in_ok-size.size behind c.in_ok-reader.reader c.header.new.self limit c.in_ok-size.ensures.seen (told _ _ bytes there c.in_ok-size.ensures.held) in
-    played_behind set o behind bytes c.in_ok-size.size Done (g.K.Sink.text c.args.out.now) (g.K.Sink.text c.play_records.new.out) (subst (λ l. header_size (take l bytes) ≡ Some c.in_ok-size.size) limit header)
-    (c.in_ok-play_records.ensures.printed bytes set o (first_moment c.in_ok-size.size behind) (pieces_of c.in_ok-size.size bytes)
-    (ap (g.F.Files.content c.header.new.files) c.in_ok-size.ensures.seen.same.name ∙ c.in_ok-size.ensures.stays.same.each c.in_ok-reader.reader.name ∙ there) (c.in_ok-player.ensures.stands o behind at) left)
+    played_behind set o behind earned bytes c.in_ok-size.size Done (g.K.Sink.text c.args.out.now) (g.K.Sink.text c.play_records.new.out) (subst (λ l. header_size (take l bytes) ≡ Some c.in_ok-size.size) limit header)
+    (c.in_ok-play_records.ensures.printed bytes set o (first_moment c.in_ok-size.size behind) earned (pieces_of c.in_ok-size.size bytes)
+    (ap (g.F.Files.content c.header.new.files) c.in_ok-size.ensures.seen.same.name ∙ c.in_ok-size.ensures.stays.same.each c.in_ok-reader.reader.name ∙ there) (c.in_ok-player.ensures.stands o behind earned at) left)
 
 pub returns-clause-kept : goal.returns-clause-kept
-returns-clause-kept g c = λ bytes o behind is_told at.
+returns-clause-kept g c = λ bytes o behind earned is_told at.
     let set = set_contents c.args.beginning.set in
     let name : c.in_ok-reader.reader.name ≡ c.args.trace.now = ap (λ r. r.name) c.in_ok-reader.ensures in
     let limit : c.in_ok-reader.reader.limit ≡ trace_limit = ap (λ r. r.limit) c.in_ok-reader.ensures in
     let there : g.F.Files.content c.args.files.now c.in_ok-reader.reader.name ≡ Some bytes = ap (g.F.Files.content c.args.files.now) name ∙ is_told in
     let header = told _ _ bytes there c.in_ok-size.ensures.ok in
     let left = left_whole bytes c.in_ok-size.size behind c.in_ok-reader.reader c.header.new.self limit c.in_ok-size.ensures.seen (told _ _ bytes there c.in_ok-size.ensures.held) in
-    saved_behind set o behind bytes c.in_ok-size.size (slots_of c.play_records.new.player.slots.items) c.play_records.new.player.runtime (subst (λ l. header_size (take l bytes) ≡ Some c.in_ok-size.size) limit header)
-    (c.in_ok-play_records.ensures.ends bytes set o (first_moment c.in_ok-size.size behind) (pieces_of c.in_ok-size.size bytes)
-    (ap (g.F.Files.content c.header.new.files) c.in_ok-size.ensures.seen.same.name ∙ c.in_ok-size.ensures.stays.same.each c.in_ok-reader.reader.name ∙ there) (c.in_ok-player.ensures.stands o behind at) left)
+    saved_behind set o behind earned bytes c.in_ok-size.size (slots_of c.play_records.new.player.slots.items) c.play_records.new.player.runtime (subst (λ l. header_size (take l bytes) ≡ Some c.in_ok-size.size) limit header)
+    (c.in_ok-play_records.ensures.ends bytes set o (first_moment c.in_ok-size.size behind) earned (pieces_of c.in_ok-size.size bytes)
+    (ap (g.F.Files.content c.header.new.files) c.in_ok-size.ensures.seen.same.name ∙ c.in_ok-size.ensures.stays.same.each c.in_ok-reader.reader.name ∙ there) (c.in_ok-player.ensures.stands o behind earned at) left)
 
 pub returns-in_err-play_records-clause-read : goal.returns-in_err-play_records-clause-read
 returns-in_err-play_records-clause-read g c =

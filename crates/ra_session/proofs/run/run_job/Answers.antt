@@ -27,7 +27,7 @@ returns-in-Err-play_trace-clause-ran g c =
     ran_on run.set.now run.trace.now (option_map (λ name. name.now) run.restore) (option_map (λ name. name.now) run.save) _ _ {T = Player} (set_contents c.in-Ok.beginning.set) (progress_in c.in-Ok.beginning) (Err c.in-Err-play_trace.failed) c.from-in-Err-play_trace.result c.from-in-Err-play_trace.ensures
     (record {
       loaded = load.loaded;
-      printed = λ bytes o behind told at. play.printed bytes o behind (load.stays.same.each run.trace.now ∙ told) at;
+      printed = λ bytes o behind earned told at. play.printed bytes o behind earned (load.stays.same.each run.trace.now ∙ told) at;
       read = λ is. let rose = play.read is in omega (arith, rose, load.stays.reads.each run.trace.now);
       wrote = play.write;
     })
@@ -44,7 +44,7 @@ returns-in-Ok-put_progress-clause-ran g c =
     ran_on run.set.now run.trace.now (option_map (λ name. name.now) run.restore) (option_map (λ name. name.now) run.save) _ _ {T = Player} (set_contents c.in-Ok.beginning.set) (progress_in c.in-Ok.beginning) (Ok c.in-Ok-play_trace.player) _ refl
     (record {
       loaded = load.loaded;
-      printed = λ bytes o behind told at. play.printed bytes o behind (load.stays.same.each run.trace.now ∙ told) at;
+      printed = λ bytes o behind earned told at. play.printed bytes o behind earned (load.stays.same.each run.trace.now ∙ told) at;
       read = λ is. absurd (cc is);
       wrote = λ is. absurd (cc is);
     })
@@ -59,12 +59,12 @@ returns-in-Ok-put_progress-clause-leaves g c =
     leaves_put run.set.now run.trace.now (option_map (λ name. name.now) run.restore) save _ _ {T = Player} (set_contents c.in-Ok.beginning.set) (progress_in c.in-Ok.beginning) c.in-Ok-play_trace.player
     (record {
       loaded = load.loaded;
-      printed = λ bytes o behind told at. play.printed bytes o behind (load.stays.same.each run.trace.now ∙ told) at;
+      printed = λ bytes o behind earned told at. play.printed bytes o behind earned (load.stays.same.each run.trace.now ∙ told) at;
       read = λ is. absurd (cc is);
       wrote = λ is. absurd (cc is);
     })
     (kept_bytes c.in-Ok-play_trace.player.runtime) (bytes_since _ _ _ _ (file_in save) since c.in-Ok-put_progress.ensures.saved) (others_since _ _ _ (file_in save) since c.in-Ok-put_progress.ensures.others)
-    (λ bytes o behind told at. play.kept bytes o behind (load.stays.same.each run.trace.now ∙ told) at)
+    (λ bytes o behind earned told at. play.kept bytes o behind earned (load.stays.same.each run.trace.now ∙ told) at)
 
 pub returns-clause-ran : goal.returns-clause-ran
 returns-clause-ran g c =
@@ -75,7 +75,7 @@ returns-clause-ran g c =
     ran_not_put run.set.now run.trace.now (option_map (λ name. name.now) run.restore) save _ _ {T = Player} (set_contents c.in-Ok.beginning.set) (progress_in c.in-Ok.beginning) c.in-Ok-play_trace.player
     (record {
       loaded = load.loaded;
-      printed = λ bytes o behind told at. play.printed bytes o behind (load.stays.same.each run.trace.now ∙ told) at;
+      printed = λ bytes o behind earned told at. play.printed bytes o behind earned (load.stays.same.each run.trace.now ∙ told) at;
       read = λ is. absurd (cc is);
       wrote = λ is. absurd (cc is);
     })
