@@ -4,25 +4,26 @@ use Rattle.ra_memory.specs.Image.{History, AreImages, written}
 use Rattle.ra_progress.specs.Contents.{Opening, IsOpening}
 use Rattle.ra_progress.specs.Spelling.{progress_bytes}
 use Rattle.ra_set.specs.Accepted.{IsSet}
-use Rattle.ra_runtime.specs.Openings.{snapshot}
+use Rattle.ra_runtime.specs.Earned.{earned_in}
 use Rattle.ra_runtime.specs.Order.{shape_of}
 use Rattle.ra_runtime.specs.declared.event.Event.{Event}
-use Rattle.ra_runtime.specs.Play.{events, lines}
-use Rattle.ra_runtime.specs.Runtime.{RuntimeSeen, IsMade, ShowsKept}
+use Rattle.ra_runtime.specs.Play.{events, lines, earns}
+use Rattle.ra_runtime.specs.Runtime.{RuntimeSeen, IsMade, ShowsKept, StandsAfter}
 
 -- the text spells a set, and this is its runtime before the first frame
 pub record IsLoaded (text : List ℕ) (size : ℕ) (runtime : RuntimeSeen) : Type 0 where
   pub spelled : IsSet text runtime.set
   pub made : IsMade runtime.set size runtime
 
--- a frame over the image with these bytes written: what is kept, told and printed goes on over each history behind it
+-- a frame over the image with these bytes written: what is kept, earned, told and printed goes on over each history behind it
 pub record PlaysFrame (old new : RuntimeSeen) (at : ℕ) (bytes : List ℕ) : Type 0 where
   pub set : new.set ≡ old.set
   pub image : new.image ≡ written old.image at bytes
   pub size : length new.image ≡ length old.image
-  pub kept : (o : Opening) (history : History) → IsOpening (shape_of old.set) o → AreImages history → old.kept ≡ snapshot old.set o history → new.kept ≡ snapshot old.set o (written old.image at bytes ∷ history)
-  pub happened : (o : Opening) (history : History) → IsOpening (shape_of old.set) o → AreImages history → old.kept ≡ snapshot old.set o history → new.events ≡ events old.set o (written old.image at bytes ∷ history)
-  pub printed : (o : Opening) (history : History) → IsOpening (shape_of old.set) o → AreImages history → old.kept ≡ snapshot old.set o history → new.lines ≡ lines old.set o (written old.image at bytes ∷ history)
+  pub kept : (o : Opening) (history : History) → IsOpening (shape_of old.set) o → AreImages history → StandsAfter old o history → StandsAfter new o (written old.image at bytes ∷ history)
+  pub earned : (o : Opening) (history : History) → IsOpening (shape_of old.set) o → AreImages history → StandsAfter old o history → earned_in new.kept ≡ earns old.set o (written old.image at bytes ∷ history) (earned_in old.kept)
+  pub happened : (o : Opening) (history : History) → IsOpening (shape_of old.set) o → AreImages history → StandsAfter old o history → new.events ≡ events old.set o (written old.image at bytes ∷ history) (earned_in old.kept)
+  pub printed : (o : Opening) (history : History) → IsOpening (shape_of old.set) o → AreImages history → StandsAfter old o history → new.lines ≡ lines old.set o (written old.image at bytes ∷ history) (earned_in old.kept)
 
 -- the events are the last ones, and the texts are the presence line and the progress file of what the runtime keeps
 pub record TellsOf (runtime : RuntimeSeen) (last : List Event) (presence progress : List ℕ) : Type 0 where
