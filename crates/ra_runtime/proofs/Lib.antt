@@ -11,6 +11,7 @@ pub mod Each
 pub mod EarnedFrames
 pub mod EarnedItems
 pub mod EventLemmas
+pub mod FewCells
 pub mod Fitting
 pub mod FoldedBoards
 pub mod FoldedLines
@@ -35,6 +36,7 @@ pub mod RestoredPresence
 pub mod RestoredRuns
 pub mod RunsLemmas
 pub mod SaveLemmas
+pub mod SetFiles
 pub mod ShapeLemmas
 pub mod ShowLemmas
 pub mod ShownLines
@@ -46,6 +48,7 @@ pub mod SpelledTrees
 pub mod SteppedLines
 pub mod TakenNumbers
 pub mod TakenUp
+pub mod TreeCounts
 pub mod TreeWords
 pub mod Unplayed
 pub mod WaitingLemmas
