@@ -31,12 +31,15 @@ pub mod OpeningFits
 pub mod PlainOpening
 pub mod PresenceCuts
 pub mod PresenceWords
+pub mod ReadByNames
+pub mod ReadByOther
 pub mod RestoreLemmas
 pub mod RestoredPresence
 pub mod RestoredRuns
 pub mod RunsLemmas
 pub mod SaveLemmas
 pub mod SetFiles
+pub mod SetTexts
 pub mod ShapeLemmas
 pub mod ShowLemmas
 pub mod ShownLines
