@@ -17,7 +17,7 @@ use Rattle.ra_member.proofs.Listed.{In, In_front, In_behind, In_split, In_flat, 
 use Rattle.ra_runtime.proofs.Agreeing.{value_agrees}
 
 -- beside a list of cells stand the numbers that a function gives them
-found_number : (f : Cell → ℕ) (c : Cell) (cells : List Cell) → In c cells → number_beside cells (map f cells) c ≡ f c
+pub found_number : (f : Cell → ℕ) (c : Cell) (cells : List Cell) → In c cells → number_beside cells (map f cells) c ≡ f c
 found_number f c [] h = absurd h
 found_number f c (d ∷ cells) h = elim (same_cell d c) as (λ b. same_cell d c ≡ b → number_beside (d ∷ cells) (map f (d ∷ cells)) c ≡ f c) [
   | true ↦ λ e. rw e (ap f (cell_is d c e))
@@ -27,7 +27,7 @@ found_number f c (d ∷ cells) h = elim (same_cell d c) as (λ b. same_cell d c 
   ])
 ] refl
 
-found_prior : (f : Tracked → ℕ) (t : Tracked) (tracked : List Tracked) → In t tracked → prior_beside tracked (map f tracked) t ≡ f t
+pub found_prior : (f : Tracked → ℕ) (t : Tracked) (tracked : List Tracked) → In t tracked → prior_beside tracked (map f tracked) t ≡ f t
 found_prior f t [] h = absurd h
 found_prior f t (s ∷ tracked) h = elim (same_tracked s t) as (λ b. same_tracked s t ≡ b → prior_beside (s ∷ tracked) (map f (s ∷ tracked)) t ≡ f t) [
   | true ↦ λ e. rw e (ap f (tracked_is s t e))

@@ -26,6 +26,7 @@ pub mod LineLemmas
 pub mod MadeLemmas
 pub mod MaskCounts
 pub mod MemberWords
+pub mod NamedNumbers
 pub mod NewLines
 pub mod OpeningFits
 pub mod PlainOpening
@@ -41,6 +42,7 @@ pub mod SaveLemmas
 pub mod SetFiles
 pub mod SetTexts
 pub mod ShapeLemmas
+pub mod SharedOwns
 pub mod ShowLemmas
 pub mod ShownLines
 pub mod Snapshots

@@ -3,6 +3,7 @@ pub mod BoardLaws
 pub mod BoardRuns
 pub mod Boards
 pub mod Calls
+pub mod Changed
 pub mod Earned
 pub mod EarnedLaws
 pub mod Events
