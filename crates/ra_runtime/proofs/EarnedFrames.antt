@@ -41,7 +41,7 @@ snapshot_with set o earned history =
     (λ i. record s { items = items i })
 
 module _ (start : Start) (image : List ℕ) (earlier : History) where
-  item_with_tells : (item : ItemContents) (e : Bool) (k : KeptItem) → item_events start image earlier (item, item_with e k) ≡ item_events start image earlier (item, k)
+  pub item_with_tells : (item : ItemContents) (e : Bool) (k : KeptItem) → item_events start image earlier (item, item_with e k) ≡ item_events start image earlier (item, k)
   item_with_tells (Unlocks id t) e (OfAchievement state measured hits old) = refl
   item_with_tells (Unlocks id t) e (OfBoard state hits numbers) = refl
   item_with_tells (Ranks id format b) e (OfAchievement state measured hits old) = refl

@@ -83,7 +83,7 @@ module _ (start opened : Start) (earlier : History) where
       (λ i. first i ∷ rest i)
 
   -- the events of an item at the last frame
-  events_of_item : (item : ItemContents) → GoesOn start opened earlier (trees_in_item item) → (kept : KeptItem) → ItemFits (item_shape item) kept → (image : List ℕ) (later : History) → item_events start image (later ++ earlier) (item, kept) ≡ item_events opened image later (item, item_after start earlier (item, kept))
+  pub events_of_item : (item : ItemContents) → GoesOn start opened earlier (trees_in_item item) → (kept : KeptItem) → ItemFits (item_shape item) kept → (image : List ℕ) (later : History) → item_events start image (later ++ earlier) (item, kept) ≡ item_events opened image later (item, item_after start earlier (item, kept))
   events_of_item (Unlocks id t) alike kept fits image later =
       let before = achievement_goes_on t alike (opened_achievement kept) (is_earned kept) later in
       let after = achievement_goes_on t alike (opened_achievement kept) (is_earned kept) (image ∷ later) in
@@ -131,14 +131,14 @@ module _ (start opened : Start) (earlier : History) where
   presence_goes_on (Some script) alike (Some kept) fits later =
       ap (λ k. Some (kept_display k)) (display_goes_on start opened earlier script alike (opened_display script kept) (script_fits script kept fits) later)
 
-  shown_goes_on : (count : ℕ) (script : Option ScriptContents) → GoesOn start opened earlier (flat_map trees_in_line (lines_in script)) → (kept : Option KeptPresence) → PresenceFits (option_map presence_shape script) kept → (later : History) → shown_by start count (later ++ earlier) script kept ≡ shown_by opened count later script (optional_presence start earlier script kept)
+  pub shown_goes_on : (count : ℕ) (script : Option ScriptContents) → GoesOn start opened earlier (flat_map trees_in_line (lines_in script)) → (kept : Option KeptPresence) → PresenceFits (option_map presence_shape script) kept → (later : History) → shown_by start count (later ++ earlier) script kept ≡ shown_by opened count later script (optional_presence start earlier script kept)
   shown_goes_on count None alike kept fits later = refl
   shown_goes_on count (Some script) alike None fits later = refl
   shown_goes_on count (Some script) alike (Some kept) fits later =
       ap (λ k. line_of (codes "presence" ∷ decimal count ∷ display_text script k ∷ [])) (display_goes_on start opened earlier script alike (opened_display script kept) (script_fits script kept fits) later)
 
 -- counts that stop at the last number go on as one
-counts_go_on : (count m n : ℕ) → frames_after (frames_after count m) n ≡ frames_after count (n + m)
+pub counts_go_on : (count m n : ℕ) → frames_after (frames_after count m) n ≡ frames_after count (n + m)
 counts_go_on count m n = omega arith
 
 length_both : (later earlier : History) → length (later ++ earlier) ≡ length later + length earlier

@@ -4,6 +4,7 @@ pub mod Beside
 pub mod BoardLemmas
 pub mod CallLemmas
 pub mod CellWords
+pub mod ChangedSets
 pub mod Covered
 pub mod Digests
 pub mod DisplayRows
@@ -17,6 +18,7 @@ pub mod FoldedBoards
 pub mod FoldedLines
 pub mod FrameLemmas
 pub mod GroupWords
+pub mod ItemByItem
 pub mod ItemCuts
 pub mod ItemLemmas
 pub mod ItemStates
@@ -27,6 +29,7 @@ pub mod MadeLemmas
 pub mod MaskCounts
 pub mod MemberWords
 pub mod NamedNumbers
+pub mod NamedThings
 pub mod NewLines
 pub mod OpeningFits
 pub mod PlainOpening
@@ -52,6 +55,7 @@ pub mod SpelledSets
 pub mod SpelledTrees
 pub mod SteppedLines
 pub mod TakenNumbers
+pub mod TakenOver
 pub mod TakenUp
 pub mod TreeCounts
 pub mod TreeWords

@@ -25,8 +25,8 @@ pub use event::Event;
 pub use events::Events;
 pub use item_state::ItemState;
 pub use laws::{
-    calls_succeed, earned_achievements_stay_earned, histories_are_folds, histories_may_be_cut,
-    openings_stand,
+    calls_succeed, changed_sets_go_on, earned_achievements_stay_earned, histories_are_folds,
+    histories_may_be_cut, openings_stand,
 };
 pub use runtime::Runtime;
 pub use shapes::shape_of;
