@@ -61,6 +61,7 @@ pub mod TreeCounts
 pub mod TreeWords
 pub mod Unplayed
 pub mod WaitingLemmas
+pub mod WorkedChange
 pub mod WorkedFiles
 pub mod WorkedLines
 pub mod WorkedSets
