@@ -10,7 +10,7 @@ use Rattle.ra_group.specs.declared.outcome.Outcome.{Outcome}
 use Rattle.ra_group.specs.declared.form.Form.TheVariants.{InTrigger}
 use Rattle.ra_group.specs.Equations.{Frame, frame_of, settled, seen_after, prev_of, settled_at}
 use Rattle.ra_group.specs.Outcome.{some_valid, all_valid, outcome_of, next_hit, next_hits}
-use Rattle.ra_trigger.specs.Steps.{together, frames_along, core_and_some, core_or_all}
+use Rattle.ra_trigger.specs.Steps.{together, frames_along, core_and_some, core_or_all, has_trigger}
 
 module _ (cs : List Condition) (truths : List Bool) (lefts lefts' hits : List ℕ) where
   abbrev f : Frame
@@ -102,6 +102,9 @@ module _ (field : Outcome → Bool) (same : (cs : List Condition) (truths : List
     some_along : core_and_some field (map (outcome_of InTrigger) (frames_along groups truths lefts hits)) ≡ core_and_some field (map (outcome_of InTrigger) (frames_along groups truths lefts' hits))
     some_along = some_is _ ∙ ap some_of (fields_same groups truths lefts lefts' hits) ∙ sym (some_is _)
 
+    every_along : core_or_all field (map (outcome_of InTrigger) (frames_along groups truths lefts hits)) ≡ core_or_all field (map (outcome_of InTrigger) (frames_along groups truths lefts' hits))
+    every_along = every_is _ ∙ ap every_of (fields_same groups truths lefts lefts' hits) ∙ sym (every_is _)
+
 hits_along : (groups : List (List Condition)) (truths : List Bool) (lefts lefts' hits : List ℕ) → flat_map next_hits (frames_along groups truths lefts hits) ≡ flat_map next_hits (frames_along groups truths lefts' hits)
 hits_along [] truths lefts lefts' hits = refl
 hits_along (cs ∷ groups) truths lefts lefts' hits =
@@ -118,3 +121,9 @@ module _ (t : TriggerContents) (truths : List Bool) (lefts lefts' hits : List �
 
   pub together_hits : (together t truths lefts hits).hits ≡ (together t truths lefts' hits).hits
   together_hits = hits_along (groups_of t) truths lefts lefts' hits
+
+  pub together_paused : (together t truths lefts hits).paused ≡ (together t truths lefts' hits).paused
+  together_paused = every_along (λ o. o.paused) paused_same (groups_of t) truths lefts lefts' hits
+
+  pub together_primed : (together t truths lefts hits).primed ≡ (together t truths lefts' hits).primed
+  together_primed = ap₂ (λ r p. not r && (has_trigger (groups_of t) && p)) together_reset (some_along (λ o. o.primed) primed_same (groups_of t) truths lefts lefts' hits)

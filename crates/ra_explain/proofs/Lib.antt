@@ -1,3 +1,5 @@
+pub mod AlikeLemmas
+pub mod BeginningLemmas
 pub mod ColumnLemmas
 pub mod FollowLemmas
 pub mod FrameLemmas
@@ -7,6 +9,7 @@ pub mod LeftLemmas
 pub mod MadeLemmas
 pub mod NoteLemmas
 pub mod PauseLemmas
+pub mod ReplayedLemmas
 pub mod RowLemmas
 pub mod SlotLemmas
 pub mod TakenLemmas

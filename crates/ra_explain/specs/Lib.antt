@@ -1,3 +1,4 @@
+pub mod Beginnings
 pub mod Explains
 pub mod Making
 pub mod Recorders

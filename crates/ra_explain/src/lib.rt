@@ -1,6 +1,7 @@
 //! Why an unlock came: an achievement is recorded frame by frame, with the comparisons of its conditions.
 #![tactic(auto)]
 
+mod beginning;
 mod checking;
 mod explanation;
 mod indices;

@@ -2,14 +2,17 @@
 
 ghost use Rattle.std.specs.Prelude.{◌≡◌, length, replicate, IfOk};
 ghost use Rattle.ra_condition.specs.Contents.{trigger_contents, trigger_hits};
+ghost use Rattle.ra_trigger.specs.Kept.{no_trigger};
+ghost use Rattle.ra_trigger.specs.States.{is_waiting};
 ghost use Rattle.ra_trigger.specs.Steps.{together};
+ghost use Rattle.ra_explain.specs.Beginnings.{StepsOver};
 ghost use Rattle.ra_explain.specs.Replays.{AreOrders, IsReplay, StepsRow};
 
 use crate::orders::{Orders, orders_of};
 use ra_condition::TriggerText;
 use ra_group::{Form, step_at};
 use ra_text::OutOfMemory;
-use ra_trigger::Trigger;
+use ra_trigger::{State, Trigger};
 use std::alloc::Global;
 
 /// What the groups say together at a row.
@@ -35,6 +38,7 @@ impl Replay {
     // All hits are 0.
     pub(crate) fn new(alloc: Global, text: &TriggerText) -> Result<Replay, OutOfMemory>
         ensures replay { IfOk result (IsReplay (trigger_contents text.now)) }
+        ensures plain { IfOk result (λ replay. replay.trigger ≡ no_trigger (trigger_contents text.now)) }
         ensures hits { IfOk result (λ replay. replay.trigger.hits ≡ replicate (trigger_hits (trigger_contents text.now)) 0) }
     {
         let orders = orders_of(alloc, text)?;
@@ -71,6 +75,32 @@ impl Replay {
         );
         Said { reset, valid }
     }
+
+    // Steps the achievement by a row, and answers whether its hits are cleared there.
+    pub(crate) fn advance(&mut self, text: &TriggerText, row: &[bool]) -> bool
+        requires replay { IsReplay (trigger_contents text.now) self.old }
+        requires row { length row.now ≡ trigger_hits (trigger_contents text.now) }
+        ensures replay { IsReplay (trigger_contents text.now) self.new }
+        ensures steps { StepsOver (trigger_contents text.now) row.now self.old.trigger self.new.trigger result }
+    {
+        self.room.copy_from_slice(self.trigger.hits());
+        let reset = resets(text, &self.orders, row, &self.zeros, &mut self.room);
+        let change = self.trigger.step(
+            text,
+            &self.orders.order,
+            &self.orders.pauses,
+            row,
+            &self.zeros,
+        );
+        reset | waits(change.after)
+    }
+}
+
+// Whether a state waits.
+pub(crate) fn waits(state: State) -> bool
+    ensures { result ≡ is_waiting state }
+{
+    matches!(state, State::Waiting)
 }
 
 // Whether some group resets, from these hits, which are used up.
