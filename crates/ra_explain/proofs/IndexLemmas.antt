@@ -1,5 +1,5 @@
 -- The indices of the rows from a place back, one place further.
-use Rattle.std.proofs.Common.{◌≡◌, ℕ, ◌+◌, ◌-◌, ◌<◌, ◌≤◌, Bool, List, [], ◌∷◌, ◌++◌, length, map, slice_index, sym, ◌∙◌, ap, arith, append_assoc}
+use Rattle.std.proofs.Common.{◌≡◌, ℕ, suc, ◌+◌, ◌-◌, ◌<◌, ◌≤◌, Bool, List, [], ◌∷◌, ◌++◌, length, map, slice_index, sym, ◌∙◌, ap, arith, append_assoc}
 use Rattle.std.specs.List.{AllByRecursion}
 use Rattle.std.proofs.lemmas.List.{append-nil, map-append}
 use Rattle.ra_explain.specs.RowLists.{rows_from, behind_each, row_at, AreEarlier}
@@ -35,3 +35,17 @@ pub none_back : (width : ℕ) (truths : List Bool) (links indices : List ℕ) (a
 none_back width truths links indices at first =
     sym (append-nil (map (row_at width truths) indices))
     ∙ ap (λ xs. map (row_at width truths) indices ++ xs) (sym (ap (rows_from (behind_each width truths links)) first ∙ known_stay width ([] ∷ []) truths links 0 (omega arith)))
+
+-- a row fewer from the place that the row before a place comes behind
+pub one_fewer : (width : ℕ) (truths : List Bool) (links : List ℕ) (at : ℕ) → AreEarlier links → 0 < at → at ≤ length links
+    → length (rows_from (behind_each width truths links) at) ≡ length (rows_from (behind_each width truths links) (slice_index links (at - 1))) + 1
+one_fewer width truths links at earlier some within =
+    let rows = behind_each width truths links in
+    let here : 1 + (at - 1) ≡ at = omega arith in
+    let below : at - 1 < length links = omega arith in
+    let one : length (rows_from rows (1 + (at - 1))) ≡ suc (length (rows_from rows (slice_index links (at - 1)))) = ap length (row_at_place width ([] ∷ []) truths links (at - 1) below (let e = earlier (at - 1) below in omega (arith, e))) in
+    omega (arith, ap (λ n. length (rows_from rows n)) here, one)
+
+-- at the first place there are none
+pub none_first : (width : ℕ) (truths : List Bool) (links : List ℕ) → rows_from (behind_each width truths links) 0 ≡ []
+none_first width truths links = known_stay width ([] ∷ []) truths links 0 (omega arith)

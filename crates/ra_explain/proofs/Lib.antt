@@ -1,9 +1,11 @@
 pub mod AlikeLemmas
 pub mod BeginningLemmas
 pub mod ColumnLemmas
+pub mod ExplainedLemmas
 pub mod FollowLemmas
 pub mod FrameLemmas
 pub mod GroupsLemmas
+pub mod HistoryLemmas
 pub mod IndexLemmas
 pub mod LeftLemmas
 pub mod MadeLemmas

@@ -7,3 +7,4 @@ pub mod RowLists
 pub mod RowsInside
 pub mod Seen
 pub mod Slots
+pub mod Unlocks

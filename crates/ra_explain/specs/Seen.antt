@@ -1,10 +1,11 @@
 -- What a recorder is seen as, by its fields, and what these always have: docs/DEFINITIONS.md, "Recorders".
-use Rattle.std.specs.Prelude.{◌≡◌, ◌+◌, ◌-◌, ◌*◌, ◌<◌, ◌≤◌, option_map, length, map}
+use Rattle.std.specs.Prelude.{◌≡◌, ◌+◌, ◌-◌, ◌*◌, ◌<◌, ◌≤◌, true, option_map, length, map}
 use Rattle.std.specs.List.{AllByRecursion}
 use Rattle.ra_condition.specs.Contents.{trigger_contents, trigger_hits}
 use Rattle.ra_memref.specs.Table.{Agrees}
 use Rattle.ra_member.specs.Runs.{IsTriggerRun}
 use Rattle.ra_explain.specs.declared.recorder.Recorder.TheInside.{Inside}
+use Rattle.ra_explain.specs.Beginnings.{StandsAtUnlock}
 use Rattle.ra_explain.specs.Making.{IsOver}
 use Rattle.ra_explain.specs.Recorders.{RecorderSeen, most_rows}
 use Rattle.ra_explain.specs.RowLists.{rows_from}
@@ -21,7 +22,8 @@ recorder_seen t = record {
   unlocked = t.unlocked;
 }
 
--- the table is over the trigger and the memory, the plan is the trigger's, and what is kept stands for some history
+-- the table is over the trigger and the memory, the plan is the trigger's, and what is kept stands for some history, for one
+-- that ends with an unlock where the last frame was one
 pub record IsRecorder (t : Inside) : Type 0 where
   pub few : trigger_hits (trigger_contents t.text) ≤ 65536
   pub over : IsOver (trigger_contents t.text) t.table
@@ -34,3 +36,4 @@ pub record IsRecorder (t : Inside) : Type 0 where
   pub somewhere : StandsSomewhere (trigger_contents t.text) (kept_by t.table t.run.trigger (rows_from t.rows.behind t.latest))
   pub sixteen : length t.slots.items ≡ 16
   pub slots_fit : AllByRecursion (FitsOptional (trigger_contents t.text) t.rows.behind) t.slots.items
+  pub unlock : t.unlocked ≡ true → StandsAtUnlock (trigger_contents t.text) (kept_by t.table t.run.trigger (rows_from t.rows.behind t.latest))

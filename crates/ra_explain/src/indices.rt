@@ -1,6 +1,6 @@
 //! The rows from a place back, by their indices.
 
-ghost use Rattle.std.specs.Prelude.{◌≤◌, ◌*◌, ◌≡◌, length, reverse, IfOk};
+ghost use Rattle.std.specs.Prelude.{◌≤◌, ◌*◌, ◌≡◌, ℕ, Bool, List, length, reverse, IfOk};
 ghost use Rattle.std.specs.List.{flat_map};
 ghost use Rattle.ra_explain.specs.RowLists.{AreEarlier, AreIndices, behind_each, rows_from};
 
@@ -25,6 +25,21 @@ pub(crate) fn indices_from(
         at = links[index as usize];
     }
     Ok(indices)
+}
+
+// How many rows there are from a place back.
+pub(crate) fn count_from(links: &[u32], place: u32) -> u32
+    requires earlier { AreEarlier links.now }
+    requires there { place ≤ length links.now }
+    ensures { (width : ℕ) (truths : List Bool) → length (rows_from (behind_each width truths links.now) place) ≡ result }
+{
+    let mut count = 0;
+    let mut at = place;
+    while at > 0 {
+        count += 1;
+        at = links[at as usize - 1];
+    }
+    count
 }
 
 // The rows of these indices, the last first.

@@ -1,10 +1,12 @@
-ghost use Rattle.std.specs.Prelude.{◌≡◌, ◌↔◌, IsTrue, ◌+◌, ◌-◌, ◌*◌, ◌<◌, ◌≤◌, ◌^◌, ◌&&◌, not, None, length, replicate, option_map, slice_index_or, IfOk, IfErr, OnErr};
+ghost use Rattle.std.specs.Prelude.{◌≡◌, ◌↔◌, IsTrue, ◌+◌, ◌-◌, ◌*◌, ◌<◌, ◌≤◌, ◌^◌, ◌&&◌, not, true, None, length, replicate, option_map, slice_index_or, IfOk, IfErr, OnErr};
 ghost use Rattle.std.specs.Result.{OnOk};
 ghost use Rattle.ra_condition.specs.Contents.{trigger_contents, trigger_hits};
 ghost use Rattle.ra_condition.specs.Spelled.{IsTrigger};
 ghost use Rattle.ra_explain.specs.Recorders.{product_of};
 ghost use Rattle.ra_trigger.specs.States.{is_triggered};
 
+use crate::beginning::explained;
+use crate::explanation::Explanation;
 use crate::laying::laid_out;
 use crate::refused::ExplainRefused;
 use crate::row_list::RowList;
@@ -58,6 +60,8 @@ impl Model for Recorder {
 
 impl Recorder {
     ghost use Rattle.ra_explain.specs.Recorders.{KeepsHistories, KeepsSlots, KeepsOtherSlots, IsNew, IsWritten, TakesFrame, RefusesFrame, IsSaved, IsFilled, IsRestored, TakesUpSlot, rows_in_order};
+    ghost use Rattle.ra_explain.specs.Explains.{explanation_contents};
+    ghost use Rattle.ra_explain.specs.Unlocks.{ExplainsBehind, FitsRows};
 
     /// An achievement over a memory of `size` bytes, all 0, before the first frame.
     ///
@@ -174,6 +178,27 @@ impl Recorder {
         ensures { IfOk result (λ rows. rows.items ≡ rows_in_order self.now.kept) }
     {
         self.rows.behind(alloc, self.latest)
+    }
+
+    /// The trigger that it was made with.
+    pub fn text(&self) -> &TriggerText
+        ensures { trigger_contents result.now ≡ self.now.trigger }
+    {
+        &self.text
+    }
+
+    /// Why the unlock at the last frame came: docs/DEFINITIONS.md, "Explanations".
+    ///
+    /// The last call but of `write`, `save`, `rows` and `explain` was a frame that answered true. `verify` may be asked
+    /// of the answer over `rows`.
+    pub fn explain(&self, alloc: Global) -> Result<Explanation, OutOfMemory>
+        requires { self.now.unlocked ≡ true }
+        ensures explains { IfOk result (λ e. ExplainsBehind self.now (explanation_contents e)) }
+        ensures fits { IfOk result (λ e. FitsRows self.now (explanation_contents e)) }
+    {
+        let rows = self.rows.behind(alloc, self.latest)?;
+        let count = self.rows.count(self.latest);
+        explained(alloc, &self.text, &rows, count - 1)
     }
 }
 

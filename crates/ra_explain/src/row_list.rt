@@ -7,7 +7,7 @@ ghost use Rattle.ra_member.specs.Readings.{truths_by, numbers_at};
 ghost use Rattle.ra_member.specs.Runs.{MayFill};
 ghost use Rattle.ra_explain.specs.RowLists.{rows_from, with_row, refilled, truths_laid};
 
-use crate::indices::rows_at;
+use crate::indices::{count_from, rows_at};
 use crate::row::read_row;
 use ra_member::Laid;
 use ra_memref::Table;
@@ -97,5 +97,13 @@ impl RowList {
         ensures { IfOk result (λ rows. rows.items ≡ flat_map (λ row. row) (reverse (rows_from self.now.behind place))) }
     {
         rows_at(alloc, self.width, &self.truths, &self.links, place)
+    }
+
+    // How many rows there are from a place back.
+    pub(crate) fn count(&self, place: u32) -> u32
+        requires { place < length self.now.behind }
+        ensures { length (rows_from self.now.behind place) ≡ result }
+    {
+        count_from(&self.links, place)
     }
 }

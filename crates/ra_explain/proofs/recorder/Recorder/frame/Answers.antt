@@ -43,6 +43,14 @@ invariant_of-self-2 g c =
       rows_few = subst (λ n. n * (trigger_hits t + 1) ≤ most_rows) (sym frames) product;
       latest = omega (arith, c.len.ensures);
       somewhere = somewhere_on t r.table table r.memory r.run run c.step-change.result r.rows c.fill.new.self r.latest c.len.result inv.over c.sample.ensures.taken c.step-change.ensures.run c.step-change.ensures.steps grown c.len.ensures inv.somewhere;
+      unlock = λ is. record {
+        image = r.memory;
+        earlier = inv.somewhere.history;
+        stands = stands_on t r.table table r.memory r.run run c.step-change.result r.rows c.fill.new.self r.latest c.len.result inv.over c.sample.ensures.taken c.step-change.ensures.run c.step-change.ensures.steps grown c.len.ensures inv.somewhere.history inv.somewhere.stands;
+        unlocks =
+            sym (frame_answers t r.table table r.memory r.run run c.step-change.result (rows_from r.rows.behind r.latest) inv.over c.sample.ensures.taken c.step-change.ensures.run c.step-change.ensures.steps inv.somewhere.history inv.somewhere.stands)
+            ∙ sym c.unlocks-self-inside.ensures ∙ is;
+      };
       sixteen = inv.sixteen;
       slots_fit = slots_fit_on t r.table table r.memory r.run run c.step-change.result r.rows c.fill.new.self r.latest c.len.result inv.over c.sample.ensures.taken c.step-change.ensures.run c.step-change.ensures.steps grown c.len.ensures r.slots.items inv.slots_fit;
     }

@@ -1,5 +1,6 @@
 use Rattle.std.proofs.Common.{◌≡◌, ◌≤◌, ◌+◌, ◌-◌, ◌*◌, [], None, Option, length, refl, ap, sym, subst, ◌∙◌, arith}
 use Rattle.std.specs.List.{AllByRecursion}
+use Rattle.std.proofs.lemmas.Bool.{false≢true}
 use Rattle.std.proofs.lemmas.List.{length-replicate}
 use Rattle.ra_condition.specs.Contents.{trigger_contents, trigger_hits}
 use Rattle.ra_indirect.specs.Pools.{cells_of}
@@ -33,6 +34,7 @@ invariant_of-result c =
       rows_few = subst (λ n. n * (trigger_hits t + 1) ≤ most_rows) (sym frames) few;
       latest = omega (arith, one);
       somewhere = record { history = []; stands = subst (λ rs. StandsFor t (kept_by table run.trigger rs) []) (sym none) (stands_first t c.args.size table run laid) };
+      unlock = λ is. absurd (false≢true is);
       sixteen = ap length c.in_ok-memory.ensures.slots ∙ length-replicate {A = Option Slot} 16 None;
       slots_fit = subst (AllByRecursion (FitsOptional t rows.behind)) (sym c.in_ok-memory.ensures.slots) (slots_fit_none t rows.behind 16);
     }

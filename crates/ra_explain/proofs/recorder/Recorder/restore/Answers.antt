@@ -1,4 +1,5 @@
 use Rattle.std.proofs.Common.{◌≡◌, false, None, Some, List, length, slice_index_or, ap, sym, subst, ◌∙◌}
+use Rattle.std.proofs.lemmas.Bool.{false≢true}
 use Rattle.ra_condition.specs.Contents.{trigger_contents, groups_of}
 use Rattle.ra_indirect.specs.declared.node.Node.{Node}
 use Rattle.ra_indirect.specs.Pools.{cells_of, tracked_of}
@@ -38,6 +39,7 @@ invariant_of-self c =
       rows_few = inv.rows_few;
       latest = fits.latest;
       somewhere = subst (StandsSomewhere t) (sym taken) fits.somewhere;
+      unlock = λ is. absurd (false≢true is);
       sixteen = inv.sixteen;
       slots_fit = inv.slots_fit;
     }

@@ -25,6 +25,7 @@ invariant_of-self c =
       rows_few = inv.rows_few;
       latest = inv.latest;
       somewhere = inv.somewhere;
+      unlock = inv.unlock;
       sixteen = length-set r.slots.items c.from.result (Some c.in_ok-kept.kept) ∙ inv.sixteen;
       slots_fit = slots_fit_set t r.rows.behind r.slots.items c.from.result c.in_ok-kept.kept inv.slots_fit (new_slot_fits t r.table r.run.trigger r.rows.behind r.latest c.in_ok-kept.kept counts inv.latest inv.somewhere c.in_ok-kept.ensures);
     }

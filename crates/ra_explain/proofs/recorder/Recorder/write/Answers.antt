@@ -7,6 +7,7 @@ use Rattle.ra_memory.specs.Image.{written}
 use Rattle.ra_memref.specs.Table.{TableSeen, DifferWithin}
 use Rattle.ra_memref.proofs.AgreeLemmas.{DifferWithin-written}
 use Rattle.ra_member.specs.Runs.{IsTriggerRun}
+use Rattle.ra_explain.specs.Beginnings.{StandsAtUnlock}
 use Rattle.ra_explain.specs.Recorders.{RecorderSeen}
 use Rattle.ra_explain.specs.RowLists.{rows_from}
 use Rattle.ra_explain.specs.Slots.{kept_by, StandsSomewhere}
@@ -42,6 +43,7 @@ invariant_of-self c =
       rows_few = inv.rows_few;
       latest = inv.latest;
       somewhere = subst (λ (s : TableSeen). StandsSomewhere t (kept_by s r.run.trigger (rows_from r.rows.behind r.latest))) (sym told.rest) inv.somewhere;
+      unlock = λ is. subst (λ (s : TableSeen). StandsAtUnlock t (kept_by s r.run.trigger (rows_from r.rows.behind r.latest))) (sym told.rest) (inv.unlock is);
       sixteen = inv.sixteen;
       slots_fit = inv.slots_fit;
     }
