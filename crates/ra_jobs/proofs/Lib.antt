@@ -1,6 +1,7 @@
 pub mod BothShape
 pub mod CheckShape
 pub mod CommandLemmas
+pub mod ExplainShape
 pub mod ImportShape
 pub mod LintShape
 pub mod MakeShape

@@ -5,10 +5,11 @@ use Rattle.std.proofs.lemmas.Bool.{not-true}
 use Rattle.std.proofs.lemmas.Slice.Eq.{bytes_eq-Decides}
 use Rattle.clap.specs.Words.{Text, takes}
 use Rattle.ra_jobs.specs.Words.{Job, is_name}
-use Rattle.ra_jobs.specs.JobWords.{is_number, job_of, run_of, check_of, make_of, import_of, lint_of, normal_of, options_of}
+use Rattle.ra_jobs.specs.JobWords.{is_number, job_of, run_of, check_of, make_of, import_of, lint_of, normal_of, explain_of, options_of}
 use Rattle.ra_jobs.specs.JobCommand.{player_app, job_read}
 use Rattle.ra_jobs.proofs.BothShape as both
 use Rattle.ra_jobs.proofs.CheckShape as check
+use Rattle.ra_jobs.proofs.ExplainShape as explain
 use Rattle.ra_jobs.proofs.ImportShape as import_
 use Rattle.ra_jobs.proofs.LintShape as lint
 use Rattle.ra_jobs.proofs.MakeShape as make
@@ -102,6 +103,16 @@ normal_is (c ∷ cs) (d ∷ ds) s t =
     let hd : (d == 45) ≡ false = not-true (d == 45) t in
     record { taken = normal.taken c d cs ds hc hd; read = normal.read c d cs ds hc hd ∙ rw (hc, hd) refl }
 
+explain_is : (set trace word : Text) → is_name set ≡ true → is_name trace ≡ true → is_number word ≡ true → IsTaken (codes "explain" ∷ set ∷ trace ∷ word ∷ [])
+explain_is [] trace word s t n = cc
+explain_is (c ∷ cs) [] word s t n = cc
+explain_is (c ∷ cs) (d ∷ ds) [] s t n = absurd (nothing n)
+explain_is (c ∷ cs) (d ∷ ds) (e ∷ es) s t n =
+    let hc : (c == 45) ≡ false = not-true (c == 45) s in
+    let hd : (d == 45) ≡ false = not-true (d == 45) t in
+    let he : (e == 45) ≡ false = dashed e es n in
+    record { taken = explain.taken c d e cs ds es hc hd he; read = explain.read c d e cs ds es hc hd he ∙ rw (hc, hd) refl }
+
 -- one option with its file
 one_option : (option file : Text) → is_some (options_of (option ∷ file ∷ [])) ≡ true → (is_name file ≡ true) × ((option ≡ codes "--restore") ⊎ (option ≡ codes "--save"))
 one_option option file h = search (rules, bytes_eq-Decides option (codes "--restore"), bytes_eq-Decides option (codes "--save"))
@@ -171,6 +182,17 @@ normal_words (set ∷ []) h = cc
 normal_words (set ∷ out ∷ []) h = let p = set_and_out set out h in normal_is set out p.0 p.1
 normal_words (set ∷ out ∷ more ∷ words) h = cc
 
+-- two names and a number behind `explain`
+names_and_id : (set trace word : Text) → is_some (explain_of (set ∷ trace ∷ word ∷ [])) ≡ true → (is_name set ≡ true) × (is_name trace ≡ true) × (is_number word ≡ true)
+names_and_id set trace word h = search rules
+
+explain_words : (words : List Text) → is_some (explain_of words) ≡ true → IsTaken (codes "explain" ∷ words)
+explain_words [] h = cc
+explain_words (set ∷ []) h = cc
+explain_words (set ∷ trace ∷ []) h = cc
+explain_words (set ∷ trace ∷ word ∷ []) h = let p = names_and_id set trace word h in explain_is set trace word p.0 p.1 p.2
+explain_words (set ∷ trace ∷ word ∷ more ∷ words) h = cc
+
 -- the words begin with this name, and those behind it are of this job
 abbrev Begins : Text → (List Text → Option Job) → Text → List Text → Type 0
 Begins name of word words = (word ≡ name) × (is_some (of words) ≡ true)
@@ -187,15 +209,26 @@ begun : (name word : Text) (of : List Text → Option Job) (words : List Text) �
 begun name word of words taken r = subst (λ (w : Text). IsTaken (w ∷ words)) (sym r.0) (taken words r.1)
 
 -- the words of a job, by their name: one name after the other
-by_normal : (word : Text) (words : List Text) → is_some (if bytes_eq word (codes "normal") then normal_of words else None) ≡ true → IsTaken (word ∷ words)
-by_normal word words h = elim (choose (codes "normal") word normal_of words None (bytes_eq word (codes "normal")) refl h) [
-  | inl r ↦ begun (codes "normal") word normal_of words normal_words r
+by_explain : (word : Text) (words : List Text) → is_some (if bytes_eq word (codes "explain") then explain_of words else None) ≡ true → IsTaken (word ∷ words)
+by_explain word words h = elim (choose (codes "explain") word explain_of words None (bytes_eq word (codes "explain")) refl h) [
+  | inl r ↦ begun (codes "explain") word explain_of words explain_words r
   | inr e ↦ cc
+]
+
+by_normal : (word : Text) (words : List Text)
+    → is_some (if bytes_eq word (codes "normal") then normal_of words else if bytes_eq word (codes "explain") then explain_of words else None) ≡ true → IsTaken (word ∷ words)
+by_normal word words h = elim (choose (codes "normal") word normal_of words _ (bytes_eq word (codes "normal")) refl h) [
+  | inl r ↦ begun (codes "normal") word normal_of words normal_words r
+  | inr e ↦ by_explain word words e
 ]
 
 -- the job that words behind the name of an import ask for
 abbrev last_job : Text → List Text → Option Job
-last_job word words = if bytes_eq word (codes "lint") then lint_of words else if bytes_eq word (codes "normal") then normal_of words else None
+last_job word words =
+    if bytes_eq word (codes "lint") then lint_of words
+    else if bytes_eq word (codes "normal") then normal_of words
+    else if bytes_eq word (codes "explain") then explain_of words
+    else None
 
 by_lint : (word : Text) (words : List Text) → is_some (last_job word words) ≡ true → IsTaken (word ∷ words)
 by_lint word words h = elim (choose (codes "lint") word lint_of words _ (bytes_eq word (codes "lint")) refl h) [

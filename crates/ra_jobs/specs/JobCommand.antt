@@ -2,7 +2,7 @@
 use Rattle.std.specs.Prelude.{Option, Some, None, true, List, codes, bytes_eq, if◌then◌else◌, option_map, option_and_then}
 use Rattle.clap.specs.Words.{App, Row, Rule, Text, new_app, new_rule, with_rule, with_subcommand, first_of, subcommand_of}
 use Rattle.clap.specs.declared.builder.action.ArgAction.TheVariants.{Set}
-use Rattle.ra_jobs.specs.Words.{Job, Run, Check, Make, Import, Lint, Normal}
+use Rattle.ra_jobs.specs.Words.{Job, Run, Check, Make, Import, Lint, Normal, Explain}
 use Rattle.ra_jobs.specs.JobWords.{number_of}
 
 -- a word that has to be there
@@ -27,6 +27,10 @@ short_app name id = with_rule (new_app name) (required_rule id)
 abbrev pub pair_app : Text → Text → Text → App
 pair_app name first second = with_rule (with_rule (new_app name) (required_rule first)) (required_rule second)
 
+-- `explain SET TRACE ID`
+abbrev pub explain_app : App
+explain_app = with_rule (pair_app (codes "explain") (codes "SET") (codes "TRACE")) (required_rule (codes "ID"))
+
 -- the command before its jobs are named: its words have no name of the program in front
 abbrev pub bare_app : App
 bare_app = let app = new_app (codes "ra_player") in record app { top = record app.top { no_binary_name = true } }
@@ -34,10 +38,10 @@ bare_app = let app = new_app (codes "ra_player") in record app { top = record ap
 -- the command with its jobs
 abbrev pub player_app : App
 player_app =
-    with_subcommand (with_subcommand (with_subcommand (with_subcommand (with_subcommand (with_subcommand bare_app run_app.top)
+    with_subcommand (with_subcommand (with_subcommand (with_subcommand (with_subcommand (with_subcommand (with_subcommand bare_app run_app.top)
     (short_app (codes "check") (codes "SET")).top) (short_app (codes "make") (codes "N")).top)
     (pair_app (codes "import") (codes "FILE") (codes "SET")).top) (short_app (codes "lint") (codes "SET")).top)
-    (pair_app (codes "normal") (codes "SET") (codes "OUT")).top
+    (pair_app (codes "normal") (codes "SET") (codes "OUT")).top) explain_app.top
 
 -- a run of two files and of those options that are there
 abbrev pub run_with : Option Text → Option Text → Option Text → Option Text → Option Job
@@ -71,6 +75,11 @@ abbrev pub normal_given : List Row → Option Job
 normal_given rows =
     option_and_then (λ set. option_map (Normal set) (first_of (codes "OUT") rows)) (first_of (codes "SET") rows)
 
+-- the explanation of the values that were given
+abbrev pub explain_given : List Row → Option Job
+explain_given rows =
+    option_and_then (λ set. option_and_then (λ trace. option_map (Explain set trace) (option_and_then number_of (first_of (codes "ID") rows))) (first_of (codes "TRACE") rows)) (first_of (codes "SET") rows)
+
 -- the job of a name, with the values that were given
 abbrev pub job_given : Text → List Row → Option Job
 job_given name rows =
@@ -80,6 +89,7 @@ job_given name rows =
     else if bytes_eq name (codes "import") then import_given rows
     else if bytes_eq name (codes "lint") then lint_given rows
     else if bytes_eq name (codes "normal") then normal_given rows
+    else if bytes_eq name (codes "explain") then explain_given rows
     else None
 
 -- the job that clap reads of the words

@@ -1,6 +1,6 @@
 -- The job of the words: docs/DEFINITIONS.md, "Jobs".
 use Rattle.std.specs.Prelude.{ℕ, ◌+◌, ◌-◌, ◌*◌, ◌^◌, ◌&&◌, Bool, not, if◌then◌else◌, nat_lt, Option, None, Some, option_map, List, [], ◌∷◌, fold, codes, bytes_eq, decimal}
-use Rattle.ra_jobs.specs.Words.{Job, Run, Check, Make, Import, Lint, Normal, is_name}
+use Rattle.ra_jobs.specs.Words.{Job, Run, Check, Make, Import, Lint, Normal, Explain, is_name}
 use Rattle.ra_jobs.specs.declared.job_words.Job.{Job as ReadJob}
 use Rattle.ra_jobs.specs.declared.job_words.Job.TheVariants as read
 
@@ -61,6 +61,11 @@ abbrev pub normal_of : List (List ℕ) → Option Job
 normal_of (set ∷ out ∷ []) = if is_name set && is_name out then Some (Normal set out) else None
 normal_of _ = None
 
+-- the words behind `explain`: a set, a trace and the id of an achievement
+abbrev pub explain_of : List (List ℕ) → Option Job
+explain_of (set ∷ trace ∷ id ∷ []) = if is_name set && is_name trace then option_map (Explain set trace) (number_of id) else None
+explain_of _ = None
+
 -- the job that the words ask for, where they are one
 abbrev pub job_of : List (List ℕ) → Option Job
 job_of [] = None
@@ -71,6 +76,7 @@ job_of (name ∷ words) =
     else if bytes_eq name (codes "import") then import_of words
     else if bytes_eq name (codes "lint") then lint_of words
     else if bytes_eq name (codes "normal") then normal_of words
+    else if bytes_eq name (codes "explain") then explain_of words
     else None
 
 -- what a job that was read asks for
@@ -82,3 +88,4 @@ job_contents (read.Make number) = Make number
 job_contents (read.Import file set) = Import file.now set.now
 job_contents (read.Lint set) = Lint set.now
 job_contents (read.Normal set out) = Normal set.now out.now
+job_contents (read.Explain set trace id) = Explain set.now trace.now id

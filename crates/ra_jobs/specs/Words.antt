@@ -2,7 +2,7 @@
 use Rattle.std.specs.Prelude.{ℕ, Bool, false, not, ◌==◌, Option, None, Some, List, [], ◌∷◌}
 
 -- what the words ask for: to play a trace, to count a set, to make and play a workload, to take a set from a document,
--- to warn of a set, or to put the normal text of a set
+-- to warn of a set, to put the normal text of a set, or to tell why an achievement unlocks in a trace
 pub data Job : Type 0 where
   Run : (set trace : List ℕ) → (restore save : Option (List ℕ)) → Job
   Check : (set : List ℕ) → Job
@@ -10,6 +10,7 @@ pub data Job : Type 0 where
   Import : (file set : List ℕ) → Job
   Lint : (set : List ℕ) → Job
   Normal : (set out : List ℕ) → Job
+  Explain : (set trace : List ℕ) → (id : ℕ) → Job
 
 -- a word that names a file: not empty, and it does not begin with `-`
 abbrev pub is_name : List ℕ → Bool
@@ -29,6 +30,7 @@ reads_of (Make number) = []
 reads_of (Import file set) = file ∷ []
 reads_of (Lint set) = set ∷ []
 reads_of (Normal set out) = set ∷ []
+reads_of (Explain set trace id) = set ∷ trace ∷ []
 
 -- the file that decides whether a set is refused: of an import its document
 abbrev pub set_read : Job → List (List ℕ)
@@ -38,6 +40,7 @@ set_read (Make number) = []
 set_read (Import file set) = file ∷ []
 set_read (Lint set) = set ∷ []
 set_read (Normal set out) = set ∷ []
+set_read (Explain set trace id) = set ∷ []
 
 -- the files that a job reads before a trace: its set, and the progress file that it goes on from
 abbrev pub first_reads : Job → List (List ℕ)
@@ -47,6 +50,7 @@ first_reads (Make number) = []
 first_reads (Import file set) = file ∷ []
 first_reads (Lint set) = set ∷ []
 first_reads (Normal set out) = set ∷ []
+first_reads (Explain set trace id) = set ∷ []
 
 -- the file that a job puts
 abbrev pub puts_of : Job → List (List ℕ)

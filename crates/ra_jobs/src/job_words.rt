@@ -4,7 +4,7 @@ ghost use Rattle.std.specs.Prelude.{◌≡◌, None, Some, [], ◌∷◌, false,
 ghost use Rattle.clap.specs.Words.{app_of, first_of, found_of, kind_of, rows_of, rule_of, subcommand_of, subcommand_rows_of, takes, with_subcommand};
 ghost use Rattle.clap.specs.declared.builder.command.Command.TheViews.{out-Command};
 ghost use Rattle.ra_jobs.specs.JobCommand as command;
-ghost use Rattle.ra_jobs.specs.JobCommand.{option_rule, pair_app, player_app, required_rule, run_app, short_app};
+ghost use Rattle.ra_jobs.specs.JobCommand.{explain_app, option_rule, pair_app, player_app, required_rule, run_app, short_app};
 ghost use Rattle.ra_jobs.specs.JobWords as spec;
 ghost use Rattle.ra_jobs.specs.JobWords.{job_contents, job_of};
 ghost use Rattle.ra_jobs.specs.Words as words;
@@ -45,6 +45,12 @@ pub enum Job<'a> {
     Normal {
         set: &'a str,
         out: &'a str,
+    },
+    /// To tell why an achievement unlocks in a trace.
+    Explain {
+        set: &'a str,
+        trace: &'a str,
+        id: u32,
     },
 }
 
@@ -153,6 +159,18 @@ fn is_normal(words: &[String]) -> bool
     }
 }
 
+// Whether the words behind `explain` are a set, a trace and an id.
+fn is_explain(words: &[String]) -> bool
+    ensures { result ≡ is_some (spec.explain_of (map string_bytes words.now)) }
+{
+    match words {
+        [set, trace, id] => {
+            is_name(set.as_str()) && is_name(trace.as_str()) && number_of(id.as_str()).is_some()
+        }
+        _ => false,
+    }
+}
+
 // Whether the words are a job, by their count and places.
 fn is_job(words: &[String]) -> bool
     ensures { result ≡ is_some (job_of (map string_bytes words.now)) }
@@ -167,6 +185,7 @@ fn is_job(words: &[String]) -> bool
         "import" => is_import(behind),
         "lint" => is_lint(behind),
         "normal" => is_normal(behind),
+        "explain" => is_explain(behind),
         _ => false,
     }
 }
@@ -225,6 +244,18 @@ fn pair_command<'a>(
     Ok(command)
 }
 
+// `explain SET TRACE ID`.
+fn explain_command<'a>(alloc: Global) -> Result<Command<'a>, AllocError>
+    ensures app { IfOk result (λ c. app_of c ≡ explain_app) }
+    ensures local { IfOk result (λ c. (out-Command c).has_globals ≡ false) }
+{
+    let command = Command::new(alloc, "explain")
+        .arg(required(alloc, "SET"))?
+        .arg(required(alloc, "TRACE"))?
+        .arg(required(alloc, "ID"))?;
+    Ok(command)
+}
+
 // A command with the job `run` more.
 fn with_run<'a>(alloc: Global, command: Command<'a>) -> Result<Command<'a>, AllocError>
     ensures { IfOk result (λ c. app_of c ≡ with_subcommand (app_of command.entry) run_app.top) }
@@ -263,6 +294,15 @@ fn with_pair<'a>(
     Ok(joined)
 }
 
+// A command with the job `explain` more.
+fn with_explain<'a>(alloc: Global, command: Command<'a>) -> Result<Command<'a>, AllocError>
+    ensures { IfOk result (λ c. app_of c ≡ with_subcommand (app_of command.entry) explain_app.top) }
+{
+    let explain = explain_command(alloc)?;
+    let joined = command.subcommand(explain)?;
+    Ok(joined)
+}
+
 // The command with its jobs. The words begin with the name of a job.
 fn player_command<'a>(alloc: Global) -> Result<Command<'a>, AllocError>
     ensures { IfOk result (λ c. app_of c ≡ player_app) }
@@ -274,7 +314,8 @@ fn player_command<'a>(alloc: Global) -> Result<Command<'a>, AllocError>
     let import = with_pair(alloc, make, "import", "FILE", "SET")?;
     let lint = with_short(alloc, import, "lint", "SET")?;
     let normal = with_pair(alloc, lint, "normal", "SET", "OUT")?;
-    Ok(normal)
+    let explain = with_explain(alloc, normal)?;
+    Ok(explain)
 }
 
 // What clap reads of the words.
@@ -353,6 +394,17 @@ fn normal_given<'a>(given: &ArgMatches<'a>) -> Option<Job<'a>>
     Some(Job::Normal { set, out })
 }
 
+// The explanation of the values that were given.
+fn explain_given<'a>(given: &ArgMatches<'a>) -> Option<Job<'a>>
+    ensures { option_map job_contents result ≡ command.explain_given (rows_of (found_of given.now)) }
+{
+    let set = value_of(given, "SET")?;
+    let trace = value_of(given, "TRACE")?;
+    let word = value_of(given, "ID")?;
+    let id = number_of(word)?;
+    Some(Job::Explain { set, trace, id })
+}
+
 // The job of a name, with the values that were given.
 fn job_given<'a>(name: &str, given: &ArgMatches<'a>) -> Option<Job<'a>>
     ensures { option_map job_contents result ≡ command.job_given name.now (rows_of (found_of given.now)) }
@@ -364,6 +416,7 @@ fn job_given<'a>(name: &str, given: &ArgMatches<'a>) -> Option<Job<'a>>
         "import" => import_given(given),
         "lint" => lint_given(given),
         "normal" => normal_given(given),
+        "explain" => explain_given(given),
         _ => None,
     }
 }
@@ -421,9 +474,17 @@ mod tests {
         }
     }
 
+    fn explain<'a>(id: u32) -> Job<'a> {
+        Job::Explain {
+            set: "S",
+            trace: "T",
+            id,
+        }
+    }
+
     #[test]
     fn each_shape_is_a_job(rt: HostRuntime) -> Result<(), OutOfMemory> {
-        let rows: [(&[&str], Job<'_>); 12] = [
+        let rows: [(&[&str], Job<'_>); 14] = [
             (&["run", "S", "T"], run(None, None)),
             (&["run", "S", "T", "--restore", "P"], run(Some("P"), None)),
             (&["run", "S", "T", "--save", "Q"], run(None, Some("Q"))),
@@ -435,6 +496,8 @@ mod tests {
             (&["check", "a b=-"], Job::Check { set: "a b=-" }),
             (&["lint", "S"], Job::Lint { set: "S" }),
             (&["normal", "S", "O"], Job::Normal { set: "S", out: "O" }),
+            (&["explain", "S", "T", "0"], explain(0)),
+            (&["explain", "S", "T", "4294967295"], explain(4294967295)),
             (&["make", "0"], Job::Make { number: 0 }),
             (&["make", "17"], Job::Make { number: 17 }),
             (&["make", "4294967295"], Job::Make { number: 4294967295 }),
@@ -454,7 +517,7 @@ mod tests {
 
     #[test]
     fn other_words_are_no_job(rt: HostRuntime) -> Result<(), OutOfMemory> {
-        let rows: [&[&str]; 42] = [
+        let rows: [&[&str]; 50] = [
             &[],
             &["run", "S"],
             &["run", "S", "T", "--save"],
@@ -492,6 +555,14 @@ mod tests {
             &["normal", "S", "O", "T"],
             &["normal", "S", "-O"],
             &["normal", "S", "--save", "O"],
+            &["explain"],
+            &["explain", "S", "T"],
+            &["explain", "S", "T", "1", "2"],
+            &["explain", "S", "T", "01"],
+            &["explain", "S", "T", "+1"],
+            &["explain", "S", "T", "4294967296"],
+            &["explain", "S", "-T", "1"],
+            &["explain", "", "T", "1"],
             &["import"],
             &["import", "F"],
             &["import", "F", "S", "T"],
