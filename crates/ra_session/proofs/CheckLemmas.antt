@@ -13,7 +13,7 @@ use Rattle.ra_session.specs.Outside.{Outside, ReadsRose, SinkRose, AreTold}
 use Rattle.ra_io.specs.Causes.{Rose}
 use Rattle.ra_session.specs.Running.{Ran, IsTold, IsCounted, PrintsSoFar, deciding}
 use Rattle.ra_session.specs.declared.ending.Ending.{Ending}
-use Rattle.ra_session.specs.declared.ending.Ending.TheVariants.{Done, NoMemory, NoJob, BadSet, ReadFault, SinkFault, BadProgress, SaveFault}
+use Rattle.ra_session.specs.declared.ending.Ending.TheVariants.{Done, NoMemory, NoJob, BadSet, ReadFault, SinkFault, BadProgress, SaveFault, NoAchievement}
 use Rattle.ra_session.specs.declared.failures.SetFailed.{SetFailed}
 use Rattle.ra_session.specs.declared.failures.SetFailed.TheVariants as set_failed
 use Rattle.ra_session.proofs.Pieces.{grown-nil}
@@ -70,6 +70,7 @@ pub record TellsSet (job : Job) (text : SetContents → List ℕ) (set : List �
 check_decides : (set : List ℕ) (ending : Ending) → deciding ending (Check set) ≡ set ∷ []
 check_decides set (BadSet why) = refl
 check_decides set (BadProgress why) = refl
+check_decides set (NoAchievement id) = refl
 check_decides set _ = refl
 
 pub check_tells : (set : List ℕ) → TellsSet (Check set) check_line set
@@ -79,6 +80,7 @@ check_tells set = record { reads = refl; decides = check_decides set; says = λ 
 lint_decides : (set : List ℕ) (ending : Ending) → deciding ending (Lint set) ≡ set ∷ []
 lint_decides set (BadSet why) = refl
 lint_decides set (BadProgress why) = refl
+lint_decides set (NoAchievement id) = refl
 lint_decides set _ = refl
 
 pub lint_tells : (set : List ℕ) → TellsSet (Lint set) lint_text set

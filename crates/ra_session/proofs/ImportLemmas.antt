@@ -21,7 +21,7 @@ use Rattle.ra_session.specs.Outside.{Outside, ReadsRose, SinkRose, AreTold}
 use Rattle.ra_session.specs.Running.{Ran, Leaves, HasBytes, IsTold, IsCounted, PrintsSoFar, deciding}
 use Rattle.ra_session.specs.declared.document.Document.{Document}
 use Rattle.ra_session.specs.declared.ending.Ending.{Ending}
-use Rattle.ra_session.specs.declared.ending.Ending.TheVariants.{Done, BadSet, BadProgress, BadDocument}
+use Rattle.ra_session.specs.declared.ending.Ending.TheVariants.{Done, BadSet, BadProgress, BadDocument, NoAchievement, NoMemory, ReadFault, SinkFault, SaveFault}
 use Rattle.ra_session.specs.declared.failures.DocumentFailed.{DocumentFailed}
 use Rattle.ra_session.specs.declared.failures.DocumentFailed.TheVariants as no_document
 use Rattle.ra_session.proofs.Pieces.{grown-nil}
@@ -71,6 +71,7 @@ module _ (file set : List ℕ) (old new : Outside) where
   import_decides : (ending : Ending) → deciding ending job ≡ file ∷ []
   import_decides (BadSet why) = refl
   import_decides (BadProgress why) = refl
+  import_decides (NoAchievement id) = refl
   import_decides _ = refl
 
   refused_prints : (e : Expected) (why : PatchRefused) → HasNoDocument (old.content file) (Rose (old.read_faults file) (new.read_faults file)) (no_document.Refused why) → ImportSays old.content file e

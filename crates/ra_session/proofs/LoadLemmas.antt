@@ -29,7 +29,7 @@ use Rattle.ra_session.specs.Outside.{Outside, AnyRose, AreTold}
 use Rattle.ra_session.specs.Playing.{IsPlayable}
 use Rattle.ra_session.specs.Running.{IsTold, deciding, PrintsSoFar, IsCounted, Ran}
 use Rattle.ra_session.specs.declared.ending.Ending.{Ending}
-use Rattle.ra_session.specs.declared.ending.Ending.TheVariants.{BadSet, BadProgress}
+use Rattle.ra_session.specs.declared.ending.Ending.TheVariants.{BadSet, BadProgress, NoAchievement}
 use Rattle.ra_session.specs.declared.failures.SetFailed.TheVariants as no_set
 use Rattle.ra_session.specs.declared.failures.ProgressFailed.{ProgressFailed}
 use Rattle.ra_session.specs.declared.failures.ProgressFailed.TheVariants as no_file
@@ -88,6 +88,7 @@ module _ (set trace : List ℕ) (save : Option (List ℕ)) (old new : Outside) w
   set_decides : (restore : Option (List ℕ)) (ending : Ending) → Rose (old.read_faults set) (new.read_faults set) → Rises (deciding ending (job restore))
   set_decides restore (BadSet why) rose = any_first _ set [] rose
   set_decides restore (BadProgress why) rose = any_first _ set (file_in restore) rose
+  set_decides restore (NoAchievement id) rose = any_first _ set [] rose
   set_decides restore _ rose = any_first _ set (trace ∷ file_in restore) rose
 
   -- and so does the progress file, where the set is accepted

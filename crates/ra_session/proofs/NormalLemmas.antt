@@ -24,7 +24,7 @@ use Rattle.ra_session.specs.Outside.{Outside, ReadsRose, SinkRose, AreTold}
 use Rattle.ra_session.specs.Running.{Ran, Leaves, HasBytes, IsTold, IsCounted, PrintsSoFar, deciding}
 use Rattle.ra_session.specs.declared.document.Document.{Document}
 use Rattle.ra_session.specs.declared.ending.Ending.{Ending}
-use Rattle.ra_session.specs.declared.ending.Ending.TheVariants.{Done, BadSet, BadProgress, LongNormal}
+use Rattle.ra_session.specs.declared.ending.Ending.TheVariants.{Done, BadSet, BadProgress, LongNormal, NoAchievement}
 use Rattle.ra_session.specs.declared.failures.NormalFailed.{NormalFailed}
 use Rattle.ra_session.specs.declared.failures.NormalFailed.TheVariants as no_normal
 use Rattle.ra_session.specs.declared.failures.SetFailed.{SetFailed}
@@ -47,6 +47,7 @@ module _ (set out : List ℕ) (old new : Outside) where
   normal_decides : (ending : Ending) → deciding ending job ≡ set ∷ []
   normal_decides (BadSet why) = refl
   normal_decides (BadProgress why) = refl
+  normal_decides (NoAchievement id) = refl
   normal_decides _ = refl
 
   rose_here : (e : Expected) → Rose (old.read_faults set) (new.read_faults set) → ReadsRose (deciding e.ending job) old new

@@ -28,7 +28,7 @@ use Rattle.ra_runtime.specs.Earned.{Earned}
 use Rattle.ra_runtime.specs.Play.{first_moment, moment_after, earned_after, saved_end}
 use Rattle.ra_session.specs.Endings.{ending_of}
 use Rattle.ra_session.specs.declared.ending.Ending.{Ending}
-use Rattle.ra_session.specs.declared.ending.Ending.TheVariants.{Done, NoMemory, NoJob, BadSet, ReadFault, SinkFault, BadProgress, BadTrace, LongTrace, SaveFault, BadDocument, LongNormal}
+use Rattle.ra_session.specs.declared.ending.Ending.TheVariants.{Done, NoMemory, NoJob, BadSet, ReadFault, SinkFault, BadProgress, BadTrace, LongTrace, SaveFault, BadDocument, LongNormal, NoAchievement, ManyRows}
 use Rattle.ra_session.specs.Expected.{Expected, played, pieces_from, trace_limit}
 use Rattle.ra_session.specs.Closing.{EndsBefore}
 use Rattle.ra_session.specs.Failures.{ending_at, ending_of_trace, trace_failed}
@@ -75,6 +75,8 @@ ends_same a b reads puts sink ending old new pieces end first before =
     same_saved SaveFault h = h
     same_saved (BadDocument why) h = h
     same_saved (LongNormal which found) h = h
+    same_saved (NoAchievement id) h = h
+    same_saved (ManyRows found) h = h
 
 -- behind a good header the trace is what is left of it
 pub played_behind : (set : SetContents) (o : Opening) (behind : History) (earned : Earned) (bytes : List ℕ) (size : ℕ) (ending : Ending) (old new : Option (List ℕ)) → header_size (take trace_limit bytes) ≡ Some size

@@ -7,7 +7,7 @@ use Rattle.ra_patch.specs.Words.{document_words}
 use Rattle.ra_trace.specs.Refusals.{trace_word}
 use Rattle.ra_trace.specs.Cutting.{Stop, Reached, RefusedAt, PastLimit}
 use Rattle.ra_session.specs.declared.ending.Ending.{Ending}
-use Rattle.ra_session.specs.declared.ending.Ending.TheVariants.{Done, NoMemory, NoJob, BadSet, ReadFault, SinkFault, BadProgress, BadTrace, LongTrace, SaveFault, BadDocument, LongNormal}
+use Rattle.ra_session.specs.declared.ending.Ending.TheVariants.{Done, NoMemory, NoJob, BadSet, ReadFault, SinkFault, BadProgress, BadTrace, LongTrace, SaveFault, BadDocument, LongNormal, NoAchievement, ManyRows}
 
 -- the status of each ending
 abbrev pub status_of : Ending → ℕ
@@ -23,10 +23,12 @@ status_of LongTrace = 8
 status_of SaveFault = 9
 status_of (BadDocument why) = 10
 status_of (LongNormal which found) = 11
+status_of (NoAchievement id) = 12
+status_of (ManyRows found) = 12
 
 -- the line that says how the program is called, without its end
 abbrev pub usage : List ℕ
-usage = codes "usage: ra_player run SET TRACE [--restore FILE] [--save FILE] | check SET | make N | import FILE SET | lint SET | normal SET OUT"
+usage = codes "usage: ra_player run SET TRACE [--restore FILE] [--save FILE] | check SET | make N | import FILE SET | lint SET | normal SET OUT | explain SET TRACE ID"
 
 -- the last line, where there is one
 abbrev pub last_line : Ending → List ℕ
@@ -42,6 +44,8 @@ last_line LongTrace = codes "trace too long\n"
 last_line SaveFault = codes "save fault\n"
 last_line (BadDocument why) = codes "import refused: " ++ document_words why ++ 10 ∷ []
 last_line (LongNormal which found) = codes "normal refused: " ++ set_words (Limit which found) ++ 10 ∷ []
+last_line (NoAchievement id) = codes "explain refused: no achievement " ++ decimal id ++ 10 ∷ []
+last_line (ManyRows found) = codes "explain refused: rows " ++ decimal found ++ codes " over 67108864\n"
 
 -- how a trace ends a run
 abbrev pub ending_of : Stop → Ending

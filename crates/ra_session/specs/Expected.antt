@@ -1,5 +1,5 @@
 -- What a job prints, how it ends and what it saves, where nothing fails: docs/DEFINITIONS.md, "A run".
-use Rattle.std.specs.Prelude.{◌≡◌, ℕ, ◌+◌, ◌^◌, ◌<◌, ◌≤◌, ◌==◌, Bool, true, false, if◌then◌else◌, Option, None, Some, List, [], ◌∷◌, ◌++◌, length, take, codes, decimal, count_by, bytes_eq}
+use Rattle.std.specs.Prelude.{◌≡◌, ℕ, ◌+◌, ◌^◌, ◌<◌, ◌≤◌, ◌==◌, Bool, true, false, if◌then◌else◌, Option, None, Some, List, [], ◌∷◌, ◌++◌, length, take, replicate, codes, decimal, count_by, bytes_eq}
 use Rattle.std.specs.List.{join_with_byte, slice_split, concat}
 use Rattle.md5.specs.Md5.{md5}
 use Rattle.ra_set.specs.declared.refused.SetRefused.{SetRefused}
@@ -28,11 +28,15 @@ use Rattle.ra_patch.specs.Answers.{document_limit, Imports, RefusesDocument}
 use Rattle.ra_normal.specs.Text.{IsNormal, IsPastLimit, normal_conditions}
 use Rattle.ra_normal.specs.declared.refused.NormalRefused.TheVariants as normal
 use Rattle.ra_set.specs.declared.refused.Which.{Which}
-use Rattle.ra_jobs.specs.Words.{Job, Run, Check, Make, Import, Lint, Normal}
+use Rattle.ra_jobs.specs.Words.{Job, Run, Check, Make, Import, Lint, Normal, Explain}
+use Rattle.ra_condition.specs.Contents.{TriggerContents}
+use Rattle.ra_explain.specs.Explains.{ExplanationContents}
+use Rattle.ra_explain.specs.Unlocks.{IsExplanation}
 use Rattle.ra_session.specs.Endings.{ending_of}
+use Rattle.ra_session.specs.Explaining.{Decided, Reason, AtUnlock, AtRows, AtEnd, AtStop, decided_from, explanation_text, no_unlock_text, trigger_of}
 use Rattle.ra_session.specs.Linting.{lint_text}
 use Rattle.ra_session.specs.declared.ending.Ending.{Ending}
-use Rattle.ra_session.specs.declared.ending.Ending.TheVariants.{Done, BadSet, BadProgress, BadDocument, LongNormal}
+use Rattle.ra_session.specs.declared.ending.Ending.TheVariants.{Done, BadSet, BadProgress, BadDocument, LongNormal, NoAchievement, ManyRows}
 
 -- what a job says where nothing fails
 pub record Expected : Type 0 where
@@ -194,6 +198,37 @@ pub data NormalSays (content : List ℕ → Option (List ℕ)) (set : List ℕ) 
   puts_text : (file : List ℕ) (s : SetContents) (text : List ℕ) → content set ≡ Some file → IsSet file s → IsNormal file s text
       → NormalSays content set (puts_then_prints text (normal_line s (length text)))
 
+-- a job that prints nothing at so many records, and then this
+abbrev pub prints_behind : (records : ℕ) → List (List ℕ) → Ending → Expected
+prints_behind records pieces ending = record { pieces = replicate records [] ++ pieces; ending = ending; saved = []; puts_first = false }
+
+-- What is said of an achievement of this id and trigger where the trace is read no further: why its unlock came, that its
+-- rows are too many, that no unlock came, or how the trace ends.
+pub data ReasonSays (id : ℕ) (t : TriggerContents) (stop : Ending) (records : ℕ) : Reason → Expected → Type 0 where
+  at_unlock : (image : List ℕ) (earlier : History) (e : ExplanationContents) → IsExplanation t image earlier e
+      → ReasonSays id t stop records (AtUnlock image earlier) (prints_behind records (explanation_text id t e ∷ []) Done)
+  at_rows : (found : ℕ) → ReasonSays id t stop records (AtRows found) (prints_behind records [] (ManyRows found))
+  at_end : ReasonSays id t stop records AtEnd (prints_behind records (no_unlock_text id ∷ []) Done)
+  at_stop : ReasonSays id t stop records AtStop (prints_behind records [] stop)
+
+-- what decides an achievement of this trigger over a trace file, from the plain opening on
+abbrev pub decided_in : TriggerContents → List ℕ → Decided
+decided_in t bytes = decided_from t (first_moment (trace_in bytes).size []) 0 (trace_in bytes).entries
+
+-- what is said of an achievement over a trace file
+abbrev pub TraceSays : (id : ℕ) → TriggerContents → List ℕ → Expected → Type 0
+TraceSays id t bytes e =
+    ReasonSays id t (ending_of (trace_in bytes).stop) (decided_in t bytes).records (decided_in t bytes).reason e
+
+-- What `explain` of these files says, where their bytes are told.
+pub data ExplainSays (content : List ℕ → Option (List ℕ)) (set trace : List ℕ) (id : ℕ) : Expected → Type 0 where
+  refuses_set : (file : List ℕ) (why : SetRefused) → content set ≡ Some file → Refuses (take (set_limit + 1) file) why
+      → ExplainSays content set trace id (prints_nothing (BadSet why))
+  lacks : (file : List ℕ) (s : SetContents) → content set ≡ Some file → IsSet file s → trigger_of id s.items ≡ None
+      → ExplainSays content set trace id (prints_nothing (NoAchievement id))
+  explains : (file trace_file : List ℕ) (s : SetContents) (t : TriggerContents) (e : Expected) → content set ≡ Some file → content trace ≡ Some trace_file
+      → IsSet file s → trigger_of id s.items ≡ Some t → TraceSays id t trace_file e → ExplainSays content set trace id e
+
 -- what a job says over files whose bytes are told
 abbrev pub JobSays : (content : List ℕ → Option (List ℕ)) → Job → Expected → Type 0
 JobSays content (Run set trace restore save) e = RunSays content set trace restore e
@@ -202,3 +237,4 @@ JobSays content (Make number) e = MakeSays number e
 JobSays content (Import file set) e = ImportSays content file e
 JobSays content (Lint set) e = SetSays lint_text content set e
 JobSays content (Normal set out) e = NormalSays content set e
+JobSays content (Explain set trace id) e = ExplainSays content set trace id e

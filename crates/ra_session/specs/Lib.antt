@@ -5,6 +5,7 @@ pub mod Endings
 pub mod Linting
 pub mod Outside
 pub mod Expected
+pub mod Explaining
 pub mod Closing
 pub mod Running
 pub mod Making

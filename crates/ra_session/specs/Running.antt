@@ -7,7 +7,7 @@ use Rattle.ra_session.specs.Expected.{Expected, JobSays}
 use Rattle.ra_session.specs.Closing.{EndsBefore}
 use Rattle.ra_session.specs.Outside.{Outside, ReadsRose, PutsRose, SinkRose, AreTold}
 use Rattle.ra_session.specs.declared.ending.Ending.{Ending}
-use Rattle.ra_session.specs.declared.ending.Ending.TheVariants.{Done, NoMemory, NoJob, BadSet, ReadFault, SinkFault, BadProgress, SaveFault}
+use Rattle.ra_session.specs.declared.ending.Ending.TheVariants.{Done, NoMemory, NoJob, BadSet, ReadFault, SinkFault, BadProgress, SaveFault, NoAchievement}
 
 -- the ending is told by the files, and by no fault
 abbrev pub IsTold : Ending → Type 0
@@ -22,6 +22,7 @@ IsTold _ = Unit {0}
 abbrev pub deciding : Ending → Job → List (List ℕ)
 deciding (BadSet why) job = set_read job
 deciding (BadProgress why) job = first_reads job
+deciding (NoAchievement id) job = set_read job
 deciding _ job = reads_of job
 
 module _ (job : Job) (old new : Outside) where

@@ -15,7 +15,7 @@ use std::fmt::Write;
 
 // How the program is called.
 const USAGE: &str =
-    "usage: ra_player run SET TRACE [--restore FILE] [--save FILE] | check SET | make N | import FILE SET | lint SET | normal SET OUT\n";
+    "usage: ra_player run SET TRACE [--restore FILE] [--save FILE] | check SET | make N | import FILE SET | lint SET | normal SET OUT | explain SET TRACE ID\n";
 
 // Writes a last line, and answers its status.
 //
@@ -29,6 +29,24 @@ fn put_last<K: Sink>(status: u8, line: &str, out: &mut K) -> u8
         Err(SinkFailed::Failed) => 5,
         Err(SinkFailed::Memory) => 1,
     }
+}
+
+// The last line where a set has no achievement of an id.
+fn no_achievement_line(alloc: Global, id: u32) -> Result<String, OutOfMemory>
+    ensures { IfOk result (λ line. string_bytes line ≡ spec.last_line (Ending.NoAchievement id)) }
+{
+    let mut line = String::new(alloc);
+    writeln!(line, "explain refused: no achievement {id}")?;
+    Ok(line)
+}
+
+// The last line where rows are too many to be explained.
+fn many_rows_line(alloc: Global, found: u64) -> Result<String, OutOfMemory>
+    ensures { IfOk result (λ line. string_bytes line ≡ spec.last_line (Ending.ManyRows found)) }
+{
+    let mut line = String::new(alloc);
+    writeln!(line, "explain refused: rows {found} over 67108864")?;
+    Ok(line)
 }
 
 // The last line of a job that ended so.
@@ -50,6 +68,8 @@ fn last_line(alloc: Global, ending: Ending) -> Result<String, OutOfMemory>
             let limit = SetRefused::Limit { which, found };
             writeln!(line, "normal refused: {limit}")?
         }
+        Ending::NoAchievement { id } => return no_achievement_line(alloc, id),
+        Ending::ManyRows { found } => return many_rows_line(alloc, found),
     }
     Ok(line)
 }
@@ -71,6 +91,7 @@ fn status_of(ending: Ending) -> u8
         Ending::SaveFault => 9,
         Ending::BadDocument(_) => 10,
         Ending::LongNormal { .. } => 11,
+        Ending::NoAchievement { .. } | Ending::ManyRows { .. } => 12,
     }
 }
 

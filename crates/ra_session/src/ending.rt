@@ -40,6 +40,10 @@ pub enum Ending {
     BadDocument(PatchRefused),
     /// The normal text of a set passes a limit, with how many there are.
     LongNormal { which: Which, found: u64 },
+    /// The set has no achievement of this id.
+    NoAchievement { id: u32 },
+    /// The rows of the frames are too many to be explained, with how many rows and comparisons there are.
+    ManyRows { found: u64 },
 }
 
 impl From<OutOfMemory> for Ending {

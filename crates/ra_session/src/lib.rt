@@ -24,10 +24,13 @@ mod writing;
 
 pub use closing::finish;
 pub use ending::Ending;
+pub use failures::{SetFailed, TraceFailed};
 pub use importing::import_job;
 pub use laws::runs_print_their_texts;
 pub use linting::lint_job;
+pub use loading::load_set;
 pub use make::make_job;
 pub use normalizing::normal_job;
 pub use run::{check_job, run_job};
 pub use run_files::RunFiles;
+pub use writing::{print_line, write_all};
