@@ -1,3 +1,5 @@
+pub mod Answers
 pub mod Codes
 pub mod Reasons
 pub mod ToldEvents
+pub mod Views

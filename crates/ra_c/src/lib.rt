@@ -4,6 +4,7 @@
 #![tactic(auto)]
 
 mod codes;
+mod held;
 mod refusal;
 mod told_event;
 
