@@ -1,3 +1,4 @@
+mod AsBox
 mod Fresh
 mod Seen
 mod Taken

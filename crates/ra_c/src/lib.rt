@@ -3,10 +3,23 @@
 //! Each export does one thing that an emulator does, and states the clause of the call behind it.
 #![tactic(auto)]
 
+mod cell;
 mod codes;
+mod given;
+mod handle;
 mod held;
+mod keeping;
+mod making;
+mod parts;
+mod playing;
 mod refusal;
+mod telling;
 mod told_event;
 
+pub use handle::Handle;
+pub use keeping::{ra_reset, ra_restore, ra_save};
+pub use making::{ra_free, ra_new, ra_version};
+pub use playing::{ra_frame, ra_see, ra_write};
 pub use refusal::Refusal;
+pub use telling::{ra_events, ra_lines, ra_show};
 pub use told_event::ToldEvent;

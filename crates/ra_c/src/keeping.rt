@@ -1,0 +1,79 @@
+ghost use Rattle.std.specs.Prelude.{◌≡◌, ◌≢◌};
+ghost use Rattle.ra_c.specs.Answers.{AnswersReset, AnswersRestore, AnswersTold, Calls, IsSaveOf};
+ghost use Rattle.ra_c.specs.Codes.{done, no_progress};
+ghost use Rattle.ra_c.specs.Handles.{held_in};
+
+use crate::codes::{DONE, EMPTY, PROGRESS};
+use crate::given::give;
+use crate::handle::Handle;
+use crate::refusal::{Refusal, of_progress};
+use std::alloc::Global;
+
+/// The progress bytes of the present state: docs/DEFINITIONS.md, "Calls from C" and "Progress file".
+///
+/// `RA_ROOM` where there is too little room; the count is that of the whole. `RA_MEMORY` for want of memory.
+#[unsafe(no_mangle)]
+pub extern "C" fn ra_save(
+    alloc: Global,
+    handle: &mut Handle,
+    out: &mut [u8],
+    count: &mut usize,
+) -> u32
+    ensures told { Calls (AnswersTold IsSaveOf out.old out.new count.new result) result (held_in handle.old) (held_in handle.new) }
+    ensures unwritten { result ≢ done → out.new ≡ out.old }
+{
+    match handle.take(alloc) {
+        Some(held) => {
+            let code = give(held.save(alloc), out, count);
+            handle.put(held);
+            code
+        }
+        None => EMPTY,
+    }
+}
+
+/// Takes up what progress bytes say, of this set or of a changed one: docs/DEFINITIONS.md, "Calls from C".
+///
+/// `RA_PROGRESS` where the bytes are refused, with the reason, and then nothing changes. No memory is taken.
+#[unsafe(no_mangle)]
+pub extern "C" fn ra_restore(
+    alloc: Global,
+    handle: &mut Handle,
+    bytes: &[u8],
+    why: &mut Refusal,
+) -> u32
+    ensures taken { Calls (AnswersRestore bytes.now why.new result) result (held_in handle.old) (held_in handle.new) }
+    ensures unsaid { result ≢ no_progress → why.new ≡ why.old }
+{
+    match handle.take(alloc) {
+        Some(mut held) => {
+            let restored = held.restore(bytes);
+            handle.put(held);
+            match restored {
+                Ok(()) => DONE,
+                Err(reason) => {
+                    *why = of_progress(reason);
+                    PROGRESS
+                }
+            }
+        }
+        None => EMPTY,
+    }
+}
+
+/// Begins anew over the present memory, as when the emulated machine is reset: docs/DEFINITIONS.md, "Calls from C".
+///
+/// It is a restore of what a save gives before the first frame, which is never refused. No memory is taken.
+#[unsafe(no_mangle)]
+pub extern "C" fn ra_reset(alloc: Global, handle: &mut Handle) -> u32
+    ensures { Calls (AnswersReset result) result (held_in handle.old) (held_in handle.new) }
+{
+    match handle.take(alloc) {
+        Some(mut held) => {
+            held.reset();
+            handle.put(held);
+            DONE
+        }
+        None => EMPTY,
+    }
+}

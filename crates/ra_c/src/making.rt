@@ -1,0 +1,72 @@
+ghost use Rattle.std.specs.Prelude.{◌≡◌, ◌≢◌, ◌↔◌, ◌<◌, ◌^◌, None, IsSomeAnd};
+ghost use Rattle.ra_c.specs.Answers.{IsLoaded, IsRefusedText};
+ghost use Rattle.ra_c.specs.Codes.{done, no_set, out_of_range, empty, full};
+ghost use Rattle.ra_c.specs.Handles.{held_in};
+
+use crate::codes::{DONE, EMPTY, HELD, MEMORY, RANGE, SET};
+use crate::handle::Handle;
+use crate::held::Held;
+use crate::refusal::{Refusal, of_set};
+use ra_set::SetRefused;
+use std::alloc::Global;
+
+/// Makes a runtime of a set's text over a memory of `size` bytes, all 0: docs/DEFINITIONS.md, "Calls from C".
+///
+/// `RA_HELD` where the handle holds one already, `RA_RANGE` where the size is above 134,217,728, `RA_SET` where the text is
+/// no set, with the reason, and `RA_MEMORY` for want of memory. Then nothing else changes.
+#[unsafe(no_mangle)]
+pub extern "C" fn ra_new(
+    alloc: Global,
+    text: &[u8],
+    size: u32,
+    handle: &mut Handle,
+    why: &mut Refusal,
+) -> u32
+    ensures held { result ≡ full ↔ held_in handle.old ≢ None }
+    ensures range { result ≡ out_of_range ↔ ((held_in handle.old ≡ None) × (2 ^ 27 < size)) }
+    ensures made { result ≡ done → IsSomeAnd (held_in handle.new) (IsLoaded text.now size) }
+    ensures refused { result ≡ no_set → IsRefusedText text.now why.new }
+    ensures kept { result ≢ done → held_in handle.new ≡ held_in handle.old }
+    ensures unsaid { result ≢ no_set → why.new ≡ why.old }
+{
+    if !handle.is_empty() {
+        return HELD;
+    }
+    if size > 134_217_728 {
+        return RANGE;
+    }
+    match Held::boxed(alloc, text, size) {
+        Ok(held) => {
+            handle.put(held);
+            DONE
+        }
+        Err(SetRefused::Memory) => MEMORY,
+        Err(reason) => {
+            *why = of_set(reason);
+            SET
+        }
+    }
+}
+
+/// Frees the runtime that the handle holds, which then holds nothing: docs/DEFINITIONS.md, "Calls from C".
+///
+/// `RA_EMPTY` where it holds nothing.
+#[unsafe(no_mangle)]
+pub extern "C" fn ra_free(alloc: Global, handle: &mut Handle) -> u32
+    ensures emptied { held_in handle.new ≡ None }
+    ensures none { result ≡ empty ↔ held_in handle.old ≡ None }
+    ensures freed { result ≡ done ↔ held_in handle.old ≢ None }
+{
+    match handle.take(alloc) {
+        Some(_) => DONE,
+        None => EMPTY,
+    }
+}
+
+/// The version of this interface, which a later one that differs counts up.
+#[unsafe(no_mangle)]
+pub extern "C" fn ra_version() -> u32
+    ensures { result ≡ 1 }
+{
+    1
+}

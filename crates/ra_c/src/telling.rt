@@ -1,0 +1,81 @@
+ghost use Rattle.std.specs.Prelude.{◌≡◌, ◌≢◌};
+ghost use Rattle.ra_c.specs.Answers.{AnswersTold, AreEventsOf, AreLinesOf, Calls, IsShownBy};
+ghost use Rattle.ra_c.specs.Codes.{done};
+ghost use Rattle.ra_c.specs.Handles.{held_in};
+
+use crate::codes::EMPTY;
+use crate::given::give;
+use crate::handle::Handle;
+use crate::told_event::ToldEvent;
+use std::alloc::Global;
+
+/// The events of the last frame, items in set order: docs/DEFINITIONS.md, "Calls from C" and "Events".
+///
+/// None where no frame came. `RA_ROOM` where there is too little room; the count is that of all of them. `RA_MEMORY` for
+/// want of memory.
+#[unsafe(no_mangle)]
+pub extern "C" fn ra_events(
+    alloc: Global,
+    handle: &mut Handle,
+    out: &mut [ToldEvent],
+    count: &mut usize,
+) -> u32
+    ensures told { Calls (AnswersTold AreEventsOf out.old out.new count.new result) result (held_in handle.old) (held_in handle.new) }
+    ensures unwritten { result ≢ done → out.new ≡ out.old }
+{
+    match handle.take(alloc) {
+        Some(held) => {
+            let code = give(held.events(alloc), out, count);
+            handle.put(held);
+            code
+        }
+        None => EMPTY,
+    }
+}
+
+/// The lines of the events of the last frame: docs/DEFINITIONS.md, "Calls from C" and "Printed lines".
+///
+/// `RA_ROOM` where there is too little room; the count is that of the whole. `RA_MEMORY` for want of memory.
+#[unsafe(no_mangle)]
+pub extern "C" fn ra_lines(
+    alloc: Global,
+    handle: &mut Handle,
+    out: &mut [u8],
+    count: &mut usize,
+) -> u32
+    ensures told { Calls (AnswersTold AreLinesOf out.old out.new count.new result) result (held_in handle.old) (held_in handle.new) }
+    ensures unwritten { result ≢ done → out.new ≡ out.old }
+{
+    match handle.take(alloc) {
+        Some(held) => {
+            let code = give(held.lines(alloc), out, count);
+            handle.put(held);
+            code
+        }
+        None => EMPTY,
+    }
+}
+
+/// The presence line after the last frame: docs/DEFINITIONS.md, "Calls from C" and "Presence over frames".
+///
+/// Empty where the set has no script. `RA_ROOM` where there is too little room; the count is that of the whole. `RA_MEMORY`
+/// for want of memory.
+#[unsafe(no_mangle)]
+pub extern "C" fn ra_show(
+    alloc: Global,
+    handle: &mut Handle,
+    out: &mut [u8],
+    count: &mut usize,
+) -> u32
+    ensures told { Calls (AnswersTold IsShownBy out.old out.new count.new result) result (held_in handle.old) (held_in handle.new) }
+    ensures unwritten { result ≢ done → out.new ≡ out.old }
+{
+    match handle.take(alloc) {
+        Some(held) => {
+            let code = give(held.show(alloc), out, count);
+            handle.put(held);
+            code
+        }
+        None => EMPTY,
+    }
+}
