@@ -205,4 +205,5 @@ def main(player, count):
         figures['lines'] += first[1].count(b'\n'); figures['with_lines'] += b'\n' in first[1]
     print(figures)
 
-main(sys.argv[1], int(sys.argv[2]))
+if __name__ == '__main__':
+    main(sys.argv[1], int(sys.argv[2]))

@@ -124,4 +124,5 @@ def main(folder, frames):
             file.write(content)
 
 
-main(sys.argv[1], int(sys.argv[2]))
+if __name__ == "__main__":
+    main(sys.argv[1], int(sys.argv[2]))
