@@ -8,7 +8,7 @@ use std::alloc::Global;
 use std::marker::Model;
 use std::ptr;
 
-// A pointer that may own what it points to.
+// A pointer that may own what it points to. It crosses to C as one of bytes.
 #[repr(C)]
 #[derive(Drop)]
 pub struct Cell {

@@ -8,7 +8,8 @@ use std::mem;
 
 /// What the emulator keeps of a runtime: a pointer that it never reads. All zero it holds nothing.
 ///
-/// In C it is `ra_runtime`: docs/DEFINITIONS.md, "Calls from C".
+/// In C it is `ra_runtime`: docs/DEFINITIONS.md, "Calls from C". A full handle that is dropped forgets what it holds; `ra_free`
+/// frees it.
 #[repr(C)]
 #[derive(Drop)]
 pub struct Handle {

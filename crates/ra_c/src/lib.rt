@@ -14,6 +14,8 @@ mod parts;
 mod playing;
 mod refusal;
 mod telling;
+#[cfg(test)]
+mod tests;
 mod told_event;
 
 pub use handle::Handle;

@@ -1,0 +1,141 @@
+//! Worked calls, as an emulator makes them.
+
+use crate::codes::{DONE, EMPTY, HELD, PROGRESS, RANGE, ROOM, SET};
+use crate::{
+    Handle, Refusal, ToldEvent, ra_events, ra_frame, ra_free, ra_lines, ra_new, ra_reset,
+    ra_restore, ra_save, ra_see, ra_write,
+};
+use std::alloc::Global;
+
+const ROW: &[u8] = b"A 1 0xH0010=5.3.\n";
+
+fn no_reason() -> Refusal {
+    Refusal {
+        kind: 0,
+        id: 0,
+        at: 0,
+        found: 0,
+        wanted: 0,
+    }
+}
+
+fn made(alloc: Global) -> Handle {
+    let mut handle = Handle::empty(alloc);
+    let _ = ra_new(alloc, ROW, 32, &mut handle, &mut no_reason());
+    handle
+}
+
+// Plays frames with these bytes at the address 0x10.
+fn play(alloc: Global, handle: &mut Handle, bytes: &[u8]) {
+    for byte in bytes {
+        let _ = ra_write(alloc, handle, 0x10, &[*byte]);
+        let _ = ra_frame(alloc, handle);
+    }
+}
+
+// Whether these are the lines of the last frame.
+fn prints(alloc: Global, handle: &mut Handle, lines: &str) -> bool {
+    let mut out = [0u8; 64];
+    let mut count = 0usize;
+    let _ = ra_lines(alloc, handle, &mut out, &mut count);
+    out.get(..count) == Some(lines.as_bytes())
+}
+
+// Whether a frame with 5 at the address 0x10 unlocks after these ones.
+fn unlocks_after(alloc: Global, bytes: &[u8]) -> bool {
+    let mut handle = made(alloc);
+    play(alloc, &mut handle, bytes);
+    let before = prints(alloc, &mut handle, "");
+    play(alloc, &mut handle, &[5]);
+    let after = prints(alloc, &mut handle, "unlock 4 1\n");
+    let _ = ra_free(alloc, &mut handle);
+    before && after
+}
+
+#[test]
+fn the_third_frame_with_five_unlocks(rt: HostRuntime) {
+    assert!(rt; unlocks_after(rt.alloc(), &[0, 5, 5, 0]));
+}
+
+// The codes of calls over a handle that is empty, and made, and full, and emptied.
+fn codes(alloc: Global) -> [u32; 10] {
+    let mut handle = Handle::empty(alloc);
+    let mut why = no_reason();
+    let mut out = [0u8; 1];
+    let mut count = 0usize;
+    [
+        ra_frame(alloc, &mut handle),
+        ra_new(alloc, b"A 1 0xH10=5.3\n", 32, &mut handle, &mut why),
+        ra_new(alloc, ROW, 134_217_729, &mut handle, &mut why),
+        ra_new(alloc, ROW, 32, &mut handle, &mut why),
+        ra_new(alloc, ROW, 32, &mut handle, &mut why),
+        ra_write(alloc, &mut handle, 31, &[1, 2]),
+        ra_save(alloc, &mut handle, &mut out, &mut count),
+        ra_restore(alloc, &mut handle, &[1], &mut why),
+        ra_free(alloc, &mut handle),
+        ra_free(alloc, &mut handle),
+    ]
+}
+
+#[test]
+fn each_code_has_its_call(rt: HostRuntime) {
+    assert_eq!(rt;
+        codes(rt.alloc()),
+        [
+            EMPTY, SET, RANGE, DONE, HELD, RANGE, ROOM, PROGRESS, DONE, EMPTY
+        ]
+    );
+}
+
+// The kind and the place of the reason why a text is no set.
+fn refused(alloc: Global, text: &[u8]) -> (u32, u64) {
+    let mut handle = Handle::empty(alloc);
+    let mut why = no_reason();
+    let _ = ra_new(alloc, text, 32, &mut handle, &mut why);
+    (why.kind, why.at)
+}
+
+#[test]
+fn a_refused_text_tells_its_first_bad_place(rt: HostRuntime) {
+    assert_eq!(rt; refused(rt.alloc(), b"A 1 0xH10=5.3\n"), (1, 13));
+}
+
+// The event after a whole memory was seen three times with 5 in it, a save, a reset and a restore between.
+fn event_after_a_restore(alloc: Global) -> (usize, ToldEvent) {
+    let mut handle = made(alloc);
+    let mut memory = [0u8; 32];
+    let mut saved = [0u8; 128];
+    let mut size = 0usize;
+    let mut events = [ToldEvent {
+        kind: 0,
+        id: 0,
+        number: 0,
+    }];
+    let mut count = 0usize;
+    play(alloc, &mut handle, &[0, 5, 5]);
+    let _ = ra_save(alloc, &mut handle, &mut saved, &mut size);
+    let _ = ra_reset(alloc, &mut handle);
+    play(alloc, &mut handle, &[5]);
+    let _ = ra_restore(
+        alloc,
+        &mut handle,
+        &saved[..size.min(128)],
+        &mut no_reason(),
+    );
+    memory[16] = 5;
+    let _ = ra_see(alloc, &mut handle, 0, &memory);
+    let _ = ra_frame(alloc, &mut handle);
+    let _ = ra_events(alloc, &mut handle, &mut events, &mut count);
+    let _ = ra_free(alloc, &mut handle);
+    (count, events[0])
+}
+
+#[test]
+fn a_restore_goes_on_where_the_save_stood(rt: HostRuntime) {
+    let unlock = ToldEvent {
+        kind: 4,
+        id: 1,
+        number: 0,
+    };
+    assert_eq!(rt; event_after_a_restore(rt.alloc()), (1, unlock));
+}
