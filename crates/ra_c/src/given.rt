@@ -13,6 +13,7 @@ pub fn give<T: Copy + Drop>(
 ) -> u32
     ensures given { MatchResult told (λ whole. Gives whole.items out.old out.new count.new result) (λ _. result ≡ memory) }
     ensures unwritten { result ≢ done → out.new ≡ out.old }
+    ensures uncounted { result ≡ memory → count.new ≡ count.old }
 {
     match told {
         Ok(whole) => give_whole(whole.as_slice(), out, count),

@@ -1,6 +1,6 @@
-ghost use Rattle.std.specs.Prelude.{◌≡◌, ◌≢◌};
+ghost use Rattle.std.specs.Prelude.{◌≡◌, ◌≢◌, ◌⊎◌};
 ghost use Rattle.ra_c.specs.Answers.{AnswersReset, AnswersRestore, AnswersTold, Calls, IsSaveOf};
-ghost use Rattle.ra_c.specs.Codes.{done, no_progress};
+ghost use Rattle.ra_c.specs.Codes.{done, memory, no_progress, empty};
 ghost use Rattle.ra_c.specs.Handles.{held_in};
 
 use crate::codes::{DONE, EMPTY, PROGRESS};
@@ -21,6 +21,7 @@ pub extern "C" fn ra_save(
 ) -> u32
     ensures told { Calls (AnswersTold IsSaveOf out.old out.new count.new result) result (held_in handle.old) (held_in handle.new) }
     ensures unwritten { result ≢ done → out.new ≡ out.old }
+    ensures uncounted { (result ≡ memory) ⊎ (result ≡ empty) → count.new ≡ count.old }
 {
     match handle.take(alloc) {
         Some(held) => {

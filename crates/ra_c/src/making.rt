@@ -1,6 +1,6 @@
-ghost use Rattle.std.specs.Prelude.{◌≡◌, ◌≢◌, ◌↔◌, ◌<◌, ◌^◌, None, IsSomeAnd};
+ghost use Rattle.std.specs.Prelude.{◌≡◌, ◌≢◌, ◌⊎◌, ◌↔◌, ◌<◌, ◌^◌, None, IsSomeAnd};
 ghost use Rattle.ra_c.specs.Answers.{IsLoaded, IsRefusedText};
-ghost use Rattle.ra_c.specs.Codes.{done, no_set, out_of_range, empty, full};
+ghost use Rattle.ra_c.specs.Codes.{done, memory, no_set, out_of_range, empty, full};
 ghost use Rattle.ra_c.specs.Handles.{held_in};
 
 use crate::codes::{DONE, EMPTY, HELD, MEMORY, RANGE, SET};
@@ -28,6 +28,7 @@ pub extern "C" fn ra_new(
     ensures refused { result ≡ no_set → IsRefusedText text.now why.new }
     ensures kept { result ≢ done → held_in handle.new ≡ held_in handle.old }
     ensures unsaid { result ≢ no_set → why.new ≡ why.old }
+    ensures other { (result ≡ done) ⊎ ((result ≡ memory) ⊎ ((result ≡ no_set) ⊎ ((result ≡ out_of_range) ⊎ (result ≡ full)))) }
 {
     if !handle.is_empty() {
         return HELD;

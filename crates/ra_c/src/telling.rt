@@ -1,6 +1,6 @@
-ghost use Rattle.std.specs.Prelude.{◌≡◌, ◌≢◌};
+ghost use Rattle.std.specs.Prelude.{◌≡◌, ◌≢◌, ◌⊎◌};
 ghost use Rattle.ra_c.specs.Answers.{AnswersTold, AreEventsOf, AreLinesOf, Calls, IsShownBy};
-ghost use Rattle.ra_c.specs.Codes.{done};
+ghost use Rattle.ra_c.specs.Codes.{done, memory, empty};
 ghost use Rattle.ra_c.specs.Handles.{held_in};
 
 use crate::codes::EMPTY;
@@ -22,6 +22,7 @@ pub extern "C" fn ra_events(
 ) -> u32
     ensures told { Calls (AnswersTold AreEventsOf out.old out.new count.new result) result (held_in handle.old) (held_in handle.new) }
     ensures unwritten { result ≢ done → out.new ≡ out.old }
+    ensures uncounted { (result ≡ memory) ⊎ (result ≡ empty) → count.new ≡ count.old }
 {
     match handle.take(alloc) {
         Some(held) => {
@@ -45,6 +46,7 @@ pub extern "C" fn ra_lines(
 ) -> u32
     ensures told { Calls (AnswersTold AreLinesOf out.old out.new count.new result) result (held_in handle.old) (held_in handle.new) }
     ensures unwritten { result ≢ done → out.new ≡ out.old }
+    ensures uncounted { (result ≡ memory) ⊎ (result ≡ empty) → count.new ≡ count.old }
 {
     match handle.take(alloc) {
         Some(held) => {
@@ -69,6 +71,7 @@ pub extern "C" fn ra_show(
 ) -> u32
     ensures told { Calls (AnswersTold IsShownBy out.old out.new count.new result) result (held_in handle.old) (held_in handle.new) }
     ensures unwritten { result ≢ done → out.new ≡ out.old }
+    ensures uncounted { (result ≡ memory) ⊎ (result ≡ empty) → count.new ≡ count.old }
 {
     match handle.take(alloc) {
         Some(held) => {
