@@ -11,6 +11,8 @@ mod cuts;
 #[cfg(test)]
 mod displays;
 #[cfg(test)]
+mod earned;
+#[cfg(test)]
 mod faults;
 #[cfg(test)]
 mod imports;

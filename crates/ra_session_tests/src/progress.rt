@@ -94,8 +94,8 @@ fn puts_what_is_kept_at_the_end(rt: HostRuntime) -> Result<(), OutOfMemory> {
     Ok(())
 }
 
-// A run that goes on from the file p, and puts it again.
-const GO_ON: RunFiles<'static> = RunFiles {
+/// A run that goes on from the file p, and puts it again.
+pub const GO_ON: RunFiles<'static> = RunFiles {
     set: "S",
     trace: "T",
     restore: Some("p"),

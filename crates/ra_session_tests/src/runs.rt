@@ -70,7 +70,7 @@ const WORKED: [Row; 17] = [
         b"RATR\x01\x40\0\0\0FW\x01\x00\x00\x00\x03\0\x01\x01\x15FFW\x01\x00\x00\x00\x01\0\x00FW\x01\x00\x00\x00\x02\0\x01\x00FW\x03\x00\x00\x00\x01\0\x1eFW\x02\x00\x00\x00\x01\0\x01FE",
         b"submit 1 7 42 42\nstart 4 7\ntrack 4 7 42\ntrack 5 7 60\nsubmit 6 7 60 60\n",
     ),
-    // a restore takes back what the frames left; the image keeps its bytes
+    // a restore takes back what the frames left, but not what was earned; the image keeps its bytes
     (
         b"A 1 d0xH0010=1_0xH0010=2\n",
         b"RATR\x01\x40\0\0\0W\x10\x00\x00\x00\x01\0\x01FS\0W\x10\x00\x00\x00\x01\0\x05FW\x10\x00\x00\x00\x01\0\x02R\0FE",
@@ -79,7 +79,7 @@ const WORKED: [Row; 17] = [
     (
         b"A 1 0xH0010=5\n",
         b"RATR\x01\x40\0\0\0FS\0W\x10\x00\x00\x00\x01\0\x05FR\0FE",
-        b"unlock 1 1\nunlock 1 1\n",
+        b"unlock 1 1\n",
     ),
     (
         b"A 1 0xH0010=5\n",
