@@ -1,6 +1,6 @@
 //! Progress files of a set that was changed, and of the older versions.
 
-use crate::steps::Step::{At, Keep, Restore, Same, Show, Write};
+use crate::steps::Step::{At, Close, Keep, Put, Restore, Same, Show, Write};
 use crate::steps::told;
 use std::test::Fail;
 
@@ -16,7 +16,7 @@ const WITH_ANOTHER: &str = "A 2 0xH0011=1\nA 1 0xH0010=5.3.\n";
 const WITH_ANOTHER_KEPT: &[u8] =
     b"RAPG\x03\x30\x36\x9c\x0b\x2b\x1a\x8a\x93\x8a\x3c\x14\x81\x08\xe2\xf7\x02\x03\0\0\0\0\0\0\0\x02\0\0\0\xa6\xcc\xac\x7d\x84\x86\xed\xe9\x78\x19\x79\x2e\x86\xc3\xa9\x3f\0\0\0\0\x59\x74\x9b\xd5\xca\x8a\xbe\x76\x8e\xb1\x37\x06\x1a\x4f\x30\xc6\x05\0\0\0\0\0\0\0\x02\0\0\0\xcb\x1f\xa8\x59\x35\x92\x04\xbe\x58\x80\x41\xfd\x0f\x32\x60\x64\x09\0\0\0\0\0\0\0\0\0\0\0\0\x79\x8a\x55\xfc\x59\x9d\x9d\x9b\x40\x6c\x25\xa6\x42\xfa\x8a\x9a\x09\0\0\0\x01\0\0\0\0\x02\0\0\0\x8c\x6a\x26\x38\x76\x69\x1f\xb5\x11\x8f\x79\x75\xee\x6e\x67\xcc";
 
-// Before the restore the new achievement is triggered and its cell is 1. The hits go on behind it.
+// Before the restore the new achievement is triggered and its cell is 1. It stays earned, and the hits go on behind it.
 #[test]
 fn what_a_file_does_not_name_begins_anew(rt: HostRuntime) -> Result<(), Fail> {
     let steps = [
@@ -26,6 +26,8 @@ fn what_a_file_does_not_name_begins_anew(rt: HostRuntime) -> Result<(), Fail> {
         Keep(TWO_OF_THREE),
         Restore,
         Keep(WITH_ANOTHER_KEPT),
+        Put(101, 8),
+        Close,
         Same,
         At(5),
     ];

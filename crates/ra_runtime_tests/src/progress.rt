@@ -1,6 +1,6 @@
 //! Progress files of small sets: their bytes, and each refusal.
 
-use crate::steps::Step::{At, Close, Cut, Flips, Lines, Put, Restore, Same, Save};
+use crate::steps::Step::{At, Close, Cut, Flips, Item, Lines, Put, Restore, Same, Save};
 use crate::steps::{saved, told};
 use std::test::Fail;
 
@@ -19,6 +19,7 @@ fn a_saved_file_has_its_fields_in_order(rt: HostRuntime) -> Result<(), Fail> {
     Ok(())
 }
 
+// What was earned behind the save is earned still: its state byte is 9.
 #[test]
 fn refused_bytes_change_nothing(rt: HostRuntime) -> Result<(), Fail> {
     let steps = [
@@ -33,11 +34,35 @@ fn refused_bytes_change_nothing(rt: HostRuntime) -> Result<(), Fail> {
         Lines,
         Restore,
         Lines,
+        Put(81, 9),
+        Close,
+        Same,
+    ];
+    let wanted = "0 accepted\nunlock 4 1\n0 accepted\nunlock 4 1\ntaken\nsame\n";
+    let found = told(rt.alloc(), THREE_HITS, &steps)?;
+    assert_eq!(rt; found.as_slice(), wanted.as_bytes());
+    Ok(())
+}
+
+// The save from before the unlock is restored: the achievement is active again and earned, and steps in silence.
+#[test]
+fn what_was_earned_is_told_no_more(rt: HostRuntime) -> Result<(), Fail> {
+    let steps = [
+        At(0),
+        Save,
+        At(5),
+        At(5),
+        Restore,
+        Put(81, 9),
+        Close,
         Same,
         At(5),
+        At(5),
+        Item(0),
     ];
-    let wanted = "0 accepted\nunlock 4 1\n0 accepted\nunlock 4 1\ntaken\nsame\nunlock 4 1\n";
-    let found = told(rt.alloc(), THREE_HITS, &steps)?;
+    let wanted =
+        "measured 1 1 1\nmeasured 2 1 2\nunlock 2 1\ntaken\nsame\nSome(Achievement { state: Triggered, measured: 2 })\n";
+    let found = told(rt.alloc(), "A 1 M:0xH0010=5.2.\n", &steps)?;
     assert_eq!(rt; found.as_slice(), wanted.as_bytes());
     Ok(())
 }
