@@ -50,7 +50,7 @@ fn plays_jobs_and_tells_other_words_the_usage(rt: HostRuntime) -> Result<(), Out
         (
             &["make", "0"],
             0,
-            b"made 0 lines 41 unlocks 27 md5 d4010c3d85ae84c46e3042c0a6dad552\n",
+            b"made 0 lines 28 unlocks 14 md5 002574efe4e576d48d4766b365dff3f8\n",
         ),
         (&["run", "S", "S"], 7, b"trace refused at 0: header\n"),
         (&["import", "T", "p"], 10, b"import refused: json\n"),
