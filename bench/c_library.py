@@ -13,6 +13,7 @@ import subprocess
 import sys
 import tempfile
 
+sys.dont_write_bytecode = True
 from normal_texts import drawn_set, drawn_trace
 from workloads import achievement, header, write
 

@@ -2,23 +2,34 @@
 # Builds the archive and the programs of this folder, and runs them: plainly, under the sanitizers and under valgrind.
 # Then compares play with the program ra_player over generated sets and traces, by single writes and by whole memories.
 # usage: examples/c/check.sh [SETS [PLAYER]], where SETS is 200 and PLAYER the built program; where it is not named it is
-# found, or built
+# the one in crates/ra_player/out, or built first, with every proof below it
 set -eu
-cd "$(dirname "$0")"
-. ../../bench/player.sh
-need cc make python3 valgrind
+root=$(cd "$(dirname "$0")/../.." && pwd)
+sets=${1:-200}
+player=${2:-$root/crates/ra_player/out/ra_player}
 folder=$(mktemp -d)
 trap 'rm -rf "$folder"' EXIT
+cd "$root/examples/c"
+for tool in cc make python3 valgrind; do
+    if ! command -v "$tool" >/dev/null; then
+        echo "$tool is missing: nothing was tried"
+        exit 0
+    fi
+done
 make OUT="$folder/plain"
 make OUT="$folder/safe" CFLAGS="-O1 -g -fsanitize=address,undefined -fno-sanitize-recover=all"
 for program in codes row1 loop; do
     "$folder/plain/$program" >"$folder/$program.out"
-    "$folder/safe/$program" | cmp - "$folder/$program.out"
-    valgrind -q --error-exitcode=9 --leak-check=full --errors-for-leak-kinds=all "$folder/plain/$program" | cmp - "$folder/$program.out"
+    "$folder/safe/$program" >"$folder/safe.out"
+    cmp "$folder/safe.out" "$folder/$program.out"
+    valgrind -q --error-exitcode=9 --leak-check=full --errors-for-leak-kinds=all "$folder/plain/$program" >"$folder/valgrind.out"
+    cmp "$folder/valgrind.out" "$folder/$program.out"
 done
 printf 'unlock 4 1\n' | cmp - "$folder/row1.out"
 cmp loop.out "$folder/loop.out"
 cat "$folder/codes.out"
-SETS=${1:-200}
-find_player "${2:-}"
-python3 ../../bench/c_library.py compare "$player" "$folder/plain/play" "$folder/safe/play" "$SETS"
+if [ ! -x "$player" ]; then
+    echo "the player is proved and built first" >&2
+    (cd "$root/crates/ra_player" && rt run -- check ../../examples/small.set) >&2
+fi
+python3 "$root/bench/c_library.py" compare "$player" "$folder/plain/play" "$folder/safe/play" "$sets"
