@@ -2,3 +2,6 @@
 #![tactic(auto)]
 
 mod failed;
+mod taking;
+mod watch;
+mod watching;
