@@ -1,3 +1,5 @@
+pub mod ChooseLemmas
 pub mod FollowLemmas
 pub mod NextLemmas
+pub mod PrintLemmas
 pub mod WatchLemmas
