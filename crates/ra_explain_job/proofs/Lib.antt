@@ -1,5 +1,6 @@
 pub mod ChooseLemmas
 pub mod FollowLemmas
+pub mod JobLemmas
 pub mod NextLemmas
 pub mod PrintLemmas
 pub mod WatchLemmas

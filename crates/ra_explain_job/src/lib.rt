@@ -2,8 +2,11 @@
 #![tactic(auto)]
 
 mod choosing;
+mod explaining;
 mod failed;
 mod printing;
 mod taking;
 mod watch;
 mod watching;
+
+pub use explaining::explain_job;

@@ -1,0 +1,44 @@
+//! The job `explain`.
+
+ghost use Rattle.std.specs.Prelude.{◌≤◌};
+ghost use Rattle.ra_io.specs.Files.{SameContent};
+ghost use Rattle.ra_jobs.specs.Words.{Explain};
+ghost use Rattle.ra_session.specs.Outside.{outside_of};
+ghost use Rattle.ra_session.specs.Running.{Ran};
+
+use crate::choosing::trigger_of;
+use crate::printing::print_watched;
+use crate::watching::watch_trace;
+use ra_io::{Files, Sink};
+use ra_session::{Ending, load_set};
+use std::alloc::Global;
+
+/// Prints why an achievement of a set first unlocks in a trace, up to the last line: docs/DEFINITIONS.md,
+/// "Explanations". No file changes.
+pub fn explain_job<F: Files, K: Sink>(
+    alloc: Global,
+    set: &str,
+    trace: &str,
+    id: u32,
+    files: &mut F,
+    out: &mut K,
+) -> Ending
+    ensures ran { Ran (Explain set.now trace.now id)
+        (outside_of (F.content files.old) (F.read_faults files.old) (F.put_faults files.old) (K.text out.old) (K.faults out.old))
+        (outside_of (F.content files.new) (F.read_faults files.new) (F.put_faults files.new) (K.text out.new) (K.faults out.new))
+        result }
+    ensures same { SameContent (F.content files.old) (F.content files.new) }
+    ensures later { K.faults out.old ≤ K.faults out.new }
+{
+    let set = match load_set(alloc, set, files) {
+        Ok(set) => set,
+        Err(unset) => return Ending::from(unset),
+    };
+    let Some(text) = trigger_of(set, id) else {
+        return Ending::NoAchievement { id };
+    };
+    match watch_trace(alloc, text, trace, files) {
+        Ok(watch) => print_watched(alloc, id, &watch, out),
+        Err(failed) => Ending::from(failed),
+    }
+}
