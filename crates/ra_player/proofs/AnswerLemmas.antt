@@ -10,7 +10,7 @@ use Rattle.ra_session.specs.Closing.{Finishes, EndsBefore}
 use Rattle.ra_session.specs.Outside.{Outside, ReadsRose, PutsRose, SinkRose}
 use Rattle.ra_session.specs.Running.{Ran, IsTold, deciding}
 use Rattle.ra_session.specs.declared.ending.Ending.{Ending}
-use Rattle.ra_session.specs.declared.ending.Ending.TheVariants.{Done, NoMemory, NoJob, BadSet, ReadFault, SinkFault, BadProgress, BadTrace, LongTrace, SaveFault, BadDocument, LongNormal}
+use Rattle.ra_session.specs.declared.ending.Ending.TheVariants.{Done, NoMemory, NoJob, BadSet, ReadFault, SinkFault, BadProgress, BadTrace, LongTrace, SaveFault, BadDocument, LongNormal, NoAchievement, ManyRows}
 use Rattle.ra_session.proofs.Pieces.{grown-grown, grown-nil}
 use Rattle.ra_player.specs.Headline.{PlaysAs, as_expected, no_memory}
 use Rattle.ra_player.specs.Statuses.{EndsAsSaid, Cause, Answers}
@@ -94,6 +94,8 @@ module _ (words : List (List ℕ)) (old mid : Outside) (text : Option (List ℕ)
   own_cause LongTrace ran line = said LongTrace tt ran.printed ran line
   own_cause (BadDocument why) ran line = said (BadDocument why) tt ran.printed ran line
   own_cause (LongNormal which found) ran line = said (LongNormal which found) tt ran.printed ran line
+  own_cause (NoAchievement id) ran line = said (NoAchievement id) tt ran.printed ran line
+  own_cause (ManyRows found) ran line = said (ManyRows found) tt ran.printed ran line
 
   -- with the faults of the sink up to the last line
   ends_later : (e : Expected) (reads puts : Type 0) (ending : Ending) → EndsBefore e reads puts (SinkRose old mid) ending old.text mid.text → EndsBefore e reads puts (SinkRose old new) ending old.text mid.text

@@ -5,7 +5,7 @@ use Rattle.ra_io.specs.Sink.{grown}
 use Rattle.ra_session.specs.Writing.{GrewByPart}
 use Rattle.ra_session.specs.Endings.{status_of, last_line}
 use Rattle.ra_session.specs.declared.ending.Ending.{Ending}
-use Rattle.ra_session.specs.declared.ending.Ending.TheVariants.{Done, NoMemory, NoJob, BadSet, ReadFault, SinkFault, BadProgress, BadTrace, LongTrace, SaveFault, BadDocument, LongNormal}
+use Rattle.ra_session.specs.declared.ending.Ending.TheVariants.{Done, NoMemory, NoJob, BadSet, ReadFault, SinkFault, BadProgress, BadTrace, LongTrace, SaveFault, BadDocument, LongNormal, NoAchievement, ManyRows}
 use Rattle.ra_session.specs.Expected.{Expected, before_put, prints_nothing}
 use Rattle.ra_player.specs.Headline.{Decides, as_expected, save_failed, read_failed, Ends, whole, sink_failed, no_memory, IsFront}
 use Rattle.ra_session.specs.Closing.{Closes, Finishes, EndsBefore}
@@ -94,6 +94,8 @@ module _ (e : Expected) (reads puts sink : Type 0) (old mid new : Option (List �
   ends_with_line LongTrace before finishes = as_told LongTrace before.0 before.1 finishes
   ends_with_line (BadDocument why) before finishes = as_told (BadDocument why) before.0 before.1 finishes
   ends_with_line (LongNormal which found) before finishes = as_told (LongNormal which found) before.0 before.1 finishes
+  ends_with_line (NoAchievement id) before finishes = as_told (NoAchievement id) before.0 before.1 finishes
+  ends_with_line (ManyRows found) before finishes = as_told (ManyRows found) before.0 before.1 finishes
 
 -- words that are no job
 pub no_job_ends : (sink : Type 0) (old new : Option (List ℕ)) (status : ℕ) → Closes 2 (last_line NoJob) old new sink status → GrewToEnd (prints_nothing NoJob) ⊥ ⊥ sink old new status

@@ -2,15 +2,15 @@
 use Rattle.std.proofs.Common.{arith, ◌≡◌, ◌⊎◌, inl, inr, ap, refl, sym, subst, ◌∙◌, ℕ, zero, suc, List, [], ◌∷◌, ◌++◌, Any}
 use Rattle.std.specs.List.{concat}
 use Rattle.ra_io.specs.Sink.{grown}
-use Rattle.ra_jobs.specs.Words.{Job, Run, Check, Make, Import, Lint, Normal, file_in, reads_of, set_read, first_reads}
+use Rattle.ra_jobs.specs.Words.{Job, Run, Check, Make, Import, Lint, Normal, Explain, file_in, reads_of, set_read, first_reads}
 use Rattle.ra_session.specs.Endings.{status_of, last_line}
 use Rattle.ra_session.specs.Expected.{Expected}
 use Rattle.ra_session.specs.Outside.{Outside, ReadsRose, SinkRose}
 use Rattle.ra_session.specs.Running.{deciding}
 use Rattle.ra_session.specs.declared.ending.Ending.{Ending}
-use Rattle.ra_session.specs.declared.ending.Ending.TheVariants.{Done, NoJob, BadSet, ReadFault, SinkFault, BadProgress, BadTrace, LongTrace, SaveFault, BadDocument, LongNormal}
+use Rattle.ra_session.specs.declared.ending.Ending.TheVariants.{Done, NoJob, BadSet, ReadFault, SinkFault, BadProgress, BadTrace, LongTrace, SaveFault, BadDocument, LongNormal, NoAchievement, ManyRows}
 use Rattle.ra_player.specs.Headline.{Decides, as_expected, save_failed, read_failed, Ends, whole, sink_failed, no_memory}
-use Rattle.ra_player.specs.Statuses.{IsStatus, IsBadSet, IsBadProgress, IsBadTrace, IsBadDocument, IsLongNormal, IsNoJob, MeetsReadFault, MeetsSaveFault, EndsAsSaid, Cause, PlaysWords, IsWhole, Answers, SaysEachStatus}
+use Rattle.ra_player.specs.Statuses.{IsStatus, IsBadSet, IsBadProgress, IsBadTrace, IsBadDocument, IsLongNormal, IsNoAchievement, IsManyRows, IsNoJob, MeetsReadFault, MeetsSaveFault, EndsAsSaid, Cause, PlaysWords, IsWhole, Answers, SaysEachStatus}
 
 -- which ending has a status
 pub by_done : (P : Ending → Type 0) → P Done → (ending : Ending) → status_of ending ≡ 0 → P ending
@@ -57,6 +57,11 @@ by_normal : (P : Ending → Type 0) → ((which found : _) → P (LongNormal whi
 by_normal P p (LongNormal which found) is = p which found
 by_normal P p _ is = absurd (omega (arith, is))
 
+by_explain : (P : Ending → Type 0) → ((id : ℕ) → P (NoAchievement id)) → ((found : ℕ) → P (ManyRows found)) → (ending : Ending) → status_of ending ≡ 12 → P ending
+by_explain P p q (NoAchievement id) is = p id
+by_explain P p q (ManyRows found) is = q found
+by_explain P p q _ is = absurd (omega (arith, is))
+
 -- one ending is left where no fault decides, and memory that was wanting
 module _ (e : Expected) (reads puts sink : Type 0) (no_read : reads → ⊥) (no_put : e.ending ≡ Done → puts → ⊥) (no_write : sink → ⊥) where
   decided : (ending : Ending) (text : List ℕ) → Decides e reads puts ending text → (status_of ending ≡ status_of e.ending) × (text ≡ concat e.pieces ++ last_line e.ending)
@@ -94,12 +99,21 @@ decides_of_job old new (BadSet why) (Make number) rose = rose
 decides_of_job old new (BadSet why) (Import file set) rose = rose
 decides_of_job old new (BadSet why) (Lint set) rose = rose
 decides_of_job old new (BadSet why) (Normal set out) rose = rose
+decides_of_job old new (BadSet why) (Explain set trace id) rose = any_first _ set (trace ∷ []) rose
 decides_of_job old new (BadProgress why) (Run set trace restore save) rose = any_between _ set trace (file_in restore) rose
 decides_of_job old new (BadProgress why) (Check set) rose = rose
 decides_of_job old new (BadProgress why) (Make number) rose = rose
 decides_of_job old new (BadProgress why) (Import file set) rose = rose
 decides_of_job old new (BadProgress why) (Lint set) rose = rose
 decides_of_job old new (BadProgress why) (Normal set out) rose = rose
+decides_of_job old new (BadProgress why) (Explain set trace id) rose = any_first _ set (trace ∷ []) rose
+decides_of_job old new (NoAchievement n) (Run set trace restore save) rose = any_first _ set (trace ∷ file_in restore) rose
+decides_of_job old new (NoAchievement n) (Check set) rose = rose
+decides_of_job old new (NoAchievement n) (Make number) rose = rose
+decides_of_job old new (NoAchievement n) (Import file set) rose = rose
+decides_of_job old new (NoAchievement n) (Lint set) rose = rose
+decides_of_job old new (NoAchievement n) (Normal set out) rose = rose
+decides_of_job old new (NoAchievement n) (Explain set trace id) rose = any_first _ set (trace ∷ []) rose
 decides_of_job old new _ job rose = rose
 
 module _ (e : Expected) (reads all puts sink : Type 0) (f : reads → all) where
@@ -160,4 +174,7 @@ module _ (words : List (List ℕ)) (old new : Outside) where
             (λ why. said_so reads_of (λ g. g ≡ BadDocument why) IsBadDocument (λ g same. subst IsBadDocument (sym same) tt)) answers.ending (at 10 is) answers.cause;
         normal = λ is. by_normal (λ g. Cause words old new g → EndsAsSaid words old new reads_of IsLongNormal)
             (λ which found. said_so reads_of (λ g. g ≡ LongNormal which found) IsLongNormal (λ g same. subst IsLongNormal (sym same) tt)) answers.ending (at 11 is) answers.cause;
+        explain = λ is. by_explain (λ g. Cause words old new g → EndsAsSaid words old new set_read IsNoAchievement ⊎ EndsAsSaid words old new reads_of IsManyRows)
+            (λ id cause. inl (said_so set_read (λ g. g ≡ NoAchievement id) IsNoAchievement (λ g same. subst IsNoAchievement (sym same) tt) cause))
+            (λ found cause. inr (said_so reads_of (λ g. g ≡ ManyRows found) IsManyRows (λ g same. subst IsManyRows (sym same) tt) cause)) answers.ending (at 12 is) answers.cause;
       }

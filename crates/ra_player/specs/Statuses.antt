@@ -9,12 +9,12 @@ use Rattle.ra_session.specs.Expected.{Expected, JobSays}
 use Rattle.ra_session.specs.Outside.{Outside, GrewBy, ReadsRose, PutsRose, SinkRose, AreTold}
 use Rattle.ra_session.specs.Running.{IsSaved, PrintsBehindPut, HasSaved, deciding}
 use Rattle.ra_session.specs.declared.ending.Ending.{Ending}
-use Rattle.ra_session.specs.declared.ending.Ending.TheVariants.{Done, NoMemory, NoJob, BadSet, ReadFault, SinkFault, BadProgress, BadTrace, LongTrace, SaveFault, BadDocument, LongNormal}
+use Rattle.ra_session.specs.declared.ending.Ending.TheVariants.{Done, NoMemory, NoJob, BadSet, ReadFault, SinkFault, BadProgress, BadTrace, LongTrace, SaveFault, BadDocument, LongNormal, NoAchievement, ManyRows}
 use Rattle.ra_player.specs.Headline.{PlaysAs, RefusesWords}
 
 -- the statuses that a call of `play` may answer
 abbrev pub IsStatus : ℕ → Type 0
-IsStatus s = s ≤ 11
+IsStatus s = s ≤ 12
 
 -- the set was refused
 abbrev pub IsBadSet : Ending → Type 0
@@ -40,6 +40,16 @@ IsBadDocument _ = ⊥
 abbrev pub IsLongNormal : Ending → Type 0
 IsLongNormal (LongNormal which found) = Unit {0}
 IsLongNormal _ = ⊥
+
+-- the set was accepted, and it has no achievement of the id
+abbrev pub IsNoAchievement : Ending → Type 0
+IsNoAchievement (NoAchievement id) = Unit {0}
+IsNoAchievement _ = ⊥
+
+-- the set was accepted, and the rows of the trace are too many before an unlock
+abbrev pub IsManyRows : Ending → Type 0
+IsManyRows (ManyRows found) = Unit {0}
+IsManyRows _ = ⊥
 
 module _ (words : List (List ℕ)) (old new : Outside) where
   -- The words are a job, and where the files that decide are told, the job says that it ends so, and the text grew by
@@ -133,3 +143,4 @@ module _ (words : List (List ℕ)) (old new : Outside) where
     pub save : status ≡ 9 → MeetsSaveFault
     pub document : status ≡ 10 → EndsAsSaid reads_of IsBadDocument
     pub normal : status ≡ 11 → EndsAsSaid reads_of IsLongNormal
+    pub explain : status ≡ 12 → EndsAsSaid set_read IsNoAchievement ⊎ EndsAsSaid reads_of IsManyRows

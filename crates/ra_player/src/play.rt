@@ -6,6 +6,7 @@ ghost use Rattle.ra_session.specs.Outside.{outside_of};
 ghost use Rattle.ra_session.specs.Running.{Leaves, Ran};
 ghost use Rattle.ra_player.specs.Statuses.{Answers, LeavesFiles};
 
+use ra_explain_job::explain_job;
 use ra_io::{Files, Sink};
 use ra_jobs::{Job, read_job};
 use ra_session::{
@@ -45,6 +46,7 @@ fn do_job<F: Files, K: Sink>(alloc: Global, job: &Job<'_>, files: &mut F, out: &
         Job::Import { file, set } => import_job(alloc, file, set, files, out),
         Job::Lint { set } => lint_job(alloc, set, files, out),
         Job::Normal { set, out: file } => normal_job(alloc, set, file, files, out),
+        Job::Explain { set, trace, id } => explain_job(alloc, set, trace, id, files, out),
     }
 }
 

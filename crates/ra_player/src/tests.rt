@@ -36,11 +36,11 @@ fn plays(alloc: Global, texts: &[&str], status: u8, text: &[u8]) -> Result<bool,
 }
 
 const USAGE: &[u8] =
-    b"usage: ra_player run SET TRACE [--restore FILE] [--save FILE] | check SET | make N | import FILE SET | lint SET | normal SET OUT\n";
+    b"usage: ra_player run SET TRACE [--restore FILE] [--save FILE] | check SET | make N | import FILE SET | lint SET | normal SET OUT | explain SET TRACE ID\n";
 
 #[test]
 fn plays_jobs_and_tells_other_words_the_usage(rt: HostRuntime) -> Result<(), OutOfMemory> {
-    let rows: [(&[&str], u8, &[u8]); 17] = [
+    let rows: [(&[&str], u8, &[u8]); 20] = [
         (&["run", "S", "T"], 0, b"unlock 4 1\n"),
         (
             &["check", "S"],
@@ -58,6 +58,17 @@ fn plays_jobs_and_tells_other_words_the_usage(rt: HostRuntime) -> Result<(), Out
         (&["lint", "T"], 3, b"set refused: syntax at 0\n"),
         (&["normal", "S", "N"], 0, b"normal bytes 17 conditions 1\n"),
         (&["normal", "T", "N"], 3, b"set refused: syntax at 0\n"),
+        (
+            &["explain", "S", "T", "1"],
+            0,
+            b"unlock 4 1\nsince 0\n0.0 1:1 2:2 4:3\n",
+        ),
+        (
+            &["explain", "S", "X", "2"],
+            12,
+            b"explain refused: no achievement 2\n",
+        ),
+        (&["explain", "S", "T", "01"], 2, USAGE),
         (&[], 2, USAGE),
         (&["run", "S"], 2, USAGE),
         (&["run", "S", "T", "--save"], 2, USAGE),
