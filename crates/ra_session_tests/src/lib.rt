@@ -13,6 +13,8 @@ mod displays;
 #[cfg(test)]
 mod earned;
 #[cfg(test)]
+mod explains;
+#[cfg(test)]
 mod faults;
 #[cfg(test)]
 mod imports;

@@ -7,7 +7,7 @@ use std::alloc::Global;
 
 // Files that give so many bytes a read at most, and of which the read of the trace at one place fails.
 #[derive(Drop)]
-struct PiecedFiles {
+pub(crate) struct PiecedFiles {
     files: SureFiles,
     most: usize,
     failing: u64,
@@ -39,14 +39,12 @@ impl Files for PiecedFiles {
     }
 }
 
-// Whether a run over so many bytes a read, of which one may fail, ends so.
-fn pieces_end_so(
+/// Files of a set and a trace that give so many bytes a read, of which the read of the trace at one place fails.
+pub(crate) fn pieced(
     alloc: Global,
     given: (&[u8], &[u8]),
     reads: (usize, u64),
-    status: u8,
-    text: &[u8],
-) -> Result<bool, OutOfMemory> {
+) -> Result<PiecedFiles, OutOfMemory> {
     let mut files = PiecedFiles {
         files: SureFiles::new(alloc)?,
         most: reads.0,
@@ -55,6 +53,18 @@ fn pieces_end_so(
     };
     files.files.add("S", given.0)?;
     files.files.add("T", given.1)?;
+    Ok(files)
+}
+
+// Whether a run over so many bytes a read, of which one may fail, ends so.
+fn pieces_end_so(
+    alloc: Global,
+    given: (&[u8], &[u8]),
+    reads: (usize, u64),
+    status: u8,
+    text: &[u8],
+) -> Result<bool, OutOfMemory> {
+    let mut files = pieced(alloc, given, reads)?;
     let mut out = SureSink::new(alloc);
     Ok(status_of(alloc, &RUN, &mut files, &mut out) == status && out.taken() == text)
 }
