@@ -1,4 +1,5 @@
 mod AsBox
+mod ChooseLemmas
 mod Fresh
 mod Seen
 mod Taken

@@ -32,3 +32,7 @@ empty = 6
 -- the handle holds a runtime already
 abbrev pub full : ℕ
 full = 7
+
+-- there is nothing to explain
+abbrev pub nothing : ℕ
+nothing = 8

@@ -1,7 +1,10 @@
 pub mod Answers
+pub mod Choosing
 pub mod Codes
 pub mod Handles
 pub mod Owned
 pub mod Reasons
+pub mod Recordings
 pub mod ToldEvents
+pub mod ToldUnlocks
 pub mod Views

@@ -16,3 +16,5 @@ pub const ROOM: u32 = 5;
 pub const EMPTY: u32 = 6;
 /// The handle holds a runtime already.
 pub const HELD: u32 = 7;
+/// There is no unlock to explain.
+pub const NOTHING: u32 = 8;

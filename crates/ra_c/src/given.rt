@@ -1,6 +1,6 @@
 ghost use Rattle.std.specs.Prelude.{◌≡◌, ◌≢◌, MatchResult};
 ghost use Rattle.ra_c.specs.Answers.{Gives};
-ghost use Rattle.ra_c.specs.Codes.{done, memory};
+ghost use Rattle.ra_c.specs.Codes.{done, memory, no_room};
 
 use crate::codes::{DONE, MEMORY, ROOM};
 use ra_text::OutOfMemory;
@@ -21,10 +21,11 @@ pub fn give<T: Copy + Drop>(
     }
 }
 
-// Gives all of this.
-fn give_whole<T: Copy>(whole: &[T], out: &mut [T], count: &mut usize) -> u32
+// Gives all of this where there is room, and says how much there is.
+pub fn give_whole<T: Copy>(whole: &[T], out: &mut [T], count: &mut usize) -> u32
     ensures given { Gives whole.now out.old out.new count.new result }
     ensures unwritten { result ≢ done → out.new ≡ out.old }
+    ensures room { result ≢ done → result ≡ no_room }
 {
     *count = whole.len();
     if out.len() < whole.len() {

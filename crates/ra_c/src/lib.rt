@@ -4,6 +4,7 @@
 #![tactic(auto)]
 
 mod cell;
+mod choosing;
 mod codes;
 mod given;
 mod handle;
@@ -17,6 +18,7 @@ mod telling;
 #[cfg(test)]
 mod tests;
 mod told_event;
+mod told_unlock;
 
 pub use handle::Handle;
 pub use keeping::{ra_reset, ra_restore, ra_save};
@@ -25,3 +27,4 @@ pub use playing::{ra_frame, ra_see, ra_write};
 pub use refusal::Refusal;
 pub use telling::{ra_events, ra_lines, ra_show};
 pub use told_event::ToldEvent;
+pub use told_unlock::{ToldHits, ToldUnlock};
