@@ -25,7 +25,7 @@ for program in codes row1 loop; do
     valgrind -q --error-exitcode=9 --leak-check=full --errors-for-leak-kinds=all "$folder/plain/$program" >"$folder/valgrind.out"
     cmp "$folder/valgrind.out" "$folder/$program.out"
 done
-printf 'unlock 4 1\n' | cmp - "$folder/row1.out"
+printf 'unlock 4 1\nlast 4 since 0 waited 1\n0 1:1\n0 2:2\n0 4:3\n' | cmp - "$folder/row1.out"
 cmp loop.out "$folder/loop.out"
 cat "$folder/codes.out"
 if [ ! -x "$player" ]; then

@@ -8,6 +8,8 @@ _Static_assert(sizeof(ra_runtime) == sizeof(void *) + 8 || sizeof(void *) == 4, 
 _Static_assert(offsetof(ra_runtime, held) == sizeof(void *), "ra_runtime.held");
 _Static_assert(sizeof(ra_refusal) == 32 && offsetof(ra_refusal, at) == 8 && offsetof(ra_refusal, wanted) == 24, "ra_refusal");
 _Static_assert(sizeof(ra_event) == 16 && offsetof(ra_event, number) == 8, "ra_event");
+_Static_assert(sizeof(ra_unlock) == 12 && offsetof(ra_unlock, since) == 4 && offsetof(ra_unlock, waited) == 8, "ra_unlock");
+_Static_assert(sizeof(ra_hits) == 12 && offsetof(ra_hits, row) == 4 && offsetof(ra_hits, hits) == 8, "ra_hits");
 
 static int failed;
 
@@ -26,6 +28,8 @@ int main(void) {
     ra_runtime game = {0}, other = {0};
     ra_refusal why = {0};
     ra_event events[1];
+    ra_unlock unlock = {0};
+    ra_hits hits[1] = {{0}};
     uint8_t bytes[128] = {0};
     size_t count = 0;
     wants("version", ra_version(), 1);
@@ -39,6 +43,8 @@ int main(void) {
     wants("save of nothing", ra_save(&game, bytes, 128, &count), RA_EMPTY);
     wants("restore of nothing", ra_restore(&game, bytes, 1, &why), RA_EMPTY);
     wants("reset of nothing", ra_reset(&game), RA_EMPTY);
+    wants("record of nothing", ra_record(&game, 1), RA_EMPTY);
+    wants("explanation of nothing", ra_explain(&game, hits, 1, &count, &unlock), RA_EMPTY);
     wants("no set", make(&game, "A 1 0xH10=5.3\n", 64, &why), RA_SET);
     wants("its kind", why.kind, RA_SYNTAX);
     wants("its place", (uint32_t)why.at, 13);
@@ -54,9 +60,19 @@ int main(void) {
     wants("a write far behind", ra_write(&game, 4294967295u, bytes, 2), RA_RANGE);
     wants("no byte at the end", ra_write(&game, 64, bytes, 0), RA_DONE);
     wants("a sight past the end", ra_see(&game, 63, bytes, 2), RA_RANGE);
+    wants("a record of another id", ra_record(&game, 2), RA_RANGE);
+    wants("nothing is recorded", ra_explain(&game, hits, 1, &count, &unlock), RA_NOTHING);
+    wants("a record", ra_record(&game, 1), RA_DONE);
     wants("a frame", ra_frame(&game), RA_DONE);
+    wants("a late record", ra_record(&game, 1), RA_RANGE);
+    wants("no unlock", ra_explain(&game, hits, 1, &count, &unlock), RA_NOTHING);
     wants("a write", ra_write(&game, 0x10, bytes, 1), RA_DONE);
     wants("a frame", ra_frame(&game), RA_DONE);
+    wants("no room", ra_explain(&game, hits, 0, &count, &unlock), RA_ROOM);
+    wants("how many", (uint32_t)count, 1);
+    wants("an explanation", ra_explain(&game, hits, 1, &count, &unlock), RA_DONE);
+    wants("its row", unlock.last, 1);
+    wants("its hits", hits[0].hits, 1);
     wants("no room", ra_events(&game, events, 0, &count), RA_ROOM);
     wants("how many", (uint32_t)count, 1);
     wants("an event", ra_events(&game, events, 1, &count), RA_DONE);

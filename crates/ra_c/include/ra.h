@@ -44,7 +44,8 @@ enum {
     RA_RANGE = 4,    /* a size or an address is out of range */
     RA_ROOM = 5,     /* there is too little room; *count is how much there has to be, and out is as it was */
     RA_EMPTY = 6,    /* the handle holds no runtime */
-    RA_HELD = 7      /* the handle holds a runtime already */
+    RA_HELD = 7,     /* the handle holds a runtime already */
+    RA_NOTHING = 8   /* there is no unlock to explain */
 };
 
 /* A handle. All zero it holds nothing. It owns the runtime behind it, from ra_new to ra_free; its fields are not read
@@ -100,8 +101,23 @@ enum {
     RA_SUBMIT = 8    /* number: the attempt was submitted with this */
 };
 
+/* The rows of an explanation: an unlock, and from which frame on its hits counted. Rows count the frames from ra_record
+ * on, from 0. */
+typedef struct {
+    uint32_t last;   /* the row of the unlock */
+    uint32_t since;  /* 0, or the row behind the latest one at which the hits were cleared */
+    uint32_t waited; /* 1 where the achievement was still waiting before that row, else 0 */
+} ra_unlock;
+
+/* A row at which the hits of a condition changed. */
+typedef struct {
+    uint32_t condition; /* the place of the condition, from 0, the core group's first, then each alternative's */
+    uint32_t row;
+    uint32_t hits;      /* the hits after the row */
+} ra_hits;
+
 /* Makes a runtime of a set's text over a memory of size bytes, at most 134217728, all 0, in a handle that holds
- * nothing. The text is not kept. What the game has in its memory before the first frame is told by ra_write or ra_see.
+ * nothing. The text is copied. What the game has in its memory before the first frame is told by ra_write or ra_see.
  * RA_HELD, RA_RANGE (size), RA_SET (why), RA_MEMORY. */
 uint32_t ra_new(const uint8_t *text, size_t length, uint32_t size, ra_runtime *handle, ra_refusal *why);
 
@@ -116,7 +132,7 @@ uint32_t ra_write(ra_runtime *handle, uint32_t at, const uint8_t *bytes, size_t 
  * RA_RANGE where they pass the end; RA_EMPTY. */
 uint32_t ra_see(ra_runtime *handle, uint32_t at, const uint8_t *bytes, size_t length);
 
-/* Takes one frame. It takes no memory. RA_EMPTY. */
+/* Takes one frame. It takes memory only where an achievement is recorded; see ra_record. RA_EMPTY. */
 uint32_t ra_frame(ra_runtime *handle);
 
 /* The events of the last frame, in the order of the set. None before the first frame, and none after a restore or a
@@ -137,13 +153,25 @@ uint32_t ra_show(ra_runtime *handle, uint8_t *out, size_t room, size_t *count);
 uint32_t ra_save(ra_runtime *handle, uint8_t *out, size_t room, size_t *count);
 
 /* Takes up progress bytes of this set, or of one that was changed since, by the names of its items. The memory stays:
- * tell it too, where a save state changed it. It takes no memory. RA_PROGRESS (why), RA_EMPTY. */
+ * tell it too, where a save state changed it. Nothing is recorded then. It takes no memory. RA_PROGRESS (why), RA_EMPTY. */
 uint32_t ra_restore(ra_runtime *handle, const uint8_t *bytes, size_t length, ra_refusal *why);
 
 /* Begins anew over the present memory, as when the emulated machine is reset: a restore of what ra_save gave right after
  * ra_new. Hits, states, deltas and priors are those of a new runtime, and what a restore leaves of earned achievements
- * stays. For a runtime with nothing earned, ra_free and ra_new. It takes no memory. RA_EMPTY. */
+ * stays. For a runtime with nothing earned, ra_free and ra_new. Nothing is recorded then. It takes no memory. RA_EMPTY. */
 uint32_t ra_reset(ra_runtime *handle);
+
+/* Records the achievement of this id from now on, frame by frame, in place of one that was recorded: right after ra_new or
+ * ra_reset, once what the game has in its memory was told. Writes and frames go to it too, and it begins as one that was
+ * never played or earned. A frame that finds no memory for its row, or that makes too many rows (67108864 rows and
+ * comparisons together), is taken, and the achievement is recorded no longer. RA_RANGE where the set has no achievement of
+ * this id, or where the count of frames is not 0; then, and for RA_MEMORY, what was recorded stays recorded. RA_EMPTY. */
+uint32_t ra_record(ra_runtime *handle, uint32_t id);
+
+/* Why the recorded achievement unlocked at the last frame: the rows at which hits changed, condition by condition, and the
+ * rows of the whole. *count is how many rows there are in out. RA_NOTHING where nothing is recorded or the last frame was
+ * no unlock of it. RA_ROOM, RA_MEMORY, RA_EMPTY. */
+uint32_t ra_explain(ra_runtime *handle, ra_hits *out, size_t room, size_t *count, ra_unlock *unlock);
 
 /* The version of this header, 1. */
 uint32_t ra_version(void);

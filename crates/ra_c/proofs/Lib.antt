@@ -1,5 +1,6 @@
 mod AsBox
 mod ChooseLemmas
 mod Fresh
+mod GameLemmas
 mod Seen
 mod Taken

@@ -7,7 +7,7 @@ use Rattle.std.specs.Box.Ownership.{box_owns}
 use Rattle.std.specs.Coded.{coded_option}
 use Rattle.std.specs.Global.{Global}
 use Rattle.std.specs.contracts.impls.GlobalAllocator.TheImpl.{ghosts}
-use Rattle.ra_c.specs.contracts.held.Held.{the_row}
+use Rattle.ra_c.specs.contracts.game.Game.{the_row}
 
 -- a full cell owns the block behind its pointer, with what lies there, and an empty one nothing
 abbrev pub cell_owns : Global → Ptr → Option the_row.Denot → Fml

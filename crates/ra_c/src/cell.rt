@@ -1,8 +1,8 @@
 ghost use Rattle.std.specs.Prelude.{◌≡◌, Option, None, Some, IsSome};
 ghost use Rattle.ra_c.specs.Owned.{cell_owns, optional_coded};
-ghost use Rattle.ra_c.specs.contracts.held.Held.{the_row};
+ghost use Rattle.ra_c.specs.contracts.game.Game.{the_row};
 
-use crate::held::Held;
+use crate::game::Game;
 use crate::parts::Parts;
 use std::alloc::Global;
 use std::marker::Model;
@@ -33,7 +33,7 @@ impl Cell {
     }
 
     // A cell that owns what these parts own.
-    pub fn of_parts(parts: Parts<Held, Global>) -> Cell
+    pub fn of_parts(parts: Parts<Game, Global>) -> Cell
         ensures { result.value ≡ Some parts.value }
     {
         let Parts { ptr, alloc } = parts;
@@ -44,13 +44,13 @@ impl Cell {
     }
 
     // The parts that a full cell owns.
-    pub fn into_parts(self) -> Parts<Held, Global>
+    pub fn into_parts(self) -> Parts<Game, Global>
         requires { IsSome self.value }
         ensures { self.value ≡ Some result.value }
     {
         let Cell { at, alloc } = self;
         Parts {
-            ptr: at as *mut Held,
+            ptr: at as *mut Game,
             alloc,
         }
     }

@@ -1,7 +1,7 @@
 ghost use Rattle.std.specs.Prelude.{◌≡◌, ◌≢◌, ◌↔◌, true, None, Some, option_map};
 
 use crate::cell::Cell;
-use crate::held::Held;
+use crate::game::Game;
 use crate::parts::Parts;
 use std::alloc::Global;
 use std::mem;
@@ -20,7 +20,7 @@ pub struct Handle {
 }
 
 impl Handle {
-    ghost use Rattle.ra_c.specs.Handles.{held_in};
+    ghost use Rattle.ra_c.specs.Handles.{held_in, whole_in};
 
     /// A handle that holds nothing.
     pub fn empty(alloc: Global) -> Handle
@@ -33,11 +33,11 @@ impl Handle {
     }
 
     // A handle that holds this.
-    fn full(held: Box<Held>) -> Handle
-        ensures { held_in result ≡ Some held.value }
+    fn full(game: Box<Game>) -> Handle
+        ensures { whole_in result ≡ Some game.value }
     {
         Handle {
-            cell: Cell::of_parts(Parts::of(held)),
+            cell: Cell::of_parts(Parts::of(game)),
             held: 1,
         }
     }
@@ -50,9 +50,9 @@ impl Handle {
     }
 
     // What a full handle holds, and then it holds nothing.
-    pub fn take(&mut self, alloc: Global) -> Option<Box<Held>>
-        ensures taken { option_map (λ held. held.value) result ≡ held_in self.old }
-        ensures emptied { held_in self.new ≡ None }
+    pub fn take(&mut self, alloc: Global) -> Option<Box<Game>>
+        ensures taken { option_map (λ game. game.value) result ≡ whole_in self.old }
+        ensures emptied { whole_in self.new ≡ None }
     {
         if self.held == 0 {
             return None;
@@ -62,10 +62,10 @@ impl Handle {
     }
 
     // Holds this.
-    pub fn put(&mut self, held: Box<Held>)
+    pub fn put(&mut self, game: Box<Game>)
         requires { held_in self.old ≡ None }
-        ensures { held_in self.new ≡ Some held.value }
+        ensures { whole_in self.new ≡ Some game.value }
     {
-        let _ = mem::replace(self, Handle::full(held));
+        let _ = mem::replace(self, Handle::full(game));
     }
 }

@@ -50,28 +50,22 @@ fn overwrite(image: &mut Vec<u8>, at: usize, bytes: &[u8])
 impl Held {
     ghost use Rattle.ra_c.specs.Answers.{AnswersSee, BeginsAgain, AnswersWrite, AreEventsOf, AreLinesOf, IsLoaded, IsSaveOf, IsSeen, IsShownBy, RefusesProgress, TakesProgress};
 
-    /// The runtime of a set's text over a memory of `size` bytes, all 0, in a box.
+    /// The runtime of a set's text over a memory of `size` bytes, all 0.
     ///
     /// A text that is no set is refused for the first reason that comes; `Memory` tells want of memory.
-    pub fn boxed(alloc: Global, text: &[u8], size: u32) -> Result<Box<Held>, SetRefused>
+    pub fn new(alloc: Global, text: &[u8], size: u32) -> Result<Held, SetRefused>
         requires { size ≤ 2 ^ 27 }
-        ensures loaded { IfOk result (λ held. IsLoaded text.now size held.value) }
+        ensures loaded { IfOk result (IsLoaded text.now size) }
         ensures refused { IfErr result (λ why. why ≡ SetRefused.Memory ⊎ Refuses text.now why) }
     {
         let set = parse_set(alloc, text)?;
         let runtime = Runtime::new(alloc, set, size)?;
         let (first, shadow) = Held::copies(alloc, &runtime)?;
-        match Box::new(
-            alloc,
-            Held {
-                runtime,
-                shadow,
-                first,
-            },
-        ) {
-            Ok(held) => Ok(held),
-            Err(_) => Err(SetRefused::Memory),
-        }
+        Ok(Held {
+            runtime,
+            shadow,
+            first,
+        })
     }
 
     // The progress bytes of a runtime, and as many zeros as its image has bytes. The progress of a set is never too long.
@@ -84,6 +78,27 @@ impl Held {
         let first = runtime.save(alloc)?;
         let zeros = Vec::from_elem(alloc, 0u8, runtime.size() as usize)?;
         Ok((first, zeros))
+    }
+
+    /// The memory.
+    pub fn image(&self) -> &[u8]
+        ensures { result.now ≡ self.now.image }
+    {
+        self.shadow.as_slice()
+    }
+
+    /// How many bytes the memory has.
+    pub fn size(&self) -> u32
+        ensures { result ≡ length self.now.image }
+    {
+        self.runtime.size()
+    }
+
+    /// Whether the count of frames is 0.
+    pub fn is_unplayed(&self) -> bool
+        ensures { result ≡ true ↔ self.now.kept.frames ≡ 0 }
+    {
+        self.runtime.frames() == 0
     }
 
     // Whether so many bytes from the address `at` on lie within the memory.

@@ -1,7 +1,7 @@
-ghost use Rattle.std.specs.Prelude.{◌≡◌, ◌≢◌, ◌⊎◌};
+ghost use Rattle.std.specs.Prelude.{◌≡◌, ◌≢◌, ◌⊎◌, None};
 ghost use Rattle.ra_c.specs.Answers.{AnswersReset, AnswersRestore, AnswersTold, Calls, IsSaveOf};
 ghost use Rattle.ra_c.specs.Codes.{done, memory, no_progress, empty};
-ghost use Rattle.ra_c.specs.Handles.{held_in};
+ghost use Rattle.ra_c.specs.Handles.{held_in, recorded_in};
 
 use crate::codes::{DONE, EMPTY, PROGRESS};
 use crate::given::give;
@@ -20,13 +20,14 @@ pub extern "C" fn ra_save(
     count: &mut usize,
 ) -> u32
     ensures told { Calls (AnswersTold IsSaveOf out.old out.new count.new result) result (held_in handle.old) (held_in handle.new) }
+    ensures recording { recorded_in handle.new ≡ recorded_in handle.old }
     ensures unwritten { result ≢ done → out.new ≡ out.old }
     ensures uncounted { (result ≡ memory) ⊎ (result ≡ empty) → count.new ≡ count.old }
 {
     match handle.take(alloc) {
-        Some(held) => {
-            let code = give(held.save(alloc), out, count);
-            handle.put(held);
+        Some(game) => {
+            let code = give(game.save(alloc), out, count);
+            handle.put(game);
             code
         }
         None => EMPTY,
@@ -35,7 +36,8 @@ pub extern "C" fn ra_save(
 
 /// Takes up what progress bytes say, of this set or of a changed one: docs/DEFINITIONS.md, "Calls from C".
 ///
-/// `RA_PROGRESS` where the bytes are refused, with the reason, and then nothing changes. No memory is taken.
+/// Then nothing is recorded. `RA_PROGRESS` where the bytes are refused, with the reason, and then nothing changes. No memory is
+/// taken.
 #[unsafe(no_mangle)]
 pub extern "C" fn ra_restore(
     alloc: Global,
@@ -44,12 +46,14 @@ pub extern "C" fn ra_restore(
     why: &mut Refusal,
 ) -> u32
     ensures taken { Calls (AnswersRestore bytes.now why.new result) result (held_in handle.old) (held_in handle.new) }
+    ensures unrecorded { result ≡ done → recorded_in handle.new ≡ None }
+    ensures recording { result ≢ done → recorded_in handle.new ≡ recorded_in handle.old }
     ensures unsaid { result ≢ no_progress → why.new ≡ why.old }
 {
     match handle.take(alloc) {
-        Some(mut held) => {
-            let restored = held.restore(bytes);
-            handle.put(held);
+        Some(mut game) => {
+            let restored = game.restore(bytes);
+            handle.put(game);
             match restored {
                 Ok(()) => DONE,
                 Err(reason) => {
@@ -64,15 +68,17 @@ pub extern "C" fn ra_restore(
 
 /// Begins anew over the present memory, as when the emulated machine is reset: docs/DEFINITIONS.md, "Calls from C".
 ///
-/// It is a restore of what a save gives before the first frame, which is never refused. No memory is taken.
+/// It is a restore of what a save gives before the first frame, which is never refused. Nothing is
+/// recorded then. No memory is taken.
 #[unsafe(no_mangle)]
 pub extern "C" fn ra_reset(alloc: Global, handle: &mut Handle) -> u32
-    ensures { Calls (AnswersReset result) result (held_in handle.old) (held_in handle.new) }
+    ensures begun { Calls (AnswersReset result) result (held_in handle.old) (held_in handle.new) }
+    ensures unrecorded { recorded_in handle.new ≡ None }
 {
     match handle.take(alloc) {
-        Some(mut held) => {
-            held.reset();
-            handle.put(held);
+        Some(mut game) => {
+            game.reset();
+            handle.put(game);
             DONE
         }
         None => EMPTY,

@@ -6,6 +6,8 @@
 mod cell;
 mod choosing;
 mod codes;
+mod explaining;
+mod game;
 mod given;
 mod handle;
 mod held;
@@ -13,6 +15,7 @@ mod keeping;
 mod making;
 mod parts;
 mod playing;
+mod recording;
 mod refusal;
 mod telling;
 #[cfg(test)]
@@ -20,6 +23,7 @@ mod tests;
 mod told_event;
 mod told_unlock;
 
+pub use explaining::{ra_explain, ra_record};
 pub use handle::Handle;
 pub use keeping::{ra_reset, ra_restore, ra_save};
 pub use making::{ra_free, ra_new, ra_version};

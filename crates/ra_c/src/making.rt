@@ -1,11 +1,11 @@
 ghost use Rattle.std.specs.Prelude.{◌≡◌, ◌≢◌, ◌⊎◌, ◌↔◌, ◌<◌, ◌^◌, None, IsSomeAnd};
 ghost use Rattle.ra_c.specs.Answers.{IsLoaded, IsRefusedText};
 ghost use Rattle.ra_c.specs.Codes.{done, memory, no_set, out_of_range, empty, full};
-ghost use Rattle.ra_c.specs.Handles.{held_in};
+ghost use Rattle.ra_c.specs.Handles.{held_in, recorded_in};
 
 use crate::codes::{DONE, EMPTY, HELD, MEMORY, RANGE, SET};
+use crate::game::Game;
 use crate::handle::Handle;
-use crate::held::Held;
 use crate::refusal::{Refusal, of_set};
 use ra_set::SetRefused;
 use std::alloc::Global;
@@ -25,8 +25,10 @@ pub extern "C" fn ra_new(
     ensures held { result ≡ full ↔ held_in handle.old ≢ None }
     ensures range { result ≡ out_of_range ↔ ((held_in handle.old ≡ None) × (2 ^ 27 < size)) }
     ensures made { result ≡ done → IsSomeAnd (held_in handle.new) (IsLoaded text.now size) }
+    ensures unrecorded { result ≡ done → recorded_in handle.new ≡ None }
     ensures refused { result ≡ no_set → IsRefusedText text.now why.new }
     ensures kept { result ≢ done → held_in handle.new ≡ held_in handle.old }
+    ensures recording { result ≢ done → recorded_in handle.new ≡ recorded_in handle.old }
     ensures unsaid { result ≢ no_set → why.new ≡ why.old }
     ensures other { (result ≡ done) ⊎ ((result ≡ memory) ⊎ ((result ≡ no_set) ⊎ ((result ≡ out_of_range) ⊎ (result ≡ full)))) }
 {
@@ -36,9 +38,9 @@ pub extern "C" fn ra_new(
     if size > 134_217_728 {
         return RANGE;
     }
-    match Held::boxed(alloc, text, size) {
-        Ok(held) => {
-            handle.put(held);
+    match Game::boxed(alloc, text, size) {
+        Ok(game) => {
+            handle.put(game);
             DONE
         }
         Err(SetRefused::Memory) => MEMORY,

@@ -1,6 +1,7 @@
 ghost use Rattle.std.specs.Prelude.{◌≡◌};
 ghost use Rattle.ra_c.specs.Answers.{AnswersFrame, AnswersSee, AnswersWrite, Calls};
-ghost use Rattle.ra_c.specs.Handles.{held_in};
+ghost use Rattle.ra_c.specs.Handles.{held_in, recorded_in};
+ghost use Rattle.ra_c.specs.Recordings.{RecordsFrame, RecordsWrite};
 
 use crate::codes::{DONE, EMPTY};
 use crate::handle::Handle;
@@ -11,12 +12,13 @@ use std::alloc::Global;
 /// `RA_RANGE` where they pass the end of the memory, and then nothing is written.
 #[unsafe(no_mangle)]
 pub extern "C" fn ra_write(alloc: Global, handle: &mut Handle, at: u32, bytes: &[u8]) -> u32
-    ensures { Calls (AnswersWrite at bytes.now result) result (held_in handle.old) (held_in handle.new) }
+    ensures played { Calls (AnswersWrite at bytes.now result) result (held_in handle.old) (held_in handle.new) }
+    ensures recorded { RecordsWrite at bytes.now result (recorded_in handle.old) (recorded_in handle.new) }
 {
     match handle.take(alloc) {
-        Some(mut held) => {
-            let code = held.write(at, bytes);
-            handle.put(held);
+        Some(mut game) => {
+            let code = game.write(at, bytes);
+            handle.put(game);
             code
         }
         None => EMPTY,
@@ -29,12 +31,13 @@ pub extern "C" fn ra_write(alloc: Global, handle: &mut Handle, at: u32, bytes: &
 /// The memory is then as after `ra_write`, but only pages that differ are written. `RA_RANGE` where the bytes pass the end.
 #[unsafe(no_mangle)]
 pub extern "C" fn ra_see(alloc: Global, handle: &mut Handle, at: u32, bytes: &[u8]) -> u32
-    ensures { Calls (AnswersSee at bytes.now result) result (held_in handle.old) (held_in handle.new) }
+    ensures played { Calls (AnswersSee at bytes.now result) result (held_in handle.old) (held_in handle.new) }
+    ensures recorded { RecordsWrite at bytes.now result (recorded_in handle.old) (recorded_in handle.new) }
 {
     match handle.take(alloc) {
-        Some(mut held) => {
-            let code = held.see(at, bytes);
-            handle.put(held);
+        Some(mut game) => {
+            let code = game.see(at, bytes);
+            handle.put(game);
             code
         }
         None => EMPTY,
@@ -42,14 +45,17 @@ pub extern "C" fn ra_see(alloc: Global, handle: &mut Handle, at: u32, bytes: &[u
 }
 
 /// Takes one frame: docs/DEFINITIONS.md, "Calls from C".
+///
+/// Where an achievement is recorded its rows grow. Where they are too many, or for want of memory, it is recorded no longer.
 #[unsafe(no_mangle)]
 pub extern "C" fn ra_frame(alloc: Global, handle: &mut Handle) -> u32
-    ensures { Calls (AnswersFrame result) result (held_in handle.old) (held_in handle.new) }
+    ensures played { Calls (AnswersFrame result) result (held_in handle.old) (held_in handle.new) }
+    ensures recorded { RecordsFrame (recorded_in handle.old) (recorded_in handle.new) }
 {
     match handle.take(alloc) {
-        Some(mut held) => {
-            held.frame();
-            handle.put(held);
+        Some(mut game) => {
+            game.frame();
+            handle.put(game);
             DONE
         }
         None => EMPTY,

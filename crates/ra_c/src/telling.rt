@@ -1,7 +1,7 @@
 ghost use Rattle.std.specs.Prelude.{◌≡◌, ◌≢◌, ◌⊎◌};
 ghost use Rattle.ra_c.specs.Answers.{AnswersTold, AreEventsOf, AreLinesOf, Calls, IsShownBy};
 ghost use Rattle.ra_c.specs.Codes.{done, memory, empty};
-ghost use Rattle.ra_c.specs.Handles.{held_in};
+ghost use Rattle.ra_c.specs.Handles.{held_in, recorded_in};
 
 use crate::codes::EMPTY;
 use crate::given::give;
@@ -21,13 +21,14 @@ pub extern "C" fn ra_events(
     count: &mut usize,
 ) -> u32
     ensures told { Calls (AnswersTold AreEventsOf out.old out.new count.new result) result (held_in handle.old) (held_in handle.new) }
+    ensures recording { recorded_in handle.new ≡ recorded_in handle.old }
     ensures unwritten { result ≢ done → out.new ≡ out.old }
     ensures uncounted { (result ≡ memory) ⊎ (result ≡ empty) → count.new ≡ count.old }
 {
     match handle.take(alloc) {
-        Some(held) => {
-            let code = give(held.events(alloc), out, count);
-            handle.put(held);
+        Some(game) => {
+            let code = give(game.events(alloc), out, count);
+            handle.put(game);
             code
         }
         None => EMPTY,
@@ -45,13 +46,14 @@ pub extern "C" fn ra_lines(
     count: &mut usize,
 ) -> u32
     ensures told { Calls (AnswersTold AreLinesOf out.old out.new count.new result) result (held_in handle.old) (held_in handle.new) }
+    ensures recording { recorded_in handle.new ≡ recorded_in handle.old }
     ensures unwritten { result ≢ done → out.new ≡ out.old }
     ensures uncounted { (result ≡ memory) ⊎ (result ≡ empty) → count.new ≡ count.old }
 {
     match handle.take(alloc) {
-        Some(held) => {
-            let code = give(held.lines(alloc), out, count);
-            handle.put(held);
+        Some(game) => {
+            let code = give(game.lines(alloc), out, count);
+            handle.put(game);
             code
         }
         None => EMPTY,
@@ -70,13 +72,14 @@ pub extern "C" fn ra_show(
     count: &mut usize,
 ) -> u32
     ensures told { Calls (AnswersTold IsShownBy out.old out.new count.new result) result (held_in handle.old) (held_in handle.new) }
+    ensures recording { recorded_in handle.new ≡ recorded_in handle.old }
     ensures unwritten { result ≢ done → out.new ≡ out.old }
     ensures uncounted { (result ≡ memory) ⊎ (result ≡ empty) → count.new ≡ count.old }
 {
     match handle.take(alloc) {
-        Some(held) => {
-            let code = give(held.show(alloc), out, count);
-            handle.put(held);
+        Some(game) => {
+            let code = give(game.show(alloc), out, count);
+            handle.put(game);
             code
         }
         None => EMPTY,

@@ -1,9 +1,9 @@
 //! Worked calls, as an emulator makes them.
 
-use crate::codes::{DONE, EMPTY, HELD, PROGRESS, RANGE, ROOM, SET};
+use crate::codes::{DONE, EMPTY, HELD, NOTHING, PROGRESS, RANGE, ROOM, SET};
 use crate::{
-    Handle, Refusal, ToldEvent, ra_events, ra_frame, ra_free, ra_lines, ra_new, ra_reset,
-    ra_restore, ra_save, ra_see, ra_write,
+    Handle, Refusal, ToldEvent, ToldHits, ToldUnlock, ra_events, ra_explain, ra_frame, ra_free,
+    ra_lines, ra_new, ra_record, ra_reset, ra_restore, ra_save, ra_see, ra_write,
 };
 use std::alloc::Global;
 
@@ -138,4 +138,76 @@ fn a_restore_goes_on_where_the_save_stood(rt: HostRuntime) {
         number: 0,
     };
     assert_eq!(rt; event_after_a_restore(rt.alloc()), (1, unlock));
+}
+
+fn hits(row: u32, hits: u32) -> ToldHits {
+    ToldHits {
+        condition: 0,
+        row,
+        hits,
+    }
+}
+
+// The answer of an explanation with room for three events, what it gives, and how many events there are.
+fn explained(alloc: Global, handle: &mut Handle) -> (u32, ToldUnlock, [ToldHits; 3], usize) {
+    let mut out = [hits(0, 0); 3];
+    let mut count = 0usize;
+    let mut unlock = ToldUnlock {
+        last: 9,
+        since: 9,
+        waited: 9,
+    };
+    let code = ra_explain(alloc, handle, &mut out, &mut count, &mut unlock);
+    (code, unlock, out, count)
+}
+
+// Whether an unlock at the last of these frames, which was recorded, is explained by these rows.
+fn explains(alloc: Global, bytes: &[u8], unlock: ToldUnlock, rows: [ToldHits; 3]) -> bool {
+    let mut handle = made(alloc);
+    let recorded = ra_record(alloc, &mut handle, 1);
+    play(alloc, &mut handle, bytes);
+    let told = explained(alloc, &mut handle);
+    let _ = ra_free(alloc, &mut handle);
+    recorded == DONE && told == (DONE, unlock, rows, 3)
+}
+
+#[test]
+fn an_unlock_is_explained_by_its_hits(rt: HostRuntime) {
+    let unlock = ToldUnlock {
+        last: 4,
+        since: 0,
+        waited: 1,
+    };
+    assert!(rt;
+        explains(
+            rt.alloc(),
+            &[0, 5, 5, 0, 5],
+            unlock,
+            [hits(1, 1), hits(2, 2), hits(4, 3)]
+        )
+    );
+}
+
+// The codes of records and of explanations: over nothing, of another id, before an unlock, behind it, and after a reset.
+fn record_codes(alloc: Global) -> [u32; 7] {
+    let mut handle = Handle::empty(alloc);
+    let empty = ra_record(alloc, &mut handle, 1);
+    let mut handle = made(alloc);
+    let other = ra_record(alloc, &mut handle, 2);
+    let unrecorded = explained(alloc, &mut handle).0;
+    let done = ra_record(alloc, &mut handle, 1);
+    play(alloc, &mut handle, &[0, 5]);
+    let late = ra_record(alloc, &mut handle, 1);
+    let locked = explained(alloc, &mut handle).0;
+    play(alloc, &mut handle, &[5, 5]);
+    let _ = ra_reset(alloc, &mut handle);
+    let reset = explained(alloc, &mut handle).0;
+    let _ = ra_free(alloc, &mut handle);
+    [empty, other, unrecorded, done, late, locked, reset]
+}
+
+#[test]
+fn a_record_answers_its_codes(rt: HostRuntime) {
+    let codes = [EMPTY, RANGE, NOTHING, DONE, RANGE, NOTHING, NOTHING];
+    assert_eq!(rt; record_codes(rt.alloc()), codes);
 }
