@@ -1,3 +1,4 @@
+pub mod Due
 pub mod Laws
 pub mod Layout
 pub mod Marking

@@ -1,0 +1,97 @@
+-- Which nodes a pass has to take: docs/DEFINITIONS.md, "Due nodes".
+use Rattle.std.specs.Prelude.{◌≡◌, ◌⊎◌, ℕ, ◌+◌, ◌*◌, ◌<◌, ◌≤◌, Bool, true, false, List, length, slice_index, slice_index_or, Option, None, Some}
+use Rattle.ra_operand.specs.declared.kind.Kind.{Kind}
+use Rattle.ra_operand.specs.declared.kind.Kind.TheVariants.{Prior}
+use Rattle.ra_operand.specs.Views.{mask_of, view_of, transformed}
+use Rattle.ra_operand.specs.Operators.{computed}
+use Rattle.ra_links.specs.Rows.{Rows, holder_of}
+use Rattle.ra_indirect.specs.declared.node.Node.{Node}
+use Rattle.ra_indirect.specs.declared.node.Node.TheVariants.{Const, Cell as CellNode, View, Arith}
+use Rattle.ra_indirect.specs.Pools.{node_at, spelled_by}
+use Rattle.ra_memref.specs.Numbers.{NumbersSeen}
+use Rattle.ra_memref.specs.Layout.{cells_before}
+use Rattle.ra_memref.specs.Pass.{value_at, earlier_at, place_in, prior_in, looked_in}
+
+-- the number that a cell had at the frame before; of another node its own
+abbrev pub earlier_by : Node → NumbersSeen → List ℕ → ℕ → ℕ
+earlier_by (CellNode pointer offset width) numbers slots number = earlier_at numbers (slice_index slots number)
+earlier_by _ numbers slots number = value_at numbers number
+
+-- by its kept numbers alone, a node would take the number that it has, and leave its prior
+abbrev pub IsQuiet : Node → NumbersSeen → List ℕ → ℕ → Type 0
+IsQuiet (Const n) numbers slots number = value_at numbers number ≡ n
+IsQuiet (CellNode pointer offset width) numbers slots number =
+    (slice_index numbers.watches.places (slice_index slots number) ≡ place_in numbers pointer offset)
+    × (slice_index numbers.cells (slice_index slots number) ≡ value_at numbers number)
+    × (earlier_at numbers (slice_index slots number) ≡ value_at numbers number)
+IsQuiet (View Prior size c) numbers slots number =
+    (slice_index numbers.priors (slice_index slots number)
+    ≡ prior_in numbers (mask_of size) (slice_index slots number) (slice_index slots c) c)
+    × (value_at numbers number ≡ transformed Prior size (view_of size (slice_index numbers.priors (slice_index slots number))))
+IsQuiet (View kind size c) numbers slots number =
+    value_at numbers number ≡ transformed kind size
+    (view_of size (looked_in kind numbers (mask_of size) (slice_index slots number) (slice_index slots c) c))
+IsQuiet (Arith op left right) numbers slots number =
+    value_at numbers number ≡ computed op (value_at numbers left) (value_at numbers right)
+
+-- a node is no marked cell
+abbrev pub IsUnmarked : Node → NumbersSeen → ℕ → Type 0
+IsUnmarked (CellNode pointer offset width) numbers slot = slice_index_or numbers.watches.marked slot true ≡ false
+IsUnmarked _ numbers slot = Unit {0}
+
+-- each node that is not due would take the number that it has
+abbrev pub AreQuiet : List Node → List Bool → NumbersSeen → List ℕ → Type 0
+AreQuiet nodes due numbers slots =
+    (n : ℕ) → n < length nodes → slice_index_or due n true ≡ false → IsQuiet (node_at nodes n) numbers slots n
+
+-- and no marked cell is left out
+pub record AreIdle (nodes : List Node) (due : List Bool) (numbers : NumbersSeen) (slots : List ℕ) : Type 0 where
+  pub quiet : AreQuiet nodes due numbers slots
+  pub unmarked : (n : ℕ) → n < length nodes → slice_index_or due n true ≡ false → IsUnmarked (node_at nodes n) numbers (slice_index slots n)
+
+-- a node names another
+abbrev pub Names : Node → ℕ → Type 0
+Names (Const n) i = ⊥
+Names (CellNode pointer offset width) i = i ≡ pointer
+Names (View kind size c) i = i ≡ c
+Names (Arith op left right) i = (i ≡ left) ⊎ (i ≡ right)
+
+-- a node stands on the list of each node that it names, by its first operand and by its second
+abbrev pub StandsOn : List (List ℕ) → ℕ → Node → Type 0
+StandsOn lists n (Const k) = Unit {0}
+StandsOn lists n (CellNode pointer offset width) = holder_of lists (2 * n) ≡ Some pointer
+StandsOn lists n (View kind size c) = holder_of lists (2 * n) ≡ Some c
+StandsOn lists n (Arith op left right) = (holder_of lists (2 * n) ≡ Some left) × (holder_of lists (2 * n + 1) ≡ Some right)
+
+-- there is a list for each node, of those that name it, of the first so many
+pub record AreDependents (nodes : List Node) (count : ℕ) (rows : Rows) : Type 0 where
+  pub lists : length rows.lists ≡ length nodes
+  pub nodes_too : rows.nodes ≡ 2 * length nodes
+  pub each : (n : ℕ) → n < count → StandsOn rows.lists n (node_at nodes n)
+
+-- the node of a cell stands in the cell's slot
+abbrev pub HasCellNode : Node → List ℕ → ℕ → ℕ → Type 0
+HasCellNode (CellNode pointer offset width) cell_nodes slot n = slice_index cell_nodes slot ≡ n
+HasCellNode _ cell_nodes slot n = Unit {0}
+
+-- these are the nodes of the cells that the first so many nodes spell, in order of first occurrence
+pub record AreCellNodes (nodes : List Node) (count : ℕ) (cell_nodes : List ℕ) : Type 0 where
+  pub long : length cell_nodes ≡ length (cells_before (spelled_by nodes) count)
+  pub within : (k : ℕ) → k < length cell_nodes → slice_index cell_nodes k < count
+  pub each : (n : ℕ) → n < count → HasCellNode (node_at nodes n) cell_nodes (length (cells_before (spelled_by nodes) n)) n
+
+-- no node from the one on and before the other is due
+abbrev pub NoneDue : List Bool → (from to : ℕ) → Type 0
+NoneDue due from to = (k : ℕ) → from ≤ k → k < to → slice_index_or due k true ≡ false
+
+-- the first node from a number on that is due
+pub record IsFirstDue (due : List Bool) (from n : ℕ) : Type 0 where
+  pub after : from ≤ n
+  pub within : n < length due
+  pub none_before : NoneDue due from n
+
+-- the marked cells are due too: what is still not due was not, and is the node of no marked cell
+pub record IsGathered (cell_nodes : List ℕ) (marked old new : List Bool) : Type 0 where
+  pub long : length new ≡ length old
+  pub kept : (n : ℕ) → slice_index_or new n true ≡ false → slice_index_or old n true ≡ false
+  pub marked_too : (cell : ℕ) → cell < length cell_nodes → slice_index_or marked cell true ≡ true → slice_index_or new (slice_index cell_nodes cell) true ≡ true

@@ -1,0 +1,140 @@
+//! Which nodes the next pass takes.
+
+ghost use Rattle.std.specs.Prelude.{◌≡◌, ◌≢◌, ◌+◌, ◌<◌, ◌≤◌, ◌^◌, ◌*◌, ℕ, true, false, length, replicate, slice_index, IfOk, IfSome, None};
+ghost use Rattle.ra_indirect.specs.Interned.{IsPool};
+ghost use Rattle.ra_links.specs.Rows.{holder_of};
+ghost use Rattle.ra_memref.specs.Due.{AreDependents, AreCellNodes, IsFirstDue, NoneDue, IsGathered, StandsOn, Names};
+
+use crate::numbers::Numbers;
+use crate::watches::put;
+use ra_indirect::Node;
+use ra_links::Links;
+use ra_text::OutOfMemory;
+use std::alloc::Global;
+
+/// The nodes that are due, all where the flag stands, which nodes name each node, and the node of each
+/// cell. Only `new` takes memory.
+#[derive(Drop)]
+pub struct Agenda {
+    pub due: Vec<bool>,
+    pub all: bool,
+    pub dependents: Links,
+    pub cell_nodes: Vec<u32>,
+}
+
+impl Agenda {
+    /// Every node of a pool is due. Memory is the only refusal.
+    pub fn new(alloc: Global, nodes: &[Node]) -> Result<Agenda, OutOfMemory>
+        requires pool { IsPool nodes.now }
+        requires few { length nodes.now < 2 ^ 30 }
+        ensures all { IfOk result (λ agenda. agenda.all ≡ true) }
+        ensures dues { IfOk result (λ agenda. length agenda.due.items ≡ length nodes.now) }
+        ensures dependents { IfOk result (λ agenda. AreDependents nodes.now (length nodes.now) agenda.dependents) }
+        ensures cells { IfOk result (λ agenda. AreCellNodes nodes.now (length nodes.now) agenda.cell_nodes.items) }
+    {
+        let due = vec![in alloc; true; nodes.len()]?;
+        let dependents = dependents_of(alloc, nodes)?;
+        let cell_nodes = cell_nodes_of(alloc, nodes)?;
+        Ok(Agenda {
+            due,
+            all: true,
+            dependents,
+            cell_nodes,
+        })
+    }
+
+    /// Makes the nodes of the marked cells due, and every node where all are.
+    pub fn gather(&mut self, numbers: &Numbers)
+        requires cells { length self.old.cell_nodes.items ≡ length numbers.now.cells }
+        requires within { (k : ℕ) → k < length self.old.cell_nodes.items → slice_index self.old.cell_nodes.items k < length self.old.due.items }
+        ensures none { self.new.all ≡ false }
+        ensures gathered { self.old.all ≡ false → IsGathered self.old.cell_nodes.items numbers.now.watches.marked self.old.due.items self.new.due.items }
+        ensures all { self.old.all ≡ true → self.new.due.items ≡ replicate (length self.old.due.items) true }
+        ensures dependents { self.new.dependents ≡ self.old.dependents }
+        ensures cell_nodes { self.new.cell_nodes ≡ self.old.cell_nodes }
+    {
+        if self.all {
+            self.due.fill(true);
+        } else {
+            gather_marked(&mut self.due, &self.cell_nodes, numbers);
+        }
+        self.all = false;
+    }
+}
+
+// Makes the nodes of the marked cells due.
+fn gather_marked(due: &mut [bool], cell_nodes: &[u32], numbers: &Numbers)
+    requires cells { length cell_nodes.now ≡ length numbers.now.cells }
+    requires within { (k : ℕ) → k < length cell_nodes.now → slice_index cell_nodes.now k < length due.old }
+    ensures { IsGathered cell_nodes.now numbers.now.watches.marked due.old due.new }
+{
+    for (cell, node) in cell_nodes.iter().enumerate() {
+        if numbers.is_marked(cell) {
+            due[*node as usize] = true;
+        }
+    }
+}
+
+/// The first node from a number on that is due. None exactly where none is.
+pub fn next_due(due: &[bool], from: usize) -> Option<usize>
+    ensures first { IfSome result (λ n. IsFirstDue due.now from n) }
+    ensures none { result ≡ None → NoneDue due.now from (length due.now) }
+{
+    for at in from..due.len() {
+        if due[at] {
+            return Some(at);
+        }
+    }
+    None
+}
+
+// For each node those that name it, as lists of nodes that each stand twice, by their first operand and
+// by their second.
+fn dependents_of(alloc: Global, nodes: &[Node]) -> Result<Links, OutOfMemory>
+    requires pool { IsPool nodes.now }
+    requires few { length nodes.now < 2 ^ 30 }
+    ensures { IfOk result (λ dependents. AreDependents nodes.now (length nodes.now) dependents) }
+{
+    let mut dependents = Links::new(alloc, nodes.len() as u32, 2 * nodes.len() as u32)?;
+    for (number, node) in nodes.iter().enumerate() {
+        depend(&mut dependents, number as u32, *node);
+    }
+    Ok(dependents)
+}
+
+// Puts a node on the lists of those that it names.
+fn depend(dependents: &mut Links, number: u32, node: Node)
+    requires names { (i : ℕ) → Names node i → i < length dependents.old.lists }
+    requires here { 2 * number + 1 < dependents.old.nodes }
+    requires few { dependents.old.nodes ≤ 2 ^ 31 }
+    ensures stands { StandsOn dependents.new.lists number node }
+    ensures others { (other : ℕ) → other ≢ 2 * number → other ≢ 2 * number + 1
+        → holder_of dependents.new.lists other ≡ holder_of dependents.old.lists other }
+    ensures lists { length dependents.new.lists ≡ length dependents.old.lists }
+    ensures nodes { dependents.new.nodes ≡ dependents.old.nodes }
+{
+    match node {
+        Node::Const(_) => {}
+        Node::Cell { pointer, .. } => put(dependents, 2 * number, Some(pointer)),
+        Node::View { cell, .. } => put(dependents, 2 * number, Some(cell)),
+        Node::Arith { left, right, .. } => {
+            put(dependents, 2 * number, Some(left));
+            put(dependents, 2 * number + 1, Some(right));
+        }
+    }
+}
+
+// The node of each cell, in order of first occurrence.
+fn cell_nodes_of(alloc: Global, nodes: &[Node]) -> Result<Vec<u32>, OutOfMemory>
+    requires pool { IsPool nodes.now }
+    requires few { length nodes.now < 2 ^ 30 }
+    ensures { IfOk result (λ cell_nodes. AreCellNodes nodes.now (length nodes.now) cell_nodes.items) }
+{
+    let mut cell_nodes = Vec::new(alloc);
+    for (number, node) in nodes.iter().enumerate() {
+        if let Node::Cell { .. } = node {
+            cell_nodes.push(number as u32)?;
+        }
+    }
+    Ok(cell_nodes)
+}
