@@ -1,6 +1,8 @@
+pub mod AgendaLemmas
 pub mod AgreeLemmas
 pub mod CellsAlong
 pub mod Cuts
+pub mod DueLemmas
 pub mod Halfway
 pub mod Holders
 pub mod Indexed
@@ -15,7 +17,9 @@ pub mod PassLemmas
 pub mod Passed
 pub mod PriorLemmas
 pub mod PuttingLemmas
+pub mod QuietLemmas
 pub mod TableLemmas
+pub mod TakenLemmas
 pub mod Telling
 pub mod Vectors
 pub mod Visited

@@ -61,10 +61,10 @@ module _ (nodes : List Node) (pool : IsPool nodes) (slots : List ℕ) (laid : Is
       }
 
   -- where a prior is kept
-  record IsPriorSlot (t : Tracked) (k slot : ℕ) : Type 0 where
-    stands : get_or (tracked_of nodes) slot t ≡ t
-    within : slot < length (tracked_of nodes)
-    once : ((slot < tracked_count nodes k) × (tracked_count nodes (suc k) ≡ tracked_count nodes k)) ⊎ ((slot ≡ tracked_count nodes k) × (tracked_count nodes (suc k) ≡ suc (tracked_count nodes k)))
+  pub record IsPriorSlot (t : Tracked) (k slot : ℕ) : Type 0 where
+    pub stands : get_or (tracked_of nodes) slot t ≡ t
+    pub within : slot < length (tracked_of nodes)
+    pub once : ((slot < tracked_count nodes k) × (tracked_count nodes (suc k) ≡ tracked_count nodes k)) ⊎ ((slot ≡ tracked_count nodes k) × (tracked_count nodes (suc k) ≡ suc (tracked_count nodes k)))
 
   prior_stands : (t : Tracked) (k m slot : ℕ) → m ≤ length nodes → slot < length (tracked_before spelled m) → get_or (tracked_before spelled m) slot t ≡ t → (get_or (tracked_of nodes) slot t ≡ t) × (slot < length (tracked_of nodes))
   prior_stands t k m slot few below is = (
@@ -72,7 +72,7 @@ module _ (nodes : List Node) (pool : IsPool nodes) (slots : List ℕ) (laid : Is
     omega (arith, tracked_grow spelled m (length nodes) few, ap length (tracked_all nodes)),
   )
 
-  prior_slot : (t : Tracked) (k slot : ℕ) → k < length nodes → Interns (tracked_before spelled k) (tracked_before spelled (suc k)) t slot → IsPriorSlot t k slot
+  pub prior_slot : (t : Tracked) (k slot : ℕ) → k < length nodes → Interns (tracked_before spelled k) (tracked_before spelled (suc k)) t slot → IsPriorSlot t k slot
   prior_slot t k slot within (inl found) =
       let below : slot < tracked_count nodes k = slice_get_within (tracked_before spelled k) slot t found.stands in
       let there = prior_stands t k k slot (omega arith) below (get_or_from_slice_get (tracked_before spelled k) slot t t found.stands) in
@@ -101,7 +101,7 @@ module _ (nodes : List Node) (pool : IsPool nodes) (slots : List ℕ) (laid : Is
     tracked_counts_same : (x : Spelled) → spelled_at spelled k ≡ x → tracked_at x ≡ [] → tracked_count nodes (suc k) ≡ tracked_count nodes k
     tracked_counts_same x is none = ap length (tracked_same spelled k x (inside k within) is none)
 
-    names : NamesBelow k (node_at nodes k)
+    pub names : NamesBelow k (node_at nodes k)
     names = names_below k (take k nodes) (node_at nodes k) (omega (arith, length-take k nodes)) (pool.named k within)
 
     module _ (old : NumbersSeen) (sized : IsSizedFor nodes old) where

@@ -3,6 +3,8 @@ use Rattle.std.proofs.Common.{◌≡◌, ℕ, ◌*◌, ◌≤◌, ◌^◌, true,
 use Rattle.std.proofs.Common.{subst, ◌∙◌}
 use Rattle.std.proofs.lemmas.List.{length-set, length-replicate}
 use Rattle.ra_memref.specs.declared.table.Table.TheInside.{Inside}
+use Rattle.std.proofs.lemmas.Bool.{false≢true}
+use Rattle.ra_memref.specs.declared.agenda.Agenda.{Agenda}
 use Rattle.ra_memref.specs.Numbers.{NumbersSeen}
 use Rattle.ra_memref.specs.Pass.{IsSizedFor}
 use Rattle.ra_memref.specs.Table.{IsPutBack}
@@ -20,9 +22,13 @@ with_kept numbers cells priors = record numbers {
   watches = record numbers.watches { marked = replicate (length numbers.cells) true };
 }
 
+-- an agenda of which every node is due
+abbrev pub all_due : Agenda → Agenda
+all_due agenda = record { due = agenda.due; all = true; dependents = agenda.dependents; cell_nodes = agenda.cell_nodes }
+
 -- a table with other numbers, for which no sample came
 abbrev pub put : Inside → NumbersSeen → Inside
-put t numbers = record { nodes = t.nodes; slots = t.slots; numbers = numbers; sampled = false }
+put t numbers = record { nodes = t.nodes; slots = t.slots; numbers = numbers; agenda = all_due t.agenda; sampled = false }
 
 module _ (t : Inside) (is : IsTable t) (new : NumbersSeen) where
   -- as many numbers as before are a table's again
@@ -42,6 +48,8 @@ module _ (t : Inside) (is : IsTable t) (new : NumbersSeen) where
       priors = priors_long ∙ is.sized.priors;
       values = is.sized.values;
     });
+    agenda = record { dues = is.agenda.dues; dependents = is.agenda.dependents; cells = is.agenda.cells };
+    quiet = λ some. absurd (false≢true (sym some));
   }
 
   module _ (bytes : List ℕ)

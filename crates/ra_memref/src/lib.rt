@@ -3,6 +3,7 @@
 //! A table holds no image. Its caller does, and tells it which bytes were written.
 #![tactic(auto)]
 
+mod agenda;
 mod laws;
 mod layout;
 mod names;

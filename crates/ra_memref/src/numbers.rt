@@ -1,22 +1,33 @@
-ghost use Rattle.std.specs.Prelude.{◌≡◌, ◌+◌, ◌*◌, ◌<◌, ◌≤◌, ◌^◌, true, false, length, replicate, slice_index, slice_index_or, slice_set, IfOk};
+ghost use Rattle.std.specs.Prelude.{◌≡◌, ◌+◌, ◌*◌, ◌<◌, ◌≤◌, ◌^◌, ◌==◌, ◌||◌, not, true, false, length, replicate, slice_index, slice_index_or, slice_set, IfOk};
 ghost use Rattle.ra_memory.specs.Image.{raw, IsReadWidth};
 ghost use Rattle.ra_operand.specs.Views.{mask_of};
 ghost use Rattle.ra_indirect.specs.declared.node.Node.TheVariants.{View};
 ghost use Rattle.ra_indirect.specs.Interned.{IsPool};
+ghost use Rattle.ra_indirect.specs.Pools.{node_at};
 ghost use Rattle.ra_memref.specs.Layout.{IsLaid};
 ghost use Rattle.ra_memref.specs.Marks.{read_of, reads_of};
-ghost use Rattle.ra_memref.specs.Pass.{prior_after, looked_in, priors_after, after_node, reads_at, IsWithin, IsAgreedIn, IsAgreedAt, IsAgreed, IsSizedFor, TakesFrame};
+ghost use Rattle.ra_memref.specs.Pass.{prior_after, looked_in, priors_after, after_node, reads_at, IsWithin, IsAgreedIn, IsAgreedAt, IsAgreed, IsSizedFor, TakesFrame, value_at};
+ghost use Rattle.ra_memref.specs.Due.{earlier_by, AreDependents, AreIdle};
 ghost use Rattle.ra_memref.specs.Watches.{MarksWatchers};
 ghost use Rattle.ra_words.specs.Words.{words_at};
 
-use crate::watches::Watches;
+use crate::agenda::next_due;
+use crate::watches::{Watches, mark_listed};
 use ra_indirect::Node;
+use ra_links::Links;
 use ra_memory::Image;
 use ra_operand::{Kind, Size, compute, mask, transform, view};
 use ra_text::OutOfMemory;
 use ra_words::read_words;
 use std::alloc::Global;
 use std::marker::Model;
+
+/// What a node that was taken asks of the pass.
+#[derive(Clone, Copy)]
+struct Outcome {
+    seen: bool,
+    again: bool,
+}
 
 /// The numbers of a table: for each cell its own and the one of the frame before, with its watches, for
 /// each tracked mask its prior, and for each node of the pool its value.
@@ -142,22 +153,126 @@ impl Numbers {
         self.watches.mark_all();
     }
 
-    /// Takes up one frame: each cell that is marked or moved is read, and each value follows from those
-    /// before it.
-    pub fn take_frame<I: Image>(&mut self, image: &mut I, nodes: &[Node], slots: &[u32])
+    /// A cell is marked.
+    pub fn is_marked(&self, cell: usize) -> bool
+        requires { cell < length self.now.cells }
+        ensures { result ≡ slice_index_or self.now.watches.marked cell true }
+    {
+        self.watches.is_marked(cell)
+    }
+
+    /// Takes up one frame: each node that is due is taken, and makes those that name it due where it
+    /// changed. A cell that is marked or moved is read.
+    pub fn take_frame<I: Image>(
+        &mut self,
+        image: &mut I,
+        nodes: &[Node],
+        slots: &[u32],
+        due: &mut [bool],
+        dependents: &Links,
+    )
         requires pool { IsPool nodes.now }
         requires laid { IsLaid nodes.now slots.now }
         requires sized { IsSizedFor nodes.now self.old }
         requires agreed { IsAgreed self.old (I.bytes image.old) }
 
+        requires few { length nodes.now < 2 ^ 30 }
+        requires dues { length due.old ≡ length nodes.now }
+        requires dependents { AreDependents nodes.now (length nodes.now) dependents.now }
+        requires idle { AreIdle nodes.now due.old self.old slots.now }
+
         ensures taken { TakesFrame nodes.now self.old self.new (I.bytes image.old) }
+        ensures idle { AreIdle nodes.now due.new self.new slots.now }
 
         ensures bytes { I.bytes image.new ≡ I.bytes image.old }
         ensures counter { I.counter image.new ≡ I.counter image.old }
         ensures reads { I.reads image.new ≡ I.reads image.old + reads_of self.old.watches.marked self.old.watches.places self.new.watches.places }
     {
-        for (number, node) in nodes.iter().enumerate() {
-            self.take_node(image, *node, slots, number);
+        let mut at = 0;
+        while let Some(number) = next_due(due, at) {
+            self.take_due(image, nodes, slots, due, dependents, number);
+            at = number + 1;
+        }
+    }
+
+    // Takes up a node that is due. It is due at the next frame too where it is a cell that changed, and
+    // those that name it are due where they see another number.
+    fn take_due<I: Image>(
+        &mut self,
+        image: &mut I,
+        nodes: &[Node],
+        slots: &[u32],
+        due: &mut [bool],
+        dependents: &Links,
+        number: usize,
+    )
+        requires pool { IsPool nodes.now }
+        requires laid { IsLaid nodes.now slots.now }
+        requires sized { IsSizedFor nodes.now self.old }
+        requires few { length nodes.now < 2 ^ 30 }
+        requires dues { length due.old ≡ length nodes.now }
+        requires dependents { AreDependents nodes.now (length nodes.now) dependents.now }
+        requires idle { AreIdle nodes.now due.old self.old slots.now }
+        requires here { number < length nodes.now }
+        requires agreed { IsAgreedAt (node_at nodes.now number) self.old (I.bytes image.old) (slice_index slots.now number) }
+
+        ensures taken { self.new ≡ after_node (node_at nodes.now number) self.old (I.bytes image.old) slots.now number }
+        ensures idle { AreIdle nodes.now due.new self.new slots.now }
+
+        ensures bytes { I.bytes image.new ≡ I.bytes image.old }
+        ensures counter { I.counter image.new ≡ I.counter image.old }
+        ensures reads { I.reads image.new ≡ I.reads image.old + reads_at (node_at nodes.now number) self.old (slice_index slots.now number) }
+    {
+        let outcome = self.follow(image, nodes[number], slots, number);
+        due[number] = outcome.again;
+        if outcome.seen {
+            mark_listed(dependents, due, number as u32);
+        }
+    }
+
+    // Takes up a node, and tells whether those that name it see another number, of this frame or of the
+    // one before, and whether they would see another one at the next frame too.
+    fn follow<I: Image>(
+        &mut self,
+        image: &mut I,
+        node: Node,
+        slots: &[u32],
+        number: usize,
+    ) -> Outcome
+        requires within { IsWithin node self.old slots.now number }
+        requires here { number < length self.old.values }
+        requires slots { length slots.now ≡ length self.old.values }
+        requires agreed { IsAgreedAt node self.old (I.bytes image.old) (slice_index slots.now number) }
+
+        ensures taken { self.new ≡ after_node node self.old (I.bytes image.old) slots.now number }
+        ensures seen { result.seen ≡ (not (value_at self.old number == value_at self.new number)
+            || not (earlier_by node self.old slots.now number == earlier_by node self.new slots.now number)) }
+        ensures again { result.again ≡ not (earlier_by node self.new slots.now number == value_at self.new number) }
+
+        ensures bytes { I.bytes image.new ≡ I.bytes image.old }
+        ensures counter { I.counter image.new ≡ I.counter image.old }
+        ensures reads { I.reads image.new ≡ I.reads image.old + reads_at node self.old (slice_index slots.now number) }
+    {
+        let value = self.values[number];
+        let earlier = self.earlier_by(node, slots, number);
+        self.take_node(image, node, slots, number);
+        let earlier_now = self.earlier_by(node, slots, number);
+        Outcome {
+            seen: value != self.values[number] || earlier != earlier_now,
+            again: earlier_now != self.values[number],
+        }
+    }
+
+    // The number that a cell had at the frame before; of another node its own.
+    fn earlier_by(&self, node: Node, slots: &[u32], number: usize) -> u32
+        requires within { IsWithin node self.now slots.now number }
+        requires here { number < length self.now.values }
+        requires slots { length slots.now ≡ length self.now.values }
+        ensures { result ≡ earlier_by node self.now slots.now number }
+    {
+        match node {
+            Node::Cell { .. } => self.earlier[slots[number] as usize],
+            Node::Const(_) | Node::View { .. } | Node::Arith { .. } => self.values[number],
         }
     }
 

@@ -1,6 +1,7 @@
 ghost use Rattle.std.specs.Prelude.{◌≡◌, ◌+◌, ◌-◌, ◌*◌, ◌<◌, ◌≤◌, ◌^◌, length, slice_index, true, IfOk};
 ghost use Rattle.ra_indirect.specs.Interned.{IsPool};
 
+use crate::agenda::Agenda;
 use crate::layout::{lay_out, widths_of};
 use crate::numbers::Numbers;
 use crate::watches::Watches;
@@ -19,6 +20,7 @@ pub struct Table {
     nodes: Vec<Node>,
     slots: Vec<u32>,
     numbers: Numbers,
+    agenda: Agenda,
     sampled: bool,
 }
 
@@ -55,10 +57,12 @@ impl Table {
         let widths = widths_of(alloc, &nodes)?;
         let watches = Watches::new(alloc, size, layout.places, widths)?;
         let numbers = Numbers::new(alloc, watches, layout.masks.len(), nodes.len())?;
+        let agenda = Agenda::new(alloc, &nodes)?;
         Ok(Table {
             nodes,
             slots: layout.slots,
             numbers,
+            agenda,
             sampled: false,
         })
     }
@@ -91,7 +95,14 @@ impl Table {
         ensures bytes { I.bytes image.new ≡ I.bytes image.old }
         ensures counter { I.counter image.new ≡ I.counter image.old }
     {
-        self.numbers.take_frame(image, &self.nodes, &self.slots);
+        self.agenda.gather(&self.numbers);
+        self.numbers.take_frame(
+            image,
+            &self.nodes,
+            &self.slots,
+            &mut self.agenda.due,
+            &self.agenda.dependents,
+        );
         self.sampled = true;
     }
 
@@ -132,6 +143,7 @@ impl Table {
             (words_at bytes.now (4 * length self.old.cells) (length self.old.priors)) }
     {
         self.numbers.put_back(bytes);
+        self.agenda.all = true;
         self.sampled = false;
     }
 
@@ -143,6 +155,7 @@ impl Table {
         ensures { IsCellPut self.old self.new cell number }
     {
         self.numbers.put_cell(cell as usize, number);
+        self.agenda.all = true;
         self.sampled = false;
     }
 
@@ -154,6 +167,7 @@ impl Table {
         ensures { IsPriorPut self.old self.new prior number }
     {
         self.numbers.put_prior(prior as usize, number);
+        self.agenda.all = true;
         self.sampled = false;
     }
 }

@@ -77,12 +77,20 @@ impl Watches {
         self.places.len()
     }
 
+    /// A cell is marked.
+    pub fn is_marked(&self, cell: usize) -> bool
+        requires { cell < length self.now.places }
+        ensures { result ≡ slice_index_or self.now.marked cell true }
+    {
+        self.all || self.marks[cell]
+    }
+
     /// A cell is marked, or its place is another one.
     pub fn is_due(&self, cell: usize, place: u32) -> bool
         requires { cell < length self.now.places }
         ensures { result ≡ (slice_index_or self.now.marked cell true || not (slice_index self.now.places cell == place)) }
     {
-        self.all || self.marks[cell] || self.places[cell] != place
+        self.is_marked(cell) || self.places[cell] != place
     }
 
     /// Unmarks a cell, and moves it to a place.
@@ -119,7 +127,7 @@ impl Watches {
             return;
         }
         for page in at / PAGE..(at + count - 1) / PAGE + 1 {
-            mark_page(&self.pages, &mut self.marks, page);
+            mark_listed(&self.pages, &mut self.marks, page);
         }
     }
 }
@@ -135,18 +143,18 @@ fn unmark(all: bool, marks: &mut [bool], cell: usize)
     marks[cell] = false;
 }
 
-// Marks the cells on the list of a page.
-fn mark_page(pages: &Links, marks: &mut [bool], page: u32)
-    requires page { page < length pages.now.lists }
-    requires nodes { pages.now.nodes ≤ 2 * length marks.old }
+/// Marks what stands on a list by one of its two nodes.
+pub fn mark_listed(lists: &Links, marks: &mut [bool], list: u32)
+    requires list { list < length lists.now.lists }
+    requires nodes { lists.now.nodes ≤ 2 * length marks.old }
     ensures marked { (k : ℕ) → k < length marks.old → slice_index_or marks.new k true
         ≡ (slice_index_or marks.old k true
-        || (is_at (holder_of pages.now.lists (2 * k)) page || is_at (holder_of pages.now.lists (2 * k + 1)) page)) }
+        || (is_at (holder_of lists.now.lists (2 * k)) list || is_at (holder_of lists.now.lists (2 * k + 1)) list)) }
 {
-    let mut next = pages.first(page);
+    let mut next = lists.first(list);
     while let Some(node) = next {
         marks[(node / 2) as usize] = true;
-        next = pages.next(node);
+        next = lists.next(node);
     }
 }
 
@@ -191,8 +199,8 @@ fn page_of_last(size: u32, place: u32, width: u8) -> Option<u32>
     }
 }
 
-// Puts a node on the list of a page, or on none.
-fn put(pages: &mut Links, node: u32, page: Option<u32>)
+/// Puts a node on the list of a page, or on none.
+pub fn put(pages: &mut Links, node: u32, page: Option<u32>)
     requires node { node < pages.old.nodes }
     requires page { IfSome page (λ page. page < length pages.old.lists) }
     ensures here { holder_of pages.new.lists node ≡ page }

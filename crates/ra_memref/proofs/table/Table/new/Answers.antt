@@ -1,5 +1,6 @@
 use Rattle.std.proofs.Common.{◌≡◌, ◌∙◌, ap, sym, subst, length, replicate, false, arith, refl}
 use Rattle.std.proofs.lemmas.List.{length-map}
+use Rattle.std.proofs.lemmas.Bool.{false≢true}
 use Rattle.ra_indirect.specs.Pools.{cells_of}
 use Rattle.ra_indirect.specs.Interned.{IsPool}
 use Rattle.ra_memref.specs.Table.{IsFresh}
@@ -21,6 +22,7 @@ invariant_of-result c =
     let layout = rw c.deref.ensures.value at c.in_ok-layout.ensures in
     let widths = rw c.deref-2.ensures.value at c.in_ok-widths.ensures in
     let numbers = c.in_ok-numbers.ensures in
+    let agenda = rw c.deref-3.ensures.value at c.in_ok-agenda.ensures in
     let count : c.len-2.result ≡ length c.in_ok-nodes.nodes.items = c.len-2.ensures ∙ c.in_ok-nodes.nodes.ok.0 in
     let size : c.in_ok-numbers.numbers.watches.size ≡ c.args.size = ap (λ (w : WatchesSeen). w.size) (ap (λ (n : NumbersSeen). n.watches) numbers ∙ c.in_ok-watches.ensures) in
     record {
@@ -29,11 +31,13 @@ invariant_of-result c =
       laid = layout.slots;
       small = omega (arith, size, c.requires.size);
       sized = made_sized c.in_ok-nodes.nodes.items c.args.size _ c.in_ok-layout.layout.places.items c.in_ok-widths.widths.items c.in_ok-watches.watches c.in_ok-numbers.numbers layout.places widths.widths (c.len.ensures.len ∙ as_many_masks _ _ layout.masks) c.in_ok-watches.ensures (ap (λ (n : NumbersSeen). n.cells) numbers) (ap (λ (n : NumbersSeen). n.earlier) numbers) (ap (λ (n : NumbersSeen). n.watches) numbers) (ap (λ (n : NumbersSeen). n.priors) numbers) (ap (λ (n : NumbersSeen). n.values) numbers ∙ ap (λ n. replicate n 0) count);
+      agenda = record { dues = agenda.dues; dependents = agenda.dependents; cells = agenda.cells };
+      quiet = λ some. absurd (false≢true (sym some ∙ agenda.all));
     }
 
 pub returns : goal.returns
 returns c =
     let layout = rw c.deref.ensures.value at c.in_ok-layout.ensures in
     let numbers = c.in_ok-numbers.ensures in
-    subst (λ ns. IsFresh ns c.args.size (table_seen (record { nodes = c.in_ok-nodes.nodes; slots = c.in_ok-layout.layout.slots; numbers = c.in_ok-numbers.numbers; sampled = false }))) c.in_ok-nodes.ensures.nodes
-    (made_fresh c.in_ok-nodes.nodes.items c.args.size _ c.in_ok-layout.layout.places.items c.in_ok-widths.widths.items c.in_ok-watches.watches (record { nodes = c.in_ok-nodes.nodes; slots = c.in_ok-layout.layout.slots; numbers = c.in_ok-numbers.numbers; sampled = false }) refl refl layout.places (c.len.ensures.len ∙ as_many_masks _ _ layout.masks) c.in_ok-watches.ensures (ap (λ (n : NumbersSeen). n.cells) numbers) (ap (λ (n : NumbersSeen). n.watches) numbers) (ap (λ (n : NumbersSeen). n.priors) numbers))
+    subst (λ ns. IsFresh ns c.args.size (table_seen (record { nodes = c.in_ok-nodes.nodes; slots = c.in_ok-layout.layout.slots; numbers = c.in_ok-numbers.numbers; agenda = c.in_ok-agenda.agenda; sampled = false }))) c.in_ok-nodes.ensures.nodes
+    (made_fresh c.in_ok-nodes.nodes.items c.args.size _ c.in_ok-layout.layout.places.items c.in_ok-widths.widths.items c.in_ok-watches.watches (record { nodes = c.in_ok-nodes.nodes; slots = c.in_ok-layout.layout.slots; numbers = c.in_ok-numbers.numbers; agenda = c.in_ok-agenda.agenda; sampled = false }) refl refl layout.places (c.len.ensures.len ∙ as_many_masks _ _ layout.masks) c.in_ok-watches.ensures (ap (λ (n : NumbersSeen). n.cells) numbers) (ap (λ (n : NumbersSeen). n.watches) numbers) (ap (λ (n : NumbersSeen). n.priors) numbers))

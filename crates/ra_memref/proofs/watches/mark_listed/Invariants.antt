@@ -1,10 +1,10 @@
 use Rattle.std.proofs.Common.{length}
 use Rattle.ra_links.specs.Rows.{row_at}
 use Rattle.ra_memref.proofs.Walks.{IsWalking, rest_of}
-use Rattle.ra_memref.proofs.watches.mark_page.Given as goal
+use Rattle.ra_memref.proofs.watches.mark_listed.Given as goal
 
 abbrev pub invariant-loop-next : goal.invariant-loop-next
-invariant-loop-next l = IsWalking l.pages l.page l.initial.marks l.marks l.next
+invariant-loop-next l = IsWalking l.lists l.list l.initial.marks l.marks l.next
 
 abbrev pub decreases-loop-next : goal.decreases-loop-next
-decreases-loop-next l = length (rest_of l.next (row_at l.pages.lists l.page))
+decreases-loop-next l = length (rest_of l.next (row_at l.lists.lists l.list))

@@ -1,0 +1,32 @@
+use Rattle.std.proofs.Common.{◌∙◌, ◌<◌, ap, sym, subst, length, get_or, true, ◌||◌, arith}
+use Rattle.ra_links.specs.Rows.{row_at}
+use Rattle.ra_memref.proofs.Pages.{on_list}
+use Rattle.ra_memref.proofs.Walks.{IsWalking, rest_of, walking_none, walking_more, shorter, node_there, walked}
+use Rattle.ra_memref.proofs.watches.mark_listed.Goals as goal
+
+pub loop-next-init : goal.loop-next-init
+loop-next-init c = walking_none c.args.lists.now c.args.list c.args.marks.now c.first-next.result c.first-next.ensures.once c.first-next.ensures.first
+
+pub bounds-marks-node : goal.bounds-marks-node
+bounds-marks-node c =
+    let there : c.in-Some.node < c.args.lists.now.nodes = node_there c.args.lists.now c.args.list c.args.marks.now c.loop-next.marks c.in-Some.node (subst (IsWalking c.args.lists.now c.args.list c.args.marks.now c.loop-next.marks) c.in-Some.is c.loop-next.invariant) in
+    omega (arith, there, c.requires.nodes)
+
+pub next-next-requires : goal.next-next-requires
+next-next-requires c = node_there c.args.lists.now c.args.list c.args.marks.now c.loop-next.marks c.in-Some.node (subst (IsWalking c.args.lists.now c.args.list c.args.marks.now c.loop-next.marks) c.in-Some.is c.loop-next.invariant)
+
+pub loop-next-smaller : goal.loop-next-smaller
+loop-next-smaller c =
+    subst (λ o. length (rest_of c.next-next.result (row_at c.args.lists.now.lists c.args.list)) < length (rest_of o (row_at c.args.lists.now.lists c.args.list))) (sym c.in-Some.is)
+    (shorter c.args.lists.now c.args.list c.args.marks.now c.loop-next.marks c.in-Some.node c.next-next.result c.requires.list (subst (IsWalking c.args.lists.now c.args.list c.args.marks.now c.loop-next.marks) c.in-Some.is c.loop-next.invariant) c.next-next.ensures)
+
+pub loop-next-preserved : goal.loop-next-preserved
+loop-next-preserved c =
+    walking_more c.args.lists.now c.args.list c.args.marks.now c.loop-next.marks c.in-Some.node c.next-next.result c.requires.list (subst (IsWalking c.args.lists.now c.args.list c.args.marks.now c.loop-next.marks) c.in-Some.is c.loop-next.invariant) c.next-next.ensures c.loop-next.auto.marks
+
+pub returns : goal.returns
+returns c = record {
+  marked = λ k below.
+      walked c.args.lists.now c.args.list c.args.marks.now c.loop-next.marks (subst (IsWalking c.args.lists.now c.args.list c.args.marks.now c.loop-next.marks) c.in_default.is c.loop-next.invariant) k below
+      ∙ ap (λ b. get_or c.args.marks.now k true || b) (on_list c.args.lists.now c.first-next.ensures.once c.args.list c.requires.list k);
+}
