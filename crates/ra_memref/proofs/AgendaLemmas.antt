@@ -15,6 +15,7 @@ use Rattle.ra_indirect.proofs.SpelledLemmas.{NamesBelow, may_follow, names_below
 use Rattle.ra_memref.specs.Numbers.{NumbersSeen}
 use Rattle.ra_memref.specs.Layout.{HasSlot, IsLaid, cells_before}
 use Rattle.ra_memref.specs.Pass.{IsSizedFor}
+use Rattle.ra_memref.specs.Flags.{NoneSet}
 use Rattle.ra_memref.specs.Due.{IsQuiet, IsUnmarked, AreQuiet, AreIdle, Names, StandsOn, AreDependents, HasCellNode, AreCellNodes, IsGathered}
 use Rattle.ra_memref.specs.Watches.{WatchesSeen, MarksWatchers}
 use Rattle.ra_memref.proofs.CellsAlong.{cell_with, along_cell, along_same}
@@ -154,14 +155,14 @@ gathering_none cell_nodes marked old = record {
 }
 
 module _ (cell_nodes : List ℕ) (marked old now : List Bool) (count : ℕ) (gathering : IsGathering cell_nodes marked old now count) where
-  -- a cell that is not marked
-  pub gathering_same : get_or marked count true ≡ false → IsGathering cell_nodes marked old now (count + 1)
-  gathering_same unmarked = record {
+  -- none of the next cells is marked
+  pub gathering_past : (to : ℕ) → NoneSet marked count to → IsGathering cell_nodes marked old now to
+  gathering_past to none = record {
     long = gathering.long;
     kept = gathering.kept;
-    marked_too = λ cell below is. elim (cases_eq cell count) [
-      | inl here ↦ absurd (false≢true (sym unmarked ∙ ap (λ n. get_or marked n true) (sym here) ∙ is))
-      | inr apart ↦ gathering.marked_too cell (omega (arith, below, apart)) is
+    marked_too = λ cell below is. elim (cases_lt cell count) [
+      | inl less ↦ gathering.marked_too cell less is
+      | inr more ↦ absurd (false≢true (sym (none cell more below) ∙ is))
     ];
   }
 

@@ -3,6 +3,7 @@ pub mod AgreeLemmas
 pub mod CellsAlong
 pub mod Cuts
 pub mod DueLemmas
+pub mod FlagLemmas
 pub mod Halfway
 pub mod Holders
 pub mod Indexed

@@ -10,7 +10,8 @@ use Rattle.ra_memref.specs.Table.{AreKept}
 use Rattle.ra_memref.specs.Layout.{IsLaid}
 use Rattle.ra_memref.specs.Marks.{reads_of}
 use Rattle.ra_memref.specs.Pass.{reads_at, IsAgreed, IsAgreedAt, IsSizedFor, TakesFrame}
-use Rattle.ra_memref.specs.Due.{IsQuiet, IsUnmarked, AreIdle, NoneDue}
+use Rattle.ra_memref.specs.Flags.{NoneSet}
+use Rattle.ra_memref.specs.Due.{IsQuiet, IsUnmarked, AreIdle}
 use Rattle.ra_memref.proofs.LaidLemmas.{cells_all}
 use Rattle.ra_memref.proofs.Passed.{IsPassed, TakesNode, cell_count}
 use Rattle.ra_memref.proofs.PassEnds.{passed_none, sized_more, kept_all, values_all, places_all}
@@ -53,7 +54,7 @@ module _ (nodes : List Node) (pool : IsPool nodes) (slots : List ℕ) (laid : Is
         (taken_more now (idle_takes slots image k now (node_at nodes k) quiet unmarked (agreed_node agrees)) refl)
 
   module _ (agrees : IsAgreed old image) (now : NumbersSeen) (reads : ℕ) (due : List Bool) (idle : AreIdle nodes due now slots) where
-    taken_past : (more k : ℕ) → k + more ≤ length nodes → NoneDue due k (k + more) → IsTaken nodes image old now k reads → IsTaken nodes image old now (k + more) reads
+    taken_past : (more k : ℕ) → k + more ≤ length nodes → NoneSet due k (k + more) → IsTaken nodes image old now k reads → IsTaken nodes image old now (k + more) reads
     taken_past zero k within none taken =
         let e : k ≡ k + 0 = omega arith in
         subst (λ n. IsTaken nodes image old now n reads) e taken
@@ -66,7 +67,7 @@ module _ (nodes : List Node) (pool : IsPool nodes) (slots : List ℕ) (laid : Is
         (taken_idle k here now reads taken agrees (idle.quiet k here still) (idle.unmarked k here still)))
 
     -- where none is due up to another number, the nodes below that are taken
-    pub taken_to : (from to : ℕ) → from ≤ to → to ≤ length nodes → NoneDue due from to → IsTaken nodes image old now from reads → IsTaken nodes image old now to reads
+    pub taken_to : (from to : ℕ) → from ≤ to → to ≤ length nodes → NoneSet due from to → IsTaken nodes image old now from reads → IsTaken nodes image old now to reads
     taken_to from to less within none taken =
         let e : from + (to - from) ≡ to = omega (arith, less) in
         subst (λ n. IsTaken nodes image old now n reads) e

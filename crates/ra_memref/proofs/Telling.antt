@@ -6,8 +6,7 @@ use Rattle.ra_memref.specs.declared.watches.Watches.TheInside.{Inside}
 use Rattle.ra_memref.specs.Marks.{is_watched}
 use Rattle.ra_memref.specs.Marking.{is_at, is_between}
 use Rattle.ra_memref.specs.Watches.{WatchesSeen, IsIndexed, MarksWatchers, marked_by, first_page, second_page}
-use Rattle.std.specs.Vec.{with_items}
-use Rattle.std.proofs.lemmas.List.{with_items_is, length-replicate}
+use Rattle.std.proofs.lemmas.List.{length-replicate}
 use Rattle.ra_memref.specs.contracts.watches.Watches.{the_view}
 use Rattle.ra_memref.proofs.Pages.{between_more, between_none, watched_is, watched_none}
 
@@ -35,8 +34,8 @@ is_told t first page k =
 -- the pages from the first on, before this one, are told
 pub record IsTelling (old now : Inside) (first page : ℕ) : Type 0 where
   pub same : now ≡ record old { marks = now.marks }
-  pub long : length now.marks.items ≡ length old.marks.items
-  pub marked : (k : ℕ) → k < length old.places.items → get_or now.marks.items k true ≡ (get_or old.marks.items k true || is_told old first page k)
+  pub long : length now.marks ≡ length old.marks
+  pub marked : (k : ℕ) → k < length old.places.items → get_or now.marks k true ≡ (get_or old.marks k true || is_told old first page k)
 
 or_none : (a b c : Bool) → b ≡ false → c ≡ false → a ≡ (a || (b || c))
 or_none true b c b_is c_is = refl
@@ -57,14 +56,14 @@ joined false false true false y' = refl
 joined false false false x' y' = refl
 
 -- one page more is told
-module _ (old now : Inside) (first page : ℕ) (marks : List Bool) (telling : IsTelling old now first page) (is : IsIndexed old.size old.widths.items old.places.items old.marks.items old.pages) (above : first ≤ page) (long : length marks ≡ length now.marks.items) where
+module _ (old now : Inside) (first page : ℕ) (marks : List Bool) (telling : IsTelling old now first page) (is : IsIndexed old.size old.widths.items old.places.items old.marks old.pages) (above : first ≤ page) (long : length marks ≡ length now.marks) where
   abbrev after : Inside
-  after = record { size = now.size; widths = now.widths; places = now.places; marks = with_items now.marks marks; all = now.all; pages = now.pages }
+  after = record { size = now.size; widths = now.widths; places = now.places; marks = marks; all = now.all; pages = now.pages }
 
-  marks_after_page : (with_items now.marks marks).items ≡ marks
-  marks_after_page = with_items_is now.marks marks (long ∙ sym now.marks.ok.0)
+  marks_after_page : marks ≡ marks
+  marks_after_page = refl
 
-  one_more : ((k : ℕ) → k < length now.marks.items → get_or marks k true ≡ (get_or now.marks.items k true || (is_at (holder_of now.pages.lists (2 * k)) page || is_at (holder_of now.pages.lists (2 * k + 1)) page))) → (k : ℕ) → k < length old.places.items → get_or (with_items now.marks marks).items k true ≡ (get_or old.marks.items k true || is_told old first (page + 1) k)
+  one_more : ((k : ℕ) → k < length now.marks → get_or marks k true ≡ (get_or now.marks k true || (is_at (holder_of now.pages.lists (2 * k)) page || is_at (holder_of now.pages.lists (2 * k + 1)) page))) → (k : ℕ) → k < length old.places.items → get_or marks k true ≡ (get_or old.marks k true || is_told old first (page + 1) k)
   one_more marked k below =
       let stands = is.stands k below in
       let lists : now.pages.lists ≡ old.pages.lists = ap (λ t. t.pages.lists) telling.same in
@@ -73,16 +72,16 @@ module _ (old now : Inside) (first page : ℕ) (marks : List Bool) (telling : Is
       ap (λ ms. get_or ms k true) marks_after_page
       ∙ marked k (omega (arith, below, telling.long, is.marks_too))
       ∙ ap (λ b. b || (is_at (holder_of now.pages.lists (2 * k)) page || is_at (holder_of now.pages.lists (2 * k + 1)) page)) (telling.marked k below)
-      ∙ ap (λ b. (get_or old.marks.items k true || is_told old first page k) || (b || is_at (holder_of now.pages.lists (2 * k + 1)) page)) first_at
-      ∙ ap (λ b. (get_or old.marks.items k true || is_told old first page k) || (is_at (first_page old.size (slice_index old.places.items k)) page || b)) second_at
-      ∙ joined (get_or old.marks.items k true) (is_between first page (first_page old.size (slice_index old.places.items k))) (is_between first page (second_page old.size (slice_index old.places.items k) (slice_index old.widths.items k))) (is_at (first_page old.size (slice_index old.places.items k)) page) (is_at (second_page old.size (slice_index old.places.items k) (slice_index old.widths.items k)) page)
-      ∙ ap (λ b. get_or old.marks.items k true || (b || (is_between first page (second_page old.size (slice_index old.places.items k) (slice_index old.widths.items k)) || is_at (second_page old.size (slice_index old.places.items k) (slice_index old.widths.items k)) page))) (sym (between_more first page (first_page old.size (slice_index old.places.items k)) above))
-      ∙ ap (λ b. get_or old.marks.items k true || (is_between first (page + 1) (first_page old.size (slice_index old.places.items k)) || b)) (sym (between_more first page (second_page old.size (slice_index old.places.items k) (slice_index old.widths.items k)) above))
+      ∙ ap (λ b. (get_or old.marks k true || is_told old first page k) || (b || is_at (holder_of now.pages.lists (2 * k + 1)) page)) first_at
+      ∙ ap (λ b. (get_or old.marks k true || is_told old first page k) || (is_at (first_page old.size (slice_index old.places.items k)) page || b)) second_at
+      ∙ joined (get_or old.marks k true) (is_between first page (first_page old.size (slice_index old.places.items k))) (is_between first page (second_page old.size (slice_index old.places.items k) (slice_index old.widths.items k))) (is_at (first_page old.size (slice_index old.places.items k)) page) (is_at (second_page old.size (slice_index old.places.items k) (slice_index old.widths.items k)) page)
+      ∙ ap (λ b. get_or old.marks k true || (b || (is_between first page (second_page old.size (slice_index old.places.items k) (slice_index old.widths.items k)) || is_at (second_page old.size (slice_index old.places.items k) (slice_index old.widths.items k)) page))) (sym (between_more first page (first_page old.size (slice_index old.places.items k)) above))
+      ∙ ap (λ b. get_or old.marks k true || (is_between first (page + 1) (first_page old.size (slice_index old.places.items k)) || b)) (sym (between_more first page (second_page old.size (slice_index old.places.items k) (slice_index old.widths.items k)) above))
 
   same_after : after ≡ record old { marks = after.marks }
-  same_after = ap {A = Inside} (λ t. record { size = t.size; widths = t.widths; places = t.places; marks = with_items now.marks marks; all = t.all; pages = t.pages }) telling.same
+  same_after = ap {A = Inside} (λ t. record { size = t.size; widths = t.widths; places = t.places; marks = marks; all = t.all; pages = t.pages }) telling.same
 
-  pub telling_more : ((k : ℕ) → k < length now.marks.items → get_or marks k true ≡ (get_or now.marks.items k true || (is_at (holder_of now.pages.lists (2 * k)) page || is_at (holder_of now.pages.lists (2 * k + 1)) page))) → IsTelling old after first (page + 1)
+  pub telling_more : ((k : ℕ) → k < length now.marks → get_or marks k true ≡ (get_or now.marks k true || (is_at (holder_of now.pages.lists (2 * k)) page || is_at (holder_of now.pages.lists (2 * k + 1)) page))) → IsTelling old after first (page + 1)
   telling_more marked = record {
     same = same_after;
     long = ap length marks_after_page ∙ long ∙ telling.long;
@@ -95,16 +94,16 @@ at_most_four width (inr (inl e)) = (omega (arith, e), omega (arith, e))
 at_most_four width (inr (inr e)) = (omega (arith, e), omega (arith, e))
 
 -- all pages are told
-pub told_all : (old now : Inside) (seen : WatchesSeen) (at count : ℕ) → the_view old ≡ seen → IsIndexed old.size old.widths.items old.places.items old.marks.items old.pages → 0 < count → IsTelling old now (at / 16) ((at + count - 1) / 16 + 1) → MarksWatchers seen (the_view now) at count
+pub told_all : (old now : Inside) (seen : WatchesSeen) (at count : ℕ) → the_view old ≡ seen → IsIndexed old.size old.widths.items old.places.items old.marks old.pages → 0 < count → IsTelling old now (at / 16) ((at + count - 1) / 16 + 1) → MarksWatchers seen (the_view now) at count
 told_all old now seen at count view_is is some telling =
     subst (λ w. MarksWatchers w (the_view now) at count) view_is (record {
-      rest = ap the_view telling.same ∙ ap (λ b. record (the_view old) { marked = marked_by b now.marks.items }) (sym flag);
-      long = length-marked_by now.all now.marks.items ∙ telling.long ∙ sym (length-marked_by old.all old.marks.items);
+      rest = ap the_view telling.same ∙ ap (λ b. record (the_view old) { marked = marked_by b now.marks }) (sym flag);
+      long = length-marked_by now.all now.marks ∙ telling.long ∙ sym (length-marked_by old.all old.marks);
       marked = λ k below.
           let wide = at_most_four (slice_index old.widths.items k) (is.wide k below) in
-          let watched = telling.marked k below ∙ ap (λ b. get_or old.marks.items k true || b) (sym (watched_is old.size (slice_index old.places.items k) (slice_index old.widths.items k) at count some wide.1 wide.0)) in
-          ap (λ b. get_or (marked_by b now.marks.items) k true) flag
-          ∙ told_by_flag old.all old.marks.items now.marks.items k (is_watched old.size (slice_index old.places.items k) (slice_index old.widths.items k) at count) watched;
+          let watched = telling.marked k below ∙ ap (λ b. get_or old.marks k true || b) (sym (watched_is old.size (slice_index old.places.items k) (slice_index old.widths.items k) at count some wide.1 wide.0)) in
+          ap (λ b. get_or (marked_by b now.marks) k true) flag
+          ∙ told_by_flag old.all old.marks now.marks k (is_watched old.size (slice_index old.places.items k) (slice_index old.widths.items k) at count) watched;
     })
   where
     flag : now.all ≡ old.all

@@ -80,16 +80,6 @@ pub record AreCellNodes (nodes : List Node) (count : ℕ) (cell_nodes : List ℕ
   pub within : (k : ℕ) → k < length cell_nodes → slice_index cell_nodes k < count
   pub each : (n : ℕ) → n < count → HasCellNode (node_at nodes n) cell_nodes (length (cells_before (spelled_by nodes) n)) n
 
--- no node from the one on and before the other is due
-abbrev pub NoneDue : List Bool → (from to : ℕ) → Type 0
-NoneDue due from to = (k : ℕ) → from ≤ k → k < to → slice_index_or due k true ≡ false
-
--- the first node from a number on that is due
-pub record IsFirstDue (due : List Bool) (from n : ℕ) : Type 0 where
-  pub after : from ≤ n
-  pub within : n < length due
-  pub none_before : NoneDue due from n
-
 -- the marked cells are due too: what is still not due was not, and is the node of no marked cell
 pub record IsGathered (cell_nodes : List ℕ) (marked old new : List Bool) : Type 0 where
   pub long : length new ≡ length old

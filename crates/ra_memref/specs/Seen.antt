@@ -24,7 +24,7 @@ table_seen t = record {
 
 -- an agenda of these nodes: what names each of them, and where the cells are
 pub record IsAgenda (nodes : List Node) (agenda : Agenda) : Type 0 where
-  pub dues : length agenda.due.items ≡ length nodes
+  pub dues : length agenda.due ≡ length nodes
   pub dependents : AreDependents nodes (length nodes) agenda.dependents
   pub cells : AreCellNodes nodes (length nodes) agenda.cell_nodes.items
 
@@ -36,4 +36,4 @@ pub record IsTable (t : Inside) : Type 0 where
   pub small : t.numbers.watches.size ≤ 2 ^ 27
   pub sized : IsSizedFor t.nodes.items t.numbers
   pub agenda : IsAgenda t.nodes.items t.agenda
-  pub quiet : t.agenda.all ≡ false → AreQuiet t.nodes.items t.agenda.due.items t.numbers t.slots.items
+  pub quiet : t.agenda.all ≡ false → AreQuiet t.nodes.items t.agenda.due t.numbers t.slots.items

@@ -3,8 +3,9 @@
 ghost use Rattle.std.specs.Prelude.{◌≡◌, ◌≢◌, ◌+◌, ◌<◌, ◌≤◌, ◌^◌, ◌*◌, ℕ, true, false, length, replicate, slice_index, IfOk, IfSome, None};
 ghost use Rattle.ra_indirect.specs.Interned.{IsPool};
 ghost use Rattle.ra_links.specs.Rows.{holder_of};
-ghost use Rattle.ra_memref.specs.Due.{AreDependents, AreCellNodes, IsFirstDue, NoneDue, IsGathered, StandsOn, Names};
+ghost use Rattle.ra_memref.specs.Due.{AreDependents, AreCellNodes, IsGathered, StandsOn, Names};
 
+use crate::flags::Flags;
 use crate::numbers::Numbers;
 use crate::watches::put;
 use ra_indirect::Node;
@@ -16,7 +17,7 @@ use std::alloc::Global;
 /// cell. Only `new` takes memory.
 #[derive(Drop)]
 pub struct Agenda {
-    pub due: Vec<bool>,
+    pub due: Flags,
     pub all: bool,
     pub dependents: Links,
     pub cell_nodes: Vec<u32>,
@@ -28,11 +29,11 @@ impl Agenda {
         requires pool { IsPool nodes.now }
         requires few { length nodes.now < 2 ^ 30 }
         ensures all { IfOk result (λ agenda. agenda.all ≡ true) }
-        ensures dues { IfOk result (λ agenda. length agenda.due.items ≡ length nodes.now) }
+        ensures dues { IfOk result (λ agenda. length agenda.due ≡ length nodes.now) }
         ensures dependents { IfOk result (λ agenda. AreDependents nodes.now (length nodes.now) agenda.dependents) }
         ensures cells { IfOk result (λ agenda. AreCellNodes nodes.now (length nodes.now) agenda.cell_nodes.items) }
     {
-        let due = vec![in alloc; true; nodes.len()]?;
+        let due = Flags::new(alloc, nodes.len())?;
         let dependents = dependents_of(alloc, nodes)?;
         let cell_nodes = cell_nodes_of(alloc, nodes)?;
         Ok(Agenda {
@@ -44,17 +45,19 @@ impl Agenda {
     }
 
     /// Makes the nodes of the marked cells due, and every node where all are.
-    pub fn gather(&mut self, numbers: &Numbers)
-        requires cells { length self.old.cell_nodes.items ≡ length numbers.now.cells }
-        requires within { (k : ℕ) → k < length self.old.cell_nodes.items → slice_index self.old.cell_nodes.items k < length self.old.due.items }
+    pub fn gather(&mut self, numbers: &mut Numbers)
+        requires cells { length self.old.cell_nodes.items ≡ length numbers.old.watches.marked }
+        requires few { length self.old.cell_nodes.items < 2 ^ 30 }
+        requires within { (k : ℕ) → k < length self.old.cell_nodes.items → slice_index self.old.cell_nodes.items k < length self.old.due }
         ensures none { self.new.all ≡ false }
-        ensures gathered { self.old.all ≡ false → IsGathered self.old.cell_nodes.items numbers.now.watches.marked self.old.due.items self.new.due.items }
-        ensures all { self.old.all ≡ true → self.new.due.items ≡ replicate (length self.old.due.items) true }
+        ensures gathered { self.old.all ≡ false → IsGathered self.old.cell_nodes.items numbers.old.watches.marked self.old.due self.new.due }
+        ensures all { self.old.all ≡ true → self.new.due ≡ replicate (length self.old.due) true }
         ensures dependents { self.new.dependents ≡ self.old.dependents }
         ensures cell_nodes { self.new.cell_nodes ≡ self.old.cell_nodes }
+        ensures same { numbers.new ≡ numbers.old }
     {
         if self.all {
-            self.due.fill(true);
+            self.due.fill();
         } else {
             gather_marked(&mut self.due, &self.cell_nodes, numbers);
         }
@@ -63,29 +66,18 @@ impl Agenda {
 }
 
 // Makes the nodes of the marked cells due.
-fn gather_marked(due: &mut [bool], cell_nodes: &[u32], numbers: &Numbers)
-    requires cells { length cell_nodes.now ≡ length numbers.now.cells }
+fn gather_marked(due: &mut Flags, cell_nodes: &[u32], numbers: &mut Numbers)
+    requires cells { length cell_nodes.now ≡ length numbers.old.watches.marked }
+    requires few { length cell_nodes.now < 2 ^ 30 }
     requires within { (k : ℕ) → k < length cell_nodes.now → slice_index cell_nodes.now k < length due.old }
-    ensures { IsGathered cell_nodes.now numbers.now.watches.marked due.old due.new }
+    ensures gathered { IsGathered cell_nodes.now numbers.old.watches.marked due.old due.new }
+    ensures same { numbers.new ≡ numbers.old }
 {
-    for (cell, node) in cell_nodes.iter().enumerate() {
-        if numbers.is_marked(cell) {
-            due[*node as usize] = true;
-        }
+    let mut at = 0;
+    while let Some(cell) = numbers.next_marked(at) {
+        due.put(cell_nodes[cell] as usize, true);
+        at = cell + 1;
     }
-}
-
-/// The first node from a number on that is due. None exactly where none is.
-pub fn next_due(due: &[bool], from: usize) -> Option<usize>
-    ensures first { IfSome result (λ n. IsFirstDue due.now from n) }
-    ensures none { result ≡ None → NoneDue due.now from (length due.now) }
-{
-    for at in from..due.len() {
-        if due[at] {
-            return Some(at);
-        }
-    }
-    None
 }
 
 // For each node those that name it, as lists of nodes that each stand twice, by their first operand and

@@ -4,6 +4,7 @@
 #![tactic(auto)]
 
 mod agenda;
+mod flags;
 mod laws;
 mod layout;
 mod names;

@@ -1,4 +1,4 @@
-ghost use Rattle.std.specs.Prelude.{◌≡◌, ◌+◌, ◌*◌, ◌<◌, ◌≤◌, ◌^◌, ◌==◌, ◌||◌, not, true, false, length, replicate, slice_index, slice_index_or, slice_set, IfOk};
+ghost use Rattle.std.specs.Prelude.{◌≡◌, ◌+◌, ◌*◌, ◌<◌, ◌≤◌, ◌^◌, ◌==◌, ◌||◌, not, true, false, length, replicate, slice_index, slice_index_or, slice_set, IfOk, IfSome, None};
 ghost use Rattle.ra_memory.specs.Image.{raw, IsReadWidth};
 ghost use Rattle.ra_operand.specs.Views.{mask_of};
 ghost use Rattle.ra_indirect.specs.declared.node.Node.TheVariants.{View};
@@ -7,11 +7,12 @@ ghost use Rattle.ra_indirect.specs.Pools.{node_at};
 ghost use Rattle.ra_memref.specs.Layout.{IsLaid};
 ghost use Rattle.ra_memref.specs.Marks.{read_of, reads_of};
 ghost use Rattle.ra_memref.specs.Pass.{prior_after, looked_in, priors_after, after_node, reads_at, IsWithin, IsAgreedIn, IsAgreedAt, IsAgreed, IsSizedFor, TakesFrame, value_at};
+ghost use Rattle.ra_memref.specs.Flags.{NoneSet, IsFirstSet};
 ghost use Rattle.ra_memref.specs.Due.{earlier_by, AreDependents, AreIdle};
 ghost use Rattle.ra_memref.specs.Watches.{MarksWatchers};
 ghost use Rattle.ra_words.specs.Words.{words_at};
 
-use crate::agenda::next_due;
+use crate::flags::Flags;
 use crate::watches::{Watches, mark_listed};
 use ra_indirect::Node;
 use ra_links::Links;
@@ -153,12 +154,13 @@ impl Numbers {
         self.watches.mark_all();
     }
 
-    /// A cell is marked.
-    pub fn is_marked(&self, cell: usize) -> bool
-        requires { cell < length self.now.cells }
-        ensures { result ≡ slice_index_or self.now.watches.marked cell true }
+    /// The first marked cell from one on. None exactly where none is.
+    pub fn next_marked(&mut self, from: usize) -> Option<usize>
+        ensures first { IfSome result (λ n. IsFirstSet self.old.watches.marked from n) }
+        ensures none { result ≡ None → NoneSet self.old.watches.marked from (length self.old.watches.marked) }
+        ensures same { self.new ≡ self.old }
     {
-        self.watches.is_marked(cell)
+        self.watches.next_marked(from)
     }
 
     /// Takes up one frame: each node that is due is taken, and makes those that name it due where it
@@ -168,7 +170,7 @@ impl Numbers {
         image: &mut I,
         nodes: &[Node],
         slots: &[u32],
-        due: &mut [bool],
+        due: &mut Flags,
         dependents: &Links,
     )
         requires pool { IsPool nodes.now }
@@ -183,13 +185,14 @@ impl Numbers {
 
         ensures taken { TakesFrame nodes.now self.old self.new (I.bytes image.old) }
         ensures idle { AreIdle nodes.now due.new self.new slots.now }
+        ensures dues { length due.new ≡ length due.old }
 
         ensures bytes { I.bytes image.new ≡ I.bytes image.old }
         ensures counter { I.counter image.new ≡ I.counter image.old }
         ensures reads { I.reads image.new ≡ I.reads image.old + reads_of self.old.watches.marked self.old.watches.places self.new.watches.places }
     {
         let mut at = 0;
-        while let Some(number) = next_due(due, at) {
+        while let Some(number) = due.next_from(at) {
             self.take_due(image, nodes, slots, due, dependents, number);
             at = number + 1;
         }
@@ -202,7 +205,7 @@ impl Numbers {
         image: &mut I,
         nodes: &[Node],
         slots: &[u32],
-        due: &mut [bool],
+        due: &mut Flags,
         dependents: &Links,
         number: usize,
     )
@@ -218,13 +221,14 @@ impl Numbers {
 
         ensures taken { self.new ≡ after_node (node_at nodes.now number) self.old (I.bytes image.old) slots.now number }
         ensures idle { AreIdle nodes.now due.new self.new slots.now }
+        ensures dues { length due.new ≡ length due.old }
 
         ensures bytes { I.bytes image.new ≡ I.bytes image.old }
         ensures counter { I.counter image.new ≡ I.counter image.old }
         ensures reads { I.reads image.new ≡ I.reads image.old + reads_at (node_at nodes.now number) self.old (slice_index slots.now number) }
     {
         let outcome = self.follow(image, nodes[number], slots, number);
-        due[number] = outcome.again;
+        due.put(number, outcome.again);
         if outcome.seen {
             mark_listed(dependents, due, number as u32);
         }

@@ -95,7 +95,7 @@ impl Table {
         ensures bytes { I.bytes image.new ≡ I.bytes image.old }
         ensures counter { I.counter image.new ≡ I.counter image.old }
     {
-        self.agenda.gather(&self.numbers);
+        self.agenda.gather(&mut self.numbers);
         self.numbers.take_frame(
             image,
             &self.nodes,

@@ -1,10 +1,12 @@
 ghost use Rattle.std.specs.Prelude.{◌≡◌, ◌≢◌, ◌+◌, ◌-◌, ◌*◌, ◌<◌, ◌≤◌, ◌^◌, ◌==◌, ◌||◌, not, ℕ, true, false, length, replicate, slice_index, slice_index_or, slice_set, IfOk, IfSome, None};
+ghost use Rattle.ra_memref.specs.Flags.{NoneSet, IsFirstSet};
 ghost use Rattle.ra_memory.specs.Image.{IsReadWidth};
 ghost use Rattle.ra_links.specs.Rows.{holder_of, row_at};
 ghost use Rattle.ra_memref.specs.Watches.{StandsAt, MarksWatchers, marked_by, pages_of, first_page, second_page};
 ghost use Rattle.ra_memref.specs.Marks.{page_of};
 ghost use Rattle.ra_memref.specs.Marking.{is_at};
 
+use crate::flags::Flags;
 use ra_links::Links;
 use ra_text::OutOfMemory;
 use std::alloc::Global;
@@ -23,7 +25,7 @@ pub struct Watches {
     size: u32,
     widths: Vec<u8>,
     places: Vec<u32>,
-    marks: Vec<bool>,
+    marks: Flags,
     all: bool,
     pages: Links,
 }
@@ -33,9 +35,9 @@ impl Model for Watches {
 
     ghost Value = { WatchesSeen };
 
-    ghost view = { λ w. record { size = w.size; widths = w.widths.items; places = w.places.items; marked = marked_by w.all w.marks.items } };
+    ghost view = { λ w. record { size = w.size; widths = w.widths.items; places = w.places.items; marked = marked_by w.all w.marks } };
 
-    ghost invariant = { λ w. IsIndexed w.size w.widths.items w.places.items w.marks.items w.pages };
+    ghost invariant = { λ w. IsIndexed w.size w.widths.items w.places.items w.marks w.pages };
 }
 
 impl Watches {
@@ -55,7 +57,7 @@ impl Watches {
         requires wide { (k : ℕ) → k < length places.items → IsReadWidth (slice_index widths.items k) }
         ensures { IfOk result (λ w. w ≡ record { size = size; widths = widths.items; places = places.items; marked = replicate (length places.items) true }) }
     {
-        let marks = vec![in alloc; false; places.len()]?;
+        let marks = Flags::new(alloc, places.len())?;
         let mut pages = Links::new(alloc, size.div_ceil(PAGE), 2 * places.len() as u32)?;
         for cell in 0..places.len() {
             stand(&mut pages, size, cell as u32, places[cell], widths[cell]);
@@ -82,7 +84,20 @@ impl Watches {
         requires { cell < length self.now.places }
         ensures { result ≡ slice_index_or self.now.marked cell true }
     {
-        self.all || self.marks[cell]
+        self.all || self.marks.is_set(cell)
+    }
+
+    /// The first marked cell from one on. None exactly where none is.
+    pub fn next_marked(&mut self, from: usize) -> Option<usize>
+        ensures first { IfSome result (λ n. IsFirstSet self.old.marked from n) }
+        ensures none { result ≡ None → NoneSet self.old.marked from (length self.old.marked) }
+        ensures same { self.new ≡ self.old }
+    {
+        if self.all {
+            self.marks.fill();
+            self.all = false;
+        }
+        self.marks.next_from(from)
     }
 
     /// A cell is marked, or its place is another one.
@@ -133,27 +148,28 @@ impl Watches {
 }
 
 // Unmarks one cell, and leaves the others their own marks where a flag marked all.
-fn unmark(all: bool, marks: &mut [bool], cell: usize)
+fn unmark(all: bool, marks: &mut Flags, cell: usize)
     requires { cell < length marks.old }
     ensures { marks.new ≡ slice_set (marked_by all marks.old) cell false }
 {
     if all {
-        marks.fill(true);
+        marks.fill();
     }
-    marks[cell] = false;
+    marks.put(cell, false);
 }
 
 /// Marks what stands on a list by one of its two nodes.
-pub fn mark_listed(lists: &Links, marks: &mut [bool], list: u32)
+pub fn mark_listed(lists: &Links, marks: &mut Flags, list: u32)
     requires list { list < length lists.now.lists }
     requires nodes { lists.now.nodes ≤ 2 * length marks.old }
+    ensures long { length marks.new ≡ length marks.old }
     ensures marked { (k : ℕ) → k < length marks.old → slice_index_or marks.new k true
         ≡ (slice_index_or marks.old k true
         || (is_at (holder_of lists.now.lists (2 * k)) list || is_at (holder_of lists.now.lists (2 * k + 1)) list)) }
 {
     let mut next = lists.first(list);
     while let Some(node) = next {
-        marks[(node / 2) as usize] = true;
+        marks.put((node / 2) as usize, true);
         next = lists.next(node);
     }
 }

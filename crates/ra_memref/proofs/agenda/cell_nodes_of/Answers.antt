@@ -4,7 +4,7 @@ use Rattle.ra_indirect.specs.Pools.{node_at}
 use Rattle.std.proofs.Common.{rules, arith, refl, subst, ◌≡◌, ◌≢◌, ◌+◌, ◌<◌, ◌≤◌, ◌^◌, ◌*◌, ℕ, true, false, length, replicate, slice_index, IfOk, IfSome, None, ◌-◌, ◌/◌, ◌%◌, Bool, nat_eq, nat_lt, List, [], ◌∷◌, ◌++◌, slice_index_or, slice_set, bit_and, bit_or, Fits, w8, w32, w64, Bor, MutBor}
 use Rattle.ra_indirect.specs.Interned.{IsPool}
 use Rattle.ra_links.specs.Rows.{holder_of}
-use Rattle.ra_memref.specs.Due.{AreDependents, AreCellNodes, IsFirstDue, NoneDue, IsGathered, StandsOn, Names}
+use Rattle.ra_memref.specs.Due.{AreDependents, AreCellNodes, IsGathered, StandsOn, Names}
 use Rattle.ra_memref.proofs.agenda.cell_nodes_of.Goals as goal
 
 -- src/agenda.rt:134:5

@@ -1,25 +1,61 @@
-use Rattle.ra_memref.proofs.agenda.gather_marked.Goals.{then-is_marked, else-is_marked}
-use Rattle.ra_memref.proofs.AgendaLemmas.{IsGathering, gathering_none, gathering_same, gathering_more, gathered}
-use Rattle.std.proofs.Common.{rules, sym, ◌∙◌, get_or, arith, refl, subst, ◌≡◌, ◌≢◌, ◌+◌, ◌<◌, ◌≤◌, ◌^◌, ◌*◌, ℕ, true, false, length, replicate, slice_index, IfOk, IfSome, None, ◌-◌, ◌/◌, ◌%◌, Bool, nat_eq, nat_lt, List, [], ◌∷◌, ◌++◌, slice_index_or, slice_set, bit_and, bit_or, Fits, w8, w32, w64, Bor, MutBor}
-use Rattle.ra_indirect.specs.Interned.{IsPool}
-use Rattle.ra_links.specs.Rows.{holder_of}
-use Rattle.ra_memref.specs.Due.{AreDependents, AreCellNodes, IsFirstDue, NoneDue, IsGathered, StandsOn, Names}
+use Rattle.std.proofs.Common.{◌≡◌, ℕ, ◌+◌, ◌<◌, ap, subst, sym, ◌∙◌, refl, arith, length, get_or}
+use Rattle.ra_memref.specs.Numbers.{NumbersSeen}
+use Rattle.ra_memref.specs.Flags.{NoneSet}
+use Rattle.ra_memref.proofs.AgendaLemmas.{IsGathering, gathering_none, gathering_past, gathering_more, gathered}
 use Rattle.ra_memref.proofs.agenda.gather_marked.Goals as goal
 
--- src/agenda.rt:71:5
 pub loop-cell-init : goal.loop-cell-init
-loop-cell-init c = gathering_none c.args.cell_nodes.now c.args.numbers.now.watches.marked c.args.due.now
+loop-cell-init c = record {
+  gathering = gathering_none c.args.cell_nodes.now c.args.numbers.now.watches.marked c.args.due.now;
+  same = refl;
+  most = omega arith;
+}
 
--- src/agenda.rt:71:5
+pub offset_bounds-cell_nodes-cell : goal.offset_bounds-cell_nodes-cell
+offset_bounds-cell_nodes-cell c =
+    let within : c.in-Some.cell < length c.args.cell_nodes.now = omega (arith, c.in-Some.ensures.first.within, ap (λ (n : NumbersSeen). length n.watches.marked) c.loop-cell.invariant.same, c.requires.cells) in
+    omega (arith, within, c.requires.few)
+
+pub bounds-cell_nodes-cell : goal.bounds-cell_nodes-cell
+bounds-cell_nodes-cell c = omega (arith, c.in-Some.ensures.first.within, ap (λ (n : NumbersSeen). length n.watches.marked) c.loop-cell.invariant.same, c.requires.cells)
+
+pub put-requires : goal.put-requires
+put-requires c =
+    let within : c.in-Some.cell < length c.args.cell_nodes.now = omega (arith, c.in-Some.ensures.first.within, ap (λ (n : NumbersSeen). length n.watches.marked) c.loop-cell.invariant.same, c.requires.cells) in
+    omega (arith, c.requires.within c.in-Some.cell within, c.loop-cell.invariant.gathering.long)
+
+pub overflow_add-at : goal.overflow_add-at
+overflow_add-at c =
+    let within : c.in-Some.cell < length c.args.cell_nodes.now = omega (arith, c.in-Some.ensures.first.within, ap (λ (n : NumbersSeen). length n.watches.marked) c.loop-cell.invariant.same, c.requires.cells) in
+    omega (arith, within, c.requires.few)
+
+pub loop-cell-smaller : goal.loop-cell-smaller
+loop-cell-smaller c =
+    let within : c.in-Some.cell < length c.args.cell_nodes.now = omega (arith, c.in-Some.ensures.first.within, ap (λ (n : NumbersSeen). length n.watches.marked) c.loop-cell.invariant.same, c.requires.cells) in
+    omega (arith, within, c.in-Some.ensures.first.after)
+
 pub loop-cell-preserved : goal.loop-cell-preserved
-loop-cell-preserved c = elim c.if-is_marked.branch [
-  | then-is_marked w ↦ rw w.due-is (gathering_more c.args.cell_nodes.now c.args.numbers.now.watches.marked c.args.due.now c.loop-cell.due c.loop-cell.cell c.loop-cell.invariant (get_or c.args.cell_nodes.now c.loop-cell.cell 0) refl (omega (arith, c.requires.within c.loop-cell.cell c.loop-cell-test.true, c.loop-cell.auto.due)))
-  | else-is_marked w ↦ rw w.due-is (gathering_same c.args.cell_nodes.now c.args.numbers.now.watches.marked c.args.due.now c.loop-cell.due c.loop-cell.cell c.loop-cell.invariant (sym c.is_marked.ensures ∙ w.if-is_marked.false))
-]
+loop-cell-preserved c =
+    let done = c.loop-cell.invariant in
+    let first = c.in-Some.ensures.first in
+    let within : c.in-Some.cell < length c.args.cell_nodes.now = omega (arith, c.in-Some.ensures.first.within, ap (λ (n : NumbersSeen). length n.watches.marked) c.loop-cell.invariant.same, c.requires.cells) in
+    let marked = c.args.numbers.now.watches.marked in
+    let none = subst (λ (n : NumbersSeen). NoneSet n.watches.marked c.loop-cell.at c.in-Some.cell) done.same first.none_before in
+    let past = gathering_past c.args.cell_nodes.now marked c.args.due.now c.loop-cell.due c.loop-cell.at done.gathering c.in-Some.cell none in
+    record {
+      gathering = rw c.put.ensures (gathering_more c.args.cell_nodes.now marked c.args.due.now c.loop-cell.due c.in-Some.cell past (get_or c.args.cell_nodes.now c.in-Some.cell 0) refl (omega (arith, c.requires.within c.in-Some.cell within, done.gathering.long)));
+      same = c.next_marked.ensures.same ∙ done.same;
+      most = omega (arith, within);
+    }
 
--- src/agenda.rt:66:1
-pub returns : goal.returns
-returns c =
-    let end : c.loop-cell.cell ≡ length c.args.cell_nodes.now = omega arith in
-    gathered c.args.cell_nodes.now c.args.numbers.now.watches.marked c.args.due.now c.loop-cell.due
-    (subst (IsGathering c.args.cell_nodes.now c.args.numbers.now.watches.marked c.args.due.now c.loop-cell.due) end c.loop-cell.invariant)
+pub returns-clause-gathered : goal.returns-clause-gathered
+returns-clause-gathered c =
+    let done = c.loop-cell.invariant in
+    let marked = c.args.numbers.now.watches.marked in
+    let none = subst (λ (n : NumbersSeen). NoneSet n.watches.marked c.loop-cell.at (length n.watches.marked)) done.same (c.next_marked.ensures.none c.in_default.is) in
+    gathered c.args.cell_nodes.now marked c.args.due.now c.loop-cell.due
+    (subst (IsGathering c.args.cell_nodes.now c.args.numbers.now.watches.marked c.args.due.now c.loop-cell.due) (sym c.requires.cells)
+    (gathering_past c.args.cell_nodes.now marked c.args.due.now c.loop-cell.due c.loop-cell.at done.gathering (length c.args.numbers.now.watches.marked) none))
+
+pub returns-clause-same : goal.returns-clause-same
+returns-clause-same c = c.next_marked.ensures.same ∙ c.loop-cell.invariant.same

@@ -2,8 +2,15 @@ use Rattle.ra_memref.proofs.AgendaLemmas.{IsGathering}
 use Rattle.std.proofs.Common.{◌≡◌, ◌≢◌, ◌+◌, ◌<◌, ◌≤◌, ◌^◌, ◌*◌, ℕ, true, false, length, replicate, slice_index, IfOk, IfSome, None, ◌-◌}
 use Rattle.ra_indirect.specs.Interned.{IsPool}
 use Rattle.ra_links.specs.Rows.{holder_of}
-use Rattle.ra_memref.specs.Due.{AreDependents, AreCellNodes, IsFirstDue, NoneDue, IsGathered, StandsOn, Names}
+use Rattle.ra_memref.specs.Due.{AreDependents, AreCellNodes, IsGathered, StandsOn, Names}
 use Rattle.ra_memref.proofs.agenda.gather_marked.Given as goal
 
 abbrev pub invariant-loop-cell : goal.invariant-loop-cell
-invariant-loop-cell l = IsGathering l.cell_nodes l.numbers.watches.marked l.initial.due l.due l.cell
+invariant-loop-cell l = record {
+  gathering : IsGathering l.cell_nodes l.initial.numbers.watches.marked l.initial.due l.due l.at;
+  same : l.numbers ≡ l.initial.numbers;
+  most : l.at ≤ length l.cell_nodes;
+}
+
+abbrev pub decreases-loop-cell : goal.decreases-loop-cell
+decreases-loop-cell l = length l.cell_nodes - l.at

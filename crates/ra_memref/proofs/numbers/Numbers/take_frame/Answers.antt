@@ -23,7 +23,7 @@ pub take_due-requires-clause-sized : goal.take_due-requires-clause-sized
 take_due-requires-clause-sized g c = c.loop-number.invariant.taken.sized
 
 pub take_due-requires-clause-idle : goal.take_due-requires-clause-idle
-take_due-requires-clause-idle g c = c.loop-number.invariant.idle
+take_due-requires-clause-idle g c = rw c.next_from.ensures.same c.loop-number.invariant.idle
 
 pub take_due-requires-clause-agreed : goal.take_due-requires-clause-agreed
 take_due-requires-clause-agreed g c =
@@ -60,7 +60,7 @@ loop-number-preserved g c =
           (subst (λ n. IsTaken c.args.nodes.now (g.I.Image.bytes c.args.image.now) c.args.self.now c.take_due.new.self n (g.I.Image.reads c.loop-number.image - g.I.Image.reads c.args.image.now + reads_at (node_at c.args.nodes.now c.in-Some.number) c.loop-number.self (get_or c.args.slots.now c.in-Some.number 0))) next more);
       idle = e.idle;
       most = omega (arith, here);
-      dues = c.take_due.auto.due ∙ done.dues;
+      dues = e.dues ∙ ap length c.next_from.ensures.same ∙ done.dues;
       risen = omega (arith, e.reads, done.risen);
       bytes = e.bytes ∙ done.bytes;
       counter = e.counter ∙ done.counter;
@@ -71,12 +71,12 @@ returns-clause-taken g c =
     let done = c.loop-number.invariant in
     let image = g.I.Image.bytes c.args.image.now in
     let reads : ℕ = g.I.Image.reads c.loop-number.image - g.I.Image.reads c.args.image.now in
-    let none = c.next_due.ensures.none c.in_default.is in
+    let none = c.next_from.ensures.none c.in_default.is in
     let all = taken_to c.args.nodes.now c.requires.pool c.args.slots.now c.requires.laid image c.args.self.now c.requires.sized c.requires.agreed c.loop-number.self reads c.loop-number.due done.idle c.loop-number.at (length c.args.nodes.now) done.most (omega arith) (λ k low high. none k low (omega (arith, high, done.dues))) done.taken in
     takes_frame c.args.nodes.now c.requires.pool c.args.slots.now c.requires.laid image c.args.self.now c.requires.sized c.loop-number.self reads all
 
 pub returns-clause-idle : goal.returns-clause-idle
-returns-clause-idle g c = c.loop-number.invariant.idle
+returns-clause-idle g c = rw c.next_from.ensures.same c.loop-number.invariant.idle
 
 pub returns-clause-bytes : goal.returns-clause-bytes
 returns-clause-bytes g c = c.loop-number.invariant.bytes
@@ -89,6 +89,6 @@ returns-clause-reads g c =
     let done = c.loop-number.invariant in
     let image = g.I.Image.bytes c.args.image.now in
     let reads : ℕ = g.I.Image.reads c.loop-number.image - g.I.Image.reads c.args.image.now in
-    let none = c.next_due.ensures.none c.in_default.is in
+    let none = c.next_from.ensures.none c.in_default.is in
     let all = taken_to c.args.nodes.now c.requires.pool c.args.slots.now c.requires.laid image c.args.self.now c.requires.sized c.requires.agreed c.loop-number.self reads c.loop-number.due done.idle c.loop-number.at (length c.args.nodes.now) done.most (omega arith) (λ k low high. none k low (omega (arith, high, done.dues))) done.taken in
     omega (arith, counted c.args.nodes.now c.requires.pool c.args.slots.now c.requires.laid image c.args.self.now c.requires.sized c.loop-number.self reads all, done.risen)

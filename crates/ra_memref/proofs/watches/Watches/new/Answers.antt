@@ -1,4 +1,5 @@
-use Rattle.std.proofs.Common.{arith}
+use Rattle.std.proofs.Common.{◌≡◌, ◌∙◌, ap, length, true, arith}
+use Rattle.std.proofs.lemmas.List.{length-replicate}
 use Rattle.ra_memref.proofs.Indexed.{standing_more, puts_of, read_at}
 use Rattle.ra_memref.proofs.watches.Watches.new.Goals as goal
 
@@ -6,3 +7,18 @@ pub loop-cell-preserved : goal.loop-cell-preserved
 loop-cell-preserved c =
     standing_more c.args.size c.args.widths.items c.args.places.items c.loop-cell.pages c.stand.new.pages c.loop-cell.cell c.loop-cell.invariant
     (puts_of c.loop-cell.pages c.stand.new.pages c.args.size c.loop-cell.cell _ _ _ _ (read_at c.args.places.items c.loop-cell.cell _ (omega arith) c.index.ensures) (read_at c.args.widths.items c.loop-cell.cell _ (omega (arith, c.requires.widths)) c.index-in-loop-cell.ensures) c.stand.ensures.stands c.stand.ensures.others c.stand.ensures.lists c.stand.ensures.nodes)
+
+pub invariant_of-result : goal.invariant_of-result
+invariant_of-result c =
+    let end : c.loop-cell.cell ≡ length c.args.places.items = omega arith in
+    let standing = c.loop-cell.invariant in
+    record {
+      small = c.requires.size;
+      few = c.requires.few;
+      widths_too = c.requires.widths;
+      marks_too = ap length c.in_ok-marks.ensures ∙ length-replicate c.len.result true ∙ c.len.ensures ∙ c.args.places.ok.0;
+      wide = c.requires.wide;
+      lists = standing.lists;
+      nodes = standing.nodes;
+      stands = λ k below. standing.stands k (omega (arith, below, end));
+    }

@@ -1,14 +1,13 @@
-use Rattle.std.proofs.Common.{◌≡◌, ◌∙◌, ◌<◌, length, arith, refl, ap}
-use Rattle.std.specs.Vec.{with_items}
-use Rattle.std.proofs.lemmas.List.{with_items_is}
-use Rattle.ra_memref.specs.Watches.{WatchesSeen}
+use Rattle.std.proofs.Common.{false, ◌≡◌, ◌∙◌, ◌<◌, length, arith, refl, ap}
+use Rattle.std.proofs.lemmas.List.{length-set}
+use Rattle.ra_memref.proofs.Telling.{length-marked_by}
+use Rattle.ra_memref.specs.Watches.{WatchesSeen, marked_by}
 use Rattle.ra_memref.proofs.Indexed.{indexed_moved, puts_of, read_at}
 use Rattle.ra_memref.proofs.watches.Watches.settle.Goals as goal
 
 pub invariant_of-self : goal.invariant_of-self
 invariant_of-self c =
     let below : c.args.cell < length c.self.inside.places.items = omega (arith, c.requires, ap (λ (w : WatchesSeen). length w.places) c.self.view_is) in
-    let as_many = c.unmark.auto.marks ∙ c.deref_mut.ensures.len in
-    let long : length (with_items c.self.inside.marks c.unmark.new.marks).items ≡ length c.self.inside.marks.items = ap length (with_items_is c.self.inside.marks c.unmark.new.marks as_many) ∙ as_many ∙ c.self.inside.marks.ok.0 in
-    indexed_moved c.self.inside.size c.self.inside.widths.items c.self.inside.places.items c.self.inside.marks.items _ c.self.inside.pages c.stand.new.pages c.args.cell c.args.place c.self.invariant below long
+    let long : length c.unmark.new.marks ≡ length c.self.inside.marks = ap length c.unmark.ensures ∙ length-set (marked_by c.self.inside.all c.self.inside.marks) c.args.cell false ∙ length-marked_by c.self.inside.all c.self.inside.marks in
+    indexed_moved c.self.inside.size c.self.inside.widths.items c.self.inside.places.items c.self.inside.marks _ c.self.inside.pages c.stand.new.pages c.args.cell c.args.place c.self.invariant below long
     (puts_of c.self.inside.pages c.stand.new.pages c.self.inside.size c.args.cell _ _ _ _ refl (read_at c.self.inside.widths.items c.args.cell _ (omega (arith, below, c.self.invariant.widths_too)) c.index-width.ensures) c.stand.ensures.stands c.stand.ensures.others c.stand.ensures.lists c.stand.ensures.nodes)

@@ -9,9 +9,7 @@ returns-then-count-eq0 c = told_nothing c.args.self.now c.args.at c.args.count c
 
 pub loop-page-preserved : goal.loop-page-preserved
 loop-page-preserved c =
-    let items : c.deref_mut.result.now ≡ c.loop-page.self-inside.marks.items = c.deref_mut.ensures.value in
-    telling_more c.self.inside c.loop-page.self-inside (c.args.at / 16) c.loop-page.page c.mark_listed.new.marks c.loop-page.invariant c.self.invariant c.loop-page.auto.page (c.mark_listed.auto.marks ∙ ap length items)
-    (subst (λ xs. (k : ℕ) → k < length xs → get_or c.mark_listed.new.marks k true ≡ (get_or xs k true || (is_at (holder_of c.loop-page.self-inside.pages.lists (2 * k)) c.loop-page.page || is_at (holder_of c.loop-page.self-inside.pages.lists (2 * k + 1)) c.loop-page.page))) items c.mark_listed.ensures.marked)
+    telling_more c.self.inside c.loop-page.self-inside (c.args.at / 16) c.loop-page.page c.mark_listed.new.marks c.loop-page.invariant c.self.invariant c.loop-page.auto.page c.mark_listed.ensures.long c.mark_listed.ensures.marked
 
 pub returns : goal.returns
 returns c =

@@ -1,0 +1,126 @@
+//! Rows of flags.
+
+ghost use Rattle.std.specs.Prelude.{◌≡◌, ◌+◌, ◌*◌, ◌/◌, ◌^◌, ◌<◌, ◌≤◌, ℕ, true, length, replicate, slice_index_or, slice_set, IfOk, IfSome, None};
+ghost use Rattle.ra_memref.specs.Flags.{AreBlocked, NoneSet, IsFirstSet};
+
+use ra_text::OutOfMemory;
+use std::alloc::Global;
+use std::marker::Model;
+
+/// How many flags stand in a block.
+const BLOCK: usize = 64;
+
+/// A row of flags: a block without one that is set is passed over at once.
+///
+/// Only `new` takes memory.
+#[derive(Drop)]
+pub struct Flags {
+    flags: Vec<bool>,
+    blocks: Vec<bool>,
+}
+
+impl Model for Flags {
+    ghost use Rattle.std.specs.Prelude.{List, Bool};
+    ghost use Rattle.ra_memref.specs.Flags.{AreBlocked};
+
+    ghost Value = { List Bool };
+
+    ghost view = { λ f. f.flags.items };
+
+    ghost invariant = { λ f. AreBlocked f.flags.items f.blocks.items };
+}
+
+impl Flags {
+    /// So many flags, all set. Memory is the only refusal.
+    pub fn new(alloc: Global, count: usize) -> Result<Flags, OutOfMemory>
+        ensures { IfOk result (λ flags. flags ≡ replicate count true) }
+    {
+        let flags = vec![in alloc; true; count]?;
+        let blocks = vec![in alloc; true; count / BLOCK + 1]?;
+        Ok(Flags { flags, blocks })
+    }
+
+    /// The flag of a place is set.
+    pub fn is_set(&self, place: usize) -> bool
+        requires { place < length self.now }
+        ensures { result ≡ slice_index_or self.now place true }
+    {
+        self.flags[place]
+    }
+
+    /// Sets the flag of a place, or takes it back.
+    pub fn put(&mut self, place: usize, flag: bool)
+        requires { place < length self.old }
+        ensures { self.new ≡ slice_set self.old place flag }
+    {
+        self.flags[place] = flag;
+        if flag {
+            self.blocks[place / BLOCK] = true;
+        }
+    }
+
+    /// Sets all flags.
+    pub fn fill(&mut self)
+        ensures { self.new ≡ replicate (length self.old) true }
+    {
+        self.flags.fill(true);
+        self.blocks.fill(true);
+    }
+
+    /// The first flag from a place on that is set. None exactly where none is.
+    pub fn next_from(&mut self, from: usize) -> Option<usize>
+        ensures first { IfSome result (λ n. IsFirstSet self.old from n) }
+        ensures none { result ≡ None → NoneSet self.old from (length self.old) }
+        ensures same { self.new ≡ self.old }
+    {
+        next_by_blocks(&self.flags, &mut self.blocks, from)
+    }
+}
+
+// The first flag from a place on that is set. A block that was gone through whole is one without.
+fn next_by_blocks(flags: &[bool], blocks: &mut [bool], from: usize) -> Option<usize>
+    requires blocked { AreBlocked flags.now blocks.old }
+    ensures first { IfSome result (λ n. IsFirstSet flags.now from n) }
+    ensures none { result ≡ None → NoneSet flags.now from (length flags.now) }
+    ensures blocked { AreBlocked flags.now blocks.new }
+{
+    let mut at = from;
+    while at < flags.len() {
+        let end = block_end(at, flags.len());
+        if blocks[at / BLOCK] {
+            if let Some(place) = next_in(flags, at, end) {
+                return Some(place);
+            }
+            blocks[at / BLOCK] = at > at / BLOCK * BLOCK;
+        }
+        at = end;
+    }
+    None
+}
+
+// Where the block of a place ends, or the row.
+fn block_end(at: usize, len: usize) -> usize
+    requires at { at < len }
+    requires few { len < 2 ^ 63 }
+    ensures within { result ≤ len }
+    ensures further { at < result }
+    ensures block { result ≤ 64 * (at / 64 + 1) }
+    ensures whole { (k : ℕ) → k < len → k / 64 ≡ at / 64 → k < result }
+{
+    let end = (at / BLOCK + 1) * BLOCK;
+    if end < len { end } else { len }
+}
+
+// The first flag from a place on, and before another one, that is set.
+fn next_in(flags: &[bool], from: usize, to: usize) -> Option<usize>
+    requires { to ≤ length flags.now }
+    ensures first { IfSome result (λ n. IsFirstSet flags.now from n) }
+    ensures none { result ≡ None → NoneSet flags.now from to }
+{
+    for at in from..to {
+        if flags[at] {
+            return Some(at);
+        }
+    }
+    None
+}
