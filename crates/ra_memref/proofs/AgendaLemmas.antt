@@ -1,5 +1,5 @@
 -- The agenda of a table: the lists of what names each node, the nodes of the cells, and what is due before a pass.
-use Rattle.std.proofs.Common.{◌≡◌, ◌≢◌, ℕ, suc, ◌+◌, ◌*◌, ◌<◌, ◌≤◌, ◌⊎◌, inl, inr, Bool, true, false, List, [], ◌∷◌, ◌++◌, length, map, get_or, set, replicate, refl, ap, sym, subst, ◌∙◌, arith, length-append}
+use Rattle.std.proofs.Common.{◌≡◌, ◌≢◌, ℕ, suc, ◌+◌, ◌*◌, ◌<◌, inl, inr, Bool, true, false, List, [], ◌∷◌, ◌++◌, length, map, get_or, set, replicate, refl, ap, sym, subst, ◌∙◌, arith, length-append}
 use Rattle.std.proofs.lemmas.List.{get_or-set_same, get_or-set_other, get_or-replicate, get_or_past, length-replicate, length-map, length-set, get_or_append_left}
 use Rattle.std.proofs.Math.Seq.{get_or-append_seam}
 use Rattle.std.proofs.lemmas.Bool.{cases_eq, cases_lt, false≢true}
@@ -23,21 +23,26 @@ use Rattle.ra_memref.proofs.LaidLemmas.{cells_one, cells_grow, cells_all}
 use Rattle.ra_memref.proofs.PassLemmas.{node_within}
 
 -- no node stands on a list at the start
-pub depended_none : (nodes : List Node) (rows : Rows) → rows ≡ record { lists = replicate (length nodes) []; nodes = 2 * length nodes } → AreDependents nodes 0 rows
+pub depended_none : (nodes : List Node) (rows : Rows)
+    → rows ≡ record { lists = replicate (length nodes) []; nodes = 2 * length nodes } → AreDependents nodes 0 rows
 depended_none nodes rows is = record {
   lists = ap (λ (r : Rows). length r.lists) is ∙ length-replicate (length nodes) [];
   nodes_too = ap (λ (r : Rows). r.nodes) is;
   each = λ n below. absurd (omega (arith, below));
 }
 
-stands_kept : (old new : List (List ℕ)) (j : ℕ) (node : Node) → holder_of new (2 * j) ≡ holder_of old (2 * j) → holder_of new (2 * j + 1) ≡ holder_of old (2 * j + 1) → StandsOn old j node → StandsOn new j node
+stands_kept : (old new : List (List ℕ)) (j : ℕ) (node : Node) → holder_of new (2 * j) ≡ holder_of old (2 * j)
+    → holder_of new (2 * j + 1) ≡ holder_of old (2 * j + 1) → StandsOn old j node → StandsOn new j node
 stands_kept old new j (Const n) first second stands = tt
 stands_kept old new j (CellNode pointer offset width) first second stands = first ∙ stands
 stands_kept old new j (View kind size c) first second stands = first ∙ stands
 stands_kept old new j (Arith op left right) first second stands = (first ∙ stands.0, second ∙ stands.1)
 
 -- one node more stands on the lists of those that it names
-pub depended_more : (nodes : List Node) (old new : Rows) (n : ℕ) → AreDependents nodes n old → StandsOn new.lists n (node_at nodes n) → ((other : ℕ) → other ≢ 2 * n → other ≢ 2 * n + 1 → holder_of new.lists other ≡ holder_of old.lists other) → length new.lists ≡ length old.lists → new.nodes ≡ old.nodes → AreDependents nodes (n + 1) new
+pub depended_more : (nodes : List Node) (old new : Rows) (n : ℕ) → AreDependents nodes n old
+    → StandsOn new.lists n (node_at nodes n)
+    → ((other : ℕ) → other ≢ 2 * n → other ≢ 2 * n + 1 → holder_of new.lists other ≡ holder_of old.lists other)
+    → length new.lists ≡ length old.lists → new.nodes ≡ old.nodes → AreDependents nodes (n + 1) new
 depended_more nodes old new n before stands others lists as_many = record {
   lists = lists ∙ before.lists;
   nodes_too = as_many ∙ before.nodes_too;
@@ -52,9 +57,11 @@ depended_more nodes old new n before stands others lists as_many = record {
 }
 
 -- what a node of a pool names is a node of it
-pub named_below : (nodes : List Node) (pool : IsPool nodes) (k : ℕ) → k < length nodes → (node : Node) → node ≡ node_at nodes k → (i : ℕ) → Names node i → i < length nodes
+pub named_below : (nodes : List Node) (pool : IsPool nodes) (k : ℕ) → k < length nodes → (node : Node)
+    → node ≡ node_at nodes k → (i : ℕ) → Names node i → i < length nodes
 named_below nodes pool k within node same i named =
-    by_node node (names_below (length nodes) nodes node (omega arith) (subst (λ x. MayFollow nodes x) (sym same) (may_follow nodes pool k within))) named
+    by_node node (names_below (length nodes) nodes node (omega arith)
+    (subst (λ x. MayFollow nodes x) (sym same) (may_follow nodes pool k within))) named
   where
     by_node : (node : Node) → NamesBelow (length nodes) node → Names node i → i < length nodes
     by_node (Const n) below named = absurd named
@@ -71,29 +78,59 @@ noted_none nodes = record {
   each = λ n below. absurd (omega (arith, below));
 }
 
-module _ (nodes : List Node) (pool : IsPool nodes) (cell_nodes : List ℕ) (k : ℕ) (within : k < length nodes) (are : AreCellNodes nodes k cell_nodes) where
+module _ (nodes : List Node) (pool : IsPool nodes) (cell_nodes : List ℕ) (k : ℕ) (within : k < length nodes)
+    (are : AreCellNodes nodes k cell_nodes) where
   -- how many cells one node more spells
-  count_cell : (pointer offset width : ℕ) → node_at nodes k ≡ CellNode pointer offset width → length (cells_before (spelled_by nodes) (k + 1)) ≡ length (cells_before (spelled_by nodes) k) + 1
+  count_cell : (pointer offset width : ℕ) → node_at nodes k ≡ CellNode pointer offset width
+      → length (cells_before (spelled_by nodes) (k + 1)) ≡ length (cells_before (spelled_by nodes) k) + 1
   count_cell pointer offset width same =
-      let same_cells = along_cell nodes pool ℕ (λ c. c.width) (map (λ c. c.width) (cells_before (spelled_by nodes) k)) k within refl pointer offset width same in
-      omega (arith, ap length same_cells, length-append (map (λ (c : Cell). c.width) (cells_before (spelled_by nodes) k)) (width ∷ []), length-map (cells_before (spelled_by nodes) k) (λ c. c.width), length-map (cells_before (spelled_by nodes) (k + 1)) (λ c. c.width))
+      let same_cells = along_cell nodes pool ℕ (λ c. c.width) (map (λ c. c.width)
+      (cells_before (spelled_by nodes) k)) k within refl pointer offset width same in
+      omega (
+        arith,
+        ap length same_cells,
+        length-append
+            (map (λ (c : Cell). c.width) (cells_before (spelled_by nodes) k)) (width ∷ []),
+        length-map (cells_before
+            (spelled_by nodes) k) (λ c. c.width),
+        length-map (cells_before (spelled_by nodes) (k + 1)) (λ c. c.width),
+      )
 
-  count_same : ((pointer offset width : ℕ) → node_at nodes k ≡ CellNode pointer offset width → ⊥) → length (cells_before (spelled_by nodes) (k + 1)) ≡ length (cells_before (spelled_by nodes) k)
+  count_same : ((pointer offset width : ℕ) → node_at nodes k ≡ CellNode pointer offset width → ⊥)
+      → length (cells_before (spelled_by nodes) (k + 1)) ≡ length (cells_before (spelled_by nodes) k)
   count_same other =
-      let same_cells = along_same nodes pool ℕ (λ c. c.width) (map (λ c. c.width) (cells_before (spelled_by nodes) k)) k within refl (node_at nodes k) refl other in
-      omega (arith, ap length same_cells, length-map (cells_before (spelled_by nodes) k) (λ c. c.width), length-map (cells_before (spelled_by nodes) (k + 1)) (λ c. c.width))
+      let same_cells = along_same nodes pool ℕ (λ c. c.width) (map (λ c. c.width)
+      (cells_before (spelled_by nodes) k)) k within refl (node_at nodes k) refl other in
+      omega (
+        arith,
+        ap length same_cells,
+        length-map (cells_before (spelled_by nodes) k) (λ c. c.width),
+        length-map
+            (cells_before (spelled_by nodes) (k + 1)) (λ c. c.width),
+      )
 
-  slot_below : (n : ℕ) → n < k → (pointer offset width : ℕ) → node_at nodes n ≡ CellNode pointer offset width → length (cells_before (spelled_by nodes) n) < length cell_nodes
+  slot_below : (n : ℕ) → n < k → (pointer offset width : ℕ) → node_at nodes n ≡ CellNode pointer offset width
+      → length (cells_before (spelled_by nodes) n) < length cell_nodes
   slot_below n less pointer offset width same =
       let inside : n < length (spelled_by nodes) = omega (arith, less, within, length-spelled_by nodes) in
       let is = spelled_of nodes pool n (omega (arith, less, within)) ∙ ap (spelled_with (spelled_by nodes)) same in
       let one = cells_one (spelled_by nodes) n (cell_with nodes pointer offset width) inside is in
-      omega (arith, are.long, ap length one, length-append (cells_before (spelled_by nodes) n) (cell_with nodes pointer offset width ∷ []), cells_grow (spelled_by nodes) (suc n) k (omega (arith, less)))
+      omega (
+        arith,
+        are.long,
+        ap length one,
+        length-append (cells_before (spelled_by nodes) n)
+            (cell_with nodes pointer offset width ∷ []),
+        cells_grow (spelled_by nodes) (suc n) k (omega (arith, less)),
+      )
 
-  still_there : (more : List ℕ) (n : ℕ) → n < k → (node : Node) → node_at nodes n ≡ node → HasCellNode node cell_nodes (length (cells_before (spelled_by nodes) n)) n → HasCellNode node (cell_nodes ++ more) (length (cells_before (spelled_by nodes) n)) n
+  still_there : (more : List ℕ) (n : ℕ) → n < k → (node : Node) → node_at nodes n ≡ node
+      → HasCellNode node cell_nodes (length (cells_before (spelled_by nodes) n)) n
+      → HasCellNode node (cell_nodes ++ more) (length (cells_before (spelled_by nodes) n)) n
   still_there more n less (Const m) same has = tt
   still_there more n less (CellNode pointer offset width) same has =
-      get_or_append_left cell_nodes more 0 (length (cells_before (spelled_by nodes) n)) (slot_below n less pointer offset width same) ∙ has
+      get_or_append_left cell_nodes more 0 (length (cells_before (spelled_by nodes) n))
+      (slot_below n less pointer offset width same) ∙ has
   still_there more n less (View kind size c) same has = tt
   still_there more n less (Arith op left right) same has = tt
 
@@ -104,14 +141,16 @@ module _ (nodes : List Node) (pool : IsPool nodes) (cell_nodes : List ℕ) (k : 
   last_there (View kind size c) = tt
   last_there (Arith op left right) = tt
 
-  none_there : (node : Node) → ((pointer offset width : ℕ) → node ≡ CellNode pointer offset width → ⊥) → HasCellNode node cell_nodes (length (cells_before (spelled_by nodes) k)) k
+  none_there : (node : Node) → ((pointer offset width : ℕ) → node ≡ CellNode pointer offset width → ⊥)
+      → HasCellNode node cell_nodes (length (cells_before (spelled_by nodes) k)) k
   none_there (Const m) other = tt
   none_there (CellNode pointer offset width) other = absurd (other pointer offset width refl)
   none_there (View kind size c) other = tt
   none_there (Arith op left right) other = tt
 
   -- a cell's node comes last
-  pub noted_cell : (pointer offset width : ℕ) → node_at nodes k ≡ CellNode pointer offset width → AreCellNodes nodes (k + 1) (cell_nodes ++ k ∷ [])
+  pub noted_cell : (pointer offset width : ℕ) → node_at nodes k ≡ CellNode pointer offset width
+      → AreCellNodes nodes (k + 1) (cell_nodes ++ k ∷ [])
   noted_cell pointer offset width same = record {
     long = omega (arith, length-append cell_nodes (k ∷ []), are.long, count_cell pointer offset width same);
     within = λ i below. elim (cases_lt i (length cell_nodes)) [
@@ -121,7 +160,8 @@ module _ (nodes : List Node) (pool : IsPool nodes) (cell_nodes : List ℕ) (k : 
           omega (arith, ap (λ n. get_or (cell_nodes ++ k ∷ []) n 0) e, get_or-append_seam cell_nodes k [] 0)
     ];
     each = λ n below. elim (cases_eq n k) [
-      | inl here ↦ subst (λ i. HasCellNode (node_at nodes i) (cell_nodes ++ k ∷ []) (length (cells_before (spelled_by nodes) i)) i) (sym here) (last_there (node_at nodes k))
+      | inl here ↦ subst (λ i. HasCellNode (node_at nodes i) (cell_nodes ++ k ∷ [])
+          (length (cells_before (spelled_by nodes) i)) i) (sym here) (last_there (node_at nodes k))
       | inr apart ↦
           let less : n < k = omega (arith, below, apart) in
           still_there (k ∷ []) n less (node_at nodes n) refl (are.each n less)
@@ -129,14 +169,17 @@ module _ (nodes : List Node) (pool : IsPool nodes) (cell_nodes : List ℕ) (k : 
   }
 
   -- another node adds none
-  pub noted_same : (node : Node) → node_at nodes k ≡ node → ((pointer offset width : ℕ) → node ≡ CellNode pointer offset width → ⊥) → AreCellNodes nodes (k + 1) cell_nodes
+  pub noted_same : (node : Node) → node_at nodes k ≡ node
+      → ((pointer offset width : ℕ) → node ≡ CellNode pointer offset width → ⊥) → AreCellNodes nodes (k + 1) cell_nodes
   noted_same node same other =
-      let none : (pointer offset width : ℕ) → node_at nodes k ≡ CellNode pointer offset width → ⊥ = λ pointer offset width is. other pointer offset width (sym same ∙ is) in
+      let none : (pointer offset width : ℕ) → node_at nodes k ≡ CellNode pointer offset width
+      → ⊥ = λ pointer offset width is. other pointer offset width (sym same ∙ is) in
       record {
         long = are.long ∙ sym (count_same none);
         within = λ i below. omega (arith, are.within i below);
         each = λ n below. elim (cases_eq n k) [
-          | inl here ↦ subst (λ i. HasCellNode (node_at nodes i) cell_nodes (length (cells_before (spelled_by nodes) i)) i) (sym here) (none_there (node_at nodes k) none)
+          | inl here ↦ subst (λ i. HasCellNode (node_at nodes i) cell_nodes
+              (length (cells_before (spelled_by nodes) i)) i) (sym here) (none_there (node_at nodes k) none)
           | inr apart ↦ are.each n (omega (arith, below, apart))
         ];
       }
@@ -145,7 +188,8 @@ module _ (nodes : List Node) (pool : IsPool nodes) (cell_nodes : List ℕ) (k : 
 pub record IsGathering (cell_nodes : List ℕ) (marked old new : List Bool) (count : ℕ) : Type 0 where
   pub long : length new ≡ length old
   pub kept : (n : ℕ) → get_or new n true ≡ false → get_or old n true ≡ false
-  pub marked_too : (cell : ℕ) → cell < count → get_or marked cell true ≡ true → get_or new (get_or cell_nodes cell 0) true ≡ true
+  pub marked_too : (cell : ℕ) → cell < count → get_or marked cell true ≡ true
+      → get_or new (get_or cell_nodes cell 0) true ≡ true
 
 pub gathering_none : (cell_nodes : List ℕ) (marked old : List Bool) → IsGathering cell_nodes marked old old 0
 gathering_none cell_nodes marked old = record {
@@ -154,7 +198,8 @@ gathering_none cell_nodes marked old = record {
   marked_too = λ cell below. absurd (omega (arith, below));
 }
 
-module _ (cell_nodes : List ℕ) (marked old now : List Bool) (count : ℕ) (gathering : IsGathering cell_nodes marked old now count) where
+module _ (cell_nodes : List ℕ) (marked old now : List Bool) (count : ℕ)
+    (gathering : IsGathering cell_nodes marked old now count) where
   -- none of the next cells is marked
   pub gathering_past : (to : ℕ) → NoneSet marked count to → IsGathering cell_nodes marked old now to
   gathering_past to none = record {
@@ -176,7 +221,8 @@ module _ (cell_nodes : List ℕ) (marked old now : List Bool) (count : ℕ) (gat
 
     kept_still : (n : ℕ) → get_or (set now node true) n true ≡ false → get_or now n true ≡ false
     kept_still n still = elim (cases_eq n node) [
-      | inl here ↦ absurd (false≢true (sym still ∙ ap (λ i. get_or (set now node true) i true) here ∙ get_or-set_same now node true true inside))
+      | inl here ↦ absurd (false≢true
+          (sym still ∙ ap (λ i. get_or (set now node true) i true) here ∙ get_or-set_same now node true true inside))
       | inr apart ↦ sym (get_or-set_other now node n true true apart) ∙ still
     ]
 
@@ -188,41 +234,65 @@ module _ (cell_nodes : List ℕ) (marked old now : List Bool) (count : ℕ) (gat
         | inl here ↦
             ap (λ c. get_or (set now node true) (get_or cell_nodes c 0) true) here
             ∙ ap (λ i. get_or (set now node true) i true) (sym is) ∙ get_or-set_same now node true true inside
-        | inr apart ↦ due_still (get_or cell_nodes cell 0) (gathering.marked_too cell (omega (arith, below, apart)) marks)
+        | inr apart ↦ due_still (get_or cell_nodes cell 0) (gathering.marked_too cell
+            (omega (arith, below, apart)) marks)
       ];
     }
 
-pub gathered : (cell_nodes : List ℕ) (marked old new : List Bool) → IsGathering cell_nodes marked old new (length cell_nodes) → IsGathered cell_nodes marked old new
+pub gathered : (cell_nodes : List ℕ) (marked old new : List Bool)
+    → IsGathering cell_nodes marked old new (length cell_nodes) → IsGathered cell_nodes marked old new
 gathered cell_nodes marked old new all = record { long = all.long; kept = all.kept; marked_too = all.marked_too }
 
-module _ (nodes : List Node) (pool : IsPool nodes) (slots : List ℕ) (laid : IsLaid nodes slots) (numbers : NumbersSeen) (sized : IsSizedFor nodes numbers) (cell_nodes : List ℕ) (cells : AreCellNodes nodes (length nodes) cell_nodes) (due due' : List Bool) where
+module _ (nodes : List Node) (pool : IsPool nodes) (slots : List ℕ) (laid : IsLaid nodes slots)
+    (numbers : NumbersSeen) (sized : IsSizedFor nodes numbers) (cell_nodes : List ℕ) (cells : AreCellNodes nodes
+    (length nodes) cell_nodes) (due due' : List Bool) where
   pub count_all : length cell_nodes ≡ length (cells_of nodes)
   count_all = cells.long ∙ ap length (cells_all nodes)
 
-  slot_inside : (j : ℕ) → j < length nodes → (pointer offset width : ℕ) → node_at nodes j ≡ CellNode pointer offset width → get_or slots j 0 < length cell_nodes
+  slot_inside : (j : ℕ) → j < length nodes → (pointer offset width : ℕ)
+      → node_at nodes j ≡ CellNode pointer offset width → get_or slots j 0 < length cell_nodes
   slot_inside j within pointer offset width same =
-      omega (arith, (node_within nodes pool slots laid j within numbers sized (CellNode pointer offset width) (sym same)).1, sized.cells, count_all)
+      omega (
+        arith,
+        (node_within nodes pool slots laid j within numbers sized (CellNode pointer offset width)
+            (sym same)).1,
+        sized.cells,
+        count_all,
+      )
 
-  unmarked_at : (j : ℕ) → IsGathered cell_nodes numbers.watches.marked due due' → get_or due' j true ≡ false → get_or slots j 0 < length cell_nodes → get_or cell_nodes (get_or slots j 0) 0 ≡ j → (mark : Bool) → get_or numbers.watches.marked (get_or slots j 0) true ≡ mark → get_or numbers.watches.marked (get_or slots j 0) true ≡ false
+  unmarked_at : (j : ℕ) → IsGathered cell_nodes numbers.watches.marked due due' → get_or due' j true ≡ false
+      → get_or slots j 0 < length cell_nodes → get_or cell_nodes (get_or slots j 0) 0 ≡ j → (mark : Bool)
+      → get_or numbers.watches.marked (get_or slots j 0) true ≡ mark
+      → get_or numbers.watches.marked (get_or slots j 0) true ≡ false
   unmarked_at j gathered still below node false is = is
   unmarked_at j gathered still below node true is =
-      absurd (false≢true (sym still ∙ ap (λ i. get_or due' i true) (sym node) ∙ gathered.marked_too (get_or slots j 0) below is))
+      absurd (false≢true (sym still ∙ ap (λ i. get_or due' i true) (sym node) ∙ gathered.marked_too
+      (get_or slots j 0) below is))
 
-  unmarked_by : IsGathered cell_nodes numbers.watches.marked due due' → (j : ℕ) → j < length nodes → get_or due' j true ≡ false → (node : Node) → node_at nodes j ≡ node → HasCellNode node cell_nodes (length (cells_before (spelled_by nodes) j)) j → HasSlot (spelled_by nodes) j node (get_or slots j 0) → IsUnmarked node numbers (get_or slots j 0)
+  unmarked_by : IsGathered cell_nodes numbers.watches.marked due due' → (j : ℕ) → j < length nodes
+      → get_or due' j true ≡ false → (node : Node) → node_at nodes j ≡ node
+      → HasCellNode node cell_nodes (length (cells_before (spelled_by nodes) j)) j
+      → HasSlot (spelled_by nodes) j node (get_or slots j 0) → IsUnmarked node numbers (get_or slots j 0)
   unmarked_by gathered j within still (Const n) same has slot = tt
   unmarked_by gathered j within still (View kind size c) same has slot = tt
   unmarked_by gathered j within still (Arith op left right) same has slot = tt
   unmarked_by gathered j within still (CellNode pointer offset width) same has slot =
-      unmarked_at j gathered still (slot_inside j within pointer offset width same) (ap (λ i. get_or cell_nodes i 0) slot ∙ has) (get_or numbers.watches.marked (get_or slots j 0) true) refl
+      unmarked_at j gathered still (slot_inside j within pointer offset width same) (ap
+      (λ i. get_or cell_nodes i 0) slot ∙ has) (get_or numbers.watches.marked (get_or slots j 0) true) refl
 
   -- once the marked cells are gathered, each node that is not due is idle
-  pub gathered_idle : (all : Bool) → (all ≡ false → AreQuiet nodes due numbers slots) → (all ≡ false → IsGathered cell_nodes numbers.watches.marked due due') → (all ≡ true → due' ≡ replicate (length due) true) → AreIdle nodes due' numbers slots
+  pub gathered_idle : (all : Bool) → (all ≡ false → AreQuiet nodes due numbers slots)
+      → (all ≡ false → IsGathered cell_nodes numbers.watches.marked due due')
+      → (all ≡ true → due' ≡ replicate (length due) true) → AreIdle nodes due' numbers slots
   gathered_idle false quiet gathered everything = record {
     quiet = λ n within still. quiet refl n within ((gathered refl).kept n still);
-    unmarked = λ n within still. unmarked_by (gathered refl) n within still (node_at nodes n) refl (cells.each n within) (laid.each n within);
+    unmarked = λ n within still. unmarked_by (gathered refl) n within still (node_at nodes n) refl
+        (cells.each n within) (laid.each n within);
   }
   gathered_idle true quiet gathered everything =
-      let none : (n : ℕ) → get_or due' n true ≡ false → ⊥ = λ n still. false≢true (sym still ∙ ap (λ ds. get_or ds n true) (everything refl) ∙ all_true n (length due)) in
+      let none : (n : ℕ) → get_or due' n true ≡ false
+      → ⊥ = λ n still. false≢true (sym still ∙ ap (λ ds. get_or ds n true) (everything refl) ∙ all_true n
+      (length due)) in
       record {
         quiet = λ n within still. absurd (none n still);
         unmarked = λ n within still. absurd (none n still);
@@ -235,7 +305,9 @@ module _ (nodes : List Node) (pool : IsPool nodes) (slots : List ℕ) (laid : Is
       ]
 
 -- which cells are marked does not count for quiet nodes
-quiet_by : (m : List Bool) (numbers : NumbersSeen) (slots : List ℕ) (n : ℕ) (node : Node) → IsQuiet node numbers slots n → IsQuiet node (record numbers { watches = record numbers.watches { marked = m } }) slots n
+quiet_by : (m : List Bool) (numbers : NumbersSeen) (slots : List ℕ) (n : ℕ) (node : Node)
+    → IsQuiet node numbers slots n
+    → IsQuiet node (record numbers { watches = record numbers.watches { marked = m } }) slots n
 quiet_by m numbers slots n (Const k) quiet = quiet
 quiet_by m numbers slots n (CellNode pointer offset width) quiet = quiet
 quiet_by m numbers slots n (View Mem size c) quiet = quiet
@@ -245,8 +317,11 @@ quiet_by m numbers slots n (View Bcd size c) quiet = quiet
 quiet_by m numbers slots n (View Inverted size c) quiet = quiet
 quiet_by m numbers slots n (Arith op left right) quiet = quiet
 
-pub told_quiet : (nodes : List Node) (due : List Bool) (slots : List ℕ) (old new : NumbersSeen) (at count : ℕ) → MarksWatchers old.watches new.watches at count → new ≡ record old { watches = new.watches } → AreQuiet nodes due old slots → AreQuiet nodes due new slots
+pub told_quiet : (nodes : List Node) (due : List Bool) (slots : List ℕ) (old new : NumbersSeen) (at count : ℕ)
+    → MarksWatchers old.watches new.watches at count → new ≡ record old { watches = new.watches }
+    → AreQuiet nodes due old slots → AreQuiet nodes due new slots
 told_quiet nodes due slots old new at count marks rest quiet =
-    let same : new ≡ record old { watches = record old.watches { marked = new.watches.marked } } = rest ∙ ap (λ (w : WatchesSeen). record old { watches = w }) marks.rest in
+    let same : new ≡ record old { watches = record old.watches { marked = new.watches.marked } } = rest
+    ∙ ap (λ (w : WatchesSeen). record old { watches = w }) marks.rest in
     subst (λ (n : NumbersSeen). AreQuiet nodes due n slots) (sym same)
     (λ n within still. quiet_by new.watches.marked old slots n (node_at nodes n) (quiet n within still))

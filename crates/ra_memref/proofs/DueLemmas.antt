@@ -1,5 +1,5 @@
 -- Once a node is taken and what it made due is marked, each node that is not due is idle again.
-use Rattle.std.proofs.Common.{◌≡◌, ℕ, ◌+◌, ◌*◌, ◌<◌, ◌==◌, ◌⊎◌, inl, inr, Bool, true, false, not, ◌||◌, Option, Some, List, length, get_or, set, refl, ap, sym, subst, ◌∙◌, arith}
+use Rattle.std.proofs.Common.{◌≡◌, ℕ, ◌+◌, ◌*◌, ◌<◌, ◌==◌, ◌⊎◌, inl, inr, Bool, true, false, not, ◌||◌, Option, Some, List, length, get_or, set, ap, sym, subst, ◌∙◌, arith}
 use Rattle.std.proofs.lemmas.List.{get_or-set_same, get_or-set_other, length-set}
 use Rattle.std.proofs.lemmas.Bool.{cases_eq, eq-eqb, or_parts, false≢true}
 use Rattle.std.proofs.lemmas.Bool.Decides.{eqb_tells}
@@ -24,7 +24,8 @@ same_number a b alike = elim (eqb_tells a b) [
 ]
 
 -- a node stands on the list of each node that it names
-named_on : (lists : List (List ℕ)) (j : ℕ) (node : Node) (i : ℕ) → StandsOn lists j node → Names node i → (holder_of lists (2 * j) ≡ Some i) ⊎ (holder_of lists (2 * j + 1) ≡ Some i)
+named_on : (lists : List (List ℕ)) (j : ℕ) (node : Node) (i : ℕ) → StandsOn lists j node → Names node i
+    → (holder_of lists (2 * j) ≡ Some i) ⊎ (holder_of lists (2 * j + 1) ≡ Some i)
 named_on lists j (Const n) i stands named = absurd named
 named_on lists j (CellNode pointer offset width) i stands named = inl (stands ∙ ap (λ n. Some n) (sym named))
 named_on lists j (View kind size c) i stands named = inl (stands ∙ ap (λ n. Some n) (sym named))
@@ -38,54 +39,79 @@ not_at holder i k here same other =
 -- what is marked once a node was taken: whether that one is due again, and where it is seen, those that name it
 pub record IsMarked (dependents : Rows) (count k : ℕ) (seen again : Bool) (old new : List Bool) : Type 0 where
   pub kept : (j : ℕ) → j < count → get_or new j true ≡ false → get_or (set old k again) j true ≡ false
-  pub named : (j : ℕ) → j < count → get_or new j true ≡ false → (seen ≡ false) ⊎ ((is_at (holder_of dependents.lists (2 * j)) k || is_at (holder_of dependents.lists (2 * j + 1)) k) ≡ false)
+  pub named : (j : ℕ) → j < count → get_or new j true ≡ false
+      → (seen ≡ false) ⊎ ((is_at (holder_of dependents.lists (2 * j)) k || is_at
+      (holder_of dependents.lists (2 * j + 1)) k) ≡ false)
 
 -- it is so where those that name it are marked, and where it is not seen
-pub marked_seen : (dependents : Rows) (count k : ℕ) (seen again : Bool) (old new : List Bool) → length old ≡ count → ((j : ℕ) → j < length (set old k again) → get_or new j true ≡ (get_or (set old k again) j true || (is_at (holder_of dependents.lists (2 * j)) k || is_at (holder_of dependents.lists (2 * j + 1)) k))) → IsMarked dependents count k seen again old new
+pub marked_seen : (dependents : Rows) (count k : ℕ) (seen again : Bool) (old new : List Bool) → length old ≡ count
+    → ((j : ℕ) → j < length (set old k again) → get_or new j true
+    ≡ (get_or (set old k again) j true ||
+    (is_at (holder_of dependents.lists (2 * j)) k || is_at (holder_of dependents.lists (2 * j + 1)) k)))
+    → IsMarked dependents count k seen again old new
 marked_seen dependents count k seen again old new long each = record {
   kept = λ j below still. (parts j below still).0;
   named = λ j below still. inr (parts j below still).1;
 }
   where
-    parts : (j : ℕ) → j < count → get_or new j true ≡ false → (get_or (set old k again) j true ≡ false) × ((is_at (holder_of dependents.lists (2 * j)) k || is_at (holder_of dependents.lists (2 * j + 1)) k) ≡ false)
+    parts : (j : ℕ) → j < count → get_or new j true ≡ false
+        → (get_or (set old k again) j true
+        ≡ false) × ((is_at (holder_of dependents.lists (2 * j)) k || is_at (holder_of dependents.lists (2 * j + 1)) k)
+        ≡ false)
     parts j below still =
-        or_parts (get_or (set old k again) j true) (is_at (holder_of dependents.lists (2 * j)) k || is_at (holder_of dependents.lists (2 * j + 1)) k)
+        or_parts (get_or (set old k again) j true) (is_at (holder_of dependents.lists (2 * j)) k || is_at
+        (holder_of dependents.lists (2 * j + 1)) k)
         (sym (each j (omega (arith, below, long, length-set old k again))) ∙ still)
 
-pub marked_unseen : (dependents : Rows) (count k : ℕ) (seen again : Bool) (old : List Bool) → seen ≡ false → IsMarked dependents count k seen again old (set old k again)
+pub marked_unseen : (dependents : Rows) (count k : ℕ) (seen again : Bool) (old : List Bool) → seen ≡ false
+    → IsMarked dependents count k seen again old (set old k again)
 marked_unseen dependents count k seen again old unseen = record {
   kept = λ j below still. still;
   named = λ j below still. inl unseen;
 }
 
-module _ (nodes : List Node) (pool : IsPool nodes) (slots : List ℕ) (laid : IsLaid nodes slots) (image : List ℕ) (k : ℕ) (within : k < length nodes) (old new : NumbersSeen) (sized : IsSizedFor nodes old) (takes : TakesNode (node_at nodes k) slots image k old new) (dependents : Rows) (are : AreDependents nodes (length nodes) dependents) (due due' : List Bool) (long : length due ≡ length nodes) (seen again : Bool) (marked : IsMarked dependents (length nodes) k seen again due due') (idle : AreIdle nodes due old slots)
-    (seen_is : seen ≡ (not (value_at old k == value_at new k) || not (earlier_by (node_at nodes k) old slots k == earlier_by (node_at nodes k) new slots k)))
+module _ (nodes : List Node) (pool : IsPool nodes) (slots : List ℕ) (laid : IsLaid nodes slots) (image : List ℕ)
+    (k : ℕ) (within : k < length nodes) (old new : NumbersSeen) (sized : IsSizedFor nodes old) (takes : TakesNode
+    (node_at nodes k) slots image k old new) (dependents : Rows) (are : AreDependents nodes (length nodes) dependents)
+    (due due' : List Bool) (long : length due
+    ≡ length nodes) (seen again : Bool) (marked : IsMarked dependents (length nodes) k seen again due due')
+    (idle : AreIdle nodes due old slots)
+    (seen_is : seen ≡ (not (value_at old k == value_at new k) || not
+    (earlier_by (node_at nodes k) old slots k == earlier_by (node_at nodes k) new slots k)))
     (again_is : again ≡ not (earlier_by (node_at nodes k) new slots k == value_at new k)) where
   abbrev IsUnseen : Type 0
   IsUnseen = Unseen nodes pool slots laid image k within old new sized takes
 
   unseen_by : seen ≡ false → IsUnseen
   unseen_by none =
-      let parts = or_parts (not (value_at old k == value_at new k)) (not (earlier_by (node_at nodes k) old slots k == earlier_by (node_at nodes k) new slots k)) (sym seen_is ∙ none) in (
+      let parts = or_parts (not (value_at old k == value_at new k)) (not
+      (earlier_by (node_at nodes k) old slots k == earlier_by (node_at nodes k) new slots k)) (sym seen_is
+      ∙ none) in (
         sym (same_number (value_at old k) (value_at new k) parts.0),
-        sym (same_number (earlier_by (node_at nodes k) old slots k) (earlier_by (node_at nodes k) new slots k) parts.1),
+        sym (same_number (earlier_by (node_at nodes k) old slots k)
+            (earlier_by (node_at nodes k) new slots k) parts.1),
       )
 
-  unseen_at : (j : ℕ) → j < length nodes → get_or due' j true ≡ false → (i : ℕ) → Names (node_at nodes j) i → i ≡ k → IsUnseen
+  unseen_at : (j : ℕ) → j < length nodes → get_or due' j true ≡ false → (i : ℕ) → Names (node_at nodes j) i → i ≡ k
+      → IsUnseen
   unseen_at j in_j still i named same = elim (marked.named j in_j still) [
     | inl none ↦ unseen_by none
     | inr off ↦
-        let parts = or_parts (is_at (holder_of dependents.lists (2 * j)) k) (is_at (holder_of dependents.lists (2 * j + 1)) k) off in
+        let parts = or_parts (is_at (holder_of dependents.lists (2 * j)) k) (is_at
+        (holder_of dependents.lists (2 * j + 1)) k) off in
         elim (named_on dependents.lists j (node_at nodes j) i (are.each j in_j) named) [
           | inl first ↦ absurd (not_at (holder_of dependents.lists (2 * j)) i k first same parts.0)
           | inr second ↦ absurd (not_at (holder_of dependents.lists (2 * j + 1)) i k second same parts.1)
         ]
   ]
 
-  not_again : (j : ℕ) → j < length nodes → get_or due' j true ≡ false → j ≡ k → earlier_by (node_at nodes k) new slots k ≡ value_at new k
+  not_again : (j : ℕ) → j < length nodes → get_or due' j true ≡ false → j ≡ k
+      → earlier_by (node_at nodes k) new slots k ≡ value_at new k
   not_again j in_j still same =
-      let set_here : get_or (set due k again) k true ≡ again = get_or-set_same due k again true (omega (arith, long, within)) in
-      let none : again ≡ false = sym set_here ∙ ap (λ n. get_or (set due k again) n true) (sym same) ∙ marked.kept j in_j still in
+      let set_here : get_or (set due k again) k true
+      ≡ again = get_or-set_same due k again true (omega (arith, long, within)) in
+      let none : again ≡ false = sym set_here ∙ ap (λ n. get_or (set due k again) n true) (sym same)
+      ∙ marked.kept j in_j still in
       same_number (earlier_by (node_at nodes k) new slots k) (value_at new k) (sym again_is ∙ none)
 
   not_before : (j : ℕ) → j < length nodes → get_or due' j true ≡ false → (j ≡ k → ⊥) → get_or due j true ≡ false

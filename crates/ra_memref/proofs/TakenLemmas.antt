@@ -1,5 +1,5 @@
 -- What stands when the nodes below a number are taken; a node that is not due is taken by leaving it.
-use Rattle.std.proofs.Common.{◌≡◌, ℕ, zero, suc, ◌+◌, ◌-◌, ◌<◌, ◌≤◌, List, Bool, false, true, length, get_or, refl, ap, sym, subst, ◌∙◌, arith}
+use Rattle.std.proofs.Common.{◌≡◌, ℕ, zero, suc, ◌+◌, ◌-◌, ◌<◌, ◌≤◌, List, Bool, false, true, length, get_or, refl, ap, subst, ◌∙◌, arith}
 use Rattle.ra_memory.specs.Image.{History}
 use Rattle.ra_indirect.specs.declared.node.Node.{Node}
 use Rattle.ra_indirect.specs.Pools.{node_at, cells_of}
@@ -21,12 +21,14 @@ use Rattle.ra_memref.proofs.QuietLemmas.{idle_takes, idle_reads}
 
 -- the nodes below k are taken
 pub record IsTaken (nodes : List Node) (image : List ℕ) (old now : NumbersSeen) (k reads : ℕ) : Type 0 where
-  pub passed : (start : Start) (history : History) → AreKept start history nodes old.cells old.priors → IsPassed nodes start history image k now
+  pub passed : (start : Start) (history : History) → AreKept start history nodes old.cells old.priors
+      → IsPassed nodes start history image k now
   pub sized : IsSizedFor nodes now
   pub visited : IsVisited image old now (cell_count nodes k) reads
   pub size : now.watches.size ≡ old.watches.size
 
-pub taken_none : (nodes : List Node) (image : List ℕ) (old : NumbersSeen) → IsSizedFor nodes old → IsTaken nodes image old old 0 0
+pub taken_none : (nodes : List Node) (image : List ℕ) (old : NumbersSeen) → IsSizedFor nodes old
+    → IsTaken nodes image old old 0 0
 taken_none nodes image old sized = record {
   passed = λ start history kept. passed_none nodes start history image old kept;
   sized = sized;
@@ -34,27 +36,38 @@ taken_none nodes image old sized = record {
   size = refl;
 }
 
-module _ (nodes : List Node) (pool : IsPool nodes) (slots : List ℕ) (laid : IsLaid nodes slots) (image : List ℕ) (old : NumbersSeen) (old_sized : IsSizedFor nodes old) where
-  module _ (k : ℕ) (within : k < length nodes) (now : NumbersSeen) (reads : ℕ) (taken : IsTaken nodes image old now k reads) where
-    pub taken_more : (new : NumbersSeen) → TakesNode (node_at nodes k) slots image k now new → new.watches.size ≡ now.watches.size → IsTaken nodes image old new (suc k) (reads + reads_at (node_at nodes k) now (get_or slots k 0))
+module _ (nodes : List Node) (pool : IsPool nodes) (slots : List ℕ) (laid : IsLaid nodes slots) (image : List ℕ)
+    (old : NumbersSeen) (old_sized : IsSizedFor nodes old) where
+  module _ (k : ℕ) (within : k < length nodes) (now : NumbersSeen) (reads : ℕ)
+      (taken : IsTaken nodes image old now k reads) where
+    pub taken_more : (new : NumbersSeen) → TakesNode (node_at nodes k) slots image k now new
+        → new.watches.size ≡ now.watches.size
+        → IsTaken nodes image old new (suc k) (reads + reads_at (node_at nodes k) now (get_or slots k 0))
     taken_more new takes size = record {
-      passed = λ start history kept. passed_more nodes pool slots laid k within now taken.sized start history image (taken.passed start history kept) new (node_at nodes k) refl takes;
+      passed = λ start history kept. passed_more nodes pool slots laid k within now taken.sized start history image
+          (taken.passed start history kept) new (node_at nodes k) refl takes;
       sized = sized_more nodes (node_at nodes k) slots image k now new taken.sized takes;
-      visited = visited_node nodes pool slots laid k within image old now old_sized taken.sized reads taken.visited new (node_at nodes k) refl takes;
+      visited = visited_node nodes pool slots laid k within image old now old_sized taken.sized reads taken.visited
+          new (node_at nodes k) refl takes;
       size = size ∙ taken.size;
     }
 
     pub agreed_node : IsAgreed old image → IsAgreedAt (node_at nodes k) now image (get_or slots k 0)
-    agreed_node agrees = agreed_there nodes pool slots laid k within image old now old_sized taken.sized reads taken.visited (node_at nodes k) refl agrees
+    agreed_node agrees = agreed_there nodes pool slots laid k within image old now old_sized taken.sized reads
+        taken.visited (node_at nodes k) refl agrees
 
-    taken_idle : IsAgreed old image → IsQuiet (node_at nodes k) now slots k → IsUnmarked (node_at nodes k) now (get_or slots k 0) → IsTaken nodes image old now (suc k) reads
+    taken_idle : IsAgreed old image → IsQuiet (node_at nodes k) now slots k
+        → IsUnmarked (node_at nodes k) now (get_or slots k 0) → IsTaken nodes image old now (suc k) reads
     taken_idle agrees quiet unmarked =
-        let none : reads + reads_at (node_at nodes k) now (get_or slots k 0) ≡ reads = omega (arith, idle_reads slots image k now (node_at nodes k) quiet unmarked) in
+        let none : reads + reads_at (node_at nodes k) now (get_or slots k 0)
+        ≡ reads = omega (arith, idle_reads slots image k now (node_at nodes k) quiet unmarked) in
         subst (IsTaken nodes image old now (suc k)) none
         (taken_more now (idle_takes slots image k now (node_at nodes k) quiet unmarked (agreed_node agrees)) refl)
 
-  module _ (agrees : IsAgreed old image) (now : NumbersSeen) (reads : ℕ) (due : List Bool) (idle : AreIdle nodes due now slots) where
-    taken_past : (more k : ℕ) → k + more ≤ length nodes → NoneSet due k (k + more) → IsTaken nodes image old now k reads → IsTaken nodes image old now (k + more) reads
+  module _ (agrees : IsAgreed old image) (now : NumbersSeen) (reads : ℕ) (due : List Bool)
+      (idle : AreIdle nodes due now slots) where
+    taken_past : (more k : ℕ) → k + more ≤ length nodes → NoneSet due k (k + more)
+        → IsTaken nodes image old now k reads → IsTaken nodes image old now (k + more) reads
     taken_past zero k within none taken =
         let e : k ≡ k + 0 = omega arith in
         subst (λ n. IsTaken nodes image old now n reads) e taken
@@ -63,15 +76,18 @@ module _ (nodes : List Node) (pool : IsPool nodes) (slots : List ℕ) (laid : Is
         let here : k < length nodes = omega (arith, within) in
         let still : get_or due k true ≡ false = none k (omega arith) (omega arith) in
         subst (λ n. IsTaken nodes image old now n reads) e
-        (taken_past more (suc k) (omega (arith, within)) (λ j from to. none j (omega (arith, from)) (omega (arith, to)))
+        (taken_past more (suc k) (omega (arith, within))
+        (λ j from to. none j (omega (arith, from)) (omega (arith, to)))
         (taken_idle k here now reads taken agrees (idle.quiet k here still) (idle.unmarked k here still)))
 
     -- where none is due up to another number, the nodes below that are taken
-    pub taken_to : (from to : ℕ) → from ≤ to → to ≤ length nodes → NoneSet due from to → IsTaken nodes image old now from reads → IsTaken nodes image old now to reads
+    pub taken_to : (from to : ℕ) → from ≤ to → to ≤ length nodes → NoneSet due from to
+        → IsTaken nodes image old now from reads → IsTaken nodes image old now to reads
     taken_to from to less within none taken =
         let e : from + (to - from) ≡ to = omega (arith, less) in
         subst (λ n. IsTaken nodes image old now n reads) e
-        (taken_past (to - from) from (omega (arith, e, within)) (λ j low high. none j low (omega (arith, high, e))) taken)
+        (taken_past (to - from) from (omega (arith, e, within))
+        (λ j low high. none j low (omega (arith, high, e))) taken)
 
   module _ (now : NumbersSeen) (reads : ℕ) (taken : IsTaken nodes image old now (length nodes) reads) where
     all_visited : IsVisited image old now (length (cells_of nodes)) reads
@@ -80,9 +96,12 @@ module _ (nodes : List Node) (pool : IsPool nodes) (slots : List ℕ) (laid : Is
     -- once all are taken, the frame is
     pub takes_frame : TakesFrame nodes old now image
     takes_frame = record {
-      kept = λ start history kept. kept_all nodes start history image now taken.sized (taken.passed start history kept);
-      values = λ start history kept. values_all nodes start history image now taken.sized (taken.passed start history kept);
-      places = λ start history kept. places_all nodes start history image now taken.sized (taken.passed start history kept);
+      kept = λ start history kept. kept_all nodes start history image now taken.sized
+          (taken.passed start history kept);
+      values = λ start history kept. values_all nodes start history image now taken.sized
+          (taken.passed start history kept);
+      places = λ start history kept. places_all nodes start history image now taken.sized
+          (taken.passed start history kept);
       sized = taken.sized;
       size = taken.size;
       unmarked = unmarked_all nodes image old now old_sized taken.sized reads all_visited;

@@ -1,6 +1,5 @@
 -- Which nodes a pass has to take: docs/DEFINITIONS.md, "Due nodes".
-use Rattle.std.specs.Prelude.{◌≡◌, ◌⊎◌, ℕ, ◌+◌, ◌*◌, ◌<◌, ◌≤◌, Bool, true, false, List, length, slice_index, slice_index_or, Option, None, Some}
-use Rattle.ra_operand.specs.declared.kind.Kind.{Kind}
+use Rattle.std.specs.Prelude.{◌≡◌, ◌⊎◌, ℕ, ◌+◌, ◌*◌, ◌<◌, Bool, true, false, List, length, slice_index, slice_index_or, Some}
 use Rattle.ra_operand.specs.declared.kind.Kind.TheVariants.{Prior}
 use Rattle.ra_operand.specs.Views.{mask_of, view_of, transformed}
 use Rattle.ra_operand.specs.Operators.{computed}

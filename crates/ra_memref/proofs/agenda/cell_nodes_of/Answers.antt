@@ -1,10 +1,8 @@
 use Rattle.ra_memref.proofs.AgendaLemmas.{noted_none, noted_cell, noted_same}
 use Rattle.ra_memref.proofs.agenda.cell_nodes_of.Goals.{in-Cell+in_ok-push, in_default}
 use Rattle.ra_indirect.specs.Pools.{node_at}
-use Rattle.std.proofs.Common.{rules, arith, refl, subst, ◌≡◌, ◌≢◌, ◌+◌, ◌<◌, ◌≤◌, ◌^◌, ◌*◌, ℕ, true, false, length, replicate, slice_index, IfOk, IfSome, None, ◌-◌, ◌/◌, ◌%◌, Bool, nat_eq, nat_lt, List, [], ◌∷◌, ◌++◌, slice_index_or, slice_set, bit_and, bit_or, Fits, w8, w32, w64, Bor, MutBor}
-use Rattle.ra_indirect.specs.Interned.{IsPool}
-use Rattle.ra_links.specs.Rows.{holder_of}
-use Rattle.ra_memref.specs.Due.{AreDependents, AreCellNodes, IsGathered, StandsOn, Names}
+use Rattle.std.proofs.Common.{arith, refl, subst, ◌≡◌, length}
+use Rattle.ra_memref.specs.Due.{AreCellNodes}
 use Rattle.ra_memref.proofs.agenda.cell_nodes_of.Goals as goal
 
 -- src/agenda.rt:134:5
@@ -14,8 +12,13 @@ loop-number-init c = rw c.new-cell_nodes.ensures.items (noted_none c.args.nodes.
 -- src/agenda.rt:134:5
 pub loop-number-preserved : goal.loop-number-preserved
 loop-number-preserved c = elim c.match-node.branch [
-  | in-Cell+in_ok-push w ↦ rw (w.cell_nodes-is, w.in_ok-push.ensures.items) (noted_cell c.args.nodes.now c.requires.pool c.loop-number.cell_nodes.items c.loop-number.number c.loop-number-test.true c.loop-number.invariant w.in-Cell.pointer w.in-Cell.offset w.in-Cell.width w.in-Cell.is)
-  | in_default w ↦ rw w.cell_nodes-is (noted_same c.args.nodes.now c.requires.pool c.loop-number.cell_nodes.items c.loop-number.number c.loop-number-test.true c.loop-number.invariant (node_at c.args.nodes.now c.loop-number.number) refl (λ pointer offset width same. w.in_default.not-Cell pointer offset width same))
+  | in-Cell+in_ok-push w ↦ rw (w.cell_nodes-is, w.in_ok-push.ensures.items)
+      (noted_cell c.args.nodes.now c.requires.pool c.loop-number.cell_nodes.items c.loop-number.number
+      c.loop-number-test.true c.loop-number.invariant w.in-Cell.pointer w.in-Cell.offset w.in-Cell.width w.in-Cell.is)
+  | in_default w ↦ rw w.cell_nodes-is
+      (noted_same c.args.nodes.now c.requires.pool c.loop-number.cell_nodes.items c.loop-number.number
+      c.loop-number-test.true c.loop-number.invariant (node_at c.args.nodes.now c.loop-number.number) refl
+      (λ pointer offset width same. w.in_default.not-Cell pointer offset width same))
 ]
 
 -- src/agenda.rt:128:1

@@ -1,7 +1,4 @@
-use Rattle.std.proofs.Common.{◌≡◌, ◌≢◌, ◌+◌, ◌<◌, ◌≤◌, ◌^◌, ◌*◌, ℕ, true, false, length, replicate, slice_index, IfOk, IfSome, None, ◌-◌}
-use Rattle.ra_indirect.specs.Interned.{IsPool}
-use Rattle.ra_links.specs.Rows.{holder_of}
-use Rattle.ra_memref.specs.Due.{AreDependents, AreCellNodes, IsGathered, StandsOn, Names}
+use Rattle.ra_memref.specs.Due.{AreCellNodes}
 use Rattle.ra_memref.proofs.agenda.cell_nodes_of.Given as goal
 
 abbrev pub invariant-loop-number : goal.invariant-loop-number

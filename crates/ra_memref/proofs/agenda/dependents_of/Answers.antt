@@ -1,8 +1,6 @@
 use Rattle.ra_memref.proofs.AgendaLemmas.{depended_none, depended_more, named_below}
-use Rattle.std.proofs.Common.{rules, arith, refl, subst, ◌≡◌, ◌≢◌, ◌+◌, ◌<◌, ◌≤◌, ◌^◌, ◌*◌, ℕ, true, false, length, replicate, slice_index, IfOk, IfSome, None, ◌-◌, ◌/◌, ◌%◌, Bool, nat_eq, nat_lt, List, [], ◌∷◌, ◌++◌, slice_index_or, slice_set, bit_and, bit_or, Fits, w8, w32, w64, Bor, MutBor}
-use Rattle.ra_indirect.specs.Interned.{IsPool}
-use Rattle.ra_links.specs.Rows.{holder_of}
-use Rattle.ra_memref.specs.Due.{AreDependents, AreCellNodes, IsGathered, StandsOn, Names}
+use Rattle.std.proofs.Common.{arith, refl, subst, ◌≡◌, length}
+use Rattle.ra_memref.specs.Due.{AreDependents}
 use Rattle.ra_memref.proofs.agenda.dependents_of.Goals as goal
 
 -- src/agenda.rt:99:5
@@ -11,7 +9,11 @@ loop-number-init c = depended_none c.args.nodes.now c.in_ok-dependents.dependent
 
 -- src/agenda.rt:100:9
 pub depend-requires-clause-names : goal.depend-requires-clause-names
-depend-requires-clause-names c = λ i named. omega (arith, named_below c.args.nodes.now c.requires.pool c.loop-number.number c.loop-number-test.true _ refl i named, c.loop-number.invariant.lists)
+depend-requires-clause-names c = λ i named. omega (
+  arith,
+  named_below c.args.nodes.now c.requires.pool c.loop-number.number c.loop-number-test.true _ refl i named,
+  c.loop-number.invariant.lists,
+)
 
 -- src/agenda.rt:100:9
 pub depend-requires-clause-here : goal.depend-requires-clause-here
@@ -24,7 +26,9 @@ depend-requires-clause-few c = omega (arith, c.requires.few, c.loop-number.invar
 -- src/agenda.rt:99:5
 pub loop-number-preserved : goal.loop-number-preserved
 loop-number-preserved c =
-    depended_more c.args.nodes.now c.loop-number.dependents c.depend.new.dependents c.loop-number.number c.loop-number.invariant c.depend.ensures.stands c.depend.ensures.others c.depend.ensures.lists c.depend.ensures.nodes
+    depended_more c.args.nodes.now c.loop-number.dependents c.depend.new.dependents c.loop-number.number
+    c.loop-number.invariant c.depend.ensures.stands c.depend.ensures.others c.depend.ensures.lists
+    c.depend.ensures.nodes
 
 -- src/agenda.rt:93:1
 pub returns : goal.returns

@@ -1,4 +1,4 @@
-use Rattle.std.proofs.Common.{◌≡◌, ℕ, ◌+◌, ◌<◌, ap, subst, sym, ◌∙◌, refl, arith, length, get_or}
+use Rattle.std.proofs.Common.{◌<◌, ap, subst, sym, ◌∙◌, refl, arith, length, get_or}
 use Rattle.ra_memref.specs.Numbers.{NumbersSeen}
 use Rattle.ra_memref.specs.Flags.{NoneSet}
 use Rattle.ra_memref.proofs.AgendaLemmas.{IsGathering, gathering_none, gathering_past, gathering_more, gathered}
@@ -13,37 +13,78 @@ loop-cell-init c = record {
 
 pub offset_bounds-cell_nodes-cell : goal.offset_bounds-cell_nodes-cell
 offset_bounds-cell_nodes-cell c =
-    let within : c.in-Some.cell < length c.args.cell_nodes.now = omega (arith, c.in-Some.ensures.first.within, ap (λ (n : NumbersSeen). length n.watches.marked) c.loop-cell.invariant.same, c.requires.cells) in
+    let within : c.in-Some.cell < length c.args.cell_nodes.now = omega (
+      arith,
+      c.in-Some.ensures.first.within,
+      ap
+          (λ (n : NumbersSeen). length n.watches.marked) c.loop-cell.invariant.same,
+      c.requires.cells,
+    ) in
     omega (arith, within, c.requires.few)
 
 pub bounds-cell_nodes-cell : goal.bounds-cell_nodes-cell
-bounds-cell_nodes-cell c = omega (arith, c.in-Some.ensures.first.within, ap (λ (n : NumbersSeen). length n.watches.marked) c.loop-cell.invariant.same, c.requires.cells)
+bounds-cell_nodes-cell c = omega (
+  arith,
+  c.in-Some.ensures.first.within,
+  ap
+      (λ (n : NumbersSeen). length n.watches.marked) c.loop-cell.invariant.same,
+  c.requires.cells,
+)
 
 pub put-requires : goal.put-requires
 put-requires c =
-    let within : c.in-Some.cell < length c.args.cell_nodes.now = omega (arith, c.in-Some.ensures.first.within, ap (λ (n : NumbersSeen). length n.watches.marked) c.loop-cell.invariant.same, c.requires.cells) in
+    let within : c.in-Some.cell < length c.args.cell_nodes.now = omega (
+      arith,
+      c.in-Some.ensures.first.within,
+      ap
+          (λ (n : NumbersSeen). length n.watches.marked) c.loop-cell.invariant.same,
+      c.requires.cells,
+    ) in
     omega (arith, c.requires.within c.in-Some.cell within, c.loop-cell.invariant.gathering.long)
 
 pub overflow_add-at : goal.overflow_add-at
 overflow_add-at c =
-    let within : c.in-Some.cell < length c.args.cell_nodes.now = omega (arith, c.in-Some.ensures.first.within, ap (λ (n : NumbersSeen). length n.watches.marked) c.loop-cell.invariant.same, c.requires.cells) in
+    let within : c.in-Some.cell < length c.args.cell_nodes.now = omega (
+      arith,
+      c.in-Some.ensures.first.within,
+      ap
+          (λ (n : NumbersSeen). length n.watches.marked) c.loop-cell.invariant.same,
+      c.requires.cells,
+    ) in
     omega (arith, within, c.requires.few)
 
 pub loop-cell-smaller : goal.loop-cell-smaller
 loop-cell-smaller c =
-    let within : c.in-Some.cell < length c.args.cell_nodes.now = omega (arith, c.in-Some.ensures.first.within, ap (λ (n : NumbersSeen). length n.watches.marked) c.loop-cell.invariant.same, c.requires.cells) in
+    let within : c.in-Some.cell < length c.args.cell_nodes.now = omega (
+      arith,
+      c.in-Some.ensures.first.within,
+      ap
+          (λ (n : NumbersSeen). length n.watches.marked) c.loop-cell.invariant.same,
+      c.requires.cells,
+    ) in
     omega (arith, within, c.in-Some.ensures.first.after)
 
 pub loop-cell-preserved : goal.loop-cell-preserved
 loop-cell-preserved c =
     let done = c.loop-cell.invariant in
     let first = c.in-Some.ensures.first in
-    let within : c.in-Some.cell < length c.args.cell_nodes.now = omega (arith, c.in-Some.ensures.first.within, ap (λ (n : NumbersSeen). length n.watches.marked) c.loop-cell.invariant.same, c.requires.cells) in
+    let within : c.in-Some.cell < length c.args.cell_nodes.now = omega (
+      arith,
+      c.in-Some.ensures.first.within,
+      ap
+          (λ (n : NumbersSeen). length n.watches.marked) c.loop-cell.invariant.same,
+      c.requires.cells,
+    ) in
     let marked = c.args.numbers.now.watches.marked in
-    let none = subst (λ (n : NumbersSeen). NoneSet n.watches.marked c.loop-cell.at c.in-Some.cell) done.same first.none_before in
-    let past = gathering_past c.args.cell_nodes.now marked c.args.due.now c.loop-cell.due c.loop-cell.at done.gathering c.in-Some.cell none in
+    let none = subst (λ (n : NumbersSeen). NoneSet n.watches.marked c.loop-cell.at c.in-Some.cell) done.same
+    first.none_before in
+    let past = gathering_past c.args.cell_nodes.now marked c.args.due.now c.loop-cell.due c.loop-cell.at
+    done.gathering c.in-Some.cell none in
     record {
-      gathering = rw c.put.ensures (gathering_more c.args.cell_nodes.now marked c.args.due.now c.loop-cell.due c.in-Some.cell past (get_or c.args.cell_nodes.now c.in-Some.cell 0) refl (omega (arith, c.requires.within c.in-Some.cell within, done.gathering.long)));
+      gathering = rw c.put.ensures
+          (gathering_more c.args.cell_nodes.now marked c.args.due.now c.loop-cell.due c.in-Some.cell past
+          (get_or c.args.cell_nodes.now c.in-Some.cell 0) refl (omega
+          (arith, c.requires.within c.in-Some.cell within, done.gathering.long)));
       same = c.next_marked.ensures.same ∙ done.same;
       most = omega (arith, within);
     }
@@ -52,10 +93,13 @@ pub returns-clause-gathered : goal.returns-clause-gathered
 returns-clause-gathered c =
     let done = c.loop-cell.invariant in
     let marked = c.args.numbers.now.watches.marked in
-    let none = subst (λ (n : NumbersSeen). NoneSet n.watches.marked c.loop-cell.at (length n.watches.marked)) done.same (c.next_marked.ensures.none c.in_default.is) in
+    let none = subst (λ (n : NumbersSeen). NoneSet n.watches.marked c.loop-cell.at
+    (length n.watches.marked)) done.same (c.next_marked.ensures.none c.in_default.is) in
     gathered c.args.cell_nodes.now marked c.args.due.now c.loop-cell.due
-    (subst (IsGathering c.args.cell_nodes.now c.args.numbers.now.watches.marked c.args.due.now c.loop-cell.due) (sym c.requires.cells)
-    (gathering_past c.args.cell_nodes.now marked c.args.due.now c.loop-cell.due c.loop-cell.at done.gathering (length c.args.numbers.now.watches.marked) none))
+    (subst (IsGathering c.args.cell_nodes.now c.args.numbers.now.watches.marked c.args.due.now c.loop-cell.due)
+    (sym c.requires.cells)
+    (gathering_past c.args.cell_nodes.now marked c.args.due.now c.loop-cell.due c.loop-cell.at done.gathering
+    (length c.args.numbers.now.watches.marked) none))
 
 pub returns-clause-same : goal.returns-clause-same
 returns-clause-same c = c.next_marked.ensures.same ∙ c.loop-cell.invariant.same

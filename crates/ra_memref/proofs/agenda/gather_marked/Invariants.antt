@@ -1,8 +1,5 @@
 use Rattle.ra_memref.proofs.AgendaLemmas.{IsGathering}
-use Rattle.std.proofs.Common.{◌≡◌, ◌≢◌, ◌+◌, ◌<◌, ◌≤◌, ◌^◌, ◌*◌, ℕ, true, false, length, replicate, slice_index, IfOk, IfSome, None, ◌-◌}
-use Rattle.ra_indirect.specs.Interned.{IsPool}
-use Rattle.ra_links.specs.Rows.{holder_of}
-use Rattle.ra_memref.specs.Due.{AreDependents, AreCellNodes, IsGathered, StandsOn, Names}
+use Rattle.std.proofs.Common.{◌≡◌, ◌≤◌, length, ◌-◌}
 use Rattle.ra_memref.proofs.agenda.gather_marked.Given as goal
 
 abbrev pub invariant-loop-cell : goal.invariant-loop-cell

@@ -1,8 +1,7 @@
 use Rattle.ra_memref.proofs.FlagLemmas.{none_further, first_further, none_in_block, blocked_again, not_further}
 use Rattle.std.proofs.lemmas.List.{get_or_default}
 use Rattle.std.specs.Prelude.{nat_lt, false, ◌/◌}
-use Rattle.std.proofs.Common.{rules, arith, ap, ◌∙◌, get_or, inl, inr, ◌≡◌, ◌+◌, ◌*◌, ◌<◌, ◌≤◌, true, length, replicate, slice_index_or, slice_set, IfOk, IfSome, None, ℕ, ◌-◌, ◌/◌, ◌%◌, Bool, false, nat_eq, nat_lt, List, [], ◌∷◌, ◌++◌, bit_and, bit_or, Fits, w8, w32, w64, Bor, MutBor}
-use Rattle.ra_memref.specs.Flags.{AreBlocked, NoneSet, IsFirstSet}
+use Rattle.std.proofs.Common.{arith, ◌∙◌, get_or, ◌≡◌, ◌*◌, true, ◌/◌, false, nat_lt}
 use Rattle.ra_memref.proofs.flags.next_by_blocks.Goals as goal
 
 -- src/flags.rt:88:5
@@ -15,7 +14,8 @@ loop-at-init c = record {
 
 -- src/flags.rt:93:17
 pub returns-in-Some-clause-first : goal.returns-in-Some-clause-first
-returns-in-Some-clause-first c = first_further c.args.flags.now c.args.from c.loop-at.at c.in-Some.place c.loop-at.invariant.after c.loop-at.invariant.none c.in-Some.ensures.first
+returns-in-Some-clause-first c = first_further c.args.flags.now c.args.from c.loop-at.at c.in-Some.place
+    c.loop-at.invariant.after c.loop-at.invariant.none c.in-Some.ensures.first
 
 -- src/flags.rt:93:17
 pub returns-in-Some-clause-blocked : goal.returns-in-Some-clause-blocked
@@ -30,7 +30,9 @@ loop-at-preserved-in_default c =
     record {
       none = none_further c.args.flags.now c.args.from c.loop-at.at c.block_end-end.result done.none none;
       after = omega (arith, done.after, end.further);
-      blocked = blocked_again c.args.flags.now c.loop-at.blocks done.blocked c.loop-at.at c.block_end-end.result (nat_lt (c.loop-at.at / 64 * 64) c.loop-at.at) c.loop-at-test.true end.whole none (not_further (c.loop-at.at / 64 * 64) c.loop-at.at);
+      blocked = blocked_again c.args.flags.now c.loop-at.blocks done.blocked c.loop-at.at c.block_end-end.result
+          (nat_lt (c.loop-at.at / 64 * 64) c.loop-at.at) c.loop-at-test.true end.whole none (not_further
+          (c.loop-at.at / 64 * 64) c.loop-at.at);
     }
 
 -- src/flags.rt:88:5
@@ -38,9 +40,13 @@ pub loop-at-preserved : goal.loop-at-preserved
 loop-at-preserved c =
     let done = c.loop-at.invariant in
     let end = c.block_end-end.ensures in
-    let empty : get_or c.loop-at.blocks (c.loop-at.at / 64) true ≡ false = get_or_default c.loop-at.blocks (c.loop-at.at / 64) true false (omega (arith, c.loop-at-test.true, done.blocked.enough)) ∙ c.if-blocks-at.false in
+    let empty : get_or c.loop-at.blocks (c.loop-at.at / 64) true
+    ≡ false = get_or_default c.loop-at.blocks (c.loop-at.at / 64) true false (omega
+    (arith, c.loop-at-test.true, done.blocked.enough)) ∙ c.if-blocks-at.false in
     record {
-      none = none_further c.args.flags.now c.args.from c.loop-at.at c.block_end-end.result done.none (none_in_block c.args.flags.now c.loop-at.blocks done.blocked c.loop-at.at c.block_end-end.result end.within end.block empty);
+      none = none_further c.args.flags.now c.args.from c.loop-at.at c.block_end-end.result done.none
+          (none_in_block c.args.flags.now c.loop-at.blocks done.blocked c.loop-at.at c.block_end-end.result end.within
+          end.block empty);
       after = omega (arith, done.after, end.further);
       blocked = done.blocked;
     }

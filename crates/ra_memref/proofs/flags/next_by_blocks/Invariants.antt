@@ -1,5 +1,5 @@
-use Rattle.std.proofs.Common.{length, ◌-◌, ◌≡◌, ◌+◌, ◌*◌, ◌<◌, ◌≤◌, true, replicate, slice_index_or, slice_set, IfOk, IfSome, None, ℕ}
-use Rattle.ra_memref.specs.Flags.{AreBlocked, NoneSet, IsFirstSet}
+use Rattle.std.proofs.Common.{length, ◌-◌, ◌≤◌}
+use Rattle.ra_memref.specs.Flags.{AreBlocked, NoneSet}
 use Rattle.ra_memref.proofs.flags.next_by_blocks.Given as goal
 
 abbrev pub invariant-loop-at : goal.invariant-loop-at

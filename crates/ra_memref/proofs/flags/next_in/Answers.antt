@@ -1,7 +1,6 @@
 use Rattle.std.proofs.lemmas.Bool.{cases_eq}
 use Rattle.std.proofs.lemmas.List.{get_or_default}
-use Rattle.std.proofs.Common.{rules, arith, ap, ◌∙◌, get_or, inl, inr, ◌≡◌, ◌+◌, ◌*◌, ◌<◌, ◌≤◌, true, length, replicate, slice_index_or, slice_set, IfOk, IfSome, None, ℕ, ◌-◌, ◌/◌, ◌%◌, Bool, false, nat_eq, nat_lt, List, [], ◌∷◌, ◌++◌, bit_and, bit_or, Fits, w8, w32, w64, Bor, MutBor}
-use Rattle.ra_memref.specs.Flags.{AreBlocked, NoneSet, IsFirstSet}
+use Rattle.std.proofs.Common.{arith, ap, ◌∙◌, get_or, inl, inr, true, false}
 use Rattle.ra_memref.proofs.flags.next_in.Goals as goal
 
 -- src/flags.rt:108:5
@@ -16,7 +15,8 @@ pub returns-then-flags-at-clause-first : goal.returns-then-flags-at-clause-first
 returns-then-flags-at-clause-first c = record {
   after = c.loop-at.invariant.after;
   within = omega (arith, c.loop-at-test.true, c.requires);
-  here = get_or_default c.args.flags.now c.loop-at.at true false (omega (arith, c.loop-at-test.true, c.requires)) ∙ c.if-flags-at.true;
+  here = get_or_default c.args.flags.now c.loop-at.at true false (omega (arith, c.loop-at-test.true, c.requires))
+      ∙ c.if-flags-at.true;
   none_before = c.loop-at.invariant.none;
 }
 
@@ -24,7 +24,9 @@ returns-then-flags-at-clause-first c = record {
 pub loop-at-preserved : goal.loop-at-preserved
 loop-at-preserved c = record {
   none = λ k low high. elim (cases_eq k c.loop-at.at) [
-    | inl here ↦ ap (λ n. get_or c.args.flags.now n true) here ∙ get_or_default c.args.flags.now c.loop-at.at true false (omega (arith, c.loop-at-test.true, c.requires)) ∙ c.if-flags-at.false
+    | inl here ↦ ap (λ n. get_or c.args.flags.now n true) here
+        ∙ get_or_default c.args.flags.now c.loop-at.at true false (omega (arith, c.loop-at-test.true, c.requires))
+        ∙ c.if-flags-at.false
     | inr apart ↦ c.loop-at.invariant.none k low (omega (arith, high, apart))
   ];
   after = omega (arith, c.loop-at.invariant.after);

@@ -7,24 +7,36 @@ use Rattle.ra_memref.proofs.numbers.Numbers.take_due.Goals as goal
 
 pub follow-outcome-requires-clause-within : goal.follow-outcome-requires-clause-within
 follow-outcome-requires-clause-within g c =
-    node_within c.args.nodes.now c.requires.pool c.args.slots.now c.requires.laid c.args.number c.requires.here c.args.self.now c.requires.sized (node_at c.args.nodes.now c.args.number) refl
+    node_within c.args.nodes.now c.requires.pool c.args.slots.now c.requires.laid c.args.number c.requires.here
+    c.args.self.now c.requires.sized (node_at c.args.nodes.now c.args.number) refl
 
 pub returns-then-outcome-clause-idle : goal.returns-then-outcome-clause-idle
 returns-then-outcome-clause-idle g c =
     let e = c.follow-outcome.ensures in
     let bytes = g.I.Image.bytes c.args.image.now in
-    idle_more c.args.nodes.now c.requires.pool c.args.slots.now c.requires.laid bytes c.args.number c.requires.here c.args.self.now c.follow-outcome.new.self c.requires.sized
-    (takes_node (node_at c.args.nodes.now c.args.number) c.args.slots.now bytes c.args.number c.args.self.now c.follow-outcome.new.self e.taken)
-    c.args.dependents.now c.requires.dependents c.args.due.now c.mark_listed.new.marks c.requires.dues c.follow-outcome.result.seen c.follow-outcome.result.again
-    (marked_seen c.args.dependents.now (length c.args.nodes.now) c.args.number c.follow-outcome.result.seen c.follow-outcome.result.again c.args.due.now c.mark_listed.new.marks c.requires.dues (rw c.put.ensures at c.mark_listed.ensures.marked))
+    idle_more c.args.nodes.now c.requires.pool c.args.slots.now c.requires.laid bytes c.args.number c.requires.here
+    c.args.self.now c.follow-outcome.new.self c.requires.sized
+    (takes_node (node_at c.args.nodes.now c.args.number) c.args.slots.now bytes c.args.number c.args.self.now
+    c.follow-outcome.new.self e.taken)
+    c.args.dependents.now c.requires.dependents c.args.due.now c.mark_listed.new.marks c.requires.dues
+    c.follow-outcome.result.seen c.follow-outcome.result.again
+    (marked_seen c.args.dependents.now
+    (length c.args.nodes.now) c.args.number c.follow-outcome.result.seen c.follow-outcome.result.again
+    c.args.due.now c.mark_listed.new.marks c.requires.dues (rw c.put.ensures at c.mark_listed.ensures.marked))
     c.requires.idle e.seen e.again
 
 pub returns-else-outcome-clause-idle : goal.returns-else-outcome-clause-idle
 returns-else-outcome-clause-idle g c =
     let e = c.follow-outcome.ensures in
     let bytes = g.I.Image.bytes c.args.image.now in
-    rw c.put.ensures (idle_more c.args.nodes.now c.requires.pool c.args.slots.now c.requires.laid bytes c.args.number c.requires.here c.args.self.now c.follow-outcome.new.self c.requires.sized
-    (takes_node (node_at c.args.nodes.now c.args.number) c.args.slots.now bytes c.args.number c.args.self.now c.follow-outcome.new.self e.taken)
-    c.args.dependents.now c.requires.dependents c.args.due.now (slice_set c.args.due.now c.args.number c.follow-outcome.result.again) c.requires.dues c.follow-outcome.result.seen c.follow-outcome.result.again
-    (marked_unseen c.args.dependents.now (length c.args.nodes.now) c.args.number c.follow-outcome.result.seen c.follow-outcome.result.again c.args.due.now c.if-outcome.false)
+    rw c.put.ensures (idle_more c.args.nodes.now c.requires.pool c.args.slots.now c.requires.laid bytes c.args.number
+    c.requires.here c.args.self.now c.follow-outcome.new.self c.requires.sized
+    (takes_node (node_at c.args.nodes.now c.args.number) c.args.slots.now bytes c.args.number c.args.self.now
+    c.follow-outcome.new.self e.taken)
+    c.args.dependents.now c.requires.dependents c.args.due.now
+    (slice_set c.args.due.now c.args.number c.follow-outcome.result.again) c.requires.dues
+    c.follow-outcome.result.seen c.follow-outcome.result.again
+    (marked_unseen c.args.dependents.now
+    (length c.args.nodes.now) c.args.number c.follow-outcome.result.seen c.follow-outcome.result.again
+    c.args.due.now c.if-outcome.false)
     c.requires.idle e.seen e.again)

@@ -10,7 +10,9 @@ pub loop-number-init : goal.loop-number-init
 loop-number-init g c =
     let none : 0 ≡ g.I.Image.reads c.args.image.now - g.I.Image.reads c.args.image.now = omega arith in
     record {
-      taken = subst (IsTaken c.args.nodes.now (g.I.Image.bytes c.args.image.now) c.args.self.now c.args.self.now 0) none (taken_none c.args.nodes.now (g.I.Image.bytes c.args.image.now) c.args.self.now c.requires.sized);
+      taken = subst (IsTaken c.args.nodes.now
+          (g.I.Image.bytes c.args.image.now) c.args.self.now c.args.self.now 0) none (taken_none c.args.nodes.now
+          (g.I.Image.bytes c.args.image.now) c.args.self.now c.requires.sized);
       idle = c.requires.idle;
       most = omega arith;
       dues = c.requires.dues;
@@ -32,9 +34,13 @@ take_due-requires-clause-agreed g c =
     let image = g.I.Image.bytes c.args.image.now in
     let reads : ℕ = g.I.Image.reads c.loop-number.image - g.I.Image.reads c.args.image.now in
     let here : c.in-Some.number < length c.args.nodes.now = omega (arith, first.within, done.dues) in
-    let taken = taken_to c.args.nodes.now c.requires.pool c.args.slots.now c.requires.laid image c.args.self.now c.requires.sized c.requires.agreed c.loop-number.self reads c.loop-number.due done.idle c.loop-number.at c.in-Some.number first.after (omega (arith, here)) first.none_before done.taken in
-    subst (λ bytes. IsAgreedAt (node_at c.args.nodes.now c.in-Some.number) c.loop-number.self bytes (get_or c.args.slots.now c.in-Some.number 0)) (sym done.bytes)
-    (agreed_node c.args.nodes.now c.requires.pool c.args.slots.now c.requires.laid image c.args.self.now c.requires.sized c.in-Some.number here c.loop-number.self reads taken c.requires.agreed)
+    let taken = taken_to c.args.nodes.now c.requires.pool c.args.slots.now c.requires.laid image c.args.self.now
+    c.requires.sized c.requires.agreed c.loop-number.self reads c.loop-number.due done.idle c.loop-number.at
+    c.in-Some.number first.after (omega (arith, here)) first.none_before done.taken in
+    subst (λ bytes. IsAgreedAt (node_at c.args.nodes.now c.in-Some.number) c.loop-number.self bytes
+    (get_or c.args.slots.now c.in-Some.number 0)) (sym done.bytes)
+    (agreed_node c.args.nodes.now c.requires.pool c.args.slots.now c.requires.laid image c.args.self.now
+    c.requires.sized c.in-Some.number here c.loop-number.self reads taken c.requires.agreed)
 
 pub loop-number-smaller : goal.loop-number-smaller
 loop-number-smaller g c =
@@ -49,15 +55,30 @@ loop-number-preserved g c =
     let image = g.I.Image.bytes c.args.image.now in
     let reads : ℕ = g.I.Image.reads c.loop-number.image - g.I.Image.reads c.args.image.now in
     let here : c.in-Some.number < length c.args.nodes.now = omega (arith, first.within, done.dues) in
-    let taken = taken_to c.args.nodes.now c.requires.pool c.args.slots.now c.requires.laid image c.args.self.now c.requires.sized c.requires.agreed c.loop-number.self reads c.loop-number.due done.idle c.loop-number.at c.in-Some.number first.after (omega (arith, here)) first.none_before done.taken in
-    let there = takes_node (node_at c.args.nodes.now c.in-Some.number) c.args.slots.now (g.I.Image.bytes c.loop-number.image) c.in-Some.number c.loop-number.self c.take_due.new.self e.taken in
-    let takes = subst (λ bytes. TakesNode (node_at c.args.nodes.now c.in-Some.number) c.args.slots.now bytes c.in-Some.number c.loop-number.self c.take_due.new.self) done.bytes there in
-    let more = taken_more c.args.nodes.now c.requires.pool c.args.slots.now c.requires.laid image c.args.self.now c.requires.sized c.in-Some.number here c.loop-number.self reads taken c.take_due.new.self takes (ap (λ (n : NumbersSeen). n.watches.size) e.taken) in
+    let taken = taken_to c.args.nodes.now c.requires.pool c.args.slots.now c.requires.laid image c.args.self.now
+    c.requires.sized c.requires.agreed c.loop-number.self reads c.loop-number.due done.idle c.loop-number.at
+    c.in-Some.number first.after (omega (arith, here)) first.none_before done.taken in
+    let there = takes_node (node_at c.args.nodes.now c.in-Some.number) c.args.slots.now
+    (g.I.Image.bytes c.loop-number.image) c.in-Some.number c.loop-number.self c.take_due.new.self e.taken in
+    let takes = subst (λ bytes. TakesNode
+    (node_at c.args.nodes.now c.in-Some.number) c.args.slots.now bytes c.in-Some.number c.loop-number.self
+    c.take_due.new.self) done.bytes there in
+    let more = taken_more c.args.nodes.now c.requires.pool c.args.slots.now c.requires.laid image c.args.self.now
+    c.requires.sized c.in-Some.number here c.loop-number.self reads taken c.take_due.new.self takes (ap
+    (λ (n : NumbersSeen). n.watches.size) e.taken) in
     let next : suc c.in-Some.number ≡ c.in-Some.number + 1 = omega arith in
-    let counts : g.I.Image.reads c.loop-number.image - g.I.Image.reads c.args.image.now + reads_at (node_at c.args.nodes.now c.in-Some.number) c.loop-number.self (get_or c.args.slots.now c.in-Some.number 0) ≡ g.I.Image.reads c.take_due.new.image - g.I.Image.reads c.args.image.now = omega (arith, e.reads, done.risen) in
+    let counts : g.I.Image.reads c.loop-number.image - g.I.Image.reads c.args.image.now + reads_at
+    (node_at c.args.nodes.now c.in-Some.number) c.loop-number.self (get_or c.args.slots.now c.in-Some.number 0)
+    ≡ g.I.Image.reads c.take_due.new.image - g.I.Image.reads c.args.image.now = omega
+    (arith, e.reads, done.risen) in
     record {
-      taken = subst (λ r. IsTaken c.args.nodes.now (g.I.Image.bytes c.args.image.now) c.args.self.now c.take_due.new.self (c.in-Some.number + 1) r) counts
-          (subst (λ n. IsTaken c.args.nodes.now (g.I.Image.bytes c.args.image.now) c.args.self.now c.take_due.new.self n (g.I.Image.reads c.loop-number.image - g.I.Image.reads c.args.image.now + reads_at (node_at c.args.nodes.now c.in-Some.number) c.loop-number.self (get_or c.args.slots.now c.in-Some.number 0))) next more);
+      taken = subst (λ r. IsTaken c.args.nodes.now
+          (g.I.Image.bytes c.args.image.now) c.args.self.now c.take_due.new.self (c.in-Some.number + 1) r) counts
+          (subst (λ n. IsTaken c.args.nodes.now
+          (g.I.Image.bytes c.args.image.now) c.args.self.now c.take_due.new.self n
+          (g.I.Image.reads c.loop-number.image - g.I.Image.reads c.args.image.now + reads_at
+          (node_at c.args.nodes.now c.in-Some.number) c.loop-number.self
+          (get_or c.args.slots.now c.in-Some.number 0))) next more);
       idle = e.idle;
       most = omega (arith, here);
       dues = e.dues ∙ ap length c.next_from.ensures.same ∙ done.dues;
@@ -72,8 +93,12 @@ returns-clause-taken g c =
     let image = g.I.Image.bytes c.args.image.now in
     let reads : ℕ = g.I.Image.reads c.loop-number.image - g.I.Image.reads c.args.image.now in
     let none = c.next_from.ensures.none c.in_default.is in
-    let all = taken_to c.args.nodes.now c.requires.pool c.args.slots.now c.requires.laid image c.args.self.now c.requires.sized c.requires.agreed c.loop-number.self reads c.loop-number.due done.idle c.loop-number.at (length c.args.nodes.now) done.most (omega arith) (λ k low high. none k low (omega (arith, high, done.dues))) done.taken in
-    takes_frame c.args.nodes.now c.requires.pool c.args.slots.now c.requires.laid image c.args.self.now c.requires.sized c.loop-number.self reads all
+    let all = taken_to c.args.nodes.now c.requires.pool c.args.slots.now c.requires.laid image c.args.self.now
+    c.requires.sized c.requires.agreed c.loop-number.self reads c.loop-number.due done.idle c.loop-number.at
+    (length c.args.nodes.now) done.most (omega arith) (λ k low high. none k low
+    (omega (arith, high, done.dues))) done.taken in
+    takes_frame c.args.nodes.now c.requires.pool c.args.slots.now c.requires.laid image c.args.self.now
+    c.requires.sized c.loop-number.self reads all
 
 pub returns-clause-idle : goal.returns-clause-idle
 returns-clause-idle g c = rw c.next_from.ensures.same c.loop-number.invariant.idle
@@ -90,5 +115,13 @@ returns-clause-reads g c =
     let image = g.I.Image.bytes c.args.image.now in
     let reads : ℕ = g.I.Image.reads c.loop-number.image - g.I.Image.reads c.args.image.now in
     let none = c.next_from.ensures.none c.in_default.is in
-    let all = taken_to c.args.nodes.now c.requires.pool c.args.slots.now c.requires.laid image c.args.self.now c.requires.sized c.requires.agreed c.loop-number.self reads c.loop-number.due done.idle c.loop-number.at (length c.args.nodes.now) done.most (omega arith) (λ k low high. none k low (omega (arith, high, done.dues))) done.taken in
-    omega (arith, counted c.args.nodes.now c.requires.pool c.args.slots.now c.requires.laid image c.args.self.now c.requires.sized c.loop-number.self reads all, done.risen)
+    let all = taken_to c.args.nodes.now c.requires.pool c.args.slots.now c.requires.laid image c.args.self.now
+    c.requires.sized c.requires.agreed c.loop-number.self reads c.loop-number.due done.idle c.loop-number.at
+    (length c.args.nodes.now) done.most (omega arith) (λ k low high. none k low
+    (omega (arith, high, done.dues))) done.taken in
+    omega (
+      arith,
+      counted c.args.nodes.now c.requires.pool c.args.slots.now c.requires.laid image c.args.self.now
+          c.requires.sized c.loop-number.self reads all,
+      done.risen,
+    )

@@ -1,4 +1,4 @@
-use Rattle.std.proofs.Common.{◌≡◌, ◌∙◌, arith, sym, length, ap}
+use Rattle.std.proofs.Common.{◌∙◌, arith, sym}
 use Rattle.ra_memref.proofs.AgendaLemmas.{count_all, gathered_idle}
 use Rattle.ra_memref.proofs.TableLemmas.{few_cells}
 use Rattle.ra_memref.proofs.table.Table.sample.Goals as goal
@@ -6,16 +6,26 @@ use Rattle.ra_memref.proofs.table.Table.sample.Goals as goal
 pub gather-requires-clause-cells : goal.gather-requires-clause-cells
 gather-requires-clause-cells g c =
     let is = c.self.invariant in
-    count_all c.self.inside.nodes.items is.pool c.self.inside.slots.items is.laid c.self.inside.numbers is.sized c.self.inside.agenda.cell_nodes.items is.agenda.cells c.self.inside.agenda.due c.self.inside.agenda.due
+    count_all c.self.inside.nodes.items is.pool c.self.inside.slots.items is.laid c.self.inside.numbers is.sized
+    c.self.inside.agenda.cell_nodes.items is.agenda.cells c.self.inside.agenda.due c.self.inside.agenda.due
     ∙ sym is.sized.marked
 
 pub gather-requires-clause-few : goal.gather-requires-clause-few
 gather-requires-clause-few g c =
     let is = c.self.invariant in
-    omega (arith, count_all c.self.inside.nodes.items is.pool c.self.inside.slots.items is.laid c.self.inside.numbers is.sized c.self.inside.agenda.cell_nodes.items is.agenda.cells c.self.inside.agenda.due c.self.inside.agenda.due, few_cells c.self.inside.nodes.items, is.few)
+    omega (
+      arith,
+      count_all c.self.inside.nodes.items is.pool c.self.inside.slots.items is.laid c.self.inside.numbers
+          is.sized c.self.inside.agenda.cell_nodes.items is.agenda.cells c.self.inside.agenda.due
+          c.self.inside.agenda.due,
+      few_cells c.self.inside.nodes.items,
+      is.few,
+    )
 
 pub take_frame-requires-clause-idle : goal.take_frame-requires-clause-idle
 take_frame-requires-clause-idle g c =
     let is = c.self.invariant in
     rw (c.deref.ensures.value, c.deref-2.ensures.value, c.gather.ensures.same)
-    (gathered_idle c.self.inside.nodes.items is.pool c.self.inside.slots.items is.laid c.self.inside.numbers is.sized c.self.inside.agenda.cell_nodes.items is.agenda.cells c.self.inside.agenda.due c.gather.new.self.due c.self.inside.agenda.all is.quiet c.gather.ensures.gathered c.gather.ensures.all)
+    (gathered_idle c.self.inside.nodes.items is.pool c.self.inside.slots.items is.laid c.self.inside.numbers is.sized
+    c.self.inside.agenda.cell_nodes.items is.agenda.cells c.self.inside.agenda.due c.gather.new.self.due
+    c.self.inside.agenda.all is.quiet c.gather.ensures.gathered c.gather.ensures.all)

@@ -1,6 +1,4 @@
-use Rattle.std.proofs.Common.{◌≡◌, ◌∙◌, ◌/◌, ◌+◌, ◌-◌, ◌<◌, length, arith, ap, subst, get_or, true, ◌||◌, ℕ, ◌*◌}
-use Rattle.ra_links.specs.Rows.{holder_of}
-use Rattle.ra_memref.specs.Marking.{is_at}
+use Rattle.std.proofs.Common.{◌≡◌, ◌/◌, ◌+◌, ◌-◌, ◌<◌, arith, subst}
 use Rattle.ra_memref.proofs.Telling.{IsTelling, telling_more, told_all, told_nothing}
 use Rattle.ra_memref.proofs.watches.Watches.tell.Goals as goal
 
