@@ -6,4 +6,4 @@ mod texts;
 mod write;
 
 pub use format::Format;
-pub use write::format_value;
+pub use write::{format_value, put_signed, put_unsigned, put_value};

@@ -1,12 +1,14 @@
-ghost use Rattle.std.specs.Prelude.{◌≡◌, ◌≤◌, ◌∷◌, ◌++◌, replicate, IfOk, IfSome};
+ghost use Rattle.std.specs.Prelude.{◌≡◌, ◌≤◌, ◌∷◌, ◌++◌, decimal, replicate, IfOk, IfSome, OnOk};
 ghost use Rattle.ra_value_format.specs.Formats.{formatted, fixed_text, decimals_text, HasDigits};
 ghost use Rattle.std.specs.Fmt.{signed_decimal};
 
 use crate::format::Format;
 use crate::texts::{Cents, Hundredths, Mills, Minutes, Score, Seconds, Tenths};
+use itoa::Buffer;
 use ra_text::OutOfMemory;
 use std::alloc::Global;
 use std::fmt;
+use std::io::Write;
 
 /// The text of a number: docs/DEFINITIONS.md, "Formats".
 ///
@@ -15,65 +17,97 @@ pub fn format_value(alloc: Global, format: Format, value: i32) -> Result<Vec<u8>
     requires { HasDigits format }
     ensures { IfOk result (λ text. text.items ≡ formatted format value) }
 {
+    let mut text = Vec::new(alloc);
+    put_value(&mut text, format, value)?;
+    Ok(text)
+}
+
+/// Puts the text of a number behind another text: docs/DEFINITIONS.md, "Formats".
+///
+/// The format is as for `format_value`. On want of memory a part of it may stand there.
+pub fn put_value(out: &mut Vec<u8>, format: Format, value: i32) -> Result<(), OutOfMemory>
+    requires { HasDigits format }
+    ensures { OnOk result (out.new.items ≡ out.old.items ++ formatted format value) }
+{
     let unsigned = value.cast_unsigned();
     match format {
-        Format::Value => shown(alloc, &value),
-        Format::Score => shown(alloc, &Score(value)),
-        Format::Frames => shown(alloc, &Hundredths(u64::from(unsigned) * 10 / 6)),
-        Format::Secs => shown(alloc, &Seconds(u64::from(unsigned))),
-        Format::Hundredths => shown(alloc, &Hundredths(u64::from(unsigned))),
-        Format::Minutes => shown(alloc, &Minutes(unsigned)),
-        Format::SecsAsMins => shown(alloc, &Minutes(unsigned / 60)),
-        Format::Unsigned => shown(alloc, &unsigned),
-        Format::Tens => shown(alloc, &(i64::from(value) * 10)),
-        Format::Hundreds => shown(alloc, &(i64::from(value) * 100)),
-        Format::Thousands => shown(alloc, &(i64::from(value) * 1000)),
-        Format::Fixed(digits) => fixed(alloc, digits, value),
-        Format::Float(zeros) => float(alloc, zeros, value),
+        Format::Value => put_signed(out, i64::from(value)),
+        Format::Score => put_shown(out, &Score(value)),
+        Format::Frames => put_shown(out, &Hundredths(u64::from(unsigned) * 10 / 6)),
+        Format::Secs => put_shown(out, &Seconds(u64::from(unsigned))),
+        Format::Hundredths => put_shown(out, &Hundredths(u64::from(unsigned))),
+        Format::Minutes => put_shown(out, &Minutes(unsigned)),
+        Format::SecsAsMins => put_shown(out, &Minutes(unsigned / 60)),
+        Format::Unsigned => put_unsigned(out, u64::from(unsigned)),
+        Format::Tens => put_signed(out, i64::from(value) * 10),
+        Format::Hundreds => put_signed(out, i64::from(value) * 100),
+        Format::Thousands => put_signed(out, i64::from(value) * 1000),
+        Format::Fixed(digits) => put_fixed(out, digits, value),
+        Format::Float(zeros) => put_float(out, zeros, value),
     }
 }
 
-/// The bytes that a value shows.
-fn shown<T: fmt::Display>(alloc: Global, value: &T) -> Result<Vec<u8>, OutOfMemory>
-    ensures { IfOk result (λ text. IfSome (T.output value.now) (λ bytes. text.items ≡ bytes)) }
+/// Puts a number without sign in decimal behind a text.
+pub fn put_unsigned(out: &mut Vec<u8>, number: u64) -> Result<(), OutOfMemory>
+    ensures { OnOk result (out.new.items ≡ out.old.items ++ decimal number) }
 {
-    Ok(value.to_string(alloc)?.into_bytes())
+    let mut digits = Buffer::new();
+    out.extend_from_slice(digits.format(number).as_bytes())?;
+    Ok(())
 }
 
-/// A number with 1 to 3 decimals, after its sign where it is negative.
-fn fixed(alloc: Global, digits: u8, value: i32) -> Result<Vec<u8>, OutOfMemory>
+/// Puts a signed number in decimal behind a text.
+pub fn put_signed(out: &mut Vec<u8>, number: i64) -> Result<(), OutOfMemory>
+    ensures { OnOk result (out.new.items ≡ out.old.items ++ signed_decimal number) }
+{
+    let mut digits = Buffer::new();
+    out.extend_from_slice(digits.format(number).as_bytes())?;
+    Ok(())
+}
+
+/// Puts the bytes that a value shows behind a text.
+fn put_shown<T: fmt::Display>(out: &mut Vec<u8>, value: &T) -> Result<(), OutOfMemory>
+    ensures { OnOk result (IfSome (T.output value.now) (λ bytes. out.new.items ≡ out.old.items ++ bytes)) }
+{
+    match write!(out, "{value}") {
+        Ok(()) => Ok(()),
+        Err(_) => Err(OutOfMemory),
+    }
+}
+
+/// Puts a number with 1 to 3 decimals, after its sign where it is negative.
+fn put_fixed(out: &mut Vec<u8>, digits: u8, value: i32) -> Result<(), OutOfMemory>
     requires low { 1 ≤ digits }
     requires high { digits ≤ 3 }
-    ensures { IfOk result (λ text. text.items ≡ fixed_text digits value) }
+    ensures { OnOk result (out.new.items ≡ out.old.items ++ fixed_text digits value) }
 {
-    let number = decimals(alloc, digits, value.unsigned_abs())?;
+    let number = value.unsigned_abs();
     if value >= 0 {
-        return Ok(number);
+        return put_decimals(out, digits, number);
     }
-    let mut text = vec![in alloc; b'-']?;
-    text.extend_from_slice(&number)?;
-    Ok(text)
+    out.push(b'-')?;
+    put_decimals(out, digits, number)
 }
 
-/// A number without sign, with 1 to 3 decimals.
-fn decimals(alloc: Global, digits: u8, number: u32) -> Result<Vec<u8>, OutOfMemory>
+/// Puts a number without sign, with 1 to 3 decimals.
+fn put_decimals(out: &mut Vec<u8>, digits: u8, number: u32) -> Result<(), OutOfMemory>
     requires low { 1 ≤ digits }
     requires high { digits ≤ 3 }
-    ensures { IfOk result (λ text. text.items ≡ decimals_text digits number) }
+    ensures { OnOk result (out.new.items ≡ out.old.items ++ decimals_text digits number) }
 {
     match digits {
-        1 => shown(alloc, &Tenths(number)),
-        2 => shown(alloc, &Cents(number)),
-        _ => shown(alloc, &Mills(number)),
+        1 => put_shown(out, &Tenths(number)),
+        2 => put_shown(out, &Cents(number)),
+        _ => put_shown(out, &Mills(number)),
     }
 }
 
-/// A number with zeros after its point.
-fn float(alloc: Global, zeros: u8, value: i32) -> Result<Vec<u8>, OutOfMemory>
-    ensures { IfOk result (λ text. text.items ≡ signed_decimal value ++ 46 ∷ replicate zeros 48) }
+/// Puts a number with zeros after its point.
+fn put_float(out: &mut Vec<u8>, zeros: u8, value: i32) -> Result<(), OutOfMemory>
+    ensures { OnOk result (out.new.items ≡ out.old.items ++ (signed_decimal value ++ 46 ∷ replicate zeros 48)) }
 {
-    let mut text = shown(alloc, &value)?;
-    text.push(b'.')?;
-    text.resize(text.len() + usize::from(zeros), b'0')?;
-    Ok(text)
+    put_signed(out, i64::from(value))?;
+    out.push(b'.')?;
+    out.resize(out.len() + usize::from(zeros), b'0')?;
+    Ok(())
 }
