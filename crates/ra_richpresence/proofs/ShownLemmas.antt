@@ -42,15 +42,16 @@ map-more view xs i x less is = ap (map view) (take_more xs i x less ∙ ap (λ y
 pub left-next : (ps : List PieceContents) (p : PieceContents) (vs left after : List ℤ) → after ≡ drop (values_of p) left → left ≡ drop (shown_by ps) vs → after ≡ drop (shown_by (ps ++ p ∷ [])) vs
 left-next ps p vs left after behind is = behind ∙ ap (drop (values_of p)) is ∙ drop-drop (values_of p) (shown_by ps) vs ∙ ap (λ n. drop n vs) (sym (shown-more ps p))
 
--- the text of the pieces so far, and the values behind theirs
-pub record PiecesSoFar (script : ScriptContents) (ps : List PieceContents) (vs : List ℤ) (text : List ℕ) (left : List ℤ) : Type 0 where
-  pub text_is : text ≡ pieces_text script ps vs
+-- the text of the pieces so far stands behind the one before, and the values behind theirs are left
+pub record PiecesSoFar (script : ScriptContents) (ps : List PieceContents) (vs : List ℤ) (before text : List ℕ) (left : List ℤ) : Type 0 where
+  pub text_is : text ≡ before ++ pieces_text script ps vs
   pub left_is : left ≡ drop (shown_by ps) vs
 
-pub pieces-next : (script : ScriptContents) (ps : List PieceContents) (p : PieceContents) (vs : List ℤ) (text new : List ℕ) (left after : List ℤ) → new ≡ text ++ piece_text script p left → after ≡ drop (values_of p) left → PiecesSoFar script ps vs text left
-    → PiecesSoFar script (ps ++ p ∷ []) vs new after
-pieces-next script ps p vs text new left after written behind s = record {
-  text_is = written ∙ ap (λ t. t ++ piece_text script p left) s.text_is ∙ ap (λ l. pieces_text script ps vs ++ piece_text script p l) s.left_is ∙ sym (pieces-more script ps p vs);
+pub pieces-next : (script : ScriptContents) (ps : List PieceContents) (p : PieceContents) (vs : List ℤ) (before text new : List ℕ) (left after : List ℤ) → new ≡ text ++ piece_text script p left → after ≡ drop (values_of p) left
+    → PiecesSoFar script ps vs before text left → PiecesSoFar script (ps ++ p ∷ []) vs before new after
+pieces-next script ps p vs before text new left after written behind s = record {
+  text_is = written ∙ ap (λ t. t ++ piece_text script p left) s.text_is ∙ append_assoc before (pieces_text script ps vs) (piece_text script p left)
+      ∙ ap (λ l. before ++ (pieces_text script ps vs ++ piece_text script p l)) s.left_is ∙ ap (λ t. before ++ t) (sym (pieces-more script ps p vs));
   left_is = left-next ps p vs left after behind s.left_is;
 }
 

@@ -13,7 +13,7 @@ use crate::names_of_script::{format_named, text_named};
 use crate::piece::Piece;
 use crate::script::Script;
 use ra_text::OutOfMemory;
-use ra_value_format::format_value;
+use ra_value_format::put_value;
 use std::alloc::Global;
 
 impl Script {
@@ -27,97 +27,95 @@ impl Script {
         requires formats { All (λ format. HasDigits format.1) (script_contents self.now).formats }
         ensures { IfOk result (λ text. text.items ≡ line_text (script_contents self.now) shown values.now) }
     {
-        let index = shown as usize;
-        let left = behind_lines(&self.lines[..index], values);
-        self.shown_pieces(alloc, &self.lines[index].pieces, left)
-    }
-
-    // The text of pieces, with the values of their macros in order.
-    fn shown_pieces(
-        &self,
-        alloc: Global,
-        pieces: &[Piece],
-        values: &[i32],
-    ) -> Result<Vec<u8>, OutOfMemory>
-        requires { All (λ format. HasDigits format.1) (script_contents self.now).formats }
-        ensures { IfOk result
-            (λ text. text.items ≡ pieces_text (script_contents self.now) (map piece_contents pieces.now) values.now) }
-    {
         let mut text = Vec::new(alloc);
-        let mut left = values;
-        for piece in pieces {
-            self.write_piece(alloc, &mut text, piece, left)?;
-            left = behind_piece(piece, left);
-        }
+        self.put_line(&mut text, shown, values)?;
         Ok(text)
     }
 
-    // The text of a piece, at the end of a text.
-    fn write_piece(
+    /// Puts the text of a line of the display behind another text, by what `line` takes.
+    ///
+    /// On want of memory a part of it may stand there.
+    pub fn put_line(&self, out: &mut Vec<u8>, shown: u32, values: &[i32]) -> Result<(), OutOfMemory>
+        requires shown { shown < length self.now.lines.items }
+        requires formats { All (λ format. HasDigits format.1) (script_contents self.now).formats }
+        ensures { OnOk result (out.new.items ≡ out.old.items ++ line_text (script_contents self.now) shown values.now) }
+    {
+        let index = shown as usize;
+        let left = behind_lines(&self.lines[..index], values);
+        self.put_pieces(out, &self.lines[index].pieces, left)
+    }
+
+    // Puts the text of pieces, with the values of their macros in order.
+    fn put_pieces(
         &self,
-        alloc: Global,
-        text: &mut Vec<u8>,
-        piece: &Piece,
+        out: &mut Vec<u8>,
+        pieces: &[Piece],
         values: &[i32],
     ) -> Result<(), OutOfMemory>
         requires { All (λ format. HasDigits format.1) (script_contents self.now).formats }
         ensures { OnOk result
-            (text.new.items ≡ text.old.items ++ piece_text (script_contents self.now) (piece_contents piece.now) values.now) }
+            (out.new.items ≡ out.old.items ++ pieces_text (script_contents self.now) (map piece_contents pieces.now) values.now) }
+    {
+        let mut left = values;
+        for piece in pieces {
+            self.put_piece(out, piece, left)?;
+            left = behind_piece(piece, left);
+        }
+        Ok(())
+    }
+
+    // Puts the text of a piece.
+    fn put_piece(&self, out: &mut Vec<u8>, piece: &Piece, values: &[i32]) -> Result<(), OutOfMemory>
+        requires { All (λ format. HasDigits format.1) (script_contents self.now).formats }
+        ensures { OnOk result
+            (out.new.items ≡ out.old.items ++ piece_text (script_contents self.now) (piece_contents piece.now) values.now) }
     {
         match piece {
-            Piece::Text(bytes) => text.extend_from_slice(bytes)?,
+            Piece::Text(bytes) => out.extend_from_slice(bytes)?,
             Piece::Macro { name, .. } => {
                 let value = values.first().copied().unwrap_or(0);
-                self.write_macro(alloc, text, name, value)?;
+                self.put_macro(out, name, value)?;
             }
         }
         Ok(())
     }
 
-    // The text of a macro, at the end of a text: by the script's lookup of this name, else by a format.
-    fn write_macro(
-        &self,
-        alloc: Global,
-        text: &mut Vec<u8>,
-        name: &[u8],
-        value: i32,
-    ) -> Result<(), OutOfMemory>
+    // Puts the text of a macro: by the script's lookup of this name, else by a format.
+    fn put_macro(&self, out: &mut Vec<u8>, name: &[u8], value: i32) -> Result<(), OutOfMemory>
         requires { All (λ format. HasDigits format.1) (script_contents self.now).formats }
-        ensures { OnOk result (text.new.items ≡ text.old.items ++ macro_text (script_contents self.now) name.now value) }
+        ensures { OnOk result (out.new.items ≡ out.old.items ++ macro_text (script_contents self.now) name.now value) }
     {
         if let Some(found) = text_named(&self.lookups, name, value.cast_unsigned()) {
-            text.extend_from_slice(found)?;
+            out.extend_from_slice(found)?;
         } else {
-            let written = self.formatted(alloc, name, value)?;
-            text.extend_from_slice(&written)?;
+            self.put_formatted(out, name, value)?;
         }
         Ok(())
     }
 
-    // A number by the script's format of this name, else by the built-in one, else the name as unknown.
-    fn formatted(&self, alloc: Global, name: &[u8], value: i32) -> Result<Vec<u8>, OutOfMemory>
+    // Puts a number by the script's format of this name, else by the built-in one, else the name as unknown.
+    fn put_formatted(&self, out: &mut Vec<u8>, name: &[u8], value: i32) -> Result<(), OutOfMemory>
         requires { All (λ format. HasDigits format.1) (script_contents self.now).formats }
-        ensures { IfOk result (λ text. text.items ≡
+        ensures { OnOk result (out.new.items ≡ out.old.items ++
             by_format name.now (entry_of name.now (script_contents self.now).formats) (entry_of name.now builtin_macros) value) }
     {
         if let Some(format) = format_named(&self.formats, name) {
-            return format_value(alloc, format, value);
+            return put_value(out, format, value);
         }
         match builtin_format(name) {
-            Some(format) => format_value(alloc, format, value),
-            None => unknown(alloc, name),
+            Some(format) => put_value(out, format, value),
+            None => put_unknown(out, name),
         }
     }
 }
 
-// The name of a macro that is unknown.
-fn unknown(alloc: Global, name: &[u8]) -> Result<Vec<u8>, OutOfMemory>
-    ensures { IfOk result (λ text. text.items ≡ codes "[Unknown macro]" ++ name.now) }
+// Puts the name of a macro that is unknown.
+fn put_unknown(out: &mut Vec<u8>, name: &[u8]) -> Result<(), OutOfMemory>
+    ensures { OnOk result (out.new.items ≡ out.old.items ++ (codes "[Unknown macro]" ++ name.now)) }
 {
-    let mut text = Vec::new(alloc);
-    text.extend_from_slice(b"[Unknown macro]")?;
-    text.extend_from_slice(name)?;
-    Ok(text)
+    out.extend_from_slice(b"[Unknown macro]")?;
+    out.extend_from_slice(name)?;
+    Ok(())
 }
 
 // The values behind those of the macros of these lines.
