@@ -5,6 +5,8 @@ pub mod Keeping
 pub mod Lengths
 pub mod LineForms
 pub mod LongTexts
+pub mod MeantTexts
+pub mod NameMaps
 pub mod Parts
 pub mod Repeats
 pub mod ScriptForms

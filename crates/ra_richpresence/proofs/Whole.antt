@@ -12,6 +12,7 @@ use Rattle.ra_richpresence.specs.Placed.{placed, first_place}
 use Rattle.ra_richpresence.specs.Places.{IsOutside}
 use Rattle.ra_richpresence.specs.Reading.{sections_at, display_at, script_at}
 use Rattle.ra_richpresence.specs.Texts.{IsScriptOf}
+use Rattle.ra_richpresence.specs.declared.script.Script.{Script}
 use Rattle.ra_richpresence.specs.declared.kept.Kept.{Kept}
 use Rattle.ra_richpresence.specs.declared.line.Line.{Line}
 use Rattle.ra_richpresence.specs.declared.script_line.ScriptLine.{ScriptLine}
@@ -87,9 +88,9 @@ pub script-last : (lines rest left last : List (List ℕ)) (before : List Sectio
 script-last lines rest left last before shown read display fails = script-shows lines rest left before shown read display ∙ ap (λ o. o >>= λ behind. Ok (parts_with (before ++ behind.0) shown, behind.1)) fails
 
 -- what is kept of the sections is the script
-pub script-kept : (most : ℕ) (sections : List SectionContents) (kept : Kept) (shown : Vec Line Global) → Keeps most sections kept
-    → IsScriptOf most (parts_with sections (map line_contents shown.items)) (record { script = record { lookups = kept.lookups; formats = kept.formats; lines = shown }; long = kept.long })
-script-kept most sections kept shown keeps = record { made = cc (keeps.lookups, keeps.formats); long = keeps.long }
+pub script-kept : (most : ℕ) (sections : List SectionContents) (kept : Kept) (shown : Vec Line Global) (script : Script) → Keeps most sections kept → script.lookups ≡ kept.lookups → script.formats ≡ kept.formats → script.lines ≡ shown
+    → IsScriptOf most (parts_with sections (map line_contents shown.items)) (record { script = script; long = kept.long })
+script-kept most sections kept shown script keeps lookups formats lines = record { made = cc (lookups, formats, lines, keeps.lookups, keeps.formats); long = keeps.long }
 
 -- ---- faults that are handed on
 

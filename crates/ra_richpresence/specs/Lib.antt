@@ -4,6 +4,8 @@ pub mod Following
 pub mod Grammar
 pub mod Kept
 pub mod Lines
+pub mod Meanings
+pub mod Parts
 pub mod Placed
 pub mod Places
 pub mod Reading

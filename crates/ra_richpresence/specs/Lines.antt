@@ -5,7 +5,7 @@ use Rattle.std.specs.Int.{w32, cast_unsigned}
 use Rattle.ra_value_format.specs.declared.format.Format.{Format}
 use Rattle.ra_value_format.specs.declared.format.Format.TheVariants.{Value, Score, Secs, Hundredths, Minutes, SecsAsMins, Unsigned, Fixed, Float}
 use Rattle.ra_value_format.specs.Formats.{formatted, entry_of}
-use Rattle.ra_richpresence.specs.Contents.{PieceContents, Bytes, Shows, LineContents, KeysContents, LookupContents, ScriptContents, values_in_line}
+use Rattle.ra_richpresence.specs.Parts.{PieceContents, Bytes, Shows, LineContents, KeysContents, LookupContents, ScriptContents, values_in_line}
 
 -- the ranges hold the number; a range that ends below its start holds nothing
 abbrev pub holds : List (ℕ × ℕ) → ℕ → Bool

@@ -1,9 +1,12 @@
 -- One piece of a presence line, and what a name stands for: docs/DEFINITIONS.md, "Presence over frames".
-use Rattle.std.specs.Prelude.{ℕ, List, [], ◌∷◌, Option, option_map, codes, ℤ}
+use Rattle.std.specs.Prelude.{◌≡◌, ℕ, List, [], ◌∷◌, Some, codes, ℤ}
+use Rattle.std.specs.List.{slice_get}
 use Rattle.ra_value_format.specs.declared.format.Format.{Format}
 use Rattle.ra_value_format.specs.declared.format.Format.TheVariants.{Fixed, Float}
 use Rattle.ra_richpresence.specs.Contents.{PieceContents, Bytes, Shows, LookupContents, ScriptContents}
-use Rattle.ra_richpresence.specs.Lines.{looked_up, lookup_of, macro_text, first_or_zero}
+use Rattle.ra_richpresence.specs.Lines.{looked_up, macro_text, first_or_zero}
+use Rattle.ra_richpresence.specs.Meanings.{meaning_of}
+use Rattle.ra_richpresence.specs.declared.meaning.Meaning.{Meaning}
 
 -- the text of a piece; a macro shows the first of the values
 abbrev pub piece_text : ScriptContents → PieceContents → List ℤ → List ℕ
@@ -19,9 +22,10 @@ values_of (Shows name value) = 1
 abbrev pub text_in : LookupContents → ℕ → List ℕ
 text_in l n = looked_up l.keys l.rest n
 
--- the text that the lookup of a name has for a number, if there is such a lookup
-abbrev pub text_of_name : List ℕ → List LookupContents → ℕ → Option (List ℕ)
-text_of_name name lookups n = option_map (λ l. text_in l n) (lookup_of name lookups)
+-- the first of the meanings is that of the piece, if it is a macro
+abbrev pub BeginsWithMeaning : ScriptContents → PieceContents → List Meaning → Type 0
+BeginsWithMeaning script (Bytes text) meanings = Unit {0}
+BeginsWithMeaning script (Shows name value) meanings = slice_get meanings 0 ≡ Some (meaning_of script.lookups script.formats name)
 
 -- the built-in macros that write a point
 abbrev pub point_macros : List (List ℕ × Format)

@@ -14,13 +14,17 @@ ghost use Rattle.ra_richpresence.specs.Texts.{IsRead, IsScriptOf};
 use crate::cut::cut_lines;
 use crate::display::take_display;
 use crate::kept::Kept;
+use crate::line::Line;
 use crate::lines::Lines;
+use crate::lookup::Lookup;
+use crate::naming::meanings_of_lines;
 use crate::read::ReadScript;
 use crate::script::Script;
 use crate::script_line::ScriptLine;
 use crate::sections::take_sections;
 use ra_condition::{Fault, Refused};
 use ra_text::OutOfMemory;
+use ra_value_format::Format;
 use std::alloc::Global;
 
 /// The presence script that the whole text spells: docs/DEFINITIONS.md, "Presence scripts".
@@ -78,13 +82,32 @@ fn take_script(alloc: Global, most: u64, lines: &mut Lines<'_>) -> Result<ReadSc
     take_sections(alloc, &mut kept, lines)?;
     let shown = take_display(alloc, lines)?;
     take_sections(alloc, &mut kept, lines)?;
-    Ok(ReadScript {
-        script: Script {
-            lookups: kept.lookups,
-            formats: kept.formats,
-            lines: shown,
-        },
-        long: kept.long,
+    match named_script(alloc, kept.lookups, kept.formats, shown) {
+        Ok(script) => Ok(ReadScript {
+            script,
+            long: kept.long,
+        }),
+        Err(OutOfMemory) => Err(Fault::Memory),
+    }
+}
+
+// The script of these parts, with what its macros show.
+fn named_script(
+    alloc: Global,
+    lookups: Vec<Lookup>,
+    formats: Vec<(Vec<u8>, Format)>,
+    lines: Vec<Line>,
+) -> Result<Script, OutOfMemory>
+    ensures lookups { IfOk result (λ s. s.lookups ≡ lookups) }
+    ensures formats { IfOk result (λ s. s.formats ≡ formats) }
+    ensures lines { IfOk result (λ s. s.lines ≡ lines) }
+{
+    let meanings = meanings_of_lines(alloc, &lookups, &formats, &lines)?;
+    Ok(Script {
+        lookups,
+        formats,
+        lines,
+        meanings,
     })
 }
 

@@ -1,5 +1,8 @@
+ghost use Rattle.ra_richpresence.specs.Meanings.{AreMeanings};
+
 use crate::line::Line;
 use crate::lookup::Lookup;
+use crate::meaning::Meaning;
 use ra_value_format::Format;
 
 /// A presence script: docs/DEFINITIONS.md, "Presence scripts". Of the lookups and formats that
@@ -12,4 +15,7 @@ pub struct Script {
     pub formats: Vec<(Vec<u8>, Format)>,
     /// The lines of the display in text order, at least one.
     pub lines: Vec<Line>,
+    /// For each line what its macros show, in text order.
+    pub meanings: Vec<Vec<Meaning>>,
+    ghost named: { AreMeanings lookups.items formats.items lines.items meanings.items },
 }

@@ -3,13 +3,14 @@
 ghost use Rattle.std.specs.Prelude.{◌≡◌, ◌++◌, ◌<◌, All, IfOk, OnOk, codes, drop, length, map};
 ghost use Rattle.std.specs.List.{flat_map};
 ghost use Rattle.ra_richpresence.specs.Contents.{line_contents, piece_contents, script_contents, values_in_line};
-ghost use Rattle.ra_richpresence.specs.Lines.{builtin_macros, by_format, line_text, macro_text, pieces_text};
-ghost use Rattle.ra_richpresence.specs.Shown.{piece_text, values_of};
-ghost use Rattle.ra_value_format.specs.Formats.{HasDigits, entry_of};
+ghost use Rattle.ra_richpresence.specs.Lines.{line_text, macro_text, pieces_text};
+ghost use Rattle.ra_richpresence.specs.Meanings.{meaning_of, meanings_in};
+ghost use Rattle.ra_richpresence.specs.Shown.{BeginsWithMeaning, piece_text, values_of};
+ghost use Rattle.ra_value_format.specs.Formats.{HasDigits};
 
-use crate::builtin::builtin_format;
 use crate::line::Line;
-use crate::names_of_script::{format_named, text_named};
+use crate::looked_up::text_in;
+use crate::meaning::Meaning;
 use crate::piece::Piece;
 use crate::script::Script;
 use ra_text::OutOfMemory;
@@ -42,69 +43,76 @@ impl Script {
     {
         let index = shown as usize;
         let left = behind_lines(&self.lines[..index], values);
-        self.put_pieces(out, &self.lines[index].pieces, left)
+        self.put_pieces(out, &self.lines[index].pieces, &self.meanings[index], left)
     }
 
-    // Puts the text of pieces, with the values of their macros in order.
+    // Puts the text of pieces, with what their macros show and their values in order.
     fn put_pieces(
         &self,
         out: &mut Vec<u8>,
         pieces: &[Piece],
+        meanings: &[Meaning],
         values: &[i32],
     ) -> Result<(), OutOfMemory>
-        requires { All (λ format. HasDigits format.1) (script_contents self.now).formats }
+        requires formats { All (λ format. HasDigits format.1) (script_contents self.now).formats }
+        requires meanings { meanings.now ≡ meanings_in (script_contents self.now).lookups (script_contents self.now).formats (map piece_contents pieces.now) }
         ensures { OnOk result
             (out.new.items ≡ out.old.items ++ pieces_text (script_contents self.now) (map piece_contents pieces.now) values.now) }
     {
+        let mut meant = meanings;
         let mut left = values;
         for piece in pieces {
-            self.put_piece(out, piece, left)?;
+            self.put_piece(out, piece, meant, left)?;
+            meant = behind_meaning(piece, meant);
             left = behind_piece(piece, left);
         }
         Ok(())
     }
 
-    // Puts the text of a piece.
-    fn put_piece(&self, out: &mut Vec<u8>, piece: &Piece, values: &[i32]) -> Result<(), OutOfMemory>
-        requires { All (λ format. HasDigits format.1) (script_contents self.now).formats }
+    // Puts the text of a piece; a macro shows the first value as its first meaning says.
+    fn put_piece(
+        &self,
+        out: &mut Vec<u8>,
+        piece: &Piece,
+        meanings: &[Meaning],
+        values: &[i32],
+    ) -> Result<(), OutOfMemory>
+        requires formats { All (λ format. HasDigits format.1) (script_contents self.now).formats }
+        requires meanings { BeginsWithMeaning (script_contents self.now) (piece_contents piece.now) meanings.now }
         ensures { OnOk result
             (out.new.items ≡ out.old.items ++ piece_text (script_contents self.now) (piece_contents piece.now) values.now) }
     {
         match piece {
             Piece::Text(bytes) => out.extend_from_slice(bytes)?,
             Piece::Macro { name, .. } => {
+                let meaning = meanings.first().copied().unwrap_or(Meaning::Unknown);
                 let value = values.first().copied().unwrap_or(0);
-                self.put_macro(out, name, value)?;
+                self.put_macro(out, name, meaning, value)?;
             }
         }
         Ok(())
     }
 
-    // Puts the text of a macro: by the script's lookup of this name, else by a format.
-    fn put_macro(&self, out: &mut Vec<u8>, name: &[u8], value: i32) -> Result<(), OutOfMemory>
-        requires { All (λ format. HasDigits format.1) (script_contents self.now).formats }
+    // Puts the text of a macro: by the lookup or the format that it shows, else its name as unknown.
+    fn put_macro(
+        &self,
+        out: &mut Vec<u8>,
+        name: &[u8],
+        meaning: Meaning,
+        value: i32,
+    ) -> Result<(), OutOfMemory>
+        requires formats { All (λ format. HasDigits format.1) (script_contents self.now).formats }
+        requires meaning { meaning ≡ meaning_of (script_contents self.now).lookups (script_contents self.now).formats name.now }
         ensures { OnOk result (out.new.items ≡ out.old.items ++ macro_text (script_contents self.now) name.now value) }
     {
-        if let Some(found) = text_named(&self.lookups, name, value.cast_unsigned()) {
-            out.extend_from_slice(found)?;
-        } else {
-            self.put_formatted(out, name, value)?;
-        }
-        Ok(())
-    }
-
-    // Puts a number by the script's format of this name, else by the built-in one, else the name as unknown.
-    fn put_formatted(&self, out: &mut Vec<u8>, name: &[u8], value: i32) -> Result<(), OutOfMemory>
-        requires { All (λ format. HasDigits format.1) (script_contents self.now).formats }
-        ensures { OnOk result (out.new.items ≡ out.old.items ++
-            by_format name.now (entry_of name.now (script_contents self.now).formats) (entry_of name.now builtin_macros) value) }
-    {
-        if let Some(format) = format_named(&self.formats, name) {
-            return put_value(out, format, value);
-        }
-        match builtin_format(name) {
-            Some(format) => put_value(out, format, value),
-            None => put_unknown(out, name),
+        match meaning {
+            Meaning::Lookup(place) => {
+                let found = text_in(&self.lookups[place], value.cast_unsigned());
+                out.extend_from_slice(found)?;
+                Ok(())
+            }
+            Meaning::Format(format) => put_value(out, format, value),
+            Meaning::Unknown => put_unknown(out, name),
         }
     }
 }
@@ -147,5 +155,15 @@ fn behind_piece<'a>(piece: &Piece, values: &'a [i32]) -> &'a [i32]
     match (piece, values) {
         (Piece::Macro { .. }, [_, others @ ..]) => others,
         _ => values,
+    }
+}
+
+// The meanings behind that of a piece, if it has one.
+fn behind_meaning<'a>(piece: &Piece, meanings: &'a [Meaning]) -> &'a [Meaning]
+    ensures { result.now ≡ drop (values_of (piece_contents piece.now)) meanings.now }
+{
+    match (piece, meanings) {
+        (Piece::Macro { .. }, [_, others @ ..]) => others,
+        _ => meanings,
     }
 }

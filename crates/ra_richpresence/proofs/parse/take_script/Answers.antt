@@ -26,10 +26,10 @@ returns-in_err-take_sections-2 c = let p = err_from_is_err_and c.from_residual-i
     (script-last (bytes_of c.args.lines.now.rest.now) (bytes_of c.take_sections.new.lines.rest.now) (bytes_of c.take_display.new.lines.rest.now) (bytes_of c.take_sections-2.new.lines.rest.now) b.sections (map line_contents c.in_ok-shown.shown.items) b.read c.in_ok-shown.ensures)
     (c.in_err-take_sections-2.ensures c.args.most b.sections b.keeps))
 
-pub returns : goal.returns
-returns c = let b = c.in_ok-take_sections.ensures c.args.most [] c.new-kept.ensures in let d = c.in_ok-take_sections-2.ensures c.args.most b.sections b.keeps in
+pub returns-in-Ok : goal.returns-in-Ok
+returns-in-Ok c = let b = c.in_ok-take_sections.ensures c.args.most [] c.new-kept.ensures in let d = c.in_ok-take_sections-2.ensures c.args.most b.sections b.keeps in
     record {
       value = parts_with (b.sections ++ d.sections) (map line_contents c.in_ok-shown.shown.items);
       read = script-ends (bytes_of c.args.lines.now.rest.now) (bytes_of c.take_sections.new.lines.rest.now) (bytes_of c.take_display.new.lines.rest.now) (bytes_of c.take_sections-2.new.lines.rest.now) b.sections d.sections (map line_contents c.in_ok-shown.shown.items) b.read c.in_ok-shown.ensures d.read;
-      is = script-kept c.args.most (b.sections ++ d.sections) c.take_sections-2.new.kept c.in_ok-shown.shown d.keeps;
+      is = script-kept c.args.most (b.sections ++ d.sections) c.take_sections-2.new.kept c.in_ok-shown.shown c.in-Ok.script d.keeps c.in-Ok.ensures.lookups c.in-Ok.ensures.formats c.in-Ok.ensures.lines;
     }
