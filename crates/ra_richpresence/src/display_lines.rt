@@ -22,7 +22,8 @@ pub fn read_tested_line(alloc: Global, line: &[u8]) -> Result<Line, Fault>
 {
     let mut cursor = Cursor::new(line, 0);
     let test = take_test(alloc, &mut cursor)?;
-    let pieces = read_pieces(alloc, &mut cursor)?;
+    let mut pieces = read_pieces(alloc, &mut cursor)?;
+    pieces.shrink_to_fit();
     Ok(Line {
         test: Some(test),
         pieces,
@@ -39,7 +40,8 @@ pub fn read_last_line(alloc: Global, line: &[u8]) -> Result<Line, Fault>
     if cursor.is_at(b'?') {
         return Err(Fault::Stop);
     }
-    let pieces = read_pieces(alloc, &mut cursor)?;
+    let mut pieces = read_pieces(alloc, &mut cursor)?;
+    pieces.shrink_to_fit();
     Ok(Line { test: None, pieces })
 }
 
