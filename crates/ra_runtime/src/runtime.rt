@@ -222,7 +222,7 @@ impl Runtime {
         ensures of_events { IfOk result (λ text. IsTextOf text.items self.now.events) }
     {
         let mut out = Vec::new(alloc);
-        put_events(alloc, &mut out, self.frame, self.events())?;
+        put_events(&mut out, self.frame, self.events())?;
         Ok(out)
     }
 

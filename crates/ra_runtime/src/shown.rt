@@ -11,10 +11,11 @@ ghost use Rattle.ra_runtime.specs.Showing as spec;
 ghost use Rattle.ra_runtime.specs.Showing.{MayShow, optional_text};
 
 use crate::presence_run::PresenceRun;
-use crate::written::put_ended;
+use crate::written::LINE;
 use ra_member::Member;
 use ra_richpresence::Script;
 use ra_text::OutOfMemory;
+use ra_value_format::put_unsigned;
 use std::alloc::Global;
 
 // The line that the display shows, with the count of frames; nothing where there is no script.
@@ -47,10 +48,12 @@ fn shown_text(
         (λ text. text.items ≡ spec.shown_text count (script_contents script.now) run.now) }
 {
     let numbers = numbers_of(alloc, run)?;
-    let text = script.line(alloc, run.shown, &numbers)?;
-    let head = format!(in alloc; "presence {count} ")?;
-    let mut out = Vec::new(alloc);
-    put_ended(&mut out, head.as_bytes(), &text)?;
+    let mut out = Vec::with_capacity(alloc, LINE)?;
+    out.extend_from_slice(b"presence ")?;
+    put_unsigned(&mut out, count)?;
+    out.push(b' ')?;
+    script.put_line(&mut out, run.shown, &numbers)?;
+    out.push(b'\n')?;
     Ok(out)
 }
 

@@ -10,8 +10,10 @@ ghost use Rattle.ra_runtime.specs.Lines.{HasEventDigits, event_line, event_lines
 use crate::event::Event;
 use crate::events::Events;
 use ra_text::OutOfMemory;
-use ra_value_format::{Format, format_value};
-use std::alloc::Global;
+use ra_value_format::{Format, put_unsigned, put_value};
+
+/// The bytes that a line seldom passes.
+pub(crate) const LINE: usize = 64;
 
 /// The frame and the item that a line speaks of.
 #[derive(Clone, Copy)]
@@ -22,7 +24,6 @@ pub(crate) struct Subject {
 
 // Puts the lines of events at the end of a text.
 pub(crate) fn put_events(
-    alloc: Global,
     out: &mut Vec<u8>,
     frame: u64,
     events: Events<'_>,
@@ -31,65 +32,70 @@ pub(crate) fn put_events(
     ensures { OnOk result (out.new.items ≡ out.old.items ++ event_lines frame events.entry) }
 {
     for event in events {
-        put_event(alloc, out, frame, event)?;
+        put_event(out, frame, event)?;
     }
     Ok(())
 }
 
 // Puts the line of an event.
-fn put_event(alloc: Global, out: &mut Vec<u8>, frame: u64, event: Event) -> Result<(), OutOfMemory>
+fn put_event(out: &mut Vec<u8>, frame: u64, event: Event) -> Result<(), OutOfMemory>
     requires { HasEventDigits event }
     ensures { OnOk result (out.new.items ≡ out.old.items ++ event_line frame event) }
 {
     match event {
-        Event::Measured { id, number } => {
-            let line = format!(in alloc; "measured {frame} {id} {number}\n")?;
-            out.extend_from_slice(line.as_bytes())?;
-            Ok(())
-        }
-        Event::Primed { id } => put_change(alloc, out, "primed", Subject { frame, id }),
-        Event::Unprimed { id } => put_change(alloc, out, "unprimed", Subject { frame, id }),
-        Event::Unlock { id } => put_change(alloc, out, "unlock", Subject { frame, id }),
-        Event::Start { id } => put_change(alloc, out, "start", Subject { frame, id }),
-        Event::Cancel { id } => put_change(alloc, out, "cancel", Subject { frame, id }),
+        Event::Measured { id, number } => put_measured(out, Subject { frame, id }, number),
+        Event::Primed { id } => put_change(out, "primed", Subject { frame, id }),
+        Event::Unprimed { id } => put_change(out, "unprimed", Subject { frame, id }),
+        Event::Unlock { id } => put_change(out, "unlock", Subject { frame, id }),
+        Event::Start { id } => put_change(out, "start", Subject { frame, id }),
+        Event::Cancel { id } => put_change(out, "cancel", Subject { frame, id }),
         Event::Track { id, number, format } => {
-            put_track(alloc, out, Subject { frame, id }, format, number)
+            put_track(out, Subject { frame, id }, format, number)
         }
         Event::Submit { id, number, format } => {
-            put_submit(alloc, out, Subject { frame, id }, format, number)
+            put_submit(out, Subject { frame, id }, format, number)
         }
     }
 }
 
-// Puts a line without a number.
-fn put_change(
-    alloc: Global,
-    out: &mut Vec<u8>,
-    word: &str,
-    subject: Subject,
-) -> Result<(), OutOfMemory>
+// Puts the words that every line begins with. Room for a whole line is made at once.
+fn put_head(out: &mut Vec<u8>, word: &str, subject: Subject) -> Result<(), OutOfMemory>
     ensures { OnOk result (out.new.items ≡ out.old.items
-        ++ line_of (word.now ∷ decimal subject.frame ∷ decimal subject.id ∷ [])) }
+        ++ (word.now ++ 32 ∷ (decimal subject.frame ++ 32 ∷ decimal subject.id))) }
 {
-    let Subject { frame, id } = subject;
-    let line = format!(in alloc; "{word} {frame} {id}\n")?;
-    out.extend_from_slice(line.as_bytes())?;
+    out.reserve(LINE)?;
+    out.extend_from_slice(word.as_bytes())?;
+    out.push(b' ')?;
+    put_unsigned(out, subject.frame)?;
+    out.push(b' ')?;
+    put_unsigned(out, u64::from(subject.id))?;
     Ok(())
 }
 
-// Puts the words of a line, the last one by itself.
-pub(crate) fn put_ended(out: &mut Vec<u8>, head: &[u8], word: &[u8]) -> Result<(), OutOfMemory>
-    ensures { OnOk result (out.new.items ≡ out.old.items ++ (head.now ++ (word.now ++ 10 ∷ []))) }
+// Puts a line without a number.
+fn put_change(out: &mut Vec<u8>, word: &str, subject: Subject) -> Result<(), OutOfMemory>
+    ensures { OnOk result (out.new.items ≡ out.old.items
+        ++ line_of (word.now ∷ decimal subject.frame ∷ decimal subject.id ∷ [])) }
 {
-    out.extend_from_slice(head)?;
-    out.extend_from_slice(word)?;
+    put_head(out, word, subject)?;
+    out.push(b'\n')?;
+    Ok(())
+}
+
+// Puts the line of a measured number.
+fn put_measured(out: &mut Vec<u8>, subject: Subject, number: u32) -> Result<(), OutOfMemory>
+    ensures { OnOk result (out.new.items ≡ out.old.items
+        ++ line_of (codes "measured" ∷ decimal subject.frame ∷ decimal subject.id ∷ decimal number ∷ [])) }
+{
+    put_head(out, "measured", subject)?;
+    out.push(b' ')?;
+    put_unsigned(out, u64::from(number))?;
     out.push(b'\n')?;
     Ok(())
 }
 
 // Puts the line of a tracked number.
 fn put_track(
-    alloc: Global,
     out: &mut Vec<u8>,
     subject: Subject,
     format: Format,
@@ -99,16 +105,15 @@ fn put_track(
     ensures { OnOk result (out.new.items ≡ out.old.items
         ++ line_of (codes "track" ∷ decimal subject.frame ∷ decimal subject.id ∷ formatted format tracked ∷ [])) }
 {
-    let Subject { frame, id } = subject;
-    let text = format_value(alloc, format, tracked)?;
-    let head = format!(in alloc; "track {frame} {id} ")?;
-    put_ended(out, head.as_bytes(), &text)?;
+    put_head(out, "track", subject)?;
+    out.push(b' ')?;
+    put_value(out, format, tracked)?;
+    out.push(b'\n')?;
     Ok(())
 }
 
 // Puts the line of a submitted number: the number, and the number as it is shown.
 fn put_submit(
-    alloc: Global,
     out: &mut Vec<u8>,
     subject: Subject,
     format: Format,
@@ -118,9 +123,11 @@ fn put_submit(
     ensures { OnOk result (out.new.items ≡ out.old.items
         ++ line_of (codes "submit" ∷ decimal subject.frame ∷ decimal subject.id ∷ signed_decimal value ∷ formatted format value ∷ [])) }
 {
-    let Subject { frame, id } = subject;
-    let text = format_value(alloc, format, value)?;
-    let head = format!(in alloc; "submit {frame} {id} {value} ")?;
-    put_ended(out, head.as_bytes(), &text)?;
+    put_head(out, "submit", subject)?;
+    out.push(b' ')?;
+    put_value(out, Format::Value, value)?;
+    out.push(b' ')?;
+    put_value(out, format, value)?;
+    out.push(b'\n')?;
     Ok(())
 }

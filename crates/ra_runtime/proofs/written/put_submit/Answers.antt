@@ -7,12 +7,11 @@ use Rattle.ra_runtime.proofs.written.put_submit.Goals as goal
 
 pub returns : goal.returns
 returns c =
+    let value = signed_decimal c.args.value in
+    let text = formatted c.args.format c.args.value in
     let number = to_z-of_z w32 c.args.value c.ranges.value in
-    let head = c.as_bytes.ensures.value ∙ c.in_ok-head.ensures.ok in
-    let text = c.deref.ensures.value ∙ c.in_ok-text.ensures ∙ ap (λ n. formatted c.args.format n) number in
-    let frame = decimal c.args.subject.frame in
-    let id = decimal c.args.subject.id in
-    c.in_ok-put_ended.ensures
-    ∙ (λ i. c.args.out.now.items ++ (head i ++ (text i ++ 10 ∷ [])))
-    ∙ (λ i. c.args.out.now.items ++ ((codes "submit " ++ (frame ++ 32 ∷ (id ++ 32 ∷ (signed_decimal (number i) ++ 32 ∷ [])))) ++ (formatted c.args.format c.args.value ++ 10 ∷ [])))
-    ∙ ap (λ l. c.args.out.now.items ++ l) (submit_words frame id (signed_decimal c.args.value) (formatted c.args.format c.args.value))
+    c.in_ok-push-3.ensures.items
+    ∙ ap (λ t. t ++ 10 ∷ []) (c.in_ok-put_value-2.ensures ∙ ap (λ n. c.push-2.new.self.items ++ formatted c.args.format n) number
+    ∙ ap (λ t. t ++ text) (c.in_ok-push-2.ensures.items ∙ ap (λ t. t ++ 32 ∷ []) (c.in_ok-put_value.ensures ∙ ap (λ n. c.push.new.self.items ++ signed_decimal n) number
+    ∙ ap (λ t. t ++ value) (c.in_ok-push.ensures.items ∙ ap (λ t. t ++ 32 ∷ []) c.in_ok-put_head.ensures))))
+    ∙ submit_words c.args.out.now.items (codes "submit") (decimal c.args.subject.frame) (decimal c.args.subject.id) value text
