@@ -1,5 +1,5 @@
 #!/bin/sh
-# What the parts of a run cost: instructions for each frame, save, restore, line and item, by the difference of two runs.
+# What the parts of a run cost: instructions for each frame, save, restore, line, show and item, by the difference of two runs.
 # usage: bench/parts.sh [PLAYER [FRAMES]]
 # PLAYER is the built program; where it is not named it is found, or built. FRAMES are those of the real-sized set, 1,000
 # where they are not named. Instructions are counted by callgrind, so they are the same on every machine.
@@ -27,3 +27,6 @@ row 'a save of 4,000 achievements of 8 conditions' 100 many.set saves.trace many
 row 'a restore of them' 100 many.set restores.trace many.set saved.trace
 row 'loading and making an item, of 16,384' 16384 items.set one.trace none.set one.trace
 row 'a line of a measured number' 65536 lines.set counts.trace quiet.set counts.trace
+row 'a show of a small script' 65536 small.set shows.trace small.set shown.trace
+row 'a show by a lookup of 262,144 keys lines' 10 keys.set ten.trace keys.set shown.trace
+row 'a show of a script of 131,072 lookups' 10 names.set ten.trace names.set shown.trace

@@ -45,3 +45,5 @@ row 'no items over 1,048,576 frames' run "$folder/none.set" "$folder/frames.trac
 row 'no items over 1,048,576 writes of one byte' run "$folder/none.set" "$folder/writes.trace"
 row 'no items over a trace of 16 MiB of frames' run "$folder/none.set" "$folder/long.trace"
 row 'one frame of no items over an image of 128 MiB' run "$folder/none.set" "$folder/great.trace"
+row '`check` of 4 MiB of display lines `??x`' check "$folder/texts.set"
+row '`check` of 4 MiB of macros in one display line, which are too many' check "$folder/macros.set"

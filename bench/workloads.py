@@ -15,6 +15,12 @@ items.set    16,384 achievements of one condition, over one.trace: one frame
 lines.set    an achievement that tells a measured number at each frame, over counts.trace: 65,536 frames
              quiet.set has the same achievement and tells nothing
 many.set     over saves.trace and restores.trace: 100 of these records; over saved.trace: one save
+small.set    a script of one line with a lookup of 8 texts and a format, over shows.trace: 65,536 shows of one frame
+             shown.trace has one of these shows
+keys.set     a script whose lookup has 262,144 keys lines, none of which holds the value, over ten.trace: ten shows
+names.set    a script with 131,072 lookups of one text each, the last of which is shown, over the same traces
+texts.set    4 MiB of display lines `??x`
+macros.set   4 MiB of macros in one display line, which are more than a line may have
 """
 
 import random
@@ -95,6 +101,26 @@ def real_trace(frames):
     return bytes(trace + b"E")
 
 
+def small_script():
+    lookup = "Lookup:Stage\n" + "".join(f"{i}=Stage {i}\n" for i in range(8)) + "*=Elsewhere\n"
+    return "P\n" + lookup + "Format:Score\nFormatType=SCORE\nDisplay:\nIn @Stage(0xH0010) with @Score(0xH0020)\n"
+
+
+def keys_script():
+    keys = "".join(f"{i + 1}=x\n" for i in range(262_144))
+    return "P\nLookup:Stage\n" + keys + "Display:\n@Stage(0xH0010)\n"
+
+
+def names_script():
+    lookups = "".join(f"Lookup:S{i:06x}\n0=x\n" for i in range(131_072))
+    return "P\n" + lookups + "Display:\n@S01ffff(0xH0010)\n"
+
+
+def display_script(part, last):
+    """A display of as many of these parts as a set file holds, with this end behind them."""
+    return "P\nDisplay:\n" + part * ((MIB_4 - 16) // len(part)) + last
+
+
 def main(folder, frames):
     random.seed(1)
     files = {
@@ -118,6 +144,14 @@ def main(folder, frames):
         "saved.trace": header(65536) + b"FS\0E",
         "saves.trace": header(65536) + b"F" + b"S\0" * 101 + b"E",
         "restores.trace": header(65536) + b"FS\0" + b"R\0" * 100 + b"E",
+        "small.set": small_script().encode(),
+        "shown.trace": header(65536) + b"FPE",
+        "shows.trace": header(65536) + b"F" + b"P" * 65_537 + b"E",
+        "ten.trace": header(65536) + b"F" + b"P" * 11 + b"E",
+        "keys.set": keys_script().encode(),
+        "names.set": names_script().encode(),
+        "texts.set": display_script("??x\n", "x\n").encode(),
+        "macros.set": display_script("@Number(0xH0010)", "\n").encode(),
     }
     for name, content in files.items():
         with open(f"{folder}/{name}", "wb") as file:
