@@ -1,7 +1,8 @@
 -- What a pass carries from condition to condition, and that it is what the condition sees by the equations.
 use Rattle.std.proofs.Common.{◌≡◌, ℕ, zero, suc, Bool, true, false, cond, Option, None, Some, List, [], ◌∷◌, ◌++◌, slice_index, slice_index_or, fold, refl, sym, ap, ◌∙◌}
 use Rattle.std.proofs.lemmas.Grind.{fold-append}
-use Rattle.std.proofs.lemmas.Bool.{cond-true, cond-false, false≢true}
+use Rattle.std.proofs.lemmas.Bool.{cond-true, cond-false, false≢true, true≢false}
+use Rattle.ra_condition.specs.declared.flag.Flag.{Flag}
 use Rattle.ra_condition.specs.declared.condition.Condition.{Condition}
 use Rattle.ra_condition.specs.Flags.{combines, hands_on}
 use Rattle.ra_condition.specs.Contents.{condition_at, flag_at}
@@ -21,6 +22,14 @@ carry f before j = seen_after (condition_at f.conditions j) (settled_after f bef
 -- what the pass carries after these places
 abbrev pub carried : Frame → List ℕ → Option Settled
 carried f js = fold (carry f) None js
+
+-- a condition that hands a value on combines
+pub combines_handed : (flag : Flag) → hands_on flag ≡ true → combines flag ≡ true
+combines_handed flag h = by_combining (combines flag) refl
+  where
+    by_combining : (b : Bool) → combines flag ≡ b → combines flag ≡ true
+    by_combining true e = e
+    by_combining false e = absurd (true≢false (sym h ∙ hands_on_from_combines flag e))
 
 -- nothing is seen after the end of a chain
 pub seen_after_last : (c : Condition) (here : Settled) (prev : Option Settled) → combines c.flag ≡ false → seen_after c here prev ≡ None

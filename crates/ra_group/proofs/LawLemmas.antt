@@ -1,21 +1,11 @@
 -- The equations of a condition, from the condition before it by the text.
-use Rattle.std.proofs.Common.{◌≡◌, ℕ, zero, suc, ◌<◌, Bool, true, false, cond, ◌||◌, eqb, None, Some, List, refl, sym, ap, ◌∙◌, inl, inr, arith}
-use Rattle.std.proofs.lemmas.Bool.{cases_eq, cond-true, true≢false}
-use Rattle.ra_condition.specs.declared.condition.Condition.{Condition}
+use Rattle.std.proofs.Common.{◌≡◌, ℕ, zero, suc, ◌<◌, Bool, true, false, cond, ◌||◌, eqb, None, Some, refl, ap, ◌∙◌, inl, inr, arith}
+use Rattle.std.proofs.lemmas.Bool.{cases_eq, cond-true}
 use Rattle.ra_condition.specs.Flags.{combines, hands_on}
 use Rattle.ra_condition.specs.Contents.{condition_at, flag_at}
-use Rattle.ra_condition.proofs.ChainLemmas.{hands_on_from_combines}
 use Rattle.ra_group.specs.Equations.{Frame, met, reset_by, add_by, settled_at, prev_of}
 use Rattle.ra_group.specs.Laws.{IsPrev, HasEquationsAfter, HasEquationsFirst, HasOwnEquations, truth_at, target_at, valid_alone_at, reached_at}
-use Rattle.ra_group.proofs.Carried.{settled_after, seen_after_last, seen_after_handed, seen_after_counted}
-
--- a condition that hands a value on combines
-combines_from_hands_on : (cs : List Condition) (k : ℕ) → hands_on (flag_at cs k) ≡ true → combines (flag_at cs k) ≡ true
-combines_from_hands_on cs k h = by_combining (combines (flag_at cs k)) refl
-  where
-    by_combining : (b : Bool) → combines (flag_at cs k) ≡ b → combines (flag_at cs k) ≡ true
-    by_combining true e = e
-    by_combining false e = absurd (true≢false (sym h ∙ hands_on_from_combines (flag_at cs k) e))
+use Rattle.ra_group.proofs.Carried.{combines_handed, settled_after, seen_after_last, seen_after_handed, seen_after_counted}
 
 module _ (f : Frame) where
   seen_handed : (m : ℕ) → hands_on (flag_at f.conditions m) ≡ true → prev_of f (suc m) ≡ prev_of f m
@@ -54,7 +44,7 @@ module _ (f : Frame) where
       one_more i p h = record {
         earlier = omega (arith, p.earlier);
         chained = λ k g l. elim (cases_eq k m) [
-          | inl here ↦ combines_from_hands_on f.conditions k (ap (λ n. hands_on (flag_at f.conditions n)) here ∙ h)
+          | inl here ↦ combines_handed (flag_at f.conditions k) (ap (λ n. hands_on (flag_at f.conditions n)) here ∙ h)
           | inr other ↦ p.chained k g (omega arith)
         ];
         counts = p.counts;

@@ -12,8 +12,8 @@ use Rattle.ra_group.specs.declared.tally.Tally.{Tally}
 use Rattle.ra_group.specs.Equations.{Frame, settled, settled_at}
 use Rattle.ra_group.specs.Outcome.{some_valid, outcome_of, next_hit, next_hits}
 use Rattle.ra_group.specs.Tallies.{noted, no_tally, outcome_by}
-use Rattle.ra_group.proofs.Carried.{carried, carried-push, settled_after, seen_after_handed, seen_after_counted}
-use Rattle.ra_group.proofs.TallyLemmas.{any_push, tally_of, tally_of-push, tally_of-parts, outcome_by-tally_of, noted_handed}
+use Rattle.ra_group.proofs.Carried.{combines_handed, carried, carried-push, settled_after, seen_after_handed, seen_after_counted}
+use Rattle.ra_group.proofs.TallyLemmas.{any_push, tally_of, tally_of-push, tally_of-parts, outcome_by-tally_of, noted_combining}
 use Rattle.ra_group.proofs.Turns.{Turn, visited, or_none}
 
 -- the hits after these places: the next ones there, the old ones elsewhere
@@ -62,7 +62,7 @@ next_hit_counted f i h = ap (λ b. cond (not b && (not (some_valid is_pause f (p
 pub passed_handed : (form : Form) (f : Frame) (js : List ℕ) (i : ℕ) (before : Option Settled) (tally : Tally) (hits : List ℕ) → Turn f js i → hands_on (flag_at f.conditions i) ≡ true → HasPassed form f js before tally hits → HasPassed form f (js ++ i ∷ []) before tally hits
 passed_handed form f js i before tally hits turn h p = record {
   carries = p.carries ∙ sym (carried-push f js i ∙ seen_after_handed (condition_at f.conditions i) (settled_after f (carried f js) i) (carried f js) h);
-  tallied = p.tallied ∙ sym (tally_of-push form f js i ∙ noted_handed form (condition_at f.conditions i) (settled_at f i) (slice_index f.lefts i) (tally_of form f js) h);
+  tallied = p.tallied ∙ sym (tally_of-push form f js i ∙ noted_combining form (condition_at f.conditions i) (settled_at f i) (slice_index f.lefts i) (tally_of form f js) (combines_handed (flag_at f.conditions i) h));
   written = written_more f js hits hits i (old_hits f js hits i p.written turn.fresh ∙ sym (next_hit_handed f i h)) (λ j other. refl) p.written;
 }
 

@@ -4,9 +4,9 @@ use Rattle.std.specs.List.{list_any, list_all, filter}
 use Rattle.std.proofs.lemmas.List.Folds.{list_any-append, list_all-append}
 use Rattle.std.proofs.Math.Bool.{or-false, and-true}
 use Rattle.ra_condition.specs.declared.flag.Flag.{Flag}
-use Rattle.ra_condition.specs.declared.flag.Flag.TheVariants.{AddSource, SubSource, AddAddress, Remember}
+use Rattle.ra_condition.specs.declared.flag.Flag.TheVariants.{AddSource, SubSource, AddHits, SubHits, AndNext, OrNext, ResetNextIf, AddAddress, Remember}
 use Rattle.ra_condition.specs.declared.condition.Condition.{Condition}
-use Rattle.ra_condition.specs.Flags.{hands_on, is_pause, is_reset, is_measured, is_measured_if, is_wanted, is_required}
+use Rattle.ra_condition.specs.Flags.{combines, is_pause, is_reset, is_measured, is_measured_if, is_wanted, is_required}
 use Rattle.ra_condition.specs.Contents.{condition_at}
 use Rattle.ra_condition.specs.Chains.{places}
 use Rattle.ra_condition.proofs.Passes.{any_parts, all_parts}
@@ -117,13 +117,18 @@ same_left t =
     same_tally (or-false t.paused) (or-false t.reset) (and-true t.valid) (and-true t.primed) (and-true t.counting)
     (larger_none t.greatest) (or-false t.from_hits)
 
-noted_flag : (form : Form) (flag : Flag) (c : Condition) (here : Settled) (left : ℕ) (t : Tally) → hands_on flag ≡ true → noted form (record c { flag = flag }) here left t ≡ t
+noted_flag : (form : Form) (flag : Flag) (c : Condition) (here : Settled) (left : ℕ) (t : Tally) → combines flag ≡ true → noted form (record c { flag = flag }) here left t ≡ t
 noted_flag form AddSource c here left t h = same_left t
 noted_flag form SubSource c here left t h = same_left t
+noted_flag form AddHits c here left t h = same_left t
+noted_flag form SubHits c here left t h = same_left t
+noted_flag form AndNext c here left t h = same_left t
+noted_flag form OrNext c here left t h = same_left t
+noted_flag form ResetNextIf c here left t h = same_left t
 noted_flag form AddAddress c here left t h = same_left t
 noted_flag form Remember c here left t h = same_left t
 noted_flag form _ c here left t h = cc
 
--- a condition that only hands a value on changes no tally
-pub noted_handed : (form : Form) (c : Condition) (here : Settled) (left : ℕ) (t : Tally) → hands_on c.flag ≡ true → noted form c here left t ≡ t
-noted_handed form c here left t h = noted_flag form c.flag c here left t h
+-- a condition that combines changes no tally
+pub noted_combining : (form : Form) (c : Condition) (here : Settled) (left : ℕ) (t : Tally) → combines c.flag ≡ true → noted form c here left t ≡ t
+noted_combining form c here left t h = noted_flag form c.flag c here left t h

@@ -30,6 +30,34 @@ impl Settled {
         requires { AddWithin (2 ^ 65) before }
         ensures { result ≡ settled condition.now truth hits before }
     {
+        match before {
+            None => Settled::first(condition, truth, hits),
+            Some(before) => Settled::behind(condition, truth, hits, before),
+        }
+    }
+
+    // A condition with none before it, as most are: nothing resets it, and its hits are all there are.
+    fn first(condition: &Condition, truth: bool, hits: u32) -> Self
+        ensures { result ≡ settled condition.now truth hits None }
+    {
+        let target = condition.target;
+        let hit = equations::hits_after(false, truth, target, hits);
+        Settled {
+            flag: condition.flag,
+            reset: false,
+            hit,
+            add: 0,
+            total: hit,
+            valid: equations::is_valid_alone(false, truth, target, hit),
+        }
+    }
+
+    // A condition with one before it in its chain.
+    fn behind(condition: &Condition, truth: bool, hits: u32, before: Settled) -> Self
+        requires { AddWithin (2 ^ 65) (Some before) }
+        ensures { result ≡ settled condition.now truth hits (Some before) }
+    {
+        let before = Some(before);
         let met = equations::is_met(before, truth);
         let reset = equations::is_reset(before);
         let hit = equations::hits_after(reset, met, condition.target, hits);

@@ -1,15 +1,15 @@
 //! What the conditions visited so far say together.
 
-ghost use Rattle.std.specs.Prelude.{◌≡◌};
+ghost use Rattle.std.specs.Prelude.{◌≡◌, ◌&&◌};
 ghost use Rattle.ra_condition.specs.Contents.{group_contents};
 ghost use Rattle.ra_group.specs.Counting.{counts_hits};
 ghost use Rattle.ra_group.specs.Outcome.{from_total, number_of, larger, option_if};
-ghost use Rattle.ra_group.specs.Tallies.{noted, no_tally, outcome_by, offered};
+ghost use Rattle.ra_group.specs.Tallies.{noted, no_tally, outcome_by};
 
 use crate::form::Form;
 use crate::outcome::Outcome;
 use crate::settled::Settled;
-use ra_condition::{Condition, Group};
+use ra_condition::{Condition, Flag, Group};
 use ra_operand::Op;
 
 /// What the conditions visited so far say together.
@@ -51,15 +51,37 @@ impl Tally {
     pub fn note(&mut self, form: Form, condition: &Condition, settled: &Settled, left: u32)
         ensures { self.new ≡ noted form condition.now settled.now left self.old }
     {
-        let flag = condition.flag;
         let valid = settled.valid;
-        self.paused |= flag.is_pause() & valid;
-        self.reset |= flag.is_reset() & valid;
-        self.valid &= !flag.is_required() | valid;
-        self.primed &= !flag.is_wanted() | valid;
-        self.counting &= !flag.is_measured_if() | valid;
-        self.greatest = larger(self.greatest, offered(form, condition, settled, left));
-        self.from_hits |= flag.is_measured() & is_from_total(form, condition);
+        match condition.flag {
+            Flag::Plain => self.want(valid),
+            Flag::PauseIf => self.paused |= valid,
+            Flag::ResetIf => self.reset |= valid,
+            Flag::TriggerIf => self.valid &= valid,
+            Flag::MeasuredIf => {
+                self.want(valid);
+                self.counting &= valid;
+            }
+            Flag::Measured | Flag::MeasuredPercent => {
+                self.want(valid);
+                let number = number(form, condition, settled.total, left);
+                self.greatest = larger(self.greatest, Some(number));
+                self.from_hits |= is_from_total(form, condition);
+            }
+            // These combine, and say nothing by themselves.
+            Flag::AddSource | Flag::SubSource | Flag::AddHits | Flag::SubHits | Flag::AndNext => {}
+            Flag::OrNext | Flag::ResetNextIf | Flag::AddAddress | Flag::Remember => {}
+        }
+    }
+
+    // Takes a condition that has to be valid for the group to be valid and to be primed.
+    fn want(&mut self, valid: bool)
+        ensures { self.new ≡ record self.old {
+          valid = self.old.valid && valid;
+          primed = self.old.primed && valid;
+        } }
+    {
+        self.valid &= valid;
+        self.primed &= valid;
     }
 
     /// The outcome of the group, once all conditions are noted.
@@ -111,17 +133,6 @@ fn number(form: Form, condition: &Condition, total: u32, left: u32) -> u32
         total
     } else {
         total.min(condition.target)
-    }
-}
-
-// The number that the condition offers, if it is measured.
-fn offered(form: Form, condition: &Condition, settled: &Settled, left: u32) -> Option<u32>
-    ensures { result ≡ offered form condition.now settled.now left }
-{
-    if condition.flag.is_measured() {
-        Some(number(form, condition, settled.total, left))
-    } else {
-        None
     }
 }
 
