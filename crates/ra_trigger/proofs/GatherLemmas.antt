@@ -17,20 +17,19 @@ greatest_push : (os : List Outcome) (o : Outcome) → greatest_of (os ++ o ∷ [
 greatest_push [] o = larger_none o.measured
 greatest_push (p ∷ os) o = ap (larger p.measured) (greatest_push os o) ∙ sym (larger_assoc p.measured (greatest_of os) o.measured)
 
-abbrev gathering : Outcome → (reset from_hits : Bool) → Option ℕ → (triggers alts some_valid some_primed all_paused : Bool) → Gathered
-gathering core reset from_hits measured triggers alts some_valid some_primed all_paused = record { core = core; reset = reset; from_hits = from_hits; measured = measured; triggers = triggers; alts = alts; some_valid = some_valid; some_primed = some_primed; all_paused = all_paused }
+abbrev gathering : Outcome → (reset from_hits : Bool) → Option ℕ → (alts some_valid some_primed all_paused : Bool) → Gathered
+gathering core reset from_hits measured alts some_valid some_primed all_paused = record { core = core; reset = reset; from_hits = from_hits; measured = measured; alts = alts; some_valid = some_valid; some_primed = some_primed; all_paused = all_paused }
 
-same_gathering : {core : Outcome} {a b c d e g h a' b' c' d' e' g' h' : Bool} {m m' : Option ℕ} → a ≡ a' → b ≡ b' → m ≡ m' → c ≡ c' → d ≡ d' → e ≡ e' → g ≡ g' → h ≡ h' → gathering core a b m c d e g h ≡ gathering core a' b' m' c' d' e' g' h'
-same_gathering p q r s t u v w = cc
+same_gathering : {core : Outcome} {a b d e g h a' b' d' e' g' h' : Bool} {m m' : Option ℕ} → a ≡ a' → b ≡ b' → m ≡ m' → d ≡ d' → e ≡ e' → g ≡ g' → h ≡ h' → gathering core a b m d e g h ≡ gathering core a' b' m' d' e' g' h'
+same_gathering p q r t u v w = cc
 
 -- one alt more
-pub gathered_of-push : (core : Outcome) (os : List Outcome) (o : Outcome) (triggers triggers' more : Bool) → triggers' ≡ (triggers || more) → gathered_of core (os ++ o ∷ []) triggers' ≡ added o more (gathered_of core os triggers)
-gathered_of-push core os o triggers triggers' more is =
+pub gathered_of-push : (core : Outcome) (os : List Outcome) (o : Outcome) → gathered_of core (os ++ o ∷ []) ≡ added o (gathered_of core os)
+gathered_of-push core os o =
     same_gathering
     (any_push (λ p. p.reset) (core ∷ os) o)
     (any_push (λ p. p.from_hits) (core ∷ os) o)
     (greatest_push (core ∷ os) o)
-    is
     (there_push os o)
     (any_push (λ p. p.valid) os o)
     (any_push (λ p. p.primed) os o)

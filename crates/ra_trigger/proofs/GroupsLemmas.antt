@@ -1,17 +1,14 @@
 -- The frames of the groups of a trigger, one group after the other.
-use Rattle.std.proofs.Common.{◌≡◌, ℕ, ◌+◌, Bool, not, ◌&&◌, ◌||◌, Option, List, [], ◌∷◌, ◌++◌, length, take, drop, map, sum_by, refl, sym, ap, ◌∙◌, arith, append_assoc, length-append}
+use Rattle.std.proofs.Common.{◌≡◌, ℕ, ◌+◌, Bool, not, ◌&&◌, Option, List, [], ◌∷◌, ◌++◌, length, take, drop, map, sum_by, refl, sym, ap, ◌∙◌, arith, append_assoc, length-append}
 use Rattle.std.specs.List.{flat_map, list_any}
 use Rattle.std.proofs.lemmas.List.{drop-drop, take_at, drop_at, append-nil, map_push, drop_all}
 use Rattle.std.proofs.lemmas.List.Sums.{sum_by-cons, sum_by-append}
 use Rattle.std.proofs.lemmas.Grind.{flat_map-append}
-use Rattle.std.proofs.Math.Bool.{or-false}
 use Rattle.ra_condition.specs.declared.condition.Condition.{Condition}
-use Rattle.ra_condition.specs.Flags.{is_trigger}
 use Rattle.ra_group.specs.declared.form.Form.TheVariants.{InTrigger}
 use Rattle.ra_group.specs.Equations.{Frame, frame_of}
 use Rattle.ra_group.specs.Outcome.{outcome_of, next_hits}
 use Rattle.ra_group.proofs.AlongLemmas.{frame_at-drop, length-next_hits}
-use Rattle.ra_group.proofs.TallyLemmas.{any_push}
 use Rattle.ra_group.specs.Along.{frame_at, with_part}
 use Rattle.ra_trigger.specs.declared.gathered.Gathered.{Gathered}
 use Rattle.ra_trigger.specs.declared.verdict.Verdict.{Verdict}
@@ -42,7 +39,7 @@ length-hits_along (g ∷ gs) truths lefts hits =
 -- how far the groups are stepped: the core and these alts
 pub record HasStepped (truths : List Bool) (lefts hits : List ℕ) (core : List Condition) (alts : List (List Condition)) (start : ℕ) (gathered : Gathered) (now : List ℕ) : Type 0 where
   pub starts : start ≡ length core + sum_by length alts
-  pub gathers : gathered ≡ gathered_of (outcome_of InTrigger (frame_at core truths lefts hits 0)) (map (outcome_of InTrigger) (frames_along alts (drop (length core) truths) (drop (length core) lefts) (drop (length core) hits))) (has_trigger (core ∷ alts))
+  pub gathers : gathered ≡ gathered_of (outcome_of InTrigger (frame_at core truths lefts hits 0)) (map (outcome_of InTrigger) (frames_along alts (drop (length core) truths) (drop (length core) lefts) (drop (length core) hits)))
   pub written : now ≡ flat_map next_hits (frames_along (core ∷ alts) truths lefts hits) ++ drop start hits
 
 abbrev verdict : (reset valid paused primed from_hits : Bool) → Option ℕ → Verdict
@@ -55,12 +52,10 @@ part_here : (xs part : List ℕ) (n : ℕ) → length part ≡ n → with_part x
 part_here xs part n e = let z : 0 + length part ≡ n = omega arith in ap (λ m. part ++ drop m xs) z
 
 module _ (truths : List Bool) (lefts hits : List ℕ) (core : List Condition) where
-  pub stepped_core : (now : List ℕ) → now ≡ with_part hits 0 (next_hits (frame_at core truths lefts hits 0)) → HasStepped truths lefts hits core [] (length core) (gathered_of (outcome_of InTrigger (frame_at core truths lefts hits 0)) [] (list_any (λ c. is_trigger c.flag) core)) now
+  pub stepped_core : (now : List ℕ) → now ≡ with_part hits 0 (next_hits (frame_at core truths lefts hits 0)) → HasStepped truths lefts hits core [] (length core) (gathered_of (outcome_of InTrigger (frame_at core truths lefts hits 0)) []) now
   stepped_core now is = record {
     starts = omega arith;
-    gathers =
-        ap (gathered_of (outcome_of InTrigger (frame_at core truths lefts hits 0)) [])
-        (sym (or-false (list_any (λ c. is_trigger c.flag) core)));
+    gathers = refl;
     written = is ∙ part_here hits (next_hits (frame_at core truths lefts hits 0)) (length core) (length-next_hits (frame_at core truths lefts hits 0)) ∙ ap (λ xs. xs ++ drop (length core) hits) (sym (append-nil (next_hits (frame_at core truths lefts hits 0))));
   }
 
@@ -84,7 +79,7 @@ module _ (truths : List Bool) (lefts hits : List ℕ) (core : List Condition) wh
   flat_push : (fs : List Frame) (f : Frame) → flat_map next_hits (fs ++ f ∷ []) ≡ flat_map next_hits fs ++ next_hits f
   flat_push fs f = flat_map-append next_hits fs (f ∷ []) ∙ ap (λ xs. flat_map next_hits fs ++ xs) (append-nil (next_hits f))
 
-  pub stepped_alt : (cs : List Condition) (alts : List (List Condition)) (start start' : ℕ) (gathered gathered' : Gathered) (now now' : List ℕ) → HasStepped truths lefts hits core alts start gathered now → start' ≡ start + length cs → gathered' ≡ added (outcome_of InTrigger (frame_at cs truths lefts now start)) (list_any (λ c. is_trigger c.flag) cs) gathered → now' ≡ with_part now start (next_hits (frame_at cs truths lefts now start)) → HasStepped truths lefts hits core (alts ++ cs ∷ []) start' gathered' now'
+  pub stepped_alt : (cs : List Condition) (alts : List (List Condition)) (start start' : ℕ) (gathered gathered' : Gathered) (now now' : List ℕ) → HasStepped truths lefts hits core alts start gathered now → start' ≡ start + length cs → gathered' ≡ added (outcome_of InTrigger (frame_at cs truths lefts now start)) gathered → now' ≡ with_part now start (next_hits (frame_at cs truths lefts now start)) → HasStepped truths lefts hits core (alts ++ cs ∷ []) start' gathered' now'
   stepped_alt cs alts start start' gathered gathered' now now' so is_start is_gathered is_now =
       let f = frame_at cs truths lefts hits start in
       let same : frame_at cs truths lefts now start ≡ f = frame_now cs alts start gathered now so in
@@ -93,8 +88,6 @@ module _ (truths : List Bool) (lefts hits : List ℕ) (core : List Condition) wh
       let done = flat_map next_hits (frames_along (core ∷ alts) truths lefts hits) in
       let long = ends alts start so.starts in
       let more = frames_more cs alts start so.starts in
-      let triggers : has_trigger (core ∷ (alts ++ cs ∷ [])) ≡ (has_trigger (core ∷ alts) || list_any (λ c. is_trigger c.flag) cs) =
-      any_push (λ g. list_any (λ c. is_trigger c.flag) g) (core ∷ alts) cs in
       let outcomes : map (outcome_of InTrigger) (frames_along (alts ++ cs ∷ []) (drop (length core) truths) (drop (length core) lefts) (drop (length core) hits)) ≡ map (outcome_of InTrigger) rest ++ outcome_of InTrigger f ∷ [] =
       ap (map (outcome_of InTrigger)) more ∙ map_push (outcome_of InTrigger) rest f in
       let end : start + length (next_hits f) ≡ start' = ap (λ n. start + n) (length-next_hits f) ∙ sym is_start in
@@ -102,10 +95,9 @@ module _ (truths : List Bool) (lefts hits : List ℕ) (core : List Condition) wh
         starts = omega (arith, is_start, so.starts, sum_by-append length alts (cs ∷ []), sum_by-cons length cs []);
         gathers =
             is_gathered
-            ∙ ap (λ fr. added (outcome_of InTrigger fr) (list_any (λ c. is_trigger c.flag) cs) gathered) same
-            ∙ ap (added (outcome_of InTrigger f) (list_any (λ c. is_trigger c.flag) cs)) so.gathers
-            ∙ sym (ap (λ os. gathered_of core_out os (has_trigger (core ∷ (alts ++ cs ∷ [])))) outcomes
-            ∙ gathered_of-push core_out (map (outcome_of InTrigger) rest) (outcome_of InTrigger f) (has_trigger (core ∷ alts)) (has_trigger (core ∷ (alts ++ cs ∷ []))) (list_any (λ c. is_trigger c.flag) cs) triggers);
+            ∙ ap (λ fr. added (outcome_of InTrigger fr) gathered) same
+            ∙ ap (added (outcome_of InTrigger f)) so.gathers
+            ∙ sym (ap (gathered_of core_out) outcomes ∙ gathered_of-push core_out (map (outcome_of InTrigger) rest) (outcome_of InTrigger f));
         written =
             is_now
             ∙ ap (λ fr. with_part now start (next_hits fr)) same
@@ -132,12 +124,12 @@ module _ (truths : List Bool) (lefts hits : List ℕ) (core : List Condition) wh
           ∙ sym (append_assoc (next_hits (frame_at core truths lefts hits 0)) (flat_map next_hits rest) (next_hits f))
 
   -- all groups are stepped
-  pub stepped_verdict : (alts : List (List Condition)) (start : ℕ) (gathered : Gathered) (now : List ℕ) → HasStepped truths lefts hits core alts start gathered now → verdict_by gathered ≡ verdict_of (together (record { core = core; alts = alts }) truths lefts hits)
+  pub stepped_verdict : (alts : List (List Condition)) (start : ℕ) (gathered : Gathered) (now : List ℕ) → HasStepped truths lefts hits core alts start gathered now → verdict_by (has_trigger (core ∷ alts)) gathered ≡ verdict_of (together (record { core = core; alts = alts }) truths lefts hits)
   stepped_verdict alts start gathered now so =
       let core_out = outcome_of InTrigger (frame_at core truths lefts hits 0) in
       let os = map (outcome_of InTrigger) (frames_along alts (drop (length core) truths) (drop (length core) lefts) (drop (length core) hits)) in
       let reset = list_any (λ o. o.reset) (core_out ∷ os) in
-      ap verdict_by so.gathers
+      ap (verdict_by (has_trigger (core ∷ alts))) so.gathers
       ∙ same_verdict
       (ap (λ b. not reset && b) (sym (core_and_some-gathered (λ o. o.valid) core_out os)))
       (sym (core_or_all-gathered (λ o. o.paused) core_out os))

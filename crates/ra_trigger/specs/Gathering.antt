@@ -12,14 +12,13 @@ abbrev pub are_there : List Outcome → Bool
 are_there [] = false
 are_there (alt ∷ alts) = true
 
--- what the core and these alts say together, some condition a Trigger or not
-abbrev pub gathered_of : Outcome → List Outcome → Bool → Gathered
-gathered_of core alts triggers = record {
+-- what the core and these alts say together
+abbrev pub gathered_of : Outcome → List Outcome → Gathered
+gathered_of core alts = record {
   core = core;
   reset = list_any (λ o. o.reset) (core ∷ alts);
   from_hits = list_any (λ o. o.from_hits) (core ∷ alts);
   measured = greatest_of (core ∷ alts);
-  triggers = triggers;
   alts = are_there alts;
   some_valid = list_any (λ o. o.valid) alts;
   some_primed = list_any (λ o. o.primed) alts;
@@ -27,26 +26,25 @@ gathered_of core alts triggers = record {
 }
 
 -- what is gathered with one alt more
-abbrev pub added : Outcome → Bool → Gathered → Gathered
-added alt triggers g = record {
+abbrev pub added : Outcome → Gathered → Gathered
+added alt g = record {
   core = g.core;
   reset = g.reset || alt.reset;
   from_hits = g.from_hits || alt.from_hits;
   measured = larger g.measured alt.measured;
-  triggers = g.triggers || triggers;
   alts = true;
   some_valid = g.some_valid || alt.valid;
   some_primed = g.some_primed || alt.primed;
   all_paused = g.all_paused && alt.paused;
 }
 
--- the verdict that what is gathered comes to
-abbrev pub verdict_by : Gathered → Verdict
-verdict_by g = record {
+-- the verdict that what is gathered comes to, some condition a Trigger or not
+abbrev pub verdict_by : Bool → Gathered → Verdict
+verdict_by triggers g = record {
   reset = g.reset;
   valid = not g.reset && (g.core.valid && (not g.alts || g.some_valid));
   paused = g.core.paused || (g.alts && g.all_paused);
-  primed = not g.reset && (g.triggers && (g.core.primed && (not g.alts || g.some_primed)));
+  primed = not g.reset && (triggers && (g.core.primed && (not g.alts || g.some_primed)));
   from_hits = g.from_hits;
   measured = g.measured;
 }

@@ -1,16 +1,14 @@
 //! All groups of a trigger at a frame.
 
 ghost use Rattle.std.specs.Prelude.{◌≡◌, length};
-ghost use Rattle.std.specs.List.{list_any};
-ghost use Rattle.ra_condition.specs.Flags.{is_trigger};
-ghost use Rattle.ra_condition.specs.Contents.{group_contents, trigger_contents, trigger_hits};
+ghost use Rattle.ra_condition.specs.Contents.{trigger_contents, trigger_hits};
 ghost use Rattle.ra_trigger.specs.Kept.{orders_of, pauses_of};
 ghost use Rattle.ra_trigger.specs.Steps.{together};
 ghost use Rattle.ra_trigger.specs.Gathering.{verdict_of};
 
 use crate::gathered::Gathered;
 use crate::verdict::Verdict;
-use ra_condition::{Group, TriggerText};
+use ra_condition::TriggerText;
 use ra_group::{Form, step_at};
 
 /// Steps all groups, the core first, and says what they say together. The slices run over the
@@ -36,23 +34,13 @@ pub fn step_groups(
 {
     let form = Form::InTrigger;
     let core = step_at(&text.core, form, 0, orders, pauses[0], truths, lefts, hits);
-    let mut gathered = Gathered::new(core, has_trigger(&text.core));
+    let mut gathered = Gathered::new(core);
     let mut start = text.core.conditions.len();
     for (place, alt) in text.alts.iter().enumerate() {
         let pauses = pauses[place + 1];
         let outcome = step_at(alt, form, start, orders, pauses, truths, lefts, hits);
-        gathered.add(&outcome, has_trigger(alt));
+        gathered.add(&outcome);
         start += alt.conditions.len();
     }
-    gathered.verdict()
-}
-
-// Whether some condition of the group is a Trigger.
-fn has_trigger(group: &Group) -> bool
-    ensures { result ≡ list_any (λ c. is_trigger c.flag) (group_contents group.now) }
-{
-    group
-        .conditions
-        .iter()
-        .any(|condition| condition.flag.is_trigger())
+    gathered.verdict(text)
 }

@@ -1,11 +1,8 @@
-use Rattle.std.proofs.Common.{◌≡◌, ℕ, ◌+◌, ◌≤◌, Bool, List, [], length, get_or, take, map, sym, ap, ◌∙◌, subst, arith}
+use Rattle.std.proofs.Common.{◌≡◌, ℕ, ◌+◌, ◌≤◌, List, [], length, get_or, take, map, sym, ap, ◌∙◌, subst, arith}
 use Rattle.std.proofs.lemmas.List.{take_all}
 use Rattle.ra_condition.specs.declared.condition.Condition.{Condition}
 use Rattle.ra_condition.specs.Contents.{group_contents}
 use Rattle.ra_group.specs.declared.outcome.Outcome.{Outcome}
-use Rattle.ra_group.specs.declared.form.Form.TheVariants.{InTrigger}
-use Rattle.ra_group.specs.Outcome.{outcome_of}
-use Rattle.ra_group.specs.Along.{frame_at}
 use Rattle.ra_trigger.specs.declared.gathered.Gathered.{Gathered}
 use Rattle.ra_trigger.specs.Gathering.{gathered_of, added}
 use Rattle.ra_trigger.proofs.GroupsLemmas.{HasStepped, stepped_core, stepped_alt, stepped_verdict}
@@ -23,7 +20,7 @@ loop-place-init c =
     let core = group_contents c.args.text.now.core in
     let stepped = stepped_core c.args.truths.now c.args.lefts.now c.args.hits.now core c.step_at-core.new.hits c.step_at-core.ensures.next in
     let long : length core ≡ c.len-start.result = omega (arith, c.len-start.ensures, c.args.text.now.core.conditions.ok.0) in
-    let gathers = sym (c.new-gathered.ensures ∙ ap (λ (o : Outcome). gathered_of o [] c.has_trigger.result) c.step_at-core.ensures.outcome ∙ ap (gathered_of (outcome_of InTrigger (frame_at core c.args.truths.now c.args.lefts.now c.args.hits.now 0)) []) c.has_trigger.ensures) in
+    let gathers = sym (c.new-gathered.ensures ∙ ap (λ (o : Outcome). gathered_of o []) c.step_at-core.ensures.outcome) in
     subst (λ (n : ℕ). HasStepped c.args.truths.now c.args.lefts.now c.args.hits.now core [] n c.new-gathered.result c.step_at-core.new.hits) long
     (subst (λ (g : Gathered). HasStepped c.args.truths.now c.args.lefts.now c.args.hits.now core [] (length core) g c.step_at-core.new.hits) gathers stepped)
 
@@ -62,7 +59,7 @@ loop-place-preserved c =
     let alts = map group_contents (take c.loop-place.place c.args.text.now.alts.items) in
     let more = alts_more core c.args.text.now.alts.items c.args.orders.now c.requires.orders c.loop-place.place c.alt-item.result c.loop-place.start (omega (arith, ap length same)) (c.alt-item.is ∙ ap (λ gs. get_or gs c.loop-place.place c.alt-item.result) same) c.loop-place.invariant.starts in
     let is_start : c.loop-place.start + c.len-start-in-loop-place.result ≡ c.loop-place.start + length (group_contents c.alt-item.result) = omega (arith, c.len-start-in-loop-place.ensures, c.alt-item.result.conditions.ok.0) in
-    let is_gathered = c.add.ensures ∙ ap (λ (o : Outcome). added o c.has_trigger-in-loop-place.result c.loop-place.gathered) c.step_at-outcome.ensures.outcome ∙ ap (λ (b : Bool). added (outcome_of InTrigger (frame_at (group_contents c.alt-item.result) c.args.truths.now c.args.lefts.now c.loop-place.hits c.loop-place.start)) b c.loop-place.gathered) c.has_trigger-in-loop-place.ensures in
+    let is_gathered = c.add.ensures ∙ ap (λ (o : Outcome). added o c.loop-place.gathered) c.step_at-outcome.ensures.outcome in
     subst (λ (gs : List (List Condition)). HasStepped c.args.truths.now c.args.lefts.now c.args.hits.now core gs (c.loop-place.start + c.len-start-in-loop-place.result) c.add.new.self c.step_at-outcome.new.hits) (sym more)
     (stepped_alt c.args.truths.now c.args.lefts.now c.args.hits.now core (group_contents c.alt-item.result) alts c.loop-place.start (c.loop-place.start + c.len-start-in-loop-place.result) c.loop-place.gathered c.add.new.self c.loop-place.hits c.step_at-outcome.new.hits c.loop-place.invariant is_start is_gathered c.step_at-outcome.ensures.next)
 
