@@ -7,6 +7,7 @@ mod LawLemmas
 mod OutcomeLemmas
 mod PassLemmas
 pub mod TallyLemmas
+mod TextOrder
 mod TurnLemmas
 mod Turns
 pub mod Vectors

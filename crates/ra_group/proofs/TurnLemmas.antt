@@ -1,7 +1,8 @@
 -- One turn of the pass, by what its calls ensure.
 use Rattle.std.proofs.Common.{◌≡◌, ◌≢◌, ℕ, ◌+◌, ◌^◌, ◌<◌, ◌≤◌, Bool, true, false, ◌&&◌, cond, leb, Option, None, Some, List, [], ◌∷◌, ◌++◌, length, get_or, set, take, slice_index, slice_index_or, ◌⊎◌, refl, sym, ap, ◌∙◌, subst, inl, inr, arith, get_or-set_same, get_or-set_other}
-use Rattle.std.proofs.lemmas.List.{take_more}
+use Rattle.std.proofs.lemmas.List.{take_more, set-get_or}
 use Rattle.std.proofs.lemmas.Bool.{cases_lt, lt-leb, le-leb}
+use Rattle.ra_condition.specs.declared.condition.Condition.{Condition}
 use Rattle.ra_condition.specs.Flags.{combines, hands_on, is_pause}
 use Rattle.ra_condition.specs.Contents.{condition_at, flag_at}
 use Rattle.ra_condition.specs.Chains.{in_pause_chain, places, pass_order}
@@ -9,12 +10,14 @@ use Rattle.ra_condition.proofs.OrderLemmas.{pausing}
 use Rattle.ra_group.specs.declared.form.Form.{Form}
 use Rattle.ra_group.specs.declared.settled.Settled.{Settled}
 use Rattle.ra_group.specs.declared.tally.Tally.{Tally}
-use Rattle.ra_group.specs.Equations.{Frame, settled, settled_at}
+use Rattle.ra_group.specs.Equations.{Frame, settled, settled_at, seen_after}
 use Rattle.ra_group.specs.Outcome.{some_valid, next_hit}
 use Rattle.ra_group.specs.Tallies.{noted}
 use Rattle.ra_group.specs.Bounds.{AddWithin}
 use Rattle.ra_group.proofs.BoundsLemmas.{AddWithin-prev_of}
 use Rattle.ra_group.proofs.Turns.{Turn, LateTurn, turn_early, turn_late}
+use Rattle.ra_group.proofs.Carried.{combines_handed, seen_after_handed, seen_after_counted}
+use Rattle.ra_group.proofs.TallyLemmas.{noted_combining}
 use Rattle.ra_group.proofs.PassLemmas.{HasPassed, passed_handed, passed_counted, settled-turn, old_hits, next_hit_early, next_hit_late}
 
 module _ (form : Form) (f : Frame) (order : List ℕ) (k : ℕ) (passes : order ≡ pass_order f.conditions) (within : k < length order) where
@@ -107,3 +110,38 @@ module _ (form : Form) (f : Frame) (order : List ℕ) (k : ℕ) (passes : order 
       subst (λ (js : List ℕ). HasPassed form f js before' tally' hits') one_more
       (subst (λ (t : Tally). HasPassed form f (take k order ++ i ∷ []) before' t hits') tallies
       (subst (λ (b : Option Settled). HasPassed form f (take k order ++ i ∷ []) b (noted form (condition_at f.conditions i) (settled_at f i) (slice_index f.lefts i) tally) hits') carries done))
+
+-- one condition is visited at its place, and its hits are written where they do not stay
+pub record IsVisited (form : Form) (f : Frame) (i : ℕ) (stays : Bool) (before before' : Option Settled) (tally tally' : Tally) (hits hits' : List ℕ) : Type 0 where
+  pub carries : before' ≡ seen_after (condition_at f.conditions i) (settled (condition_at f.conditions i) (slice_index_or f.truths i false) (slice_index hits i) before) before
+  pub tallies : tally' ≡ noted form (condition_at f.conditions i) (settled (condition_at f.conditions i) (slice_index_or f.truths i false) (slice_index hits i) before) (slice_index f.lefts i) tally
+  pub writes : hits' ≡ cond stays hits (set hits i (cond (hands_on (flag_at f.conditions i)) (get_or hits i 0) (settled (condition_at f.conditions i) (slice_index_or f.truths i false) (slice_index hits i) before).hit))
+
+-- the pass has come one turn further
+pub turn_visited : (form : Form) (f : Frame) (order : List ℕ) (k : ℕ) (passes : order ≡ pass_order f.conditions) (within : k < length order) (stays : Bool) (before before' : Option Settled) (tally tally' : Tally) (hits hits' : List ℕ) → length hits ≡ length f.conditions → stays ≡ (tally.paused && leb (length (pausing f.conditions)) k) → IsVisited form f (get_or order k 0) stays before before' tally tally' hits hits' → HasPassed form f (take k order) before tally hits → HasPassed form f (take (k + 1) order) before' tally' hits'
+turn_visited form f order k passes within stays before before' tally tally' hits hits' long is_stays v p = by_handing (hands_on (flag_at f.conditions i)) refl
+  where
+    i : ℕ
+    i = get_or order k 0
+
+    c : Condition
+    c = condition_at f.conditions i
+
+    here : Settled
+    here = settled c (slice_index_or f.truths i false) (slice_index hits i) before
+
+    same_hits : (b : Bool) → cond b hits (set hits i (get_or hits i 0)) ≡ hits
+    same_hits true = refl
+    same_hits false = set-get_or hits i 0
+
+    by_handing : (h : Bool) → hands_on (flag_at f.conditions i) ≡ h → HasPassed form f (take (k + 1) order) before' tally' hits'
+    by_handing true h =
+        let carries : before ≡ before' = sym (v.carries ∙ seen_after_handed c here before h) in
+        let tallies : tally ≡ tally' = sym (v.tallies ∙ noted_combining form c here (slice_index f.lefts i) tally (combines_handed (flag_at f.conditions i) h)) in
+        let writes : hits ≡ hits' = sym (v.writes ∙ ap (λ b. cond stays hits (set hits i (cond b (get_or hits i 0) here.hit))) h ∙ same_hits stays) in
+        subst (λ (b : Option Settled). HasPassed form f (take (k + 1) order) b tally' hits') carries
+        (subst (λ (t : Tally). HasPassed form f (take (k + 1) order) before t hits') tallies
+        (subst (λ (hs : List ℕ). HasPassed form f (take (k + 1) order) before tally hs) writes (turn_handed form f order k passes within before tally hits h p)))
+    by_handing false h =
+        let writes : hits' ≡ cond stays hits (set hits i here.hit) = v.writes ∙ ap (λ b. cond stays hits (set hits i (cond b (get_or hits i 0) here.hit))) h in
+        turn_counted form f order k passes within before before' tally tally' hits hits' here stays long h refl is_stays v.tallies writes (v.carries ∙ seen_after_counted c here before h) p

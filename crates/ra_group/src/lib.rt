@@ -11,6 +11,7 @@ mod settled;
 mod tally;
 #[cfg(test)]
 mod tests;
+mod visit;
 
 pub use along::step_at;
 pub use form::Form;

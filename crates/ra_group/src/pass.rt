@@ -1,6 +1,6 @@
-//! The pass over a group, in pass order, with running values.
+//! The pass over a group, in pass order.
 
-ghost use Rattle.std.specs.Prelude.{◌≡◌, ◌↔◌, ◌⊎◌, None, true, length};
+ghost use Rattle.std.specs.Prelude.{◌≡◌, ◌↔◌, ◌⊎◌, ◌≤◌, ◌^◌, None, true, length};
 ghost use Rattle.ra_condition.specs.Contents.{group_contents};
 ghost use Rattle.ra_condition.specs.Chains.{pass_order};
 ghost use Rattle.ra_group.specs.Along.{pause_count};
@@ -10,9 +10,8 @@ ghost use Rattle.ra_group.specs.OutcomeLaws.{NoneMeasured};
 
 use crate::form::Form;
 use crate::outcome::Outcome;
-use crate::settled::Settled;
-use crate::tally::Tally;
-use ra_condition::Group;
+use crate::visit::Pass;
+use ra_condition::{Condition, Group};
 
 /// Steps a group by a frame: docs/DEFINITIONS.md, "Group outcome".
 ///
@@ -42,22 +41,67 @@ pub fn step(
         ⊎ NoneMeasured (frame_of (group_contents group.now) truths.now lefts.now hits.old)) }
 {
     let conditions = group.conditions.as_slice();
-    let mut before = None;
-    let mut tally = Tally::new();
+    if pauses == 0 {
+        in_text_order(conditions, form, truths, lefts, hits)
+    } else {
+        in_pass_order(conditions, form, order, pauses, truths, lefts, hits)
+    }
+}
+
+// Steps a group without pause chains: its pass order is that of the text, and nothing pauses it.
+fn in_text_order(
+    conditions: &[Condition],
+    form: Form,
+    truths: &[bool],
+    lefts: &[u32],
+    hits: &mut [u32],
+) -> Outcome
+    requires few { length conditions.now ≤ 2 ^ 32 }
+    requires pauses { pause_count conditions.now ≡ 0 }
+    requires truths { length truths.now ≡ length conditions.now }
+    requires lefts { length lefts.now ≡ length conditions.now }
+    requires hits { length hits.old ≡ length conditions.now }
+
+    ensures outcome { result ≡ outcome_of form (frame_of conditions.now truths.now lefts.now hits.old) }
+    ensures next { hits.new ≡ next_hits (frame_of conditions.now truths.now lefts.now hits.old) }
+{
+    let mut pass = Pass::new();
+    for (place, condition) in conditions.iter().enumerate() {
+        let next = pass.visit(form, condition, truths[place], lefts[place], hits[place]);
+        hits[place] = next;
+    }
+    pass.tally.outcome()
+}
+
+// Steps a group in its pass order, the pause chains first.
+fn in_pass_order(
+    conditions: &[Condition],
+    form: Form,
+    order: &[u32],
+    pauses: u32,
+    truths: &[bool],
+    lefts: &[u32],
+    hits: &mut [u32],
+) -> Outcome
+    requires order { order.now ≡ pass_order conditions.now }
+    requires pauses { pauses ≡ pause_count conditions.now }
+    requires truths { length truths.now ≡ length conditions.now }
+    requires lefts { length lefts.now ≡ length conditions.now }
+    requires hits { length hits.old ≡ length conditions.now }
+
+    ensures outcome { result ≡ outcome_of form (frame_of conditions.now truths.now lefts.now hits.old) }
+    ensures next { hits.new ≡ next_hits (frame_of conditions.now truths.now lefts.now hits.old) }
+{
+    let mut pass = Pass::new();
     for (turn, place) in order.iter().enumerate() {
         let place = *place as usize;
-        let condition = &conditions[place];
-        if condition.flag.hands_on() {
-            continue;
-        }
-        let settled = Settled::of(condition, truths[place], hits[place], before);
         // Past the pause chains it is known whether the group is paused, and then its hits stay.
-        let frozen = tally.paused && turn >= pauses as usize;
-        tally.note(form, condition, &settled, lefts[place]);
+        let frozen = pass.tally.paused && turn >= pauses as usize;
+        let condition = &conditions[place];
+        let next = pass.visit(form, condition, truths[place], lefts[place], hits[place]);
         if !frozen {
-            hits[place] = settled.hit;
+            hits[place] = next;
         }
-        before = settled.seen_next();
     }
-    tally.outcome()
+    pass.tally.outcome()
 }

@@ -1,5 +1,4 @@
-ghost use Rattle.std.specs.Prelude.{◌≡◌, ◌^◌, if◌then◌else◌, None, Some};
-ghost use Rattle.ra_condition.specs.Flags.{combines};
+ghost use Rattle.std.specs.Prelude.{◌≡◌, ◌^◌, None, Some};
 
 use crate::equations;
 use ra_condition::{Condition, Flag};
@@ -71,17 +70,6 @@ impl Settled {
             add,
             total,
             valid: equations::is_valid(condition, total, alone),
-        }
-    }
-
-    /// What the condition after this one sees before it: nothing after the end of a chain.
-    pub fn seen_next(self) -> Option<Self>
-        ensures { result ≡ (if combines self.flag then Some self else None) }
-    {
-        if self.flag.combines() {
-            Some(self)
-        } else {
-            None
         }
     }
 }

@@ -1,11 +1,11 @@
 use Rattle.std.proofs.Common.{ℕ, ◌^◌, ◌<◌, take, get_or}
 use Rattle.ra_group.specs.Equations.{frame_of}
 use Rattle.ra_group.proofs.PassLemmas.{HasPassed}
-use Rattle.ra_group.proofs.pass.step.Given as goal
+use Rattle.ra_group.proofs.pass.in_pass_order.Given as goal
 
 -- the pass has gone as far as the turn
 abbrev pub invariant-loop-turn : goal.invariant-loop-turn
 invariant-loop-turn l = record {
-  passed : HasPassed l.form (frame_of l.conditions l.truths l.lefts l.initial.hits) (take l.turn l.order) l.before l.tally l.hits;
+  passed : HasPassed l.form (frame_of l.conditions l.truths l.lefts l.initial.hits) (take l.turn l.order) l.pass.before l.pass.tally l.hits;
   small : (k : ℕ) → get_or l.initial.hits k 0 < 2 ^ 32;
 }
