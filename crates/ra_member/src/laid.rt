@@ -5,7 +5,7 @@ ghost use Rattle.ra_member.specs.Runs.{MayFill, IsFilled};
 ghost use Rattle.std.specs.Prelude.{map};
 ghost use Rattle.std.specs.Result.{OnOk};
 
-use crate::reading::{read_numbers, read_truths};
+use crate::reading::read_conditions;
 use ra_chain::GroupPlan;
 use ra_condition::{Group, Part, TriggerText, ValueText};
 use ra_memref::Table;
@@ -47,12 +47,12 @@ impl Laid {
         requires sampled { table.now.sampled ≡ true }
         ensures { IsFilled table.now.values self.old self.new }
     {
-        read_numbers(table, &self.plan.lefts, &mut self.lefts);
-        read_truths(
+        read_conditions(
             table,
             &self.ops,
-            &self.lefts,
+            &self.plan.lefts,
             &self.plan.rights,
+            &mut self.lefts,
             &mut self.truths,
         );
     }

@@ -7,35 +7,31 @@ ghost use Rattle.ra_member.specs.Readings.{numbers_at, truths_by, AreValued, sum
 use ra_memref::Table;
 use ra_operand::{Op, compare};
 
-// Reads the number of each node.
-pub(crate) fn read_numbers(table: &Table, nodes: &[u32], numbers: &mut [u32])
-    requires valued { AreValued table.now.nodes nodes.now }
-    requires sampled { table.now.sampled ≡ true }
-    requires as_many { length numbers.old ≡ length nodes.now }
-    ensures { numbers.new ≡ numbers_at table.now.values nodes.now }
-{
-    for (place, node) in nodes.iter().enumerate() {
-        numbers[place] = table.value(*node);
-    }
-}
-
-// Compares the left numbers with those of the right nodes.
-pub(crate) fn read_truths(
+// Reads the number of each left node, and compares it with that of the right node beside it.
+pub(crate) fn read_conditions(
     table: &Table,
     ops: &[Op],
-    lefts: &[u32],
-    nodes: &[u32],
+    left_nodes: &[u32],
+    right_nodes: &[u32],
+    lefts: &mut [u32],
     truths: &mut [bool],
 )
-    requires valued { AreValued table.now.nodes nodes.now }
+    requires left_nodes { AreValued table.now.nodes left_nodes.now }
+    requires right_nodes { AreValued table.now.nodes right_nodes.now }
     requires sampled { table.now.sampled ≡ true }
-    requires lefts { length lefts.now ≡ length ops.now }
-    requires nodes { length nodes.now ≡ length ops.now }
+    requires left_count { length left_nodes.now ≡ length ops.now }
+    requires right_count { length right_nodes.now ≡ length ops.now }
+    requires lefts { length lefts.old ≡ length ops.now }
     requires truths { length truths.old ≡ length ops.now }
-    ensures { truths.new ≡ truths_by ops.now lefts.now (numbers_at table.now.values nodes.now) }
+
+    ensures lefts { lefts.new ≡ numbers_at table.now.values left_nodes.now }
+    ensures truths { truths.new ≡ truths_by ops.now (numbers_at table.now.values left_nodes.now)
+        (numbers_at table.now.values right_nodes.now) }
 {
     for (place, op) in ops.iter().enumerate() {
-        truths[place] = holds(*op, lefts[place], table.value(nodes[place]));
+        let left = table.value(left_nodes[place]);
+        lefts[place] = left;
+        truths[place] = holds(*op, left, table.value(right_nodes[place]));
     }
 }
 
