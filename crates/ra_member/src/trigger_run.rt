@@ -9,7 +9,7 @@ use ra_condition::TriggerText;
 use ra_indirect::Pool;
 use ra_memref::Table;
 use ra_text::OutOfMemory;
-use ra_trigger::{Change, Trigger};
+use ra_trigger::{Change, State, Trigger};
 use std::alloc::Global;
 
 /// A trigger between frames: what is kept of it, and its plan.
@@ -59,6 +59,14 @@ impl TriggerRun {
         ensures run { IsTriggerRun table.now.nodes (trigger_contents text.now) self.new }
         ensures steps { StepsAchievement table.now (trigger_contents text.now) self.old self.new result }
     {
+        // A triggered achievement looks at no condition.
+        if matches!(self.trigger.state(), State::Triggered) {
+            return Change {
+                before: State::Triggered,
+                after: State::Triggered,
+                measured: None,
+            };
+        }
         self.laid.fill(table);
         self.trigger.step(
             text,
