@@ -48,6 +48,7 @@ impl Tally {
     }
 
     /// Takes one condition more.
+    #[inline(always)]
     pub fn note(&mut self, form: Form, condition: &Condition, settled: &Settled, left: u32)
         ensures { self.new ≡ noted form condition.now settled.now left self.old }
     {

@@ -32,6 +32,8 @@ impl Pass {
 
     /// Visits one condition more, and gives its hits after the frame. Those of a condition that only
     /// hands a value on stay.
+    // Two loops call it, and each is the inner loop of a frame.
+    #[inline(always)]
     pub fn visit(
         &mut self,
         form: Form,
