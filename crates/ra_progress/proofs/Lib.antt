@@ -19,3 +19,4 @@ pub mod Segments
 pub mod Sizes
 pub mod Usable
 pub mod Walks
+pub mod Written

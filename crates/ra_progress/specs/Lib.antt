@@ -7,3 +7,4 @@ pub mod Refusals
 pub mod Room
 pub mod Saying
 pub mod Spelling
+pub mod Writing

@@ -1,7 +1,7 @@
 //! Progress files: what a set keeps between runs, in three versions.
 //!
-//! Version 3 is written, and versions 1, 2 and 3 are read. All but `order_of`, `Said::new`, `encode`
-//! and `decode` take no memory.
+//! Version 3 is written, and versions 1, 2 and 3 are read. What takes memory is `order_of`, `Said::new`,
+//! `decode`, `encode`, and the calls that write a file piece by piece.
 #![tactic(auto)]
 
 mod checking;
@@ -44,4 +44,4 @@ pub use relation::of_this_set;
 pub use said::Said;
 pub use shape::{ItemShape, PresenceShape, Shape};
 pub use snapshot::{ItemKept, PresenceKept, Snapshot};
-pub use writing::encode;
+pub use writing::{begin, close, encode, put_achievement, put_board, put_presence, state_byte};
