@@ -88,6 +88,17 @@ plan_none nodes plan order pauses lefts rights = record {
   rights = subst (λ ns. AreSpelled nodes ns []) (sym rights) tt;
 }
 
+-- a plan of one group
+pub plan_one : (nodes : List Node) (cs : List Condition) (plan : GroupPlan) → plan.order.items ≡ pass_order cs
+    → plan.pauses.items ≡ pause_count cs ∷ [] → SpellsEach nodes plan.lefts.items (length cs) (left_of cs)
+    → SpellsEach nodes plan.rights.items (length cs) (right_of cs) → IsPlan nodes (cs ∷ []) plan
+plan_one nodes cs plan order pauses lefts rights = record {
+  order = order ∙ sym (append-nil (pass_order cs));
+  pauses = pauses;
+  lefts = subst (AreSpelled nodes plan.lefts.items) (sym (append-nil (lefts_of cs))) (spelled_each nodes plan.lefts.items (length cs) (left_of cs) lefts);
+  rights = subst (AreSpelled nodes plan.rights.items) (sym (append-nil (rights_of cs))) (spelled_each nodes plan.rights.items (length cs) (right_of cs) rights);
+}
+
 -- a group behind others
 module _ (old new : List Node) (front : IsFront old new) (cs : List Condition) (before added after : GroupPlan) where
   pub plan_added :

@@ -36,8 +36,7 @@ pub(crate) fn trigger_plan(
     ensures grows { OnOk result (GrowsWithin pool.old pool.new (trees_in_trigger (trigger_contents text.now))
         (trigger_hits (trigger_contents text.now))) }
 {
-    let mut plan = no_groups(alloc);
-    put_group(alloc, &mut plan, &text.core, pool)?;
+    let mut plan = group_plan(alloc, &text.core, pool)?;
     for alt in &text.alts {
         put_group(alloc, &mut plan, alt, pool)?;
     }
@@ -57,6 +56,18 @@ fn no_groups(alloc: Global) -> GroupPlan
         lefts: Vec::new(alloc),
         rights: Vec::new(alloc),
     }
+}
+
+// The plan of one group.
+fn group_plan(alloc: Global, group: &Group, pool: &mut Pool) -> Result<GroupPlan, OutOfMemory>
+    requires joins { AllJoin (group_contents group.now) }
+    requires room { length pool.old + 13 * length (group_contents group.now) + 2 ≤ 2 ^ 31 }
+    ensures plan { IfOk result (IsPlan pool.new (group_contents group.now ∷ [])) }
+    ensures grows { OnOk result (GrowsWithin pool.old pool.new (trees_in_group (group_contents group.now))
+        (length (group_contents group.now))) }
+{
+    let plan = elaborate(alloc, group, pool)?;
+    Ok(plan)
 }
 
 // Puts the plan of a group behind that of the groups before it.

@@ -9,22 +9,21 @@ use Rattle.ra_chain.specs.Occurrence.{trees_in_group}
 use Rattle.ra_chain.proofs.JoinLemmas.{all_join}
 use Rattle.ra_member.specs.Plans.{IsPlan}
 use Rattle.ra_member.specs.Plans.{GrowsWithin}
-use Rattle.ra_member.proofs.PlanLemmas.{plan_none, within_as}
+use Rattle.ra_member.proofs.PlanLemmas.{within_as}
 use Rattle.ra_member.proofs.GrowthLemmas.{grows_more, taken_next, holds_at, weight_at}
 use Rattle.ra_member.proofs.planning.trigger_plan.Goals as goal
 
 pub loop-alt-init : goal.loop-alt-init
 loop-alt-init c =
-    let e = c.in_ok-put_group.ensures in
-    let n = c.no_groups-plan.ensures in
+    let e = c.in_ok-plan.ensures in
     let core = group_contents c.args.text.now.core in
     record {
-      plan = e.plan [] (plan_none c.args.pool.now c.no_groups-plan.result n.order n.pauses n.lefts n.rights);
-      grows = within_as c.args.pool.now c.put_group.new.pool (trees_in_group core) (trees_in_group core ++ []) (length core) (0 + length core) (sym (append-nil (trees_in_group core))) (omega arith) e.grows;
+      plan = e.plan;
+      grows = within_as c.args.pool.now c.group_plan.new.pool (trees_in_group core) (trees_in_group core ++ []) (length core) (0 + length core) (sym (append-nil (trees_in_group core))) (omega arith) e.grows;
     }
 
-pub put_group-requires-in-loop-alt-clause-joins : goal.put_group-requires-in-loop-alt-clause-joins
-put_group-requires-in-loop-alt-clause-joins c =
+pub put_group-requires-clause-joins : goal.put_group-requires-clause-joins
+put_group-requires-clause-joins c =
     let alts = c.args.text.now.alts.items in
     let k = c.loop-alt.alt-index in
     let alt = c.alt-item.result in
@@ -32,8 +31,8 @@ put_group-requires-in-loop-alt-clause-joins c =
     let is : alt ≡ get_or alts k alt = c.alt-item.is ∙ ap (λ xs. get_or xs k alt) c.deref-alt-items.ensures.value in
     all_join InTrigger (group_contents alt) (holds_at group_contents alts k alt within is IsTriggerGroup c.requires.spelled.alts)
 
-pub put_group-requires-in-loop-alt-clause-room : goal.put_group-requires-in-loop-alt-clause-room
-put_group-requires-in-loop-alt-clause-room c =
+pub put_group-requires-clause-room : goal.put_group-requires-clause-room
+put_group-requires-clause-room c =
     let core = group_contents c.args.text.now.core in
     let alts = c.args.text.now.alts.items in
     let k = c.loop-alt.alt-index in
@@ -48,14 +47,14 @@ loop-alt-preserved c =
     let alts = c.args.text.now.alts.items in
     let k = c.loop-alt.alt-index in
     let alt = c.alt-item.result in
-    let e = c.in_ok-put_group-2.ensures in
+    let e = c.in_ok-put_group.ensures in
     let groups = core ∷ map group_contents (take k alts) in
     let within : k < length alts = omega (arith, c.deref-alt-items.ensures.len) in
     let is : alt ≡ get_or alts k alt = c.alt-item.is ∙ ap (λ xs. get_or xs k alt) c.deref-alt-items.ensures.value in
     let next : core ∷ map group_contents (take (k + 1) alts) ≡ groups ++ group_contents alt ∷ [] = ap (λ gs. core ∷ gs) (taken_next group_contents alts k alt within is) in
     record {
-      plan = subst (λ gs. IsPlan c.put_group-in-loop-alt.new.pool gs c.put_group-in-loop-alt.new.plan) (sym next) (e.plan groups c.loop-alt.invariant.plan);
+      plan = subst (λ gs. IsPlan c.put_group.new.pool gs c.put_group.new.plan) (sym next) (e.plan groups c.loop-alt.invariant.plan);
       grows =
-          subst (λ gs. GrowsWithin c.args.pool.now c.put_group-in-loop-alt.new.pool (flat_map trees_in_group gs) (sum_by length gs)) (sym next)
-          (grows_more trees_in_group length c.args.pool.now c.loop-alt.pool c.put_group-in-loop-alt.new.pool groups (group_contents alt) c.loop-alt.invariant.grows e.grows);
+          subst (λ gs. GrowsWithin c.args.pool.now c.put_group.new.pool (flat_map trees_in_group gs) (sum_by length gs)) (sym next)
+          (grows_more trees_in_group length c.args.pool.now c.loop-alt.pool c.put_group.new.pool groups (group_contents alt) c.loop-alt.invariant.grows e.grows);
     }
