@@ -1,5 +1,5 @@
 -- Names with their numbers and blocks, one more at a time, and how long blocks are.
-use Rattle.std.proofs.Common.{◌≡◌, ℕ, zero, suc, ◌+◌, ◌<◌, Option, None, Some, List, [], ◌∷◌, ◌++◌, length, length-append, map, take, get_or, refl, sym, ◌∙◌, ap, arith, append_assoc, append-nil}
+use Rattle.std.proofs.Common.{◌≡◌, ℕ, zero, suc, ◌+◌, ◌<◌, Some, List, [], ◌∷◌, ◌++◌, length, length-append, map, take, get_or, refl, sym, ◌∙◌, ap, arith, append_assoc, append-nil}
 use Rattle.std.specs.Int.{w32, to_le_bytes}
 use Rattle.ra_progress.specs.declared.shape.ItemShape.{ItemShape}
 use Rattle.ra_progress.specs.declared.shape.ItemShape.TheVariants.{Achievement, Leaderboard}
@@ -25,13 +25,7 @@ pub length_presence : (shape : PresenceShape) (p : KeptPresence) → PresenceFit
 length_presence shape p fits =
     omega (arith, length-append (words (p.shown ∷ p.hits)) (words p.numbers), length_words (p.shown ∷ p.hits), length_words p.numbers, fits.1.as_many, fits.2.as_many)
 
--- each item that is kept has the shape beside it
-pub item_fits : (shapes : List ItemShape) (items : List KeptItem) (k : ℕ) (d : ItemShape) (e : KeptItem) → ItemsFit shapes items → k < length shapes → ItemFits (get_or shapes k d) (get_or items k e)
-item_fits [] items k d e fit below = absurd (omega (arith, below))
-item_fits (shape ∷ shapes) [] k d e fit below = absurd fit
-item_fits (shape ∷ shapes) (item ∷ items) zero d e fit below = fit.0
-item_fits (shape ∷ shapes) (item ∷ items) (suc k) d e fit below = item_fits shapes items k d e fit.1 (omega (arith, below))
-
+-- as many items are kept as there are shapes
 pub items_as_many : (shapes : List ItemShape) (items : List KeptItem) → ItemsFit shapes items → length items ≡ length shapes
 items_as_many [] [] fit = refl
 items_as_many [] (item ∷ items) fit = absurd fit
@@ -87,9 +81,6 @@ blocks_parts (name ∷ names) others (block ∷ blocks) rest same =
     ∙ sym (append_assoc name (to_le_bytes w32 (length block) ++ (block ++ before)) more)
 
 -- what is written in steps is written in one
-pub steps_2 : (a b c : List ℕ) → (a ++ b) ++ c ≡ a ++ (b ++ c)
-steps_2 a b c = append_assoc a b c
-
 pub steps_3 : (a b c d : List ℕ) → ((a ++ b) ++ c) ++ d ≡ a ++ (b ++ (c ++ d))
 steps_3 a b c d = append_assoc (a ++ b) c d ∙ append_assoc a b (c ++ d)
 
@@ -99,11 +90,6 @@ steps_6 a b c d e f g = append_assoc ((((a ++ b) ++ c) ++ d) ++ e) f g ∙ appen
 -- one name with its block
 pub one_block : (name : Name) (block : List ℕ) → named_blocks (name ∷ []) (block ∷ []) ≡ name ++ (to_le_bytes w32 (length block) ++ block)
 one_block name block = ap (λ xs. name ++ (to_le_bytes w32 (length block) ++ xs)) (append-nil block)
-
--- a script's block is as long as the script's shape says
-pub script_long : (shape : Option PresenceShape) (p : KeptPresence) → PresenceFits shape (Some p) → length (presence_bytes p) ≡ script_length shape
-script_long None p fits = absurd fits
-script_long (Some shape) p fits = length_presence shape p fits
 
 -- the block of an item in a list
 pub block_of : (items : List ItemKept) (k : ℕ) (d : ItemKept) → k < length items → get_or (map item_bytes (map kept_item items)) k [] ≡ item_bytes (kept_item (get_or items k d))

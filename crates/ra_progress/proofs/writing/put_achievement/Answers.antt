@@ -12,7 +12,10 @@ returns c =
     let one = words (c.args.measured ∷ []) in
     let block = c.args.state ∷ words (c.args.measured ∷ hits) in
     let long : 5 + 4 * length hits ≡ length block = omega (arith, length_words hits) in
-    block_behind c.args.bytes.now.items c.args.name.now (to_le_bytes w32 (length block)) block c.write_words-2.new.bytes.items
-    (c.in_ok-write_words-2.ensures ∙ ap (λ xs. xs ++ words hits) (c.in_ok-write_words.ensures ∙ ap (λ xs. xs ++ one) c.in_ok-push.ensures.items)
+    block_behind c.args.bytes.now.items c.args.name.now
+    (to_le_bytes w32 (length block)) block c.write_words-2.new.bytes.items
+    (c.in_ok-write_words-2.ensures ∙ ap (λ xs. xs ++ words hits) (c.in_ok-write_words.ensures
+    ∙ ap (λ xs. xs ++ one) c.in_ok-push.ensures.items)
     ∙ steps_3 c.put_named.new.bytes.items (c.args.state ∷ []) one (words hits)
-    ∙ ap (λ xs. xs ++ block) (c.in_ok-put_named.ensures ∙ ap (λ n. c.args.bytes.now.items ++ (c.args.name.now ++ to_le_bytes w32 n)) long))
+    ∙ ap (λ xs. xs ++ block) (c.in_ok-put_named.ensures
+    ∙ ap (λ n. c.args.bytes.now.items ++ (c.args.name.now ++ to_le_bytes w32 n)) long))

@@ -15,4 +15,5 @@ put_achievement-requires c =
 pub put_board-requires : goal.put_board-requires
 put_board-requires c =
     let w = c.in-Leaderboard in
-    rw (c.deref-in-Leaderboard.ensures.value, c.deref-in-Leaderboard-2.ensures.value) (board_short w.state w.hits.items w.kept.items (rw w.is at c.requires))
+    rw (c.deref-in-Leaderboard.ensures.value, c.deref-in-Leaderboard-2.ensures.value)
+    (board_short w.state w.hits.items w.kept.items (rw w.is at c.requires))

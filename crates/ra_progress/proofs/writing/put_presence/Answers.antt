@@ -12,8 +12,17 @@ returns c =
     let numbers = c.args.numbers.now in
     let one = words (c.args.shown ∷ []) in
     let block = words (c.args.shown ∷ hits) ++ words numbers in
-    let long : 4 + 4 * (length hits + length numbers) ≡ length block = omega (arith, length_words (c.args.shown ∷ hits), length_words numbers, length-append (words (c.args.shown ∷ hits)) (words numbers)) in
-    block_behind c.args.bytes.now.items c.args.name.now (to_le_bytes w32 (length block)) block c.write_words-3.new.bytes.items
-    (c.in_ok-write_words-3.ensures ∙ ap (λ xs. xs ++ words numbers) (c.in_ok-write_words-2.ensures ∙ ap (λ xs. xs ++ words hits) c.in_ok-write_words.ensures)
+    let long : 4 + 4 * (length hits + length numbers) ≡ length block =
+    omega (
+      arith,
+      length_words (c.args.shown ∷ hits),
+      length_words numbers,
+      length-append (words (c.args.shown ∷ hits)) (words numbers),
+    ) in
+    block_behind c.args.bytes.now.items c.args.name.now
+    (to_le_bytes w32 (length block)) block c.write_words-3.new.bytes.items
+    (c.in_ok-write_words-3.ensures ∙ ap (λ xs. xs ++ words numbers) (c.in_ok-write_words-2.ensures
+    ∙ ap (λ xs. xs ++ words hits) c.in_ok-write_words.ensures)
     ∙ steps_3 c.put_named.new.bytes.items one (words hits) (words numbers)
-    ∙ ap (λ xs. xs ++ block) (c.in_ok-put_named.ensures ∙ ap (λ n. c.args.bytes.now.items ++ (c.args.name.now ++ to_le_bytes w32 n)) long))
+    ∙ ap (λ xs. xs ++ block) (c.in_ok-put_named.ensures
+    ∙ ap (λ n. c.args.bytes.now.items ++ (c.args.name.now ++ to_le_bytes w32 n)) long))
