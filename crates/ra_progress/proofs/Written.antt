@@ -1,6 +1,7 @@
 -- A progress file as it is written, one piece behind the other.
-use Rattle.std.proofs.Common.{◌≡◌, ℕ, zero, suc, ◌+◌, ◌*◌, ◌<◌, ◌≤◌, Bool, Option, None, Some, List, [], ◌∷◌, ◌++◌, length, map, option_to_list, sum_by, All, refl, sym, ◌∙◌, ap, arith, append_assoc}
+use Rattle.std.proofs.Common.{◌≡◌, ℕ, zero, suc, ◌+◌, ◌*◌, ◌<◌, ◌≤◌, ◌^◌, Bool, Option, None, Some, List, [], ◌∷◌, ◌++◌, length, map, get_or, option_to_list, sum_by, All, refl, sym, ◌∙◌, ap, arith, append_assoc, Fits}
 use Rattle.std.specs.Int.{w32, w64, to_le_bytes}
+use Rattle.std.specs.List.{AllByRecursion}
 use Rattle.std.proofs.lemmas.List.{length-map}
 use Rattle.std.proofs.lemmas.List.Sums.{sum_by-cons}
 use Rattle.ra_progress.specs.declared.shape.ItemShape.{ItemShape}
@@ -98,3 +99,8 @@ presence_short None None fits short = tt
 presence_short None (Some p) fits short = absurd fits
 presence_short (Some shape) None fits short = absurd fits
 presence_short (Some shape) (Some p) fits short = omega (arith, fits.1.as_many, fits.2.as_many)
+
+-- each number of a row of numbers of 32 bits is one
+pub all_fit : (numbers : List ℕ) → ((k : ℕ) → Fits w32 (get_or numbers k 0)) → AllByRecursion (λ n. n < 2 ^ 32) numbers
+all_fit [] fit = tt
+all_fit (n ∷ numbers) fit = (let first = fit 0 in omega (arith, first), all_fit numbers (λ k. fit (suc k)))

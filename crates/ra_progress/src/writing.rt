@@ -5,7 +5,7 @@ ghost use Rattle.std.specs.Int.{w32, to_le_bytes};
 ghost use Rattle.md5.specs.Md5.{md5};
 ghost use Rattle.ra_progress.specs.Contents.{shape_contents, snapshot_contents, kept_item, kept_presence, IsOpening};
 ghost use Rattle.ra_progress.specs.Names.{IsUsable};
-ghost use Rattle.ra_words.specs.Words.{words};
+ghost use Rattle.ra_words.specs.Words.{AreWords, words};
 ghost use Rattle.ra_progress.specs.Spelling as spec;
 ghost use Rattle.ra_progress.specs.Spelling.{item_bytes, presence_block, named_words, named_blocks, progress_bytes};
 ghost use Rattle.ra_progress.specs.Writing.{FitsShort, PresenceShort, front_bytes, named_block};
@@ -49,7 +49,9 @@ pub fn begin(
     requires usable { IsUsable shape.now }
     requires cells { length_of_list cells.now ≡ length_of_list shape.now.cells.items }
     requires priors { length_of_list priors.now ≡ length_of_list shape.now.priors.items }
-    ensures { IfOk result (λ bytes. bytes.items ≡ front_bytes (shape_contents shape.now) frames cells.now priors.now) }
+    ensures bytes { IfOk result (λ bytes. bytes.items ≡ front_bytes (shape_contents shape.now) frames cells.now priors.now) }
+    ensures cells { IfOk result (λ _. AreWords (length_of_list shape.now.cells.items) cells.now) }
+    ensures priors { IfOk result (λ _. AreWords (length_of_list shape.now.priors.items) priors.now) }
 {
     let mut bytes = Vec::with_capacity(alloc, length(shape) as usize)?;
     bytes.extend_from_slice(b"RAPG\x03")?;
@@ -143,7 +145,8 @@ pub fn put_achievement(
     hits: &[u32],
 ) -> Result<(), OutOfMemory>
     requires { length_of_list hits.now ≤ 2097152 }
-    ensures { OnOk result (bytes.new.items ≡ bytes.old.items ++ named_block name.now (state ∷ words (measured ∷ hits.now))) }
+    ensures bytes { OnOk result (bytes.new.items ≡ bytes.old.items ++ named_block name.now (state ∷ words (measured ∷ hits.now))) }
+    ensures hits { OnOk result (AreWords (length_of_list hits.now) hits.now) }
 {
     let size = 5 + 4 * hits.len() as u32;
     put_named(bytes, name, size)?;

@@ -5,10 +5,11 @@ use Rattle.ra_progress.specs.Names.{entry_names}
 use Rattle.ra_progress.specs.Spelling.{mark, named_words}
 use Rattle.ra_progress.proofs.Blocks.{steps_6}
 use Rattle.ra_progress.proofs.Owns.{names_count}
+use Rattle.ra_progress.proofs.Written.{all_fit}
 use Rattle.ra_progress.proofs.writing.begin.Goals as goal
 
-pub returns : goal.returns
-returns c =
+pub returns-clause-bytes : goal.returns-clause-bytes
+returns-clause-bytes c =
     let shape = c.args.shape.now in
     let front = mark ++ 3 ∷ [] in
     let cells = to_le_bytes w32 (length shape.cells.items) ++ named_words shape.cells.items c.args.cells.now in
@@ -36,3 +37,9 @@ returns c =
     ∙ ap (λ xs. to_le_bytes w32 (length shape.cells.items) ++ (named_words shape.cells.items c.args.cells.now ++ xs))
     (append_assoc (to_le_bytes w32 (length shape.priors.items))
     (named_words shape.priors.items c.args.priors.now) many))
+
+pub returns-clause-cells : goal.returns-clause-cells
+returns-clause-cells c = record { as_many = c.requires.cells; fit = all_fit c.args.cells.now c.type_inv.cells }
+
+pub returns-clause-priors : goal.returns-clause-priors
+returns-clause-priors c = record { as_many = c.requires.priors; fit = all_fit c.args.priors.now c.type_inv.priors }

@@ -36,7 +36,7 @@ returns c =
     let o = snapshot_contents c.args.snapshot.now in
     let many = items_as_many shape.items o.items c.requires.fits.items in
     let front : c.in_ok-bytes.bytes.items ≡ front_bytes shape o.frames o.cells o.priors =
-    rw (c.deref.ensures.value, c.deref-2.ensures.value) at c.in_ok-bytes.ensures in
+    rw (c.deref.ensures.value, c.deref-2.ensures.value) at c.in_ok-bytes.ensures.bytes in
     let items = named_blocks shape.item_names (map item_bytes o.items) in
     let script = named_blocks (option_to_list shape.presence_name) (presence_block o.presence) in
     let written : c.put_items.new.bytes.items ≡ c.in_ok-bytes.bytes.items ++ items =

@@ -1,13 +1,13 @@
-use Rattle.std.proofs.Common.{◌≡◌, ◌+◌, ◌*◌, ◌++◌, ◌∙◌, [], ◌∷◌, ap, length, arith}
+use Rattle.std.proofs.Common.{refl, ◌≡◌, ◌+◌, ◌*◌, ◌++◌, ◌∙◌, [], ◌∷◌, ap, length, arith}
 use Rattle.std.specs.Int.{w32, to_le_bytes}
 use Rattle.ra_words.specs.Words.{words}
 use Rattle.ra_words.proofs.Pieces.{length_words}
 use Rattle.ra_progress.proofs.Blocks.{steps_3}
-use Rattle.ra_progress.proofs.Written.{block_behind}
+use Rattle.ra_progress.proofs.Written.{all_fit, block_behind}
 use Rattle.ra_progress.proofs.writing.put_achievement.Goals as goal
 
-pub returns : goal.returns
-returns c =
+pub returns-clause-bytes : goal.returns-clause-bytes
+returns-clause-bytes c =
     let hits = c.args.hits.now in
     let one = words (c.args.measured ∷ []) in
     let block = c.args.state ∷ words (c.args.measured ∷ hits) in
@@ -19,3 +19,6 @@ returns c =
     ∙ steps_3 c.put_named.new.bytes.items (c.args.state ∷ []) one (words hits)
     ∙ ap (λ xs. xs ++ block) (c.in_ok-put_named.ensures
     ∙ ap (λ n. c.args.bytes.now.items ++ (c.args.name.now ++ to_le_bytes w32 n)) long))
+
+pub returns-clause-hits : goal.returns-clause-hits
+returns-clause-hits c = record { as_many = refl; fit = all_fit c.args.hits.now c.type_inv.hits }
