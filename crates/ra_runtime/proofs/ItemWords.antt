@@ -55,7 +55,7 @@ length_achievement start t opened (image ∷ earlier) long =
     length_step t (truths_at start (image ∷ earlier) (groups_of t)) (lefts_at start (image ∷ earlier) (groups_of t)) (achievement_after start t opened earlier) (length_achievement start t opened earlier long)
 
 -- the byte of a state is in its table
-state_within : (state : State) → state_byte state ≤ 4
+pub state_within : (state : State) → state_byte state ≤ 4
 state_within Waiting = lit≤ tt
 state_within Active = lit≤ tt
 state_within Paused = lit≤ tt
@@ -63,7 +63,7 @@ state_within Primed = lit≤ tt
 state_within Triggered = lit≤ tt
 
 -- what is triggered is earned
-earned_where_triggered : (earned : Bool) (state : State) → state_byte state ≡ 4 → (earned || is_triggered state) ≡ true
+pub earned_where_triggered : (earned : Bool) (state : State) → state_byte state ≡ 4 → (earned || is_triggered state) ≡ true
 earned_where_triggered true state four = refl
 earned_where_triggered false Waiting four = absurd (omega (arith, four))
 earned_where_triggered false Active four = absurd (omega (arith, four))
@@ -71,7 +71,7 @@ earned_where_triggered false Paused four = absurd (omega (arith, four))
 earned_where_triggered false Primed four = absurd (omega (arith, four))
 earned_where_triggered false Triggered four = refl
 
-board_state_within : (state : BoardState) → board_byte state ≤ 4
+pub board_state_within : (state : BoardState) → board_byte state ≤ 4
 board_state_within boards.Waiting = lit≤ tt
 board_state_within boards.Active = lit≤ tt
 board_state_within boards.Started = lit≤ tt

@@ -19,14 +19,13 @@ use crate::presence_run::{PresenceRun, step_presence};
 use crate::restored::{put_back_runs, take_numbers};
 use crate::restored_presence::put_back_presence;
 use crate::runs::{state_in, step_runs};
-use crate::saved::{kept_items, kept_presence};
+use crate::saved::{put_display, put_runs};
 use crate::shapes::{laid_out, shape_over};
 use crate::shown::shown_line;
 use crate::written::put_events;
-use ra_member::put_numbers;
 use ra_memory::{Counted, Memory, Steps};
 use ra_memref::Table;
-use ra_progress::{ProgressRefused, Said, Shape, Snapshot, check, encode, frames_at};
+use ra_progress::{ProgressRefused, Said, Shape, begin, check, close, frames_at};
 use ra_set::Set;
 use ra_text::OutOfMemory;
 use std::alloc::Global;
@@ -123,19 +122,13 @@ impl Runtime {
         ensures bytes { IfOk result (λ bytes. bytes.items ≡ progress_bytes (shape_of self.now.set) self.now.kept) }
         ensures saved { IfOk result (λ bytes. IsSaved self.now.set bytes.items) }
     {
-        let frames = self.count;
-        let mut cells = Vec::new(alloc);
-        put_numbers(&mut cells, self.table.cells())?;
-        let mut priors = Vec::new(alloc);
-        put_numbers(&mut priors, self.table.priors())?;
-        let snapshot = Snapshot {
-            frames,
-            cells,
-            priors,
-            items: kept_items(alloc, &self.runs)?,
-            presence: kept_presence(alloc, &self.presence)?,
-        };
-        encode(alloc, &self.shape, &snapshot)
+        let cells = self.table.cells();
+        let priors = self.table.priors();
+        let mut bytes = begin(alloc, &self.shape, self.count, cells, priors)?;
+        put_runs(alloc, &mut bytes, &self.shape.item_names, &self.runs)?;
+        put_display(alloc, &mut bytes, &self.shape.presence_name, &self.presence)?;
+        close(&mut bytes)?;
+        Ok(bytes)
     }
 
     /// Takes up what progress bytes say, of this set or of a changed one: docs/DEFINITIONS.md, "What a runtime keeps".

@@ -1,38 +1,92 @@
-use Rattle.std.proofs.Common.{◌≡◌, ◌<◌, ◌^◌, List, IfOk, map, sym, ◌∙◌, ap, subst, arith}
-use Rattle.std.proofs.lemmas.Result.{IfOk-weaker}
-use Rattle.ra_set.specs.Contents.{SetContents, set_contents}
-use Rattle.ra_progress.specs.declared.snapshot.Snapshot.{Snapshot}
-use Rattle.ra_progress.specs.Contents.{ShapeContents, shape_contents, kept_item, snapshot_contents, ItemsFit, IsOpening}
-use Rattle.ra_progress.specs.Spelling.{progress_bytes}
+use Rattle.std.proofs.Common.{◌≡◌, ◌++◌, ◌<◌, ◌≤◌, ◌^◌, List, length, map, option_to_list, sum_by, sym, ◌∙◌, ap, subst, arith}
+use Rattle.std.proofs.lemmas.List.{length-map}
+use Rattle.md5.specs.Md5.{md5}
+use Rattle.ra_memref.specs.Names.{cell_name, tracked_name}
+use Rattle.ra_set.specs.Contents.{set_contents}
+use Rattle.ra_words.specs.Words.{AreWords}
+use Rattle.ra_progress.specs.declared.shape.ItemShape.{ItemShape}
+use Rattle.ra_progress.specs.declared.shape.PresenceShape.{PresenceShape}
+use Rattle.ra_progress.specs.Contents.{ShapeContents, shape_contents, ItemsFit}
+use Rattle.ra_progress.specs.Layout.{item_length, script_length}
+use Rattle.ra_progress.specs.Spelling.{progress_bytes, body_bytes, item_bytes, presence_block, named_blocks}
+use Rattle.ra_progress.specs.Writing.{front_bytes}
+use Rattle.ra_progress.proofs.Written.{body_in_parts}
 use Rattle.ra_runtime.specs.declared.item_run.ItemRun.{ItemRun}
+use Rattle.ra_runtime.specs.Order.{set_cells, set_tracked, shape_of}
+use Rattle.ra_runtime.specs.AllRuns.{opening_by}
+use Rattle.ra_runtime.specs.ItemRuns.{kept_run}
+use Rattle.ra_runtime.specs.PresenceRuns.{optional_presence_kept}
 use Rattle.ra_runtime.specs.Runtime.{RuntimeSeen}
 use Rattle.ra_runtime.specs.Shapes.{run_shape}
-use Rattle.ra_runtime.specs.Saving.{PutsBehind, IsSaved}
-use Rattle.ra_runtime.proofs.SaveLemmas.{opening_taken}
+use Rattle.ra_runtime.specs.Saving.{IsSaved}
+use Rattle.ra_runtime.proofs.ShapeLemmas.{runs_shaped, presence_shaped}
+use Rattle.ra_runtime.proofs.SaveLemmas.{opening_taken, short_parts}
 use Rattle.ra_runtime.proofs.runtime.Runtime.save.Goals as goal
 
-pub encode-requires-clause-fits : goal.encode-requires-clause-fits
-encode-requires-clause-fits c =
-    let set = set_contents c.self.inside.set in
+pub begin-requires-clause-cells : goal.begin-requires-clause-cells
+begin-requires-clause-cells c =
     let inv = c.self.invariant in
-    let snapshot : Snapshot = record { frames = c.self.inside.count; cells = c.put_numbers.new.words; priors = c.put_numbers-2.new.words; items = c.in_ok-kept_items.field-0; presence = c.in_ok-kept_presence.field-0 } in
-    let small : c.self.inside.count < 2 ^ 64 = omega arith in
-    let cells = subst (PutsBehind c.new-cells.result.items c.put_numbers.new.words.items) c.cells.ensures c.in_ok-put_numbers.ensures in
-    let priors = subst (PutsBehind c.new-priors.result.items c.put_numbers-2.new.words.items) c.priors.ensures c.in_ok-put_numbers-2.ensures in
-    let fit = subst (λ (rs : List ItemRun). ItemsFit (map run_shape rs) (map kept_item c.in_ok-kept_items.field-0.items)) c.deref.ensures.value c.in_ok-kept_items.ensures.fit in
-    subst (λ (s : ShapeContents). IsOpening s (snapshot_contents snapshot)) (sym inv.shape)
-    (opening_taken set c.self.inside.table c.self.inside.runs.items c.self.inside.presence inv.over inv.runs inv.presence (snapshot_contents snapshot) c.new-cells.result.items c.new-priors.result.items c.new-cells.ensures.items c.new-priors.ensures.items small cells priors fit c.in_ok-kept_presence.ensures.same c.in_ok-kept_presence.ensures.fits)
+    let cells = set_cells (set_contents c.self.inside.set) in
+    ap length c.cells-cells.ensures ∙ inv.over.cells_many ∙ sym (length-map cells cell_name) ∙ sym (ap (λ (s : ShapeContents). length s.cells) inv.shape)
+
+pub begin-requires-clause-priors : goal.begin-requires-clause-priors
+begin-requires-clause-priors c =
+    let inv = c.self.invariant in
+    let tracked = set_tracked (set_contents c.self.inside.set) in
+    ap length c.priors-priors.ensures ∙ inv.over.priors_many ∙ sym (length-map tracked tracked_name) ∙ sym (ap (λ (s : ShapeContents). length s.priors) inv.shape)
+
+pub put_runs-requires-clause-names : goal.put_runs-requires-clause-names
+put_runs-requires-clause-names c =
+    let inv = c.self.invariant in
+    let set = set_contents c.self.inside.set in
+    let shaped = runs_shaped c.self.inside.table.nodes set.items c.self.inside.runs.items inv.runs ∙ sym (ap (λ (s : ShapeContents). s.items) inv.shape) in
+    ap length c.deref.ensures.value ∙ inv.usable.searchable.paired.items ∙ sym (ap length shaped) ∙ length-map c.self.inside.runs.items run_shape ∙ sym (ap length c.deref-2.ensures.value)
+
+pub put_runs-requires-clause-short : goal.put_runs-requires-clause-short
+put_runs-requires-clause-short c =
+    let inv = c.self.invariant in
+    let set = set_contents c.self.inside.set in
+    let shaped = runs_shaped c.self.inside.table.nodes set.items c.self.inside.runs.items inv.runs ∙ sym (ap (λ (s : ShapeContents). s.items) inv.shape) in
+    subst (λ (ss : List ItemShape). sum_by item_length ss ≤ 8388608) (sym (ap (map run_shape) c.deref-2.ensures.value ∙ shaped))
+    (short_parts (shape_contents c.self.inside.shape) inv.usable.searchable.paired inv.usable.short).0
+
+pub put_display-requires : goal.put_display-requires
+put_display-requires c =
+    let inv = c.self.invariant in
+    let set = set_contents c.self.inside.set in
+    let shaped = presence_shaped c.self.inside.table.nodes set.script c.self.inside.presence inv.presence ∙ sym (ap (λ (s : ShapeContents). s.presence) inv.shape) in
+    rw shaped ((short_parts (shape_contents c.self.inside.shape) inv.usable.searchable.paired inv.usable.short).1)
+
+pub returns-clause-bytes : goal.returns-clause-bytes
+returns-clause-bytes c =
+    let inv = c.self.invariant in
+    let set = set_contents c.self.inside.set in
+    let shape = shape_contents c.self.inside.shape in
+    let runs = c.self.inside.runs.items in
+    let o = opening_by c.self.inside.count c.self.inside.table runs c.self.inside.presence in
+    let shaped = runs_shaped c.self.inside.table.nodes set.items runs inv.runs ∙ sym (ap (λ (s : ShapeContents). s.items) inv.shape) in
+    let many : length shape.item_names ≡ length o.items = inv.usable.searchable.paired.items ∙ sym (ap length shaped) ∙ length-map runs run_shape ∙ sym (length-map runs kept_run) in
+    let front : c.in_ok-bytes.bytes.items ≡ front_bytes shape o.frames o.cells o.priors = rw (c.cells-cells.ensures, c.priors-priors.ensures) at c.in_ok-bytes.ensures.bytes in
+    let items = named_blocks shape.item_names (map item_bytes o.items) in
+    let display = named_blocks (option_to_list shape.presence_name) (presence_block o.presence) in
+    let written : c.put_runs.new.bytes.items ≡ c.in_ok-bytes.bytes.items ++ items = rw (c.deref.ensures.value, c.deref-2.ensures.value) at c.in_ok-put_runs.ensures.bytes in
+    let body : c.put_display.new.bytes.items ≡ body_bytes shape o =
+    c.in_ok-put_display.ensures.bytes ∙ ap (λ xs. xs ++ display) (written ∙ ap (λ xs. xs ++ items) front) ∙ body_in_parts shape o many in
+    subst (λ (r : RuntimeSeen). c.close.new.bytes.items ≡ progress_bytes (shape_of r.set) r.kept) c.self.view_is
+    (c.in_ok-close.ensures ∙ ap (λ xs. xs ++ md5 xs) body ∙ ap (λ (s : ShapeContents). progress_bytes s o) inv.shape)
 
 pub returns-clause-saved : goal.returns-clause-saved
 returns-clause-saved c =
-    let set = set_contents c.self.inside.set in
     let inv = c.self.invariant in
-    let snapshot : Snapshot = record { frames = c.self.inside.count; cells = c.put_numbers.new.words; priors = c.put_numbers-2.new.words; items = c.in_ok-kept_items.field-0; presence = c.in_ok-kept_presence.field-0 } in
+    let set = set_contents c.self.inside.set in
+    let table = c.self.inside.table in
+    let runs = c.self.inside.runs.items in
     let small : c.self.inside.count < 2 ^ 64 = omega arith in
-    let cells = subst (PutsBehind c.new-cells.result.items c.put_numbers.new.words.items) c.cells.ensures c.in_ok-put_numbers.ensures in
-    let priors = subst (PutsBehind c.new-priors.result.items c.put_numbers-2.new.words.items) c.priors.ensures c.in_ok-put_numbers-2.ensures in
-    let fit = subst (λ (rs : List ItemRun). ItemsFit (map run_shape rs) (map kept_item c.in_ok-kept_items.field-0.items)) c.deref.ensures.value c.in_ok-kept_items.ensures.fit in
-    let opening = opening_taken set c.self.inside.table c.self.inside.runs.items c.self.inside.presence inv.over inv.runs inv.presence (snapshot_contents snapshot) c.new-cells.result.items c.new-priors.result.items c.new-cells.ensures.items c.new-priors.ensures.items small cells priors fit c.in_ok-kept_presence.ensures.same c.in_ok-kept_presence.ensures.fits in
-    subst (λ (s : SetContents). IfOk c.encode.result (λ bytes. IsSaved s bytes.items)) (ap (λ (r : RuntimeSeen). r.set) c.self.view_is)
-    (IfOk-weaker c.encode.result (λ bytes. bytes.items ≡ progress_bytes (shape_contents c.self.inside.shape) (snapshot_contents snapshot)) (λ bytes. IsSaved set bytes.items)
-    (λ bytes is. record { kept = snapshot_contents snapshot; opening = opening; is = is ∙ ap (λ (s : ShapeContents). progress_bytes s (snapshot_contents snapshot)) inv.shape }) c.encode.ensures)
+    let cells : AreWords (length (shape_of set).cells) table.cells =
+    subst (λ (s : ShapeContents). AreWords (length s.cells) table.cells) inv.shape (rw c.cells-cells.ensures at c.in_ok-bytes.ensures.cells) in
+    let priors : AreWords (length (shape_of set).priors) table.priors =
+    subst (λ (s : ShapeContents). AreWords (length s.priors) table.priors) inv.shape (rw c.priors-priors.ensures at c.in_ok-bytes.ensures.priors) in
+    let fit = subst (λ (rs : List ItemRun). ItemsFit (map run_shape rs) (map kept_run rs)) c.deref-2.ensures.value c.in_ok-put_runs.ensures.fit in
+    let opening = opening_taken set table runs c.self.inside.presence inv.runs inv.presence c.self.inside.count small cells priors fit c.in_ok-put_display.ensures.fits in
+    subst (λ (r : RuntimeSeen). c.close.new.bytes.items ≡ progress_bytes (shape_of r.set) r.kept → IsSaved r.set c.close.new.bytes.items) c.self.view_is
+    (λ is. record { kept = opening_by c.self.inside.count table runs c.self.inside.presence; opening = opening; is = is }) (returns-clause-bytes c)
