@@ -1,0 +1,6 @@
+mod GroupLemmas
+mod GroupRest
+mod AlongRest
+mod TriggerRest
+mod SeenRest
+mod ValueRest
