@@ -20,13 +20,27 @@ abbrev settled_from : Condition → ℕ → (m reset : Bool) → ℤ → Settled
 settled_from c h m reset add =
     let hit = hits_after reset m c.target h in
     let total = clamped (pos hit +ℤ add) in
-    record { flag = c.flag; reset = reset; hit = hit; add = add; total = total; valid = valid_by c.flag c.target total
-        (valid_alone reset m c.target hit) }
+    record {
+      flag = c.flag;
+      reset = reset;
+      hit = hit;
+      add = add;
+      total = total;
+      valid = valid_by c.flag c.target total
+          (valid_alone reset m c.target hit);
+    }
 
 -- what the next condition of a chain takes of this one
 abbrev taken : Settled → Settled
-taken s = record { flag = s.flag; reset = s.reset; hit = cond
-    (hands_hits s.flag) s.hit 0; add = s.add; total = 0; valid = s.valid }
+taken s = record {
+  flag = s.flag;
+  reset = s.reset;
+  hit = cond
+      (hands_hits s.flag) s.hit 0;
+  add = s.add;
+  total = 0;
+  valid = s.valid;
+}
 
 met-taken : (p : Option Settled) (t : Bool) → met (option_map taken p) t ≡ met p t
 met-taken None t = refl
@@ -37,7 +51,7 @@ reset-taken None = refl
 reset-taken (Some s) = refl
 
 add_after-taken : (flag : Flag) (add : ℤ) (hit : ℕ)
-  → add_after flag add (cond (hands_hits flag) hit 0) ≡ add_after flag add hit
+    → add_after flag add (cond (hands_hits flag) hit 0) ≡ add_after flag add hit
 add_after-taken AddHits add hit = refl
 add_after-taken SubHits add hit = refl
 add_after-taken _ add hit = refl
@@ -71,59 +85,73 @@ module _ (form : Form) (c : Condition) (free : is_free form c ≡ true) where
   keeps_hits =
       not_true (hands_hits c.flag)
       (left_of (not (hands_hits c.flag)) (not (is_measured c.flag && from_total form c))
-          (right_of (c.target == 0) (not (hands_hits c.flag) && not (is_measured c.flag && from_total form c)) free))
+      (right_of (c.target == 0) (not (hands_hits c.flag) && not (is_measured c.flag && from_total form c)) free))
 
   no_total : (is_measured c.flag && from_total form c) ≡ false
   no_total =
       not_true (is_measured c.flag && from_total form c)
       (right_of (not (hands_hits c.flag)) (not (is_measured c.flag && from_total form c))
-          (right_of (c.target == 0) (not (hands_hits c.flag) && not (is_measured c.flag && from_total form c)) free))
+      (right_of (c.target == 0) (not (hands_hits c.flag) && not (is_measured c.flag && from_total form c)) free))
 
   -- its validity has no hits in it
   valid-free : (h : ℕ) (m reset : Bool) (add : ℤ) → (settled_from c h m reset add).valid ≡ (not reset && m)
   valid-free h m reset add =
       cond-true (combines c.flag || c.target == 0) (valid_alone reset m c.target (hits_after reset m c.target h)) (not
-          (c.target == 0) && nat_le c.target (settled_from c h m reset add).total) (right_true (combines c.flag)
-          (c.target == 0) no_target)
+      (c.target == 0) && nat_le c.target (settled_from c h m reset add).total) (right_true (combines c.flag)
+      (c.target == 0) no_target)
       ∙ ap (λ b. not reset && b) (cond-true (c.target == 0) m
-        (nat_le c.target (hits_after reset m c.target h)) no_target)
+      (nat_le c.target (hits_after reset m c.target h)) no_target)
 
   -- and the next condition takes no hits of it
   taken-free : (h h' : ℕ) (m reset : Bool) (add : ℤ)
-    → taken (settled_from c h m reset add) ≡ taken (settled_from c h' m reset add)
+      → taken (settled_from c h m reset add) ≡ taken (settled_from c h' m reset add)
   taken-free h h' m reset add =
       let hits = cond-false (hands_hits c.flag) (settled_from c h m reset add).hit 0 keeps_hits
-          ∙ sym (cond-false (hands_hits c.flag) (settled_from c h' m reset add).hit 0 keeps_hits) in
+      ∙ sym (cond-false (hands_hits c.flag) (settled_from c h' m reset add).hit 0 keeps_hits) in
       let valid = valid-free h m reset add ∙ sym (valid-free h' m reset add) in
-      ap (λ hit. record { flag = c.flag; reset = reset; hit = hit; add = add; total = 0; valid =
-          (settled_from c h m reset add).valid }) hits
-      ∙ ap (λ valid. record { flag = c.flag; reset = reset; hit = cond (hands_hits c.flag)
-        (settled_from c h' m reset add).hit 0; add = add; total = 0; valid = valid }) valid
+      ap (λ hit. record {
+        flag = c.flag;
+        reset = reset;
+        hit = hit;
+        add = add;
+        total = 0;
+        valid =
+            (settled_from c h m reset add).valid;
+      }) hits
+      ∙ ap (λ valid. record {
+        flag = c.flag;
+        reset = reset;
+        hit = cond (hands_hits c.flag)
+            (settled_from c h' m reset add).hit 0;
+        add = add;
+        total = 0;
+        valid = valid;
+      }) valid
 
   -- and the number that it may offer is its left value
   number-free : (total total' left : ℕ)
-    → cond (is_measured c.flag) (Some (number_of form c total left)) None
-    ≡ cond (is_measured c.flag) (Some (number_of form c total' left)) None
+      → cond (is_measured c.flag) (Some (number_of form c total left)) None
+      ≡ cond (is_measured c.flag) (Some (number_of form c total' left)) None
   number-free total total' left = by_flag (is_measured c.flag) (from_total form c) no_total
     where
       by_flag : (a b : Bool) → (a && b) ≡ false
-        → cond a (Some (cond b (cond (c.target == 0) total (min total c.target)) left)) None
-        ≡ cond a (Some (cond b (cond (c.target == 0) total' (min total' c.target)) left)) None
+          → cond a (Some (cond b (cond (c.target == 0) total (min total c.target)) left)) None
+          ≡ cond a (Some (cond b (cond (c.target == 0) total' (min total' c.target)) left)) None
       by_flag false b e = refl
       by_flag true false e = refl
       by_flag true true e = absurd (false≢true (sym e))
 
 -- what stands before a condition counts by what is taken of it
 settled-taken : (c : Condition) (t : Bool) (h : ℕ) (p : Option Settled)
-  → settled c t h p ≡ settled_from c h (met (option_map taken p) t) (reset_by (option_map taken p)) (add_by
-  (option_map taken p))
+    → settled c t h p ≡ settled_from c h (met (option_map taken p) t) (reset_by (option_map taken p)) (add_by
+    (option_map taken p))
 settled-taken c t h p =
     ap (λ m. settled_from c h m (reset_by p) (add_by p)) (sym (met-taken p t))
     ∙ ap (λ r. settled_from c h (met (option_map taken p) t) r (add_by p)) (sym (reset-taken p))
     ∙ ap (λ a. settled_from c h (met (option_map taken p) t) (reset_by (option_map taken p)) a) (sym (add-taken p))
 
 settled-alike : (c : Condition) (t : Bool) (h : ℕ) (p q : Option Settled) → option_map taken p ≡ option_map taken q
-  → settled c t h p ≡ settled c t h q
+    → settled c t h p ≡ settled c t h q
 settled-alike c t h p q same =
     settled-taken c t h p
     ∙ ap (λ x. settled_from c h (met x t) (reset_by x) (add_by x)) same
@@ -149,14 +177,14 @@ module _ (form : Form) (f : Frame) (hits : List ℕ) (agree : AgreeButFree form 
 
   -- a condition takes the same of what stands before it, and hands the same on
   handed : (j : ℕ) → option_map taken (prev_of f j) ≡ option_map taken (prev_of f' j)
-    → taken (settled_at f j) ≡ taken (settled_at f' j)
+      → taken (settled_at f j) ≡ taken (settled_at f' j)
   handed j before = by_free (is_free form (c_at j)) refl
     where
       by_free : (b : Bool) → is_free form (c_at j) ≡ b → taken (settled_at f j) ≡ taken (settled_at f' j)
       by_free true free =
           ap taken (settled-alike (c_at j) (t_at j) (slice_index f.hits j) (prev_of f j) (prev_of f' j) before)
           ∙ taken-free form (c_at j) free (slice_index f.hits j) (slice_index hits j) (met (prev_of f' j) (t_at j))
-            (reset_by (prev_of f' j)) (add_by (prev_of f' j))
+          (reset_by (prev_of f' j)) (add_by (prev_of f' j))
       by_free false bound =
           ap taken (settled-alike (c_at j) (t_at j) (slice_index f.hits j) (prev_of f j) (prev_of f' j) before)
           ∙ ap (λ h. taken (settled (c_at j) (t_at j) h (prev_of f' j))) (agree.at j bound)
@@ -167,9 +195,9 @@ module _ (form : Form) (f : Frame) (hits : List ℕ) (agree : AgreeButFree form 
       (before_same i))
     where
       by_flag : (a b : Bool) → option_map taken (prev_of f i) ≡ option_map taken (prev_of f' i)
-        → taken (settled_at f i) ≡ taken (settled_at f' i)
+          → taken (settled_at f i) ≡ taken (settled_at f' i)
           → option_map taken (cond a (prev_of f i) (cond b (Some (settled_at f i)) None))
-              ≡ option_map taken (cond a (prev_of f' i) (cond b (Some (settled_at f' i)) None))
+          ≡ option_map taken (cond a (prev_of f' i) (cond b (Some (settled_at f' i)) None))
       by_flag true b before here = before
       by_flag false true before here = ap Some here
       by_flag false false before here = refl
@@ -198,13 +226,13 @@ module _ (form : Form) (f : Frame) (hits : List ℕ) (agree : AgreeButFree form 
       ∙ ap (larger (offer form f' j)) (greatest_same js)
 
   some_same : (class : Flag → Bool)
-    → some_valid class f (places f.conditions) ≡ some_valid class f' (places f.conditions)
+      → some_valid class f (places f.conditions) ≡ some_valid class f' (places f.conditions)
   some_same class = any_same (λ j. class (flag_at f.conditions j) && (settled_at f j).valid) (λ j. class
       (flag_at f.conditions j) && (settled_at f' j).valid) (λ j. ap (λ b. class (flag_at f.conditions j) && b)
       (valid_same j)) (places f.conditions)
 
   class_same : (class : Flag → Bool)
-    → all_valid class f (places f.conditions) ≡ all_valid class f' (places f.conditions)
+      → all_valid class f (places f.conditions) ≡ all_valid class f' (places f.conditions)
   class_same class = all_same (λ j. not (class (flag_at f.conditions j)) || (settled_at f j).valid) (λ j. not
       (class (flag_at f.conditions j)) || (settled_at f' j).valid) (λ j. ap (λ b. not
       (class (flag_at f.conditions j)) || b) (valid_same j)) (places f.conditions)
@@ -220,7 +248,7 @@ module _ (form : Form) (f : Frame) (hits : List ℕ) (agree : AgreeButFree form 
   }
 
   same_outcome : {a b c d e a' b' c' d' e' : Bool} {g g' : Option ℕ} → a ≡ a' → b ≡ b' → c ≡ c' → d ≡ d' → e ≡ e'
-    → g ≡ g' → outcome a b c d e g ≡ outcome a' b' c' d' e' g'
+      → g ≡ g' → outcome a b c d e g ≡ outcome a' b' c' d' e' g'
   same_outcome p q r s t u = cc
 
   pub outcome_same : outcome_of form f ≡ outcome_of form f'
@@ -241,6 +269,6 @@ module _ (form : Form) (f : Frame) (hits : List ℕ) (agree : AgreeButFree form 
   pub counting_same : (j : ℕ) → is_counting form f j ≡ is_counting form f' j
   counting_same j =
       ap (λ b. is_free form (c_at j) && (b && (not (reset_by (prev_of f j)) && met (prev_of f j) (t_at j))))
-          (stepped_same j)
+      (stepped_same j)
       ∙ ap (λ b. is_free form (c_at j) && (is_stepped f' j && (not b && met (prev_of f j) (t_at j)))) (reset_same j)
       ∙ ap (λ b. is_free form (c_at j) && (is_stepped f' j && (not (reset_by (prev_of f' j)) && b))) (met_same j)

@@ -16,7 +16,7 @@ plus-plus m n h = omega arith
 
 -- the hits of a condition without a target after a frame
 pub hits-untargeted : (r m : Bool) (target h : ℕ) → (target == 0) ≡ true
-  → hits_after r m target h ≡ cond r 0 (cond m (plus 1 h) h)
+    → hits_after r m target h ≡ cond r 0 (cond m (plus 1 h) h)
 hits-untargeted true m target h e = refl
 hits-untargeted false false target h e = refl
 hits-untargeted false true target h e = cond-true ((target == 0) || nat_lt h target) (plus 1 h) h (ap
@@ -26,7 +26,7 @@ hits-untargeted false true target h e = cond-true ((target == 0) || nat_lt h tar
 one_more : (s r m : Bool) (n h : ℕ)
     → cond s (cond r 0 (cond m (plus 1 h) h)) h ≡ cond (s && (not r && m)) (plus 1 h) h
     → cond s (cond r 0 (cond m (plus 1 (cond (s && (not r && m)) (plus n h) h))
-        (cond (s && (not r && m)) (plus n h) h))) (cond (s && (not r && m)) (plus n h) h)
+    (cond (s && (not r && m)) (plus n h) h))) (cond (s && (not r && m)) (plus n h) h)
     ≡ cond (s && (not r && m)) (plus (n + 1) h) h
 one_more false r m n h rest = refl
 one_more true true m n h rest = rest
@@ -58,8 +58,10 @@ module _ (form : Form) (f : Frame) (n : ℕ) where
 
   -- the hits agree but at free conditions with those of n frames more
   pub rested_agree : AgreeButFree form f.conditions f.hits (rested_hits n form f)
-  rested_agree = record { at = λ j bound. sym
-      (rested_at j (within_bound form f.conditions j bound) ∙ rested_bound n j bound) }
+  rested_agree = record {
+    at = λ j bound. sym
+        (rested_at j (within_bound form f.conditions j bound) ∙ rested_bound n j bound);
+  }
 
   module _ (rest : next_hits f ≡ rested_hits 1 form f) where
     rest_at : (j : ℕ) → j < length f.conditions → next_hit f j ≡ rested_hit 1 form f j
@@ -69,12 +71,12 @@ module _ (form : Form) (f : Frame) (n : ℕ) where
         ∙ get_or-map-range_with_len (rested_hit 1 form f) 0 (length f.conditions) j j 0 l (omega arith)
 
     more_bound : (j : ℕ) → j < length f.conditions → is_free form (c_at j) ≡ false
-      → next_hit f' j ≡ rested_hit (n + 1) form f j
+        → next_hit f' j ≡ rested_hit (n + 1) form f j
     more_bound j l bound =
         ap (λ b. cond b (settled_at f' j).hit (slice_index (rested_hits n form f) j)) (sym
-            (stepped_same form f (rested_hits n form f) rested_agree j))
+        (stepped_same form f (rested_hits n form f) rested_agree j))
         ∙ ap (λ x. cond (is_stepped f j) x.hit (slice_index (rested_hits n form f) j)) (sym
-          (bound_same form f (rested_hits n form f) rested_agree j bound))
+        (bound_same form f (rested_hits n form f) rested_agree j bound))
         ∙ ap (λ x. cond (is_stepped f j) (settled_at f j).hit x) (rested_at j l ∙ rested_bound n j bound)
         ∙ rest_at j l
         ∙ rested_bound 1 j bound
@@ -103,14 +105,14 @@ module _ (form : Form) (f : Frame) (n : ℕ) where
       more_free =
           ap (λ b. cond b (settled_at f' j).hit h') (sym (stepped_same form f (rested_hits n form f) rested_agree j))
           ∙ ap (λ x. cond s (hits_after x (met (prev_of f' j) (slice_index_or f.truths j false))
-            (c_at j).target h') h') (sym (reset_same form f (rested_hits n form f) rested_agree j))
+          (c_at j).target h') h') (sym (reset_same form f (rested_hits n form f) rested_agree j))
           ∙ ap (λ x. cond s (hits_after r x (c_at j).target h') h') (sym
-            (met_same form f (rested_hits n form f) rested_agree j))
+          (met_same form f (rested_hits n form f) rested_agree j))
           ∙ ap (λ x. cond s x h') (hits-untargeted r m (c_at j).target h' (no_target form (c_at j) free))
           ∙ ap (λ x. cond s (cond r 0 (cond m (plus 1 x) x)) x) (rested_at j l ∙ rested_free n)
           ∙ one_more s r m n h (ap (λ x. cond s x h)
-            (sym (hits-untargeted r m (c_at j).target h (no_target form (c_at j) free))) ∙ rest_at j l
-            ∙ rested_free 1)
+          (sym (hits-untargeted r m (c_at j).target h (no_target form (c_at j) free))) ∙ rest_at j l
+          ∙ rested_free 1)
           ∙ sym (rested_free (n + 1))
 
     more_at : (j : ℕ) → j < length f.conditions → next_hit f' j ≡ rested_hit (n + 1) form f j
@@ -124,5 +126,5 @@ module _ (form : Form) (f : Frame) (n : ℕ) where
     pub rest_goes_on : next_hits f' ≡ rested_hits (n + 1) form f
     rest_goes_on =
         fill_by_all (rested_hit (n + 1) form f) (next_hits f') (length f.conditions) 0 (length-map-range_with_len
-            (next_hit f') 0 (length f.conditions))
+        (next_hit f') 0 (length f.conditions))
         (λ j l. get_or-map-range_with_len (next_hit f') 0 (length f.conditions) j j 0 l (omega arith) ∙ more_at j l)

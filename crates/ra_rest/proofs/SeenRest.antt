@@ -1,16 +1,14 @@
 -- How a group is seen to rest: by its hits before and after a frame.
-use Rattle.std.proofs.Common.{◌≡◌, ℕ, ◌+◌, ◌<◌, Bool, zero-add, true, false, not, ◌&&◌, ◌||◌, ◌==◌, cond, length, slice_index, slice_index_or, refl, sym, ap, ◌∙◌, ◌⊎◌, inl, inr, arith}
-use Rattle.std.proofs.lemmas.Bool.{false≢true, eqb-true}
-use Rattle.std.proofs.lemmas.List.Folds.{list_all_at}
-use Rattle.std.proofs.lemmas.List.FromFn.{fill_by_all, get_or-map-range_with_len, length-map-range_with_len, length-range_with_len, get_or-range_with_len}
+use Rattle.std.proofs.Common.{◌≡◌, ℕ, ◌+◌, ◌<◌, Bool, true, false, not, ◌&&◌, cond, length, slice_index, slice_index_or, refl, sym, ap, ◌∙◌, ◌⊎◌, inl, inr, arith}
+use Rattle.std.proofs.lemmas.Bool.{false≢true}
+use Rattle.std.proofs.lemmas.List.FromFn.{fill_by_all, get_or-map-range_with_len, length-map-range_with_len}
 use Rattle.ra_condition.specs.Contents.{condition_at}
-use Rattle.ra_condition.specs.declared.condition.Condition.{Condition}
-use Rattle.ra_condition.specs.Chains.{places}
 use Rattle.ra_group.specs.declared.form.Form.{Form}
 use Rattle.ra_group.specs.Equations.{Frame, met, reset_by, prev_of}
 use Rattle.ra_group.specs.Outcome.{next_hit, next_hits}
 use Rattle.ra_rest.specs.Groups.{is_free, is_stepped, plus, rested_hit, rested_hits, keeps_or_counts, all_keep}
 use Rattle.ra_rest.proofs.GroupLemmas.{no_target}
+use Rattle.ra_rest.proofs.Kept.{kept_or_counted, keeps_place}
 use Rattle.ra_rest.proofs.GroupRest.{hits-untargeted, rested_bound}
 
 -- a free condition that counts or stays rests
@@ -45,19 +43,19 @@ module _ (form : Form) (f : Frame) (j : ℕ) (free : is_free form (condition_at 
           (no_target form (condition_at f.conditions j) free))
 
       turned : (next_hit f j ≡ h) ⊎ (next_hit f j ≡ h + 1)
-        → (cond s (cond r 0 (cond m (plus 1 h) h)) h ≡ h) ⊎ (cond s (cond r 0 (cond m (plus 1 h) h)) h ≡ h + 1)
+          → (cond s (cond r 0 (cond m (plus 1 h) h)) h ≡ h) ⊎ (cond s (cond r 0 (cond m (plus 1 h) h)) h ≡ h + 1)
       turned (inl e) = inl (sym stepped ∙ e)
       turned (inr e) = inr (sym stepped ∙ e)
 
 -- where each condition keeps its hits, or is free and has one more, the group rests
 pub rest_seen : (form : Form) (f : Frame)
     → ((j : ℕ) → j < length f.conditions
-      → (next_hit f j ≡ slice_index f.hits j) ⊎ ((is_free form (condition_at f.conditions j) ≡ true) ×
-      (next_hit f j ≡ slice_index f.hits j + 1)))
+    → (next_hit f j ≡ slice_index f.hits j) ⊎ ((is_free form (condition_at f.conditions j) ≡ true) ×
+    (next_hit f j ≡ slice_index f.hits j + 1)))
     → next_hits f ≡ rested_hits 1 form f
 rest_seen form f seen =
     fill_by_all (rested_hit 1 form f) (next_hits f) (length f.conditions) 0 (length-map-range_with_len (next_hit f) 0
-        (length f.conditions))
+    (length f.conditions))
     (λ j l. get_or-map-range_with_len (next_hit f) 0 (length f.conditions) j j 0 l (omega arith) ∙ at j l)
   where
     at : (j : ℕ) → j < length f.conditions → next_hit f j ≡ rested_hit 1 form f j
@@ -65,40 +63,14 @@ rest_seen form f seen =
       where
         by_free : (b : Bool) → is_free form (condition_at f.conditions j) ≡ b
             → (next_hit f j ≡ slice_index f.hits j) ⊎ ((is_free form (condition_at f.conditions j) ≡ true) ×
-                (next_hit f j ≡ slice_index f.hits j + 1))
+            (next_hit f j ≡ slice_index f.hits j + 1))
             → next_hit f j ≡ rested_hit 1 form f j
         by_free false bound (inl e) = e ∙ sym (rested_bound form f 1 1 j bound)
         by_free false bound (inr (free, e)) = absurd (false≢true (sym bound ∙ free))
         by_free true free (inl e) = seen_free form f j free (inl e)
         by_free true free (inr (is, e)) = seen_free form f j free (inr e)
 
-kept_or_counted : (form : Form) (c : Condition) (h next : ℕ) → keeps_or_counts form c h next ≡ true
-  → (next ≡ h) ⊎ ((is_free form c ≡ true) × (next ≡ h + 1))
-kept_or_counted form c h next kept = by_test (next == h) (is_free form c) (next == h + 1) refl refl refl kept
-  where
-    by_test : (a b d : Bool) → (next == h) ≡ a → is_free form c ≡ b → (next == h + 1) ≡ d → (a || (b && d)) ≡ true
-      → (next ≡ h) ⊎ ((is_free form c ≡ true) × (next ≡ h + 1))
-    by_test true b d same free more e = inl (eqb-true next h same)
-    by_test false true true same free more e = inr (free, eqb-true next (h + 1) more)
-    by_test false true false same free more e = absurd (false≢true e)
-    by_test false false d same free more e = absurd (false≢true e)
-
 module _ (form : Form) (f : Frame) where
-  abbrev keeps : ℕ → Bool
-  keeps j = keeps_or_counts form (condition_at f.conditions j) (slice_index f.hits j) (slice_index (next_hits f) j)
-
-  keeps_each : all_keep form f.conditions f.hits (next_hits f) ≡ true → (j : ℕ) → j < length f.conditions
-    → keeps j ≡ true
-  keeps_each kept j l = by_test (keeps j) refl
-    where
-      by_test : (b : Bool) → keeps j ≡ b → keeps j ≡ true
-      by_test true e = e
-      by_test false e =
-          let place = get_or-range_with_len 0 (length f.conditions) j 0 l ∙ zero-add j in
-          absurd (false≢true (sym
-              (list_all_at keeps (places f.conditions) j 0
-              (omega (arith, length-range_with_len 0 (length f.conditions))) (ap keeps place ∙ e)) ∙ kept))
-
   -- where each condition is seen to keep its hits or to count, the group rests
   pub rest_kept : all_keep form f.conditions f.hits (next_hits f) ≡ true → next_hits f ≡ rested_hits 1 form f
   rest_kept kept = rest_seen form f seen
@@ -107,9 +79,9 @@ module _ (form : Form) (f : Frame) where
       next_at j l = get_or-map-range_with_len (next_hit f) 0 (length f.conditions) j j 0 l (omega arith)
 
       seen : (j : ℕ) → j < length f.conditions
-        → (next_hit f j ≡ slice_index f.hits j) ⊎ ((is_free form (condition_at f.conditions j) ≡ true) ×
-        (next_hit f j ≡ slice_index f.hits j + 1))
+          → (next_hit f j ≡ slice_index f.hits j) ⊎ ((is_free form (condition_at f.conditions j) ≡ true) ×
+          (next_hit f j ≡ slice_index f.hits j + 1))
       seen j l =
           kept_or_counted form (condition_at f.conditions j) (slice_index f.hits j) (next_hit f j)
           (ap (keeps_or_counts form (condition_at f.conditions j) (slice_index f.hits j))
-              (sym (next_at j l)) ∙ keeps_each kept j l)
+          (sym (next_at j l)) ∙ keeps_place form f.conditions f.hits (next_hits f) kept j l)

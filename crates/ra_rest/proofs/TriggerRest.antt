@@ -36,25 +36,25 @@ module _ (n : ℕ) (t : TriggerContents) (truths : List Bool) (lefts hits : List
 
   -- what the groups say after n frames at rest, but for the hits
   pub together-rested : together t truths lefts (rested_groups n t truths lefts hits)
-    ≡ saying t (map (outcome_of InTrigger) fs) (flat_map next_hits
-    (frames_along (groups_of t) truths lefts (rested_groups n t truths lefts hits)))
+      ≡ saying t (map (outcome_of InTrigger) fs) (flat_map next_hits
+      (frames_along (groups_of t) truths lefts (rested_groups n t truths lefts hits)))
   together-rested =
       ap (λ os. saying t os
-          (flat_map next_hits (frames_along (groups_of t) truths lefts (rested_groups n t truths lefts hits))))
+      (flat_map next_hits (frames_along (groups_of t) truths lefts (rested_groups n t truths lefts hits))))
       (ap (map (outcome_of InTrigger))
-          (frames-rested InTrigger n (groups_of t) truths lefts hits) ∙ outcomes-rested InTrigger n fs)
+      (frames-rested InTrigger n (groups_of t) truths lefts hits) ∙ outcomes-rested InTrigger n fs)
 
   -- and the hits after one frame more
   pub hits_more : now.hits ≡ rested_groups 1 t truths lefts hits
-    → flat_map next_hits (frames_along (groups_of t) truths lefts (rested_groups n t truths lefts hits))
-    ≡ rested_groups (n + 1) t truths lefts hits
+      → flat_map next_hits (frames_along (groups_of t) truths lefts (rested_groups n t truths lefts hits))
+      ≡ rested_groups (n + 1) t truths lefts hits
   hits_more rest =
       ap (flat_map next_hits) (frames-rested InTrigger n (groups_of t) truths lefts hits)
       ∙ hits-rested InTrigger n fs rest
 
   pub together_more : now.hits ≡ rested_groups 1 t truths lefts hits
-    → together t truths lefts (rested_groups n t truths lefts hits)
-    ≡ saying t (map (outcome_of InTrigger) fs) (rested_groups (n + 1) t truths lefts hits)
+      → together t truths lefts (rested_groups n t truths lefts hits)
+      ≡ saying t (map (outcome_of InTrigger) fs) (rested_groups (n + 1) t truths lefts hits)
   together_more rest = together-rested ∙ ap (saying t (map (outcome_of InTrigger) fs)) (hits_more rest)
 
 module _ (n : ℕ) (t : TriggerContents) (truths : List Bool) (lefts hits : List ℕ) where
@@ -66,12 +66,12 @@ module _ (n : ℕ) (t : TriggerContents) (truths : List Bool) (lefts hits : List
 
   -- a test that rests goes on to rest
   pub test-rested : hits_after_truth t truths lefts hits ≡ rested_test 1 t truths lefts hits
-    → hits_after_truth t truths lefts (rested_test n t truths lefts hits) ≡ rested_test (n + 1) t truths lefts hits
+      → hits_after_truth t truths lefts (rested_test n t truths lefts hits) ≡ rested_test (n + 1) t truths lefts hits
   test-rested rest = by_reset told.reset refl
     where
       by_reset : (b : Bool) → told.reset ≡ b
-        → hits_after_truth t truths lefts (rested_test n t truths lefts hits)
-        ≡ rested_test (n + 1) t truths lefts hits
+          → hits_after_truth t truths lefts (rested_test n t truths lefts hits)
+          ≡ rested_test (n + 1) t truths lefts hits
       by_reset true e =
           ap (hits_after_truth t truths lefts) (cond-true told.reset hits (counted n) e)
           ∙ rest
@@ -79,7 +79,7 @@ module _ (n : ℕ) (t : TriggerContents) (truths : List Bool) (lefts hits : List
           ∙ sym (cond-true told.reset hits (counted (n + 1)) e)
       by_reset false e =
           let stays = sym (cond-false told.reset (cleared told.hits) told.hits e) ∙ rest
-              ∙ cond-false told.reset hits (counted 1) e in
+          ∙ cond-false told.reset hits (counted 1) e in
           ap (hits_after_truth t truths lefts) (cond-false told.reset hits (counted n) e)
           ∙ ap (λ x. cond x.reset (cleared x.hits) x.hits) (together_more n t truths lefts hits stays)
           ∙ cond-false told.reset (cleared (counted (n + 1))) (counted (n + 1)) e
@@ -90,23 +90,23 @@ module _ (n : ℕ) (t : TriggerContents) (truths : List Bool) (lefts hits : List
   truth-rested = by_reset told.reset refl
     where
       by_reset : (b : Bool) → told.reset ≡ b
-        → truth t truths lefts (rested_test n t truths lefts hits) ≡ truth t truths lefts hits
+          → truth t truths lefts (rested_test n t truths lefts hits) ≡ truth t truths lefts hits
       by_reset true e = ap (truth t truths lefts) (cond-true told.reset hits (counted n) e)
       by_reset false e =
           ap (truth t truths lefts) (cond-false told.reset hits (counted n) e)
           ∙ ap (λ x. x.valid) (together-rested n t truths lefts hits)
 
-same_kept : {state state' : State} {measured measured' : ℕ} {hits hits' : List ℕ} → state ≡ state'
-  → measured ≡ measured' → hits ≡ hits'
+pub same_kept : {state state' : State} {measured measured' : ℕ} {hits hits' : List ℕ} → state ≡ state'
+    → measured ≡ measured' → hits ≡ hits'
     → ◌≡◌ {A = TriggerKept} (record { state = state; measured = measured; hits = hits })
-        (record { state = state'; measured = measured'; hits = hits' })
+    (record { state = state'; measured = measured'; hits = hits' })
 same_kept p q r = cc
 
-left_false : (a b : Bool) → (a || b) ≡ false → a ≡ false
+pub left_false : (a b : Bool) → (a || b) ≡ false → a ≡ false
 left_false false b e = refl
 left_false true b e = absurd (false≢true (sym e))
 
-right_false : (a b : Bool) → (a || b) ≡ false → b ≡ false
+pub right_false : (a b : Bool) → (a || b) ≡ false → b ≡ false
 right_false false b e = e
 right_false true b e = absurd (false≢true (sym e))
 
@@ -122,12 +122,12 @@ module _ (n : ℕ) (t : TriggerContents) (truths : List Bool) (lefts : List ℕ)
 
   -- an achievement that rests goes on to rest
   pub achievement-rested : step t truths lefts old ≡ rested_achievement 1 t truths lefts old
-    → step t truths lefts (rested_achievement n t truths lefts old) ≡ rested_achievement (n + 1) t truths lefts old
+      → step t truths lefts (rested_achievement n t truths lefts old) ≡ rested_achievement (n + 1) t truths lefts old
   achievement-rested rest = by_end (is_triggered old.state || clear) refl
     where
       by_end : (b : Bool) → (is_triggered old.state || clear) ≡ b
-        → step t truths lefts (rested_achievement n t truths lefts old)
-        ≡ rested_achievement (n + 1) t truths lefts old
+          → step t truths lefts (rested_achievement n t truths lefts old)
+          ≡ rested_achievement (n + 1) t truths lefts old
       by_end true e =
           ap (step t truths lefts) (cond-true (is_triggered old.state || clear) old (with_more n) e)
           ∙ rest
@@ -137,13 +137,13 @@ module _ (n : ℕ) (t : TriggerContents) (truths : List Bool) (lefts : List ℕ)
           let waits = left_false (is_triggered old.state) clear e in
           let keeps = right_false (is_triggered old.state) clear e in
           let stays = sym (cond-false (is_triggered old.state) old (kept_after old said) waits) ∙ rest
-              ∙ cond-false (is_triggered old.state || clear) old (with_more 1) e in
+          ∙ cond-false (is_triggered old.state || clear) old (with_more 1) e in
           let hits = sym (cond-false clear (cleared said.hits) said.hits keeps) ∙ ap (λ k. k.hits) stays in
           ap (step t truths lefts) (cond-false (is_triggered old.state || clear) old (with_more n) e)
           ∙ cond-false (is_triggered old.state) (with_more n) (kept_after (with_more n)
-            (together t truths lefts (rested_groups n t truths lefts old.hits))) waits
+          (together t truths lefts (rested_groups n t truths lefts old.hits))) waits
           ∙ ap (kept_after (with_more n)) (together_more n t truths lefts old.hits hits)
           ∙ same_kept (ap (λ k. k.state) stays) (ap (λ k. k.measured) stays) (cond-false clear
-            (cleared (rested_groups (n + 1) t truths lefts old.hits)) (rested_groups
-            (n + 1) t truths lefts old.hits) keeps)
+          (cleared (rested_groups (n + 1) t truths lefts old.hits)) (rested_groups
+          (n + 1) t truths lefts old.hits) keeps)
           ∙ sym (cond-false (is_triggered old.state || clear) old (with_more (n + 1)) e)

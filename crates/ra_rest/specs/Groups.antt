@@ -1,6 +1,6 @@
 -- A group at rest: a frame adds a hit to some conditions at whose hits nothing looks, and changes nothing else: docs/DEFINITIONS.md, "Rest".
-use Rattle.std.specs.Prelude.{◌≡◌, ℕ, ◌+◌, min, Bool, true, false, if◌then◌else◌, not, ◌&&◌, ◌||◌, ◌==◌, List, map, slice_index, slice_index_or}
-use Rattle.std.specs.List.{list_all}
+use Rattle.std.specs.Prelude.{◌≡◌, ℕ, ◌+◌, min, Bool, true, false, if◌then◌else◌, not, ◌&&◌, ◌||◌, ◌==◌, List, [], ◌∷◌, length, take, drop, map, slice_index, slice_index_or}
+use Rattle.std.specs.List.{list_all, range_with_len}
 use Rattle.ra_condition.specs.declared.flag.Flag.{Flag}
 use Rattle.ra_condition.specs.declared.flag.Flag.TheVariants.{AddHits, SubHits}
 use Rattle.ra_condition.specs.declared.condition.Condition.{Condition}
@@ -59,3 +59,18 @@ keeps_or_counts form c before after = (after == before) || (is_free form c && (a
 abbrev pub all_keep : Form → List Condition → (before after : List ℕ) → Bool
 all_keep form cs before after =
     list_all (λ j. keeps_or_counts form (condition_at cs j) (slice_index before j) (slice_index after j)) (places cs)
+
+-- each condition of groups side by side does
+abbrev pub groups_keep : Form → List (List Condition) → (before after : List ℕ) → Bool
+groups_keep form [] before after = true
+groups_keep form (cs ∷ groups) before after =
+    all_keep form cs (take (length cs) before) (take (length cs) after) && groups_keep form groups (drop (length cs) before) (drop (length cs) after)
+
+-- which hits are others after a frame
+abbrev pub counted_by : (before after : List ℕ) → List Bool
+counted_by before after = map (λ j. not (slice_index after j == slice_index before j)) (range_with_len 0 (length after))
+
+-- hits with n more where they counted, at most the greatest number of 32 bits
+abbrev pub paid : ℕ → List Bool → List ℕ → List ℕ
+paid n counted hits =
+    map (λ j. if slice_index_or counted j false then plus n (slice_index hits j) else slice_index hits j) (range_with_len 0 (length hits))

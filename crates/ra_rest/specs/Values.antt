@@ -1,11 +1,17 @@
 -- Values at rest: docs/DEFINITIONS.md, "Rest".
 use Rattle.std.specs.Prelude.{ℕ, Bool, if◌then◌else◌, List, map}
 use Rattle.std.specs.List.{flat_map, list_any}
-use Rattle.ra_condition.specs.Contents.{PartContents, counted_in}
+use Rattle.ra_condition.specs.declared.condition.Condition.{Condition}
+use Rattle.ra_condition.specs.declared.part.Part.{Part}
+use Rattle.ra_condition.specs.Contents.{PartContents, part_contents, counted_in}
 use Rattle.ra_group.specs.declared.form.Form.TheVariants.{InValue}
 use Rattle.ra_trigger.specs.Steps.{frames_along}
 use Rattle.ra_value.specs.Steps.{ValueKept, part_steps}
 use Rattle.ra_rest.specs.Groups.{rested_hits}
+
+-- the conditions of a part that keep hits, where it lies in memory
+abbrev pub counted_by_part : Part → List Condition
+counted_by_part part = counted_in (part_contents part)
 
 -- the hits of all parts of a value after n frames at rest
 abbrev pub rested_parts : ℕ → List PartContents → List Bool → (lefts hits : List ℕ) → List ℕ
