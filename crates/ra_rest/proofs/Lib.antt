@@ -3,4 +3,9 @@ mod GroupRest
 mod AlongRest
 mod TriggerRest
 mod SeenRest
+mod Kept
+mod Owed
+mod OwedLaws
+mod Keeping
+mod SeenLaws
 mod ValueRest

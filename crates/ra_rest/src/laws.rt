@@ -1,13 +1,14 @@
 //! Laws on rest: docs/DEFINITIONS.md, "Rest". They do nothing.
 
-ghost use Rattle.std.specs.Prelude.{◌≡◌, ◌+◌, ℕ, Bool, List, true};
-ghost use Rattle.ra_condition.specs.Contents.{PartContents, TriggerContents};
+ghost use Rattle.std.specs.Prelude.{◌≡◌, ◌+◌, ◌≤◌, ℕ, Bool, List, length, map, slice_index, true};
+ghost use Rattle.ra_condition.specs.Contents.{PartContents, TriggerContents, counted_in, groups_of, trigger_hits, value_hits};
 ghost use Rattle.ra_group.specs.declared.form.Form.{Form};
+ghost use Rattle.ra_group.specs.declared.form.Form.TheVariants.{InTrigger, InValue};
 ghost use Rattle.ra_group.specs.Equations.{Frame};
 ghost use Rattle.ra_group.specs.Outcome.{outcome_of, next_hits};
 ghost use Rattle.ra_trigger.specs.Steps.{TriggerKept, hits_after_truth, step as achievement_step, truth};
 ghost use Rattle.ra_value.specs.Steps.{ValueKept, step as value_step};
-ghost use Rattle.ra_rest.specs.Groups.{AgreeButFree, all_keep, rested_hits, with_hits};
+ghost use Rattle.ra_rest.specs.Groups.{AgreeButFree, all_keep, counted_by, groups_keep, paid, rested_hits, with_hits};
 ghost use Rattle.ra_rest.specs.Triggers.{rested_achievement, rested_test};
 ghost use Rattle.ra_rest.specs.Values.{rested_value};
 
@@ -46,4 +47,49 @@ pub fn values_rest()
         → value_step parts truths lefts sums old ≡ rested_value 1 parts truths lefts sums old
         → value_step parts truths lefts sums (rested_value n parts truths lefts sums old)
         ≡ rested_value (n + 1) parts truths lefts sums old }
+{}
+
+/// How rest is seen, by what is kept before and after a frame: an achievement rests that keeps its state and its measured
+/// number, a value that keeps its numbers, and a trigger without states, where each condition keeps its hits, or is free
+/// and has one more. There are as many hits as conditions.
+pub fn rest_is_seen()
+    ensures achievements { (t : TriggerContents) (truths : List Bool) (lefts : List ℕ) (old : TriggerKept)
+        → length old.hits ≡ trigger_hits t
+        → (achievement_step t truths lefts old).state ≡ old.state
+        → (achievement_step t truths lefts old).measured ≡ old.measured
+        → groups_keep InTrigger (groups_of t) old.hits (achievement_step t truths lefts old).hits ≡ true
+        → achievement_step t truths lefts old ≡ rested_achievement 1 t truths lefts old }
+    ensures tests { (t : TriggerContents) (truths : List Bool) (lefts hits : List ℕ) → length hits ≡ trigger_hits t
+        → groups_keep InTrigger (groups_of t) hits (hits_after_truth t truths lefts hits) ≡ true
+        → hits_after_truth t truths lefts hits ≡ rested_test 1 t truths lefts hits }
+    ensures values { (parts : List PartContents) (truths : List Bool) (lefts sums : List ℕ) (old : ValueKept)
+        → length old.hits ≡ value_hits parts → (value_step parts truths lefts sums old).numbers ≡ old.numbers
+        → groups_keep InValue (map counted_in parts) old.hits (value_step parts truths lefts sums old).hits ≡ true
+        → value_step parts truths lefts sums old ≡ rested_value 1 parts truths lefts sums old }
+{}
+
+/// What n frames more at rest leave, by the hits before and after the first one: `paid` by those that are others. There are
+/// as many hits as conditions, of 32 bits.
+pub fn hits_are_owed()
+    ensures achievements { (n : ℕ) (t : TriggerContents) (truths : List Bool) (lefts : List ℕ) (old : TriggerKept)
+        → length old.hits ≡ trigger_hits t → ((j : ℕ) → slice_index old.hits j ≤ 4294967295)
+        → achievement_step t truths lefts old ≡ rested_achievement 1 t truths lefts old
+        → rested_achievement n t truths lefts (achievement_step t truths lefts old)
+        ≡ record (achievement_step t truths lefts old) {
+          hits = paid n (counted_by old.hits (achievement_step t truths lefts old).hits)
+              (achievement_step t truths lefts old).hits;
+        } }
+    ensures tests { (n : ℕ) (t : TriggerContents) (truths : List Bool) (lefts hits : List ℕ)
+        → length hits ≡ trigger_hits t → ((j : ℕ) → slice_index hits j ≤ 4294967295)
+        → hits_after_truth t truths lefts hits ≡ rested_test 1 t truths lefts hits
+        → rested_test n t truths lefts (hits_after_truth t truths lefts hits)
+        ≡ paid n (counted_by hits (hits_after_truth t truths lefts hits)) (hits_after_truth t truths lefts hits) }
+    ensures values { (n : ℕ) (parts : List PartContents) (truths : List Bool) (lefts sums : List ℕ) (old : ValueKept)
+        → length old.hits ≡ value_hits parts → ((j : ℕ) → slice_index old.hits j ≤ 4294967295)
+        → value_step parts truths lefts sums old ≡ rested_value 1 parts truths lefts sums old
+        → rested_value n parts truths lefts sums (value_step parts truths lefts sums old)
+        ≡ record (value_step parts truths lefts sums old) {
+          hits = paid n (counted_by old.hits (value_step parts truths lefts sums old).hits)
+              (value_step parts truths lefts sums old).hits;
+        } }
 {}

@@ -2,5 +2,9 @@
 #![tactic(auto)]
 
 mod laws;
+mod seen;
 
-pub use laws::{achievements_rest, groups_rest, tests_rest, values_rest};
+pub use laws::{
+    achievements_rest, groups_rest, hits_are_owed, rest_is_seen, tests_rest, values_rest,
+};
+pub use seen::{is_free, note_counted, pay, trigger_keeps, value_keeps};
