@@ -3,3 +3,4 @@ mod GatherLemmas
 mod GroupsLemmas
 mod LawLemmas
 mod OrdersLemmas
+pub mod HitsLemmas

@@ -26,9 +26,11 @@ impl Model for Trigger {
 
 impl Trigger {
     ghost use Rattle.std.specs.Prelude.{◌≡◌, ◌*◌, length, IfOk};
+    ghost use Rattle.std.specs.Borrow.{sem};
     ghost use Rattle.ra_condition.specs.Contents.{trigger_contents, trigger_hits};
     ghost use Rattle.ra_words.specs.Words.{words_at};
     ghost use Rattle.ra_trigger.specs.Kept.{no_trigger, orders_of, pauses_of, change_between};
+    ghost use Rattle.ra_trigger.specs.Lends.{LendsHits};
     ghost use Rattle.ra_trigger.specs.Steps.{cleared, step, truth, hits_after_truth};
     ghost use Rattle.ra_trigger.specs.declared.state.State.TheVariants.{Waiting};
 
@@ -153,6 +155,15 @@ impl Trigger {
         ensures { result.now ≡ self.now.hits }
     {
         &self.hits
+    }
+
+    /// The hits of the conditions of all groups, the core first, to be changed. State and measured
+    /// number stay.
+    pub fn hits_mut(&mut self) -> &mut [u32]
+        ensures* writes_back { sem 𝓛 (LendsHits self.entry result) }
+        ensures hits { result.now ≡ self.old.hits }
+    {
+        self.hits.as_mut_slice()
     }
 
     /// Takes back what a progress file keeps: docs/DEFINITIONS.md, "Progress file". `hits` has four

@@ -5,3 +5,4 @@ mod LawLemmas
 mod OrdersLemmas
 mod PartsLemmas
 mod TurnLemmas
+pub mod HitsLemmas

@@ -24,9 +24,11 @@ impl Model for Value {
 
 impl Value {
     ghost use Rattle.std.specs.Prelude.{◌≡◌, ◌*◌, length, IfOk};
+    ghost use Rattle.std.specs.Borrow.{sem};
     ghost use Rattle.ra_condition.specs.Contents.{value_contents, value_hits};
     ghost use Rattle.ra_words.specs.Words.{words_at};
     ghost use Rattle.ra_value.specs.Kept.{orders_of, pauses_of, cleared};
+    ghost use Rattle.ra_value.specs.Lends.{LendsHits};
     ghost use Rattle.ra_value.specs.Steps.{no_value, signed_greatest, step};
 
     /// A value with all numbers 0.
@@ -110,6 +112,15 @@ impl Value {
         ensures { result.now ≡ self.now.hits }
     {
         &self.hits
+    }
+
+    /// The hits of the conditions of all parts, in text order, to be changed. The numbers of the parts
+    /// stay.
+    pub fn hits_mut(&mut self) -> &mut [u32]
+        ensures* writes_back { sem 𝓛 (LendsHits self.entry result) }
+        ensures hits { result.now ≡ self.old.hits }
+    {
+        self.hits.as_mut_slice()
     }
 
     /// The number of each part, in text order.
