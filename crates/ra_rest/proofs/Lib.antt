@@ -4,8 +4,10 @@ mod AlongRest
 mod TriggerRest
 mod SeenRest
 mod Kept
-mod Owed
+pub mod Owed
 mod OwedLaws
 mod Keeping
 mod SeenLaws
 mod ValueRest
+mod MoreRest
+pub mod GoesOn

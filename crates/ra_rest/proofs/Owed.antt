@@ -1,37 +1,37 @@
--- What is owed after n frames at rest, by which hits were others after one.
-use Rattle.std.proofs.Common.{◌≡◌, ℕ, ◌+◌, ◌-◌, ◌<◌, ◌≤◌, Bool, true, false, not, ◌==◌, cond, List, [], ◌∷◌, ◌++◌, length, drop, map, get_or, slice_index, slice_index_or, sum_by, refl, sym, ap, ◌∙◌, inl, inr, arith, length-drop}
+-- What is owed after n frames at rest, by the hits before and after one.
+use Rattle.std.proofs.Common.{◌≡◌, ℕ, ◌+◌, ◌-◌, ◌<◌, ◌≤◌, Bool, true, false, ◌==◌, cond, List, [], ◌∷◌, ◌++◌, length, drop, map, get_or, slice_index, sum_by, refl, sym, ap, ◌∙◌, inl, inr, arith, length-drop}
 use Rattle.std.specs.List.{flat_map}
 use Rattle.std.proofs.lemmas.Bool.{cases_lt, eqb-true, eq-eqb}
-use Rattle.std.proofs.lemmas.List.{get_or-take, get_or-drop, get_or_append_left, get_or-append-add}
-use Rattle.std.proofs.lemmas.List.FromFn.{fill_by_all, get_or-map-range_with_len}
+use Rattle.std.proofs.lemmas.List.{get_or_past, get_or-take, get_or-drop, get_or_append_left, get_or-append-add}
+use Rattle.std.proofs.lemmas.List.FromFn.{fill_by_all, get_or-map-range_with_len, length-map-range_with_len}
 use Rattle.std.proofs.lemmas.List.Sums.{sum_by-cons}
 use Rattle.ra_condition.specs.declared.condition.Condition.{Condition}
 use Rattle.ra_group.specs.declared.form.Form.{Form}
 use Rattle.ra_group.specs.Equations.{Frame}
 use Rattle.ra_trigger.specs.Steps.{frames_along}
-use Rattle.ra_rest.specs.Groups.{is_counting, plus, rested_hit, rested_hits, with_hits, counted_by, paid}
+use Rattle.ra_rest.specs.Groups.{is_counting, plus, rested_hit, rested_hits, with_hits, paid}
 use Rattle.ra_rest.proofs.GroupLemmas.{counting_same}
 use Rattle.ra_rest.proofs.GroupRest.{rested_agree}
 use Rattle.ra_rest.proofs.AlongRest.{first, length-rested, length-rested_along, frames-rested}
 
 -- the number after n frames more at rest, from those before and after one
 abbrev pub owed : ℕ → (before after : ℕ) → ℕ
-owed n before after = cond (not (after == before)) (plus n after) after
+owed n before after = cond (after == before) after (plus n after)
 
 -- a condition that counts owes n hits, and one that is at the greatest number already owes none
 counted_owes : (n h : ℕ) → h ≤ 4294967295 → plus n (plus 1 h) ≡ owed n h (plus 1 h)
 counted_owes n h most = by_test (plus 1 h == h) refl
   where
     by_test : (b : Bool) → (plus 1 h == h) ≡ b
-        → plus n (plus 1 h) ≡ cond (not (plus 1 h == h)) (plus n (plus 1 h)) (plus 1 h)
-    by_test false e = sym (ap (λ b. cond (not b) (plus n (plus 1 h)) (plus 1 h)) e)
-    by_test true e = full (eqb-true (plus 1 h) h e) ∙ sym (ap (λ b. cond (not b) (plus n (plus 1 h)) (plus 1 h)) e)
+        → plus n (plus 1 h) ≡ cond (plus 1 h == h) (plus 1 h) (plus n (plus 1 h))
+    by_test false e = sym (ap (λ b. cond b (plus 1 h) (plus n (plus 1 h))) e)
+    by_test true e = full (eqb-true (plus 1 h) h e) ∙ sym (ap (λ b. cond b (plus 1 h) (plus n (plus 1 h))) e)
       where
         full : plus 1 h ≡ h → plus n (plus 1 h) ≡ plus 1 h
         full same = omega (arith, most, same)
 
 same_owes : (n h : ℕ) → h ≡ owed n h h
-same_owes n h = sym (ap (λ b. cond (not b) (plus n h) h) (eq-eqb h h refl))
+same_owes n h = sym (ap (λ b. cond b h (plus n h)) (eq-eqb h h refl))
 
 module _ (form : Form) (n : ℕ) (f : Frame) where
   abbrev after : Frame
@@ -132,32 +132,65 @@ module _ (form : Form) (n : ℕ) where
       → length hits ≡ sum_by length gs
       → ((j : ℕ) → slice_index hits j ≤ 4294967295)
       → flat_map (rested_hits n form) (frames_along gs truths lefts (once gs truths lefts hits))
-      ≡ paid n (counted_by hits (once gs truths lefts hits)) (once gs truths lefts hits)
+      ≡ paid n hits (once gs truths lefts hits)
   owed_groups gs truths lefts hits long most =
-      fill_by_all (λ j. cond (slice_index_or (counted_by hits (once gs truths lefts hits)) j false)
-      (plus n (slice_index (once gs truths lefts hits) j)) (slice_index (once gs truths lefts hits) j))
+      fill_by_all (λ j. owed n (slice_index hits j) (slice_index (once gs truths lefts hits) j))
       (flat_map (rested_hits n form) (frames_along gs truths lefts (once gs truths lefts hits))) (length
       (once gs truths lefts hits)) 0
       (length-rested_along form n gs truths lefts (once gs truths lefts hits) ∙ sym size)
       (λ j l.
       ap (λ fs. get_or (flat_map (rested_hits n form) fs) j 0) (frames-rested form 1 gs truths lefts hits)
-      ∙ owed_along gs truths lefts hits long most j (omega (arith, l, size))
-      ∙ ap (λ b. cond b (plus n (slice_index (once gs truths lefts hits) j))
-      (slice_index (once gs truths lefts hits) j))
-      (sym (get_or-map-range_with_len
-      (λ k. not (slice_index (once gs truths lefts hits) k == slice_index hits k)) 0 (length
-      (once gs truths lefts hits)) j j false l (omega arith))))
+      ∙ owed_along gs truths lefts hits long most j (omega (arith, l, size)))
     where
       size : length (once gs truths lefts hits) ≡ sum_by length gs
       size = length-rested_along form 1 gs truths lefts hits
 
 -- where no hits are others, none are owed
-pub owed_none : (n : ℕ) (hits : List ℕ) → paid n (counted_by hits hits) hits ≡ hits
+pub owed_none : (n : ℕ) (hits : List ℕ) → paid n hits hits ≡ hits
 owed_none n hits =
-    sym (fill_by_all (λ j. cond (slice_index_or (counted_by hits hits) j false) (plus n (slice_index hits j))
-    (slice_index hits j)) hits (length hits) 0 refl
-    (λ j l.
-    same_owes n (slice_index hits j)
-    ∙ ap (λ b. cond b (plus n (slice_index hits j)) (slice_index hits j))
-    (sym (get_or-map-range_with_len (λ k. not (slice_index hits k == slice_index hits k)) 0
-    (length hits) j j false l (omega arith)))))
+    sym (fill_by_all (λ j. owed n (slice_index hits j) (slice_index hits j)) hits (length hits) 0 refl
+    (λ j l. same_owes n (slice_index hits j)))
+
+-- there are as many hits as before
+pub length-paid : (n : ℕ) (before hits : List ℕ) → length (paid n before hits) ≡ length hits
+length-paid n before hits =
+    length-map-range_with_len (λ j. owed n (slice_index before j) (slice_index hits j)) 0 (length hits)
+
+-- each hit by that before it
+pub paid_at : (n : ℕ) (before hits : List ℕ) (j : ℕ) → j < length hits
+    → slice_index (paid n before hits) j ≡ owed n (slice_index before j) (slice_index hits j)
+paid_at n before hits j l =
+    get_or-map-range_with_len (λ k. owed n (slice_index before k) (slice_index hits k)) 0 (length hits) j j 0 l (omega
+    arith)
+
+-- what is owed is of 32 bits
+owed_most : (n before after : ℕ) → after ≤ 4294967295 → owed n before after ≤ 4294967295
+owed_most n before after most = by_test (after == before)
+  where
+    by_test : (b : Bool) → cond b after (plus n after) ≤ 4294967295
+    by_test true = most
+    by_test false = omega arith
+
+-- hits of 32 bits are so once they are paid
+pub paid_most : (n : ℕ) (before hits : List ℕ) → ((j : ℕ) → slice_index hits j ≤ 4294967295)
+    → (j : ℕ) → slice_index (paid n before hits) j ≤ 4294967295
+paid_most n before hits most j =
+    elim (cases_lt j (length hits)) [
+      | inl l ↦
+          omega (arith, paid_at n before hits j l, owed_most n (slice_index before j) (slice_index hits j) (most j))
+      | inr g ↦
+          omega (
+            arith,
+            get_or_past (paid n before hits) j 0 (omega (arith, g, length-paid n before hits)),
+          )
+    ]
+
+-- after no frames nothing is owed
+pub paid_nothing : (before hits : List ℕ) → ((j : ℕ) → slice_index hits j ≤ 4294967295) → paid 0 before hits ≡ hits
+paid_nothing before hits most =
+    sym (fill_by_all (λ j. owed 0 (slice_index before j) (slice_index hits j)) hits (length hits) 0 refl
+    (λ j l. by_test (slice_index hits j == slice_index before j) (slice_index hits j) (most j)))
+  where
+    by_test : (b : Bool) (h : ℕ) → h ≤ 4294967295 → h ≡ cond b h (plus 0 h)
+    by_test true h most = refl
+    by_test false h most = omega (arith, most)

@@ -5,19 +5,10 @@ use Rattle.ra_condition.specs.Contents.{TriggerContents, groups_of, trigger_hits
 use Rattle.ra_group.specs.declared.form.Form.TheVariants.{InTrigger}
 use Rattle.ra_trigger.specs.States.{is_cleared, is_triggered}
 use Rattle.ra_trigger.specs.Steps.{TriggerKept, Together, together, step, hits_after_truth}
-use Rattle.ra_rest.specs.Groups.{counted_by, paid}
-use Rattle.ra_rest.specs.Triggers.{rested_groups, rested_achievement, rested_test}
+use Rattle.ra_rest.specs.Groups.{paid}
+use Rattle.ra_rest.specs.Triggers.{rested_groups, rested_achievement, rested_test, owed_trigger}
 use Rattle.ra_rest.proofs.Owed.{owed_groups, owed_none}
 use Rattle.ra_rest.proofs.TriggerRest.{together-rested}
-
--- the hits that are kept, with those of n frames more where they were others
-abbrev with_owed : ℕ → List ℕ → TriggerKept → TriggerKept
-with_owed n before kept = record {
-  state = kept.state;
-  measured = kept.measured;
-  hits = paid n
-      (counted_by before kept.hits) kept.hits;
-}
 
 module _ (n : ℕ) (t : TriggerContents) (truths : List Bool) (lefts : List ℕ) (old : TriggerKept)
     (long : length old.hits ≡ trigger_hits t) (most : (j : ℕ) → slice_index old.hits j ≤ 4294967295) where
@@ -38,14 +29,15 @@ module _ (n : ℕ) (t : TriggerContents) (truths : List Bool) (lefts : List ℕ)
         (rested_groups 1 t truths lefts old.hits);
   }
 
-  -- where an achievement rested at a frame, what n frames more leave is paid by the hits that were others
+  -- where an achievement rested at a frame, what n frames more leave is paid by the hits before it
   pub achievement_owed : step t truths lefts old ≡ rested_achievement 1 t truths lefts old
-      → rested_achievement n t truths lefts (step t truths lefts old) ≡ with_owed n old.hits (step t truths lefts old)
+      → rested_achievement n t truths lefts (step t truths lefts old)
+      ≡ owed_trigger n old.hits (step t truths lefts old)
   achievement_owed rest = by_end stays refl
     where
       by_end : (b : Bool) → stays ≡ b
           → rested_achievement n t truths lefts (step t truths lefts old)
-          ≡ with_owed n old.hits (step t truths lefts old)
+          ≡ owed_trigger n old.hits (step t truths lefts old)
       by_end true e =
           let same = rest ∙ cond-true stays old with_more e in
           ap (rested_achievement n t truths lefts) same
@@ -53,7 +45,7 @@ module _ (n : ℕ) (t : TriggerContents) (truths : List Bool) (lefts : List ℕ)
           (record { state = old.state; measured = old.measured; hits = rested_groups n t truths lefts old.hits }) e
           ∙ ap (λ hits. record { state = old.state; measured = old.measured; hits = hits }) (sym
           (owed_none n old.hits))
-          ∙ sym (ap (with_owed n old.hits) same)
+          ∙ sym (ap (owed_trigger n old.hits) same)
       by_end false e =
           let more = rest ∙ cond-false stays old with_more e in
           ap (rested_achievement n t truths lefts) more
@@ -62,31 +54,28 @@ module _ (n : ℕ) (t : TriggerContents) (truths : List Bool) (lefts : List ℕ)
           ∙ cond-false stays with_more with_later e
           ∙ ap (λ hits. record { state = old.state; measured = old.measured; hits = hits }) (owed_groups InTrigger n
           (groups_of t) truths lefts old.hits long most)
-          ∙ sym (ap (with_owed n old.hits) more)
+          ∙ sym (ap (owed_trigger n old.hits) more)
 
 module _ (n : ℕ) (t : TriggerContents) (truths : List Bool) (lefts hits : List ℕ) (long : length hits
     ≡ trigger_hits t) (most : (j : ℕ) → slice_index hits j ≤ 4294967295) where
   abbrev told : Together
   told = together t truths lefts hits
 
-  abbrev owed_of : List ℕ → List ℕ
-  owed_of after = paid n (counted_by hits after) after
-
   -- the same of a trigger without states
   pub test_owed : hits_after_truth t truths lefts hits ≡ rested_test 1 t truths lefts hits
       → rested_test n t truths lefts (hits_after_truth t truths lefts hits)
-      ≡ owed_of (hits_after_truth t truths lefts hits)
+      ≡ paid n hits (hits_after_truth t truths lefts hits)
   test_owed rest = by_reset told.reset refl
     where
       by_reset : (b : Bool) → told.reset ≡ b
           → rested_test n t truths lefts (hits_after_truth t truths lefts hits)
-          ≡ owed_of (hits_after_truth t truths lefts hits)
+          ≡ paid n hits (hits_after_truth t truths lefts hits)
       by_reset true e =
           let same = rest ∙ cond-true told.reset hits (rested_groups 1 t truths lefts hits) e in
           ap (rested_test n t truths lefts) same
           ∙ cond-true told.reset hits (rested_groups n t truths lefts hits) e
           ∙ sym (owed_none n hits)
-          ∙ sym (ap owed_of same)
+          ∙ sym (ap (paid n hits) same)
       by_reset false e =
           let more = rest ∙ cond-false told.reset hits (rested_groups 1 t truths lefts hits) e in
           ap (rested_test n t truths lefts) more
@@ -96,4 +85,4 @@ module _ (n : ℕ) (t : TriggerContents) (truths : List Bool) (lefts hits : List
           ∙ cond-false told.reset (rested_groups 1 t truths lefts hits) (rested_groups n t truths lefts
           (rested_groups 1 t truths lefts hits)) e
           ∙ owed_groups InTrigger n (groups_of t) truths lefts hits long most
-          ∙ sym (ap owed_of more)
+          ∙ sym (ap (paid n hits) more)

@@ -9,11 +9,11 @@ use Rattle.ra_group.specs.Equations.{Frame, frame_of}
 use Rattle.ra_group.specs.Outcome.{next_hits}
 use Rattle.ra_trigger.specs.Steps.{frames_along}
 use Rattle.ra_value.specs.Steps.{ValueKept, PartStep, part_step, part_steps, number_after, step}
-use Rattle.ra_rest.specs.Groups.{rested_hits, with_hits, groups_keep, counted_by, paid}
+use Rattle.ra_rest.specs.Groups.{rested_hits, with_hits, groups_keep}
 use Rattle.ra_rest.proofs.Owed.{owed_groups, owed_none}
 use Rattle.ra_rest.proofs.Keeping.{groups_rest_kept}
 use Rattle.ra_rest.proofs.SeenLaws.{cleared_kept}
-use Rattle.ra_rest.specs.Values.{rested_parts, rested_value}
+use Rattle.ra_rest.specs.Values.{rested_parts, rested_value, owed_value}
 use Rattle.ra_rest.proofs.GroupLemmas.{outcome_same}
 use Rattle.ra_rest.proofs.GroupRest.{rested_agree}
 use Rattle.ra_rest.proofs.AlongRest.{first, length-along, take_part, drop_part, length-rested, frames-rested, hits-rested}
@@ -110,7 +110,7 @@ module _ (n : ℕ) (parts : List PartContents) (truths : List Bool) (lefts sums 
   abbrev left : Bool → List ℕ → List ℕ → ValueKept
   left reset hits numbers = record { hits = cond reset (replicate (length hits) 0) hits; numbers = numbers }
 
-  reset_later : list_any (λ part. part.reset) later ≡ reset
+  pub reset_later : list_any (λ part. part.reset) later ≡ reset
   reset_later =
       sym (reset-said later)
       ∙ ap (λ ps. list_any (λ part. part.reset) ps) (said-rested n parts truths lefts old.hits sums old.numbers)
@@ -199,26 +199,23 @@ module _ (parts : List PartContents) (truths : List Bool) (lefts sums : List ℕ
           numbers
           ∙ sym (cond-false resets old more e)
 
-  abbrev with_owed : ℕ → ValueKept → ValueKept
-  with_owed n kept = record { hits = paid n (counted_by old.hits kept.hits) kept.hits; numbers = kept.numbers }
-
-  -- where a value rested at a frame, what n frames more leave is paid by the hits that were others
+  -- where a value rested at a frame, what n frames more leave is paid by the hits before it
   pub value_owed : (n : ℕ) → length old.hits ≡ value_hits parts → ((j : ℕ) → slice_index old.hits j ≤ 4294967295)
       → step parts truths lefts sums old ≡ rested_value 1 parts truths lefts sums old
       → rested_value n parts truths lefts sums (step parts truths lefts sums old)
-      ≡ with_owed n (step parts truths lefts sums old)
+      ≡ owed_value n old.hits (step parts truths lefts sums old)
   value_owed n long most rest = by_reset resets refl
     where
       by_reset : (b : Bool) → resets ≡ b
           → rested_value n parts truths lefts sums (step parts truths lefts sums old)
-          ≡ with_owed n (step parts truths lefts sums old)
+          ≡ owed_value n old.hits (step parts truths lefts sums old)
       by_reset true e =
           let same = rest ∙ cond-true resets old more e in
           ap (rested_value n parts truths lefts sums) same
           ∙ cond-true resets old
           (record { hits = rested_parts n parts truths lefts old.hits; numbers = old.numbers }) e
           ∙ ap (λ hits. record { hits = hits; numbers = old.numbers }) (sym (owed_none n old.hits))
-          ∙ sym (ap (with_owed n) same)
+          ∙ sym (ap (owed_value n old.hits) same)
       by_reset false e =
           let counts = rest ∙ cond-false resets old more e in
           let behind : ValueKept = record {
@@ -231,4 +228,4 @@ module _ (parts : List PartContents) (truths : List Bool) (lefts sums : List ℕ
           ∙ cond-false resets more behind e
           ∙ ap (λ hits. record { hits = hits; numbers = old.numbers }) (owed_groups InValue n
           (map counted_in parts) truths lefts old.hits (long ∙ sizes parts) most)
-          ∙ sym (ap (with_owed n) counts)
+          ∙ sym (ap (owed_value n old.hits) counts)

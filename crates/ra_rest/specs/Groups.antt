@@ -66,11 +66,9 @@ groups_keep form [] before after = true
 groups_keep form (cs ∷ groups) before after =
     all_keep form cs (take (length cs) before) (take (length cs) after) && groups_keep form groups (drop (length cs) before) (drop (length cs) after)
 
--- which hits are others after a frame
-abbrev pub counted_by : (before after : List ℕ) → List Bool
-counted_by before after = map (λ j. not (slice_index after j == slice_index before j)) (range_with_len 0 (length after))
-
--- hits with n more where they counted, at most the greatest number of 32 bits
-abbrev pub paid : ℕ → List Bool → List ℕ → List ℕ
-paid n counted hits =
-    map (λ j. if slice_index_or counted j false then plus n (slice_index hits j) else slice_index hits j) (range_with_len 0 (length hits))
+-- hits with n more where others stood before the frame at which the rest began, at most the greatest number of 32 bits
+abbrev pub paid : ℕ → (before hits : List ℕ) → List ℕ
+paid n before hits =
+    map
+    (λ j. if slice_index hits j == slice_index before j then slice_index hits j else plus n (slice_index hits j))
+    (range_with_len 0 (length hits))

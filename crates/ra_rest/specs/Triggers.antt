@@ -5,7 +5,7 @@ use Rattle.ra_condition.specs.Contents.{TriggerContents, groups_of}
 use Rattle.ra_group.specs.declared.form.Form.TheVariants.{InTrigger}
 use Rattle.ra_trigger.specs.States.{is_cleared, is_triggered}
 use Rattle.ra_trigger.specs.Steps.{TriggerKept, frames_along, together}
-use Rattle.ra_rest.specs.Groups.{rested_hits}
+use Rattle.ra_rest.specs.Groups.{rested_hits, paid}
 
 -- the hits of all groups of a trigger after n frames at rest
 abbrev pub rested_groups : ℕ → TriggerContents → List Bool → (lefts hits : List ℕ) → List ℕ
@@ -22,3 +22,7 @@ rested_achievement n t truths lefts old =
 abbrev pub rested_test : ℕ → TriggerContents → List Bool → (lefts hits : List ℕ) → List ℕ
 rested_test n t truths lefts hits =
     if (together t truths lefts hits).reset then hits else rested_groups n t truths lefts hits
+
+-- what is kept of a trigger at rest, with the hits of n frames more; the rest began at a frame with the hits before
+abbrev pub owed_trigger : ℕ → (before : List ℕ) → TriggerKept → TriggerKept
+owed_trigger n before kept = record kept { hits = paid n before kept.hits }

@@ -7,7 +7,7 @@ use Rattle.ra_condition.specs.Contents.{PartContents, part_contents, counted_in}
 use Rattle.ra_group.specs.declared.form.Form.TheVariants.{InValue}
 use Rattle.ra_trigger.specs.Steps.{frames_along}
 use Rattle.ra_value.specs.Steps.{ValueKept, part_steps}
-use Rattle.ra_rest.specs.Groups.{rested_hits}
+use Rattle.ra_rest.specs.Groups.{rested_hits, paid}
 
 -- the conditions of a part that keep hits, where it lies in memory
 abbrev pub counted_by_part : Part → List Condition
@@ -22,3 +22,7 @@ abbrev pub rested_value : ℕ → List PartContents → List Bool → (lefts sum
 rested_value n parts truths lefts sums old =
     if list_any (λ part. part.reset) (part_steps parts truths lefts old.hits sums old.numbers) then old
     else record { hits = rested_parts n parts truths lefts old.hits; numbers = old.numbers }
+
+-- what is kept of a value at rest, with the hits of n frames more; the rest began at a frame with the hits before
+abbrev pub owed_value : ℕ → (before : List ℕ) → ValueKept → ValueKept
+owed_value n before kept = record kept { hits = paid n before kept.hits }

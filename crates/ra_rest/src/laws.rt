@@ -8,9 +8,9 @@ ghost use Rattle.ra_group.specs.Equations.{Frame};
 ghost use Rattle.ra_group.specs.Outcome.{outcome_of, next_hits};
 ghost use Rattle.ra_trigger.specs.Steps.{TriggerKept, hits_after_truth, step as achievement_step, truth};
 ghost use Rattle.ra_value.specs.Steps.{ValueKept, step as value_step};
-ghost use Rattle.ra_rest.specs.Groups.{AgreeButFree, all_keep, counted_by, groups_keep, paid, rested_hits, with_hits};
-ghost use Rattle.ra_rest.specs.Triggers.{rested_achievement, rested_test};
-ghost use Rattle.ra_rest.specs.Values.{rested_value};
+ghost use Rattle.ra_rest.specs.Groups.{AgreeButFree, all_keep, groups_keep, paid, rested_hits, with_hits};
+ghost use Rattle.ra_rest.specs.Triggers.{owed_trigger, rested_achievement, rested_test};
+ghost use Rattle.ra_rest.specs.Values.{owed_value, rested_value};
 
 /// What a group says does not hang on the hits of free conditions, a group that rests goes on to rest, and it rests where
 /// each of its conditions keeps its hits, or is free and has one more.
@@ -68,28 +68,58 @@ pub fn rest_is_seen()
         → value_step parts truths lefts sums old ≡ rested_value 1 parts truths lefts sums old }
 {}
 
-/// What n frames more at rest leave, by the hits before and after the first one: `paid` by those that are others. There are
-/// as many hits as conditions, of 32 bits.
+/// What n frames more at rest leave, by the hits before and after the first one: `paid` of these. There are as many
+/// hits as conditions, of 32 bits.
 pub fn hits_are_owed()
     ensures achievements { (n : ℕ) (t : TriggerContents) (truths : List Bool) (lefts : List ℕ) (old : TriggerKept)
         → length old.hits ≡ trigger_hits t → ((j : ℕ) → slice_index old.hits j ≤ 4294967295)
         → achievement_step t truths lefts old ≡ rested_achievement 1 t truths lefts old
         → rested_achievement n t truths lefts (achievement_step t truths lefts old)
-        ≡ record (achievement_step t truths lefts old) {
-          hits = paid n (counted_by old.hits (achievement_step t truths lefts old).hits)
-              (achievement_step t truths lefts old).hits;
-        } }
+        ≡ owed_trigger n old.hits (achievement_step t truths lefts old) }
     ensures tests { (n : ℕ) (t : TriggerContents) (truths : List Bool) (lefts hits : List ℕ)
         → length hits ≡ trigger_hits t → ((j : ℕ) → slice_index hits j ≤ 4294967295)
         → hits_after_truth t truths lefts hits ≡ rested_test 1 t truths lefts hits
         → rested_test n t truths lefts (hits_after_truth t truths lefts hits)
-        ≡ paid n (counted_by hits (hits_after_truth t truths lefts hits)) (hits_after_truth t truths lefts hits) }
+        ≡ paid n hits (hits_after_truth t truths lefts hits) }
     ensures values { (n : ℕ) (parts : List PartContents) (truths : List Bool) (lefts sums : List ℕ) (old : ValueKept)
         → length old.hits ≡ value_hits parts → ((j : ℕ) → slice_index old.hits j ≤ 4294967295)
         → value_step parts truths lefts sums old ≡ rested_value 1 parts truths lefts sums old
         → rested_value n parts truths lefts sums (value_step parts truths lefts sums old)
-        ≡ record (value_step parts truths lefts sums old) {
-          hits = paid n (counted_by old.hits (value_step parts truths lefts sums old).hits)
-              (value_step parts truths lefts sums old).hits;
-        } }
+        ≡ owed_value n old.hits (value_step parts truths lefts sums old) }
+{}
+
+/// What rests goes on to rest, and what it owes is `paid`: each frame more adds one to what counted, and changes
+/// nothing else.
+///
+/// Rest is seen by what is kept before and after its first frame, as `rest_is_seen` says. There are as many hits as
+/// conditions, of 32 bits.
+pub fn rest_goes_on()
+    ensures achievements { (t : TriggerContents) (truths : List Bool) (lefts : List ℕ) (old : TriggerKept)
+        → length old.hits ≡ trigger_hits t → ((j : ℕ) → slice_index old.hits j ≤ 4294967295)
+        → (achievement_step t truths lefts old).state ≡ old.state
+        → (achievement_step t truths lefts old).measured ≡ old.measured
+        → groups_keep InTrigger (groups_of t) old.hits (achievement_step t truths lefts old).hits ≡ true
+        → (n : ℕ)
+        → achievement_step t truths lefts (owed_trigger n old.hits (achievement_step t truths lefts old))
+        ≡ owed_trigger (n + 1) old.hits (achievement_step t truths lefts old) }
+    ensures tests { (t : TriggerContents) (truths : List Bool) (lefts hits : List ℕ)
+        → length hits ≡ trigger_hits t → ((j : ℕ) → slice_index hits j ≤ 4294967295)
+        → groups_keep InTrigger (groups_of t) hits (hits_after_truth t truths lefts hits) ≡ true
+        → (n : ℕ)
+        → hits_after_truth t truths lefts (paid n hits (hits_after_truth t truths lefts hits))
+        ≡ paid (n + 1) hits (hits_after_truth t truths lefts hits) }
+    ensures truths { (t : TriggerContents) (truths : List Bool) (lefts hits : List ℕ)
+        → length hits ≡ trigger_hits t → ((j : ℕ) → slice_index hits j ≤ 4294967295)
+        → groups_keep InTrigger (groups_of t) hits (hits_after_truth t truths lefts hits) ≡ true
+        → (n : ℕ)
+        → truth t truths lefts (paid n hits (hits_after_truth t truths lefts hits)) ≡ truth t truths lefts hits }
+    ensures values { (parts : List PartContents) (truths : List Bool) (lefts sums : List ℕ) (old : ValueKept)
+        → length old.hits ≡ value_hits parts → ((j : ℕ) → slice_index old.hits j ≤ 4294967295)
+        → (value_step parts truths lefts sums old).numbers ≡ old.numbers
+        → groups_keep InValue (map counted_in parts) old.hits (value_step parts truths lefts sums old).hits ≡ true
+        → (n : ℕ)
+        → value_step parts truths lefts sums (owed_value n old.hits (value_step parts truths lefts sums old))
+        ≡ owed_value (n + 1) old.hits (value_step parts truths lefts sums old) }
+    ensures nothing { (before hits : List ℕ) → ((j : ℕ) → slice_index hits j ≤ 4294967295)
+        → paid 0 before hits ≡ hits }
 {}

@@ -5,6 +5,7 @@ mod laws;
 mod seen;
 
 pub use laws::{
-    achievements_rest, groups_rest, hits_are_owed, rest_is_seen, tests_rest, values_rest,
+    achievements_rest, groups_rest, hits_are_owed, rest_goes_on, rest_is_seen, tests_rest,
+    values_rest,
 };
-pub use seen::{is_free, note_counted, pay, trigger_keeps, value_keeps};
+pub use seen::{is_free, pay, trigger_keeps, value_keeps};

@@ -144,24 +144,16 @@ fn counted_by_part(part: &Part) -> &[Condition]
     }
 }
 
-/// Notes which hits are others after a frame.
-pub fn note_counted(before: &[u32], after: &[u32], counted: &mut [bool])
-    requires before { length before.now ≡ length after.now }
-    requires counted { length counted.old ≡ length after.now }
-    ensures { counted.new ≡ spec.counted_by before.now after.now }
-{
-    for place in 0..after.len() {
-        counted[place] = after[place] != before[place];
-    }
-}
-
-/// Adds the hits that are owed for frames at rest where they counted, at most 4,294,967,295.
-pub fn pay(hits: &mut [u32], counted: &[bool], frames: u32)
-    requires { length counted.now ≡ length hits.old }
-    ensures { hits.new ≡ spec.paid frames counted.now hits.old }
+/// Adds the hits that are owed for more frames at rest, at most 4,294,967,295.
+///
+/// `before` are the hits before the frame at which the rest began, and `hits` those after it. Where
+/// both are the same, none are owed.
+pub fn pay(hits: &mut [u32], before: &[u32], frames: u32)
+    requires { length before.now ≡ length hits.old }
+    ensures { hits.new ≡ spec.paid frames before.now hits.old }
 {
     for place in 0..hits.len() {
-        if counted[place] {
+        if hits[place] != before[place] {
             hits[place] = hits[place].saturating_add(frames);
         }
     }
