@@ -17,7 +17,7 @@ use Rattle.ra_memref.proofs.Passed.{TakesNode}
 use Rattle.ra_memref.proofs.QuietLemmas.{Unseen, quiet_other, quiet_here, unmarked_other, unmarked_here}
 
 -- numbers that do not differ are one
-same_number : (a b : ℕ) → not (a == b) ≡ false → a ≡ b
+pub same_number : (a b : ℕ) → not (a == b) ≡ false → a ≡ b
 same_number a b alike = elim (eqb_tells a b) [
   | inl e ↦ e.1
   | inr n ↦ absurd (false≢true (sym (rw n.0 at alike)))

@@ -1,6 +1,7 @@
 pub mod AgendaLemmas
 pub mod AgreeLemmas
 pub mod CellsAlong
+pub mod ChangeLemmas
 pub mod Cuts
 pub mod DueLemmas
 pub mod FlagLemmas

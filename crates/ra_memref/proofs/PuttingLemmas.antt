@@ -28,7 +28,14 @@ all_due agenda = record { due = agenda.due; all = true; dependents = agenda.depe
 
 -- a table with other numbers, for which no sample came
 abbrev pub put : Inside → NumbersSeen → Inside
-put t numbers = record { nodes = t.nodes; slots = t.slots; numbers = numbers; agenda = all_due t.agenda; sampled = false }
+put t numbers = record {
+  nodes = t.nodes;
+  slots = t.slots;
+  numbers = numbers;
+  agenda = all_due t.agenda;
+  changes = t.changes;
+  sampled = false;
+}
 
 module _ (t : Inside) (is : IsTable t) (new : NumbersSeen) where
   -- as many numbers as before are a table's again
@@ -49,6 +56,7 @@ module _ (t : Inside) (is : IsTable t) (new : NumbersSeen) where
       values = is.sized.values;
     });
     agenda = record { dues = is.agenda.dues; dependents = is.agenda.dependents; cells = is.agenda.cells };
+    room = is.room;
     quiet = λ some. absurd (false≢true (sym some));
   }
 

@@ -82,7 +82,14 @@ module _ (at count : ℕ) (image image' : List ℕ) (differ : DifferWithin at co
 
 -- a table with other numbers, and with other watches
 abbrev pub with_numbers : Inside → NumbersSeen → Inside
-with_numbers t n = record { nodes = t.nodes; slots = t.slots; numbers = n; agenda = t.agenda; sampled = t.sampled }
+with_numbers t n = record {
+  nodes = t.nodes;
+  slots = t.slots;
+  numbers = n;
+  agenda = t.agenda;
+  changes = t.changes;
+  sampled = t.sampled;
+}
 
 abbrev pub with_watches : Inside → WatchesSeen → Inside
 with_watches t w = with_numbers t (record t.numbers { watches = w })

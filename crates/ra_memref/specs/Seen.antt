@@ -20,6 +20,7 @@ table_seen t = record {
   sampled = t.sampled;
   marked = t.numbers.watches.marked;
   places = t.numbers.watches.places;
+  changed = t.changes.listed;
 }
 
 -- an agenda of these nodes: what names each of them, and where the cells are
@@ -36,4 +37,5 @@ pub record IsTable (t : Inside) : Type 0 where
   pub small : t.numbers.watches.size ≤ 2 ^ 27
   pub sized : IsSizedFor t.nodes.items t.numbers
   pub agenda : IsAgenda t.nodes.items t.agenda
+  pub room : t.changes.room ≡ length t.nodes.items
   pub quiet : t.agenda.all ≡ false → AreQuiet t.nodes.items t.agenda.due t.numbers t.slots.items

@@ -1,5 +1,5 @@
 -- What a table is seen as, and what its calls do: docs/DEFINITIONS.md, "Values at a frame" and "Marked and moved cells".
-use Rattle.std.specs.Prelude.{◌≡◌, ℕ, ◌+◌, ◌<◌, Bool, true, false, List, ◌∷◌, length, map, replicate, take, drop, slice_index, slice_index_or}
+use Rattle.std.specs.Prelude.{◌≡◌, ◌≢◌, ℕ, ◌+◌, ◌<◌, ◌≤◌, Bool, true, false, List, ◌∷◌, length, map, replicate, take, drop, slice_index, slice_index_or}
 use Rattle.ra_memory.specs.Image.{History, raw}
 use Rattle.ra_indirect.specs.declared.node.Node.{Node}
 use Rattle.ra_indirect.specs.Trees.{Cell, constant}
@@ -20,6 +20,8 @@ pub record TableSeen : Type 0 where
   -- the marked cells, and where each lies
   pub marked : List Bool
   pub places : List ℕ
+  -- the nodes that the last sample gave another number
+  pub changed : List ℕ
 
 -- the kept numbers of these nodes are those after the history
 pub record AreKept (start : Start) (history : History) (nodes : List Node) (cells priors : List ℕ) : Type 0 where
@@ -69,6 +71,19 @@ pub record Samples (old new : TableSeen) (image : List ℕ) : Type 0 where
 pub record ReadsWanted (old new : TableSeen) (reads : ℕ) : Type 0 where
   pub unmarked : new.marked ≡ replicate (length (cells_of old.nodes)) false
   pub counted : reads ≡ reads_of old.marked old.places new.places
+
+-- a number stands in a list
+pub record IsListed (n : ℕ) (numbers : List ℕ) : Type 0 where
+  pub place : ℕ
+  pub within : place < length numbers
+  pub here : slice_index numbers place ≡ n
+
+-- each node that a sample gave another number is listed, and only nodes are
+pub record ListsChanged (old new : TableSeen) : Type 0 where
+  pub each : (n : ℕ) → n < length old.nodes → slice_index old.values n ≢ slice_index new.values n
+      → IsListed n new.changed
+  pub nodes : (k : ℕ) → k < length new.changed → slice_index new.changed k < length old.nodes
+  pub few : length new.changed ≤ length old.nodes
 
 -- the images have one size and differ in the told bytes alone
 pub record DifferWithin (at count : ℕ) (image image' : List ℕ) : Type 0 where

@@ -10,9 +10,9 @@ use std::marker::Model;
 /// How many flags stand in a block.
 const BLOCK: usize = 64;
 
-/// A row of flags: a block without one that is set is passed over at once.
+/// A row of flags, seen as their list: a block without one that is set is passed over at once.
 ///
-/// Only `new` takes memory.
+/// Flags are counted from 0, and 64 stand in a block. Only `new` takes memory.
 #[derive(Drop)]
 pub struct Flags {
     flags: Vec<bool>,
@@ -40,7 +40,7 @@ impl Flags {
         Ok(Flags { flags, blocks })
     }
 
-    /// The flag of a place is set.
+    /// Whether the flag of a place is set.
     pub fn is_set(&self, place: usize) -> bool
         requires { place < length self.now }
         ensures { result ≡ slice_index_or self.now place true }
@@ -67,7 +67,10 @@ impl Flags {
         self.blocks.fill(true);
     }
 
-    /// The first flag from a place on that is set. None exactly where none is.
+    /// The place of the first flag from a place on that is set. None exactly where none is.
+    ///
+    /// No flag changes. A block in which it has looked at each flag, and found none set, is passed over
+    /// at the next call.
     pub fn next_from(&mut self, from: usize) -> Option<usize>
         ensures first { IfSome result (λ n. IsFirstSet self.old from n) }
         ensures none { result ≡ None → NoneSet self.old from (length self.old) }

@@ -4,6 +4,7 @@
 #![tactic(auto)]
 
 mod agenda;
+mod changes;
 mod flags;
 mod laws;
 mod layout;
@@ -14,6 +15,7 @@ mod table;
 mod tests;
 mod watches;
 
+pub use flags::Flags;
 pub use laws::looking_back_holds;
 pub use names::{Names, names_of};
 pub use table::Table;

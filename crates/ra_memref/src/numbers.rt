@@ -8,10 +8,12 @@ ghost use Rattle.ra_memref.specs.Layout.{IsLaid};
 ghost use Rattle.ra_memref.specs.Marks.{read_of, reads_of};
 ghost use Rattle.ra_memref.specs.Pass.{prior_after, looked_in, priors_after, after_node, reads_at, IsWithin, IsAgreedIn, IsAgreedAt, IsAgreed, IsSizedFor, TakesFrame, value_at};
 ghost use Rattle.ra_memref.specs.Flags.{NoneSet, IsFirstSet};
+ghost use Rattle.ra_memref.specs.Changes.{AreNoted};
 ghost use Rattle.ra_memref.specs.Due.{earlier_by, AreDependents, AreIdle};
 ghost use Rattle.ra_memref.specs.Watches.{MarksWatchers};
 ghost use Rattle.ra_words.specs.Words.{words_at};
 
+use crate::changes::Changes;
 use crate::flags::Flags;
 use crate::watches::{Watches, mark_listed};
 use ra_indirect::Node;
@@ -23,9 +25,10 @@ use ra_words::read_words;
 use std::alloc::Global;
 use std::marker::Model;
 
-/// What a node that was taken asks of the pass.
+/// What a node that was taken asks of the pass, and whether its number is another than before.
 #[derive(Clone, Copy)]
 struct Outcome {
+    changed: bool,
     seen: bool,
     again: bool,
 }
@@ -164,7 +167,7 @@ impl Numbers {
     }
 
     /// Takes up one frame: each node that is due is taken, and makes those that name it due where it
-    /// changed. A cell that is marked or moved is read.
+    /// changed. A cell that is marked or moved is read, and the nodes that changed are listed.
     pub fn take_frame<I: Image>(
         &mut self,
         image: &mut I,
@@ -172,6 +175,7 @@ impl Numbers {
         slots: &[u32],
         due: &mut Flags,
         dependents: &Links,
+        changes: &mut Changes,
     )
         requires pool { IsPool nodes.now }
         requires laid { IsLaid nodes.now slots.now }
@@ -182,24 +186,29 @@ impl Numbers {
         requires dues { length due.old ≡ length nodes.now }
         requires dependents { AreDependents nodes.now (length nodes.now) dependents.now }
         requires idle { AreIdle nodes.now due.old self.old slots.now }
+        requires room { changes.old.room ≡ length nodes.now }
 
         ensures taken { TakesFrame nodes.now self.old self.new (I.bytes image.old) }
         ensures idle { AreIdle nodes.now due.new self.new slots.now }
         ensures dues { length due.new ≡ length due.old }
+        ensures changed { AreNoted (length nodes.now) (length nodes.now) self.old.values self.new.values changes.new.listed }
+        ensures room { changes.new.room ≡ changes.old.room }
 
         ensures bytes { I.bytes image.new ≡ I.bytes image.old }
         ensures counter { I.counter image.new ≡ I.counter image.old }
         ensures reads { I.reads image.new ≡ I.reads image.old + reads_of self.old.watches.marked self.old.watches.places self.new.watches.places }
     {
+        changes.clear();
         let mut at = 0;
         while let Some(number) = due.next_from(at) {
-            self.take_due(image, nodes, slots, due, dependents, number);
+            let changed = self.take_due(image, nodes, slots, due, dependents, number);
+            changes.note(number as u32, changed);
             at = number + 1;
         }
     }
 
-    // Takes up a node that is due. It is due at the next frame too where it is a cell that changed, and
-    // those that name it are due where they see another number.
+    // Takes up a node that is due, and tells whether its number changed. It is due at the next frame too
+    // where it is a cell that changed, and those that name it are due where they see another number.
     fn take_due<I: Image>(
         &mut self,
         image: &mut I,
@@ -208,7 +217,7 @@ impl Numbers {
         due: &mut Flags,
         dependents: &Links,
         number: usize,
-    )
+    ) -> bool
         requires pool { IsPool nodes.now }
         requires laid { IsLaid nodes.now slots.now }
         requires sized { IsSizedFor nodes.now self.old }
@@ -222,6 +231,7 @@ impl Numbers {
         ensures taken { self.new ≡ after_node (node_at nodes.now number) self.old (I.bytes image.old) slots.now number }
         ensures idle { AreIdle nodes.now due.new self.new slots.now }
         ensures dues { length due.new ≡ length due.old }
+        ensures changed { result ≡ not (value_at self.old number == value_at self.new number) }
 
         ensures bytes { I.bytes image.new ≡ I.bytes image.old }
         ensures counter { I.counter image.new ≡ I.counter image.old }
@@ -232,10 +242,12 @@ impl Numbers {
         if outcome.seen {
             mark_listed(dependents, due, number as u32);
         }
+        outcome.changed
     }
 
-    // Takes up a node, and tells whether those that name it see another number, of this frame or of the
-    // one before, and whether they would see another one at the next frame too.
+    // Takes up a node, and tells whether its number changed, whether those that name it see another
+    // number, of this frame or of the one before, and whether they would see another one at the next
+    // frame too.
     fn follow<I: Image>(
         &mut self,
         image: &mut I,
@@ -249,6 +261,7 @@ impl Numbers {
         requires agreed { IsAgreedAt node self.old (I.bytes image.old) (slice_index slots.now number) }
 
         ensures taken { self.new ≡ after_node node self.old (I.bytes image.old) slots.now number }
+        ensures changed { result.changed ≡ not (value_at self.old number == value_at self.new number) }
         ensures seen { result.seen ≡ (not (value_at self.old number == value_at self.new number)
             || not (earlier_by node self.old slots.now number == earlier_by node self.new slots.now number)) }
         ensures again { result.again ≡ not (earlier_by node self.new slots.now number == value_at self.new number) }
@@ -262,6 +275,7 @@ impl Numbers {
         self.take_node(image, node, slots, number);
         let earlier_now = self.earlier_by(node, slots, number);
         Outcome {
+            changed: value != self.values[number],
             seen: value != self.values[number] || earlier != earlier_now,
             again: earlier_now != self.values[number],
         }

@@ -2,6 +2,7 @@ ghost use Rattle.std.specs.Prelude.{◌≡◌, ◌+◌, ◌-◌, ◌*◌, ◌<�
 ghost use Rattle.ra_indirect.specs.Interned.{IsPool};
 
 use crate::agenda::Agenda;
+use crate::changes::Changes;
 use crate::layout::{lay_out, widths_of};
 use crate::numbers::Numbers;
 use crate::watches::Watches;
@@ -21,6 +22,7 @@ pub struct Table {
     slots: Vec<u32>,
     numbers: Numbers,
     agenda: Agenda,
+    changes: Changes,
     sampled: bool,
 }
 
@@ -38,7 +40,7 @@ impl Model for Table {
 
 impl Table {
     ghost use Rattle.ra_indirect.specs.Pools.{IsValued, node_at};
-    ghost use Rattle.ra_memref.specs.Table.{IsFresh, IsTold, IsPutBack, Samples, ReadsWanted, Agrees};
+    ghost use Rattle.ra_memref.specs.Table.{IsFresh, IsTold, IsPutBack, Samples, ReadsWanted, ListsChanged, Agrees};
     ghost use Rattle.ra_memref.specs.Putting.{IsCellPut, IsPriorPut};
     ghost use Rattle.ra_words.specs.Words.{words_at};
 
@@ -58,11 +60,13 @@ impl Table {
         let watches = Watches::new(alloc, size, layout.places, widths)?;
         let numbers = Numbers::new(alloc, watches, layout.masks.len(), nodes.len())?;
         let agenda = Agenda::new(alloc, &nodes)?;
+        let changes = Changes::new(alloc, nodes.len())?;
         Ok(Table {
             nodes,
             slots: layout.slots,
             numbers,
             agenda,
+            changes,
             sampled: false,
         })
     }
@@ -83,7 +87,8 @@ impl Table {
     ///
     /// The image has the table's size, and each cell that is not marked has its kept number there, as
     /// after a sample of an image that differs from this one only in bytes that were told. It reads each
-    /// cell that is marked or has moved, once, and no other, and leaves none marked.
+    /// cell that is marked or has moved, once, and no other, and leaves none marked. It lists each node
+    /// that it gives another number.
     pub fn sample<I: Image>(&mut self, image: &mut I)
         requires size { length (I.bytes image.old) ≡ self.old.size }
         requires agrees { Agrees self.old (I.bytes image.old) }
@@ -91,6 +96,7 @@ impl Table {
         ensures taken { Samples self.old self.new (I.bytes image.old) }
         ensures reads { ReadsWanted self.old self.new (I.reads image.new - I.reads image.old) }
         ensures counts { I.reads image.old ≤ I.reads image.new }
+        ensures changed { ListsChanged self.old self.new }
 
         ensures bytes { I.bytes image.new ≡ I.bytes image.old }
         ensures counter { I.counter image.new ≡ I.counter image.old }
@@ -102,6 +108,7 @@ impl Table {
             &self.slots,
             &mut self.agenda.due,
             &self.agenda.dependents,
+            &mut self.changes,
         );
         self.sampled = true;
     }
@@ -117,6 +124,16 @@ impl Table {
         ensures { result ≡ slice_index self.now.values node }
     {
         self.numbers.value(node as usize)
+    }
+
+    /// The nodes that the last sample gave another number: docs/DEFINITIONS.md, "Due nodes".
+    ///
+    /// They come as numbers of nodes, at most as many as there are. A node that is not among them has the
+    /// number that it had before that sample. No other call changes them.
+    pub fn changed(&self) -> &[u32]
+        ensures { result.now ≡ self.now.changed }
+    {
+        self.changes.listed()
     }
 
     /// The kept numbers of the cells, in order of first occurrence.

@@ -173,15 +173,17 @@ fn a_delta_is_what_the_old_pointer_gave(rt: HostRuntime) -> Result<(), Fail> {
     )?;
     machine.write(0x24, &[7]);
     machine.write(0x34, &[9]);
-    for (pointer, cells, values) in [
-        (0x20, [0x20, 7], [0, 0, 0x20, 0, 0]),
-        (0x30, [0x30, 9], [0, 0, 0x30, 0, 7]),
-        (0x30, [0x30, 9], [0, 0, 0x30, 0, 9]),
+    let changes: [&[u32]; 3] = [&[1, 2, 3], &[1, 2, 3, 4], &[4]];
+    for (pointer, cells, values, changed) in [
+        (0x20, [0x20, 7], [0, 0, 0x20, 0, 0], changes[0]),
+        (0x30, [0x30, 9], [0, 0, 0x30, 0, 7], changes[1]),
+        (0x30, [0x30, 9], [0, 0, 0x30, 0, 9], changes[2]),
     ] {
         machine.write(0x10, &[pointer]);
         let found = machine.frame::<Brand>(rt.alloc(), Blank::new(1))?;
         assert_eq!(rt; machine.cells(), cells.as_slice(), "at {pointer}");
         assert_eq!(rt; found.as_slice(), values.as_slice(), "at {pointer}");
+        assert_eq!(rt; machine.changed(), changed, "at {pointer}");
     }
     Ok(())
 }

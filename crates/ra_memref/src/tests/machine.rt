@@ -131,6 +131,10 @@ impl Machine {
     pub fn priors(&self) -> &[u32] {
         self.table.priors()
     }
+
+    pub fn changed(&self) -> &[u32] {
+        self.table.changed()
+    }
 }
 
 fn values_of(alloc: Global, table: &Table, nodes: &[Node]) -> Result<Vec<u32>, OutOfMemory>

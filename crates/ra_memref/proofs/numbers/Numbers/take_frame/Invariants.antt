@@ -1,5 +1,6 @@
 use Rattle.ra_memref.proofs.TakenLemmas.{IsTaken}
 use Rattle.std.proofs.Common.{◌≡◌, ◌≤◌, length, ◌-◌}
+use Rattle.ra_memref.specs.Changes.{AreNoted}
 use Rattle.ra_memref.specs.Due.{AreIdle}
 use Rattle.ra_memref.proofs.numbers.Numbers.take_frame.Given as goal
 
@@ -11,6 +12,8 @@ invariant-loop-number g l = record {
   dues : length l.due ≡ length l.nodes;
   risen : g.I.Image.reads l.initial.image ≤ g.I.Image.reads l.image;
   bytes : g.I.Image.bytes l.image ≡ g.I.Image.bytes l.initial.image;
+  noted : AreNoted (length l.nodes) l.at l.initial.self.values l.self.values l.changes.listed;
+  room : l.changes.room ≡ length l.nodes;
   counter : g.I.Image.counter l.image ≡ g.I.Image.counter l.initial.image;
 }
 

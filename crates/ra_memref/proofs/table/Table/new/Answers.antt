@@ -7,6 +7,7 @@ use Rattle.ra_memref.specs.Table.{IsFresh}
 use Rattle.ra_memref.specs.Seen.{table_seen}
 use Rattle.ra_memref.specs.Watches.{WatchesSeen}
 use Rattle.ra_memref.specs.Numbers.{NumbersSeen}
+use Rattle.ra_memref.specs.Changes.{ChangesSeen}
 use Rattle.ra_memref.proofs.LayoutLemmas.{as_many_masks}
 use Rattle.ra_memref.proofs.TableLemmas.{few_cells, made_sized, made_fresh}
 use Rattle.ra_memref.proofs.table.Table.new.Goals as goal
@@ -32,6 +33,8 @@ invariant_of-result c =
       small = omega (arith, size, c.requires.size);
       sized = made_sized c.in_ok-nodes.nodes.items c.args.size _ c.in_ok-layout.layout.places.items c.in_ok-widths.widths.items c.in_ok-watches.watches c.in_ok-numbers.numbers layout.places widths.widths (c.len.ensures.len ∙ as_many_masks _ _ layout.masks) c.in_ok-watches.ensures (ap (λ (n : NumbersSeen). n.cells) numbers) (ap (λ (n : NumbersSeen). n.earlier) numbers) (ap (λ (n : NumbersSeen). n.watches) numbers) (ap (λ (n : NumbersSeen). n.priors) numbers) (ap (λ (n : NumbersSeen). n.values) numbers ∙ ap (λ n. replicate n 0) count);
       agenda = record { dues = agenda.dues; dependents = agenda.dependents; cells = agenda.cells };
+      room = ap (λ (seen : ChangesSeen). seen.room) c.in_ok-changes.ensures ∙ c.len-3.ensures
+          ∙ c.in_ok-nodes.nodes.ok.0;
       quiet = λ some. absurd (false≢true (sym some ∙ agenda.all));
     }
 
@@ -39,5 +42,5 @@ pub returns : goal.returns
 returns c =
     let layout = rw c.deref.ensures.value at c.in_ok-layout.ensures in
     let numbers = c.in_ok-numbers.ensures in
-    subst (λ ns. IsFresh ns c.args.size (table_seen (record { nodes = c.in_ok-nodes.nodes; slots = c.in_ok-layout.layout.slots; numbers = c.in_ok-numbers.numbers; agenda = c.in_ok-agenda.agenda; sampled = false }))) c.in_ok-nodes.ensures.nodes
-    (made_fresh c.in_ok-nodes.nodes.items c.args.size _ c.in_ok-layout.layout.places.items c.in_ok-widths.widths.items c.in_ok-watches.watches (record { nodes = c.in_ok-nodes.nodes; slots = c.in_ok-layout.layout.slots; numbers = c.in_ok-numbers.numbers; agenda = c.in_ok-agenda.agenda; sampled = false }) refl refl layout.places (c.len.ensures.len ∙ as_many_masks _ _ layout.masks) c.in_ok-watches.ensures (ap (λ (n : NumbersSeen). n.cells) numbers) (ap (λ (n : NumbersSeen). n.watches) numbers) (ap (λ (n : NumbersSeen). n.priors) numbers))
+    subst (λ ns. IsFresh ns c.args.size (table_seen (record { nodes = c.in_ok-nodes.nodes; slots = c.in_ok-layout.layout.slots; numbers = c.in_ok-numbers.numbers; agenda = c.in_ok-agenda.agenda; changes = c.in_ok-changes.changes; sampled = false }))) c.in_ok-nodes.ensures.nodes
+    (made_fresh c.in_ok-nodes.nodes.items c.args.size _ c.in_ok-layout.layout.places.items c.in_ok-widths.widths.items c.in_ok-watches.watches (record { nodes = c.in_ok-nodes.nodes; slots = c.in_ok-layout.layout.slots; numbers = c.in_ok-numbers.numbers; agenda = c.in_ok-agenda.agenda; changes = c.in_ok-changes.changes; sampled = false }) refl refl layout.places (c.len.ensures.len ∙ as_many_masks _ _ layout.masks) c.in_ok-watches.ensures (ap (λ (n : NumbersSeen). n.cells) numbers) (ap (λ (n : NumbersSeen). n.watches) numbers) (ap (λ (n : NumbersSeen). n.priors) numbers))
