@@ -1,0 +1,3 @@
+pub mod NoteLemmas
+pub mod Rows
+pub mod WakeLemmas

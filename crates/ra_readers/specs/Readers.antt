@@ -1,0 +1,59 @@
+-- Who reads a node, and who is due: docs/DEFINITIONS.md, "Readers of nodes".
+use Rattle.std.specs.Prelude.{◌≡◌, ◌≢◌, ◌⊎◌, ℕ, ◌-◌, ◌<◌, Bool, true, false, Some, List, [], map, length, slice_get, slice_index, slice_index_or, Vec}
+use Rattle.std.specs.Global.{Global}
+pub use Rattle.ra_memref.specs.Table.{IsListed}
+
+-- for each node the readers that are noted for it, and for each reader whether it is due
+pub record ReadersSeen : Type 0 where
+  pub rows : List (List ℕ)
+  pub due : List Bool
+
+-- what rows and flags are seen as
+abbrev pub seen_of : List (Vec ℕ Global) → List Bool → ReadersSeen
+seen_of rows due = record { rows = map (λ row. row.items) rows; due = due }
+
+-- no number is added to a list but this one
+abbrev pub AddsNone : (but : ℕ) → (old new : List ℕ) → Type 0
+AddsNone but old new = (n : ℕ) → n ≢ but → IsListed n new → IsListed n old
+
+-- a number is the last of a list
+abbrev pub IsLast : (n : ℕ) → List ℕ → Type 0
+IsLast n numbers = slice_get numbers (length numbers - 1) ≡ Some n
+
+-- a reader reads a node
+abbrev pub Reads : ReadersSeen → (node reader : ℕ) → Type 0
+Reads readers node reader = IsListed reader (slice_index_or readers.rows node [])
+
+-- whoever reads a node is one of the readers
+abbrev pub AreWithin : ReadersSeen → Type 0
+AreWithin readers = (node reader : ℕ) → Reads readers node reader → reader < length readers.due
+
+-- one more reader of a node is noted, none is lost, and no other is noted
+pub record Notes (node reader : ℕ) (old new : ReadersSeen) : Type 0 where
+  pub noted : Reads new node reader
+  pub kept : (n r : ℕ) → Reads old n r → Reads new n r
+  pub only : (n r : ℕ) → Reads new n r → Reads old n r ⊎ ((n ≡ node) × (r ≡ reader))
+  pub rows : length new.rows ≡ length old.rows
+  pub due : new.due ≡ old.due
+
+-- who stands in a row is due, who is still not due was not, and who became due stands there
+pub record WakesRow (row : List ℕ) (old new : List Bool) : Type 0 where
+  pub long : length new ≡ length old
+  pub kept : (r : ℕ) → slice_index_or new r true ≡ false → slice_index_or old r true ≡ false
+  pub woken : (r : ℕ) → IsListed r row → slice_index_or new r true ≡ true
+  pub only : (r : ℕ) → slice_index_or old r true ≡ false → slice_index_or new r true ≡ true → IsListed r row
+
+-- a reader reads one of these nodes
+pub record ReadsOne (readers : ReadersSeen) (nodes : List ℕ) (reader : ℕ) : Type 0 where
+  pub node : ℕ
+  pub listed : IsListed node nodes
+  pub reads : Reads readers node reader
+
+-- who reads one of these nodes is due, who is still not due was not, and who became due reads one
+pub record Wakes (nodes : List ℕ) (old new : ReadersSeen) : Type 0 where
+  pub rows : new.rows ≡ old.rows
+  pub long : length new.due ≡ length old.due
+  pub kept : (r : ℕ) → slice_index_or new.due r true ≡ false → slice_index_or old.due r true ≡ false
+  pub woken : (r n : ℕ) → IsListed n nodes → Reads old n r → slice_index_or new.due r true ≡ true
+  pub only : (r : ℕ) → slice_index_or old.due r true ≡ false → slice_index_or new.due r true ≡ true
+      → ReadsOne old nodes r
