@@ -11,5 +11,6 @@ pub mod Places
 pub mod Reading
 pub mod Sections
 pub mod Shown
+pub mod Spans
 pub mod Spelled
 pub mod Texts
