@@ -22,6 +22,7 @@ use crate::read::ReadScript;
 use crate::script::Script;
 use crate::script_line::ScriptLine;
 use crate::sections::take_sections;
+use crate::spans::spans_of_lookups;
 use ra_condition::{Fault, Refused};
 use ra_text::OutOfMemory;
 use ra_value_format::Format;
@@ -103,11 +104,13 @@ fn named_script(
     ensures lines { IfOk result (λ s. s.lines ≡ lines) }
 {
     let meanings = meanings_of_lines(alloc, &lookups, &formats, &lines)?;
+    let spans = spans_of_lookups(alloc, &lookups)?;
     Ok(Script {
         lookups,
         formats,
         lines,
         meanings,
+        spans,
     })
 }
 

@@ -1,7 +1,9 @@
 //! Pieces of display lines: docs/DEFINITIONS.md, "Presence scripts".
 
 ghost use Rattle.std.specs.Prelude.{map};
+ghost use Rattle.ra_condition.specs.Contents.{value_contents};
 ghost use Rattle.ra_condition.specs.Fault.{GivesUnlessFull};
+ghost use Rattle.ra_condition.specs.ReadingValues.{value_at};
 ghost use Rattle.ra_richpresence.specs.Contents.{piece_contents};
 ghost use Rattle.ra_richpresence.specs.Following.{SpellsUnlessFull, TakesRun};
 ghost use Rattle.ra_richpresence.specs.Reading.{macro_at, pieces_of};
@@ -9,7 +11,7 @@ ghost use Rattle.ra_richpresence.specs.Reading.{macro_at, pieces_of};
 use crate::names::take_name;
 use crate::piece::Piece;
 use crate::text::take_character;
-use ra_condition::{Fault, take_value};
+use ra_condition::{Fault, ValueText, take_value};
 use ra_text::Cursor;
 use std::alloc::Global;
 
@@ -26,6 +28,7 @@ pub fn read_pieces(alloc: Global, cursor: &mut Cursor<'_>) -> Result<Vec<Piece>,
             pieces.push(Piece::Text(text))?;
         }
     }
+    pieces.shrink_to_fit();
     Ok(pieces)
 }
 
@@ -37,9 +40,18 @@ fn take_macro(alloc: Global, cursor: &mut Cursor<'_>) -> Result<Piece, Fault>
     cursor.byte(b'@')?;
     let name = take_name(alloc, cursor)?;
     cursor.byte(b'(')?;
-    let value = take_value(alloc, cursor)?;
+    let value = take_shown_value(alloc, cursor)?;
     cursor.byte(b')')?;
     Ok(Piece::Macro { name, value })
+}
+
+// The value of a macro, with room for just its parts.
+fn take_shown_value(alloc: Global, cursor: &mut Cursor<'_>) -> Result<ValueText, Fault>
+    ensures { GivesUnlessFull value_contents result cursor.new.rest.now (value_at cursor.old.rest.now) }
+{
+    let mut value = take_value(alloc, cursor)?;
+    value.parts.shrink_to_fit();
+    Ok(value)
 }
 
 // Characters up to the next macro, or to the end.

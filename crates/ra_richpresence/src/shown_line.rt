@@ -107,7 +107,11 @@ impl Script {
     {
         match meaning {
             Meaning::Lookup(place) => {
-                let found = text_in(&self.lookups[place], value.cast_unsigned());
+                let found = text_in(
+                    &self.lookups[place],
+                    &self.spans[place],
+                    value.cast_unsigned(),
+                );
                 out.extend_from_slice(found)?;
                 Ok(())
             }
