@@ -12,6 +12,8 @@ pub mod Repeats
 pub mod ScriptForms
 pub mod ScriptReaders
 pub mod ShownLemmas
+pub mod SpanMerges
+pub mod SpanRows
 pub mod Splits
 pub mod Structure
 pub mod Texts

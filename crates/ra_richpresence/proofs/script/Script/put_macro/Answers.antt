@@ -6,7 +6,9 @@ use Rattle.std.proofs.lemmas.List.Elements.{recursion_from_All}
 use Rattle.ra_value_format.specs.Formats.{HasDigits, formatted}
 use Rattle.ra_richpresence.specs.Contents.{LookupContents, lookup_contents, script_contents}
 use Rattle.ra_richpresence.specs.Shown.{text_in}
+use Rattle.ra_richpresence.specs.Spans.{AreSpans, line_of}
 use Rattle.ra_richpresence.proofs.MeantTexts.{shows-lookup, shows-format, shows-unknown}
+use Rattle.ra_richpresence.proofs.SpanRows.{laid-at}
 use Rattle.ra_richpresence.proofs.script.Script.put_macro.Goals as goal
 
 pub index-requires : goal.index-requires
@@ -14,6 +16,20 @@ index-requires c =
     let script = script_contents c.args.self.now in
     let h = shows-lookup script c.args.name.now c.args.value c.in-Lookup.place (record { name = []; keys = []; rest = None }) (sym c.in-Lookup.is ∙ c.requires.meaning) in
     omega (arith, h.within, length-map c.args.self.now.lookups.items lookup_contents)
+
+pub index-requires-in-Lookup : goal.index-requires-in-Lookup
+index-requires-in-Lookup c =
+    let script = script_contents c.args.self.now in
+    let h = shows-lookup script c.args.name.now c.args.value c.in-Lookup.place (record { name = []; keys = []; rest = None }) (sym c.in-Lookup.is ∙ c.requires.meaning) in
+    omega (arith, h.within, length-map c.args.self.now.lookups.items lookup_contents, c.args.self.now.laid.count)
+
+pub text_in-found-requires : goal.text_in-found-requires
+text_in-found-requires c =
+    let script = script_contents c.args.self.now in
+    let h = shows-lookup script c.args.name.now c.args.value c.in-Lookup.place (record { name = []; keys = []; rest = None }) (sym c.in-Lookup.is ∙ c.requires.meaning) in
+    let within : c.in-Lookup.place < length c.args.self.now.lookups.items = omega (arith, h.within, length-map c.args.self.now.lookups.items lookup_contents) in
+    subst (AreSpans (line_of 0 c.index.result.now.keys.items)) (sym c.deref.ensures.value)
+    (laid-at c.args.self.now.lookups.items c.args.self.now.spans.items c.in-Lookup.place c.index.result.now c.index-in-Lookup.result.now c.args.self.now.laid within c.index.ensures c.index-in-Lookup.ensures)
 
 pub returns-in_ok-extend_from_slice-in-Lookup : goal.returns-in_ok-extend_from_slice-in-Lookup
 returns-in_ok-extend_from_slice-in-Lookup c =
