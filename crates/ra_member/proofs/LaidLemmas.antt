@@ -203,16 +203,24 @@ module _ (nodes : List Node) (values : List ℕ) (start : Start) (h : History) (
       ∙ truths_row (ops_in cs) (map value (lefts_of cs)) (map value (rights_of cs)) (ops_of groups) (map value (flat_map lefts_of groups)) (map value (flat_map rights_of groups)) (xs ∙ sym ops) (ys ∙ sym ops)
       ∙ ap₂ (λ a b. a ++ b) (truths_one cs) (truths_all groups)
 
+  module _ (groups : List (List Condition)) (old : Laid) (is : IsLaid nodes groups old) where
+    -- what the nodes of a laid plan give is what its conditions see
+    pub laid_lefts : numbers_at values old.plan.lefts.items ≡ lefts_at start h groups
+    laid_lefts = read_all old.plan.lefts.items (flat_map lefts_of groups) is.plan.lefts ∙ lefts_row groups
+
+    pub laid_truths : truths_by old.ops.items (numbers_at values old.plan.lefts.items) (numbers_at values old.plan.rights.items)
+        ≡ truths_at start h groups
+    laid_truths =
+        (λ i. truths_by (is.ops i) (read_all old.plan.lefts.items (flat_map lefts_of groups) is.plan.lefts i)
+        (read_all old.plan.rights.items (flat_map rights_of groups) is.plan.rights i))
+        ∙ truths_all groups
+
   module _ (groups : List (List Condition)) (old new : Laid) (is : IsLaid nodes groups old) (filled : IsFilled values old new) where
     pub lefts_read : new.lefts.items ≡ lefts_at start h groups
-    lefts_read =
-        filled.lefts ∙ read_all old.plan.lefts.items (flat_map lefts_of groups) is.plan.lefts ∙ lefts_row groups
+    lefts_read = filled.lefts ∙ laid_lefts groups old is
 
     pub truths_read : new.truths.items ≡ truths_at start h groups
-    truths_read =
-        filled.truths
-        ∙ (λ i. truths_by (is.ops i) (read_all old.plan.lefts.items (flat_map lefts_of groups) is.plan.lefts i) (read_all old.plan.rights.items (flat_map rights_of groups) is.plan.rights i))
-        ∙ truths_all groups
+    truths_read = filled.truths ∙ laid_truths groups old is
 
 length_numbers : (values ns : List ℕ) → length (numbers_at values ns) ≡ length ns
 length_numbers values ns = length-map ns (λ n. slice_index values n)
