@@ -1,0 +1,4 @@
+pub mod Before
+pub mod Inputs
+pub mod Owing
+pub mod Reads
