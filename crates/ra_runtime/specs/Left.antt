@@ -3,9 +3,9 @@ use Rattle.std.specs.Prelude.{List, ◌++◌, map}
 use Rattle.ra_set.specs.Contents.{item_contents}
 use Rattle.ra_runtime.specs.declared.event.Event.{Event}
 use Rattle.ra_runtime.specs.declared.events.Events.TheInside.{Inside}
-use Rattle.ra_runtime.specs.AllRuns.{all_events}
+use Rattle.ra_runtime.specs.Rests.{events_of}
 use Rattle.ra_runtime.specs.RunEvents.{told_events}
 
--- what is left of one item, and then the events of the items behind it
+-- what is left of one item, and then the events of the items at the places behind it
 abbrev pub events_left : Inside → List Event
-events_left t = told_events t.told ++ all_events (map item_contents t.items.now) t.runs.now
+events_left t = told_events t.told ++ events_of (map item_contents t.items.now) t.runs.now t.places.now

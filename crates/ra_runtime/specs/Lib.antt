@@ -22,8 +22,10 @@ pub mod Play
 pub mod Presence
 pub mod PresenceLaws
 pub mod PresenceRuns
+pub mod Resting
 pub mod Restoring
 pub mod RunEvents
+pub mod Rests
 pub mod Runs
 pub mod Runtime
 pub mod Saving

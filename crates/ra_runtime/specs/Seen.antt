@@ -1,5 +1,5 @@
 -- What a runtime is seen as, by its fields, and what these always have: docs/DEFINITIONS.md, "What a runtime keeps".
-use Rattle.std.specs.Prelude.{◌≡◌, List, [], length, if◌then◌else◌}
+use Rattle.std.specs.Prelude.{◌≡◌, true, List, [], length, if◌then◌else◌}
 use Rattle.ra_memref.specs.Table.{Agrees}
 use Rattle.ra_set.specs.Contents.{set_contents}
 use Rattle.ra_set.specs.Limits.{IsWithinLimits}
@@ -14,6 +14,7 @@ use Rattle.ra_runtime.specs.AllRuns.{AreItemRuns, HaveDigits, IsOver, all_events
 use Rattle.ra_runtime.specs.declared.event.Event.{Event}
 use Rattle.ra_runtime.specs.Lines.{event_lines}
 use Rattle.ra_runtime.specs.PresenceRuns.{IsOptionalPresence}
+use Rattle.ra_runtime.specs.Rests.{AreRests, AreTold, seen_by}
 
 -- the events of the last frame; none where no frame came
 abbrev pub last_events : Inside → List Event
@@ -24,14 +25,14 @@ abbrev pub runtime_seen : Inside → RuntimeSeen
 runtime_seen t = record {
   set = set_contents t.set;
   image = t.memory;
-  kept = opening_by t.count t.table t.runs.items t.presence;
+  kept = opening_by t.count t.table (seen_by t.runs.items t.rests) t.presence;
   events = last_events t;
   lines = event_lines t.frame (last_events t);
   marked = t.table.marked;
   places = t.table.places;
 }
 
--- the set is within the limits, its shape can be searched and there is room for what a file says of it, the table is over its cells and the memory, and there is a run for each item and for the display
+-- the set is within the limits, its shape can be searched and there is room for what a file says of it, the table is over its cells and the memory, and there is a run for each item and for the display, and what rests goes on to rest
 pub record IsRuntime (t : Inside) : Type 0 where
   pub script : OptionalScript (set_contents t.set).script
   pub limits : IsWithinLimits (set_contents t.set)
@@ -40,6 +41,8 @@ pub record IsRuntime (t : Inside) : Type 0 where
   pub room : IsRoom (shape_contents t.shape) t.said
   pub over : IsOver (set_contents t.set) t.table
   pub runs : AreItemRuns t.table.nodes (set_contents t.set).items t.runs.items
+  pub rests : AreRests t.table.nodes t.table.values (set_contents t.set).items t.runs.items t.rests
+  pub told : t.framed ≡ true → AreTold (set_contents t.set).items t.runs.items t.rests
   pub presence : IsOptionalPresence t.table.nodes (set_contents t.set).script t.presence
   pub digits : HaveDigits (set_contents t.set).items
   pub size : t.table.size ≡ length t.memory

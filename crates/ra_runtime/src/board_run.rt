@@ -152,7 +152,7 @@ fn follow(member: &mut Member, text: &BoardText, table: &Table, change: BoardCha
 }
 
 // An attempt runs, or was just submitted.
-fn is_running(state: BoardState) -> bool
+pub(crate) fn is_running(state: BoardState) -> bool
     ensures { result ≡ states.is_running state }
 {
     matches!(state, BoardState::Started | BoardState::Submitted)

@@ -1,6 +1,6 @@
 ghost use Rattle.std.specs.Prelude.{◌≡◌, length, map};
 ghost use Rattle.ra_set.specs.Contents.{item_contents};
-ghost use Rattle.ra_runtime.specs.AllRuns.{all_events};
+ghost use Rattle.ra_runtime.specs.Rests.{events_of};
 
 use crate::event::Event;
 use crate::item_run::ItemRun;
@@ -13,10 +13,11 @@ use std::marker::Model;
 /// An iterator that takes no memory. It is seen as the list of the events that are left.
 #[derive(Drop)]
 pub struct Events<'a> {
-    // those that are left of the item before `items`
+    // those that are left of the item before those at `places`
     told: Told,
     items: &'a [Item],
     runs: &'a [ItemRun],
+    places: &'a [u32],
 }
 
 impl<'a> Model for Events<'a> {
@@ -31,14 +32,15 @@ impl<'a> Model for Events<'a> {
 }
 
 impl<'a> Events<'a> {
-    // The events of items, by their runs.
-    pub(crate) fn new(items: &'a [Item], runs: &'a [ItemRun]) -> Events<'a>
-        ensures { result ≡ all_events (map item_contents items.now) runs.now }
+    // The events of the items at these places, by their runs.
+    pub(crate) fn new(items: &'a [Item], runs: &'a [ItemRun], places: &'a [u32]) -> Events<'a>
+        ensures { result ≡ events_of (map item_contents items.now) runs.now places.now }
     {
         Events {
             told: Told::nothing(),
             items,
             runs,
+            places,
         }
     }
 }
@@ -55,11 +57,9 @@ impl<'a> Iterator for Events<'a> {
     fn next(&mut self) -> Option<Event> {
         let mut event = self.told.next();
         while event.is_none() {
-            let (item, items) = self.items.split_first()?;
-            let (run, runs) = self.runs.split_first()?;
-            self.items = items;
-            self.runs = runs;
-            self.told = Told::of(item, run);
+            let (place, places) = self.places.split_first()?;
+            self.places = places;
+            self.told = Told::at(self.items, self.runs, *place as usize);
             event = self.told.next();
         }
         event

@@ -1,10 +1,9 @@
 //! All items of a set over one table.
 
-ghost use Rattle.std.specs.Prelude.{◌≡◌, ◌+◌, ◌*◌, ◌≤◌, ◌^◌, true, option_map, length, map, sum_by, All, IfOk};
+ghost use Rattle.std.specs.Prelude.{◌≡◌, ◌+◌, ◌*◌, ◌≤◌, ◌^◌, option_map, length, map, sum_by, All, IfOk};
 ghost use Rattle.std.specs.List.{slice_get};
 ghost use Rattle.ra_set.specs.Contents.{item_contents};
 ghost use Rattle.ra_set.specs.Limits.{item_conditions};
-ghost use Rattle.ra_runtime.specs.AllRuns.{AreItemRuns, AreStepped};
 ghost use Rattle.ra_runtime.specs.ItemStates.{run_state};
 ghost use Rattle.ra_runtime.specs.Planning.{AreWaiting};
 ghost use Rattle.ra_set.specs.Spelled.{IsItem};
@@ -12,7 +11,6 @@ ghost use Rattle.ra_set.specs.Spelled.{IsItem};
 use crate::item_run::ItemRun;
 use crate::item_state::ItemState;
 use ra_indirect::Pool;
-use ra_memref::Table;
 use ra_set::Item;
 use ra_text::OutOfMemory;
 use std::alloc::Global;
@@ -35,20 +33,6 @@ pub(crate) fn new_runs(
         runs.push(run)?;
     }
     Ok(runs)
-}
-
-// Steps each item by the frame of the table's last sample.
-pub(crate) fn step_runs(runs: &mut [ItemRun], items: &[Item], table: &Table)
-    requires runs { AreItemRuns table.now.nodes (map item_contents items.now) runs.old }
-    requires sampled { table.now.sampled ≡ true }
-    requires as_many { length runs.old ≡ length items.now }
-    ensures runs { AreItemRuns table.now.nodes (map item_contents items.now) runs.new }
-    ensures stepped { AreStepped table.now (map item_contents items.now) runs.old runs.new }
-{
-    for (place, item) in items.iter().enumerate() {
-        let run = &mut runs[place];
-        run.step(item, table);
-    }
 }
 
 // Where the item of the run at a place stands, if there is one.

@@ -18,9 +18,10 @@ use crate::item_state::ItemState;
 use crate::presence_run::{PresenceRun, step_presence};
 use crate::restored::{put_back_runs, take_numbers};
 use crate::restored_presence::put_back_presence;
-use crate::runs::{state_in, step_runs};
+use crate::rests::Rests;
+use crate::runs::state_in;
 use crate::saved::{put_display, put_runs};
-use crate::shapes::{laid_out, shape_over};
+use crate::shapes::{at_rest, shape_and_room};
 use crate::shown::shown_line;
 use crate::written::put_events;
 use ra_memory::{Counted, Memory, Steps};
@@ -44,6 +45,7 @@ pub struct Runtime {
     memory: Memory,
     table: Table,
     runs: Vec<ItemRun>,
+    rests: Rests,
     presence: Option<PresenceRun>,
     // the count of frames, which stops at the last number
     count: u64,
@@ -80,10 +82,9 @@ impl Runtime {
         requires size { size ≤ 2 ^ 27 }
         ensures { IfOk result (IsMade (set_contents set) size) }
     {
-        let (table, runs, presence, names) = laid_out(alloc, &set, size)?;
-        let shape = shape_over(alloc, &set, &runs, &presence, names)?;
-        let said = Said::new(alloc, &shape)?;
         let memory = Memory::new(alloc, size)?;
+        let (table, runs, rests, presence, names) = at_rest(alloc, &set, size)?;
+        let (shape, said) = shape_and_room(alloc, &set, &runs, &presence, names)?;
         Ok(Runtime {
             set,
             shape,
@@ -91,6 +92,7 @@ impl Runtime {
             memory,
             table,
             runs,
+            rests,
             presence,
             count: 0,
             frame: 0,
@@ -125,7 +127,13 @@ impl Runtime {
         let cells = self.table.cells();
         let priors = self.table.priors();
         let mut bytes = begin(alloc, &self.shape, self.count, cells, priors)?;
-        put_runs(alloc, &mut bytes, &self.shape.item_names, &self.runs)?;
+        put_runs(
+            alloc,
+            &mut bytes,
+            &self.shape.item_names,
+            &self.runs,
+            &self.rests,
+        )?;
         put_display(alloc, &mut bytes, &self.shape.presence_name, &self.presence)?;
         close(&mut bytes)?;
         Ok(bytes)
@@ -153,6 +161,7 @@ impl Runtime {
         self.said.read(&self.shape, bytes);
         take_numbers(&mut self.table, &self.said.cells, &self.said.priors);
         put_back_runs(&mut self.runs, bytes, &self.said.places);
+        self.rests.forget();
         let display = self.said.place(self.runs.len());
         put_back_presence(&mut self.presence, &self.shape.presence, bytes, display);
         self.count = frames_at(bytes);
@@ -169,7 +178,8 @@ impl Runtime {
             memory: &self.memory,
             steps,
         });
-        step_runs(&mut self.runs, &self.set.items, &self.table);
+        self.rests
+            .step(&mut self.runs, &self.set.items, &self.table);
         step_presence(&mut self.presence, &self.set.script, &self.table);
         self.frame = self.count;
         self.count = self.count.saturating_add(1);
@@ -202,9 +212,9 @@ impl Runtime {
         ensures { result ≡ self.now.events }
     {
         if self.framed {
-            Events::new(&self.set.items, &self.runs)
+            Events::new(&self.set.items, &self.runs, self.rests.stepped())
         } else {
-            Events::new(&[], &[])
+            Events::new(&[], &[], &[])
         }
     }
 

@@ -7,6 +7,9 @@ ghost use Rattle.ra_set.specs.Names.{IsNamed};
 ghost use Rattle.ra_progress.specs.Contents.{shape_contents};
 ghost use Rattle.ra_progress.specs.Layout.{length_of};
 ghost use Rattle.ra_progress.specs.Names.{IsUsable};
+ghost use Rattle.ra_progress.specs.Room.{IsRoom};
+ghost use Rattle.ra_progress.specs.Contents.{plain_item};
+ghost use Rattle.ra_runtime.specs.Rests.{AreRests, seen_by};
 ghost use Rattle.ra_runtime.specs.Order as spec;
 ghost use Rattle.ra_runtime.specs.Restoring.{hits_of_lines, numbers_of_lines};
 ghost use Rattle.ra_runtime.specs.Shapes.{run_shape, board_run_shape, optional_run_shape, IsSmall, IsSmallPresence, IsLaidOut, NameSet};
@@ -15,11 +18,12 @@ ghost use Rattle.ra_set.specs.Spelled.{IsSpelled};
 use crate::board_run::BoardRun;
 use crate::item_run::ItemRun;
 use crate::presence_run::{PresenceRun, new_presence};
+use crate::rests::Rests;
 use crate::runs::new_runs;
 use ra_indirect::Pool;
 use ra_member::{Member, Places};
 use ra_memref::{Names, Table, names_of};
-use ra_progress::{ItemShape, PresenceShape, Shape, order_of};
+use ra_progress::{ItemShape, PresenceShape, Said, Shape, order_of};
 use ra_set::Set;
 use ra_text::OutOfMemory;
 use std::alloc::Global;
@@ -32,28 +36,50 @@ pub fn shape_of(alloc: Global, set: &Set) -> Result<Shape, OutOfMemory>
     ensures shape { IfOk result (λ shape. shape_contents shape ≡ spec.shape_of (set_contents set.now)) }
     ensures usable { IfOk result IsUsable }
 {
-    let (_table, runs, presence, names) = laid_out(alloc, set, 0)?;
+    let (_table, runs, presence, names, _nodes) = laid_out(alloc, set, 0)?;
     shape_over(alloc, set, &runs, &presence, names)
 }
 
-// A table over the trees of a set, a run for each item, one for the display, and the names of cells and masks.
+// A table over the trees of a set, a run for each item, one for the display, the names of cells and masks, and the
+// count of the table's nodes.
 pub(crate) fn laid_out(
     alloc: Global,
     set: &Set,
     size: u32,
-) -> Result<(Table, Vec<ItemRun>, Option<PresenceRun>, Names), OutOfMemory>
+) -> Result<(Table, Vec<ItemRun>, Option<PresenceRun>, Names, usize), OutOfMemory>
     requires limits { IsWithinLimits (set_contents set.now) }
     requires spelled { IsSpelled (set_contents set.now) }
     requires size { size ≤ 2 ^ 27 }
     ensures laid { IfOk result (λ laid. IsLaidOut (set_contents set.now) size laid.0 laid.1.items laid.2) }
     ensures names { IfOk result (λ laid. NameSet (set_contents set.now) laid.3) }
+    ensures nodes { IfOk result (λ laid. length laid.0.nodes ≡ laid.4) }
 {
     let mut pool = Pool::new(alloc);
     let runs = new_runs(alloc, &set.items, &mut pool)?;
     let presence = new_presence(alloc, &set.script, &mut pool)?;
     let names = names_of(alloc, &pool)?;
+    let nodes = pool.len() as usize;
     let table = Table::new(alloc, pool, size)?;
-    Ok((table, runs, presence, names))
+    Ok((table, runs, presence, names, nodes))
+}
+
+// The same with a rest beside each run, of which none rests, in place of the count of nodes.
+pub(crate) fn at_rest(
+    alloc: Global,
+    set: &Set,
+    size: u32,
+) -> Result<(Table, Vec<ItemRun>, Rests, Option<PresenceRun>, Names), OutOfMemory>
+    requires limits { IsWithinLimits (set_contents set.now) }
+    requires spelled { IsSpelled (set_contents set.now) }
+    requires size { size ≤ 2 ^ 27 }
+    ensures laid { IfOk result (λ laid. IsLaidOut (set_contents set.now) size laid.0 laid.1.items laid.3) }
+    ensures names { IfOk result (λ laid. NameSet (set_contents set.now) laid.4) }
+    ensures rests { IfOk result (λ laid. AreRests laid.0.nodes laid.0.values (set_contents set.now).items laid.1.items laid.2) }
+    ensures kept { IfOk result (λ laid. seen_by laid.1.items laid.2 ≡ map plain_item (map spec.item_shape (set_contents set.now).items)) }
+{
+    let (table, runs, presence, names, nodes) = laid_out(alloc, set, size)?;
+    let rests = Rests::new(alloc, &runs, &set.items, &table, nodes)?;
+    Ok((table, runs, rests, presence, names))
 }
 
 // The shape of a set, by its runs and the names of its cells and masks.
@@ -93,6 +119,31 @@ pub(crate) fn shape_over(
         prior_order,
         entry_order,
     })
+}
+
+// The same, and room for what a progress file says of it.
+pub(crate) fn shape_and_room(
+    alloc: Global,
+    set: &Set,
+    runs: &[ItemRun],
+    presence: &Option<PresenceRun>,
+    names: Names,
+) -> Result<(Shape, Said), OutOfMemory>
+    requires limits { IsWithinLimits (set_contents set.now) }
+    requires named { IsNamed (set_contents set.now) }
+    requires names { NameSet (set_contents set.now) names }
+    requires short { length_of (spec.shape_of (set_contents set.now)) ≤ 8388608 }
+    requires small { All IsSmall (map run_shape runs.now) }
+    requires items { map run_shape runs.now ≡ map spec.item_shape (set_contents set.now).items }
+    requires small_presence { IsSmallPresence (optional_run_shape presence.now) }
+    requires presence { optional_run_shape presence.now ≡ option_map spec.presence_shape (set_contents set.now).script }
+    ensures shape { IfOk result (λ both. shape_contents both.0 ≡ spec.shape_of (set_contents set.now)) }
+    ensures usable { IfOk result (λ both. IsUsable both.0) }
+    ensures room { IfOk result (λ both. IsRoom (shape_contents both.0) both.1) }
+{
+    let shape = shape_over(alloc, set, runs, presence, names)?;
+    let said = Said::new(alloc, &shape)?;
+    Ok((shape, said))
 }
 
 // The shape of each item.

@@ -1,4 +1,5 @@
-ghost use Rattle.std.specs.Prelude.{◌≡◌, [], ◌++◌, ◌&&◌, ◌||◌, not, IfNone};
+ghost use Rattle.ra_runtime.specs.Rests.{events_at};
+ghost use Rattle.std.specs.Prelude.{map, ◌≡◌, [], ◌++◌, ◌&&◌, ◌||◌, not, IfNone};
 ghost use Rattle.std.specs.Option.{option_to_list};
 ghost use Rattle.ra_set.specs.Contents.{item_contents};
 ghost use Rattle.ra_leaderboard.specs.States as states;
@@ -33,6 +34,16 @@ impl Told {
             second: None,
             third: None,
             fourth: None,
+        }
+    }
+
+    // The events of the item at a place; none past the last one.
+    pub(crate) fn at(items: &[Item], runs: &[ItemRun], place: usize) -> Told
+        ensures { told_events result ≡ events_at (map item_contents items.now) runs.now place }
+    {
+        match (items.get(place), runs.get(place)) {
+            (Some(item), Some(run)) => Told::of(item, run),
+            _ => Told::nothing(),
         }
     }
 
