@@ -1,0 +1,208 @@
+-- What items are seen to keep, by what they keep and owe.
+use Rattle.std.proofs.Common.{◌≡◌, ℕ, zero, suc, ◌-◌, ◌<◌, ◌≤◌, Option, None, Some, IfSome, List, [], ◌∷◌, ◌++◌, length, map, zip, get_or, option_map, slice_get, refl, sym, ◌∙◌, ap, ap₂, arith, length-append}
+use Rattle.std.specs.List.{concat}
+use Rattle.std.proofs.lemmas.List.{length-map, map-append}
+use Rattle.ra_indirect.specs.declared.node.Node.{Node}
+use Rattle.ra_set.specs.Contents.{ItemContents, Unlocks, Ranks}
+use Rattle.ra_rest.specs.Groups.{paid}
+use Rattle.ra_rest.specs.Triggers.{owed_trigger}
+use Rattle.ra_trigger.specs.Steps.{TriggerKept}
+use Rattle.ra_value.specs.Steps.{ValueKept}
+use Rattle.ra_member.specs.Members.{MemberKept, hit_rows, saved_hits, saved_numbers}
+use Rattle.ra_member.proofs.Shaped.{member_shape}
+use Rattle.ra_resting.specs.Before.{HaveOneShape}
+use Rattle.ra_resting.specs.Owing.{owed_member, owed_tests, owed_values}
+use Rattle.ra_resting.proofs.GoesOn.{as_many, heads, numbers_long, owed_fits, paid_append, tails}
+use Rattle.ra_runtime.specs.declared.item_run.ItemRun.{ItemRun}
+use Rattle.ra_runtime.specs.declared.item_run.ItemRun.TheVariants.{Achievement, Leaderboard}
+use Rattle.ra_runtime.specs.declared.item_state.ItemState.TheVariants as states
+use Rattle.ra_runtime.specs.declared.rest.ItemBefore.{ItemBefore}
+use Rattle.ra_runtime.specs.declared.rest.ItemBefore.TheVariants as before
+use Rattle.ra_runtime.specs.declared.rest.Rest.{Rest}
+use Rattle.ra_runtime.specs.declared.rests.Rests.{Rests}
+use Rattle.ra_runtime.specs.AllRuns.{AreItemRuns}
+use Rattle.ra_runtime.specs.Boards.{tracked_number}
+use Rattle.ra_runtime.specs.BoardRuns.{board_kept}
+use Rattle.ra_runtime.specs.Earned.{is_earned}
+use Rattle.ra_runtime.specs.ItemRuns.{IsItemRun, kept_run}
+use Rattle.ra_runtime.specs.ItemStates.{item_state, run_state}
+use Rattle.ra_runtime.specs.Order.{board_member}
+use Rattle.ra_runtime.specs.Resting.{FitsRun, HasRoom, board_before, owed_board, seen_runs, seen_since}
+use Rattle.ra_runtime.specs.Rests.{AreFitting, AreRests, seen_by}
+use Rattle.ra_runtime.proofs.Again.{achievement_again, board_again}
+use Rattle.ra_runtime.proofs.EarnedFrames.{AreSeen, IsSeen}
+use Rattle.ra_runtime.proofs.ItemsRest.{rows_many, tracked_by}
+
+-- what there is room for is what a run keeps
+pub one_shape : (nodes : List Node) (item : ItemContents) (b : ItemBefore) (run : ItemRun) → IsItemRun nodes item run → HasRoom item b → FitsRun b run
+one_shape nodes (Unlocks id t) (before.Achievement b) (Achievement run) is room = room ∙ sym is.hits
+one_shape nodes (Unlocks id t) (before.Leaderboard b) run is room = absurd room
+one_shape nodes (Unlocks id t) (before.Achievement b) (Leaderboard run) is room = absurd is
+one_shape nodes (Ranks id format b) (before.Achievement room_of) run is room = absurd room
+one_shape nodes (Ranks id format b) (before.Leaderboard room_of) (Achievement run) is room = absurd is
+one_shape nodes (Ranks id format b) (before.Leaderboard room_of) (Leaderboard run) is room =
+    let shape = member_shape nodes (board_member b) run.member is in
+    record { tests = room.tests ∙ sym shape.tests; hits = room.hits ∙ sym shape.hits; numbers = room.numbers ∙ sym shape.numbers }
+
+-- and there is room for an item where there is for its run
+pub room_again : (nodes : List Node) (item : ItemContents) (b : ItemBefore) (run : ItemRun) → IsItemRun nodes item run → FitsRun b run → HasRoom item b
+room_again nodes (Unlocks id t) (before.Achievement b) (Achievement run) is fits = fits ∙ is.hits
+room_again nodes (Unlocks id t) (before.Leaderboard b) (Achievement run) is fits = absurd fits
+room_again nodes (Unlocks id t) b (Leaderboard run) is fits = absurd is
+room_again nodes (Ranks id format b) room_of (Achievement run) is fits = absurd is
+room_again nodes (Ranks id format b) (before.Achievement room_of) (Leaderboard run) is fits = absurd fits
+room_again nodes (Ranks id format b) (before.Leaderboard room_of) (Leaderboard run) is fits =
+    let shape = member_shape nodes (board_member b) run.member is in
+    record { tests = fits.tests ∙ shape.tests; hits = fits.hits ∙ shape.hits; numbers = fits.numbers ∙ shape.numbers }
+
+module _ (nodes : List Node) (clock : ℕ) where
+  seen_one : (item : ItemContents) (run : ItemRun) (b : ItemBefore) (since : Option ℕ) → IsItemRun nodes item run → HasRoom item b → IsSeen item (seen_since clock run b since)
+  seen_one (Unlocks id t) (Achievement run) b None is room = record { earned = run.earned; trigger = run.run.trigger; is = refl }
+  seen_one (Unlocks id t) (Achievement run) (before.Achievement b) (Some since) is room = record { earned = run.earned; trigger = owed_trigger (clock - since) b.hits.items run.run.trigger; is = refl }
+  seen_one (Unlocks id t) (Achievement run) (before.Leaderboard b) (Some since) is room = absurd room
+  seen_one (Unlocks id t) (Leaderboard run) b since is room = absurd is
+  seen_one (Ranks id format b) (Achievement run) room_of since is room = absurd is
+  seen_one (Ranks id format b) (Leaderboard run) room_of None is room = refl
+  seen_one (Ranks id format b) (Leaderboard run) (before.Leaderboard room_of) (Some since) is room = refl
+  seen_one (Ranks id format b) (Leaderboard run) (before.Achievement room_of) (Some since) is room = absurd room
+
+  -- what is owed earns nothing
+  earned_one : (item : ItemContents) (run : ItemRun) (b : ItemBefore) (since : Option ℕ) → IsItemRun nodes item run → HasRoom item b → is_earned (seen_since clock run b since) ≡ is_earned (kept_run run)
+  earned_one item run b None is room = refl
+  earned_one (Unlocks id t) (Achievement run) (before.Achievement b) (Some since) is room = refl
+  earned_one (Unlocks id t) (Achievement run) (before.Leaderboard b) (Some since) is room = absurd room
+  earned_one (Unlocks id t) (Leaderboard run) b (Some since) is room = absurd is
+  earned_one (Ranks id format b) (Achievement run) room_of (Some since) is room = absurd is
+  earned_one (Ranks id format b) (Leaderboard run) (before.Leaderboard room_of) (Some since) is room = refl
+  earned_one (Ranks id format b) (Leaderboard run) (before.Achievement room_of) (Some since) is room = absurd room
+
+  -- and an item stands where it stood
+  stands_one : (item : ItemContents) (run : ItemRun) (b : ItemBefore) (since : Option ℕ) → IsItemRun nodes item run → HasRoom item b → run_state run ≡ item_state (item, seen_since clock run b since)
+  stands_one (Unlocks id t) (Achievement run) b None is room =
+      ap (λ (k : TriggerKept). states.Achievement k.state k.measured) (sym (achievement_again run.earned run.run.trigger))
+  stands_one (Unlocks id t) (Achievement run) (before.Achievement b) (Some since) is room =
+      ap (λ (k : TriggerKept). states.Achievement k.state k.measured) (sym (achievement_again run.earned (owed_trigger (clock - since) b.hits.items run.run.trigger)))
+  stands_one (Unlocks id t) (Achievement run) (before.Leaderboard b) (Some since) is room = absurd room
+  stands_one (Unlocks id t) (Leaderboard run) b since is room = absurd is
+  stands_one (Ranks id format b) (Achievement run) room_of since is room = absurd is
+  stands_one (Ranks id format b) (Leaderboard run) room_of None is room =
+      ap (λ k. states.Leaderboard k.state (tracked_number k)) (sym (board_again b (board_kept run) (member_shape nodes (board_member b) run.member is)))
+  stands_one (Ranks id format b) (Leaderboard run) (before.Leaderboard room_of) (Some since) is room =
+      let old = board_before room_of in
+      let now = board_kept run in
+      let m = board_member b in
+      let shape = member_shape nodes m run.member is in
+      let owes = owed_board (clock - since) old now in
+      let many = rows_many m old.member room ∙ sym (rows_many m now.member shape) in
+      ap (states.Leaderboard run.board) (sym (tracked_by owes.member.values now.member.values (numbers_long (clock - since) old.member.values now.member.values many)))
+      ∙ ap (λ k. states.Leaderboard k.state (tracked_number k)) (sym (board_again b owes (owed_fits (clock - since) m old.member now.member room shape)))
+  stands_one (Ranks id format b) (Leaderboard run) (before.Achievement room_of) (Some since) is room = absurd room
+
+  -- item by item
+  pub all_seen_kept : (items : List ItemContents) (runs : List ItemRun) (rests : List Rest) → AreItemRuns nodes items runs → length rests ≡ length items
+      → ((k : ℕ) → k < length items → (item : ItemContents) (rest : Rest) → HasRoom (get_or items k item) (get_or rests k rest).before) → AreSeen items (seen_runs clock runs rests)
+  all_seen_kept [] [] rests are long each = tt
+  all_seen_kept [] (run ∷ runs) rests are long each = absurd are
+  all_seen_kept (item ∷ items) [] rests are long each = absurd are
+  all_seen_kept (item ∷ items) (run ∷ runs) [] are long each = absurd (omega (arith, long))
+  all_seen_kept (item ∷ items) (run ∷ runs) (rest ∷ rests) are long each =
+      (seen_one item run rest.before rest.since are.0 (each 0 (omega arith) item rest), all_seen_kept items runs rests are.1 (omega (arith, long)) (λ k within. each (suc k) (omega (arith, within))))
+
+  pub all_earned_kept : (items : List ItemContents) (runs : List ItemRun) (rests : List Rest) → AreItemRuns nodes items runs → length rests ≡ length items
+      → ((k : ℕ) → k < length items → (item : ItemContents) (rest : Rest) → HasRoom (get_or items k item) (get_or rests k rest).before) → map is_earned (seen_runs clock runs rests) ≡ map is_earned (map kept_run runs)
+  all_earned_kept [] [] rests are long each = refl
+  all_earned_kept [] (run ∷ runs) rests are long each = absurd are
+  all_earned_kept (item ∷ items) [] rests are long each = absurd are
+  all_earned_kept (item ∷ items) (run ∷ runs) [] are long each = absurd (omega (arith, long))
+  all_earned_kept (item ∷ items) (run ∷ runs) (rest ∷ rests) are long each =
+      ap₂ (λ x xs. x ∷ xs) (earned_one item run rest.before rest.since are.0 (each 0 (omega arith) item rest)) (all_earned_kept items runs rests are.1 (omega (arith, long)) (λ k within. each (suc k) (omega (arith, within))))
+
+  pub all_stand : (items : List ItemContents) (runs : List ItemRun) (rests : List Rest) → AreItemRuns nodes items runs → length rests ≡ length items
+      → ((k : ℕ) → k < length items → (item : ItemContents) (rest : Rest) → HasRoom (get_or items k item) (get_or rests k rest).before) → (place : ℕ)
+      → option_map run_state (slice_get runs place) ≡ option_map item_state (slice_get (zip items (seen_runs clock runs rests)) place)
+  all_stand [] [] rests are long each place = refl
+  all_stand [] (run ∷ runs) rests are long each place = absurd are
+  all_stand (item ∷ items) [] rests are long each place = absurd are
+  all_stand (item ∷ items) (run ∷ runs) [] are long each place = absurd (omega (arith, long))
+  all_stand (item ∷ items) (run ∷ runs) (rest ∷ rests) are long each zero = ap Some (stands_one item run rest.before rest.since are.0 (each 0 (omega arith) item rest))
+  all_stand (item ∷ items) (run ∷ runs) (rest ∷ rests) are long each (suc place) = all_stand items runs rests are.1 (omega (arith, long)) (λ k within. each (suc k) (omega (arith, within))) place
+
+-- the rests of all items fit their runs
+fitting : (nodes : List Node) (clock : ℕ) (items : List ItemContents) (runs : List ItemRun) (rests : List Rest) → AreItemRuns nodes items runs → length rests ≡ length items
+    → ((k : ℕ) → k < length items → (item : ItemContents) (rest : Rest) → HasRoom (get_or items k item) (get_or rests k rest).before)
+    → ((k : ℕ) → k < length items → (rest : Rest) → IfSome (get_or rests k rest).since (λ since. since ≤ clock)) → AreFitting runs rests clock
+fitting nodes clock [] [] [] are long each since = tt
+fitting nodes clock [] [] (rest ∷ rests) are long each since = absurd (omega (arith, long))
+fitting nodes clock [] (run ∷ runs) rests are long each since = absurd are
+fitting nodes clock (item ∷ items) [] rests are long each since = absurd are
+fitting nodes clock (item ∷ items) (run ∷ runs) [] are long each since = absurd (omega (arith, long))
+fitting nodes clock (item ∷ items) (run ∷ runs) (rest ∷ rests) are long each since = (
+  (one_shape nodes item rest.before run are.0 (each 0 (omega arith) item rest), since 0 (omega arith) rest),
+  fitting nodes clock items runs rests are.1 (omega (arith, long)) (λ k within. each (suc k) (omega (arith, within))) (λ k within. since (suc k) (omega (arith, within))),
+)
+
+-- all of it, of the rests of a set
+module _ (nodes : List Node) (values : List ℕ) (items : List ItemContents) (runs : List ItemRun) (rests : Rests) (are : AreItemRuns nodes items runs) (they : AreRests nodes values items runs rests) where
+  rooms : (k : ℕ) → k < length items → (item : ItemContents) (rest : Rest) → HasRoom (get_or items k item) (get_or rests.each.items k rest).before
+  rooms k within item rest = (they.each k within).room item rest
+
+  pub rests_seen : AreSeen items (seen_by runs rests)
+  rests_seen = all_seen_kept nodes rests.clock items runs rests.each.items are they.many rooms
+
+  pub rests_earned : map is_earned (seen_by runs rests) ≡ map is_earned (map kept_run runs)
+  rests_earned = all_earned_kept nodes rests.clock items runs rests.each.items are they.many rooms
+
+  pub rests_stand : (place : ℕ) → option_map run_state (slice_get runs place) ≡ option_map item_state (slice_get (zip items (seen_by runs rests)) place)
+  rests_stand place = all_stand nodes rests.clock items runs rests.each.items are they.many rooms place
+
+  pub rests_fit : AreFitting runs rests.each.items rests.clock
+  rests_fit = fitting nodes rests.clock items runs rests.each.items are they.many rooms (λ k within rest. (they.each k within).since rest)
+
+-- what a member owes, in the row of a progress file
+paid_rows : (n : ℕ) (befores hits : List (List ℕ)) → map length befores ≡ map length hits → paid n (concat befores) (concat hits) ≡ concat (owed_tests n befores hits)
+paid_rows n [] [] long = refl
+paid_rows n [] (row ∷ hits) long = absurd (cc)
+paid_rows n (before ∷ befores) [] long = absurd (cc)
+paid_rows n (b ∷ befores) (row ∷ hits) long =
+    paid_append n b row (concat befores) (concat hits) (heads (length b) (length row) (map length befores) (map length hits) long)
+    ∙ ap (λ xs. paid n b row ++ xs) (paid_rows n befores hits (tails (length b) (length row) (map length befores) (map length hits) long))
+
+pub owed_rows : (n : ℕ) (olds news : List ValueKept) → map (λ (v : ValueKept). v.hits) (owed_values n (map (λ (v : ValueKept). v.hits) olds) news) ≡ owed_tests n (map (λ (v : ValueKept). v.hits) olds) (map (λ (v : ValueKept). v.hits) news)
+owed_rows n [] news = refl
+owed_rows n (old ∷ olds) [] = refl
+owed_rows n (old ∷ olds) (new ∷ news) = ap (λ xs. paid n old.hits new.hits ∷ xs) (owed_rows n olds news)
+
+rows_append : (n : ℕ) (one two three four : List (List ℕ)) → length one ≡ length two → owed_tests n (one ++ three) (two ++ four) ≡ owed_tests n one two ++ owed_tests n three four
+rows_append n [] [] three four long = refl
+rows_append n [] (b ∷ two) three four long = absurd (omega (arith, long))
+rows_append n (a ∷ one) [] three four long = absurd (omega (arith, long))
+rows_append n (a ∷ one) (b ∷ two) three four long = ap (λ xs. paid n a b ∷ xs) (rows_append n one two three four (omega (arith, long)))
+
+-- two members of one shape have as many hits in a row
+rows_alike : (old new : MemberKept) → HaveOneShape old new → map length (hit_rows old) ≡ map length (hit_rows new)
+rows_alike old new shape =
+    let hits = map (λ (v : ValueKept). v.hits) in
+    map-append length old.tests (hits old.values) ∙ ap₂ (λ xs ys. xs ++ ys) shape.tests shape.hits ∙ sym (map-append length new.tests (hits new.values))
+
+concat_long : (olds news : List (List ℕ)) → map length olds ≡ map length news → length (concat olds) ≡ length (concat news)
+concat_long [] [] long = refl
+concat_long [] (row ∷ news) long = absurd (cc)
+concat_long (old ∷ olds) [] long = absurd (cc)
+concat_long (old ∷ olds) (row ∷ news) long =
+    let first = heads (length old) (length row) (map length olds) (map length news) long in
+    let others = concat_long olds news (tails (length old) (length row) (map length olds) (map length news) long) in
+    omega (arith, first, others, length-append old (concat olds), length-append row (concat news))
+
+pub saved_many : (old new : MemberKept) → HaveOneShape old new → length (saved_hits old) ≡ length (saved_hits new)
+saved_many old new shape = concat_long (hit_rows old) (hit_rows new) (rows_alike old new shape)
+
+pub saved_owed : (n : ℕ) (old new : MemberKept) → HaveOneShape old new → paid n (saved_hits old) (saved_hits new) ≡ saved_hits (owed_member n old new)
+saved_owed n old new shape =
+    let tests_many : length old.tests ≡ length new.tests = sym (length-map old.tests length) ∙ ap length shape.tests ∙ length-map new.tests length in
+    paid_rows n (hit_rows old) (hit_rows new) (rows_alike old new shape)
+    ∙ ap concat (rows_append n old.tests new.tests (map (λ (v : ValueKept). v.hits) old.values) (map (λ (v : ValueKept). v.hits) new.values) tests_many ∙ ap (λ xs. owed_tests n old.tests new.tests ++ xs) (sym (owed_rows n old.values new.values)))
+
+pub saved_stay : (n : ℕ) (old new : MemberKept) → HaveOneShape old new → saved_numbers (owed_member n old new) ≡ saved_numbers new
+saved_stay n old new shape =
+    let many : length old.values ≡ length new.values = sym (length-map old.values (λ (v : ValueKept). v.hits)) ∙ as_many (map (λ (v : ValueKept). v.hits) old.values) (map (λ (v : ValueKept). v.hits) new.values) length shape.hits ∙ length-map new.values (λ (v : ValueKept). v.hits) in
+    ap concat (numbers_long n old.values new.values many)
