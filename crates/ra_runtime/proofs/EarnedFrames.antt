@@ -1,20 +1,16 @@
 -- Items whose earned flags are other ones keep the same after a frame but for these, and tell and earn the same.
-use Rattle.std.proofs.Common.{◌≡◌, ℕ, ◌&&◌, ◌||◌, not, Bool, true, false, List, [], ◌∷◌, ◌++◌, map, zip, refl, ap, ap₂}
+use Rattle.std.proofs.Common.{◌≡◌, ℕ, ◌&&◌, ◌||◌, not, Bool, true, false, List, [], ◌∷◌, ◌++◌, map, zip, refl, sym, subst, ap, ap₂}
 use Rattle.std.specs.List.{flat_map}
-use Rattle.ra_indirect.specs.declared.node.Node.{Node}
 use Rattle.ra_memory.specs.Image.{History}
 use Rattle.ra_memref.specs.Values.{Start}
 use Rattle.ra_trigger.specs.States.{is_triggered}
 use Rattle.ra_trigger.specs.Steps.{TriggerKept}
 use Rattle.ra_set.specs.Contents.{ItemContents, Unlocks, Ranks, SetContents}
 use Rattle.ra_progress.specs.Contents.{KeptItem, OfAchievement, OfBoard, Opening}
-use Rattle.ra_runtime.specs.declared.item_run.ItemRun.{ItemRun}
-use Rattle.ra_runtime.specs.declared.item_run.ItemRun.TheVariants.{Achievement, Leaderboard}
-use Rattle.ra_runtime.specs.AllRuns.{AreItemRuns}
-use Rattle.ra_runtime.specs.ItemRuns.{IsItemRun, kept_run}
+use Rattle.ra_member.specs.Beside.{AreBeside}
 use Rattle.ra_runtime.specs.Earned.{Earned, is_earned, item_with, items_with, with_earned, both_earned, earned_in}
 use Rattle.ra_runtime.specs.Histories.{achievement_after}
-use Rattle.ra_runtime.specs.Openings.{start_of, opened_achievement, item_after, snapshot}
+use Rattle.ra_runtime.specs.Openings.{start_of, kept_achievement, opened_achievement, item_after, snapshot}
 use Rattle.ra_runtime.specs.Play.{item_events, events, earns, unless_earned, unlocks}
 use Rattle.ra_runtime.proofs.Again.{achievement_again}
 
@@ -87,20 +83,36 @@ triggered_unlocks false true same after is = refl
 triggered_unlocks false false true after is = absurd (cc is)
 triggered_unlocks false false false after is = refl
 
--- what runs have earned after a frame
-module _ (nodes : List Node) (start : Start) (image : List ℕ) where
-  run_earns : (item : ItemContents) (run : ItemRun) → IsItemRun nodes item run → is_earned (item_after start (image ∷ []) (item, kept_run run)) ≡ (is_earned (kept_run run) || unlocks start image [] (item, kept_run run))
-  run_earns (Unlocks id t) (Achievement run) is =
-      let k : TriggerKept = opened_achievement (kept_run (Achievement run)) in
-      let after : TriggerKept = achievement_after start t k (image ∷ []) in
-      triggered_unlocks run.earned (is_triggered run.run.trigger.state) (is_triggered k.state) (is_triggered after.state) (ap (λ (t : TriggerKept). is_triggered t.state) (achievement_again run.earned run.run.trigger))
-  run_earns (Unlocks id t) (Leaderboard run) is = absurd is
-  run_earns (Ranks id format b) (Achievement run) is = absurd is
-  run_earns (Ranks id format b) (Leaderboard run) is = refl
+-- what is kept of an achievement is its trigger's, and whether it is earned
+pub record IsKeptAchievement (kept : KeptItem) : Type 0 where
+  pub earned : Bool
+  pub trigger : TriggerKept
+  pub is : kept ≡ kept_achievement earned trigger
 
-  pub runs_earn : (items : List ItemContents) (runs : List ItemRun) → AreItemRuns nodes items runs
-      → map is_earned (map (item_after start (image ∷ [])) (zip items (map kept_run runs))) ≡ both_earned (map is_earned (map kept_run runs)) (map (unlocks start image []) (zip items (map kept_run runs)))
+-- what an item is seen to keep: an achievement's, or what is never earned
+abbrev pub IsSeen : ItemContents → KeptItem → Type 0
+IsSeen (Unlocks id t) kept = IsKeptAchievement kept
+IsSeen (Ranks id format b) kept = is_earned kept ≡ false
+
+-- what each item is seen to keep
+abbrev pub AreSeen : List ItemContents → List KeptItem → Type 0
+AreSeen items kept = AreBeside IsSeen items kept
+
+-- what items have earned after a frame
+module _ (start : Start) (image : List ℕ) where
+  seen_earns : (item : ItemContents) (kept : KeptItem) → IsSeen item kept → is_earned (item_after start (image ∷ []) (item, kept)) ≡ (is_earned kept || unlocks start image [] (item, kept))
+  seen_earns (Unlocks id t) kept seen =
+      let earned = seen.earned in
+      let k = seen.trigger in
+      subst (λ kept. is_earned (item_after start (image ∷ []) (Unlocks id t, kept)) ≡ (is_earned kept || unlocks start image [] (Unlocks id t, kept))) (sym seen.is)
+      (let opened : TriggerKept = opened_achievement (kept_achievement earned k) in
+      triggered_unlocks earned (is_triggered k.state) (is_triggered opened.state) (is_triggered (achievement_after start t opened (image ∷ [])).state)
+      (ap (λ (t : TriggerKept). is_triggered t.state) (achievement_again earned k)))
+  seen_earns (Ranks id format b) kept is = sym (ap (λ e. e || false) is)
+
+  pub runs_earn : (items : List ItemContents) (kept : List KeptItem) → AreSeen items kept
+      → map is_earned (map (item_after start (image ∷ [])) (zip items kept)) ≡ both_earned (map is_earned kept) (map (unlocks start image []) (zip items kept))
   runs_earn [] [] are = refl
-  runs_earn [] (run ∷ runs) are = absurd are
+  runs_earn [] (k ∷ kept) are = absurd are
   runs_earn (item ∷ items) [] are = absurd are
-  runs_earn (item ∷ items) (run ∷ runs) are = ap₂ (λ x xs. x ∷ xs) (run_earns item run are.0) (runs_earn items runs are.1)
+  runs_earn (item ∷ items) (k ∷ kept) are = ap₂ (λ x xs. x ∷ xs) (seen_earns item k are.0) (runs_earn items kept are.1)

@@ -1,5 +1,5 @@
 -- Events of items, one item after the other, and the formats of their numbers.
-use Rattle.std.proofs.Common.{◌≡◌, ℕ, ◌&&◌, ◌||◌, not, Bool, true, false, if◌then◌else◌, Option, None, Some, List, [], ◌∷◌, ◌++◌, map, sym, ◌∙◌, ap, ap₂, append_assoc}
+use Rattle.std.proofs.Common.{◌≡◌, ℕ, ◌&&◌, ◌||◌, not, Bool, true, false, if◌then◌else◌, Option, None, Some, List, [], ◌∷◌, ◌++◌, sym, ◌∙◌, ap, append_assoc}
 use Rattle.std.specs.List.{AllByRecursion}
 use Rattle.std.specs.Option.{IfNone, is_some, option_to_list}
 use Rattle.ra_value_format.specs.declared.format.Format.{Format}
@@ -7,8 +7,7 @@ use Rattle.ra_value_format.specs.Formats.{HasDigits}
 use Rattle.ra_leaderboard.specs.States.{became_started, became_cancelled, became_submitted}
 use Rattle.ra_trigger.specs.declared.change.Change.{Change}
 use Rattle.ra_trigger.specs.States.{is_primed, is_triggered}
-use Rattle.ra_set.specs.declared.item.Item.{Item}
-use Rattle.ra_set.specs.Contents.{ItemContents, Unlocks, Ranks, item_contents}
+use Rattle.ra_set.specs.Contents.{ItemContents, Unlocks, Ranks}
 use Rattle.ra_runtime.specs.declared.board_run.BoardRun.{BoardRun}
 use Rattle.ra_runtime.specs.declared.event.Event.{Event}
 use Rattle.ra_runtime.specs.declared.event.Event.TheVariants as events
@@ -19,6 +18,7 @@ use Rattle.ra_runtime.specs.Boards.{tracked_number, value_number}
 use Rattle.ra_runtime.specs.BoardRuns.{board_kept}
 use Rattle.ra_runtime.specs.Events.{event_if, is_started, same_number}
 use Rattle.ra_runtime.specs.Lines.{HasEventDigits}
+use Rattle.ra_runtime.specs.Rests.{events_at, events_of}
 use Rattle.ra_runtime.specs.RunEvents.{HasItemDigits, measured_event, change_events, board_run_events, run_events}
 use Rattle.ra_runtime.proofs.Each.{each_append}
 
@@ -74,13 +74,13 @@ events_have (item ∷ items) [] have = tt
 events_have (item ∷ items) (run ∷ runs) have =
     each_append HasEventDigits (run_events item run) (all_events items runs) (item_has item run have.0) (events_have items runs have.1)
 
--- the first item is gone through: what is left of its events stands in front of those of the others
-pub walk_on : (items left : List Item) (runs others : List ItemRun) (item : Item) (run : ItemRun) (told event rest : List Event) → items ≡ item ∷ left → runs ≡ run ∷ others → told ≡ run_events (item_contents item) run → told ≡ event ++ rest → all_events (map item_contents items) runs ≡ event ++ (rest ++ all_events (map item_contents left) others)
-walk_on items left runs others item run told event rest is_items is_runs is_told splits =
-    let behind : List Event = all_events (map item_contents left) others in
-    ap₂ (λ (is : List Item) (rs : List ItemRun). all_events (map item_contents is) rs) is_items is_runs
-    ∙ ap (λ l. l ++ behind) (sym is_told ∙ splits)
-    ∙ append_assoc event rest behind
+-- the first place is gone through: what is left of its events stands in front of those of the others
+pub walk_on : (items : List ItemContents) (runs : List ItemRun) (places others : List ℕ) (place : ℕ) (told event rest : List Event) → places ≡ place ∷ others → told ≡ events_at items runs place → told ≡ event ++ rest
+    → events_of items runs places ≡ event ++ (rest ++ events_of items runs others)
+walk_on items runs places others place told event rest is is_told splits =
+    ap (events_of items runs) is
+    ∙ ap (λ l. l ++ events_of items runs others) (sym is_told ∙ splits)
+    ∙ append_assoc event rest (events_of items runs others)
 
 -- where no event is left of an item, only those of the others are
 pub walk_past : (event : Option Event) (told behind : List Event) → is_some event ≡ false → IfNone event (told ≡ []) → option_to_list event ++ (told ++ behind) ≡ behind

@@ -9,7 +9,7 @@ use Rattle.ra_memref.specs.Values.{Start, cell_number, cell_place, tracked_numbe
 use Rattle.ra_memref.specs.Table.{TableSeen, AreKept, Samples, ReadsWanted, spelled_value}
 use Rattle.ra_richpresence.specs.Contents.{ScriptContents}
 use Rattle.ra_set.specs.Contents.{ItemContents, SetContents}
-use Rattle.ra_progress.specs.Contents.{Opening}
+use Rattle.ra_progress.specs.Contents.{KeptItem, Opening}
 use Rattle.ra_runtime.specs.declared.item_run.ItemRun.{ItemRun}
 use Rattle.ra_runtime.specs.declared.presence_run.PresenceRun.{PresenceRun}
 use Rattle.ra_runtime.specs.Order.{trees_in_set, set_cells, set_tracked}
@@ -18,33 +18,39 @@ use Rattle.ra_runtime.specs.Openings.{start_of, snapshot, item_after, number_bes
 use Rattle.ra_runtime.specs.Lines.{event_lines}
 use Rattle.ra_runtime.specs.Play.{item_events, events, lines, earns, unless_earned}
 use Rattle.ra_member.specs.Runs.{HasValues}
-use Rattle.ra_runtime.specs.ItemRuns.{kept_run}
-use Rattle.ra_runtime.specs.AllRuns.{AreItemRuns, AreStepped, all_events, opening_by, IsOver}
+use Rattle.ra_runtime.specs.Rests.{AreSteppedSeen, IsSomeFrame}
+use Rattle.ra_runtime.specs.AllRuns.{all_events, opening_by, IsOver}
 use Rattle.ra_runtime.specs.PresenceRuns.{StepsOptional, optional_presence_kept}
 use Rattle.std.proofs.lemmas.List.{length-map}
 use Rattle.ra_runtime.specs.Runtime.{RuntimeSeen, TakesFrame, ReadsFew}
 use Rattle.ra_runtime.proofs.Law.{cuts_anywhere}
-use Rattle.ra_runtime.proofs.EarnedFrames.{snapshot_with, events_with, earns_with, runs_earn}
+use Rattle.ra_runtime.proofs.EarnedFrames.{AreSeen, snapshot_with, events_with, earns_with, runs_earn}
 use Rattle.ra_runtime.proofs.Beside.{apart_firsts, numbers_beside, priors_beside}
 
 module _ (table : TableSeen) (start : Start) (image : List ℕ) (has : HasValues table start (image ∷ [])) where
-  stepped_kept : (items : List ItemContents) (olds news : List ItemRun) → AreStepped table items olds news → map kept_run news ≡ map (item_after start (image ∷ [])) (zip items (map kept_run olds))
-  stepped_kept [] [] [] are = refl
-  stepped_kept [] [] (new ∷ news) are = absurd are
-  stepped_kept [] (old ∷ olds) news are = absurd are
-  stepped_kept (item ∷ items) [] news are = absurd are
-  stepped_kept (item ∷ items) (old ∷ olds) [] are = absurd are
-  stepped_kept (item ∷ items) (old ∷ olds) (new ∷ news) are =
-      ap₂ (λ x xs. x ∷ xs) (are.0.kept start image has) (stepped_kept items olds news are.1)
+  stepped_kept : (items : List ItemContents) (olds news : List KeptItem) (runs : List ItemRun) → AreSteppedSeen table items olds news runs
+      → news ≡ map (item_after start (image ∷ [])) (zip items olds)
+  stepped_kept [] [] [] [] are = refl
+  stepped_kept [] [] [] (run ∷ runs) are = absurd are
+  stepped_kept [] [] (new ∷ news) runs are = absurd are
+  stepped_kept [] (old ∷ olds) news runs are = absurd are
+  stepped_kept (item ∷ items) [] news runs are = absurd are
+  stepped_kept (item ∷ items) (old ∷ olds) [] runs are = absurd are
+  stepped_kept (item ∷ items) (old ∷ olds) (new ∷ news) [] are = absurd are
+  stepped_kept (item ∷ items) (old ∷ olds) (new ∷ news) (run ∷ runs) are =
+      ap₂ (λ x xs. x ∷ xs) (are.0.kept start image has) (stepped_kept items olds news runs are.1)
 
-  stepped_events : (items : List ItemContents) (olds news : List ItemRun) → AreStepped table items olds news → all_events items news ≡ flat_map (unless_earned (item_events start image [])) (zip (map is_earned (map kept_run olds)) (zip items (map kept_run olds)))
-  stepped_events [] [] [] are = refl
-  stepped_events [] [] (new ∷ news) are = absurd are
-  stepped_events [] (old ∷ olds) news are = absurd are
-  stepped_events (item ∷ items) [] news are = absurd are
-  stepped_events (item ∷ items) (old ∷ olds) [] are = absurd are
-  stepped_events (item ∷ items) (old ∷ olds) (new ∷ news) are =
-      ap₂ (λ x xs. x ++ xs) (are.0.events start image has) (stepped_events items olds news are.1)
+  stepped_events : (items : List ItemContents) (olds news : List KeptItem) (runs : List ItemRun) → AreSteppedSeen table items olds news runs
+      → all_events items runs ≡ flat_map (unless_earned (item_events start image [])) (zip (map is_earned olds) (zip items olds))
+  stepped_events [] [] [] [] are = refl
+  stepped_events [] [] [] (run ∷ runs) are = absurd are
+  stepped_events [] [] (new ∷ news) runs are = absurd are
+  stepped_events [] (old ∷ olds) news runs are = absurd are
+  stepped_events (item ∷ items) [] news runs are = absurd are
+  stepped_events (item ∷ items) (old ∷ olds) [] runs are = absurd are
+  stepped_events (item ∷ items) (old ∷ olds) (new ∷ news) [] are = absurd are
+  stepped_events (item ∷ items) (old ∷ olds) (new ∷ news) (run ∷ runs) are =
+      ap₂ (λ x xs. x ++ xs) (are.0.events start image has) (stepped_events items olds news runs are.1)
 
 -- one frame of a display that may be missing
 presence_kept_on : (table : TableSeen) (start : Start) (image : List ℕ) → HasValues table start (image ∷ []) → (script : Option ScriptContents) (old new : Option PresenceRun) → StepsOptional table script old new → optional_presence_kept new ≡ optional_presence start (image ∷ []) script (optional_presence_kept old)
@@ -55,7 +61,7 @@ presence_kept_on table start image has (Some script) None new steps = absurd ste
 presence_kept_on table start image has (Some script) (Some old) None steps = absurd steps
 presence_kept_on table start image has (Some script) (Some old) (Some new) steps = ap Some (steps start image has)
 
-module _ (set : SetContents) (count : ℕ) (old new : TableSeen) (image : List ℕ) (olds news : List ItemRun) (shown shown' : Option PresenceRun) (over : IsOver set old) (samples : Samples old new image) (stepped : AreStepped new set.items olds news) (steps : StepsOptional new set.script shown shown') where
+module _ (set : SetContents) (count : ℕ) (old new : TableSeen) (image : List ℕ) (olds : List KeptItem) (shown : Option PresenceRun) (over : IsOver set old) (samples : Samples old new image) where
   abbrev kept : Opening
   kept = opening_by count old olds shown
 
@@ -72,25 +78,9 @@ module _ (set : SetContents) (count : ℕ) (old new : TableSeen) (image : List �
   has_values =
       samples.values start [] are_kept ∙ ap (λ ns. map (spelled_value start (image ∷ [])) (spelled_by ns)) (sym samples.pool.0)
 
-  pub frame_kept : opening_by (frames_after count 1) new news shown' ≡ snapshot set kept (image ∷ [])
-  frame_kept =
-      let after : AreKept start (image ∷ []) old.nodes new.cells new.priors = samples.kept start [] are_kept in
-      let cells : new.cells ≡ map (λ c. cell_number start c (image ∷ [])) (set_cells set) = after.numbers ∙ ap (map (λ c. cell_number start c (image ∷ []))) over.cells in
-      let priors : new.priors ≡ map (λ t. tracked_number start t (image ∷ [])) (set_tracked set) = after.priors_too ∙ ap (map (λ t. tracked_number start t (image ∷ []))) over.tracked in
-      let items = stepped_kept new start image has_values set.items olds news stepped in
-      let presence = presence_kept_on new start image has_values set.script shown shown' steps in
-      (λ i. record { frames = frames_after count 1; cells = cells i; priors = priors i; items = items i; presence = presence i })
-
-  pub frame_earned : AreItemRuns old.nodes set.items olds → earned_in (snapshot set kept (image ∷ [])) ≡ earns set kept (image ∷ []) (earned_in kept)
-  frame_earned are = runs_earn old.nodes start image set.items olds are
-
-  pub frame_events : all_events set.items news ≡ events set kept (image ∷ []) (earned_in kept)
-  frame_events = stepped_events new start image has_values set.items olds news stepped
-
-  pub frame_lines : count < 2 ^ 64 → event_lines count (all_events set.items news) ≡ lines set kept (image ∷ []) (earned_in kept)
-  frame_lines small =
-      let same : frames_after count 0 ≡ count = omega arith in
-      ap (event_lines count) frame_events ∙ ap (λ n. event_lines n (events set kept (image ∷ []) (earned_in kept))) (sym same)
+  -- the values of the table are those of a frame
+  pub some_frame : IsSomeFrame new
+  some_frame = record { start = start; image = image; has = has_values }
 
   pub over_after : IsOver set new
   over_after =
@@ -101,6 +91,27 @@ module _ (set : SetContents) (count : ℕ) (old new : TableSeen) (image : List �
         cells_many = ap length after.numbers ∙ length-map (cells_of old.nodes) (λ c. cell_number start c (image ∷ [])) ∙ ap length over.cells;
         priors_many = ap length after.priors_too ∙ length-map (tracked_of old.nodes) (λ t. tracked_number start t (image ∷ [])) ∙ ap length over.tracked;
       }
+
+  module _ (news : List KeptItem) (runs : List ItemRun) (shown' : Option PresenceRun) (stepped : AreSteppedSeen new set.items olds news runs) (steps : StepsOptional new set.script shown shown') where
+    pub frame_kept : opening_by (frames_after count 1) new news shown' ≡ snapshot set kept (image ∷ [])
+    frame_kept =
+        let after : AreKept start (image ∷ []) old.nodes new.cells new.priors = samples.kept start [] are_kept in
+        let cells : new.cells ≡ map (λ c. cell_number start c (image ∷ [])) (set_cells set) = after.numbers ∙ ap (map (λ c. cell_number start c (image ∷ []))) over.cells in
+        let priors : new.priors ≡ map (λ t. tracked_number start t (image ∷ [])) (set_tracked set) = after.priors_too ∙ ap (map (λ t. tracked_number start t (image ∷ []))) over.tracked in
+        let items = stepped_kept new start image has_values set.items olds news runs stepped in
+        let presence = presence_kept_on new start image has_values set.script shown shown' steps in
+        (λ i. record { frames = frames_after count 1; cells = cells i; priors = priors i; items = items i; presence = presence i })
+
+    pub frame_earned : AreSeen set.items olds → earned_in (snapshot set kept (image ∷ [])) ≡ earns set kept (image ∷ []) (earned_in kept)
+    frame_earned are = runs_earn start image set.items olds are
+
+    pub frame_events : all_events set.items runs ≡ events set kept (image ∷ []) (earned_in kept)
+    frame_events = stepped_events new start image has_values set.items olds news runs stepped
+
+    pub frame_lines : count < 2 ^ 64 → event_lines count (all_events set.items runs) ≡ lines set kept (image ∷ []) (earned_in kept)
+    frame_lines small =
+        let same : frames_after count 0 ≡ count = omega arith in
+        ap (event_lines count) frame_events ∙ ap (λ n. event_lines n (events set kept (image ∷ []) (earned_in kept))) (sym same)
 
 -- what holds of one frame from the kept opening holds of every opening and history that it stands for
 pub takes_frame : (old new : RuntimeSeen) → new.set ≡ old.set → new.image ≡ old.image → new.kept ≡ snapshot old.set old.kept (old.image ∷ [])

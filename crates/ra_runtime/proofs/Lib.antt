@@ -65,3 +65,10 @@ pub mod WorkedChange
 pub mod WorkedFiles
 pub mod WorkedLines
 pub mod WorkedSets
+mod ItemsRest
+mod SkippedItems
+mod RestSteps
+mod SeenItems
+mod RestRuns
+mod MadeRests
+mod StepAt

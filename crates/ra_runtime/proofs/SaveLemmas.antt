@@ -1,5 +1,6 @@
 -- What runs keep is an opening of their set.
-use Rattle.std.proofs.Common.{◌≡◌, ℕ, ◌+◌, ◌<◌, ◌≤◌, ◌^◌, Bool, Option, None, Some, List, [], ◌∷◌, ◌++◌, length, map, take, get_or, sum_by, option_map, refl, sym, ◌∙◌, ap, subst, arith}
+use Rattle.std.proofs.Common.{◌≡◌, ℕ, zero, suc, ◌+◌, ◌<◌, ◌≤◌, ◌^◌, Bool, Option, None, Some, IfSome, List, [], ◌∷◌, ◌++◌, length, map, take, get_or, sum_by, option_map, refl, sym, ◌∙◌, ap, subst, arith}
+use Rattle.std.proofs.lemmas.List.{take_more}
 use Rattle.ra_indirect.specs.declared.node.Node.{Node}
 use Rattle.ra_richpresence.specs.Contents.{ScriptContents}
 use Rattle.ra_memref.specs.Table.{TableSeen}
@@ -8,7 +9,7 @@ use Rattle.ra_progress.specs.declared.shape.ItemShape.{ItemShape}
 use Rattle.ra_progress.specs.declared.shape.ItemShape.TheVariants as shapes
 use Rattle.ra_trigger.specs.Steps.{TriggerKept}
 use Rattle.ra_words.specs.Words.{AreWords}
-use Rattle.ra_progress.specs.Contents.{Name, KeptItem, ItemFits, ItemsFit, PresenceFits, ShapeContents, IsOpening}
+use Rattle.ra_progress.specs.Contents.{Name, KeptItem, OfBoard, ItemFits, ItemsFit, PresenceFits, ShapeContents, IsOpening}
 use Rattle.ra_progress.specs.Layout.{item_length, script_length, length_of}
 use Rattle.ra_progress.specs.Names.{IsPaired}
 use Rattle.ra_progress.specs.Spelling.{named_blocks}
@@ -18,9 +19,10 @@ use Rattle.ra_runtime.specs.declared.item_run.ItemRun.{ItemRun}
 use Rattle.ra_runtime.specs.declared.presence_run.PresenceRun.{PresenceRun}
 use Rattle.ra_runtime.specs.Order.{script_members, presence_shape, shape_of}
 use Rattle.ra_runtime.specs.AllRuns.{AreItemRuns, opening_by}
-use Rattle.ra_runtime.specs.ItemRuns.{kept_run}
-use Rattle.ra_runtime.specs.Boards.{kept_board}
-use Rattle.ra_runtime.specs.BoardRuns.{board_kept}
+use Rattle.ra_runtime.specs.declared.rest.Rest.{Rest}
+use Rattle.ra_runtime.specs.Resting.{FitsRun, seen_run, seen_runs}
+use Rattle.ra_runtime.specs.Rests.{AreFitting}
+use Rattle.ra_leaderboard.specs.States.{board_byte}
 use Rattle.ra_runtime.specs.Openings.{kept_achievement}
 use Rattle.ra_runtime.specs.Shapes.{board_run_shape, run_shape}
 use Rattle.ra_runtime.proofs.ItemWords.{state_within, earned_where_triggered, board_state_within}
@@ -42,13 +44,36 @@ fit_more [] (i ∷ items) shape item fit one = absurd fit
 fit_more (s ∷ shapes) [] shape item fit one = absurd fit
 fit_more (s ∷ shapes) (i ∷ items) shape item fit one = (fit.0, fit_more shapes items shape item fit.1 one)
 
--- one run more
-pub runs_fit_more : (runs : List ItemRun) (k : ℕ) (run : ItemRun) → k < length runs → run ≡ get_or runs k run → ItemsFit (map run_shape (take k runs)) (map kept_run (take k runs)) → ItemFits (run_shape run) (kept_run run)
-    → ItemsFit (map run_shape (take (k + 1) runs)) (map kept_run (take (k + 1) runs))
-runs_fit_more runs k run within is fit one =
-    subst (λ (ss : List ItemShape). ItemsFit ss (map kept_run (take (k + 1) runs))) (sym (taken_next run_shape runs k run within is))
-    (subst (ItemsFit (map run_shape (take k runs) ++ run_shape run ∷ [])) (sym (taken_next kept_run runs k run within is))
-    (fit_more (map run_shape (take k runs)) (map kept_run (take k runs)) (run_shape run) (kept_run run) fit one))
+-- one item more
+pub seen_fit_more : (runs : List ItemRun) (kept : List KeptItem) (k : ℕ) (run : ItemRun) (item : KeptItem) → k < length runs → k < length kept → run ≡ get_or runs k run → get_or kept k item ≡ item
+    → ItemsFit (map run_shape (take k runs)) (take k kept) → ItemFits (run_shape run) item → ItemsFit (map run_shape (take (k + 1) runs)) (take (k + 1) kept)
+seen_fit_more runs kept k run item within among is here fit one =
+    let more : take (k + 1) kept ≡ take k kept ++ item ∷ [] = take_more kept k item among ∙ ap (λ x. take k kept ++ x ∷ []) here in
+    subst (λ (ss : List ItemShape). ItemsFit ss (take (k + 1) kept)) (sym (taken_next run_shape runs k run within is))
+    (subst (ItemsFit (map run_shape (take k runs) ++ run_shape run ∷ [])) (sym more)
+    (fit_more (map run_shape (take k runs)) (take k kept) (run_shape run) item fit one))
+
+-- as much is seen as there are runs
+pub seen_many : (clock : ℕ) (runs : List ItemRun) (rests : List Rest) → length rests ≡ length runs → length (seen_runs clock runs rests) ≡ length runs
+seen_many clock [] rests many = refl
+seen_many clock (run ∷ runs) [] many = absurd (omega (arith, many))
+seen_many clock (run ∷ runs) (rest ∷ rests) many = ap suc (seen_many clock runs rests (omega (arith, many)))
+
+-- what is seen at a place
+pub seen_at : (clock k : ℕ) (runs : List ItemRun) (rests : List Rest) (run : ItemRun) (rest : Rest) (kept : KeptItem) → k < length runs → length rests ≡ length runs
+    → get_or (seen_runs clock runs rests) k kept ≡ seen_run clock (get_or runs k run) (get_or rests k rest)
+seen_at clock k [] rests run rest kept within many = absurd (omega (arith, within))
+seen_at clock k (r ∷ runs) [] run rest kept within many = absurd (omega (arith, many))
+seen_at clock zero (r ∷ runs) (e ∷ rests) run rest kept within many = refl
+seen_at clock (suc k) (r ∷ runs) (e ∷ rests) run rest kept within many = seen_at clock k runs rests run rest kept (omega (arith, within)) (omega (arith, many))
+
+-- and the rest there fits its run
+pub fitting_at : (clock k : ℕ) (runs : List ItemRun) (rests : List Rest) (run : ItemRun) (rest : Rest) → k < length runs → AreFitting runs rests clock
+    → FitsRun (get_or rests k rest).before (get_or runs k run) × IfSome (get_or rests k rest).since (λ since. since ≤ clock)
+fitting_at clock k [] rests run rest within fit = absurd (omega (arith, within))
+fitting_at clock k (r ∷ runs) [] run rest within fit = absurd fit
+fitting_at clock zero (r ∷ runs) (e ∷ rests) run rest within fit = fit.0
+fitting_at clock (suc k) (r ∷ runs) (e ∷ rests) run rest within fit = fitting_at clock k runs rests run rest (omega (arith, within)) fit.1
 
 -- no block is written without one
 pub no_blocks : (names : List Name) → named_blocks names [] ≡ []
@@ -61,9 +86,10 @@ achievement_kept_fits earned kept measured hits =
     (state_within kept.state, earned_where_triggered earned kept.state, measured, hits)
 
 -- what is kept of a board has the counts of its hits and numbers
-pub board_kept_fits : (run : BoardRun) → FitWords (saved_hits (kept_by run.member)) → FitWords (saved_numbers (kept_by run.member)) → ItemFits (board_run_shape run) (kept_board (board_kept run))
-board_kept_fits run hits numbers =
-    (board_state_within run.board, record { as_many = refl; fit = hits }, record { as_many = refl; fit = numbers })
+pub board_kept_fits : (run : BoardRun) (hits numbers : List ℕ) → length hits ≡ length (saved_hits (kept_by run.member)) → length numbers ≡ length (saved_numbers (kept_by run.member)) → FitWords hits → FitWords numbers
+    → ItemFits (board_run_shape run) (OfBoard (board_byte run.board) hits numbers)
+board_kept_fits run hits numbers many as_many fit fit_too =
+    (board_state_within run.board, record { as_many = many; fit = fit }, record { as_many = as_many; fit = fit_too })
 
 -- what is kept of a display is of its script's shape
 presence_kept_fits : (nodes : List Node) (script : Option ScriptContents) (run : Option PresenceRun) → IsOptionalPresence nodes script run → FitOptional (optional_presence_kept run) → PresenceFits (option_map presence_shape script) (optional_presence_kept run)
@@ -86,13 +112,13 @@ display_fits run given is hits numbers = record {
 }
 
 -- what is taken from a table over a set, from its runs and from its display
-module _ (set : SetContents) (table : TableSeen) (runs : List ItemRun) (display : Option PresenceRun) (are : AreItemRuns table.nodes set.items runs) (is : IsOptionalPresence table.nodes set.script display) where
-  pub opening_taken : (count : ℕ) → count < 2 ^ 64 → AreWords (length (shape_of set).cells) table.cells → AreWords (length (shape_of set).priors) table.priors → ItemsFit (map run_shape runs) (map kept_run runs) → FitOptional (optional_presence_kept display) → IsOpening (shape_of set) (opening_by count table runs display)
+module _ (set : SetContents) (table : TableSeen) (runs : List ItemRun) (kept : List KeptItem) (display : Option PresenceRun) (are : AreItemRuns table.nodes set.items runs) (is : IsOptionalPresence table.nodes set.script display) where
+  pub opening_taken : (count : ℕ) → count < 2 ^ 64 → AreWords (length (shape_of set).cells) table.cells → AreWords (length (shape_of set).priors) table.priors → ItemsFit (map run_shape runs) kept → FitOptional (optional_presence_kept display) → IsOpening (shape_of set) (opening_by count table kept display)
   opening_taken count small cells priors fit fits = record {
     frames = small;
     cells = cells;
     priors = priors;
-    items = subst (λ (ss : List ItemShape). ItemsFit ss (map kept_run runs)) (runs_shaped table.nodes set.items runs are) fit;
+    items = subst (λ (ss : List ItemShape). ItemsFit ss kept) (runs_shaped table.nodes set.items runs are) fit;
     presence = presence_kept_fits table.nodes set.script display is fits;
   }
 

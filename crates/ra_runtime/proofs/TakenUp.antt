@@ -5,7 +5,7 @@ use Rattle.ra_indirect.specs.Pools.{cells_of, tracked_of}
 use Rattle.ra_memref.specs.Table.{TableSeen}
 use Rattle.ra_set.specs.Contents.{SetContents}
 use Rattle.ra_progress.specs.declared.said.Said.{Said}
-use Rattle.ra_progress.specs.Contents.{plain_presence}
+use Rattle.ra_progress.specs.Contents.{KeptItem, plain_presence}
 use Rattle.ra_progress.specs.Layout.{frames_at}
 use Rattle.ra_progress.specs.Room.{IsRoom, Says}
 use Rattle.ra_progress.specs.Saying.{own_places, said_items, said_or, said_presence, script_place, says}
@@ -43,18 +43,19 @@ module _ (set : SetContents) (table after : TableSeen) (over : IsOver set table)
   pub marked_restored : after.marked ≡ replicate (length (set_cells set)) true
   marked_restored = takes.marked ∙ ap (λ m. replicate m true) cells_many
 
-  pub kept_restored : (says_it : Says (shape_of set) bytes said) (runs news : List ItemRun) (display new : Option PresenceRun) → AreItemRuns table.nodes set.items runs → IsOptionalPresence table.nodes set.script display
-      → map kept_run news ≡ restored_items bytes runs said.places.items
+  pub kept_restored : (says_it : Says (shape_of set) bytes said) (runs : List ItemRun) (olds news : List KeptItem) (display new : Option PresenceRun) → AreItemRuns table.nodes set.items runs → IsOptionalPresence table.nodes set.script display
+      → map is_earned olds ≡ map is_earned (map kept_run runs) → news ≡ restored_items bytes runs said.places.items
       → (place : Option ℕ) → place ≡ slice_index_or said.places.items (length runs) None → PutsBackPresence bytes place display new
-      → (count : ℕ) → count ≡ frames_at bytes → opening_by count after news new ≡ with_earned (says (shape_of set) bytes) (both_earned (map is_earned (map kept_run runs)) (earned_in (says (shape_of set) bytes)))
-  kept_restored says_it runs news display new are is kept place there back count frames =
+      → (count : ℕ) → count ≡ frames_at bytes → opening_by count after news new ≡ with_earned (says (shape_of set) bytes) (both_earned (map is_earned olds) (earned_in (says (shape_of set) bytes)))
+  kept_restored says_it runs olds news display new are is same_earned kept place there back count frames =
       let numbers = takes.cells_too ∙ says_it.cells in
       let priors = takes.priors_too ∙ says_it.priors in
       let shaped : map run_shape runs ≡ map item_shape set.items = runs_shaped table.nodes set.items runs are in
       let earned = map is_earned (map kept_run runs) in
       let said_too : said_items bytes (map run_shape runs) said.places.items ≡ said_items bytes (map item_shape set.items) (own_places (shape_of set) bytes) = ap₂ (said_items bytes) shaped says_it.places in
-      let items : map kept_run news ≡ items_with (both_earned earned (map is_earned (said_items bytes (map item_shape set.items) (own_places (shape_of set) bytes)))) (said_items bytes (map item_shape set.items) (own_places (shape_of set) bytes)) =
+      let items : news ≡ items_with (both_earned (map is_earned olds) (map is_earned (said_items bytes (map item_shape set.items) (own_places (shape_of set) bytes)))) (said_items bytes (map item_shape set.items) (own_places (shape_of set) bytes)) =
       kept ∙ restored_are bytes runs said.places.items ∙ ap (λ items. items_with (both_earned earned (map is_earned items)) items) said_too
+      ∙ ap (λ e. items_with (both_earned e (map is_earned (said_items bytes (map item_shape set.items) (own_places (shape_of set) bytes)))) (said_items bytes (map item_shape set.items) (own_places (shape_of set) bytes))) (sym same_earned)
       in
       let many : length runs ≡ length (map item_shape set.items) = sym (length-map runs run_shape) ∙ ap length shaped in
       let stands : place ≡ script_place (shape_of set) bytes = there ∙ ap₂ (λ places n. slice_index_or places n None) says_it.places many in

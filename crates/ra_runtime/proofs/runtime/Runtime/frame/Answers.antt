@@ -1,37 +1,58 @@
-use Rattle.std.proofs.Common.{◌≡◌, ◌∙◌, ◌<◌, ◌^◌, ap, sym, subst, refl, length, map, List, true, rules, arith}
+use Rattle.std.proofs.Common.{◌≡◌, ◌∙◌, ◌<◌, ◌^◌, ℕ, ap, sym, subst, refl, length, map, slice_index, List, true, rules, arith}
+use Rattle.std.proofs.Math.Path.{transport}
 use Rattle.std.proofs.lemmas.List.{length-map, with_items_is}
-use Rattle.ra_set.specs.Contents.{item_contents, set_contents}
-use Rattle.ra_runtime.specs.AllRuns.{AreItemRuns, AreStepped, all_events, opening_by}
 use Rattle.std.specs.Vec.{with_items}
+use Rattle.ra_indirect.specs.declared.node.Node.{Node}
+use Rattle.ra_set.specs.Contents.{item_contents, set_contents}
 use Rattle.ra_runtime.specs.declared.item_run.ItemRun.{ItemRun}
+use Rattle.ra_runtime.specs.declared.rests.Rests.{Rests}
+use Rattle.ra_runtime.specs.AllRuns.{AreItemRuns, all_events, opening_by}
 use Rattle.ra_runtime.specs.Lines.{event_lines}
+use Rattle.ra_runtime.specs.Rests.{AreRests, AreSteppedSeen, AreTold, IsSomeFrame, WereRests, seen_by}
 use Rattle.ra_runtime.specs.Seen.{runtime_seen}
-use Rattle.ra_runtime.proofs.RunsLemmas.{length_runs}
-use Rattle.ra_runtime.proofs.FrameLemmas.{frame_kept, frame_earned, frame_events, frame_lines, over_after, takes_frame, reads_few}
+use Rattle.ra_runtime.proofs.FrameLemmas.{frame_kept, frame_earned, frame_events, frame_lines, over_after, some_frame, takes_frame, reads_few}
+use Rattle.ra_runtime.proofs.SeenItems.{rests_seen}
 use Rattle.ra_runtime.proofs.runtime.Runtime.frame.Goals as goal
 
-pub step_runs-requires-clause-as_many : goal.step_runs-requires-clause-as_many
-step_runs-requires-clause-as_many g c =
-    let items = c.self.inside.set.items.items in
-    let runs = c.self.inside.runs.items in
-    let table = c.self.inside.table in
-    let many = length_runs table.nodes (map item_contents items) runs c.self.invariant.runs ∙ length-map items item_contents in
-    ap length c.deref_mut.ensures.value ∙ many ∙ ap length (sym c.deref.ensures.value)
+pub step-requires-clause-rests : goal.step-requires-clause-rests
+step-requires-clause-rests g c =
+    let t = c.self.inside in
+    let items = (set_contents t.set).items in
+    let now = c.sample.new.self in
+    let same = c.sample.ensures.taken.pool.0 in
+    let changed = c.sample.ensures.changed in
+    transport (λ i. WereRests now (map item_contents (sym c.deref.ensures.value i)) (sym c.deref_mut.ensures.value i) t.rests) (record {
+      values = t.table.values;
+      are = subst (λ (ns : List Node). AreRests ns t.table.values items t.runs.items t.rests) (sym same) c.self.invariant.rests;
+      each = λ n within differ. changed.each n (subst (λ (ns : List Node). n < length ns) same within) differ;
+      nodes = λ k within. subst (λ (ns : List Node). slice_index now.changed k < length ns) (sym same) (changed.nodes k within);
+    })
+
+pub step-requires-clause-frame : goal.step-requires-clause-frame
+step-requires-clause-frame g c =
+    let t = c.self.inside in
+    some_frame (set_contents t.set) t.count t.table c.sample.new.self t.memory (seen_by t.runs.items t.rests) t.presence c.self.invariant.over c.sample.ensures.taken
 
 pub invariant_of-self : goal.invariant_of-self
 invariant_of-self g c =
-    let set = set_contents c.self.inside.set in
-    let same : (with_items c.self.inside.runs c.step_runs.new.runs).items ≡ c.step_runs.new.runs = with_items_is c.self.inside.runs c.step_runs.new.runs (c.step_runs.auto.runs ∙ c.deref_mut.ensures.len) in
-    let stepped : AreStepped c.sample.new.self set.items c.self.inside.runs.items c.step_runs.new.runs = rw (c.deref.ensures.value, c.deref_mut.ensures.value) at c.step_runs.ensures.stepped in
-    let runs : AreItemRuns c.sample.new.self.nodes set.items c.step_runs.new.runs = rw c.deref.ensures.value at c.step_runs.ensures.runs in
+    let t = c.self.inside in
+    let set = set_contents t.set in
+    let now = c.sample.new.self in
+    let news = c.step.new.runs in
+    let same : (with_items t.runs news).items ≡ news = with_items_is t.runs news (c.step.auto.runs ∙ c.deref_mut.ensures.len) in
+    let runs : AreItemRuns now.nodes set.items news = rw c.deref.ensures.value at c.step.ensures.runs in
+    let rests : AreRests now.nodes now.values set.items news c.step.new.self = rw c.deref.ensures.value at c.step.ensures.rests in
+    let told : AreTold set.items news c.step.new.self = rw c.deref.ensures.value at c.step.ensures.told in
     record {
       script = c.self.invariant.script;
       limits = c.self.invariant.limits;
       shape = c.self.invariant.shape;
       usable = c.self.invariant.usable;
       room = c.self.invariant.room;
-      over = over_after set c.self.inside.count c.self.inside.table c.sample.new.self c.self.inside.memory c.self.inside.runs.items c.step_runs.new.runs c.self.inside.presence c.step_presence.new.run c.self.invariant.over c.sample.ensures.taken stepped c.step_presence.ensures.steps;
-      runs = subst (λ (rs : List ItemRun). AreItemRuns c.sample.new.self.nodes set.items rs) (sym same) runs;
+      over = over_after set t.count t.table now t.memory (seen_by t.runs.items t.rests) t.presence c.self.invariant.over c.sample.ensures.taken;
+      runs = subst (λ (rs : List ItemRun). AreItemRuns now.nodes set.items rs) (sym same) runs;
+      rests = subst (λ (rs : List ItemRun). AreRests now.nodes now.values set.items rs c.step.new.self) (sym same) rests;
+      told = λ framed. subst (λ (rs : List ItemRun). AreTold set.items rs c.step.new.self) (sym same) told;
       presence = c.step_presence.ensures.run;
       digits = c.self.invariant.digits;
       size = c.sample.ensures.taken.pool.1 ∙ c.self.invariant.size;
@@ -40,18 +61,25 @@ invariant_of-self g c =
 
 pub returns-clause-taken : goal.returns-clause-taken
 returns-clause-taken g c =
-    let set = set_contents c.self.inside.set in
-    let count = c.self.inside.count in
-    let olds = c.self.inside.runs.items in
-    let news = c.step_runs.new.runs in
+    let t = c.self.inside in
+    let set = set_contents t.set in
+    let now = c.sample.new.self in
+    let count = t.count in
+    let olds = seen_by t.runs.items t.rests in
+    let news = c.step.new.runs in
+    let rests = c.step.new.self in
+    let shown = c.step_presence.new.run in
     let small : count < 2 ^ 64 = omega arith in
-    let same : (with_items c.self.inside.runs news).items ≡ news = with_items_is c.self.inside.runs news (c.step_runs.auto.runs ∙ c.deref_mut.ensures.len) in
-    let stepped : AreStepped c.sample.new.self set.items olds news = rw (c.deref.ensures.value, c.deref_mut.ensures.value) at c.step_runs.ensures.stepped in
-    rw (← c.self.view_is) (takes_frame (runtime_seen c.self.inside) (runtime_seen (record { set = c.self.inside.set; shape = c.self.inside.shape; said = c.self.inside.said; memory = c.self.inside.memory; table = c.sample.new.self; runs = with_items c.self.inside.runs news; presence = c.step_presence.new.run; count = c.saturating_add-self-inside.result; frame = count; framed = true })) refl refl
-    ((λ i. opening_by (c.saturating_add-self-inside.ensures i) c.sample.new.self (same i) c.step_presence.new.run) ∙ frame_kept set count c.self.inside.table c.sample.new.self c.self.inside.memory olds news c.self.inside.presence c.step_presence.new.run c.self.invariant.over c.sample.ensures.taken stepped c.step_presence.ensures.steps)
-    (frame_earned set count c.self.inside.table c.sample.new.self c.self.inside.memory olds news c.self.inside.presence c.step_presence.new.run c.self.invariant.over c.sample.ensures.taken stepped c.step_presence.ensures.steps c.self.invariant.runs)
-    (ap (all_events set.items) same ∙ frame_events set count c.self.inside.table c.sample.new.self c.self.inside.memory olds news c.self.inside.presence c.step_presence.new.run c.self.invariant.over c.sample.ensures.taken stepped c.step_presence.ensures.steps)
-    (ap (λ rs. event_lines count (all_events set.items rs)) same ∙ frame_lines set count c.self.inside.table c.sample.new.self c.self.inside.memory olds news c.self.inside.presence c.step_presence.new.run c.self.invariant.over c.sample.ensures.taken stepped c.step_presence.ensures.steps small))
+    let same : (with_items t.runs news).items ≡ news = with_items_is t.runs news (c.step.auto.runs ∙ c.deref_mut.ensures.len) in
+    let stepped : AreSteppedSeen now set.items olds (seen_by news rests) news = rw (c.deref.ensures.value, c.deref_mut.ensures.value) at c.step.ensures.stepped in
+    let over = c.self.invariant.over in
+    let taken = c.sample.ensures.taken in
+    let steps = c.step_presence.ensures.steps in
+    rw (← c.self.view_is) (takes_frame (runtime_seen t) (runtime_seen (record { set = t.set; shape = t.shape; said = t.said; memory = t.memory; table = now; runs = with_items t.runs news; rests = rests; presence = shown; count = c.saturating_add-self-inside.result; frame = count; framed = true })) refl refl
+    ((λ i. opening_by (c.saturating_add-self-inside.ensures i) now (seen_by (same i) rests) shown) ∙ frame_kept set count t.table now t.memory olds t.presence over taken (seen_by news rests) news shown stepped steps)
+    (frame_earned set count t.table now t.memory olds t.presence over taken (seen_by news rests) news shown stepped steps (rests_seen t.table.nodes t.table.values set.items t.runs.items t.rests c.self.invariant.runs c.self.invariant.rests))
+    (ap (all_events set.items) same ∙ frame_events set count t.table now t.memory olds t.presence over taken (seen_by news rests) news shown stepped steps)
+    (ap (λ rs. event_lines count (all_events set.items rs)) same ∙ frame_lines set count t.table now t.memory olds t.presence over taken (seen_by news rests) news shown stepped steps small))
 
 pub returns-clause-reads : goal.returns-clause-reads
 returns-clause-reads g c =

@@ -1,4 +1,4 @@
-use Rattle.std.proofs.Common.{List, All, length, map, ap, subst, sym, ◌∙◌}
+use Rattle.std.proofs.Common.{◌≡◌, List, All, true, false, length, map, ap, subst, sym, ◌∙◌}
 use Rattle.std.proofs.lemmas.List.{length-replicate}
 use Rattle.ra_indirect.specs.Pools.{cells_of}
 use Rattle.ra_memref.proofs.AgreeLemmas.{Agrees-marked}
@@ -9,26 +9,29 @@ use Rattle.ra_runtime.proofs.ShapeLemmas.{laid_shapes, laid_small, laid_presence
 use Rattle.ra_runtime.proofs.SmallShape.{small_shape}
 use Rattle.ra_runtime.proofs.runtime.Runtime.new.Goals as goal
 
-pub shape_over-requires-clause-short : goal.shape_over-requires-clause-short
-shape_over-requires-clause-short c =
+not_framed : false ≡ true → ⊥
+not_framed same = cc
+
+pub shape_and_room-requires-clause-short : goal.shape_and_room-requires-clause-short
+shape_and_room-requires-clause-short c =
     let laid = c.in_ok-table.ensures.laid in
     small_shape (set_contents c.args.set) c.requires.limits c.requires.spelled laid.few_cells laid.few_tracked
 
-pub shape_over-requires-clause-small : goal.shape_over-requires-clause-small
-shape_over-requires-clause-small c =
+pub shape_and_room-requires-clause-small : goal.shape_and_room-requires-clause-small
+shape_and_room-requires-clause-small c =
     subst (λ (runs : List ItemRun). All IsSmall (map run_shape runs)) (sym c.deref.ensures.value)
     (laid_small (set_contents c.args.set) c.args.size c.in_ok-table.table c.in_ok-table.runs.items c.in_ok-table.presence c.in_ok-table.ensures.laid c.requires.limits c.requires.spelled)
 
-pub shape_over-requires-clause-items : goal.shape_over-requires-clause-items
-shape_over-requires-clause-items c =
+pub shape_and_room-requires-clause-items : goal.shape_and_room-requires-clause-items
+shape_and_room-requires-clause-items c =
     ap (map run_shape) c.deref.ensures.value ∙ laid_shapes (set_contents c.args.set) c.args.size c.in_ok-table.table c.in_ok-table.runs.items c.in_ok-table.presence c.in_ok-table.ensures.laid
 
-pub shape_over-requires-clause-small_presence : goal.shape_over-requires-clause-small_presence
-shape_over-requires-clause-small_presence c =
+pub shape_and_room-requires-clause-small_presence : goal.shape_and_room-requires-clause-small_presence
+shape_and_room-requires-clause-small_presence c =
     laid_small_presence (set_contents c.args.set) c.args.size c.in_ok-table.table c.in_ok-table.runs.items c.in_ok-table.presence c.in_ok-table.ensures.laid c.requires.limits c.requires.spelled
 
-pub shape_over-requires-clause-presence : goal.shape_over-requires-clause-presence
-shape_over-requires-clause-presence c =
+pub shape_and_room-requires-clause-presence : goal.shape_and_room-requires-clause-presence
+shape_and_room-requires-clause-presence c =
     laid_presence (set_contents c.args.set) c.args.size c.in_ok-table.table c.in_ok-table.runs.items c.in_ok-table.presence c.in_ok-table.ensures.laid
 
 pub invariant_of-result : goal.invariant_of-result
@@ -39,9 +42,11 @@ invariant_of-result c =
       limits = c.requires.limits;
       shape = c.in_ok-shape.ensures.shape;
       usable = c.in_ok-shape.ensures.usable;
-      room = c.in_ok-said.ensures;
+      room = c.in_ok-shape.ensures.room;
       over = laid.over;
       runs = laid.runs_too;
+      rests = c.in_ok-table.ensures.rests;
+      told = λ framed. absurd (not_framed framed);
       presence = laid.presence_too;
       digits = have_digits (set_contents c.args.set).items c.requires.spelled.items;
       size = laid.fresh.size_too ∙ sym (ap length c.in_ok-memory.ensures ∙ length-replicate c.args.size 0);

@@ -5,22 +5,22 @@ use Rattle.ra_memref.specs.Names.{cell_name, tracked_name}
 use Rattle.ra_set.specs.Contents.{set_contents}
 use Rattle.ra_words.specs.Words.{AreWords}
 use Rattle.ra_progress.specs.declared.shape.ItemShape.{ItemShape}
-use Rattle.ra_progress.specs.declared.shape.PresenceShape.{PresenceShape}
 use Rattle.ra_progress.specs.Contents.{ShapeContents, shape_contents, ItemsFit}
-use Rattle.ra_progress.specs.Layout.{item_length, script_length}
+use Rattle.ra_progress.specs.Layout.{item_length}
 use Rattle.ra_progress.specs.Spelling.{progress_bytes, body_bytes, item_bytes, presence_block, named_blocks}
 use Rattle.ra_progress.specs.Writing.{front_bytes}
 use Rattle.ra_progress.proofs.Written.{body_in_parts}
 use Rattle.ra_runtime.specs.declared.item_run.ItemRun.{ItemRun}
 use Rattle.ra_runtime.specs.Order.{set_cells, set_tracked, shape_of}
 use Rattle.ra_runtime.specs.AllRuns.{opening_by}
-use Rattle.ra_runtime.specs.ItemRuns.{kept_run}
-use Rattle.ra_runtime.specs.PresenceRuns.{optional_presence_kept}
+use Rattle.ra_runtime.specs.Rests.{AreFitting, seen_by}
 use Rattle.ra_runtime.specs.Runtime.{RuntimeSeen}
 use Rattle.ra_runtime.specs.Shapes.{run_shape}
 use Rattle.ra_runtime.specs.Saving.{IsSaved}
 use Rattle.ra_runtime.proofs.ShapeLemmas.{runs_shaped, presence_shaped}
-use Rattle.ra_runtime.proofs.SaveLemmas.{opening_taken, short_parts}
+use Rattle.ra_runtime.proofs.RunsLemmas.{length_runs}
+use Rattle.ra_runtime.proofs.SaveLemmas.{opening_taken, seen_many, short_parts}
+use Rattle.ra_runtime.proofs.SeenItems.{rests_fit}
 use Rattle.ra_runtime.proofs.runtime.Runtime.save.Goals as goal
 
 pub begin-requires-clause-cells : goal.begin-requires-clause-cells
@@ -50,6 +50,19 @@ put_runs-requires-clause-short c =
     subst (λ (ss : List ItemShape). sum_by item_length ss ≤ 8388608) (sym (ap (map run_shape) c.deref-2.ensures.value ∙ shaped))
     (short_parts (shape_contents c.self.inside.shape) inv.usable.searchable.paired inv.usable.short).0
 
+pub put_runs-requires-clause-many : goal.put_runs-requires-clause-many
+put_runs-requires-clause-many c =
+    let t = c.self.inside in
+    let inv = c.self.invariant in
+    inv.rests.many ∙ sym (length_runs t.table.nodes (set_contents t.set).items t.runs.items inv.runs) ∙ sym (ap length c.deref-2.ensures.value)
+
+pub put_runs-requires-clause-fit : goal.put_runs-requires-clause-fit
+put_runs-requires-clause-fit c =
+    let t = c.self.inside in
+    let inv = c.self.invariant in
+    subst (λ (runs : List ItemRun). AreFitting runs t.rests.each.items t.rests.clock) (sym c.deref-2.ensures.value)
+    (rests_fit t.table.nodes t.table.values (set_contents t.set).items t.runs.items t.rests inv.runs inv.rests)
+
 pub put_display-requires : goal.put_display-requires
 put_display-requires c =
     let inv = c.self.invariant in
@@ -63,9 +76,10 @@ returns-clause-bytes c =
     let set = set_contents c.self.inside.set in
     let shape = shape_contents c.self.inside.shape in
     let runs = c.self.inside.runs.items in
-    let o = opening_by c.self.inside.count c.self.inside.table runs c.self.inside.presence in
+    let rests = c.self.inside.rests in
+    let o = opening_by c.self.inside.count c.self.inside.table (seen_by runs rests) c.self.inside.presence in
     let shaped = runs_shaped c.self.inside.table.nodes set.items runs inv.runs ∙ sym (ap (λ (s : ShapeContents). s.items) inv.shape) in
-    let many : length shape.item_names ≡ length o.items = inv.usable.searchable.paired.items ∙ sym (ap length shaped) ∙ length-map runs run_shape ∙ sym (length-map runs kept_run) in
+    let many : length shape.item_names ≡ length o.items = inv.usable.searchable.paired.items ∙ sym (ap length shaped) ∙ length-map runs run_shape ∙ sym (seen_many rests.clock runs rests.each.items (inv.rests.many ∙ sym (length_runs c.self.inside.table.nodes set.items runs inv.runs))) in
     let front : c.in_ok-bytes.bytes.items ≡ front_bytes shape o.frames o.cells o.priors = rw (c.cells-cells.ensures, c.priors-priors.ensures) at c.in_ok-bytes.ensures.bytes in
     let items = named_blocks shape.item_names (map item_bytes o.items) in
     let display = named_blocks (option_to_list shape.presence_name) (presence_block o.presence) in
@@ -86,7 +100,8 @@ returns-clause-saved c =
     subst (λ (s : ShapeContents). AreWords (length s.cells) table.cells) inv.shape (rw c.cells-cells.ensures at c.in_ok-bytes.ensures.cells) in
     let priors : AreWords (length (shape_of set).priors) table.priors =
     subst (λ (s : ShapeContents). AreWords (length s.priors) table.priors) inv.shape (rw c.priors-priors.ensures at c.in_ok-bytes.ensures.priors) in
-    let fit = subst (λ (rs : List ItemRun). ItemsFit (map run_shape rs) (map kept_run rs)) c.deref-2.ensures.value c.in_ok-put_runs.ensures.fit in
-    let opening = opening_taken set table runs c.self.inside.presence inv.runs inv.presence c.self.inside.count small cells priors fit c.in_ok-put_display.ensures.fits in
+    let kept = seen_by runs c.self.inside.rests in
+    let fit = subst (λ (rs : List ItemRun). ItemsFit (map run_shape rs) (seen_by rs c.self.inside.rests)) c.deref-2.ensures.value c.in_ok-put_runs.ensures.fit in
+    let opening = opening_taken set table runs kept c.self.inside.presence inv.runs inv.presence c.self.inside.count small cells priors fit c.in_ok-put_display.ensures.fits in
     subst (λ (r : RuntimeSeen). c.close.new.bytes.items ≡ progress_bytes (shape_of r.set) r.kept → IsSaved r.set c.close.new.bytes.items) c.self.view_is
-    (λ is. record { kept = opening_by c.self.inside.count table runs c.self.inside.presence; opening = opening; is = is }) (returns-clause-bytes c)
+    (λ is. record { kept = opening_by c.self.inside.count table kept c.self.inside.presence; opening = opening; is = is }) (returns-clause-bytes c)

@@ -1,4 +1,4 @@
-use Rattle.std.proofs.Common.{◌≡◌, ◌<◌, None, Option, List, length, map, slice_index_or, refl, sym, ◌∙◌, ap, subst, arith}
+use Rattle.std.proofs.Common.{◌≡◌, ◌<◌, true, false, None, Option, List, length, map, slice_index_or, refl, sym, ◌∙◌, ap, subst, arith}
 use Rattle.std.specs.Vec.{with_items}
 use Rattle.std.proofs.lemmas.List.{with_items_is, length-map}
 use Rattle.ra_indirect.specs.declared.node.Node.{Node}
@@ -14,14 +14,21 @@ use Rattle.ra_runtime.specs.declared.item_run.ItemRun.{ItemRun}
 use Rattle.ra_runtime.specs.Order.{shape_of}
 use Rattle.ra_runtime.specs.AllRuns.{AreItemRuns, opening_by}
 use Rattle.ra_runtime.specs.PresenceRuns.{IsOptionalPresence}
-use Rattle.ra_runtime.specs.Restoring.{HasDisplay, TakesNumbers}
+use Rattle.ra_runtime.specs.Restoring.{HasDisplay, TakesNumbers, restored_items}
 use Rattle.ra_runtime.specs.Runtime.{RuntimeSeen}
 use Rattle.ra_runtime.specs.Shapes.{run_shape}
 use Rattle.ra_runtime.proofs.RestoredRuns.{items_have, display_has}
 use Rattle.ra_runtime.proofs.ShapeLemmas.{runs_shaped, presence_shaped}
 use Rattle.ra_runtime.proofs.Snapshots.{script_has_lines}
 use Rattle.ra_runtime.proofs.TakenUp.{over_restored, marked_restored, kept_restored}
+use Rattle.ra_runtime.specs.ItemRuns.{kept_run}
+use Rattle.ra_runtime.specs.Rests.{AreRests, seen_by}
+use Rattle.ra_runtime.proofs.RunsLemmas.{length_runs}
+use Rattle.ra_runtime.proofs.SeenItems.{rests_earned}
 use Rattle.ra_runtime.proofs.runtime.Runtime.take_up.Goals as goal
+
+not_framed : false ≡ true → ⊥
+not_framed same = cc
 
 pub read-requires-clause-accepted : goal.read-requires-clause-accepted
 read-requires-clause-accepted c =
@@ -93,6 +100,9 @@ invariant_of-self c =
       room = c.read.ensures.room;
       over = over_restored set t.table table inv.over c.args.bytes.now said room takes;
       runs = subst (λ (rs : List ItemRun). AreItemRuns table.nodes set.items rs) (sym same) (subst (λ (ns : List Node). AreItemRuns ns set.items news) (sym takes.pool.0) after);
+      rests = subst (λ (ns : List Node). AreRests ns table.values set.items (with_items t.runs news).items c.forget.new.self) (sym takes.pool.0)
+          (c.forget.ensures.each t.table.nodes t.table.values table.values set.items t.runs.items (with_items t.runs news).items inv.rests);
+      told = λ framed. absurd (not_framed framed);
       presence = subst (λ (ns : List Node). IsOptionalPresence ns set.script c.put_back_presence.new.run) (sym takes.pool.0) (c.put_back_presence.ensures.run t.table.nodes set.script inv.presence);
       digits = inv.digits;
       size = takes.pool.1 ∙ inv.size;
@@ -115,11 +125,13 @@ returns c =
     let same : (with_items t.runs news).items ≡ news = with_items_is t.runs news (c.put_back_runs.auto.runs ∙ c.deref_mut.ensures.len) in
     let kept = rw (c.deref_mut.ensures.value, c.deref-3.ensures.value) at c.put_back_runs.ensures.kept in
     let many : c.len.result ≡ length t.runs.items = omega (arith, c.len.ensures, c.put_back_runs.auto.runs, c.deref_mut.ensures.len) in
+    let long : length (with_items t.runs news).items ≡ length t.rests.each.items = omega (arith, ap length same, c.put_back_runs.auto.runs, c.deref_mut.ensures.len, length_runs t.table.nodes set.items t.runs.items inv.runs, inv.rests.many) in
+    let seen : seen_by (with_items t.runs news).items c.forget.new.self ≡ restored_items bytes t.runs.items said.places.items = c.forget.ensures.kept (with_items t.runs news).items long ∙ ap (map kept_run) same ∙ kept in
     let place : c.place-display.result ≡ slice_index_or said.places.items (length t.runs.items) None = c.place-display.ensures ∙ ap (λ n. slice_index_or said.places.items n None) many in
     rw (← c.self.view_is) (record {
       set = refl;
       image = refl;
-      kept = (λ i. opening_by c.frames_at-self-inside.result table (same i) display) ∙ kept_restored set t.table table inv.over bytes said room takes says t.runs.items news t.presence display inv.runs inv.presence kept c.place-display.result place c.put_back_presence.ensures c.frames_at-self-inside.result c.frames_at-self-inside.ensures;
+      kept = kept_restored set t.table table inv.over bytes said room takes says t.runs.items (seen_by t.runs.items t.rests) (seen_by (with_items t.runs news).items c.forget.new.self) t.presence display inv.runs inv.presence (rests_earned t.table.nodes t.table.values set.items t.runs.items t.rests inv.runs inv.rests) seen c.place-display.result place c.put_back_presence.ensures c.frames_at-self-inside.result c.frames_at-self-inside.ensures;
       events = refl;
       lines = refl;
       marked = marked_restored set t.table table inv.over bytes said room takes;

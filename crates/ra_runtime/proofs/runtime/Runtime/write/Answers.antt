@@ -1,4 +1,4 @@
-use Rattle.std.proofs.Common.{◌≡◌, ◌∙◌, ◌+◌, ◌≤◌, ap, sym, subst, refl, length, List, arith, Ok, Err, Result}
+use Rattle.std.proofs.Common.{◌≡◌, ℕ, ◌∙◌, ◌+◌, ◌≤◌, ap, sym, subst, refl, length, List, arith, Ok, Err, Result}
 use Rattle.std.specs.Result.{OnOk, IsErr}
 use Rattle.ra_indirect.specs.declared.node.Node.{Node}
 use Rattle.ra_indirect.specs.Pools.{cells_of, tracked_of}
@@ -8,6 +8,7 @@ use Rattle.ra_memref.proofs.AgreeLemmas.{DifferWithin-written}
 use Rattle.ra_set.specs.Contents.{set_contents}
 use Rattle.ra_runtime.specs.Runtime.{RuntimeSeen}
 use Rattle.ra_runtime.specs.AllRuns.{AreItemRuns}
+use Rattle.ra_runtime.specs.Rests.{AreRests}
 use Rattle.ra_runtime.specs.PresenceRuns.{IsOptionalPresence}
 use Rattle.ra_runtime.proofs.runtime.Runtime.write.Goals as goal
 
@@ -40,6 +41,10 @@ invariant_of-self c =
         priors_many = ap (λ (t : TableSeen). length t.priors) told.rest ∙ inv.over.priors_many;
       };
       runs = subst (λ (ns : List Node). AreItemRuns ns set.items c.self.inside.runs.items) (sym (ap (λ (t : TableSeen). t.nodes) told.rest)) inv.runs;
+      rests =
+          subst (λ (ns : List Node). AreRests ns c.write-2.new.self.values set.items c.self.inside.runs.items c.self.inside.rests) (sym (ap (λ (t : TableSeen). t.nodes) told.rest))
+          (subst (λ (vs : List ℕ). AreRests c.self.inside.table.nodes vs set.items c.self.inside.runs.items c.self.inside.rests) (sym (ap (λ (t : TableSeen). t.values) told.rest)) inv.rests);
+      told = inv.told;
       presence = subst (λ (ns : List Node). IsOptionalPresence ns set.script c.self.inside.presence) (sym (ap (λ (t : TableSeen). t.nodes) told.rest)) inv.presence;
       digits = inv.digits;
       size = ap (λ (t : TableSeen). t.size) told.rest ∙ inv.size ∙ sym differ.size;
