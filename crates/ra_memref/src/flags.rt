@@ -88,14 +88,16 @@ fn next_by_blocks(flags: &[bool], blocks: &mut [bool], from: usize) -> Option<us
     ensures blocked { AreBlocked flags.now blocks.new }
 {
     let mut at = from;
-    while at < flags.len() {
-        let end = block_end(at, flags.len());
-        if blocks[at / BLOCK] {
-            if let Some(place) = next_in(flags, at, end) {
-                return Some(place);
-            }
-            blocks[at / BLOCK] = at > at / BLOCK * BLOCK;
+    while let Some(block) = next_in(blocks, at / BLOCK, flags.len() / BLOCK + 1) {
+        at = at.max(block * BLOCK);
+        if at >= flags.len() {
+            return None;
         }
+        let end = block_end(at, flags.len());
+        if let Some(place) = next_in(flags, at, end) {
+            return Some(place);
+        }
+        blocks[block] = at > block * BLOCK;
         at = end;
     }
     None
@@ -116,14 +118,49 @@ fn block_end(at: usize, len: usize) -> usize
 
 // The first flag from a place on, and before another one, that is set.
 fn next_in(flags: &[bool], from: usize, to: usize) -> Option<usize>
-    requires { to ≤ length flags.now }
+    requires few { from < 2 ^ 63 }
+    requires within { to ≤ length flags.now }
     ensures first { IfSome result (λ n. IsFirstSet flags.now from n) }
+    ensures within { IfSome result (λ n. n < to) }
     ensures none { result ≡ None → NoneSet flags.now from to }
 {
-    for at in from..to {
+    for at in past_clear(flags, from, to)..to {
         if flags[at] {
             return Some(at);
         }
     }
     None
+}
+
+// A place up to which none is set. Eight flags are looked at together, and then four.
+fn past_clear(flags: &[bool], from: usize, to: usize) -> usize
+    requires few { from < 2 ^ 63 }
+    requires within { to ≤ length flags.now }
+    ensures after { from ≤ result }
+    ensures none { NoneSet flags.now from result }
+{
+    let mut at = from;
+    while at + 8 <= to && none_of_eight(&flags[at..at + 8]) {
+        at += 8;
+    }
+    if at + 4 <= to && none_of_four(&flags[at..at + 4]) {
+        at += 4;
+    }
+    at
+}
+
+// Whether none of eight flags is set.
+fn none_of_eight(eight: &[bool]) -> bool
+    requires { length eight.now ≡ 8 }
+    ensures { result ≡ true → NoneSet eight.now 0 8 }
+{
+    !(eight[0] | eight[1] | eight[2] | eight[3] | eight[4] | eight[5] | eight[6] | eight[7])
+}
+
+// Whether none of four flags is set.
+fn none_of_four(four: &[bool]) -> bool
+    requires { length four.now ≡ 4 }
+    ensures { result ≡ true → NoneSet four.now 0 4 }
+{
+    !(four[0] | four[1] | four[2] | four[3])
 }
