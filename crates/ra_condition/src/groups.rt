@@ -1,6 +1,6 @@
 //! Groups and triggers: docs/DEFINITIONS.md, "Conditions" and "Triggers".
 
-ghost use Rattle.std.specs.Prelude.{◌≡◌};
+ghost use Rattle.std.specs.Prelude.{◌≡◌, ◌++◌, ◌∷◌, [], IfErr, OnOk};
 ghost use Rattle.ra_condition.specs.Fault.{GivesUnlessFull};
 ghost use Rattle.ra_condition.specs.Contents.{group_contents, trigger_contents};
 ghost use Rattle.ra_condition.specs.Reading.{conditions_at, group_at, trigger_at};
@@ -52,7 +52,20 @@ pub fn take_trigger(alloc: Global, cursor: &mut Cursor<'_>) -> Result<TriggerTex
     let core = take_group(alloc, cursor)?;
     let mut alts = Vec::new(alloc);
     'alts: while cursor.skip_letter(b'S') {
-        alts.push(take_group(alloc, cursor)?)?;
+        push_alt(&mut alts, take_group(alloc, cursor)?)?;
     }
     Ok(TriggerText { core, alts })
+}
+
+// Puts an alt group behind others. The first gets room for itself alone, so that a set of many
+// triggers of one empty alt group stays small.
+fn push_alt(alts: &mut Vec<Group>, alt: Group) -> Result<(), Fault>
+    ensures put { OnOk result (alts.new.items ≡ alts.old.items ++ alt ∷ []) }
+    ensures err { IfErr result (λ fault. fault ≡ Fault.Memory) }
+{
+    if alts.is_empty() {
+        alts.reserve_exact(1)?;
+    }
+    alts.push(alt)?;
+    Ok(())
 }

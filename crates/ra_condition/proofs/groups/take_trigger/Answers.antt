@@ -27,6 +27,6 @@ alts-smaller c = let passed = c.alts-test.ensures.passed refl in
 
 pub alts-preserved : goal.alts-preserved
 alts-preserved c = let passed = c.alts-test.ensures.passed refl in
-    let items : c.push.new.self.items ≡ c.alts.alts.items ++ c.in_ok-take_group.field-0 ∷ [] = cc (c.in_ok-push.ensures.items) in
+    let items : c.push_alt.new.alts.items ≡ c.alts.alts.items ++ c.in_ok-take_group.field-0 ∷ [] = cc (c.in_ok-push_alt.ensures.put) in
     rw (items, map-append) (joined-next (only_letters (codes "S")) group_at group-shorter (group_contents c.in_ok-core.core ∷ map group_contents c.alts.alts.items) passed.byte passed.v c.skip_letter.new.self.rest.now c.alts.cursor.rest.now _ (group_contents c.in_ok-take_group.field-0)
     c.take_group-in-alts.new.cursor.rest.now passed.listed passed.is c.in_ok-take_group.ensures c.alts.invariant)
