@@ -13,7 +13,8 @@ use std::alloc::Global;
 pub fn take_ranges(alloc: Global, cursor: &mut Cursor<'_>) -> Result<Vec<(u32, u32)>, Fault>
     ensures { GivesUnlessFull (λ ranges. ranges.items) result cursor.new.rest.now (ranges_at cursor.old.rest.now) }
 {
-    let mut ranges = Vec::new(alloc);
+    // Most lines have one range.
+    let mut ranges = Vec::with_capacity(alloc, 1)?;
     ranges.push(take_range(cursor)?)?;
     'others: while cursor.skip(b',') {
         ranges.push(take_range(cursor)?)?;

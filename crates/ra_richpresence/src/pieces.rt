@@ -19,7 +19,8 @@ use std::alloc::Global;
 pub fn read_pieces(alloc: Global, cursor: &mut Cursor<'_>) -> Result<Vec<Piece>, Fault>
     ensures { SpellsUnlessFull (λ pieces. map piece_contents pieces.items) result (pieces_of cursor.old.rest.now) }
 {
-    let mut pieces = Vec::new(alloc);
+    // Most lines are one text.
+    let mut pieces = Vec::with_capacity(alloc, 1)?;
     while !cursor.rest.is_empty() {
         if cursor.is_at(b'@') {
             pieces.push(take_macro(alloc, cursor)?)?;

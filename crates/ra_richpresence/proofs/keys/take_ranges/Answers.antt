@@ -8,13 +8,13 @@ use Rattle.ra_richpresence.proofs.keys.take_ranges.Goals as goal
 
 pub returns-in_err-take_range : goal.returns-in_err-take_range
 unfolding ranges_at
-returns-in_err-take_range c = let p = err_from_is_err_and c.from_residual.result c.from_residual.ensures.1 in
+returns-in_err-take_range c = let p = err_from_is_err_and c.from_residual-in_err-take_range.result c.from_residual-in_err-take_range.ensures.1 in
     rw (p.1, p.2) (joined-none (only (codes ",")) range_at c.args.cursor.now.rest.now c.take_range.new.cursor.rest.now c.in_err-take_range.ensures)
 
 pub others-init : goal.others-init
 unfolding ranges_at
 others-init c =
-    let items : c.push.new.self.items ≡ c.in_ok-take_range.field-0 ∷ [] = cc (c.in_ok-push.ensures.items, c.new-ranges.ensures.items) in
+    let items : c.push.new.self.items ≡ c.in_ok-take_range.field-0 ∷ [] = cc (c.in_ok-push.ensures.items, c.in_ok-ranges.ensures.items) in
     rw items (joined-starts (only (codes ",")) range_at c.args.cursor.now.rest.now c.in_ok-take_range.field-0 c.take_range.new.cursor.rest.now c.in_ok-take_range.ensures)
 
 pub others-smaller : goal.others-smaller

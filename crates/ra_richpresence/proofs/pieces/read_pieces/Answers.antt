@@ -5,7 +5,7 @@ use Rattle.ra_richpresence.proofs.Turns.{pieces-start, macro-turn, macro-smaller
 use Rattle.ra_richpresence.proofs.pieces.read_pieces.Goals as goal
 
 pub loop-alloc-init : goal.loop-alloc-init
-loop-alloc-init c = rw c.new-pieces.ensures.items (pieces-start c.args.cursor.now.rest.now)
+loop-alloc-init c = rw c.in_ok-pieces.ensures.items (pieces-start c.args.cursor.now.rest.now)
 
 pub loop-alloc-smaller-in_ok-push : goal.loop-alloc-smaller-in_ok-push
 loop-alloc-smaller-in_ok-push c = macro-smaller c.loop-alloc.cursor.rest.now (piece_contents c.in_ok-take_macro.field-0) c.take_macro.new.cursor.rest.now (sym c.if-is_at.ensures) c.in_ok-take_macro.ensures
