@@ -1,4 +1,4 @@
-ghost use Rattle.std.specs.Prelude.{◌≡◌, ◌+◌, ◌*◌, ◌≤◌, ◌^◌, [], true, length, map};
+ghost use Rattle.std.specs.Prelude.{◌≡◌, ◌+◌, ◌*◌, ◌≤◌, ◌^◌, ◌++◌, ◌∷◌, [], true, length, map};
 ghost use Rattle.std.specs.Result.{OnOk};
 ghost use Rattle.ra_condition.specs.Contents.{trigger_contents, trigger_hits, value_contents};
 ghost use Rattle.ra_condition.specs.Spelled.{IsTrigger, IsValue};
@@ -48,7 +48,7 @@ impl Member {
         ensures { OnOk result (AddsTest pool.old pool.new (trigger_contents text.now) self.old self.new) }
     {
         let run = TriggerRun::new(alloc, text, pool)?;
-        self.tests.push(run)?;
+        push_alone(&mut self.tests, run)?;
         Ok(())
     }
 
@@ -64,7 +64,7 @@ impl Member {
         ensures { OnOk result (AddsValue pool.old pool.new (value_contents text.now) self.old self.new) }
     {
         let run = ValueRun::new(alloc, text, pool)?;
-        self.values.push(run)?;
+        push_alone(&mut self.values, run)?;
         Ok(())
     }
 
@@ -108,6 +108,18 @@ impl Member {
         clear_each(&mut self.tests);
         reset_each(&mut self.values);
     }
+}
+
+// Puts one behind others. The first gets room for itself alone, since most lines of a display have
+// one test and one value.
+fn push_alone<T: Drop>(row: &mut Vec<T>, last: T) -> Result<(), OutOfMemory>
+    ensures { OnOk result (row.new.items ≡ row.old.items ++ last ∷ []) }
+{
+    if row.is_empty() {
+        row.reserve_exact(1)?;
+    }
+    row.push(last)?;
+    Ok(())
 }
 
 // Each test comes to its start.
