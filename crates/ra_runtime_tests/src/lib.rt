@@ -18,4 +18,6 @@ mod played;
 #[cfg(test)]
 mod progress;
 #[cfg(test)]
+mod rests;
+#[cfg(test)]
 mod steps;
