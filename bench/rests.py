@@ -113,8 +113,12 @@ class SetDrawing:
         head = flag + ":" if flag else ""
         if flag and flag in "ABIK":
             return head + self.source(flag)
-        if in_value and flag in ("M", "G") and self.often(0.5):
-            return head + self.operand()
+        if in_value and flag in ("M", "G"):
+            k = self.r.random()
+            if k < 0.35:
+                return head + self.operand()
+            if k < 0.7:
+                return head + self.comparison()
         target = self.r.choice(TARGETS)
         return head + self.comparison() + (f".{target}." if target else "")
 
@@ -140,7 +144,7 @@ class SetDrawing:
         if self.often(0.35):
             factors = ["", "", "*2", "*v-1", "*" + self.operand()]
             return "_".join(self.operand() + self.r.choice(factors) for _ in range(self.r.choice([1, 1, 2, 3])))
-        chains = [self.chain(self.r.choice("PRMMGQ"), True) for _ in range(self.r.choice([0, 0, 1, 2]))]
+        chains = [self.chain(self.r.choice("PRMMMGGQ"), True) for _ in range(self.r.choice([0, 1, 1, 2]))]
         chains.append(self.chain(self.r.choice("MMMG"), True))
         return "_".join(condition for chain in chains for condition in chain)
 
@@ -148,9 +152,13 @@ class SetDrawing:
         return "$".join(self.part() for _ in range(self.r.choice([1, 1, 1, 2, 3])))
 
     def board(self):
+        """A leaderboard that often starts, and whose attempts often run for long."""
         fields = [f"{tag}:{self.trigger(0.6)}" for tag in ("STA", "CAN", "SUB")]
+        if self.often(0.6):
+            often_written = self.memory("", ("H", self.r.choice(self.pointers)))
+            fields[0] = f"STA:{often_written}{self.r.choice(COMPARISONS)}{self.r.choice(SMALL)}"
         for place in (1, 2):
-            if self.often(0.3):
+            if self.often(0.6):
                 fields[place] = fields[place][:4] + "0=1"
         fields.append("VAL:" + self.value())
         if self.often(0.4):
@@ -161,7 +169,7 @@ class SetDrawing:
         count = self.r.choice([1, 1, 2, 3, 5, 8, 13, 20])
         lines = []
         for number in range(1, count + 1):
-            if self.often(0.7):
+            if self.often(0.6):
                 lines.append(f"A {number} {self.trigger()}")
             else:
                 lines.append(f"L {number} {self.r.choice(FORMATS)} {self.board()}")
