@@ -76,6 +76,9 @@ impl Flags {
         ensures none { result ≡ None → NoneSet self.old from (length self.old) }
         ensures same { self.new ≡ self.old }
     {
+        if from < self.flags.len() && self.flags[from] {
+            return Some(from);
+        }
         next_by_blocks(&self.flags, &mut self.blocks, from)
     }
 }
