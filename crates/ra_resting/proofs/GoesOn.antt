@@ -10,10 +10,10 @@ use Rattle.ra_value.specs.Steps.{ValueKept, step as value_step}
 use Rattle.ra_memory.specs.Image.{History}
 use Rattle.ra_memref.specs.Values.{Start}
 use Rattle.ra_rest.specs.Groups.{paid}
-use Rattle.ra_member.specs.Frames.{truths_at, lefts_at, sum_at, test_next, test_holds, value_next}
-use Rattle.ra_member.specs.Members.{MemberContents, MemberKept, HasShape, tests_next, tests_hold, values_next, member_next}
-use Rattle.ra_resting.specs.Inputs.{Instant, SeeSame, TestsSeeSame, ValueSeesSame, ValuesSeeSame, MemberSeesSame}
-use Rattle.ra_resting.specs.Owing.{AreSmall, AreTestsSmall, AreValuesSmall, TestsKeep, ValueKeeps, ValuesKeep, owed_tests, owed_values, owed_member}
+use Rattle.ra_member.specs.Frames.{truths_at, lefts_at, sum_at, test_next, value_next}
+use Rattle.ra_member.specs.Members.{MemberContents, MemberKept, HasShape, tests_next, tests_hold, values_next}
+use Rattle.ra_resting.specs.Inputs.{Instant, TestsSeeSame, ValuesSeeSame}
+use Rattle.ra_resting.specs.Owing.{AreTestsSmall, AreValuesSmall, TestsKeep, ValuesKeep, owed_tests, owed_values, owed_member}
 use Rattle.ra_rest.specs.Values.{owed_value}
 use Rattle.ra_rest.proofs.Owed.{length-paid, owed, owed_none, paid_at}
 use Rattle.ra_resting.proofs.OneOn.{test_goes_on, test_says_on, test_owes_nothing, value_goes_on, value_owes_nothing}

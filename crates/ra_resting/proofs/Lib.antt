@@ -3,3 +3,9 @@ pub mod OneOn
 pub mod Reading
 pub mod SeesSame
 pub mod SideBySideRows
+pub mod AtMost
+pub mod Below
+pub mod Turns
+pub mod Woken
+pub mod Kept
+pub mod OwedRows

@@ -1,5 +1,5 @@
 -- One test or value that rests, by what it keeps after the frame at which the rest began.
-use Rattle.std.proofs.Common.{◌≡◌, ℕ, ◌+◌, Bool, true, List, length, map, sym, ◌∙◌, ap, subst}
+use Rattle.std.proofs.Common.{◌≡◌, ℕ, ◌+◌, Bool, true, List, length, map, sym, subst}
 use Rattle.ra_condition.specs.Contents.{TriggerContents, groups_of, trigger_hits, PartContents, counted_in, value_hits}
 use Rattle.ra_group.specs.declared.form.Form.TheVariants.{InTrigger, InValue}
 use Rattle.ra_trigger.specs.Steps.{TriggerKept, step as achievement_step, hits_after_truth, truth}

@@ -1,20 +1,17 @@
 -- Where the nodes that a member reads keep their values, its tests and values see the same.
-use Rattle.std.proofs.Common.{◌≡◌, ℕ, zero, suc, ◌+◌, ◌<◌, Option, None, Some, List, [], ◌∷◌, ◌++◌, length, map, get_or, slice_index, refl, sym, ◌∙◌, ap, ap₂, subst, arith, length-append}
-use Rattle.std.specs.List.{flat_map, filter_map}
+use Rattle.std.proofs.Common.{◌≡◌, ℕ, suc, ◌+◌, Option, None, Some, List, [], ◌∷◌, ◌++◌, length, map, slice_index, refl, sym, ◌∙◌, ap, ap₂, subst, arith, length-append}
+use Rattle.std.specs.List.{flat_map}
 use Rattle.std.proofs.lemmas.List.{get_or_append_left, get_or-append-add}
 use Rattle.ra_condition.specs.declared.condition.Condition.{Condition}
 use Rattle.ra_condition.specs.Contents.{TriggerContents, groups_of, PartContents, counted_in}
-use Rattle.ra_memory.specs.Image.{History}
 use Rattle.ra_indirect.specs.declared.node.Node.{Node}
 use Rattle.ra_indirect.specs.Pools.{spelled_by}
-use Rattle.ra_memref.specs.Values.{Start}
 use Rattle.ra_memref.specs.Table.{spelled_value}
 use Rattle.ra_member.specs.declared.laid.Laid.{Laid}
 use Rattle.ra_member.specs.declared.member.Member.{Member}
 use Rattle.ra_member.specs.declared.trigger_run.TriggerRun.{TriggerRun}
 use Rattle.ra_member.specs.declared.value_run.ValueRun.{ValueRun}
 use Rattle.ra_member.specs.Beside.{AreBeside}
-use Rattle.ra_member.specs.Frames.{sum_at}
 use Rattle.ra_member.specs.Members.{MemberContents}
 use Rattle.ra_member.specs.MemberRuns.{IsMember}
 use Rattle.ra_member.specs.Readings.{numbers_at, truths_by, sum_by_node}

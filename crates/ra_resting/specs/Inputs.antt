@@ -1,5 +1,5 @@
 -- What tests and values see at the last frame of a history, and when they see the same at another: docs/DEFINITIONS.md, "Members at rest".
-use Rattle.std.specs.Prelude.{◌≡◌, Bool, List, [], ◌∷◌, map}
+use Rattle.std.specs.Prelude.{◌≡◌, List, [], ◌∷◌, map}
 use Rattle.ra_condition.specs.declared.condition.Condition.{Condition}
 use Rattle.ra_condition.specs.Contents.{TriggerContents, groups_of, PartContents, counted_in}
 use Rattle.ra_memory.specs.Image.{History}

@@ -2,3 +2,4 @@ pub mod Before
 pub mod Inputs
 pub mod Owing
 pub mod Reads
+pub mod Waking

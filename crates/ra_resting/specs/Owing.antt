@@ -1,5 +1,5 @@
 -- What members keep that owe hits, and when they rest: docs/DEFINITIONS.md, "Members at rest".
-use Rattle.std.specs.Prelude.{◌≡◌, ℕ, ◌≤◌, min, Bool, true, List, [], ◌∷◌, map, zip, slice_index}
+use Rattle.std.specs.Prelude.{◌≡◌, ℕ, ◌≤◌, min, true, List, [], ◌∷◌, map, zip, slice_index}
 use Rattle.std.specs.List.{AllByRecursion}
 use Rattle.ra_condition.specs.Contents.{TriggerContents, groups_of, PartContents, counted_in}
 use Rattle.ra_group.specs.declared.form.Form.TheVariants.{InTrigger, InValue}

@@ -1,10 +1,9 @@
 -- The nodes that tests and values read: docs/DEFINITIONS.md, "Members at rest".
-use Rattle.std.specs.Prelude.{◌≡◌, ℕ, ◌<◌, Option, None, Some, List, [], ◌∷◌, ◌++◌, length, slice_index}
+use Rattle.std.specs.Prelude.{◌≡◌, ℕ, ◌<◌, Option, List, ◌++◌, length, slice_index}
 use Rattle.std.specs.List.{flat_map, filter_map}
 use Rattle.ra_readers.specs.Readers.{ReadersSeen, Reads}
 use Rattle.ra_member.specs.declared.laid.Laid.{Laid}
 use Rattle.ra_member.specs.declared.member.Member.{Member}
-use Rattle.ra_member.specs.declared.trigger_run.TriggerRun.{TriggerRun}
 use Rattle.ra_member.specs.declared.value_run.ValueRun.{ValueRun}
 
 -- the nodes that some groups read, left and right

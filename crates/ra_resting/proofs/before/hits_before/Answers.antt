@@ -1,9 +1,8 @@
-use Rattle.std.proofs.Common.{◌≡◌, ◌++◌, [], List, map, sym, ◌∙◌, ap, ap₂}
+use Rattle.std.proofs.Common.{◌≡◌, ◌++◌, List, map, sym, ◌∙◌, ap, ap₂}
 use Rattle.std.specs.List.{concat, flat_map}
 use Rattle.std.proofs.lemmas.List.Concat.{concat_is}
 use Rattle.std.proofs.lemmas.List.Folds.{concat-append, flat_map-map}
 use Rattle.ra_value.specs.Steps.{ValueKept}
-use Rattle.ra_member.specs.Members.{saved_hits}
 use Rattle.ra_resting.specs.Before.{kept_before, value_before}
 use Rattle.ra_resting.specs.declared.before.ValueBefore.{ValueBefore}
 use Rattle.ra_resting.proofs.before.hits_before.Goals as goal

@@ -1,0 +1,24 @@
+//! Readers that are woken at a frame.
+
+ghost use Rattle.std.specs.Prelude.{◌≡◌, ◌<◌, ℕ, length, slice_index};
+ghost use Rattle.ra_resting.specs.Waking.{IsWoken};
+
+use ra_memref::Table;
+use ra_readers::Readers;
+
+/// Makes due who reads a node that changed at the table's last sample. Where many did, or the count of frames is at its
+/// end, all are due. No memory is taken.
+pub fn wake(readers: &mut Readers, clock: u64, table: &Table)
+    requires rows { length readers.old.rows ≡ length table.now.nodes }
+    requires nodes { (k : ℕ) → k < length table.now.changed → slice_index table.now.changed k < length table.now.nodes }
+    ensures { IsWoken clock table.now.changed readers.old readers.new }
+{
+    let changed = table.changed();
+    if clock == u64::MAX {
+        readers.wake_all();
+    } else if changed.len() > readers.nodes() / 4 {
+        readers.wake_all();
+    } else {
+        readers.wake(changed);
+    }
+}
