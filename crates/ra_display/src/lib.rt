@@ -1,0 +1,20 @@
+//! The display of a set: its lines, the one that is shown, and the presence line.
+#![tactic(auto)]
+
+mod counted;
+mod line_keeps;
+mod line_rests;
+mod line_run;
+mod presence_run;
+mod restored_presence;
+mod saved_presence;
+mod shape;
+mod shown;
+
+pub use counted::counted_presence;
+pub use line_rests::{LineRest, LineRests};
+pub use presence_run::{PresenceRun, new_presence, rest_lines, step_presence};
+pub use restored_presence::put_back_presence;
+pub use saved_presence::put_display;
+pub use shape::presence_shape;
+pub use shown::shown_line;

@@ -1,0 +1,190 @@
+//! The lines of a display, of which those that rest are not stepped: docs/DEFINITIONS.md, "Lines at rest".
+
+ghost use Rattle.std.specs.Prelude.{◌≡◌, ◌≤◌, ◌<◌, ◌^◌, ℕ, true, List, length, map, IfOk, IfSome};
+ghost use Rattle.ra_indirect.specs.declared.node.Node.{Node};
+ghost use Rattle.ra_richpresence.specs.Contents.{LineContents, line_contents};
+ghost use Rattle.ra_member.specs.MemberRuns.{StaysMember, kept_by};
+ghost use Rattle.ra_resting.specs.Before.{HaveOneShape, kept_before};
+ghost use Rattle.ra_resting.specs.Waking.{IsSomeFrame};
+ghost use Rattle.ra_display.specs.Presence.{first_true};
+ghost use Rattle.ra_display.specs.PresenceRuns.{AreLineRuns, IsLineRun};
+ghost use Rattle.ra_display.specs.LineRests.{AreLineRests, AreLinesSeen, HasLinePlace, HasLineRoom, IsLineSteppedAt, StepsNoted, WereLineRests, AreLinesForgotten, line_since, seen_line, seen_lines};
+
+use crate::line_keeps::line_keeps;
+use crate::line_run::step_line;
+use ra_member::Member;
+use ra_memref::{Flags, Table};
+use ra_readers::Readers;
+use ra_resting::{Before, note_member, owed, pay_member, wake};
+use ra_richpresence::Line;
+use ra_text::OutOfMemory;
+use std::alloc::Global;
+
+/// What a line kept before its last step, and since which count of frames it rests, if it does.
+#[derive(Drop)]
+pub struct LineRest {
+    pub before: Before,
+    pub since: Option<u64>,
+}
+
+/// What each line owes, who reads which node and who is due, and which lines hold.
+#[derive(Drop)]
+pub struct LineRests {
+    pub each: Vec<LineRest>,
+    pub readers: Readers,
+    /// Whether each line held at its last step.
+    pub holds: Flags,
+    /// A count of frames that only goes on.
+    pub clock: u64,
+}
+
+impl LineRests {
+    // No line rests, and each is due. Memory is the only refusal.
+    pub(crate) fn new(
+        alloc: Global,
+        runs: &[Member],
+        lines: &[Line],
+        table: &Table,
+        nodes: usize,
+    ) -> Result<LineRests, OutOfMemory>
+        requires runs { AreLineRuns table.now.nodes (map line_contents lines.now) runs.now }
+        requires nodes { length table.now.nodes ≡ nodes }
+        requires few { length lines.now < 2 ^ 32 }
+        ensures rests { IfOk result (λ rests. (values : List ℕ) → AreLineRests table.now.nodes values (map line_contents lines.now) runs.now rests) }
+        ensures kept { IfOk result (λ rests. seen_lines rests.clock runs.now rests.each.items ≡ map kept_by runs.now) }
+    {
+        let mut each = Vec::new(alloc);
+        let mut readers = Readers::new(alloc, nodes, lines.len())?;
+        for (place, run) in runs.iter().enumerate() {
+            let before = Before::new(alloc, run)?;
+            each.push(LineRest {
+                before,
+                since: None,
+            })?;
+            note_member(&mut readers, run, place as u32)?;
+        }
+        let holds = Flags::new(alloc, lines.len())?;
+        Ok(LineRests {
+            each,
+            readers,
+            holds,
+            clock: 0,
+        })
+    }
+
+    // Nothing beside no lines. Memory is the only refusal.
+    pub(crate) fn none(alloc: Global) -> Result<LineRests, OutOfMemory> {
+        let readers = Readers::new(alloc, 0, 0)?;
+        let holds = Flags::new(alloc, 0)?;
+        Ok(LineRests {
+            each: Vec::new(alloc),
+            readers,
+            holds,
+            clock: 0,
+        })
+    }
+
+    // Steps each line that is due or reads a node that changed, by the frame of the table's last sample.
+    pub(crate) fn step(&mut self, runs: &mut [Member], lines: &[Line], table: &Table)
+        requires runs { AreLineRuns table.now.nodes (map line_contents lines.now) runs.old }
+        requires rests { WereLineRests table.now (map line_contents lines.now) runs.old self.old }
+        requires frame { IsSomeFrame table.now }
+        requires sampled { table.now.sampled ≡ true }
+        requires few { length lines.now < 2 ^ 32 }
+        ensures runs { AreLineRuns table.now.nodes (map line_contents lines.now) runs.new }
+        ensures rests { AreLineRests table.now.nodes table.now.values (map line_contents lines.now) runs.new self.new }
+        ensures stepped { AreLinesSeen table.now (map line_contents lines.now) (seen_lines self.old.clock runs.old self.old.each.items) (seen_lines self.new.clock runs.new self.new.each.items) self.new.holds }
+    {
+        wake(&mut self.readers, self.clock, table);
+        let now = self.clock.saturating_add(1);
+        let mut at = 0;
+        while let Some(place) = self.readers.next_due(at) {
+            self.step_at(runs, lines, table, place, now);
+            at = place + 1;
+        }
+        self.clock = now;
+    }
+
+    // Steps the line at a place, which rests from the next count of frames on where it rested at this one.
+    fn step_at(
+        &mut self,
+        runs: &mut [Member],
+        lines: &[Line],
+        table: &Table,
+        place: usize,
+        next: u64,
+    )
+        requires here { place < length lines.now }
+        requires runs { AreLineRuns table.now.nodes (map line_contents lines.now) runs.old }
+        requires place { HasLinePlace (map line_contents lines.now) self.old place }
+        requires sampled { table.now.sampled ≡ true }
+        ensures { IsLineSteppedAt table.now (map line_contents lines.now) place next runs.old runs.new self.old self.new }
+    {
+        let run = &mut runs[place];
+        let rest = &mut self.each[place];
+        let line = &lines[place];
+        let holds = step_noted(run, rest, line, table, self.clock);
+        let rests = line_keeps(line, &rest.before, run);
+        rest.since = if rests { Some(next) } else { None };
+        self.holds.put(place, holds);
+        self.readers.put(place, !rests);
+    }
+
+    // The place of the first line that holds; as many as there are where none does.
+    pub(crate) fn first(&mut self) -> usize
+        requires { length self.old.holds ≡ length self.old.each.items }
+        ensures first { result ≡ first_true self.old.holds }
+        ensures same { self.new ≡ self.old }
+    {
+        match self.holds.next_from(0) {
+            Some(place) => place,
+            None => self.each.len(),
+        }
+    }
+
+    /// No line rests any longer, and each is due. What they owe is given up.
+    pub fn forget(&mut self)
+        ensures each { (nodes : List Node) (values later : List ℕ) (lines : List LineContents) (before runs : List Member)
+            → AreLineRests nodes values lines before self.old → AreLineRests nodes later lines runs self.new }
+        ensures kept { (runs : List Member) → length runs ≡ length self.old.each.items → seen_lines self.new.clock runs self.new.each.items ≡ map kept_by runs }
+    {
+        forget_each(&mut self.each);
+        self.readers.wake_all();
+    }
+}
+
+// Steps a line with what it owes at a count of frames paid, notes what it kept before, and says whether it holds.
+fn step_noted(run: &mut Member, rest: &mut LineRest, line: &Line, table: &Table, clock: u64) -> bool
+    requires run { IsLineRun table.now.nodes (line_contents line.now) run.old }
+    requires room { HasLineRoom (line_contents line.now) rest.old.before }
+    requires since { IfSome rest.old.since (λ since. since ≤ clock) }
+    requires sampled { table.now.sampled ≡ true }
+    ensures run { IsLineRun table.now.nodes (line_contents line.now) run.new }
+    ensures room { HasLineRoom (line_contents line.now) rest.new.before }
+    ensures steps { StepsNoted table.now (line_contents line.now) (seen_line clock run.old rest.old) rest.new.before run.new result }
+{
+    pay_since(run, &rest.before, rest.since, clock);
+    rest.before.note(run);
+    step_line(run, line, table)
+}
+
+// Pays what a line owes at a count of frames, where it rests since one of them.
+fn pay_since(run: &mut Member, before: &Before, since: Option<u64>, clock: u64)
+    requires room { HaveOneShape (kept_before before.now) (kept_by run.old) }
+    requires since { IfSome since (λ since. since ≤ clock) }
+    ensures stays { StaysMember run.old run.new }
+    ensures kept { kept_by run.new ≡ line_since clock run.old before.now since }
+{
+    if let Some(since) = since {
+        pay_member(run, before, owed(since, clock));
+    }
+}
+
+// None of these rests any longer.
+fn forget_each(rests: &mut [LineRest])
+    ensures { AreLinesForgotten rests.old rests.new }
+{
+    for place in 0..rests.len() {
+        rests[place].since = None;
+    }
+}

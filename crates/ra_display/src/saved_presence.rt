@@ -1,0 +1,136 @@
+//! What a display keeps, written as a progress file keeps it.
+
+ghost use Rattle.std.specs.Prelude.{◌≡◌, ◌++◌, ◌∷◌, [], ◌≤◌, option_to_list, IfSome, OnOk};
+ghost use Rattle.std.specs.List.{flat_map};
+ghost use Rattle.ra_progress.specs.Contents.{OfPresence};
+ghost use Rattle.ra_progress.specs.Layout.{block_length, script_length};
+ghost use Rattle.ra_progress.specs.Spelling.{presence_block, presence_bytes, named_blocks};
+ghost use Rattle.ra_member.specs.Members.{saved_hits, saved_numbers};
+ghost use Rattle.ra_member.specs.MemberRuns.{PutsBehind, kept_by};
+ghost use Rattle.ra_resting.specs.Before.{HaveOneShape, kept_before};
+ghost use Rattle.ra_resting.specs.Owing.{owed_member};
+ghost use Rattle.ra_display.specs.LineRests.{AreLinesFitting, AreOptionalFitting, optional_presence_seen, presence_seen, seen_line, seen_lines};
+ghost use Rattle.ra_display.specs.PresenceShapes.{optional_run_shape, presence_run_shape};
+ghost use Rattle.ra_display.specs.SavedPresence.{FitOptional, FitPresence};
+
+use crate::line_rests::{LineRest, LineRests};
+use crate::presence_run::PresenceRun;
+use ra_member::Member;
+use ra_progress::put_presence;
+use ra_rest::pay;
+use ra_resting::{Before, hits_before, owed};
+use ra_text::OutOfMemory;
+use std::alloc::Global;
+
+/// Writes what is kept of the display behind other bytes, with its name, if there is one, and what its lines owe with it.
+pub fn put_display(
+    alloc: Global,
+    bytes: &mut Vec<u8>,
+    name: &Option<[u8; 16]>,
+    run: &Option<PresenceRun>,
+    rests: &LineRests,
+) -> Result<(), OutOfMemory>
+    requires fit { AreOptionalFitting run.now rests.now }
+    requires short { script_length (optional_run_shape run.now) ≤ 8388608 }
+    ensures bytes { OnOk result (bytes.new.items
+        ≡ bytes.old.items ++ named_blocks (option_to_list name.now) (presence_block (optional_presence_seen run.now rests.now))) }
+    ensures fits { OnOk result (FitOptional (optional_presence_seen run.now rests.now)) }
+{
+    match run {
+        Some(run) => put_display_run(alloc, bytes, name, run, rests),
+        None => Ok(()),
+    }
+}
+
+// Writes what is kept of a display behind other bytes, where there is a name of it: the shown line, and then hits and
+// numbers line by line.
+fn put_display_run(
+    alloc: Global,
+    bytes: &mut Vec<u8>,
+    name: &Option<[u8; 16]>,
+    run: &PresenceRun,
+    rests: &LineRests,
+) -> Result<(), OutOfMemory>
+    requires fit { AreLinesFitting run.now.lines.items rests.now.each.items rests.now.clock }
+    requires short { block_length (OfPresence (presence_run_shape run.now)) ≤ 8388608 }
+    ensures bytes { OnOk result (bytes.new.items
+        ≡ bytes.old.items ++ named_blocks (option_to_list name.now) (presence_bytes (presence_seen run.now rests.now) ∷ [])) }
+    ensures fits { OnOk result (FitPresence (presence_seen run.now rests.now)) }
+{
+    let mut hits = Vec::new(alloc);
+    let mut numbers = Vec::new(alloc);
+    put_lines(alloc, &mut hits, &mut numbers, &run.lines, rests)?;
+    match name {
+        Some(name) => put_presence(bytes, name, run.shown, &hits, &numbers),
+        None => Ok(()),
+    }
+}
+
+// Puts what is kept of lines behind other hits and other numbers, line by line, and what they owe with it.
+fn put_lines(
+    alloc: Global,
+    hits: &mut Vec<u32>,
+    numbers: &mut Vec<u32>,
+    lines: &[Member],
+    rests: &LineRests,
+) -> Result<(), OutOfMemory>
+    requires fit { AreLinesFitting lines.now rests.now.each.items rests.now.clock }
+    ensures hits { OnOk result (PutsBehind hits.old.items hits.new.items (flat_map saved_hits (seen_lines rests.now.clock lines.now rests.now.each.items))) }
+    ensures numbers { OnOk result
+        (PutsBehind numbers.old.items numbers.new.items (flat_map saved_numbers (seen_lines rests.now.clock lines.now rests.now.each.items))) }
+{
+    for place in 0..lines.len() {
+        put_line(
+            alloc,
+            hits,
+            numbers,
+            &lines[place],
+            &rests.each[place],
+            rests.clock,
+        )?;
+    }
+    Ok(())
+}
+
+// Puts what is kept of a line behind other hits and other numbers, and what it owes at a count of frames with it.
+fn put_line(
+    alloc: Global,
+    hits: &mut Vec<u32>,
+    numbers: &mut Vec<u32>,
+    line: &Member,
+    rest: &LineRest,
+    clock: u64,
+) -> Result<(), OutOfMemory>
+    requires fits { HaveOneShape (kept_before rest.now.before) (kept_by line.now) }
+    requires since { IfSome rest.now.since (λ since. since ≤ clock) }
+    ensures hits { OnOk result (PutsBehind hits.old.items hits.new.items (saved_hits (seen_line clock line.now rest.now))) }
+    ensures numbers { OnOk result
+        (PutsBehind numbers.old.items numbers.new.items (saved_numbers (seen_line clock line.now rest.now))) }
+{
+    match rest.since {
+        Some(since) => put_owed(alloc, hits, numbers, line, &rest.before, owed(since, clock)),
+        None => line.save(hits, numbers),
+    }
+}
+
+// Puts what is kept of a line that owes hits for so many frames behind other hits and other numbers.
+fn put_owed(
+    alloc: Global,
+    hits: &mut Vec<u32>,
+    numbers: &mut Vec<u32>,
+    line: &Member,
+    before: &Before,
+    frames: u32,
+) -> Result<(), OutOfMemory>
+    requires fits { HaveOneShape (kept_before before.now) (kept_by line.now) }
+    ensures hits { OnOk result (PutsBehind hits.old.items hits.new.items (saved_hits (owed_member frames (kept_before before.now) (kept_by line.now)))) }
+    ensures numbers { OnOk result
+        (PutsBehind numbers.old.items numbers.new.items (saved_numbers (owed_member frames (kept_before before.now) (kept_by line.now)))) }
+{
+    let mut own = Vec::new(alloc);
+    line.save(&mut own, numbers)?;
+    let row = hits_before(alloc, before)?;
+    pay(&mut own, &row, frames);
+    hits.extend_from_slice(&own)?;
+    Ok(())
+}
