@@ -1,0 +1,15 @@
+pub mod Counts
+pub mod DisplayRows
+pub mod KeptLines
+pub mod LineAt
+pub mod LineSteps
+pub mod LinesRest
+pub mod NewLines
+pub mod NewRests
+pub mod PresenceCuts
+pub mod RestoredPresence
+pub mod SavedLines
+pub mod SeenLines
+pub mod ShownLines
+pub mod ShownWords
+pub mod SteppedLines
