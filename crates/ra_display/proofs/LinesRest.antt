@@ -1,0 +1,106 @@
+-- A line that rested at a frame goes on to rest while it sees the same.
+use Rattle.std.proofs.Common.{◌≡◌, ℕ, ◌+◌, ◌-◌, ◌≤◌, Bool, List, [], ◌∷◌, slice_index, sym, ◌∙◌, ap, subst, arith}
+use Rattle.ra_memory.specs.Image.{History}
+use Rattle.ra_memref.specs.Table.{TableSeen}
+use Rattle.ra_memref.specs.Values.{Start}
+use Rattle.ra_readers.specs.Readers.{ReadersSeen, Reads}
+use Rattle.ra_richpresence.specs.Contents.{LineContents}
+use Rattle.ra_member.specs.declared.member.Member.{Member}
+use Rattle.ra_member.specs.Members.{MemberContents, MemberKept, member_next, tests_hold, tests_next, values_next}
+use Rattle.ra_member.specs.MemberRuns.{kept_by}
+use Rattle.ra_resting.specs.declared.before.Before.{Before}
+use Rattle.ra_resting.specs.Before.{kept_before}
+use Rattle.ra_resting.specs.Inputs.{MemberSeesSame}
+use Rattle.ra_resting.specs.Owing.{AreHitsSmall, owed_member}
+use Rattle.ra_resting.specs.Waking.{AreValuesAt, IsMemberTold, IsSomeFrame, first_frame}
+use Rattle.ra_resting.proofs.GoesOn.{tests_go_on, tests_say_on, values_go_on, tests_owe_nothing, values_owe_nothing}
+use Rattle.ra_resting.proofs.Woken.{member_through}
+use Rattle.ra_display.specs.LineMembers.{line_member}
+use Rattle.ra_display.specs.LineRests.{HasLineRoom, LineGoesOn, LineKeeps, StepsLineSeen, StepsNoted}
+use Rattle.ra_display.specs.Presence.{line_holds}
+
+module _ (table : TableSeen) (line : LineContents) (seen : MemberKept) (b : Before) (new : Member) (holds : Bool) (room : HasLineRoom line b)
+    (steps : StepsNoted table line seen b new holds) (keeps : LineKeeps line (kept_before b) (kept_by new))
+    (start : Start) (image : List ℕ) (has : AreValuesAt table.nodes table.values (first_frame start image)) where
+  abbrev m : MemberContents
+  m = line_member line
+
+  abbrev h : History
+  h = image ∷ []
+
+  abbrev old : MemberKept
+  old = kept_before b
+
+  abbrev now : MemberKept
+  now = kept_by new
+
+  was : kept_by steps.mid ≡ old
+  was = steps.kept ∙ sym steps.noted
+
+  stepped : now ≡ member_next start m h old
+  stepped = steps.steps.kept start h has ∙ ap (member_next start m h) was
+
+  said : holds ≡ line_holds (tests_hold start m.tests h old.tests)
+  said = steps.steps.truth start h has ∙ ap (λ (k : MemberKept). line_holds (tests_hold start m.tests h k.tests)) was
+
+  small : AreHitsSmall old
+  small = subst AreHitsSmall (sym steps.noted) steps.small
+
+  tests_stepped : now.tests ≡ tests_next start m.tests h old.tests
+  tests_stepped = ap (λ (k : MemberKept). k.tests) stepped
+
+  values_stepped : now.values ≡ values_next start m.values h old.values
+  values_stepped = ap (λ (k : MemberKept). k.values) stepped
+
+  -- nothing is owed at once
+  pub line_starts : owed_member 0 old now ≡ now
+  line_starts =
+      let tests = tests_owe_nothing start h m.tests old.tests now.tests room.tests tests_stepped small.tests keeps.tests in
+      let values = values_owe_nothing start h m.values old.values now.values room.hits values_stepped small.values keeps.values in
+      (λ i. record { tests = tests i; values = values i })
+
+  module _ (start' : Start) (image' : List ℕ) (same : MemberSeesSame (first_frame start image) (first_frame start' image') m) (n : ℕ) where
+    kept_later : member_next start' m (image' ∷ []) (owed_member n old now) ≡ owed_member (n + 1) old now
+    kept_later =
+        let tests = tests_go_on (first_frame start image) (first_frame start' image') m.tests old.tests now.tests room.tests same.tests tests_stepped small.tests keeps.tests n in
+        let values = values_go_on (first_frame start image) (first_frame start' image') m.values old.values now.values room.hits same.values values_stepped small.values keeps.values n in
+        (λ i. record { tests = tests i; values = values i })
+
+    holds_later : line_holds (tests_hold start' m.tests (image' ∷ []) (owed_member n old now).tests) ≡ holds
+    holds_later =
+        ap line_holds (tests_say_on (first_frame start image) (first_frame start' image') m.tests old.tests now.tests room.tests same.tests tests_stepped small.tests keeps.tests n) ∙ sym said
+
+  pub line_rests_on : LineGoesOn table.nodes table.values line b new holds
+  line_rests_on = record {
+    now = first_frame start image;
+    at = has;
+    kept = λ start' image' same n. kept_later start' image' same n;
+    truth = λ start' image' same n. holds_later start' image' same n;
+  }
+
+-- a line that goes on to rest by earlier values, where each node that it reads has the same value still
+module _ (table : TableSeen) (values : List ℕ) (line : LineContents) (b : Before) (run : Member) (holds : Bool) (on : LineGoesOn table.nodes values line b run holds)
+    (readers : ReadersSeen) (reader : ℕ) (told : IsMemberTold table.nodes readers (line_member line) reader)
+    (same : (n : ℕ) → Reads readers n reader → slice_index table.values n ≡ slice_index values n) where
+  sees : (start : Start) (image : List ℕ) → AreValuesAt table.nodes table.values (first_frame start image) → MemberSeesSame on.now (first_frame start image) (line_member line)
+  sees start image has = told values table.values on.now (first_frame start image) on.at has same
+
+  pub still_on : IsSomeFrame table → LineGoesOn table.nodes table.values line b run holds
+  still_on frame =
+      let next = first_frame frame.start frame.image in
+      let first = sees frame.start frame.image frame.has in
+      record {
+        now = next;
+        at = frame.has;
+        kept = λ start image seen n. on.kept start image (member_through on.now next (first_frame start image) (line_member line) first seen) n;
+        truth = λ start image seen n. on.truth start image (member_through on.now next (first_frame start image) (line_member line) first seen) n;
+      }
+
+  pub skipped : (clock since : ℕ) → since ≤ clock → StepsLineSeen table line (owed_member (clock - since) (kept_before b) (kept_by run)) (owed_member (clock + 1 - since) (kept_before b) (kept_by run)) holds
+  skipped clock since early =
+      let more : clock + 1 - since ≡ (clock - since) + 1 = omega (arith, early) in
+      record {
+        kept = λ start image has.
+            ap (λ n. owed_member n (kept_before b) (kept_by run)) more ∙ sym (on.kept start image (sees start image has) (clock - since));
+        truth = λ start image has. sym (on.truth start image (sees start image has) (clock - since));
+      }
