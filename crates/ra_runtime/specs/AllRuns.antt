@@ -1,14 +1,12 @@
 -- How all items of a set are kept and stepped, and their events: docs/DEFINITIONS.md, "What a runtime keeps".
 use Rattle.std.specs.Prelude.{◌≡◌, ℕ, Option, List, [], ◌∷◌, ◌++◌, length}
 use Rattle.ra_indirect.specs.Pools.{cells_of, tracked_of}
-use Rattle.ra_progress.specs.Contents.{KeptItem, Opening}
+use Rattle.ra_progress.specs.Contents.{KeptItem, KeptPresence, Opening}
 use Rattle.ra_runtime.specs.Order.{set_cells, set_tracked}
 use Rattle.ra_indirect.specs.declared.node.Node.{Node}
 use Rattle.ra_memref.specs.Table.{TableSeen}
 use Rattle.ra_set.specs.Contents.{ItemContents, SetContents}
 use Rattle.ra_runtime.specs.declared.item_run.ItemRun.{ItemRun}
-use Rattle.ra_runtime.specs.declared.presence_run.PresenceRun.{PresenceRun}
-use Rattle.ra_runtime.specs.PresenceRuns.{optional_presence_kept}
 use Rattle.ra_runtime.specs.ItemRuns.{IsItemRun}
 use Rattle.ra_runtime.specs.declared.event.Event.{Event}
 use Rattle.ra_runtime.specs.RunEvents.{run_events, HasItemDigits}
@@ -29,9 +27,9 @@ abbrev pub HaveDigits : List ItemContents → Type 0
 HaveDigits [] = Unit {0}
 HaveDigits (item ∷ items) = HasItemDigits item × HaveDigits items
 
--- what is kept, from a count, a table, what the items are seen to keep, and the display
-abbrev pub opening_by : ℕ → TableSeen → List KeptItem → Option PresenceRun → Opening
-opening_by count table kept presence = record { frames = count; cells = table.cells; priors = table.priors; items = kept; presence = optional_presence_kept presence }
+-- what is kept, from a count, a table, and what the items and the display are seen to keep
+abbrev pub opening_by : ℕ → TableSeen → List KeptItem → Option KeptPresence → Opening
+opening_by count table kept presence = record { frames = count; cells = table.cells; priors = table.priors; items = kept; presence = presence }
 
 -- the table is over the cells and tracked masks of the set
 pub record IsOver (set : SetContents) (table : TableSeen) : Type 0 where

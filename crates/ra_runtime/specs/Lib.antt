@@ -13,15 +13,12 @@ pub mod ItemRuns
 pub mod ItemStates
 pub mod Left
 pub mod Lines
-pub mod NewPresence
 pub mod Openings
 pub mod OpeningLaws
 pub mod Order
 pub mod Planning
 pub mod Play
-pub mod Presence
 pub mod PresenceLaws
-pub mod PresenceRuns
 pub mod Resting
 pub mod Restoring
 pub mod RunEvents
@@ -31,4 +28,3 @@ pub mod Runtime
 pub mod Saving
 pub mod Seen
 pub mod Shapes
-pub mod Showing

@@ -1,14 +1,11 @@
 -- The printed line of an event: docs/DEFINITIONS.md, "Printed lines".
-use Rattle.std.specs.Prelude.{◌≡◌, ℕ, List, [], ◌∷◌, ◌++◌, codes, decimal}
+use Rattle.std.specs.Prelude.{◌≡◌, ℕ, List, [], ◌∷◌, codes, decimal}
 use Rattle.std.specs.Fmt.{signed_decimal}
-use Rattle.std.specs.List.{join_with_byte, flat_map}
+use Rattle.std.specs.List.{flat_map}
 use Rattle.ra_value_format.specs.Formats.{formatted, HasDigits}
 use Rattle.ra_runtime.specs.declared.event.Event.{Event}
 use Rattle.ra_runtime.specs.declared.event.Event.TheVariants.{Measured, Primed, Unprimed, Unlock, Start, Track, Cancel, Submit}
-
--- words with a blank between each two, and a line feed
-abbrev pub line_of : List (List ℕ) → List ℕ
-line_of words = join_with_byte 32 words ++ 10 ∷ []
+pub use Rattle.ra_display.specs.LineOf.{line_of}
 
 -- the line of an event at the frame of this number
 abbrev pub event_line : (frame : ℕ) → Event → List ℕ

@@ -1,18 +1,17 @@
 -- The cells and tracked masks of a set, and its shape: docs/DEFINITIONS.md, "Order of first occurrence" and "Shape of a set".
-use Rattle.std.specs.Prelude.{Option, None, Some, option_map, List, [], ◌∷◌, ◌++◌, length, map, sum}
+use Rattle.std.specs.Prelude.{Option, None, Some, option_map, List, [], ◌∷◌, ◌++◌, map}
 use Rattle.std.specs.List.{flat_map}
-use Rattle.ra_condition.specs.Contents.{TriggerContents, trigger_hits, PartContents}
+use Rattle.ra_condition.specs.Contents.{trigger_hits, PartContents}
 use Rattle.ra_leaderboard.specs.Contents.{BoardContents}
-use Rattle.ra_richpresence.specs.Contents.{LineContents, ScriptContents, values_in_line}
 use Rattle.ra_set.specs.Contents.{ItemContents, Unlocks, Ranks, SetContents}
 use Rattle.ra_indirect.specs.Trees.{Tree, Cell, Tracked, same_cell, same_tracked, cells_in, tracked_in, firsts}
 use Rattle.ra_chain.specs.Occurrence.{trees_in_trigger}
 use Rattle.ra_progress.specs.declared.shape.ItemShape.{ItemShape}
 use Rattle.ra_progress.specs.declared.shape.ItemShape.TheVariants as shapes
-use Rattle.ra_progress.specs.declared.shape.PresenceShape.{PresenceShape}
 use Rattle.ra_memref.specs.Names.{cell_name, tracked_name}
 use Rattle.ra_progress.specs.Contents.{ShapeContents}
 use Rattle.ra_member.specs.Members.{MemberContents, trees_in_member, member_hits, member_numbers}
+pub use Rattle.ra_display.specs.LineMembers.{tests_in, line_member, script_members, trees_in_line, lines_in, presence_shape}
 
 -- the progress of a board, which is one value or none
 abbrev pub progress_in : Option (List PartContents) → List (List PartContents)
@@ -26,32 +25,10 @@ board_member b = record {
   values = b.value ∷ progress_in b.progress;
 }
 
--- the tests of a line, which are one or none
-abbrev pub tests_in : Option TriggerContents → List TriggerContents
-tests_in None = []
-tests_in (Some test) = test ∷ []
-
 -- the trees of an item; those of a board in the order start, cancel, submit, value, progress
 abbrev pub trees_in_item : ItemContents → List Tree
 trees_in_item (Unlocks id t) = trees_in_trigger t
 trees_in_item (Ranks id format b) = trees_in_member (board_member b)
-
--- the tests and the values of a line
-abbrev pub line_member : LineContents → MemberContents
-line_member line = record { tests = tests_in line.test; values = values_in_line line }
-
--- the tests and the values of each line of a script
-abbrev pub script_members : ScriptContents → List MemberContents
-script_members script = map line_member script.lines
-
--- the trees of a line: those of its test, and then those of its macros
-abbrev pub trees_in_line : LineContents → List Tree
-trees_in_line line = trees_in_member (line_member line)
-
--- the lines of a script that may be missing
-abbrev pub lines_in : Option ScriptContents → List LineContents
-lines_in None = []
-lines_in (Some script) = script.lines
 
 -- the trees of a set: those of its items in set order, and then those of its script line by line
 abbrev pub trees_in_set : SetContents → List Tree
@@ -69,14 +46,6 @@ set_tracked set = firsts same_tracked (flat_map tracked_in (trees_in_set set))
 abbrev pub item_shape : ItemContents → ItemShape
 item_shape (Unlocks id t) = shapes.Achievement (trigger_hits t)
 item_shape (Ranks id format b) = shapes.Leaderboard (member_hits (board_member b)) (member_numbers (board_member b))
-
--- how many lines, hits and numbers a script keeps
-abbrev pub presence_shape : ScriptContents → PresenceShape
-presence_shape script = record {
-  lines = length script.lines;
-  hits = sum (map member_hits (script_members script));
-  parts = sum (map member_numbers (script_members script));
-}
 
 -- the shape of the progress of a set: names of cells, tracked masks, items and script, and how many numbers these keep
 abbrev pub shape_of : SetContents → ShapeContents

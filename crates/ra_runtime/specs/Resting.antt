@@ -1,10 +1,9 @@
 -- What items kept before a frame, what they owe while they rest, and when they do: docs/DEFINITIONS.md, "Items at rest".
-use Rattle.std.specs.Prelude.{◌≡◌, ℕ, ◌+◌, ◌-◌, ◌<◌, ◌≤◌, Bool, true, false, Option, None, Some, List, [], ◌∷◌, length, map, slice_index}
+use Rattle.std.specs.Prelude.{◌≡◌, ℕ, ◌+◌, ◌-◌, true, Option, None, Some, List, [], ◌∷◌, length, slice_index}
 use Rattle.ra_condition.specs.Contents.{TriggerContents, groups_of, trigger_hits}
 use Rattle.ra_group.specs.declared.form.Form.TheVariants.{InTrigger}
 use Rattle.ra_indirect.specs.declared.node.Node.{Node}
-use Rattle.ra_indirect.specs.Pools.{spelled_by}
-use Rattle.ra_memref.specs.Table.{TableSeen, spelled_value}
+use Rattle.ra_memref.specs.Table.{TableSeen}
 use Rattle.ra_memref.specs.Values.{Start}
 use Rattle.ra_leaderboard.specs.Contents.{BoardContents}
 use Rattle.ra_leaderboard.specs.States.{is_running}
@@ -37,6 +36,7 @@ use Rattle.ra_runtime.specs.Order.{board_member}
 use Rattle.ra_runtime.specs.Earned.{is_earned}
 use Rattle.ra_runtime.specs.Play.{item_events, unless_earned}
 use Rattle.ra_runtime.specs.RunEvents.{run_events}
+pub use Rattle.ra_resting.specs.Waking.{AreValuesAt, first_frame}
 
 -- what an achievement kept before a frame
 abbrev pub trigger_before : TriggerBefore → TriggerKept
@@ -104,14 +104,6 @@ ItemRests _ _ _ = ⊥
 abbrev pub ItemSeesSame : (now later : Instant) → ItemContents → Type 0
 ItemSeesSame now later (Unlocks id t) = SeeSame now later (groups_of t)
 ItemSeesSame now later (Ranks id format b) = MemberSeesSame now later (board_member b)
-
--- the first frame behind a start
-abbrev pub first_frame : Start → (image : List ℕ) → Instant
-first_frame start image = record { start = start; history = image ∷ [] }
-
--- these are the values of the nodes at an instant
-abbrev pub AreValuesAt : List Node → List ℕ → Instant → Type 0
-AreValuesAt nodes values now = values ≡ map (spelled_value now.start now.history) (spelled_by nodes)
 
 -- a reader is told of all that an item sees: where the nodes that it reads keep their values, the item sees the same
 abbrev pub IsToldOf : List Node → ReadersSeen → ItemContents → (reader : ℕ) → Type 0

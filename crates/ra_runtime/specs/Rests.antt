@@ -11,11 +11,9 @@ use Rattle.ra_runtime.specs.declared.rest.Rest.{Rest}
 use Rattle.ra_runtime.specs.declared.rests.Rests.{Rests}
 use Rattle.ra_runtime.specs.AllRuns.{all_events}
 use Rattle.ra_runtime.specs.ItemRuns.{IsItemRun}
-use Rattle.ra_runtime.specs.Resting.{AreValuesAt, FitsRun, GoesOn, HasRoom, IsToldOf, ItemRests, StepsRest, StepsSeen, first_frame, seen_run, seen_runs}
+use Rattle.ra_runtime.specs.Resting.{FitsRun, GoesOn, HasRoom, IsToldOf, ItemRests, StepsRest, StepsSeen, seen_run, seen_runs}
 use Rattle.ra_runtime.specs.RunEvents.{run_events}
-use Rattle.ra_resting.specs.Inputs.{Instant}
-use Rattle.ra_memref.specs.Values.{Start}
-use Rattle.ra_readers.specs.Readers.{ReadersSeen, Reads}
+pub use Rattle.ra_resting.specs.Waking.{IsSomeFrame, IsWoken}
 
 -- the events of an item that may be missing
 abbrev pub maybe_events : Option ItemContents → Option ItemRun → List Event
@@ -75,23 +73,10 @@ pub record WereRests (table : TableSeen) (items : List ItemContents) (runs : Lis
   pub each : (n : ℕ) → n < length table.nodes → slice_index values n ≢ slice_index table.values n → IsListed n table.changed
   pub nodes : (k : ℕ) → k < length table.changed → slice_index table.changed k < length table.nodes
 
--- the values of a table are those of some frame
-pub record IsSomeFrame (table : TableSeen) : Type 0 where
-  pub start : Start
-  pub image : List ℕ
-  pub has : AreValuesAt table.nodes table.values (first_frame start image)
-
 -- the places below one that are due, in order
 abbrev pub due_below : List Bool → ℕ → List ℕ
 due_below due zero = []
 due_below due (suc k) = due_below due k ++ (if slice_index_or due k true then k ∷ [] else [])
-
--- what is still not due was not, the count of frames is not at its end, and none of these nodes is read
-pub record IsWoken (clock : ℕ) (nodes : List ℕ) (old new : ReadersSeen) : Type 0 where
-  pub rows : new.rows ≡ old.rows
-  pub long : length new.due ≡ length old.due
-  pub kept : (r : ℕ) → slice_index_or new.due r true ≡ false → (slice_index_or old.due r true ≡ false) × (clock < 18446744073709551615)
-  pub woken : (r n : ℕ) → slice_index_or new.due r true ≡ false → IsListed n nodes → Reads old n r → ⊥
 
 -- there is room beside the item at a place, which rests since no later count, and in the row of those that were stepped
 pub record HasPlace (items : List ItemContents) (rests : Rests) (place : ℕ) : Type 0 where

@@ -13,7 +13,8 @@ use Rattle.ra_runtime.specs.Runtime.{RuntimeSeen}
 use Rattle.ra_runtime.specs.AllRuns.{AreItemRuns, HaveDigits, IsOver, all_events, opening_by}
 use Rattle.ra_runtime.specs.declared.event.Event.{Event}
 use Rattle.ra_runtime.specs.Lines.{event_lines}
-use Rattle.ra_runtime.specs.PresenceRuns.{IsOptionalPresence}
+use Rattle.ra_display.specs.LineRests.{AreOptionalRests, optional_presence_seen}
+use Rattle.ra_display.specs.PresenceRuns.{IsOptionalPresence}
 use Rattle.ra_runtime.specs.Rests.{AreRests, AreTold, seen_by}
 
 -- the events of the last frame; none where no frame came
@@ -25,7 +26,7 @@ abbrev pub runtime_seen : Inside → RuntimeSeen
 runtime_seen t = record {
   set = set_contents t.set;
   image = t.memory;
-  kept = opening_by t.count t.table (seen_by t.runs.items t.rests) t.presence;
+  kept = opening_by t.count t.table (seen_by t.runs.items t.rests) (optional_presence_seen t.presence t.line_rests);
   events = last_events t;
   lines = event_lines t.frame (last_events t);
   marked = t.table.marked;
@@ -44,6 +45,7 @@ pub record IsRuntime (t : Inside) : Type 0 where
   pub rests : AreRests t.table.nodes t.table.values (set_contents t.set).items t.runs.items t.rests
   pub told : t.framed ≡ true → AreTold (set_contents t.set).items t.runs.items t.rests
   pub presence : IsOptionalPresence t.table.nodes (set_contents t.set).script t.presence
+  pub lines : AreOptionalRests t.table.nodes t.table.values (set_contents t.set).script t.presence t.line_rests
   pub digits : HaveDigits (set_contents t.set).items
   pub size : t.table.size ≡ length t.memory
   pub agrees : Agrees t.table t.memory

@@ -1,15 +1,14 @@
 -- How many numbers runs keep, and a table that is laid out for a set: docs/DEFINITIONS.md, "Shape of a set".
-use Rattle.std.specs.Prelude.{◌≡◌, ℕ, ◌<◌, ◌≤◌, ◌^◌, Option, None, Some, option_map, List, length, map}
+use Rattle.std.specs.Prelude.{◌≡◌, ℕ, ◌<◌, ◌≤◌, ◌^◌, Option, option_map, List, length, map}
 use Rattle.ra_memref.specs.Table.{TableSeen, IsFresh}
 use Rattle.ra_set.specs.Contents.{SetContents}
 use Rattle.ra_progress.specs.declared.shape.ItemShape.{ItemShape}
 use Rattle.ra_progress.specs.declared.shape.ItemShape.TheVariants as shapes
-use Rattle.ra_progress.specs.declared.shape.PresenceShape.{PresenceShape}
 use Rattle.ra_member.specs.Members.{saved_hits, saved_numbers}
 use Rattle.ra_member.specs.MemberRuns.{kept_by}
 use Rattle.ra_runtime.specs.declared.board_run.BoardRun.{BoardRun}
 use Rattle.ra_runtime.specs.declared.item_run.ItemRun.{ItemRun}
-use Rattle.ra_runtime.specs.declared.presence_run.PresenceRun.{PresenceRun}
+use Rattle.ra_display.specs.declared.presence_run.PresenceRun.{PresenceRun}
 use Rattle.ra_runtime.specs.declared.item_run.ItemRun.TheVariants.{Achievement, Leaderboard}
 use Rattle.ra_memref.specs.declared.names.Names.{Names}
 use Rattle.ra_memref.specs.Names.{cell_name, tracked_name}
@@ -17,7 +16,8 @@ use Rattle.ra_runtime.specs.Order.{set_cells, set_tracked, item_shape, presence_
 use Rattle.ra_progress.specs.Contents.{plain_item, plain_presence}
 use Rattle.ra_runtime.specs.ItemRuns.{kept_run}
 use Rattle.ra_runtime.specs.AllRuns.{AreItemRuns, IsOver}
-use Rattle.ra_runtime.specs.PresenceRuns.{IsOptionalPresence, presence_kept, optional_presence_kept}
+use Rattle.ra_display.specs.PresenceRuns.{IsOptionalPresence, optional_presence_kept}
+pub use Rattle.ra_display.specs.PresenceShapes.{presence_run_shape, optional_run_shape, IsSmallPresence}
 
 -- the shape of a board, by the numbers that its run keeps
 abbrev pub board_run_shape : BoardRun → ItemShape
@@ -28,23 +28,6 @@ board_run_shape run =
 abbrev pub run_shape : ItemRun → ItemShape
 run_shape (Achievement run) = shapes.Achievement (length run.run.trigger.hits)
 run_shape (Leaderboard run) = board_run_shape run
-
--- the shape of a display, by the numbers that its run keeps
-abbrev pub presence_run_shape : PresenceRun → PresenceShape
-presence_run_shape run = record {
-  lines = length run.lines.items;
-  hits = length (presence_kept run).hits;
-  parts = length (presence_kept run).numbers;
-}
-
--- the shape of a display that may be missing, by the numbers that its run keeps
-abbrev pub optional_run_shape : Option PresenceRun → Option PresenceShape
-optional_run_shape run = option_map presence_run_shape run
-
--- the counts of a display that may be missing are within the limits of a set
-abbrev pub IsSmallPresence : Option PresenceShape → Type 0
-IsSmallPresence None = Unit {0}
-IsSmallPresence (Some shape) = (shape.lines < 2 ^ 32) × (shape.hits ≤ 65536) × (shape.parts ≤ 65536)
 
 -- an item of this shape is within the limits of a set
 abbrev pub IsSmall : ItemShape → Type 0

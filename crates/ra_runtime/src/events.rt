@@ -1,4 +1,4 @@
-ghost use Rattle.std.specs.Prelude.{◌≡◌, length, map};
+ghost use Rattle.std.specs.Prelude.{◌≡◌, map};
 ghost use Rattle.ra_set.specs.Contents.{item_contents};
 ghost use Rattle.ra_runtime.specs.Rests.{events_of};
 

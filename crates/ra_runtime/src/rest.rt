@@ -1,10 +1,9 @@
 //! What an item kept before a frame, and whether it rests: docs/DEFINITIONS.md, "Items at rest".
 
-ghost use Rattle.std.specs.Prelude.{◌≡◌, ◌≤◌, ◌<◌, ℕ, true, None, List, length, slice_index, IfOk, IfSome};
+ghost use Rattle.std.specs.Prelude.{◌≡◌, ◌≤◌, ◌<◌, ℕ, true, None, length, slice_index, IfOk, IfSome};
 ghost use Rattle.std.specs.Result.{OnOk};
 ghost use Rattle.ra_resting.specs.Reads.{IsAllRead};
 ghost use Rattle.ra_condition.specs.Contents.{trigger_contents, trigger_hits};
-ghost use Rattle.ra_indirect.specs.declared.node.Node.{Node};
 ghost use Rattle.ra_set.specs.Contents.{item_contents};
 ghost use Rattle.ra_leaderboard.specs.Contents.{board_contents};
 ghost use Rattle.ra_member.specs.Members.{HasShape};

@@ -1,16 +1,17 @@
 //! All items of a set, of which those that rest are not stepped: docs/DEFINITIONS.md, "Items at rest".
 
-ghost use Rattle.std.specs.Prelude.{◌≡◌, ◌≤◌, ◌<◌, ◌^◌, ◌+◌, ℕ, true, None, List, take, slice_index, length, map, IfOk};
+ghost use Rattle.std.specs.Prelude.{◌≡◌, ◌≤◌, ◌<◌, ◌^◌, ◌+◌, ℕ, true, None, List, take, length, map, IfOk};
 ghost use Rattle.ra_indirect.specs.declared.node.Node.{Node};
 ghost use Rattle.ra_set.specs.Contents.{ItemContents, item_contents};
 ghost use Rattle.ra_runtime.specs.AllRuns.{AreItemRuns};
 ghost use Rattle.ra_runtime.specs.ItemRuns.{kept_run};
-ghost use Rattle.ra_runtime.specs.Rests.{AreForgotten, AreRests, AreTold, AreSteppedSeen, HasPlace, IsSomeFrame, IsSteppedAt, IsWoken, WereRests, seen_by};
+ghost use Rattle.ra_runtime.specs.Rests.{AreForgotten, AreRests, AreTold, AreSteppedSeen, HasPlace, IsSomeFrame, IsSteppedAt, WereRests, seen_by};
 
 use crate::item_run::ItemRun;
 use crate::rest::{ItemBefore, Rest, note_reads, step_rest};
 use ra_memref::Table;
 use ra_readers::Readers;
+use ra_resting::wake;
 use ra_set::Item;
 use ra_text::OutOfMemory;
 use std::alloc::Global;
@@ -135,21 +136,5 @@ fn forget_each(rests: &mut [Rest])
 {
     for place in 0..rests.len() {
         rests[place].since = None;
-    }
-}
-
-// Makes due who reads a node that changed. Where many did, or the count of frames is at its end, all are due.
-fn wake(readers: &mut Readers, clock: u64, table: &Table)
-    requires rows { length readers.old.rows ≡ length table.now.nodes }
-    requires nodes { (k : ℕ) → k < length table.now.changed → slice_index table.now.changed k < length table.now.nodes }
-    ensures { IsWoken clock table.now.changed readers.old readers.new }
-{
-    let changed = table.changed();
-    if clock == u64::MAX {
-        readers.wake_all();
-    } else if changed.len() > readers.nodes() / 4 {
-        readers.wake_all();
-    } else {
-        readers.wake(changed);
     }
 }

@@ -15,15 +15,15 @@ ghost use Rattle.ra_set.specs.Spelled.{IsSpelled};
 use crate::events::Events;
 use crate::item_run::ItemRun;
 use crate::item_state::ItemState;
-use crate::presence_run::{PresenceRun, step_presence};
 use crate::restored::{put_back_runs, take_numbers};
-use crate::restored_presence::put_back_presence;
 use crate::rests::Rests;
 use crate::runs::state_in;
-use crate::saved::{put_display, put_runs};
+use crate::saved::put_runs;
 use crate::shapes::{at_rest, shape_and_room};
-use crate::shown::shown_line;
 use crate::written::put_events;
+use ra_display::{
+    LineRests, PresenceRun, put_back_presence, put_display, shown_line, step_presence,
+};
 use ra_memory::{Counted, Memory, Steps};
 use ra_memref::Table;
 use ra_progress::{ProgressRefused, Said, Shape, begin, check, close, frames_at};
@@ -47,6 +47,7 @@ pub struct Runtime {
     runs: Vec<ItemRun>,
     rests: Rests,
     presence: Option<PresenceRun>,
+    line_rests: LineRests,
     // the count of frames, which stops at the last number
     count: u64,
     // the number of the last frame: the count before it
@@ -83,7 +84,7 @@ impl Runtime {
         ensures { IfOk result (IsMade (set_contents set) size) }
     {
         let memory = Memory::new(alloc, size)?;
-        let (table, runs, rests, presence, names) = at_rest(alloc, &set, size)?;
+        let (table, runs, rests, presence, line_rests, names) = at_rest(alloc, &set, size)?;
         let (shape, said) = shape_and_room(alloc, &set, &runs, &presence, names)?;
         Ok(Runtime {
             set,
@@ -94,6 +95,7 @@ impl Runtime {
             runs,
             rests,
             presence,
+            line_rests,
             count: 0,
             frame: 0,
             framed: false,
@@ -134,7 +136,13 @@ impl Runtime {
             &self.runs,
             &self.rests,
         )?;
-        put_display(alloc, &mut bytes, &self.shape.presence_name, &self.presence)?;
+        put_display(
+            alloc,
+            &mut bytes,
+            &self.shape.presence_name,
+            &self.presence,
+            &self.line_rests,
+        )?;
         close(&mut bytes)?;
         Ok(bytes)
     }
@@ -164,6 +172,7 @@ impl Runtime {
         self.rests.forget();
         let display = self.said.place(self.runs.len());
         put_back_presence(&mut self.presence, &self.shape.presence, bytes, display);
+        self.line_rests.forget();
         self.count = frames_at(bytes);
         self.framed = false;
     }
@@ -180,7 +189,12 @@ impl Runtime {
         });
         self.rests
             .step(&mut self.runs, &self.set.items, &self.table);
-        step_presence(&mut self.presence, &self.set.script, &self.table);
+        step_presence(
+            &mut self.presence,
+            &mut self.line_rests,
+            &self.set.script,
+            &self.table,
+        );
         self.frame = self.count;
         self.count = self.count.saturating_add(1);
         self.framed = true;

@@ -1,9 +1,9 @@
 //! What the runs keep, written as a progress file keeps it.
 
-ghost use Rattle.std.specs.Prelude.{◌≡◌, ◌++◌, ◌∷◌, [], ◌≤◌, length, map, option_to_list, sum_by, OnOk};
-ghost use Rattle.ra_progress.specs.Contents.{ItemFits, ItemsFit, OfPresence};
-ghost use Rattle.ra_progress.specs.Layout.{block_length, item_length, script_length};
-ghost use Rattle.ra_progress.specs.Spelling.{item_bytes, presence_block, presence_bytes, named_blocks};
+ghost use Rattle.std.specs.Prelude.{◌≡◌, ◌++◌, ◌≤◌, length, map, sum_by, OnOk};
+ghost use Rattle.ra_progress.specs.Contents.{ItemFits, ItemsFit};
+ghost use Rattle.ra_progress.specs.Layout.{item_length};
+ghost use Rattle.ra_progress.specs.Spelling.{item_bytes, named_blocks};
 ghost use Rattle.ra_progress.specs.Writing.{named_block};
 ghost use Rattle.ra_runtime.specs.declared.item_run.ItemRun.TheVariants.{Achievement, Leaderboard};
 ghost use Rattle.ra_runtime.specs.ItemRuns.{kept_run};
@@ -15,15 +15,11 @@ ghost use Rattle.ra_member.specs.MemberRuns.{kept_by};
 ghost use Rattle.ra_leaderboard.specs.States.{board_byte};
 ghost use Rattle.ra_progress.specs.Contents.{OfBoard};
 ghost use Rattle.std.specs.Prelude.{IfSome};
-ghost use Rattle.ra_runtime.specs.PresenceRuns.{optional_presence_kept, presence_kept};
-ghost use Rattle.ra_runtime.specs.Restoring.{hits_of_lines, numbers_of_lines};
-ghost use Rattle.ra_runtime.specs.Shapes.{optional_run_shape, presence_run_shape, run_shape};
-ghost use Rattle.ra_runtime.specs.Saving.{FitOptional, FitPresence, PutsBehind};
+ghost use Rattle.ra_runtime.specs.Shapes.{run_shape};
 
 use crate::achievement_run::AchievementRun;
 use crate::board_run::BoardRun;
 use crate::item_run::ItemRun;
-use crate::presence_run::PresenceRun;
 use crate::rest::{ItemBefore, Rest};
 use crate::rests::Rests;
 use crate::state_bytes::{byte_of_board, byte_of_state};
@@ -175,61 +171,5 @@ fn put_board_run(
     ensures fits { OnOk result (ItemFits (run_shape (Leaderboard run.now)) (OfBoard (board_byte run.now.board) hits.now numbers.now)) }
 {
     put_board(bytes, name, byte_of_board(run.board.state()), hits, numbers)?;
-    Ok(())
-}
-
-// Writes what is kept of the display behind other bytes, with its name, if there is one.
-pub(crate) fn put_display(
-    alloc: Global,
-    bytes: &mut Vec<u8>,
-    name: &Option<[u8; 16]>,
-    run: &Option<PresenceRun>,
-) -> Result<(), OutOfMemory>
-    requires { script_length (optional_run_shape run.now) ≤ 8388608 }
-    ensures bytes { OnOk result (bytes.new.items
-        ≡ bytes.old.items ++ named_blocks (option_to_list name.now) (presence_block (optional_presence_kept run.now))) }
-    ensures fits { OnOk result (FitOptional (optional_presence_kept run.now)) }
-{
-    match run {
-        Some(run) => put_display_run(alloc, bytes, name, run),
-        None => Ok(()),
-    }
-}
-
-// Writes what is kept of a display behind other bytes, where there is a name of it: the shown line, and then hits and
-// numbers line by line.
-fn put_display_run(
-    alloc: Global,
-    bytes: &mut Vec<u8>,
-    name: &Option<[u8; 16]>,
-    run: &PresenceRun,
-) -> Result<(), OutOfMemory>
-    requires { block_length (OfPresence (presence_run_shape run.now)) ≤ 8388608 }
-    ensures bytes { OnOk result (bytes.new.items
-        ≡ bytes.old.items ++ named_blocks (option_to_list name.now) (presence_bytes (presence_kept run.now) ∷ [])) }
-    ensures fits { OnOk result (FitPresence (presence_kept run.now)) }
-{
-    let mut hits = Vec::new(alloc);
-    let mut numbers = Vec::new(alloc);
-    put_lines(&mut hits, &mut numbers, &run.lines)?;
-    match name {
-        Some(name) => put_presence(bytes, name, run.shown, &hits, &numbers),
-        None => Ok(()),
-    }
-}
-
-// Puts what is kept of lines behind other hits and other numbers, line by line.
-fn put_lines(
-    hits: &mut Vec<u32>,
-    numbers: &mut Vec<u32>,
-    lines: &[Member],
-) -> Result<(), OutOfMemory>
-    ensures hits { OnOk result (PutsBehind hits.old.items hits.new.items (hits_of_lines lines.now)) }
-    ensures numbers { OnOk result
-        (PutsBehind numbers.old.items numbers.new.items (numbers_of_lines lines.now)) }
-{
-    for line in lines {
-        line.save(hits, numbers)?;
-    }
     Ok(())
 }

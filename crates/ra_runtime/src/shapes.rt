@@ -1,6 +1,6 @@
 //! The shape of a set, and a table that is laid out for it.
 
-ghost use Rattle.std.specs.Prelude.{◌≡◌, ◌≤◌, ◌<◌, ◌^◌, ◌+◌, length, map, option_map, All, IfOk};
+ghost use Rattle.std.specs.Prelude.{◌≡◌, ◌≤◌, ◌<◌, ◌^◌, length, map, option_map, All, IfOk};
 ghost use Rattle.ra_set.specs.Contents.{set_contents};
 ghost use Rattle.ra_set.specs.Limits.{IsWithinLimits};
 ghost use Rattle.ra_set.specs.Names.{IsNamed};
@@ -8,20 +8,25 @@ ghost use Rattle.ra_progress.specs.Contents.{shape_contents};
 ghost use Rattle.ra_progress.specs.Layout.{length_of};
 ghost use Rattle.ra_progress.specs.Names.{IsUsable};
 ghost use Rattle.ra_progress.specs.Room.{IsRoom};
-ghost use Rattle.ra_progress.specs.Contents.{plain_item};
+ghost use Rattle.ra_progress.specs.Contents.{plain_item, plain_presence};
+ghost use Rattle.ra_set.specs.Spelled.{OptionalScript};
+ghost use Rattle.ra_display.specs.LineRests.{AreOptionalRests, optional_presence_seen};
+ghost use Rattle.ra_display.specs.PresenceRuns.{IsOptionalPresence, optional_presence_kept};
+ghost use Rattle.ra_runtime.specs.AllRuns.{AreItemRuns};
+ghost use Rattle.ra_runtime.specs.ItemRuns.{kept_run};
 ghost use Rattle.ra_runtime.specs.Rests.{AreRests, seen_by};
 ghost use Rattle.ra_runtime.specs.Order as spec;
-ghost use Rattle.ra_runtime.specs.Restoring.{hits_of_lines, numbers_of_lines};
 ghost use Rattle.ra_runtime.specs.Shapes.{run_shape, board_run_shape, optional_run_shape, IsSmall, IsSmallPresence, IsLaidOut, NameSet};
 ghost use Rattle.ra_set.specs.Spelled.{IsSpelled};
 
 use crate::board_run::BoardRun;
 use crate::item_run::ItemRun;
-use crate::presence_run::{PresenceRun, new_presence};
 use crate::rests::Rests;
 use crate::runs::new_runs;
+use ra_display::{
+    LineRests, PresenceRun, counted_presence, new_presence, presence_shape, rest_lines,
+};
 use ra_indirect::Pool;
-use ra_member::{Member, Places};
 use ra_memref::{Names, Table, names_of};
 use ra_progress::{ItemShape, PresenceShape, Said, Shape, order_of};
 use ra_set::Set;
@@ -36,8 +41,11 @@ pub fn shape_of(alloc: Global, set: &Set) -> Result<Shape, OutOfMemory>
     ensures shape { IfOk result (λ shape. shape_contents shape ≡ spec.shape_of (set_contents set.now)) }
     ensures usable { IfOk result IsUsable }
 {
-    let (_table, runs, presence, names, _nodes) = laid_out(alloc, set, 0)?;
-    shape_over(alloc, set, &runs, &presence, names)
+    let mut pool = Pool::new(alloc);
+    let runs = new_runs(alloc, &set.items, &mut pool)?;
+    let presence = counted_presence(alloc, &set.script, &mut pool)?;
+    let names = names_of(alloc, &pool)?;
+    shape_beside(alloc, set, &runs, presence, names)
 }
 
 // A table over the trees of a set, a run for each item, one for the display, the names of cells and masks, and the
@@ -63,27 +71,63 @@ pub(crate) fn laid_out(
     Ok((table, runs, presence, names, nodes))
 }
 
-// The same with a rest beside each run, of which none rests, in place of the count of nodes.
+// The same with a rest beside each run and each line, of which none rests, in place of the count of nodes.
 pub(crate) fn at_rest(
     alloc: Global,
     set: &Set,
     size: u32,
-) -> Result<(Table, Vec<ItemRun>, Rests, Option<PresenceRun>, Names), OutOfMemory>
+) -> Result<
+    (
+        Table,
+        Vec<ItemRun>,
+        Rests,
+        Option<PresenceRun>,
+        LineRests,
+        Names,
+    ),
+    OutOfMemory,
+>
     requires limits { IsWithinLimits (set_contents set.now) }
     requires spelled { IsSpelled (set_contents set.now) }
     requires size { size ≤ 2 ^ 27 }
     ensures laid { IfOk result (λ laid. IsLaidOut (set_contents set.now) size laid.0 laid.1.items laid.3) }
-    ensures names { IfOk result (λ laid. NameSet (set_contents set.now) laid.4) }
+    ensures names { IfOk result (λ laid. NameSet (set_contents set.now) laid.5) }
+    ensures lines { IfOk result (λ laid. AreOptionalRests laid.0.nodes laid.0.values (set_contents set.now).script laid.3 laid.4) }
+    ensures shown { IfOk result (λ laid. optional_presence_seen laid.3 laid.4 ≡ option_map plain_presence (option_map spec.presence_shape (set_contents set.now).script)) }
     ensures rests { IfOk result (λ laid. AreRests laid.0.nodes laid.0.values (set_contents set.now).items laid.1.items laid.2) }
     ensures kept { IfOk result (λ laid. seen_by laid.1.items laid.2 ≡ map plain_item (map spec.item_shape (set_contents set.now).items)) }
 {
     let (table, runs, presence, names, nodes) = laid_out(alloc, set, size)?;
-    let rests = Rests::new(alloc, &runs, &set.items, &table, nodes)?;
-    Ok((table, runs, rests, presence, names))
+    let (rests, line_rests) = rests_beside(alloc, set, &runs, &presence, &table, nodes)?;
+    Ok((table, runs, rests, presence, line_rests, names))
 }
 
-// The shape of a set, by its runs and the names of its cells and masks.
-pub(crate) fn shape_over(
+// A rest beside each run, and one beside each line of the display, of which none rests.
+fn rests_beside(
+    alloc: Global,
+    set: &Set,
+    runs: &[ItemRun],
+    presence: &Option<PresenceRun>,
+    table: &Table,
+    nodes: usize,
+) -> Result<(Rests, LineRests), OutOfMemory>
+    requires spelled { OptionalScript (set_contents set.now).script }
+    requires few { length set.now.items.items < 2 ^ 32 }
+    requires runs { AreItemRuns table.now.nodes (set_contents set.now).items runs.now }
+    requires presence { IsOptionalPresence table.now.nodes (set_contents set.now).script presence.now }
+    requires nodes { length table.now.nodes ≡ nodes }
+    ensures rests { IfOk result (λ both. AreRests table.now.nodes table.now.values (set_contents set.now).items runs.now both.0) }
+    ensures kept { IfOk result (λ both. seen_by runs.now both.0 ≡ map kept_run runs.now) }
+    ensures lines { IfOk result (λ both. AreOptionalRests table.now.nodes table.now.values (set_contents set.now).script presence.now both.1) }
+    ensures shown { IfOk result (λ both. optional_presence_seen presence.now both.1 ≡ optional_presence_kept presence.now) }
+{
+    let rests = Rests::new(alloc, runs, &set.items, table, nodes)?;
+    let line_rests = rest_lines(alloc, presence, &set.script, table, nodes)?;
+    Ok((rests, line_rests))
+}
+
+// The shape of a set, by its runs, its display and the names of its cells and masks.
+fn shape_over(
     alloc: Global,
     set: &Set,
     runs: &[ItemRun],
@@ -101,6 +145,27 @@ pub(crate) fn shape_over(
     ensures shape { IfOk result (λ shape. shape_contents shape ≡ spec.shape_of (set_contents set.now)) }
     ensures usable { IfOk result IsUsable }
 {
+    shape_beside(alloc, set, runs, presence_shape(presence), names)
+}
+
+// The shape of a set, by its runs, the shape of its display and the names of its cells and masks.
+fn shape_beside(
+    alloc: Global,
+    set: &Set,
+    runs: &[ItemRun],
+    presence: Option<PresenceShape>,
+    names: Names,
+) -> Result<Shape, OutOfMemory>
+    requires limits { IsWithinLimits (set_contents set.now) }
+    requires named { IsNamed (set_contents set.now) }
+    requires names { NameSet (set_contents set.now) names }
+    requires short { length_of (spec.shape_of (set_contents set.now)) ≤ 8388608 }
+    requires small { All IsSmall (map run_shape runs.now) }
+    requires items { map run_shape runs.now ≡ map spec.item_shape (set_contents set.now).items }
+    requires presence { presence ≡ option_map spec.presence_shape (set_contents set.now).script }
+    ensures shape { IfOk result (λ shape. shape_contents shape ≡ spec.shape_of (set_contents set.now)) }
+    ensures usable { IfOk result IsUsable }
+{
     let items = item_shapes(alloc, runs)?;
     let mut item_names = Vec::new(alloc);
     item_names.extend_from_slice(&set.item_names)?;
@@ -113,7 +178,7 @@ pub(crate) fn shape_over(
         priors: names.priors,
         items,
         item_names,
-        presence: presence_shape(presence),
+        presence,
         presence_name: set.script_name,
         cell_order,
         prior_order,
@@ -181,39 +246,4 @@ fn board_shape(run: &BoardRun) -> ItemShape
         hits: saved.hits as u32,
         parts: saved.numbers as u32,
     }
-}
-
-// How many lines, hits and parts a display keeps, where there is one.
-fn presence_shape(presence: &Option<PresenceRun>) -> Option<PresenceShape>
-    requires { IsSmallPresence (optional_run_shape presence.now) }
-    ensures { result ≡ optional_run_shape presence.now }
-{
-    match presence {
-        Some(run) => {
-            let kept = kept_by_lines(&run.lines);
-            Some(PresenceShape {
-                lines: run.lines.len() as u32,
-                hits: kept.hits as u32,
-                parts: kept.numbers as u32,
-            })
-        }
-        None => None,
-    }
-}
-
-// How many hits and numbers lines keep.
-fn kept_by_lines(lines: &[Member]) -> Places
-    requires hits { length (hits_of_lines lines.now) ≤ 65536 }
-    requires numbers { length (numbers_of_lines lines.now) ≤ 65536 }
-    ensures hits { result.hits ≡ length (hits_of_lines lines.now) }
-    ensures numbers { result.numbers ≡ length (numbers_of_lines lines.now) }
-{
-    let mut hits = 0;
-    let mut numbers = 0;
-    for line in lines {
-        let kept = line.shape();
-        hits += kept.hits;
-        numbers += kept.numbers;
-    }
-    Places { hits, numbers }
 }
