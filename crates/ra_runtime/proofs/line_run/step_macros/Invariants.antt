@@ -1,5 +1,0 @@
-use Rattle.ra_runtime.proofs.SteppedLines.{AreMacrosStepped}
-use Rattle.ra_runtime.proofs.line_run.step_macros.Given as goal
-
-abbrev pub invariant-loop-piece : goal.invariant-loop-piece
-invariant-loop-piece l = AreMacrosStepped l.table l.pieces l.piece-index l.fn.member l.member l.place
