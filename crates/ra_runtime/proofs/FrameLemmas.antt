@@ -9,9 +9,8 @@ use Rattle.ra_memref.specs.Values.{Start, cell_number, cell_place, tracked_numbe
 use Rattle.ra_memref.specs.Table.{TableSeen, AreKept, Samples, ReadsWanted, spelled_value}
 use Rattle.ra_richpresence.specs.Contents.{ScriptContents}
 use Rattle.ra_set.specs.Contents.{ItemContents, SetContents}
-use Rattle.ra_progress.specs.Contents.{KeptItem, Opening}
+use Rattle.ra_progress.specs.Contents.{KeptItem, KeptPresence, Opening}
 use Rattle.ra_runtime.specs.declared.item_run.ItemRun.{ItemRun}
-use Rattle.ra_runtime.specs.declared.presence_run.PresenceRun.{PresenceRun}
 use Rattle.ra_runtime.specs.Order.{trees_in_set, set_cells, set_tracked}
 use Rattle.ra_runtime.specs.Earned.{Earned, is_earned, earned_in, with_earned}
 use Rattle.ra_runtime.specs.Openings.{start_of, snapshot, item_after, number_beside, prior_beside, frames_after, optional_presence}
@@ -20,7 +19,7 @@ use Rattle.ra_runtime.specs.Play.{item_events, events, lines, earns, unless_earn
 use Rattle.ra_member.specs.Runs.{HasValues}
 use Rattle.ra_runtime.specs.Rests.{AreSteppedSeen, IsSomeFrame}
 use Rattle.ra_runtime.specs.AllRuns.{all_events, opening_by, IsOver}
-use Rattle.ra_runtime.specs.PresenceRuns.{StepsOptional, optional_presence_kept}
+use Rattle.ra_display.specs.PresenceRuns.{StepsOptional}
 use Rattle.std.proofs.lemmas.List.{length-map}
 use Rattle.ra_runtime.specs.Runtime.{RuntimeSeen, TakesFrame, ReadsFew}
 use Rattle.ra_runtime.proofs.Law.{cuts_anywhere}
@@ -53,7 +52,7 @@ module _ (table : TableSeen) (start : Start) (image : List ℕ) (has : HasValues
       ap₂ (λ x xs. x ++ xs) (are.0.events start image has) (stepped_events items olds news runs are.1)
 
 -- one frame of a display that may be missing
-presence_kept_on : (table : TableSeen) (start : Start) (image : List ℕ) → HasValues table start (image ∷ []) → (script : Option ScriptContents) (old new : Option PresenceRun) → StepsOptional table script old new → optional_presence_kept new ≡ optional_presence start (image ∷ []) script (optional_presence_kept old)
+presence_kept_on : (table : TableSeen) (start : Start) (image : List ℕ) → HasValues table start (image ∷ []) → (script : Option ScriptContents) (old new : Option KeptPresence) → StepsOptional table script old new → new ≡ optional_presence start (image ∷ []) script old
 presence_kept_on table start image has None None None steps = refl
 presence_kept_on table start image has None None (Some new) steps = absurd steps
 presence_kept_on table start image has None (Some old) new steps = absurd steps
@@ -61,7 +60,7 @@ presence_kept_on table start image has (Some script) None new steps = absurd ste
 presence_kept_on table start image has (Some script) (Some old) None steps = absurd steps
 presence_kept_on table start image has (Some script) (Some old) (Some new) steps = ap Some (steps start image has)
 
-module _ (set : SetContents) (count : ℕ) (old new : TableSeen) (image : List ℕ) (olds : List KeptItem) (shown : Option PresenceRun) (over : IsOver set old) (samples : Samples old new image) where
+module _ (set : SetContents) (count : ℕ) (old new : TableSeen) (image : List ℕ) (olds : List KeptItem) (shown : Option KeptPresence) (over : IsOver set old) (samples : Samples old new image) where
   abbrev kept : Opening
   kept = opening_by count old olds shown
 
@@ -92,7 +91,7 @@ module _ (set : SetContents) (count : ℕ) (old new : TableSeen) (image : List �
         priors_many = ap length after.priors_too ∙ length-map (tracked_of old.nodes) (λ t. tracked_number start t (image ∷ [])) ∙ ap length over.tracked;
       }
 
-  module _ (news : List KeptItem) (runs : List ItemRun) (shown' : Option PresenceRun) (stepped : AreSteppedSeen new set.items olds news runs) (steps : StepsOptional new set.script shown shown') where
+  module _ (news : List KeptItem) (runs : List ItemRun) (shown' : Option KeptPresence) (stepped : AreSteppedSeen new set.items olds news runs) (steps : StepsOptional new set.script shown shown') where
     pub frame_kept : opening_by (frames_after count 1) new news shown' ≡ snapshot set kept (image ∷ [])
     frame_kept =
         let after : AreKept start (image ∷ []) old.nodes new.cells new.priors = samples.kept start [] are_kept in

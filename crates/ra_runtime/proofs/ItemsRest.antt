@@ -1,9 +1,8 @@
 -- An item that rested at a frame goes on to rest while it sees the same.
-use Rattle.std.proofs.Common.{◌≡◌, ℕ, zero, suc, ◌+◌, ◌-◌, ◌==◌, ◌&&◌, ◌||◌, not, Bool, true, false, if◌then◌else◌, List, [], ◌∷◌, ◌++◌, length, map, get_or, refl, sym, ◌∙◌, ap, ap₂, subst, arith}
+use Rattle.std.proofs.Common.{◌≡◌, ℕ, zero, suc, ◌+◌, ◌-◌, ◌==◌, ◌&&◌, ◌||◌, not, Bool, true, false, if◌then◌else◌, List, [], ◌∷◌, ◌++◌, length, map, get_or, refl, sym, ◌∙◌, ap, ap₂, subst}
 use Rattle.std.proofs.lemmas.Bool.{eq-eqb}
 use Rattle.std.proofs.lemmas.List.{length-map}
 use Rattle.ra_condition.specs.Contents.{TriggerContents, groups_of, trigger_hits, PartContents, value_hits}
-use Rattle.ra_indirect.specs.declared.node.Node.{Node}
 use Rattle.ra_memory.specs.Image.{History}
 use Rattle.ra_memref.specs.Table.{TableSeen}
 use Rattle.ra_memref.specs.Values.{Start}
@@ -11,7 +10,6 @@ use Rattle.ra_leaderboard.specs.declared.state.BoardState.{BoardState}
 use Rattle.ra_leaderboard.specs.declared.state.BoardState.TheVariants as boards
 use Rattle.ra_leaderboard.specs.Contents.{BoardContents}
 use Rattle.ra_leaderboard.specs.States.{begins, became_started, became_cancelled, became_submitted, is_running}
-use Rattle.ra_trigger.specs.declared.state.State.{State}
 use Rattle.ra_trigger.specs.States.{is_primed, is_triggered, state_byte}
 use Rattle.ra_trigger.specs.Steps.{TriggerKept, step as achievement_step}
 use Rattle.ra_value.specs.Steps.{ValueKept, no_value, signed_greatest}
@@ -22,9 +20,8 @@ use Rattle.ra_progress.specs.Contents.{KeptItem, OfAchievement}
 use Rattle.ra_member.specs.Frames.{truths_at, lefts_at}
 use Rattle.ra_member.specs.Members.{MemberContents, MemberKept, HasShape, tests_next, tests_hold, values_next, no_values}
 use Rattle.ra_member.proofs.Shaped.{member_shape}
-use Rattle.ra_resting.specs.Before.{kept_before}
-use Rattle.ra_resting.specs.Inputs.{Instant, SeeSame, MemberSeesSame}
-use Rattle.ra_resting.specs.Owing.{AreHitsSmall, AreSmall, TestsKeep, ValuesKeep, owed_member, owed_tests, owed_values}
+use Rattle.ra_resting.specs.Inputs.{SeeSame, MemberSeesSame}
+use Rattle.ra_resting.specs.Owing.{ValuesKeep, owed_values}
 use Rattle.ra_resting.proofs.GoesOn.{tests_go_on, tests_say_on, values_go_on, tests_owe_nothing, values_owe_nothing, values_stay, numbers_long, owed_fits, as_many}
 use Rattle.ra_resting.proofs.OneOn.{achievement_goes_on, achievement_owes_nothing}
 use Rattle.ra_runtime.specs.declared.achievement_run.AchievementRun.{AchievementRun}
@@ -46,7 +43,7 @@ use Rattle.ra_runtime.specs.ItemRuns.{IsItemRun, StepsItem, kept_run}
 use Rattle.ra_runtime.specs.Openings.{item_after, kept_achievement, opened_achievement}
 use Rattle.ra_runtime.specs.Order.{board_member}
 use Rattle.ra_runtime.specs.Play.{item_events, unless_earned}
-use Rattle.ra_runtime.specs.Resting.{AreValuesAt, BoardRests, GoesOn, HasRoom, IsNoted, ItemRests, ItemSeesSame, StepsRest, TriggerRests, board_before, first_frame, owed_board, owed_run, trigger_before}
+use Rattle.ra_runtime.specs.Resting.{AreValuesAt, BoardRests, GoesOn, HasRoom, IsNoted, ItemRests, TriggerRests, board_before, first_frame, owed_board, owed_run, trigger_before}
 use Rattle.ra_runtime.specs.RunEvents.{run_events}
 use Rattle.ra_runtime.proofs.Again.{achievement_again, board_again}
 use Rattle.ra_runtime.proofs.Fitting.{BoardFits, board_fits}

@@ -7,7 +7,6 @@ pub mod CellWords
 pub mod ChangedSets
 pub mod Covered
 pub mod Digests
-pub mod DisplayRows
 pub mod Each
 pub mod EarnedFrames
 pub mod EarnedItems
@@ -30,15 +29,12 @@ pub mod MaskCounts
 pub mod MemberWords
 pub mod NamedNumbers
 pub mod NamedThings
-pub mod NewLines
 pub mod OpeningFits
 pub mod PlainOpening
-pub mod PresenceCuts
 pub mod PresenceWords
 pub mod ReadByNames
 pub mod ReadByOther
 pub mod RestoreLemmas
-pub mod RestoredPresence
 pub mod RestoredRuns
 pub mod RunsLemmas
 pub mod SaveLemmas
@@ -47,13 +43,11 @@ pub mod SetTexts
 pub mod ShapeLemmas
 pub mod SharedOwns
 pub mod ShowLemmas
-pub mod ShownLines
 pub mod Snapshots
 pub mod SmallShape
 pub mod SpelledScripts
 pub mod SpelledSets
 pub mod SpelledTrees
-pub mod SteppedLines
 pub mod TakenNumbers
 pub mod TakenOver
 pub mod TakenUp

@@ -1,5 +1,5 @@
 -- The words of lines, put at the end of a text.
-use Rattle.std.proofs.Common.{◌≡◌, ◌∙◌, ℕ, List, [], ◌∷◌, ◌++◌, codes, ap, append_assoc}
+use Rattle.std.proofs.Common.{◌≡◌, ◌∙◌, ℕ, List, [], ◌∷◌, ◌++◌, ap, append_assoc}
 use Rattle.ra_runtime.specs.Lines.{line_of}
 
 pub head_words : (out word frame id : List ℕ) → ((((out ++ word) ++ 32 ∷ []) ++ frame) ++ 32 ∷ []) ++ id ≡ out ++ (word ++ 32 ∷ (frame ++ 32 ∷ id))
@@ -16,6 +16,3 @@ pub submit_words : (out word frame id value text : List ℕ)
 submit_words out word frame id value text =
     let front = (out ++ (word ++ 32 ∷ (frame ++ 32 ∷ id))) ++ 32 ∷ [] in
     ap (λ t. t ++ 10 ∷ []) (append_assoc (front ++ value) (32 ∷ []) text ∙ append_assoc front value (32 ∷ text)) ∙ number_words out word frame id (value ++ 32 ∷ text)
-
-pub shown_words : (count text : List ℕ) → (((codes "presence " ++ count) ++ 32 ∷ []) ++ text) ++ 10 ∷ [] ≡ line_of (codes "presence" ∷ count ∷ text ∷ [])
-shown_words count text = simp append_assoc

@@ -1,89 +1,40 @@
 -- New rests: each item is told of what it sees, and there is room for what it keeps.
-use Rattle.std.proofs.Common.{◌≡◌, ◌⊎◌, inl, inr, ℕ, zero, suc, ◌+◌, ◌<◌, ◌≤◌, Bool, true, false, Option, None, Some, IfSome, List, [], ◌∷◌, ◌++◌, length, map, get_or, replicate, set, slice_index, slice_index_or, slice_get, refl, sym, ◌∙◌, ap, ap₂, subst, arith, length-append}
-use Rattle.std.specs.List.{flat_map}
+use Rattle.std.proofs.Common.{◌≡◌, ◌⊎◌, inl, inr, ℕ, suc, ◌+◌, ◌<◌, ◌≤◌, true, false, None, IfSome, List, [], ◌∷◌, ◌++◌, length, map, get_or, replicate, set, slice_index, slice_index_or, refl, sym, ◌∙◌, ap, ap₂, subst, arith, length-append}
 use Rattle.std.proofs.Math.Path.{transport}
 use Rattle.std.proofs.lemmas.Bool.{cases_lt}
 use Rattle.std.proofs.lemmas.List.{get_or_append_left, get_or_default, get_or-replicate, get_or-set_same, get_or-set_other, length-replicate, length-set}
 use Rattle.std.proofs.Math.Seq.{get_or-append_seam}
-use Rattle.ra_condition.specs.declared.condition.Condition.{Condition}
-use Rattle.ra_condition.specs.Contents.{TriggerContents, groups_of, PartContents, Legacy, Grouped, counted_in}
-use Rattle.ra_chain.specs.Elaboration.{terms_tree}
+use Rattle.ra_condition.specs.Contents.{groups_of}
 use Rattle.ra_indirect.specs.declared.node.Node.{Node}
 use Rattle.ra_memref.specs.Table.{TableSeen}
 use Rattle.ra_readers.specs.Readers.{ReadersSeen, Reads}
 use Rattle.ra_set.specs.Contents.{ItemContents, Unlocks, Ranks}
-use Rattle.ra_member.specs.declared.laid.Laid.{Laid}
-use Rattle.ra_member.specs.declared.member.Member.{Member}
-use Rattle.ra_member.specs.declared.trigger_run.TriggerRun.{TriggerRun}
-use Rattle.ra_member.specs.declared.value_run.ValueRun.{ValueRun}
-use Rattle.ra_member.specs.Beside.{AreBeside}
-use Rattle.ra_member.specs.Plans.{AreSums}
-use Rattle.ra_member.specs.Runs.{IsLaid, IsTriggerRun, IsValueRun}
-use Rattle.ra_member.proofs.LaidLemmas.{laid_fills, valued}
-use Rattle.ra_resting.specs.Reads.{IsAllRead, nodes_there, reads_of_laid, reads_of_value}
-use Rattle.ra_resting.proofs.Reading.{AreAll, all_both}
+use Rattle.ra_resting.specs.Reads.{IsAllRead, reads_of_laid}
+use Rattle.ra_resting.proofs.Below.{Below, laid_below, member_below}
+use Rattle.ra_resting.proofs.Reading.{AreAll}
 use Rattle.ra_resting.proofs.SeesSame.{laid_sees, member_sees}
 use Rattle.ra_runtime.specs.declared.item_run.ItemRun.{ItemRun}
 use Rattle.ra_runtime.specs.declared.item_run.ItemRun.TheVariants.{Achievement, Leaderboard}
-use Rattle.ra_runtime.specs.declared.rest.ItemBefore.{ItemBefore}
 use Rattle.ra_runtime.specs.declared.rest.Rest.{Rest}
 use Rattle.ra_runtime.specs.declared.rests.Rests.{Rests}
 use Rattle.ra_runtime.specs.AllRuns.{AreItemRuns}
 use Rattle.ra_runtime.specs.ItemRuns.{IsItemRun, kept_run}
 use Rattle.ra_runtime.specs.Order.{board_member}
-use Rattle.ra_runtime.specs.Resting.{FitsRun, HasRoom, IsToldOf, reads_of_run, seen_run, seen_runs, seen_since}
-use Rattle.ra_runtime.specs.Rests.{AreForgotten, AreRests, IsPlace, seen_by}
-use Rattle.ra_runtime.proofs.RestSteps.{element, told_by_rows}
+use Rattle.ra_runtime.specs.Resting.{FitsRun, HasRoom, IsToldOf, reads_of_run, seen_runs, seen_since}
+use Rattle.ra_runtime.specs.Rests.{AreForgotten, AreRests}
+use Rattle.ra_resting.proofs.Turns.{element}
+use Rattle.ra_runtime.proofs.RestSteps.{told_by_rows}
 use Rattle.ra_runtime.proofs.RunsLemmas.{length_runs, run_at}
 use Rattle.ra_runtime.proofs.SeenItems.{room_again}
 
 module _ (nodes : List Node) where
-  -- a node of the table
-  abbrev pub Below : ℕ → Type 0
-  Below n = n < length nodes
-
-  laid_below : (groups : List (List Condition)) (laid : Laid) → IsLaid nodes groups laid → AreAll Below (reads_of_laid laid)
-  laid_below groups laid is =
-      let may = laid_fills nodes groups laid is in
-      all_both Below laid.plan.lefts.items laid.plan.rights.items (λ k within. (may.lefts k within).0) (λ k within. (may.rights k within).0)
-
-  tests_below : (tests : List TriggerContents) (runs : List TriggerRun) → AreBeside (IsTriggerRun nodes) tests runs → AreAll Below (flat_map (λ (r : TriggerRun). reads_of_laid r.laid) runs)
-  tests_below [] [] are k within = absurd (omega (arith, within))
-  tests_below [] (run ∷ runs) are k within = absurd are
-  tests_below (t ∷ tests) [] are k within = absurd are
-  tests_below (t ∷ tests) (run ∷ runs) are k within =
-      all_both Below (reads_of_laid run.laid) (flat_map (λ (r : TriggerRun). reads_of_laid r.laid) runs) (laid_below (groups_of t) run.laid are.0.laid) (tests_below tests runs are.1) k within
-
-  sums_below : (parts : List PartContents) (sums : List (Option ℕ)) → AreSums nodes parts sums → AreAll Below (nodes_there sums)
-  sums_below [] [] are k within = absurd (omega (arith, within))
-  sums_below [] (n ∷ sums) are k within = absurd are
-  sums_below (Legacy terms ∷ parts) [] are k within = absurd are
-  sums_below (Legacy terms ∷ parts) (None ∷ sums) are k within = absurd are
-  sums_below (Legacy terms ∷ parts) (Some n ∷ sums) are zero within = (valued nodes n (terms_tree terms) are.0).0
-  sums_below (Legacy terms ∷ parts) (Some n ∷ sums) are (suc k) within = sums_below parts sums are.1 k (omega (arith, within))
-  sums_below (Grouped cs ∷ parts) [] are k within = absurd are
-  sums_below (Grouped cs ∷ parts) (Some n ∷ sums) are k within = absurd are
-  sums_below (Grouped cs ∷ parts) (None ∷ sums) are k within = sums_below parts sums are k within
-
-  value_below : (parts : List PartContents) (run : ValueRun) → IsValueRun nodes parts run → AreAll Below (reads_of_value run)
-  value_below parts run is =
-      all_both Below (reads_of_laid run.laid) (nodes_there run.nodes.items) (laid_below (map counted_in parts) run.laid is.laid) (sums_below parts run.nodes.items is.nodes_too)
-
-  values_below : (values : List (List PartContents)) (runs : List ValueRun) → AreBeside (IsValueRun nodes) values runs → AreAll Below (flat_map reads_of_value runs)
-  values_below [] [] are k within = absurd (omega (arith, within))
-  values_below [] (run ∷ runs) are k within = absurd are
-  values_below (parts ∷ values) [] are k within = absurd are
-  values_below (parts ∷ values) (run ∷ runs) are k within =
-      all_both Below (reads_of_value run) (flat_map reads_of_value runs) (value_below parts run are.0) (values_below values runs are.1) k within
-
   -- what an item reads are nodes of its table
-  pub item_below : (item : ItemContents) (run : ItemRun) → IsItemRun nodes item run → AreAll Below (reads_of_run run)
-  item_below (Unlocks id t) (Achievement run) is = laid_below (groups_of t) run.run.laid is.laid
+  pub item_below : (item : ItemContents) (run : ItemRun) → IsItemRun nodes item run → AreAll (Below nodes) (reads_of_run run)
+  item_below (Unlocks id t) (Achievement run) is = laid_below nodes (groups_of t) run.run.laid is.laid
   item_below (Unlocks id t) (Leaderboard run) is = absurd is
   item_below (Ranks id format b) (Achievement run) is = absurd is
   item_below (Ranks id format b) (Leaderboard run) is =
-      all_both Below (flat_map (λ (r : TriggerRun). reads_of_laid r.laid) run.member.tests.items) (flat_map reads_of_value run.member.values.items)
-      (tests_below (board_member b).tests run.member.tests.items is.tests) (values_below (board_member b).values run.member.values.items is.values)
+      member_below nodes (board_member b) run.member is
 
   -- whoever is noted for all that an item reads is told of what it sees
   pub item_told : (readers : ReadersSeen) (reader : ℕ) (item : ItemContents) (run : ItemRun) → IsItemRun nodes item run

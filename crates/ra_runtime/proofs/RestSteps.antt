@@ -1,8 +1,8 @@
 -- The items that are due, stepped one after the other: what is seen of all of them after a frame.
-use Rattle.std.proofs.Common.{◌≡◌, ◌⊎◌, inl, inr, ℕ, zero, suc, ◌+◌, ◌-◌, ◌<◌, ◌≤◌, Bool, true, false, Option, None, Some, IfSome, if◌then◌else◌, List, [], ◌∷◌, ◌++◌, length, take, get_or, set, slice_get, slice_index, slice_index_or, slice_set, refl, sym, ◌∙◌, ap, subst, arith, append_assoc}
+use Rattle.std.proofs.Common.{◌≡◌, ◌⊎◌, inl, inr, ℕ, zero, suc, ◌+◌, ◌-◌, ◌<◌, ◌≤◌, Bool, true, false, Option, None, Some, IfSome, if◌then◌else◌, List, [], ◌∷◌, ◌++◌, length, take, get_or, set, slice_get, slice_index, slice_index_or, refl, sym, ◌∙◌, ap, subst, arith, append_assoc}
 use Rattle.std.proofs.Math.Path.{transport}
 use Rattle.std.proofs.lemmas.Bool.{cases_lt}
-use Rattle.std.proofs.lemmas.List.{append-nil, get_or_past, get_or-set_same, get_or-set_other, length-set, length-take-le, take_all, take_more, take_more_set}
+use Rattle.std.proofs.lemmas.List.{append-nil, get_or-set_same, get_or-set_other, length-set, length-take-le, take_all, take_more, take_more_set}
 use Rattle.std.proofs.lemmas.List.Concat.{flat_map-append}
 use Rattle.ra_indirect.specs.declared.node.Node.{Node}
 use Rattle.ra_memref.specs.Flags.{NoneSet, IsFirstSet}
@@ -10,28 +10,21 @@ use Rattle.ra_memref.specs.Table.{TableSeen, IsListed}
 use Rattle.ra_readers.specs.Readers.{ReadersSeen, Reads}
 use Rattle.ra_set.specs.Contents.{ItemContents}
 use Rattle.ra_progress.specs.Contents.{KeptItem}
-use Rattle.ra_runtime.specs.declared.event.Event.{Event}
 use Rattle.ra_runtime.specs.declared.item_run.ItemRun.{ItemRun}
-use Rattle.ra_runtime.specs.declared.rest.ItemBefore.{ItemBefore}
 use Rattle.ra_runtime.specs.declared.rest.Rest.{Rest}
 use Rattle.ra_runtime.specs.declared.rests.Rests.{Rests}
 use Rattle.ra_runtime.specs.AllRuns.{AreItemRuns, all_events}
 use Rattle.ra_runtime.specs.ItemRuns.{IsItemRun, kept_run}
-use Rattle.ra_runtime.specs.Resting.{AreValuesAt, GoesOn, HasRoom, IsToldOf, ItemRests, StepsRest, StepsSeen, owed_run, seen_run, seen_runs, seen_since}
-use Rattle.ra_runtime.specs.Rests.{AreRests, AreSteppedSeen, HasPlace, IsAtRest, IsPlace, IsSomeFrame, IsSteppedAt, IsWoken, WereRests, due_below, events_at, events_of, maybe_events, seen_by}
+use Rattle.ra_runtime.specs.Resting.{GoesOn, HasRoom, IsToldOf, ItemRests, StepsRest, StepsSeen, owed_run, seen_run, seen_runs, seen_since}
+use Rattle.ra_runtime.specs.Rests.{AreRests, AreSteppedSeen, HasPlace, IsAtRest, IsPlace, IsSomeFrame, IsSteppedAt, due_below, events_at, events_of, maybe_events}
 use Rattle.ra_runtime.specs.RunEvents.{run_events}
 use Rattle.ra_runtime.specs.Earned.{is_earned}
 use Rattle.ra_runtime.specs.Openings.{item_after}
 use Rattle.ra_runtime.specs.Play.{item_events, unless_earned}
 use Rattle.ra_runtime.proofs.ItemsRest.{item_rests}
-use Rattle.ra_runtime.proofs.RunsLemmas.{length_runs, run_at}
-use Rattle.ra_runtime.proofs.SkippedItems.{still_on, skipped, same_unless_listed}
-
--- what stands at a place
-pub element : {A : Type 0} (xs : List A) (k : ℕ) → k < length xs → A
-element [] k within = absurd (omega (arith, within))
-element (x ∷ xs) zero within = x
-element (x ∷ xs) (suc k) within = element xs k (omega (arith, within))
+use Rattle.ra_runtime.proofs.RunsLemmas.{length_runs}
+use Rattle.ra_resting.proofs.Turns.{element}
+use Rattle.ra_runtime.proofs.SkippedItems.{still_on, skipped}
 
 -- an item is told of the same where the rows of its readers are the same
 pub told_by_rows : (nodes : List Node) (one other : ReadersSeen) (item : ItemContents) (k : ℕ) → other.rows ≡ one.rows → IsToldOf nodes one item k → IsToldOf nodes other item k
@@ -458,20 +451,3 @@ module _ (table : TableSeen) (frame : IsSomeFrame table) (items : List ItemConte
           sym (λ i. all_events (take_all (length items) items (omega arith) i) (take_all (length items) runs (omega (arith, length_runs table.nodes items runs far.runs_too)) i))
           ∙ all_told table items runs start.readers.due (length_runs table.nodes items runs far.runs_too) (λ k within quiet item r. silent k within quiet item r (element rests.each.items k (omega (arith, within, far.each_many)))) (length items) (omega arith)
           ∙ ap (events_of items runs) (due_between start.readers.due at (length items) order last ∙ sym far.stepped ∙ sym (λ i. take (count_after i) (stepped_after i).items))
-
--- whoever reads a node names one that has a row
-reads_within : (readers : ReadersSeen) (n reader : ℕ) → Reads readers n reader → n < length readers.rows
-reads_within readers n reader reads = by_row (cases_lt n (length readers.rows))
-  where
-    by_row : (n < length readers.rows) ⊎ (length readers.rows ≤ n) → n < length readers.rows
-    by_row (inl within) = within
-    by_row (inr past) =
-        let none : slice_index_or readers.rows n [] ≡ [] = get_or_past readers.rows n [] past in
-        absurd (omega (arith, reads.within, ap length none))
-
--- what a frame wakes: who is still not due reads no node with another value
-pub quiet_same : (table : TableSeen) (items : List ItemContents) (olds : List ItemRun) (old : Rests) (readers : ReadersSeen) (were : WereRests table items olds old) → IsWoken old.clock table.changed old.readers readers
-    → (k : ℕ) → slice_index_or readers.due k true ≡ false → (slice_index_or old.readers.due k true ≡ false) × (old.clock < 18446744073709551615) × ((n : ℕ) → Reads old.readers n k → slice_index table.values n ≡ slice_index were.values n)
-quiet_same table items olds old readers were woken k quiet =
-    let was = woken.kept k quiet in
-    (was.0, was.1, λ n reads. same_unless_listed were.values table.values n (λ differ. woken.woken k n quiet (were.each n (omega (arith, reads_within old.readers n k reads, were.are.rows)) differ) reads))

@@ -9,14 +9,13 @@ use Rattle.ra_progress.specs.declared.shape.ItemShape.{ItemShape}
 use Rattle.ra_progress.specs.declared.shape.ItemShape.TheVariants as shapes
 use Rattle.ra_trigger.specs.Steps.{TriggerKept}
 use Rattle.ra_words.specs.Words.{AreWords}
-use Rattle.ra_progress.specs.Contents.{Name, KeptItem, OfBoard, ItemFits, ItemsFit, PresenceFits, ShapeContents, IsOpening}
+use Rattle.ra_progress.specs.Contents.{KeptItem, OfBoard, ItemFits, ItemsFit, PresenceFits, ShapeContents, IsOpening}
 use Rattle.ra_progress.specs.Layout.{item_length, script_length, length_of}
 use Rattle.ra_progress.specs.Names.{IsPaired}
-use Rattle.ra_progress.specs.Spelling.{named_blocks}
 use Rattle.ra_progress.proofs.Owns.{own_total}
 use Rattle.ra_runtime.specs.declared.board_run.BoardRun.{BoardRun}
 use Rattle.ra_runtime.specs.declared.item_run.ItemRun.{ItemRun}
-use Rattle.ra_runtime.specs.declared.presence_run.PresenceRun.{PresenceRun}
+use Rattle.ra_display.specs.declared.presence_run.PresenceRun.{PresenceRun}
 use Rattle.ra_runtime.specs.Order.{script_members, presence_shape, shape_of}
 use Rattle.ra_runtime.specs.AllRuns.{AreItemRuns, opening_by}
 use Rattle.ra_runtime.specs.declared.rest.Rest.{Rest}
@@ -26,17 +25,16 @@ use Rattle.ra_leaderboard.specs.States.{board_byte}
 use Rattle.ra_runtime.specs.Openings.{kept_achievement}
 use Rattle.ra_runtime.specs.Shapes.{board_run_shape, run_shape}
 use Rattle.ra_runtime.proofs.ItemWords.{state_within, earned_where_triggered, board_state_within}
-use Rattle.ra_runtime.specs.PresenceRuns.{IsOptionalPresence, presence_kept, optional_presence_kept}
-use Rattle.ra_runtime.specs.Saving.{FitWords, FitPresence, FitOptional}
-use Rattle.ra_runtime.specs.Restoring.{hits_of_lines, numbers_of_lines}
-use Rattle.ra_runtime.proofs.DisplayRows.{lines_hits, lines_numbers}
-use Rattle.ra_member.specs.declared.member.Member.{Member}
+use Rattle.ra_display.specs.declared.line_rests.LineRests.{LineRests}
+use Rattle.ra_display.specs.LineRests.{AreOptionalRests, optional_presence_seen, seen_lines}
+use Rattle.ra_display.specs.PresenceRuns.{IsOptionalPresence}
+use Rattle.ra_runtime.specs.Saving.{FitWords, FitOptional}
 use Rattle.ra_member.proofs.GrowthLemmas.{taken_next}
 use Rattle.ra_member.specs.Members.{saved_hits, saved_numbers}
 use Rattle.ra_member.specs.MemberRuns.{kept_by}
 use Rattle.ra_member.proofs.Opened.{members_long}
 use Rattle.ra_runtime.proofs.ShapeLemmas.{runs_shaped}
-use Rattle.ra_runtime.proofs.ShownLines.{lines_fit_runs}
+use Rattle.ra_display.proofs.SeenLines.{lines_shaped}
 
 fit_more : (shapes : List ItemShape) (items : List KeptItem) (shape : ItemShape) (item : KeptItem) → ItemsFit shapes items → ItemFits shape item → ItemsFit (shapes ++ shape ∷ []) (items ++ item ∷ [])
 fit_more [] [] shape item fit one = (one, tt)
@@ -75,11 +73,6 @@ fitting_at clock k (r ∷ runs) [] run rest within fit = absurd fit
 fitting_at clock zero (r ∷ runs) (e ∷ rests) run rest within fit = fit.0
 fitting_at clock (suc k) (r ∷ runs) (e ∷ rests) run rest within fit = fitting_at clock k runs rests run rest (omega (arith, within)) fit.1
 
--- no block is written without one
-pub no_blocks : (names : List Name) → named_blocks names [] ≡ []
-no_blocks [] = refl
-no_blocks (name ∷ names) = refl
-
 -- what is kept of an achievement has the count of its hits
 pub achievement_kept_fits : (earned : Bool) (kept : TriggerKept) → kept.measured < 2 ^ 32 → AreWords (length kept.hits) kept.hits → ItemFits (shapes.Achievement (length kept.hits)) (kept_achievement earned kept)
 achievement_kept_fits earned kept measured hits =
@@ -92,34 +85,23 @@ board_kept_fits run hits numbers many as_many fit fit_too =
     (board_state_within run.board, record { as_many = many; fit = fit }, record { as_many = as_many; fit = fit_too })
 
 -- what is kept of a display is of its script's shape
-presence_kept_fits : (nodes : List Node) (script : Option ScriptContents) (run : Option PresenceRun) → IsOptionalPresence nodes script run → FitOptional (optional_presence_kept run) → PresenceFits (option_map presence_shape script) (optional_presence_kept run)
-presence_kept_fits nodes None None is fit = tt
-presence_kept_fits nodes None (Some run) is fit = absurd is
-presence_kept_fits nodes (Some script) None is fit = absurd is
-presence_kept_fits nodes (Some script) (Some run) is fit =
-    let longs = members_long (script_members script) (map kept_by run.lines.items) (lines_fit_runs nodes script.lines run.lines.items is.lines) in
+presence_kept_fits : (nodes : List Node) (values : List ℕ) (script : Option ScriptContents) (run : Option PresenceRun) (rests : LineRests) → IsOptionalPresence nodes script run → AreOptionalRests nodes values script run rests → FitOptional (optional_presence_seen run rests) → PresenceFits (option_map presence_shape script) (optional_presence_seen run rests)
+presence_kept_fits nodes values None None rests is are fit = tt
+presence_kept_fits nodes values None (Some run) rests is are fit = absurd is
+presence_kept_fits nodes values (Some script) None rests is are fit = absurd is
+presence_kept_fits nodes values (Some script) (Some run) rests is are fit =
+    let longs = members_long (script_members script) (seen_lines rests.clock run.lines.items rests.each.items) (lines_shaped nodes values script.lines run.lines.items rests is.lines are) in
     (is.shown, record { as_many = longs.0; fit = fit.hits }, record { as_many = longs.1; fit = fit.numbers })
 
--- a row of lines that was put behind nothing
-pub row_of : (rows : List Member → List ℕ) (old new row : List ℕ) (given lines : List Member) → old ≡ [] → new ≡ old ++ rows given → given ≡ lines → row ≡ rows lines → new ≡ row
-row_of rows old new row given lines empty all is same = all ∙ ap (λ xs. xs ++ rows given) empty ∙ ap rows is ∙ sym same
-
--- what is kept of a display is of 32 bits where the rows of its lines are
-pub display_fits : (run : PresenceRun) (given : List Member) → given ≡ run.lines.items → FitWords (hits_of_lines given) → FitWords (numbers_of_lines given) → FitPresence (presence_kept run)
-display_fits run given is hits numbers = record {
-  hits = subst FitWords (ap hits_of_lines is ∙ sym (lines_hits run.lines.items)) hits;
-  numbers = subst FitWords (ap numbers_of_lines is ∙ sym (lines_numbers run.lines.items)) numbers;
-}
-
 -- what is taken from a table over a set, from its runs and from its display
-module _ (set : SetContents) (table : TableSeen) (runs : List ItemRun) (kept : List KeptItem) (display : Option PresenceRun) (are : AreItemRuns table.nodes set.items runs) (is : IsOptionalPresence table.nodes set.script display) where
-  pub opening_taken : (count : ℕ) → count < 2 ^ 64 → AreWords (length (shape_of set).cells) table.cells → AreWords (length (shape_of set).priors) table.priors → ItemsFit (map run_shape runs) kept → FitOptional (optional_presence_kept display) → IsOpening (shape_of set) (opening_by count table kept display)
+module _ (set : SetContents) (table : TableSeen) (runs : List ItemRun) (kept : List KeptItem) (display : Option PresenceRun) (rests : LineRests) (are : AreItemRuns table.nodes set.items runs) (is : IsOptionalPresence table.nodes set.script display) (lines : AreOptionalRests table.nodes table.values set.script display rests) where
+  pub opening_taken : (count : ℕ) → count < 2 ^ 64 → AreWords (length (shape_of set).cells) table.cells → AreWords (length (shape_of set).priors) table.priors → ItemsFit (map run_shape runs) kept → FitOptional (optional_presence_seen display rests) → IsOpening (shape_of set) (opening_by count table kept (optional_presence_seen display rests))
   opening_taken count small cells priors fit fits = record {
     frames = small;
     cells = cells;
     priors = priors;
     items = subst (λ (ss : List ItemShape). ItemsFit ss kept) (runs_shaped table.nodes set.items runs are) fit;
-    presence = presence_kept_fits table.nodes set.script display is fits;
+    presence = presence_kept_fits table.nodes table.values set.script display rests is lines fits;
   }
 
 -- the blocks of a shape are short, each kind of them together

@@ -1,18 +1,11 @@
 -- What items are seen to keep, by what they keep and owe.
-use Rattle.std.proofs.Common.{◌≡◌, ℕ, zero, suc, ◌-◌, ◌<◌, ◌≤◌, Option, None, Some, IfSome, List, [], ◌∷◌, ◌++◌, length, map, zip, get_or, option_map, slice_get, refl, sym, ◌∙◌, ap, ap₂, arith, length-append}
-use Rattle.std.specs.List.{concat}
-use Rattle.std.proofs.lemmas.List.{length-map, map-append}
+use Rattle.std.proofs.Common.{◌≡◌, ℕ, zero, suc, ◌-◌, ◌<◌, ◌≤◌, Option, None, Some, IfSome, List, [], ◌∷◌, length, map, zip, get_or, option_map, slice_get, refl, sym, ◌∙◌, ap, ap₂, arith}
 use Rattle.ra_indirect.specs.declared.node.Node.{Node}
 use Rattle.ra_set.specs.Contents.{ItemContents, Unlocks, Ranks}
-use Rattle.ra_rest.specs.Groups.{paid}
 use Rattle.ra_rest.specs.Triggers.{owed_trigger}
 use Rattle.ra_trigger.specs.Steps.{TriggerKept}
-use Rattle.ra_value.specs.Steps.{ValueKept}
-use Rattle.ra_member.specs.Members.{MemberKept, hit_rows, saved_hits, saved_numbers}
 use Rattle.ra_member.proofs.Shaped.{member_shape}
-use Rattle.ra_resting.specs.Before.{HaveOneShape}
-use Rattle.ra_resting.specs.Owing.{owed_member, owed_tests, owed_values}
-use Rattle.ra_resting.proofs.GoesOn.{as_many, heads, numbers_long, owed_fits, paid_append, tails}
+use Rattle.ra_resting.proofs.GoesOn.{numbers_long, owed_fits}
 use Rattle.ra_runtime.specs.declared.item_run.ItemRun.{ItemRun}
 use Rattle.ra_runtime.specs.declared.item_run.ItemRun.TheVariants.{Achievement, Leaderboard}
 use Rattle.ra_runtime.specs.declared.item_state.ItemState.TheVariants as states
@@ -157,52 +150,3 @@ module _ (nodes : List Node) (values : List ℕ) (items : List ItemContents) (ru
 
   pub rests_fit : AreFitting runs rests.each.items rests.clock
   rests_fit = fitting nodes rests.clock items runs rests.each.items are they.many rooms (λ k within rest. (they.each k within).since rest)
-
--- what a member owes, in the row of a progress file
-paid_rows : (n : ℕ) (befores hits : List (List ℕ)) → map length befores ≡ map length hits → paid n (concat befores) (concat hits) ≡ concat (owed_tests n befores hits)
-paid_rows n [] [] long = refl
-paid_rows n [] (row ∷ hits) long = absurd (cc)
-paid_rows n (before ∷ befores) [] long = absurd (cc)
-paid_rows n (b ∷ befores) (row ∷ hits) long =
-    paid_append n b row (concat befores) (concat hits) (heads (length b) (length row) (map length befores) (map length hits) long)
-    ∙ ap (λ xs. paid n b row ++ xs) (paid_rows n befores hits (tails (length b) (length row) (map length befores) (map length hits) long))
-
-pub owed_rows : (n : ℕ) (olds news : List ValueKept) → map (λ (v : ValueKept). v.hits) (owed_values n (map (λ (v : ValueKept). v.hits) olds) news) ≡ owed_tests n (map (λ (v : ValueKept). v.hits) olds) (map (λ (v : ValueKept). v.hits) news)
-owed_rows n [] news = refl
-owed_rows n (old ∷ olds) [] = refl
-owed_rows n (old ∷ olds) (new ∷ news) = ap (λ xs. paid n old.hits new.hits ∷ xs) (owed_rows n olds news)
-
-rows_append : (n : ℕ) (one two three four : List (List ℕ)) → length one ≡ length two → owed_tests n (one ++ three) (two ++ four) ≡ owed_tests n one two ++ owed_tests n three four
-rows_append n [] [] three four long = refl
-rows_append n [] (b ∷ two) three four long = absurd (omega (arith, long))
-rows_append n (a ∷ one) [] three four long = absurd (omega (arith, long))
-rows_append n (a ∷ one) (b ∷ two) three four long = ap (λ xs. paid n a b ∷ xs) (rows_append n one two three four (omega (arith, long)))
-
--- two members of one shape have as many hits in a row
-rows_alike : (old new : MemberKept) → HaveOneShape old new → map length (hit_rows old) ≡ map length (hit_rows new)
-rows_alike old new shape =
-    let hits = map (λ (v : ValueKept). v.hits) in
-    map-append length old.tests (hits old.values) ∙ ap₂ (λ xs ys. xs ++ ys) shape.tests shape.hits ∙ sym (map-append length new.tests (hits new.values))
-
-concat_long : (olds news : List (List ℕ)) → map length olds ≡ map length news → length (concat olds) ≡ length (concat news)
-concat_long [] [] long = refl
-concat_long [] (row ∷ news) long = absurd (cc)
-concat_long (old ∷ olds) [] long = absurd (cc)
-concat_long (old ∷ olds) (row ∷ news) long =
-    let first = heads (length old) (length row) (map length olds) (map length news) long in
-    let others = concat_long olds news (tails (length old) (length row) (map length olds) (map length news) long) in
-    omega (arith, first, others, length-append old (concat olds), length-append row (concat news))
-
-pub saved_many : (old new : MemberKept) → HaveOneShape old new → length (saved_hits old) ≡ length (saved_hits new)
-saved_many old new shape = concat_long (hit_rows old) (hit_rows new) (rows_alike old new shape)
-
-pub saved_owed : (n : ℕ) (old new : MemberKept) → HaveOneShape old new → paid n (saved_hits old) (saved_hits new) ≡ saved_hits (owed_member n old new)
-saved_owed n old new shape =
-    let tests_many : length old.tests ≡ length new.tests = sym (length-map old.tests length) ∙ ap length shape.tests ∙ length-map new.tests length in
-    paid_rows n (hit_rows old) (hit_rows new) (rows_alike old new shape)
-    ∙ ap concat (rows_append n old.tests new.tests (map (λ (v : ValueKept). v.hits) old.values) (map (λ (v : ValueKept). v.hits) new.values) tests_many ∙ ap (λ xs. owed_tests n old.tests new.tests ++ xs) (sym (owed_rows n old.values new.values)))
-
-pub saved_stay : (n : ℕ) (old new : MemberKept) → HaveOneShape old new → saved_numbers (owed_member n old new) ≡ saved_numbers new
-saved_stay n old new shape =
-    let many : length old.values ≡ length new.values = sym (length-map old.values (λ (v : ValueKept). v.hits)) ∙ as_many (map (λ (v : ValueKept). v.hits) old.values) (map (λ (v : ValueKept). v.hits) new.values) length shape.hits ∙ length-map new.values (λ (v : ValueKept). v.hits) in
-    ap concat (numbers_long n old.values new.values many)

@@ -1,18 +1,16 @@
 -- The shape of a set is that of its runs, and within the types of its numbers.
-use Rattle.std.proofs.Common.{◌≡◌, ℕ, suc, ◌+◌, ◌<◌, ◌≤◌, ◌^◌, false, true, Option, None, Some, option_map, List, [], ◌∷◌, length, map, get_or, sum, sum_by, All, IfSome, refl, sym, ap, ap₂, subst, arith}
-use Rattle.std.specs.List.{filter_map}
-use Rattle.std.proofs.lemmas.List.Sums.{sum_by-cons, sum_by-append, sum_by-le-sum_by, get_or-le-sum_by, sum-map}
+use Rattle.std.proofs.Common.{◌≡◌, ℕ, suc, ◌+◌, ◌<◌, ◌≤◌, ◌^◌, Option, None, Some, option_map, List, [], ◌∷◌, length, map, get_or, sum, sum_by, All, IfSome, refl, sym, ap, ap₂, subst, arith}
+use Rattle.std.proofs.lemmas.List.Sums.{sum_by-cons, get_or-le-sum_by}
 use Rattle.std.proofs.lemmas.List.Elements.{All-map}
-use Rattle.ra_condition.specs.Contents.{TriggerContents, trigger_hits, PartContents, Legacy, Grouped, counted_in, value_hits}
-use Rattle.ra_condition.specs.Spelled.{IsPart, IsValue}
+use Rattle.ra_condition.specs.Contents.{trigger_hits, PartContents, value_hits}
+use Rattle.ra_condition.specs.Spelled.{IsValue}
 use Rattle.ra_indirect.specs.declared.node.Node.{Node}
 use Rattle.ra_memref.specs.Table.{TableSeen}
 use Rattle.ra_leaderboard.specs.Contents.{BoardContents}
 use Rattle.ra_leaderboard.specs.Spelled.{IsBoard}
-use Rattle.ra_richpresence.specs.Contents.{PieceContents, Bytes, Shows, LineContents, ScriptContents, value_in, values_in_line}
-use Rattle.ra_richpresence.specs.Spelled.{IsPiece}
+use Rattle.ra_richpresence.specs.Contents.{LineContents, ScriptContents}
 use Rattle.ra_set.specs.Contents.{ItemContents, Unlocks, Ranks, SetContents}
-use Rattle.ra_set.specs.Limits.{part_conditions, value_conditions, optional_value, optional_trigger, item_conditions, line_conditions, script_conditions, IsWithinLimits}
+use Rattle.ra_set.specs.Limits.{optional_value, item_conditions, line_conditions, script_conditions, IsWithinLimits}
 use Rattle.ra_progress.specs.declared.shape.ItemShape.TheVariants as shapes
 use Rattle.ra_member.specs.MemberRuns.{kept_by}
 use Rattle.ra_member.proofs.Opened.{saved_long, members_long}
@@ -21,17 +19,18 @@ use Rattle.ra_member.proofs.SideBySide.{beside_length}
 use Rattle.ra_member.specs.Members.{member_hits, member_numbers}
 use Rattle.ra_runtime.specs.declared.item_run.ItemRun.{ItemRun}
 use Rattle.ra_runtime.specs.declared.item_run.ItemRun.TheVariants.{Achievement, Leaderboard}
-use Rattle.ra_runtime.specs.declared.presence_run.PresenceRun.{PresenceRun}
-use Rattle.ra_runtime.specs.Order.{board_member, progress_in, tests_in, line_member, script_members, item_shape, presence_shape}
-use Rattle.ra_runtime.specs.NewPresence.{IsShownLine}
-use Rattle.ra_runtime.specs.PresenceRuns.{IsLineRun, IsOptionalPresence}
+use Rattle.ra_display.specs.declared.presence_run.PresenceRun.{PresenceRun}
+use Rattle.ra_runtime.specs.Order.{board_member, progress_in, line_member, script_members, item_shape, presence_shape}
+use Rattle.ra_display.specs.NewPresence.{IsShownLine}
+use Rattle.ra_display.specs.PresenceRuns.{IsLineRun, IsOptionalPresence}
 use Rattle.ra_runtime.specs.ItemRuns.{IsItemRun}
 use Rattle.ra_runtime.specs.AllRuns.{AreItemRuns, HaveDigits}
 use Rattle.ra_runtime.specs.Shapes.{run_shape, optional_run_shape, IsSmall, IsSmallPresence, IsLaidOut}
 use Rattle.ra_set.specs.Spelled.{IsItem, OptionalScript, IsSpelled}
 use Rattle.ra_value_format.specs.declared.format.Format.{Format}
-use Rattle.ra_runtime.proofs.NewLines.{shown_lines}
-use Rattle.ra_runtime.proofs.ShownLines.{lines_fit_runs}
+use Rattle.ra_display.proofs.Counts.{hits_within, parts_within, line_few}
+use Rattle.ra_display.proofs.NewLines.{shown_lines}
+use Rattle.ra_display.proofs.ShownLines.{lines_fit_runs}
 
 -- what a run keeps has the counts of its item
 module _ (nodes : List Node) where
@@ -49,27 +48,7 @@ module _ (nodes : List Node) where
   runs_shaped (item ∷ items) [] are = absurd are
   runs_shaped (item ∷ items) (run ∷ runs) are = ap₂ (λ x xs. x ∷ xs) (run_shaped item run are.0) (runs_shaped items runs are.1)
 
--- a value keeps at most a hit and a number for each of its conditions
-part_hits : (part : PartContents) → length (counted_in part) ≤ part_conditions part
-part_hits (Legacy terms) = omega arith
-part_hits (Grouped cs) = omega arith
-
-hits_within : (parts : List PartContents) → value_hits parts ≤ value_conditions parts
-hits_within parts = sum_by-le-sum_by (λ part. length (counted_in part)) part_conditions parts part_hits
-
-some_condition : (part : PartContents) → IsPart part → 0 < part_conditions part
-some_condition (Legacy terms) is = is.0
-some_condition (Grouped []) is = let bad : false ≡ true = is.measured in cc
-some_condition (Grouped (c ∷ cs)) is = omega arith
-
-parts_within : (parts : List PartContents) → All IsPart parts → length parts ≤ value_conditions parts
-parts_within [] each = omega arith
-parts_within (part ∷ parts) each =
-    let one : 0 < part_conditions part = some_condition part (each 0 part (omega arith)) in
-    let rest : length parts ≤ value_conditions parts = parts_within parts (λ k d within. each (suc k) d (omega arith)) in
-    let all : value_conditions (part ∷ parts) ≡ part_conditions part + value_conditions parts = sum_by-cons part_conditions part parts in
-    omega arith
-
+-- a progress keeps at most a hit and a number for each of its conditions
 progress_within : (progress : Option (List PartContents)) → IfSome progress IsValue → (sum (map value_hits (progress_in progress)) ≤ optional_value progress) × (sum (map length (progress_in progress)) ≤ optional_value progress)
 progress_within None is = (omega arith, omega arith)
 progress_within (Some parts) is = (omega (arith, hits_within parts), omega (arith, parts_within parts is.each))
@@ -114,32 +93,16 @@ presence_shaped nodes (Some script) (Some run) is =
     let many = beside_length (IsLineRun nodes) script.lines run.lines.items is.lines in
     (λ i. Some (record { lines = many i; hits = longs.0 i; parts = longs.1 i }))
 
--- a line keeps at most a hit and a number for each of its conditions
-test_within : (test : Option TriggerContents) → sum_by trigger_hits (tests_in test) ≤ optional_trigger test
-test_within None = omega arith
-test_within (Some t) = omega arith
-
-line_within : (line : LineContents) → member_hits (line_member line) ≤ line_conditions line
-line_within line =
-    let hits = sum_by-append (λ (n : ℕ). n) (map trigger_hits (tests_in line.test)) (map value_hits (values_in_line line)) in
-    omega (arith, hits, sum-map trigger_hits (tests_in line.test), sum-map value_hits (values_in_line line), test_within line.test, sum_by-le-sum_by value_hits value_conditions (values_in_line line) hits_within)
-
-macros_within : (pieces : List PieceContents) → All IsPiece pieces → sum_by length (filter_map value_in pieces) ≤ sum_by value_conditions (filter_map value_in pieces)
-macros_within [] each = omega arith
-macros_within (Bytes text ∷ pieces) each = macros_within pieces (λ k d within. each (suc k) d (omega arith))
-macros_within (Shows name parts ∷ pieces) each =
-    let one : IsValue parts = each 0 (Shows name parts) (omega arith) in
-    omega (arith, parts_within parts one.each, macros_within pieces (λ k d within. each (suc k) d (omega arith)), sum_by-cons length parts (filter_map value_in pieces), sum_by-cons value_conditions parts (filter_map value_in pieces))
-
+-- lines keep at most a hit and a number for each of their conditions
 pub lines_within : (lines : List LineContents) → All IsShownLine lines → (sum (map member_hits (map line_member lines)) ≤ sum_by line_conditions lines) × (sum (map member_numbers (map line_member lines)) ≤ sum_by line_conditions lines)
 lines_within [] each = (omega arith, omega arith)
 lines_within (line ∷ lines) each =
-    let one : IsShownLine line = each 0 line (omega arith) in
+    let one = line_few line (each 0 line (omega arith)) in
     let rest = lines_within lines (λ k d within. each (suc k) d (omega arith)) in
     let all = sum_by-cons line_conditions line lines in
     let own = λ (n : ℕ). n in (
-      omega (arith, line_within line, rest.0, all, sum_by-cons own (member_hits (line_member line)) (map member_hits (map line_member lines))),
-      omega (arith, macros_within line.pieces one.pieces, sum-map length (values_in_line line), rest.1, all, sum_by-cons own (member_numbers (line_member line)) (map member_numbers (map line_member lines))),
+      omega (arith, one.0, rest.0, all, sum_by-cons own (member_hits (line_member line)) (map member_hits (map line_member lines))),
+      omega (arith, one.1, rest.1, all, sum_by-cons own (member_numbers (line_member line)) (map member_numbers (map line_member lines))),
     )
 
 presence_small : (script : Option ScriptContents) → OptionalScript script → script_conditions script ≤ 65536 → IsSmallPresence (option_map presence_shape script)

@@ -6,17 +6,19 @@ use Rattle.ra_memref.specs.Values.{Start}
 use Rattle.ra_richpresence.specs.Contents.{ScriptContents}
 use Rattle.ra_set.specs.Spelled.{OptionalScript}
 use Rattle.ra_progress.specs.Contents.{KeptPresence, PresenceFits}
-use Rattle.ra_runtime.specs.declared.presence_run.PresenceRun.{PresenceRun}
+use Rattle.ra_display.specs.declared.presence_run.PresenceRun.{PresenceRun}
 use Rattle.ra_runtime.specs.Lines.{line_of}
 use Rattle.ra_runtime.specs.Order.{presence_shape}
 use Rattle.ra_runtime.specs.Openings.{optional_presence}
 use Rattle.ra_runtime.specs.Play.{shown_by}
-use Rattle.ra_runtime.specs.Presence.{DisplayKept, display_after, opened_display, display_text, presence_after}
-use Rattle.ra_runtime.specs.PresenceRuns.{IsPresenceRun, IsOptionalPresence, display_kept, presence_kept, optional_presence_kept}
-use Rattle.ra_runtime.specs.Showing.{MayShow, shown_text, optional_text}
+use Rattle.ra_display.specs.Presence.{DisplayKept, display_after, opened_display, display_text, presence_after}
+use Rattle.ra_display.specs.declared.line_rests.LineRests.{LineRests}
+use Rattle.ra_display.specs.LineRests.{AreLineRests, AreOptionalRests, display_seen, optional_presence_seen, presence_seen}
+use Rattle.ra_display.specs.PresenceRuns.{IsPresenceRun, IsOptionalPresence}
+use Rattle.ra_display.specs.Showing.{MayShow, shown_text, optional_text}
 use Rattle.ra_runtime.proofs.OpeningFits.{script_fits}
-use Rattle.ra_runtime.proofs.PresenceCuts.{DisplayFits, display_again, display_fits}
-use Rattle.ra_runtime.proofs.ShownLines.{lines_fit_runs}
+use Rattle.ra_display.proofs.PresenceCuts.{DisplayFits, display_again, display_fits}
+use Rattle.ra_display.proofs.SeenLines.{lines_fitting, lines_shaped, text_seen}
 
 -- a display of a script that some text spells shows one of its lines
 pub may_show : (nodes : List Node) (script : Option ScriptContents) (run : Option PresenceRun) → OptionalScript script → IsOptionalPresence nodes script run → MayShow script run
@@ -25,20 +27,20 @@ may_show nodes None (Some run) spelled is = tt
 may_show nodes (Some script) None spelled is = tt
 may_show nodes (Some script) (Some run) spelled is = (is.shown, spelled.0.formats)
 
-module _ (nodes : List Node) (start : Start) (count : ℕ) (history : History) where
-  shows_script : (script : ScriptContents) (run : PresenceRun) (opened : KeptPresence) → IsPresenceRun nodes script run → PresenceFits (Some (presence_shape script)) (Some opened) → presence_kept run ≡ presence_after start script opened history → shown_text count script run ≡ shown_by start count history (Some script) (Some opened)
-  shows_script script run opened is fits same =
-      let runs : DisplayKept = display_kept run in
+module _ (nodes : List Node) (values : List ℕ) (start : Start) (count : ℕ) (history : History) where
+  shows_script : (script : ScriptContents) (run : PresenceRun) (rests : LineRests) (opened : KeptPresence) → IsPresenceRun nodes script run → AreLineRests nodes values script.lines run.lines.items rests → PresenceFits (Some (presence_shape script)) (Some opened) → presence_seen run rests ≡ presence_after start script opened history → shown_text count script run ≡ shown_by start count history (Some script) (Some opened)
+  shows_script script run rests opened is are fits same =
+      let runs : DisplayKept = display_seen run rests in
       let after : DisplayKept = display_after start script (opened_display script opened) history in
       let fit : DisplayFits script after = display_fits start script (opened_display script opened) history (script_fits script opened fits) in
-      let kept : runs ≡ after = sym (display_again script runs (lines_fit_runs nodes script.lines run.lines.items is.lines)) ∙ ap (opened_display script) same ∙ display_again script after fit in
-      ap (λ k. line_of (codes "presence" ∷ decimal count ∷ display_text script k ∷ [])) kept
+      let kept : runs ≡ after = sym (display_again script runs (lines_shaped nodes values script.lines run.lines.items rests is.lines are)) ∙ ap (opened_display script) same ∙ display_again script after fit in
+      ap (λ t. line_of (codes "presence" ∷ decimal count ∷ t ∷ [])) (text_seen script run rests (lines_fitting nodes values script.lines run.lines.items rests is.lines are) ∙ ap (display_text script) kept)
 
-  pub shows : (script : Option ScriptContents) (run : Option PresenceRun) (opened : Option KeptPresence) → IsOptionalPresence nodes script run → PresenceFits (option_map presence_shape script) opened → optional_presence_kept run ≡ optional_presence start history script opened → optional_text count script run ≡ shown_by start count history script opened
-  shows None None None is fits same = refl
-  shows None None (Some opened) is fits same = absurd fits
-  shows None (Some run) opened is fits same = absurd is
-  shows (Some script) None opened is fits same = absurd is
-  shows (Some script) (Some run) None is fits same = absurd fits
-  shows (Some script) (Some run) (Some opened) is fits same =
-      shows_script script run opened is fits (let e : presence_kept run ≡ presence_after start script opened history = cc in e)
+  pub shows : (script : Option ScriptContents) (run : Option PresenceRun) (rests : LineRests) (opened : Option KeptPresence) → IsOptionalPresence nodes script run → AreOptionalRests nodes values script run rests → PresenceFits (option_map presence_shape script) opened → optional_presence_seen run rests ≡ optional_presence start history script opened → optional_text count script run ≡ shown_by start count history script opened
+  shows None None rests None is are fits same = refl
+  shows None None rests (Some opened) is are fits same = absurd fits
+  shows None (Some run) rests opened is are fits same = absurd is
+  shows (Some script) None rests opened is are fits same = absurd is
+  shows (Some script) (Some run) rests None is are fits same = absurd fits
+  shows (Some script) (Some run) rests (Some opened) is are fits same =
+      shows_script script run rests opened is are fits (let e : presence_seen run rests ≡ presence_after start script opened history = cc in e)

@@ -1,7 +1,7 @@
 -- The item at a place, stepped.
 use Rattle.std.proofs.Common.{◌≡◌, ℕ, ◌+◌, ◌<◌, Bool, false, None, Some, if◌then◌else◌, List, length, map, get_or, set, slice_set, sym, ◌∙◌, ap, subst}
 use Rattle.std.proofs.Math.Path.{transport}
-use Rattle.std.proofs.lemmas.List.{get_or-map, get_or_default, length-map}
+use Rattle.std.proofs.lemmas.List.{get_or-map, get_or_default}
 use Rattle.ra_memref.specs.Table.{TableSeen}
 use Rattle.ra_set.specs.declared.item.Item.{Item}
 use Rattle.ra_set.specs.Contents.{ItemContents, item_contents}

@@ -5,18 +5,18 @@ use Rattle.ra_indirect.specs.Pools.{cells_of, tracked_of}
 use Rattle.ra_memref.specs.Table.{TableSeen}
 use Rattle.ra_set.specs.Contents.{SetContents}
 use Rattle.ra_progress.specs.declared.said.Said.{Said}
-use Rattle.ra_progress.specs.Contents.{KeptItem, plain_presence}
+use Rattle.ra_progress.specs.Contents.{KeptItem, plain_presence, KeptPresence}
 use Rattle.ra_progress.specs.Layout.{frames_at}
 use Rattle.ra_progress.specs.Room.{IsRoom, Says}
 use Rattle.ra_progress.specs.Saying.{own_places, said_items, said_or, said_presence, script_place, says}
 use Rattle.ra_memref.specs.Names.{cell_name, tracked_name}
 use Rattle.ra_runtime.specs.declared.item_run.ItemRun.{ItemRun}
-use Rattle.ra_runtime.specs.declared.presence_run.PresenceRun.{PresenceRun}
+use Rattle.ra_display.specs.declared.presence_run.PresenceRun.{PresenceRun}
 use Rattle.ra_runtime.specs.Earned.{is_earned, items_with, both_earned, earned_in, with_earned}
 use Rattle.ra_runtime.specs.Order.{set_cells, set_tracked, item_shape, presence_shape, shape_of}
 use Rattle.ra_runtime.specs.ItemRuns.{kept_run}
 use Rattle.ra_runtime.specs.AllRuns.{AreItemRuns, IsOver, opening_by}
-use Rattle.ra_runtime.specs.PresenceRuns.{IsOptionalPresence, optional_presence_kept}
+use Rattle.ra_display.specs.PresenceRuns.{IsOptionalPresence, optional_presence_kept}
 use Rattle.ra_runtime.specs.Restoring.{PutsBackPresence, TakesNumbers, restored_item, restored_items}
 use Rattle.ra_runtime.specs.Shapes.{run_shape}
 use Rattle.ra_runtime.proofs.ShapeLemmas.{runs_shaped, presence_shaped}
@@ -43,11 +43,11 @@ module _ (set : SetContents) (table after : TableSeen) (over : IsOver set table)
   pub marked_restored : after.marked ≡ replicate (length (set_cells set)) true
   marked_restored = takes.marked ∙ ap (λ m. replicate m true) cells_many
 
-  pub kept_restored : (says_it : Says (shape_of set) bytes said) (runs : List ItemRun) (olds news : List KeptItem) (display new : Option PresenceRun) → AreItemRuns table.nodes set.items runs → IsOptionalPresence table.nodes set.script display
+  pub kept_restored : (says_it : Says (shape_of set) bytes said) (runs : List ItemRun) (olds news : List KeptItem) (display new : Option PresenceRun) (shown : Option KeptPresence) → AreItemRuns table.nodes set.items runs → IsOptionalPresence table.nodes set.script display
       → map is_earned olds ≡ map is_earned (map kept_run runs) → news ≡ restored_items bytes runs said.places.items
-      → (place : Option ℕ) → place ≡ slice_index_or said.places.items (length runs) None → PutsBackPresence bytes place display new
-      → (count : ℕ) → count ≡ frames_at bytes → opening_by count after news new ≡ with_earned (says (shape_of set) bytes) (both_earned (map is_earned olds) (earned_in (says (shape_of set) bytes)))
-  kept_restored says_it runs olds news display new are is same_earned kept place there back count frames =
+      → (place : Option ℕ) → place ≡ slice_index_or said.places.items (length runs) None → PutsBackPresence bytes place display new → shown ≡ optional_presence_kept new
+      → (count : ℕ) → count ≡ frames_at bytes → opening_by count after news shown ≡ with_earned (says (shape_of set) bytes) (both_earned (map is_earned olds) (earned_in (says (shape_of set) bytes)))
+  kept_restored says_it runs olds news display new shown are is same_earned kept place there back seen count frames =
       let numbers = takes.cells_too ∙ says_it.cells in
       let priors = takes.priors_too ∙ says_it.priors in
       let shaped : map run_shape runs ≡ map item_shape set.items = runs_shaped table.nodes set.items runs are in
@@ -59,7 +59,7 @@ module _ (set : SetContents) (table after : TableSeen) (over : IsOver set table)
       in
       let many : length runs ≡ length (map item_shape set.items) = sym (length-map runs run_shape) ∙ ap length shaped in
       let stands : place ≡ script_place (shape_of set) bytes = there ∙ ap₂ (λ places n. slice_index_or places n None) says_it.places many in
-      let presence : optional_presence_kept new ≡ option_map (λ p. said_or (said_presence bytes p) (plain_presence p) (script_place (shape_of set) bytes)) (option_map presence_shape set.script) =
-      back.kept ∙ (λ i. option_map (λ p. said_or (said_presence bytes p) (plain_presence p) (stands i)) (presence_shaped table.nodes set.script display is i))
+      let presence : shown ≡ option_map (λ p. said_or (said_presence bytes p) (plain_presence p) (script_place (shape_of set) bytes)) (option_map presence_shape set.script) =
+      seen ∙ back.kept ∙ (λ i. option_map (λ p. said_or (said_presence bytes p) (plain_presence p) (stands i)) (presence_shaped table.nodes set.script display is i))
       in
       (λ i. record { frames = frames i; cells = numbers i; priors = priors i; items = items i; presence = presence i })

@@ -1,6 +1,7 @@
 use Rattle.ra_member.specs.MemberRuns.{kept_by}
 use Rattle.ra_resting.specs.Before.{kept_before}
-use Rattle.ra_runtime.proofs.RestRuns.{board_stays, owed_shape}
+use Rattle.ra_resting.proofs.OwedRows.{owed_shape}
+use Rattle.ra_runtime.proofs.RestRuns.{board_stays}
 use Rattle.ra_runtime.proofs.rest.pay_board.Goals as goal
 
 pub returns-in-Leaderboard-clause-run : goal.returns-in-Leaderboard-clause-run

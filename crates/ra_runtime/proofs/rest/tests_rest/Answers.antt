@@ -1,7 +1,8 @@
 use Rattle.std.proofs.Common.{◌≡◌, length, map, sym, ◌∙◌, ap, arith}
 use Rattle.std.proofs.lemmas.List.{length-map}
 use Rattle.ra_condition.specs.Contents.{trigger_contents}
-use Rattle.ra_runtime.proofs.RestRuns.{test_kept, three_keep}
+use Rattle.ra_resting.proofs.Kept.{test_kept}
+use Rattle.ra_runtime.proofs.RestRuns.{three_keep}
 use Rattle.ra_runtime.proofs.rest.tests_rest.Goals as goal
 
 pub returns : goal.returns

@@ -1,4 +1,4 @@
-use Rattle.std.proofs.Common.{◌≡◌, ◌<◌, None, length, get_or, refl, ap, arith}
+use Rattle.std.proofs.Common.{◌<◌, None, length, get_or, refl, ap, arith}
 use Rattle.std.proofs.lemmas.List.{get_or_default}
 use Rattle.ra_runtime.specs.declared.rest.Rest.{Rest}
 use Rattle.ra_runtime.proofs.MadeRests.{forgotten_next}

@@ -13,7 +13,7 @@ use Rattle.ra_runtime.specs.declared.item_run.ItemRun.{ItemRun}
 use Rattle.ra_runtime.specs.declared.item_run.ItemRun.TheVariants.{Leaderboard}
 use Rattle.ra_runtime.specs.Resting.{owed_run}
 use Rattle.ra_runtime.specs.Shapes.{run_shape}
-use Rattle.ra_runtime.proofs.SeenItems.{saved_many, saved_owed, saved_stay}
+use Rattle.ra_resting.proofs.OwedRows.{saved_many, saved_owed, saved_stay}
 use Rattle.ra_runtime.proofs.saved.put_owed.Goals as goal
 
 pub pay-requires-in-Leaderboard-Leaderboard : goal.pay-requires-in-Leaderboard-Leaderboard

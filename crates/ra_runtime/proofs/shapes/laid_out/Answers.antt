@@ -1,10 +1,8 @@
-use Rattle.std.proofs.Common.{◌≡◌, List, [], map, sym, ◌∙◌, ap, subst}
+use Rattle.std.proofs.Common.{◌≡◌, List, [], map, ap, subst}
 use Rattle.ra_indirect.specs.declared.node.Node.{Node}
-use Rattle.ra_indirect.specs.Pools.{cells_of, tracked_of}
-use Rattle.ra_memref.specs.Names.{cell_name, tracked_name}
 use Rattle.ra_set.specs.Contents.{ItemContents, item_contents, set_contents}
 use Rattle.ra_runtime.specs.Planning.{AreWaiting}
-use Rattle.ra_runtime.proofs.MadeLemmas.{laid}
+use Rattle.ra_runtime.proofs.MadeLemmas.{laid, names_set}
 use Rattle.ra_runtime.proofs.shapes.laid_out.Goals as goal
 
 pub returns-clause-laid : goal.returns-clause-laid
@@ -25,9 +23,4 @@ returns-clause-names c =
     let runs = c.in_ok-runs.runs.items in
     let same : map item_contents c.deref.result.now ≡ set.items = ap (map item_contents) c.deref.ensures.value in
     let are : AreWaiting [] items set.items runs = subst (λ (xs : List ItemContents). AreWaiting [] items xs runs) same (subst (λ (ns : List Node). AreWaiting ns items (map item_contents c.deref.result.now) runs) c.new-pool.ensures c.in_ok-runs.ensures) in
-    let is = laid set items pool c.args.size c.in_ok-table.table runs c.in_ok-presence.presence c.requires.limits are c.in_ok-presence.ensures c.in_ok-table.ensures in
-    let nodes = sym c.in_ok-table.ensures.pool in
-    record {
-      cells = c.in_ok-names.ensures.cells ∙ ap (λ ns. map cell_name (cells_of ns)) nodes ∙ ap (map cell_name) is.over.cells;
-      priors_too = c.in_ok-names.ensures.priors ∙ ap (λ ns. map tracked_name (tracked_of ns)) nodes ∙ ap (map tracked_name) is.over.tracked;
-    }
+    names_set set items pool c.requires.limits are.grows c.in_ok-presence.ensures.grows c.in_ok-names.names c.in_ok-names.ensures.cells c.in_ok-names.ensures.priors

@@ -1,29 +1,39 @@
-use Rattle.std.proofs.Common.{List, All, map, ap, subst, sym, ◌∙◌}
-use Rattle.ra_set.specs.Contents.{set_contents}
-use Rattle.ra_runtime.specs.declared.item_run.ItemRun.{ItemRun}
+use Rattle.std.proofs.Common.{[], All, map, ap, subst, sym, ◌∙◌, arith}
+use Rattle.ra_set.specs.Contents.{item_contents, set_contents}
+use Rattle.ra_runtime.specs.Order.{item_shape}
+use Rattle.ra_runtime.specs.Planning.{GrowsByItems}
 use Rattle.ra_runtime.specs.Shapes.{run_shape, IsSmall}
-use Rattle.ra_runtime.proofs.ShapeLemmas.{laid_shapes, laid_small, laid_presence, laid_small_presence}
+use Rattle.ra_runtime.proofs.MadeLemmas.{few_cells, few_tracked, names_set}
+use Rattle.ra_runtime.proofs.ShapeLemmas.{runs_shaped, items_small}
 use Rattle.ra_runtime.proofs.SmallShape.{small_shape}
 use Rattle.ra_runtime.proofs.shapes.shape_of.Goals as goal
 
-pub shape_over-requires-clause-short : goal.shape_over-requires-clause-short
-shape_over-requires-clause-short c =
-    let laid = c.in_ok-_table.ensures.laid in
-    small_shape (set_contents c.args.set.now) c.requires.limits c.requires.spelled laid.few_cells laid.few_tracked
+pub shape_beside-requires-clause-names : goal.shape_beside-requires-clause-names
+shape_beside-requires-clause-names c =
+    let set = set_contents c.args.set.now in
+    let items = c.new_runs.new.pool in
+    let pool = c.counted_presence.new.pool in
+    let first : GrowsByItems [] items set.items = rw (c.new-pool.ensures, c.deref.ensures.value) at c.in_ok-runs.ensures.grows in
+    names_set set items pool c.requires.limits first c.in_ok-presence.ensures.grows c.in_ok-names.names c.in_ok-names.ensures.cells c.in_ok-names.ensures.priors
 
-pub shape_over-requires-clause-small : goal.shape_over-requires-clause-small
-shape_over-requires-clause-small c =
-    subst (λ (runs : List ItemRun). All IsSmall (map run_shape runs)) (sym c.deref.ensures.value)
-    (laid_small (set_contents c.args.set.now) 0 c.in_ok-_table._table c.in_ok-_table.runs.items c.in_ok-_table.presence c.in_ok-_table.ensures.laid c.requires.limits c.requires.spelled)
+pub shape_beside-requires-clause-short : goal.shape_beside-requires-clause-short
+shape_beside-requires-clause-short c =
+    let set = set_contents c.args.set.now in
+    let items = c.new_runs.new.pool in
+    let pool = c.counted_presence.new.pool in
+    let first : GrowsByItems [] items set.items = rw (c.new-pool.ensures, c.deref.ensures.value) at c.in_ok-runs.ensures.grows in
+    let next = c.in_ok-presence.ensures.grows in
+    small_shape set c.requires.limits c.requires.spelled (few_cells set items pool c.requires.limits first next) (few_tracked set items pool c.requires.limits first next)
 
-pub shape_over-requires-clause-items : goal.shape_over-requires-clause-items
-shape_over-requires-clause-items c =
-    ap (map run_shape) c.deref.ensures.value ∙ laid_shapes (set_contents c.args.set.now) 0 c.in_ok-_table._table c.in_ok-_table.runs.items c.in_ok-_table.presence c.in_ok-_table.ensures.laid
+pub shape_beside-requires-clause-small : goal.shape_beside-requires-clause-small
+shape_beside-requires-clause-small c =
+    let set = set_contents c.args.set.now in
+    let runs = c.in_ok-runs.runs.items in
+    let shaped = runs_shaped c.new_runs.new.pool (map item_contents c.deref.result.now) runs c.in_ok-runs.ensures.runs_too in
+    let same = ap (map run_shape) c.deref-2.ensures.value ∙ shaped ∙ ap (λ xs. map item_shape (map item_contents xs)) c.deref.ensures.value in
+    subst (All IsSmall) (sym same) (items_small set.items c.requires.spelled.items (omega (arith, c.requires.limits.conditions)))
 
-pub shape_over-requires-clause-small_presence : goal.shape_over-requires-clause-small_presence
-shape_over-requires-clause-small_presence c =
-    laid_small_presence (set_contents c.args.set.now) 0 c.in_ok-_table._table c.in_ok-_table.runs.items c.in_ok-_table.presence c.in_ok-_table.ensures.laid c.requires.limits c.requires.spelled
-
-pub shape_over-requires-clause-presence : goal.shape_over-requires-clause-presence
-shape_over-requires-clause-presence c =
-    laid_presence (set_contents c.args.set.now) 0 c.in_ok-_table._table c.in_ok-_table.runs.items c.in_ok-_table.presence c.in_ok-_table.ensures.laid
+pub shape_beside-requires-clause-items : goal.shape_beside-requires-clause-items
+shape_beside-requires-clause-items c =
+    let shaped = runs_shaped c.new_runs.new.pool (map item_contents c.deref.result.now) c.in_ok-runs.runs.items c.in_ok-runs.ensures.runs_too in
+    ap (map run_shape) c.deref-2.ensures.value ∙ shaped ∙ ap (λ xs. map item_shape (map item_contents xs)) c.deref.ensures.value

@@ -1,11 +1,11 @@
-use Rattle.std.proofs.Common.{◌≡◌, ℕ, ◌+◌, ◌<◌, ◌≤◌, true, None, List, length, map, get_or, refl, sym, ◌∙◌, ap, subst, arith}
+use Rattle.std.proofs.Common.{◌≡◌, ◌+◌, ◌<◌, true, None, List, length, map, get_or, refl, sym, ap, subst, arith}
 use Rattle.std.proofs.lemmas.List.{length-map, length-replicate}
-use Rattle.ra_set.specs.Contents.{ItemContents, item_contents}
+use Rattle.ra_set.specs.Contents.{item_contents}
 use Rattle.ra_runtime.specs.declared.item_run.ItemRun.{ItemRun}
 use Rattle.ra_runtime.specs.declared.rest.Rest.{Rest}
 use Rattle.ra_runtime.specs.ItemRuns.{IsItemRun}
 use Rattle.ra_runtime.proofs.MadeRests.{AreMade, all_made, awake_kept, item_below, made_next}
-use Rattle.ra_runtime.proofs.RestSteps.{element}
+use Rattle.ra_resting.proofs.Turns.{element}
 use Rattle.ra_runtime.proofs.RunsLemmas.{length_runs, run_at}
 use Rattle.ra_runtime.proofs.rests.Rests.new.Goals as goal
 

@@ -1,13 +1,11 @@
-use Rattle.std.proofs.Common.{◌≡◌, ℕ, ◌+◌, ◌<◌, ◌≤◌, Bool, None, Some, IfSome, List, length, map, get_or, refl, sym, ◌∙◌, ap, subst, arith}
-use Rattle.std.proofs.lemmas.List.{length-map}
-use Rattle.ra_memref.specs.Flags.{NoneSet, IsFirstSet}
-use Rattle.ra_readers.specs.Readers.{ReadersSeen, Reads}
-use Rattle.ra_set.specs.Contents.{ItemContents, item_contents}
-use Rattle.ra_runtime.specs.declared.rest.Rest.{Rest}
+use Rattle.std.proofs.Common.{map, refl, sym, subst, arith}
+use Rattle.ra_memref.specs.Flags.{IsFirstSet}
+use Rattle.ra_readers.specs.Readers.{ReadersSeen}
+use Rattle.ra_set.specs.Contents.{item_contents}
 use Rattle.ra_runtime.specs.declared.rests.Rests.{Rests}
-use Rattle.ra_runtime.specs.Resting.{HasRoom}
-use Rattle.ra_runtime.specs.Rests.{HasPlace, IsWoken}
-use Rattle.ra_runtime.proofs.RestSteps.{IsFar, far_on, here, place_here, quiet_same, rests_after, seen_after, told_after}
+use Rattle.ra_runtime.specs.Rests.{HasPlace}
+use Rattle.ra_resting.proofs.Woken.{quiet_same}
+use Rattle.ra_runtime.proofs.RestSteps.{IsFar, far_on, here, place_here, rests_after, seen_after, told_after}
 use Rattle.ra_runtime.proofs.rests.Rests.step.Goals as goal
 
 -- the rests with other readers
@@ -49,7 +47,7 @@ returns-clause-rests c =
     let p = c.loop-place in
     let next = c.saturating_add-now.result in
     let were = c.requires.rests in
-    let woken = quiet_same table contents c.args.runs.now c.args.self.now c.wake.new.readers were c.wake.ensures in
+    let woken = quiet_same table were.values c.args.self.now.clock c.args.self.now.readers c.wake.new.readers (record { each = were.each; nodes = were.nodes }) were.are.rows c.wake.ensures in
     rests_after table c.requires.frame contents next c.args.runs.now start were.values c.args.self.now were.are c.requires.runs refl c.wake.ensures.rows refl woken (λ small. omega arith)
     p.runs p.self p.at p.invariant (c.in_default.ensures.none refl) _ refl c.next_due.ensures.same refl refl refl (omega arith)
 
@@ -61,7 +59,7 @@ returns-clause-stepped c =
     let p = c.loop-place in
     let next = c.saturating_add-now.result in
     let were = c.requires.rests in
-    let woken = quiet_same table contents c.args.runs.now c.args.self.now c.wake.new.readers were c.wake.ensures in
+    let woken = quiet_same table were.values c.args.self.now.clock c.args.self.now.readers c.wake.new.readers (record { each = were.each; nodes = were.nodes }) were.are.rows c.wake.ensures in
     seen_after table c.requires.frame contents next c.args.runs.now start were.values c.args.self.now were.are c.requires.runs refl c.wake.ensures.rows refl woken (λ small. omega arith)
     p.runs p.self p.at p.invariant (c.in_default.ensures.none refl) _ refl c.next_due.ensures.same refl refl refl (omega arith)
 
@@ -73,6 +71,6 @@ returns-clause-told c =
     let p = c.loop-place in
     let next = c.saturating_add-now.result in
     let were = c.requires.rests in
-    let woken = quiet_same table contents c.args.runs.now c.args.self.now c.wake.new.readers were c.wake.ensures in
+    let woken = quiet_same table were.values c.args.self.now.clock c.args.self.now.readers c.wake.new.readers (record { each = were.each; nodes = were.nodes }) were.are.rows c.wake.ensures in
     told_after table c.requires.frame contents next c.args.runs.now start were.values c.args.self.now were.are c.requires.runs refl c.wake.ensures.rows refl woken (λ small. omega arith)
     p.runs p.self p.at p.invariant (c.in_default.ensures.none refl) _ refl c.next_due.ensures.same refl refl refl (omega arith)

@@ -1,16 +1,17 @@
-use Rattle.std.proofs.Common.{◌≡◌, ◌∙◌, ◌<◌, ◌^◌, ℕ, ap, sym, subst, refl, length, map, slice_index, List, true, rules, arith}
+use Rattle.std.proofs.Common.{◌≡◌, ◌∙◌, ◌<◌, ◌^◌, ap, sym, subst, refl, length, map, slice_index, List, true, rules, arith}
 use Rattle.std.proofs.Math.Path.{transport}
-use Rattle.std.proofs.lemmas.List.{length-map, with_items_is}
+use Rattle.std.proofs.lemmas.List.{with_items_is}
 use Rattle.std.specs.Vec.{with_items}
 use Rattle.ra_indirect.specs.declared.node.Node.{Node}
 use Rattle.ra_set.specs.Contents.{item_contents, set_contents}
 use Rattle.ra_runtime.specs.declared.item_run.ItemRun.{ItemRun}
-use Rattle.ra_runtime.specs.declared.rests.Rests.{Rests}
 use Rattle.ra_runtime.specs.AllRuns.{AreItemRuns, all_events, opening_by}
+use Rattle.ra_display.specs.LineRests.{AreOptionalRests, optional_presence_seen}
 use Rattle.ra_runtime.specs.Lines.{event_lines}
-use Rattle.ra_runtime.specs.Rests.{AreRests, AreSteppedSeen, AreTold, IsSomeFrame, WereRests, seen_by}
+use Rattle.ra_runtime.specs.Rests.{AreRests, AreSteppedSeen, AreTold, WereRests, seen_by}
 use Rattle.ra_runtime.specs.Seen.{runtime_seen}
 use Rattle.ra_runtime.proofs.FrameLemmas.{frame_kept, frame_earned, frame_events, frame_lines, over_after, some_frame, takes_frame, reads_few}
+use Rattle.ra_display.proofs.SeenLines.{were_rests}
 use Rattle.ra_runtime.proofs.SeenItems.{rests_seen}
 use Rattle.ra_runtime.proofs.runtime.Runtime.frame.Goals as goal
 
@@ -31,7 +32,23 @@ step-requires-clause-rests g c =
 pub step-requires-clause-frame : goal.step-requires-clause-frame
 step-requires-clause-frame g c =
     let t = c.self.inside in
-    some_frame (set_contents t.set) t.count t.table c.sample.new.self t.memory (seen_by t.runs.items t.rests) t.presence c.self.invariant.over c.sample.ensures.taken
+    some_frame (set_contents t.set) t.count t.table c.sample.new.self t.memory (seen_by t.runs.items t.rests) (optional_presence_seen t.presence t.line_rests) c.self.invariant.over c.sample.ensures.taken
+
+pub step_presence-requires-clause-frame : goal.step_presence-requires-clause-frame
+step_presence-requires-clause-frame g c =
+    let t = c.self.inside in
+    some_frame (set_contents t.set) t.count t.table c.sample.new.self t.memory (seen_by t.runs.items t.rests) (optional_presence_seen t.presence t.line_rests) c.self.invariant.over c.sample.ensures.taken
+
+pub step_presence-requires-clause-rests : goal.step_presence-requires-clause-rests
+step_presence-requires-clause-rests g c =
+    let t = c.self.inside in
+    let same = c.sample.ensures.taken.pool.0 in
+    let changed = c.sample.ensures.changed in
+    were_rests c.sample.new.self t.table.values (set_contents t.set).script t.presence t.line_rests (record {
+      each = λ n within differ. changed.each n (subst (λ (ns : List Node). n < length ns) same within) differ;
+      nodes = λ k within. subst (λ (ns : List Node). slice_index c.sample.new.self.changed k < length ns) (sym same) (changed.nodes k within);
+    })
+    (subst (λ (ns : List Node). AreOptionalRests ns t.table.values (set_contents t.set).script t.presence t.line_rests) (sym same) c.self.invariant.lines)
 
 pub invariant_of-self : goal.invariant_of-self
 invariant_of-self g c =
@@ -49,11 +66,12 @@ invariant_of-self g c =
       shape = c.self.invariant.shape;
       usable = c.self.invariant.usable;
       room = c.self.invariant.room;
-      over = over_after set t.count t.table now t.memory (seen_by t.runs.items t.rests) t.presence c.self.invariant.over c.sample.ensures.taken;
+      over = over_after set t.count t.table now t.memory (seen_by t.runs.items t.rests) (optional_presence_seen t.presence t.line_rests) c.self.invariant.over c.sample.ensures.taken;
       runs = subst (λ (rs : List ItemRun). AreItemRuns now.nodes set.items rs) (sym same) runs;
       rests = subst (λ (rs : List ItemRun). AreRests now.nodes now.values set.items rs c.step.new.self) (sym same) rests;
       told = λ framed. subst (λ (rs : List ItemRun). AreTold set.items rs c.step.new.self) (sym same) told;
       presence = c.step_presence.ensures.run;
+      lines = c.step_presence.ensures.rests;
       digits = c.self.invariant.digits;
       size = c.sample.ensures.taken.pool.1 ∙ c.self.invariant.size;
       agrees = c.sample.ensures.taken.agrees;
@@ -69,17 +87,20 @@ returns-clause-taken g c =
     let news = c.step.new.runs in
     let rests = c.step.new.self in
     let shown = c.step_presence.new.run in
+    let line_rests = c.step_presence.new.rests in
+    let was = optional_presence_seen t.presence t.line_rests in
+    let is = optional_presence_seen shown line_rests in
     let small : count < 2 ^ 64 = omega arith in
     let same : (with_items t.runs news).items ≡ news = with_items_is t.runs news (c.step.auto.runs ∙ c.deref_mut.ensures.len) in
     let stepped : AreSteppedSeen now set.items olds (seen_by news rests) news = rw (c.deref.ensures.value, c.deref_mut.ensures.value) at c.step.ensures.stepped in
     let over = c.self.invariant.over in
     let taken = c.sample.ensures.taken in
     let steps = c.step_presence.ensures.steps in
-    rw (← c.self.view_is) (takes_frame (runtime_seen t) (runtime_seen (record { set = t.set; shape = t.shape; said = t.said; memory = t.memory; table = now; runs = with_items t.runs news; rests = rests; presence = shown; count = c.saturating_add-self-inside.result; frame = count; framed = true })) refl refl
-    ((λ i. opening_by (c.saturating_add-self-inside.ensures i) now (seen_by (same i) rests) shown) ∙ frame_kept set count t.table now t.memory olds t.presence over taken (seen_by news rests) news shown stepped steps)
-    (frame_earned set count t.table now t.memory olds t.presence over taken (seen_by news rests) news shown stepped steps (rests_seen t.table.nodes t.table.values set.items t.runs.items t.rests c.self.invariant.runs c.self.invariant.rests))
-    (ap (all_events set.items) same ∙ frame_events set count t.table now t.memory olds t.presence over taken (seen_by news rests) news shown stepped steps)
-    (ap (λ rs. event_lines count (all_events set.items rs)) same ∙ frame_lines set count t.table now t.memory olds t.presence over taken (seen_by news rests) news shown stepped steps small))
+    rw (← c.self.view_is) (takes_frame (runtime_seen t) (runtime_seen (record { set = t.set; shape = t.shape; said = t.said; memory = t.memory; table = now; runs = with_items t.runs news; rests = rests; presence = shown; line_rests = line_rests; count = c.saturating_add-self-inside.result; frame = count; framed = true })) refl refl
+    ((λ i. opening_by (c.saturating_add-self-inside.ensures i) now (seen_by (same i) rests) is) ∙ frame_kept set count t.table now t.memory olds was over taken (seen_by news rests) news is stepped steps)
+    (frame_earned set count t.table now t.memory olds was over taken (seen_by news rests) news is stepped steps (rests_seen t.table.nodes t.table.values set.items t.runs.items t.rests c.self.invariant.runs c.self.invariant.rests))
+    (ap (all_events set.items) same ∙ frame_events set count t.table now t.memory olds was over taken (seen_by news rests) news is stepped steps)
+    (ap (λ rs. event_lines count (all_events set.items rs)) same ∙ frame_lines set count t.table now t.memory olds was over taken (seen_by news rests) news is stepped steps small))
 
 pub returns-clause-reads : goal.returns-clause-reads
 returns-clause-reads g c =

@@ -48,6 +48,7 @@ invariant_of-result c =
       rests = c.in_ok-table.ensures.rests;
       told = λ framed. absurd (not_framed framed);
       presence = laid.presence_too;
+      lines = c.in_ok-table.ensures.lines;
       digits = have_digits (set_contents c.args.set).items c.requires.spelled.items;
       size = laid.fresh.size_too ∙ sym (ap length c.in_ok-memory.ensures ∙ length-replicate c.args.size 0);
       agrees = Agrees-marked c.in_ok-table.table c.in_ok-memory.memory (length (cells_of c.in_ok-table.table.nodes)) laid.fresh.marked;

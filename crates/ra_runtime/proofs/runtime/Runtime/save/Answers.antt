@@ -12,6 +12,8 @@ use Rattle.ra_progress.specs.Writing.{front_bytes}
 use Rattle.ra_progress.proofs.Written.{body_in_parts}
 use Rattle.ra_runtime.specs.declared.item_run.ItemRun.{ItemRun}
 use Rattle.ra_runtime.specs.Order.{set_cells, set_tracked, shape_of}
+use Rattle.ra_display.specs.LineRests.{optional_presence_seen}
+use Rattle.ra_display.proofs.SeenLines.{optional_fitting}
 use Rattle.ra_runtime.specs.AllRuns.{opening_by}
 use Rattle.ra_runtime.specs.Rests.{AreFitting, seen_by}
 use Rattle.ra_runtime.specs.Runtime.{RuntimeSeen}
@@ -63,8 +65,13 @@ put_runs-requires-clause-fit c =
     subst (λ (runs : List ItemRun). AreFitting runs t.rests.each.items t.rests.clock) (sym c.deref-2.ensures.value)
     (rests_fit t.table.nodes t.table.values (set_contents t.set).items t.runs.items t.rests inv.runs inv.rests)
 
-pub put_display-requires : goal.put_display-requires
-put_display-requires c =
+pub put_display-requires-clause-fit : goal.put_display-requires-clause-fit
+put_display-requires-clause-fit c =
+    let t = c.self.inside in
+    optional_fitting t.table.nodes t.table.values (set_contents t.set).script t.presence t.line_rests c.self.invariant.presence c.self.invariant.lines
+
+pub put_display-requires-clause-short : goal.put_display-requires-clause-short
+put_display-requires-clause-short c =
     let inv = c.self.invariant in
     let set = set_contents c.self.inside.set in
     let shaped = presence_shaped c.self.inside.table.nodes set.script c.self.inside.presence inv.presence ∙ sym (ap (λ (s : ShapeContents). s.presence) inv.shape) in
@@ -77,7 +84,7 @@ returns-clause-bytes c =
     let shape = shape_contents c.self.inside.shape in
     let runs = c.self.inside.runs.items in
     let rests = c.self.inside.rests in
-    let o = opening_by c.self.inside.count c.self.inside.table (seen_by runs rests) c.self.inside.presence in
+    let o = opening_by c.self.inside.count c.self.inside.table (seen_by runs rests) (optional_presence_seen c.self.inside.presence c.self.inside.line_rests) in
     let shaped = runs_shaped c.self.inside.table.nodes set.items runs inv.runs ∙ sym (ap (λ (s : ShapeContents). s.items) inv.shape) in
     let many : length shape.item_names ≡ length o.items = inv.usable.searchable.paired.items ∙ sym (ap length shaped) ∙ length-map runs run_shape ∙ sym (seen_many rests.clock runs rests.each.items (inv.rests.many ∙ sym (length_runs c.self.inside.table.nodes set.items runs inv.runs))) in
     let front : c.in_ok-bytes.bytes.items ≡ front_bytes shape o.frames o.cells o.priors = rw (c.cells-cells.ensures, c.priors-priors.ensures) at c.in_ok-bytes.ensures.bytes in
@@ -102,6 +109,6 @@ returns-clause-saved c =
     subst (λ (s : ShapeContents). AreWords (length s.priors) table.priors) inv.shape (rw c.priors-priors.ensures at c.in_ok-bytes.ensures.priors) in
     let kept = seen_by runs c.self.inside.rests in
     let fit = subst (λ (rs : List ItemRun). ItemsFit (map run_shape rs) (seen_by rs c.self.inside.rests)) c.deref-2.ensures.value c.in_ok-put_runs.ensures.fit in
-    let opening = opening_taken set table runs kept c.self.inside.presence inv.runs inv.presence c.self.inside.count small cells priors fit c.in_ok-put_display.ensures.fits in
+    let opening = opening_taken set table runs kept c.self.inside.presence c.self.inside.line_rests inv.runs inv.presence inv.lines c.self.inside.count small cells priors fit c.in_ok-put_display.ensures.fits in
     subst (λ (r : RuntimeSeen). c.close.new.bytes.items ≡ progress_bytes (shape_of r.set) r.kept → IsSaved r.set c.close.new.bytes.items) c.self.view_is
-    (λ is. record { kept = opening_by c.self.inside.count table kept c.self.inside.presence; opening = opening; is = is }) (returns-clause-bytes c)
+    (λ is. record { kept = opening_by c.self.inside.count table kept (optional_presence_seen c.self.inside.presence c.self.inside.line_rests); opening = opening; is = is }) (returns-clause-bytes c)

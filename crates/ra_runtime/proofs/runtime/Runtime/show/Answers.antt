@@ -6,7 +6,7 @@ use Rattle.ra_runtime.specs.Openings.{start_of, frames_after}
 use Rattle.ra_runtime.specs.Play.{shown_by}
 use Rattle.ra_runtime.specs.Runtime.{ShowsKept}
 use Rattle.ra_runtime.specs.Seen.{runtime_seen}
-use Rattle.ra_runtime.specs.Showing.{optional_text}
+use Rattle.ra_display.specs.Showing.{optional_text}
 use Rattle.ra_runtime.proofs.ShowLemmas.{may_show, shows}
 use Rattle.ra_runtime.proofs.runtime.Runtime.show.Goals as goal
 
@@ -25,6 +25,6 @@ returns c =
     (λ text is o history opening images kept.
     let start = start_of set o in
     let count : inside.count ≡ frames_after o.frames (length history) = ap (λ (k : Opening). k.frames) kept in
-    is ∙ shows inside.table.nodes start inside.count history set.script inside.presence o.presence inv.presence opening.presence (ap (λ (k : Opening). k.presence) kept)
+    is ∙ shows inside.table.nodes inside.table.values start inside.count history set.script inside.presence inside.line_rests o.presence inv.presence inv.lines opening.presence (ap (λ (k : Opening). k.presence) kept)
     ∙ ap (λ (n : ℕ). shown_by start n history set.script o.presence) count)
     c.shown_line.ensures)

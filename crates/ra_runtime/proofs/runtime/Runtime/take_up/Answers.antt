@@ -12,8 +12,8 @@ use Rattle.ra_progress.proofs.Owns.{own_count}
 use Rattle.ra_progress.proofs.Placed.{if_some}
 use Rattle.ra_runtime.specs.declared.item_run.ItemRun.{ItemRun}
 use Rattle.ra_runtime.specs.Order.{shape_of}
-use Rattle.ra_runtime.specs.AllRuns.{AreItemRuns, opening_by}
-use Rattle.ra_runtime.specs.PresenceRuns.{IsOptionalPresence}
+use Rattle.ra_runtime.specs.AllRuns.{AreItemRuns}
+use Rattle.ra_display.specs.PresenceRuns.{IsOptionalPresence}
 use Rattle.ra_runtime.specs.Restoring.{HasDisplay, TakesNumbers, restored_items}
 use Rattle.ra_runtime.specs.Runtime.{RuntimeSeen}
 use Rattle.ra_runtime.specs.Shapes.{run_shape}
@@ -24,6 +24,8 @@ use Rattle.ra_runtime.proofs.TakenUp.{over_restored, marked_restored, kept_resto
 use Rattle.ra_runtime.specs.ItemRuns.{kept_run}
 use Rattle.ra_runtime.specs.Rests.{AreRests, seen_by}
 use Rattle.ra_runtime.proofs.RunsLemmas.{length_runs}
+use Rattle.ra_display.specs.LineRests.{AreOptionalRests, optional_presence_seen}
+use Rattle.ra_display.proofs.SeenLines.{rests_forgotten}
 use Rattle.ra_runtime.proofs.SeenItems.{rests_earned}
 use Rattle.ra_runtime.proofs.runtime.Runtime.take_up.Goals as goal
 
@@ -104,6 +106,8 @@ invariant_of-self c =
           (c.forget.ensures.each t.table.nodes t.table.values table.values set.items t.runs.items (with_items t.runs news).items inv.rests);
       told = λ framed. absurd (not_framed framed);
       presence = subst (λ (ns : List Node). IsOptionalPresence ns set.script c.put_back_presence.new.run) (sym takes.pool.0) (c.put_back_presence.ensures.run t.table.nodes set.script inv.presence);
+      lines = subst (λ (ns : List Node). AreOptionalRests ns table.values set.script c.put_back_presence.new.run c.forget-2.new.self) (sym takes.pool.0)
+          (rests_forgotten t.table.nodes t.table.values table.values set.script t.presence c.put_back_presence.new.run t.line_rests c.forget-2.new.self inv.presence (c.put_back_presence.ensures.run t.table.nodes set.script inv.presence) inv.lines (record { each = c.forget-2.ensures.each; kept = c.forget-2.ensures.kept })).0;
       digits = inv.digits;
       size = takes.pool.1 ∙ inv.size;
       agrees = Agrees-marked table t.memory _ takes.marked;
@@ -128,10 +132,11 @@ returns c =
     let long : length (with_items t.runs news).items ≡ length t.rests.each.items = omega (arith, ap length same, c.put_back_runs.auto.runs, c.deref_mut.ensures.len, length_runs t.table.nodes set.items t.runs.items inv.runs, inv.rests.many) in
     let seen : seen_by (with_items t.runs news).items c.forget.new.self ≡ restored_items bytes t.runs.items said.places.items = c.forget.ensures.kept (with_items t.runs news).items long ∙ ap (map kept_run) same ∙ kept in
     let place : c.place-display.result ≡ slice_index_or said.places.items (length t.runs.items) None = c.place-display.ensures ∙ ap (λ n. slice_index_or said.places.items n None) many in
+    let shown_too = (rests_forgotten t.table.nodes t.table.values table.values set.script t.presence display t.line_rests c.forget-2.new.self inv.presence (c.put_back_presence.ensures.run t.table.nodes set.script inv.presence) inv.lines (record { each = c.forget-2.ensures.each; kept = c.forget-2.ensures.kept })).1 in
     rw (← c.self.view_is) (record {
       set = refl;
       image = refl;
-      kept = kept_restored set t.table table inv.over bytes said room takes says t.runs.items (seen_by t.runs.items t.rests) (seen_by (with_items t.runs news).items c.forget.new.self) t.presence display inv.runs inv.presence (rests_earned t.table.nodes t.table.values set.items t.runs.items t.rests inv.runs inv.rests) seen c.place-display.result place c.put_back_presence.ensures c.frames_at-self-inside.result c.frames_at-self-inside.ensures;
+      kept = kept_restored set t.table table inv.over bytes said room takes says t.runs.items (seen_by t.runs.items t.rests) (seen_by (with_items t.runs news).items c.forget.new.self) t.presence display (optional_presence_seen display c.forget-2.new.self) inv.runs inv.presence (rests_earned t.table.nodes t.table.values set.items t.runs.items t.rests inv.runs inv.rests) seen c.place-display.result place c.put_back_presence.ensures shown_too c.frames_at-self-inside.result c.frames_at-self-inside.ensures;
       events = refl;
       lines = refl;
       marked = marked_restored set t.table table inv.over bytes said room takes;

@@ -9,7 +9,8 @@ use Rattle.ra_set.specs.Contents.{set_contents}
 use Rattle.ra_runtime.specs.Runtime.{RuntimeSeen}
 use Rattle.ra_runtime.specs.AllRuns.{AreItemRuns}
 use Rattle.ra_runtime.specs.Rests.{AreRests}
-use Rattle.ra_runtime.specs.PresenceRuns.{IsOptionalPresence}
+use Rattle.ra_display.specs.LineRests.{AreOptionalRests}
+use Rattle.ra_display.specs.PresenceRuns.{IsOptionalPresence}
 use Rattle.ra_runtime.proofs.runtime.Runtime.write.Goals as goal
 
 holds_by : {T E P : Type 0} (r : Result T E) → OnOk r P → (IsErr r → ⊥) → P
@@ -46,6 +47,9 @@ invariant_of-self c =
           (subst (λ (vs : List ℕ). AreRests c.self.inside.table.nodes vs set.items c.self.inside.runs.items c.self.inside.rests) (sym (ap (λ (t : TableSeen). t.values) told.rest)) inv.rests);
       told = inv.told;
       presence = subst (λ (ns : List Node). IsOptionalPresence ns set.script c.self.inside.presence) (sym (ap (λ (t : TableSeen). t.nodes) told.rest)) inv.presence;
+      lines =
+          subst (λ (ns : List Node). AreOptionalRests ns c.write-2.new.self.values set.script c.self.inside.presence c.self.inside.line_rests) (sym (ap (λ (t : TableSeen). t.nodes) told.rest))
+          (subst (λ (vs : List ℕ). AreOptionalRests c.self.inside.table.nodes vs set.script c.self.inside.presence c.self.inside.line_rests) (sym (ap (λ (t : TableSeen). t.values) told.rest)) inv.lines);
       digits = inv.digits;
       size = ap (λ (t : TableSeen). t.size) told.rest ∙ inv.size ∙ sym differ.size;
       agrees = told.agrees image c.write.new.self (sym inv.size) differ inv.agrees;

@@ -6,21 +6,20 @@ use Rattle.ra_progress.specs.Layout.{length_of}
 use Rattle.ra_progress.specs.Names.{IsOrder, IsPaired}
 use Rattle.ra_runtime.specs.Order as spec
 use Rattle.ra_runtime.proofs.Snapshots.{is_paired}
-use Rattle.ra_runtime.proofs.shapes.shape_over.Goals as goal
+use Rattle.ra_runtime.proofs.shapes.shape_beside.Goals as goal
 
 pub returns-clause-shape : goal.returns-clause-shape
 returns-clause-shape c =
     let set = set_contents c.args.set.now in
     let names : c.extend_from_slice.new.self.items ≡ set.item_names = c.in_ok-extend_from_slice.ensures.items ∙ ap₂ (λ xs ys. xs ++ ys) c.new-item_names.ensures.items c.deref.ensures.value in
     let items = c.in_ok-items.ensures ∙ c.requires.items in
-    let presence = c.presence_shape.ensures ∙ c.requires.presence in
     (λ i. record {
       digest = set.digest;
       cells = c.requires.names.cells i;
       priors = c.requires.names.priors_too i;
       items = items i;
       item_names = names i;
-      presence = presence i;
+      presence = c.requires.presence i;
       presence_name = set.script_name;
     })
 
@@ -29,14 +28,13 @@ returns-clause-usable c =
     let set = set_contents c.args.set.now in
     let names : c.extend_from_slice.new.self.items ≡ set.item_names = c.in_ok-extend_from_slice.ensures.items ∙ ap₂ (λ xs ys. xs ++ ys) c.new-item_names.ensures.items c.deref.ensures.value in
     let items = c.in_ok-items.ensures ∙ c.requires.items in
-    let presence = c.presence_shape.ensures ∙ c.requires.presence in
     let shape : Shape = record {
       digest = c.args.set.now.digest;
       cells = c.args.names.cells;
       priors = c.args.names.priors;
       items = c.in_ok-items.items;
       item_names = c.extend_from_slice.new.self;
-      presence = c.presence_shape.result;
+      presence = c.args.presence;
       presence_name = c.args.set.now.script_name;
       cell_order = c.in_ok-cell_order.cell_order;
       prior_order = c.in_ok-prior_order.prior_order;
@@ -48,7 +46,7 @@ returns-clause-usable c =
       priors = c.requires.names.priors_too i;
       items = items i;
       item_names = names i;
-      presence = presence i;
+      presence = c.requires.presence i;
       presence_name = set.script_name;
     }) in
     record {

@@ -1,8 +1,0 @@
-use Rattle.std.proofs.Common.{◌++◌, ◌∙◌, sym, ap, option_to_list, append-nil}
-use Rattle.ra_runtime.proofs.SaveLemmas.{no_blocks}
-use Rattle.ra_runtime.proofs.saved.put_display.Goals as goal
-
-pub returns-in-None-clause-bytes : goal.returns-in-None-clause-bytes
-returns-in-None-clause-bytes c =
-    let old = c.args.bytes.now.items in
-    rw c.in-None.is (sym (append-nil old) ∙ ap (λ xs. old ++ xs) (sym (no_blocks (option_to_list c.args.name.now))))
