@@ -20,8 +20,21 @@ row() {
         'BEGIN { printf "| %s | %.0f |\n", what, (more - less) / times }'
 }
 
+# made: what a frame of `make 0` costs with its writes: the play without its saves and restores, over 4,096 frames
+made() {
+    valgrind --tool=callgrind --callgrind-out-file="$folder/made" "$player" make 0 >/dev/null 2>&1
+    callgrind_annotate --inclusive=yes --threshold=100 "$folder/made" | awk '{ gsub(",", "", $1) }
+        /Player::play/ { play = $1 } /Runtime::save/ { save = $1 } /Runtime::restore/ { restore = $1 }
+        END { printf "| a frame of `make 0` with its 8 writes | %.0f |\n", (play - save - restore) / 4096 }'
+}
+
 echo "| What | Instructions |"
 echo "|---|---|"
+made
+row 'a frame of 4,000 achievements of 8 conditions with 4 writes' $((frames - 10)) many.set many.trace many.set many-ten.trace
+row 'a frame of them with no write' $((frames - 10)) many.set still.trace many.set still-ten.trace
+row 'a frame of them in which every byte changes' 10 many.set due.trace many.set due-one.trace
+row 'a frame of no items' $((frames - 10)) none.set still.trace none.set still-ten.trace
 row 'a frame of a real-sized set' $((frames - 1)) real.set real.trace real.set real-one.trace
 row 'a save of 4,000 achievements of 8 conditions' 100 many.set saves.trace many.set saved.trace
 row 'a restore of them' 100 many.set restores.trace many.set saved.trace
