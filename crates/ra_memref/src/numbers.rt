@@ -1,4 +1,4 @@
-ghost use Rattle.std.specs.Prelude.{◌≡◌, ◌+◌, ◌*◌, ◌<◌, ◌≤◌, ◌^◌, ◌==◌, ◌||◌, not, true, false, length, replicate, slice_index, slice_index_or, slice_set, IfOk, IfSome, None};
+ghost use Rattle.std.specs.Prelude.{◌≡◌, ◌+◌, ◌*◌, ◌<◌, ◌≤◌, ◌^◌, ◌==◌, ◌||◌, not, ℕ, true, false, length, replicate, slice_index, slice_index_or, slice_set, IfOk, IfSome, None};
 ghost use Rattle.ra_memory.specs.Image.{raw, IsReadWidth};
 ghost use Rattle.ra_operand.specs.Views.{mask_of};
 ghost use Rattle.ra_indirect.specs.declared.node.Node.TheVariants.{View};
@@ -167,7 +167,8 @@ impl Numbers {
     }
 
     /// Takes up one frame: each node that is due is taken, and makes those that name it due where it
-    /// changed. A cell that is marked or moved is read, and the nodes that changed are listed.
+    /// changed. A cell that is marked or moved is read, and the nodes that changed are listed. Where all
+    /// are due, they are taken in order, without a search, and none is made due.
     pub fn take_frame<I: Image>(
         &mut self,
         image: &mut I,
@@ -176,6 +177,7 @@ impl Numbers {
         due: &mut Flags,
         dependents: &Links,
         changes: &mut Changes,
+        all: bool,
     )
         requires pool { IsPool nodes.now }
         requires laid { IsLaid nodes.now slots.now }
@@ -187,6 +189,7 @@ impl Numbers {
         requires dependents { AreDependents nodes.now (length nodes.now) dependents.now }
         requires idle { AreIdle nodes.now due.old self.old slots.now }
         requires room { changes.old.room ≡ length nodes.now }
+        requires all { all ≡ true → due.old ≡ replicate (length nodes.now) true }
 
         ensures taken { TakesFrame nodes.now self.old self.new (I.bytes image.old) }
         ensures idle { AreIdle nodes.now due.new self.new slots.now }
@@ -200,15 +203,16 @@ impl Numbers {
     {
         changes.clear();
         let mut at = 0;
-        while let Some(number) = due.next_from(at) {
-            let changed = self.take_due(image, nodes, slots, due, dependents, number);
+        while let Some(number) = next_due(due, at, nodes.len(), all) {
+            let changed = self.take_due(image, nodes, slots, due, dependents, number, all);
             changes.note(number as u32, changed);
             at = number + 1;
         }
     }
 
     // Takes up a node that is due, and tells whether its number changed. It is due at the next frame too
-    // where it is a cell that changed, and those that name it are due where they see another number.
+    // where it is a cell that changed, and those that name it are due where they see another number. Where
+    // all from this one on are due, those that name it are.
     fn take_due<I: Image>(
         &mut self,
         image: &mut I,
@@ -217,6 +221,7 @@ impl Numbers {
         due: &mut Flags,
         dependents: &Links,
         number: usize,
+        all: bool,
     ) -> bool
         requires pool { IsPool nodes.now }
         requires laid { IsLaid nodes.now slots.now }
@@ -227,17 +232,19 @@ impl Numbers {
         requires idle { AreIdle nodes.now due.old self.old slots.now }
         requires here { number < length nodes.now }
         requires agreed { IsAgreedAt (node_at nodes.now number) self.old (I.bytes image.old) (slice_index slots.now number) }
+        requires all { all ≡ true → (k : ℕ) → number ≤ k → slice_index_or due.old k true ≡ true }
 
         ensures taken { self.new ≡ after_node (node_at nodes.now number) self.old (I.bytes image.old) slots.now number }
         ensures idle { AreIdle nodes.now due.new self.new slots.now }
         ensures dues { length due.new ≡ length due.old }
+        ensures all { all ≡ true → (k : ℕ) → number + 1 ≤ k → slice_index_or due.new k true ≡ true }
         ensures changed { result ≡ not (value_at self.old number == value_at self.new number) }
 
         ensures bytes { I.bytes image.new ≡ I.bytes image.old }
         ensures counter { I.counter image.new ≡ I.counter image.old }
         ensures reads { I.reads image.new ≡ I.reads image.old + reads_at (node_at nodes.now number) self.old (slice_index slots.now number) }
     {
-        let outcome = self.follow(image, nodes[number], slots, number);
+        let outcome = self.follow(image, nodes[number], slots, number, all);
         due.put(number, outcome.again);
         if outcome.seen {
             mark_listed(dependents, due, number as u32);
@@ -246,14 +253,15 @@ impl Numbers {
     }
 
     // Takes up a node, and tells whether its number changed, whether those that name it see another
-    // number, of this frame or of the one before, and whether they would see another one at the next
-    // frame too.
+    // number, of this frame or of the one before, and are not all due, and whether they would see another
+    // one at the next frame too.
     fn follow<I: Image>(
         &mut self,
         image: &mut I,
         node: Node,
         slots: &[u32],
         number: usize,
+        all: bool,
     ) -> Outcome
         requires within { IsWithin node self.old slots.now number }
         requires here { number < length self.old.values }
@@ -262,8 +270,9 @@ impl Numbers {
 
         ensures taken { self.new ≡ after_node node self.old (I.bytes image.old) slots.now number }
         ensures changed { result.changed ≡ not (value_at self.old number == value_at self.new number) }
-        ensures seen { result.seen ≡ (not (value_at self.old number == value_at self.new number)
+        ensures seen { all ≡ false → result.seen ≡ (not (value_at self.old number == value_at self.new number)
             || not (earlier_by node self.old slots.now number == earlier_by node self.new slots.now number)) }
+        ensures unseen { all ≡ true → result.seen ≡ false }
         ensures again { result.again ≡ not (earlier_by node self.new slots.now number == value_at self.new number) }
 
         ensures bytes { I.bytes image.new ≡ I.bytes image.old }
@@ -271,12 +280,16 @@ impl Numbers {
         ensures reads { I.reads image.new ≡ I.reads image.old + reads_at node self.old (slice_index slots.now number) }
     {
         let value = self.values[number];
-        let earlier = self.earlier_by(node, slots, number);
+        let earlier = if all {
+            value
+        } else {
+            self.earlier_by(node, slots, number)
+        };
         self.take_node(image, node, slots, number);
         let earlier_now = self.earlier_by(node, slots, number);
         Outcome {
             changed: value != self.values[number],
-            seen: value != self.values[number] || earlier != earlier_now,
+            seen: !all && (value != self.values[number] || earlier != earlier_now),
             again: earlier_now != self.values[number],
         }
     }
@@ -389,6 +402,23 @@ impl Numbers {
             }
             Kind::Mem | Kind::Bcd | Kind::Inverted => self.values[cell],
         }
+    }
+}
+
+// The first node from one on that is due, which is that one where all of them are.
+fn next_due(due: &mut Flags, from: usize, count: usize, all: bool) -> Option<usize>
+    requires count { count ≡ length due.old }
+    requires all { all ≡ true → (k : ℕ) → from ≤ k → slice_index_or due.old k true ≡ true }
+    ensures first { IfSome result (λ n. IsFirstSet due.old from n) }
+    ensures none { result ≡ None → NoneSet due.old from (length due.old) }
+    ensures same { due.new ≡ due.old }
+{
+    if !all {
+        due.next_from(from)
+    } else if from < count {
+        Some(from)
+    } else {
+        None
     }
 }
 

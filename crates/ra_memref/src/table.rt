@@ -101,7 +101,7 @@ impl Table {
         ensures bytes { I.bytes image.new ≡ I.bytes image.old }
         ensures counter { I.counter image.new ≡ I.counter image.old }
     {
-        self.agenda.gather(&mut self.numbers);
+        let all = self.agenda.gather(&mut self.numbers);
         self.numbers.take_frame(
             image,
             &self.nodes,
@@ -109,6 +109,7 @@ impl Table {
             &mut self.agenda.due,
             &self.agenda.dependents,
             &mut self.changes,
+            all,
         );
         self.sampled = true;
     }

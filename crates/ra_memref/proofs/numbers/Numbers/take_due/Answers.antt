@@ -1,8 +1,9 @@
-use Rattle.std.proofs.Common.{refl, slice_set, length}
+use Rattle.std.proofs.Common.{refl, slice_set, ◌∙◌, sym}
+use Rattle.std.proofs.lemmas.Bool.{false≢true}
 use Rattle.ra_indirect.specs.Pools.{node_at}
 use Rattle.ra_memref.proofs.Passed.{takes_node}
 use Rattle.ra_memref.proofs.PassLemmas.{node_within}
-use Rattle.ra_memref.proofs.DueLemmas.{marked_seen, marked_unseen, idle_more}
+use Rattle.ra_memref.proofs.DueLemmas.{marked_seen, marked_by, all_more, idle_more}
 use Rattle.ra_memref.proofs.numbers.Numbers.take_due.Goals as goal
 
 pub follow-outcome-requires-clause-within : goal.follow-outcome-requires-clause-within
@@ -18,12 +19,15 @@ returns-then-outcome-clause-idle g c =
     c.args.self.now c.follow-outcome.new.self c.requires.sized
     (takes_node (node_at c.args.nodes.now c.args.number) c.args.slots.now bytes c.args.number c.args.self.now
     c.follow-outcome.new.self e.taken)
-    c.args.dependents.now c.requires.dependents c.args.due.now c.mark_listed.new.marks c.requires.dues
-    c.follow-outcome.result.seen c.follow-outcome.result.again
-    (marked_seen c.args.dependents.now
-    (length c.args.nodes.now) c.args.number c.follow-outcome.result.seen c.follow-outcome.result.again
-    c.args.due.now c.mark_listed.new.marks c.requires.dues (rw c.put.ensures at c.mark_listed.ensures.marked))
-    c.requires.idle e.seen e.again
+    c.args.due.now c.mark_listed.new.marks c.requires.dues c.follow-outcome.result.again
+    (marked_seen c.args.nodes.now c.args.number _ c.follow-outcome.result.again c.args.due.now
+    c.mark_listed.new.marks c.requires.dues c.args.dependents.now c.requires.dependents
+    (rw c.put.ensures at c.mark_listed.ensures.marked))
+    c.requires.idle e.again
+
+pub returns-then-outcome-clause-all : goal.returns-then-outcome-clause-all
+returns-then-outcome-clause-all g c = λ all. absurd (false≢true (sym (c.follow-outcome.ensures.unseen all)
+    ∙ c.if-outcome.true))
 
 pub returns-else-outcome-clause-idle : goal.returns-else-outcome-clause-idle
 returns-else-outcome-clause-idle g c =
@@ -33,10 +37,12 @@ returns-else-outcome-clause-idle g c =
     c.requires.here c.args.self.now c.follow-outcome.new.self c.requires.sized
     (takes_node (node_at c.args.nodes.now c.args.number) c.args.slots.now bytes c.args.number c.args.self.now
     c.follow-outcome.new.self e.taken)
-    c.args.dependents.now c.requires.dependents c.args.due.now
-    (slice_set c.args.due.now c.args.number c.follow-outcome.result.again) c.requires.dues
-    c.follow-outcome.result.seen c.follow-outcome.result.again
-    (marked_unseen c.args.dependents.now
-    (length c.args.nodes.now) c.args.number c.follow-outcome.result.seen c.follow-outcome.result.again
-    c.args.due.now c.if-outcome.false)
-    c.requires.idle e.seen e.again)
+    c.args.due.now (slice_set c.args.due.now c.args.number c.follow-outcome.result.again) c.requires.dues
+    c.follow-outcome.result.again
+    (marked_by c.args.nodes.now c.requires.pool c.args.number _ c.follow-outcome.result.again
+    c.args.due.now c.args.all c.requires.all (λ some. sym (e.seen some) ∙ c.if-outcome.false))
+    c.requires.idle e.again)
+
+pub returns-else-outcome-clause-all : goal.returns-else-outcome-clause-all
+returns-else-outcome-clause-all g c = λ all. rw c.put.ensures
+    (all_more c.args.due.now c.args.number c.follow-outcome.result.again (c.requires.all all))

@@ -5,6 +5,7 @@ use Rattle.ra_memref.specs.Numbers.{NumbersSeen}
 use Rattle.ra_memref.specs.Pass.{IsAgreedAt, reads_at}
 use Rattle.ra_memref.proofs.Passed.{TakesNode, takes_node}
 use Rattle.ra_memref.proofs.TakenLemmas.{IsTaken, taken_none, taken_more, agreed_node, taken_to, takes_frame, counted}
+use Rattle.ra_memref.proofs.DueLemmas.{all_set}
 use Rattle.ra_memref.proofs.ChangeLemmas.{noted_none, noted_more}
 use Rattle.ra_memref.proofs.numbers.Numbers.take_frame.Goals as goal
 
@@ -22,14 +23,25 @@ loop-number-init g c =
       bytes = refl;
       noted = rw c.clear.ensures (noted_none (length c.args.nodes.now) c.args.self.now.values);
       room = rw c.clear.ensures c.requires.room;
+      all = λ all. all_set c.args.due.now (length c.args.nodes.now) (c.requires.all all);
       counter = refl;
     }
+
+pub next_due-requires-clause-count : goal.next_due-requires-clause-count
+next_due-requires-clause-count g c = sym c.loop-number.invariant.dues
+
+pub next_due-requires-clause-all : goal.next_due-requires-clause-all
+next_due-requires-clause-all g c = c.loop-number.invariant.all
+
+pub take_due-changed-requires-clause-all : goal.take_due-changed-requires-clause-all
+take_due-changed-requires-clause-all g c = rw c.next_due.ensures.same (λ all k from.
+    c.loop-number.invariant.all all k (omega (arith, from, c.in-Some.ensures.first.after)))
 
 pub take_due-changed-requires-clause-sized : goal.take_due-changed-requires-clause-sized
 take_due-changed-requires-clause-sized g c = c.loop-number.invariant.taken.sized
 
 pub take_due-changed-requires-clause-idle : goal.take_due-changed-requires-clause-idle
-take_due-changed-requires-clause-idle g c = rw c.next_from.ensures.same c.loop-number.invariant.idle
+take_due-changed-requires-clause-idle g c = rw c.next_due.ensures.same c.loop-number.invariant.idle
 
 pub take_due-changed-requires-clause-agreed : goal.take_due-changed-requires-clause-agreed
 take_due-changed-requires-clause-agreed g c =
@@ -86,7 +98,7 @@ loop-number-preserved g c =
           (get_or c.args.slots.now c.in-Some.number 0))) next more);
       idle = e.idle;
       most = omega (arith, here);
-      dues = e.dues ∙ ap length c.next_from.ensures.same ∙ done.dues;
+      dues = e.dues ∙ ap length c.next_due.ensures.same ∙ done.dues;
       risen = omega (arith, e.reads, done.risen);
       bytes = e.bytes ∙ done.bytes;
       noted = rw c.note.ensures (noted_more (length c.args.nodes.now) c.loop-number.at c.args.self.now.values
@@ -96,6 +108,7 @@ loop-number-preserved g c =
           e.changed);
       room = rw c.note.ensures done.room;
       counter = e.counter ∙ done.counter;
+      all = e.all;
     }
 
 pub returns-clause-taken : goal.returns-clause-taken
@@ -103,7 +116,7 @@ returns-clause-taken g c =
     let done = c.loop-number.invariant in
     let image = g.I.Image.bytes c.args.image.now in
     let reads : ℕ = g.I.Image.reads c.loop-number.image - g.I.Image.reads c.args.image.now in
-    let none = c.next_from.ensures.none c.in_default.is in
+    let none = c.next_due.ensures.none c.in_default.is in
     let all = taken_to c.args.nodes.now c.requires.pool c.args.slots.now c.requires.laid image c.args.self.now
     c.requires.sized c.requires.agreed c.loop-number.self reads c.loop-number.due done.idle c.loop-number.at
     (length c.args.nodes.now) done.most (omega arith) (λ k low high. none k low
@@ -112,7 +125,7 @@ returns-clause-taken g c =
     c.requires.sized c.loop-number.self reads all
 
 pub returns-clause-idle : goal.returns-clause-idle
-returns-clause-idle g c = rw c.next_from.ensures.same c.loop-number.invariant.idle
+returns-clause-idle g c = rw c.next_due.ensures.same c.loop-number.invariant.idle
 
 pub returns-clause-bytes : goal.returns-clause-bytes
 returns-clause-bytes g c = c.loop-number.invariant.bytes
@@ -125,7 +138,7 @@ returns-clause-reads g c =
     let done = c.loop-number.invariant in
     let image = g.I.Image.bytes c.args.image.now in
     let reads : ℕ = g.I.Image.reads c.loop-number.image - g.I.Image.reads c.args.image.now in
-    let none = c.next_from.ensures.none c.in_default.is in
+    let none = c.next_due.ensures.none c.in_default.is in
     let all = taken_to c.args.nodes.now c.requires.pool c.args.slots.now c.requires.laid image c.args.self.now
     c.requires.sized c.requires.agreed c.loop-number.self reads c.loop-number.due done.idle c.loop-number.at
     (length c.args.nodes.now) done.most (omega arith) (λ k low high. none k low

@@ -1,5 +1,6 @@
 use Rattle.ra_memref.proofs.TakenLemmas.{IsTaken}
-use Rattle.std.proofs.Common.{◌≡◌, ◌≤◌, length, ◌-◌}
+use Rattle.ra_memref.proofs.DueLemmas.{AllSet}
+use Rattle.std.proofs.Common.{true, ◌≡◌, ◌≤◌, length, ◌-◌}
 use Rattle.ra_memref.specs.Changes.{AreNoted}
 use Rattle.ra_memref.specs.Due.{AreIdle}
 use Rattle.ra_memref.proofs.numbers.Numbers.take_frame.Given as goal
@@ -14,6 +15,7 @@ invariant-loop-number g l = record {
   bytes : g.I.Image.bytes l.image ≡ g.I.Image.bytes l.initial.image;
   noted : AreNoted (length l.nodes) l.at l.initial.self.values l.self.values l.changes.listed;
   room : l.changes.room ≡ length l.nodes;
+  all : l.all ≡ true → AllSet l.due l.at;
   counter : g.I.Image.counter l.image ≡ g.I.Image.counter l.initial.image;
 }
 
