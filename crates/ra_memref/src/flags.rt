@@ -76,7 +76,10 @@ impl Flags {
         ensures none { result ≡ None → NoneSet self.old from (length self.old) }
         ensures same { self.new ≡ self.old }
     {
-        if from < self.flags.len() && self.flags[from] {
+        if from >= self.flags.len() {
+            return None;
+        }
+        if self.flags[from] {
             return Some(from);
         }
         next_by_blocks(&self.flags, &mut self.blocks, from)
