@@ -45,7 +45,7 @@ impl Agenda {
     }
 
     /// Makes the nodes of the marked cells due, or every node, and tells whether every node is: where all
-    /// are to be, and where more than a quarter of the cells is marked.
+    /// are to be, and where more than half of the cells is marked.
     pub fn gather(&mut self, numbers: &mut Numbers) -> bool
         requires cells { length self.old.cell_nodes.items ≡ length numbers.old.watches.marked }
         requires few { length self.old.cell_nodes.items < 2 ^ 30 }
@@ -67,7 +67,7 @@ impl Agenda {
     }
 }
 
-// Makes the nodes of the marked cells due. It stops where more than a quarter of the cells is marked, and
+// Makes the nodes of the marked cells due. It stops where more than half of the cells is marked, and
 // tells whether it did.
 fn gather_marked(due: &mut Flags, cell_nodes: &[u32], numbers: &mut Numbers) -> bool
     requires cells { length cell_nodes.now ≡ length numbers.old.watches.marked }
@@ -78,7 +78,7 @@ fn gather_marked(due: &mut Flags, cell_nodes: &[u32], numbers: &mut Numbers) -> 
     ensures same { numbers.new ≡ numbers.old }
 {
     let mut at = 0;
-    let mut left = cell_nodes.len() / 4;
+    let mut left = cell_nodes.len() / 2;
     while let Some(cell) = numbers.next_marked(at) {
         if left == 0 {
             return true;

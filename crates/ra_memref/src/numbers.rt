@@ -365,7 +365,9 @@ impl Numbers {
         self.earlier[slot] = self.cells[slot];
         if self.watches.is_due(slot, place) {
             self.watches.settle(slot, place);
-            self.cells[slot] = image.read(place, width);
+            let number = image.read(place, width);
+            self.cells[slot] = number;
+            return number;
         }
         self.cells[slot]
     }
@@ -413,13 +415,10 @@ fn next_due(due: &mut Flags, from: usize, count: usize, all: bool) -> Option<usi
     ensures none { result ≡ None → NoneSet due.old from (length due.old) }
     ensures same { due.new ≡ due.old }
 {
-    if !all {
-        due.next_from(from)
-    } else if from < count {
-        Some(from)
-    } else {
-        None
+    if all && from < count {
+        return Some(from);
     }
+    due.next_from(from)
 }
 
 // The prior after a frame, from the numbers of the frame before and of this one.
