@@ -10,24 +10,26 @@ use std::marker::Model;
 /// How many flags stand in a block.
 const BLOCK: usize = 64;
 
-/// A row of flags, seen as their list: a block without one that is set is passed over at once.
+/// A row of flags, seen as their list: a block without one that is set is passed over at once, and so
+/// are 64 such blocks.
 ///
 /// Flags are counted from 0, and 64 stand in a block. Only `new` takes memory.
 #[derive(Drop)]
 pub struct Flags {
     flags: Vec<bool>,
     blocks: Vec<bool>,
+    regions: Vec<bool>,
 }
 
 impl Model for Flags {
     ghost use Rattle.std.specs.Prelude.{List, Bool};
-    ghost use Rattle.ra_memref.specs.Flags.{AreBlocked};
+    ghost use Rattle.ra_memref.specs.Flags.{AreRegioned};
 
     ghost Value = { List Bool };
 
     ghost view = { λ f. f.flags.items };
 
-    ghost invariant = { λ f. AreBlocked f.flags.items f.blocks.items };
+    ghost invariant = { λ f. AreRegioned f.flags.items f.blocks.items f.regions.items };
 }
 
 impl Flags {
@@ -37,7 +39,12 @@ impl Flags {
     {
         let flags = vec![in alloc; true; count]?;
         let blocks = vec![in alloc; true; count / BLOCK + 1]?;
-        Ok(Flags { flags, blocks })
+        let regions = vec![in alloc; true; blocks.len() / BLOCK + 1]?;
+        Ok(Flags {
+            flags,
+            blocks,
+            regions,
+        })
     }
 
     /// Whether the flag of a place is set.
@@ -54,8 +61,9 @@ impl Flags {
         ensures { self.new ≡ slice_set self.old place flag }
     {
         self.flags[place] = flag;
-        if flag {
+        if flag && !self.blocks[place / BLOCK] {
             self.blocks[place / BLOCK] = true;
+            self.regions[place / BLOCK / BLOCK] = true;
         }
     }
 
@@ -65,6 +73,7 @@ impl Flags {
     {
         self.flags.fill(true);
         self.blocks.fill(true);
+        self.regions.fill(true);
     }
 
     /// The place of the first flag from a place on that is set. None exactly where none is.
@@ -82,8 +91,41 @@ impl Flags {
         if self.flags[from] {
             return Some(from);
         }
-        next_by_blocks(&self.flags, &mut self.blocks, from)
+        next_by_regions(&self.flags, &mut self.blocks, &mut self.regions, from)
     }
+}
+
+// The first flag from a place on that is set. A block that was gone through whole is one without, and so
+// is a region whose blocks were.
+fn next_by_regions(
+    flags: &[bool],
+    blocks: &mut [bool],
+    regions: &mut [bool],
+    from: usize,
+) -> Option<usize>
+    requires tight { length blocks.old ≤ length flags.now / 64 + 1 }
+    requires blocked { AreBlocked flags.now blocks.old }
+    requires regioned { AreBlocked blocks.old regions.old }
+    ensures first { IfSome result (λ n. IsFirstSet flags.now from n) }
+    ensures none { result ≡ None → NoneSet flags.now from (length flags.now) }
+    ensures tight { length blocks.new ≤ length flags.now / 64 + 1 }
+    ensures blocked { AreBlocked flags.now blocks.new }
+    ensures regioned { AreBlocked blocks.new regions.new }
+{
+    let mut at = from;
+    while let Some(block) = next_by_blocks(blocks, regions, at / BLOCK) {
+        at = at.max(block * BLOCK);
+        if at >= flags.len() {
+            return None;
+        }
+        let end = block_end(at, flags.len());
+        if let Some(place) = next_in(flags, at, end) {
+            return Some(place);
+        }
+        blocks[block] = at > block * BLOCK;
+        at = end;
+    }
+    None
 }
 
 // The first flag from a place on that is set. A block that was gone through whole is one without.
