@@ -33,7 +33,7 @@ is_told t first page k =
 
 -- the pages from the first on, before this one, are told
 pub record IsTelling (old now : Inside) (first page : ℕ) : Type 0 where
-  pub same : now ≡ record old { marks = now.marks }
+  pub same : now ≡ record old { marks = now.marks; told = now.told }
   pub long : length now.marks ≡ length old.marks
   pub marked : (k : ℕ) → k < length old.places.items → get_or now.marks k true ≡ (get_or old.marks k true || is_told old first page k)
 
@@ -56,9 +56,9 @@ joined false false true false y' = refl
 joined false false false x' y' = refl
 
 -- one page more is told
-module _ (old now : Inside) (first page : ℕ) (marks : List Bool) (telling : IsTelling old now first page) (is : IsIndexed old.size old.widths.items old.places.items old.marks old.pages) (above : first ≤ page) (long : length marks ≡ length now.marks) where
+module _ (old now : Inside) (first page : ℕ) (marks : List Bool) (told : ℕ) (telling : IsTelling old now first page) (is : IsIndexed old.size old.widths.items old.places.items old.marks old.pages) (above : first ≤ page) (long : length marks ≡ length now.marks) where
   abbrev after : Inside
-  after = record { size = now.size; widths = now.widths; places = now.places; marks = marks; all = now.all; pages = now.pages }
+  after = record { size = now.size; widths = now.widths; places = now.places; marks = marks; all = now.all; pages = now.pages; told = told }
 
   marks_after_page : marks ≡ marks
   marks_after_page = refl
@@ -78,8 +78,8 @@ module _ (old now : Inside) (first page : ℕ) (marks : List Bool) (telling : Is
       ∙ ap (λ b. get_or old.marks k true || (b || (is_between first page (second_page old.size (slice_index old.places.items k) (slice_index old.widths.items k)) || is_at (second_page old.size (slice_index old.places.items k) (slice_index old.widths.items k)) page))) (sym (between_more first page (first_page old.size (slice_index old.places.items k)) above))
       ∙ ap (λ b. get_or old.marks k true || (is_between first (page + 1) (first_page old.size (slice_index old.places.items k)) || b)) (sym (between_more first page (second_page old.size (slice_index old.places.items k) (slice_index old.widths.items k)) above))
 
-  same_after : after ≡ record old { marks = after.marks }
-  same_after = ap {A = Inside} (λ t. record { size = t.size; widths = t.widths; places = t.places; marks = marks; all = t.all; pages = t.pages }) telling.same
+  same_after : after ≡ record old { marks = after.marks; told = after.told }
+  same_after = ap {A = Inside} (λ t. record { size = t.size; widths = t.widths; places = t.places; marks = marks; all = t.all; pages = t.pages; told = told }) telling.same
 
   pub telling_more : ((k : ℕ) → k < length now.marks → get_or marks k true ≡ (get_or now.marks k true || (is_at (holder_of now.pages.lists (2 * k)) page || is_at (holder_of now.pages.lists (2 * k + 1)) page))) → IsTelling old after first (page + 1)
   telling_more marked = record {

@@ -44,50 +44,44 @@ impl Agenda {
         })
     }
 
-    /// Makes the nodes of the marked cells due, or every node, and tells whether every node is: where all
-    /// are to be, and where more than half of the cells is marked.
+    /// Makes the nodes of the marked cells due, or every node where the flag stands, which it tells and
+    /// takes back.
     pub fn gather(&mut self, numbers: &mut Numbers) -> bool
         requires cells { length self.old.cell_nodes.items ≡ length numbers.old.watches.marked }
         requires few { length self.old.cell_nodes.items < 2 ^ 30 }
         requires within { (k : ℕ) → k < length self.old.cell_nodes.items → slice_index self.old.cell_nodes.items k < length self.old.due }
         ensures none { self.new.all ≡ false }
-        ensures some { result ≡ false → self.old.all ≡ false }
+        ensures told { result ≡ self.old.all }
         ensures gathered { result ≡ false → IsGathered self.old.cell_nodes.items numbers.old.watches.marked self.old.due self.new.due }
         ensures all { result ≡ true → self.new.due ≡ replicate (length self.old.due) true }
         ensures dependents { self.new.dependents ≡ self.old.dependents }
         ensures cell_nodes { self.new.cell_nodes ≡ self.old.cell_nodes }
         ensures same { numbers.new ≡ numbers.old }
     {
-        let all = self.all || gather_marked(&mut self.due, &self.cell_nodes, numbers);
+        let all = self.all;
         if all {
             self.due.fill();
+        } else {
+            gather_marked(&mut self.due, &self.cell_nodes, numbers);
         }
         self.all = false;
         all
     }
 }
 
-// Makes the nodes of the marked cells due. It stops where more than half of the cells is marked, and
-// tells whether it did.
-fn gather_marked(due: &mut Flags, cell_nodes: &[u32], numbers: &mut Numbers) -> bool
+// Makes the nodes of the marked cells due.
+fn gather_marked(due: &mut Flags, cell_nodes: &[u32], numbers: &mut Numbers)
     requires cells { length cell_nodes.now ≡ length numbers.old.watches.marked }
     requires few { length cell_nodes.now < 2 ^ 30 }
     requires within { (k : ℕ) → k < length cell_nodes.now → slice_index cell_nodes.now k < length due.old }
-    ensures gathered { result ≡ false → IsGathered cell_nodes.now numbers.old.watches.marked due.old due.new }
-    ensures long { length due.new ≡ length due.old }
+    ensures gathered { IsGathered cell_nodes.now numbers.old.watches.marked due.old due.new }
     ensures same { numbers.new ≡ numbers.old }
 {
     let mut at = 0;
-    let mut left = cell_nodes.len() / 2;
     while let Some(cell) = numbers.next_marked(at) {
-        if left == 0 {
-            return true;
-        }
         due.put(cell_nodes[cell] as usize, true);
-        left -= 1;
         at = cell + 1;
     }
-    false
 }
 
 // For each node those that name it, as lists of nodes that each stand twice, by their first operand and

@@ -157,6 +157,14 @@ impl Numbers {
         self.watches.mark_all();
     }
 
+    /// More than half of the cells were marked by writes since this was asked last. No clause says what
+    /// it answers.
+    pub fn told_many(&mut self) -> bool
+        ensures { self.new ≡ self.old }
+    {
+        self.watches.told_many()
+    }
+
     /// The first marked cell from one on. None exactly where none is.
     pub fn next_marked(&mut self, from: usize) -> Option<usize>
         ensures first { IfSome result (λ n. IsFirstSet self.old.watches.marked from n) }
@@ -164,6 +172,24 @@ impl Numbers {
         ensures same { self.new ≡ self.old }
     {
         self.watches.next_marked(from)
+    }
+
+    /// Takes up one frame, and takes every node in order. Nothing is made due, and nothing listed.
+    pub fn take_all<I: Image>(&mut self, image: &mut I, nodes: &[Node], slots: &[u32])
+        requires pool { IsPool nodes.now }
+        requires laid { IsLaid nodes.now slots.now }
+        requires sized { IsSizedFor nodes.now self.old }
+        requires agreed { IsAgreed self.old (I.bytes image.old) }
+
+        ensures taken { TakesFrame nodes.now self.old self.new (I.bytes image.old) }
+
+        ensures bytes { I.bytes image.new ≡ I.bytes image.old }
+        ensures counter { I.counter image.new ≡ I.counter image.old }
+        ensures reads { I.reads image.new ≡ I.reads image.old + reads_of self.old.watches.marked self.old.watches.places self.new.watches.places }
+    {
+        for (number, node) in nodes.iter().enumerate() {
+            self.take_node::<I, true>(image, *node, slots, number);
+        }
     }
 
     /// Takes up one frame: each node that is due is taken, and makes those that name it due where it
@@ -285,7 +311,7 @@ impl Numbers {
         } else {
             self.earlier_by(node, slots, number)
         };
-        self.take_node(image, node, slots, number);
+        self.take_node::<I, false>(image, node, slots, number);
         let earlier_now = self.earlier_by(node, slots, number);
         Outcome {
             changed: value != self.values[number],
@@ -307,8 +333,15 @@ impl Numbers {
         }
     }
 
-    /// Takes up one node of the pass.
-    pub fn take_node<I: Image>(&mut self, image: &mut I, node: Node, slots: &[u32], number: usize)
+    /// Takes up one node of the pass. `ALL` tells the two passes apart, so that each has a function of its own, which the
+    /// compiler puts in place.
+    pub fn take_node<I: Image, const ALL: bool>(
+        &mut self,
+        image: &mut I,
+        node: Node,
+        slots: &[u32],
+        number: usize,
+    )
         requires within { IsWithin node self.old slots.now number }
         requires here { number < length self.old.values }
         requires slots { length slots.now ≡ length self.old.values }
@@ -328,10 +361,10 @@ impl Numbers {
                 width,
             } => {
                 let place = offset.wrapping_add(self.values[pointer as usize]);
-                self.read_cell(image, slots[number] as usize, place, width)
+                self.read_cell::<I, ALL>(image, slots[number] as usize, place, width)
             }
             Node::View { kind, size, cell } => {
-                let looked = self.looked_at(kind, size, slots, cell as usize, number);
+                let looked = self.looked_at::<ALL>(kind, size, slots, cell as usize, number);
                 transform(kind, size, view(size, looked))
             }
             Node::Arith { op, left, right } => {
@@ -342,7 +375,13 @@ impl Numbers {
 
     // Reads the cell of a slot at its place of this frame where it is marked or moved, and keeps the
     // number of the frame before.
-    fn read_cell<I: Image>(&mut self, image: &mut I, slot: usize, place: u32, width: u8) -> u32
+    fn read_cell<I: Image, const ALL: bool>(
+        &mut self,
+        image: &mut I,
+        slot: usize,
+        place: u32,
+        width: u8,
+    ) -> u32
         requires slot { slot < length self.old.cells }
         requires agreed { IsAgreedIn self.old (I.bytes image.old) slot width }
         requires width { IsReadWidth width }
@@ -364,7 +403,7 @@ impl Numbers {
     {
         self.earlier[slot] = self.cells[slot];
         if self.watches.is_due(slot, place) {
-            self.watches.settle(slot, place);
+            self.watches.settle::<ALL>(slot, place);
             let number = image.read(place, width);
             self.cells[slot] = number;
             return number;
@@ -373,7 +412,7 @@ impl Numbers {
     }
 
     // The number that a view of the cell looks at, which moves the prior where it is one.
-    fn looked_at(
+    fn looked_at<const ALL: bool>(
         &mut self,
         kind: Kind,
         size: Size,

@@ -101,16 +101,22 @@ impl Table {
         ensures bytes { I.bytes image.new ≡ I.bytes image.old }
         ensures counter { I.counter image.new ≡ I.counter image.old }
     {
-        let all = self.agenda.gather(&mut self.numbers);
-        self.numbers.take_frame(
-            image,
-            &self.nodes,
-            &self.slots,
-            &mut self.agenda.due,
-            &self.agenda.dependents,
-            &mut self.changes,
-            all,
-        );
+        if self.numbers.told_many() {
+            self.numbers.take_all(image, &self.nodes, &self.slots);
+            self.changes.list_all();
+            self.agenda.all = true;
+        } else {
+            let all = self.agenda.gather(&mut self.numbers);
+            self.numbers.take_frame(
+                image,
+                &self.nodes,
+                &self.slots,
+                &mut self.agenda.due,
+                &self.agenda.dependents,
+                &mut self.changes,
+                all,
+            );
+        }
         self.sampled = true;
     }
 

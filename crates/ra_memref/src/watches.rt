@@ -19,7 +19,8 @@ const PAGE: u32 = 16;
 /// docs/DEFINITIONS.md, "Marked and moved cells".
 ///
 /// A cell has two nodes: one for the page of its first byte, one for that of its last. Where the flag
-/// `all` stands each cell is marked, and else each by its own mark. Only `new` takes memory.
+/// `all` stands each cell is marked, and else each by its own mark. How many marks were told anew is
+/// counted, and seen by none. Only `new` takes memory.
 #[derive(Drop)]
 pub struct Watches {
     size: u32,
@@ -28,6 +29,7 @@ pub struct Watches {
     marks: Flags,
     all: bool,
     pages: Links,
+    told: usize,
 }
 
 impl Model for Watches {
@@ -69,6 +71,7 @@ impl Watches {
             marks,
             all: true,
             pages,
+            told: 0,
         })
     }
 
@@ -108,8 +111,8 @@ impl Watches {
         self.is_marked(cell) || self.places[cell] != place
     }
 
-    /// Unmarks a cell, and moves it to a place.
-    pub fn settle(&mut self, cell: usize, place: u32)
+    /// Unmarks a cell, and moves it to a place, in either of two passes.
+    pub fn settle<const ALL: bool>(&mut self, cell: usize, place: u32)
         requires { cell < length self.old.places }
         ensures { self.new ≡ record self.old {
           places = slice_set self.old.places cell place;
@@ -142,8 +145,20 @@ impl Watches {
             return;
         }
         for page in at / PAGE..(at + count - 1) / PAGE + 1 {
-            mark_listed(&self.pages, &mut self.marks, page);
+            let anew = mark_listed(&self.pages, &mut self.marks, page);
+            self.told = self.told.saturating_add(anew);
         }
+    }
+
+    /// More than half of the cells were marked by writes since this was asked last.
+    ///
+    /// It chooses between two ways to the same numbers, so no clause says what it answers.
+    pub fn told_many(&mut self) -> bool
+        ensures { self.new ≡ self.old }
+    {
+        let told = self.told;
+        self.told = 0;
+        told > self.places.len() / 2
     }
 }
 
@@ -158,8 +173,9 @@ fn unmark(all: bool, marks: &mut Flags, cell: usize)
     marks.put(cell, false);
 }
 
-/// Marks what stands on a list by one of its two nodes.
-pub fn mark_listed(lists: &Links, marks: &mut Flags, list: u32)
+/// Marks what stands on a list by one of its two nodes, and counts what was not marked before. No
+/// clause speaks of the count.
+pub fn mark_listed(lists: &Links, marks: &mut Flags, list: u32) -> usize
     requires list { list < length lists.now.lists }
     requires nodes { lists.now.nodes ≤ 2 * length marks.old }
     ensures long { length marks.new ≡ length marks.old }
@@ -167,11 +183,17 @@ pub fn mark_listed(lists: &Links, marks: &mut Flags, list: u32)
         ≡ (slice_index_or marks.old k true
         || (is_at (holder_of lists.now.lists (2 * k)) list || is_at (holder_of lists.now.lists (2 * k + 1)) list)) }
 {
+    let mut anew: usize = 0;
     let mut next = lists.first(list);
     while let Some(node) = next {
-        marks.put((node / 2) as usize, true);
+        let place = (node / 2) as usize;
+        if !marks.is_set(place) {
+            marks.put(place, true);
+            anew = anew.wrapping_add(1);
+        }
         next = lists.next(node);
     }
+    anew
 }
 
 // Puts the two nodes of a cell on the lists of the pages that it watches.

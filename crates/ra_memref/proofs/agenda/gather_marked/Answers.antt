@@ -90,7 +90,7 @@ loop-cell-preserved c =
     }
 
 pub returns-clause-gathered : goal.returns-clause-gathered
-returns-clause-gathered c = λ ended.
+returns-clause-gathered c =
     let done = c.loop-cell.invariant in
     let marked = c.args.numbers.now.watches.marked in
     let none = subst (λ (n : NumbersSeen). NoneSet n.watches.marked c.loop-cell.at

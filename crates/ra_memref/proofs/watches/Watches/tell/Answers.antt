@@ -7,7 +7,7 @@ returns-then-count-eq0 c = told_nothing c.args.self.now c.args.at c.args.count c
 
 pub loop-page-preserved : goal.loop-page-preserved
 loop-page-preserved c =
-    telling_more c.self.inside c.loop-page.self-inside (c.args.at / 16) c.loop-page.page c.mark_listed.new.marks c.loop-page.invariant c.self.invariant c.loop-page.auto.page c.mark_listed.ensures.long c.mark_listed.ensures.marked
+    telling_more c.self.inside c.loop-page.self-inside (c.args.at / 16) c.loop-page.page c.mark_listed-anew.new.marks _ c.loop-page.invariant c.self.invariant c.loop-page.auto.page c.mark_listed-anew.ensures.long c.mark_listed-anew.ensures.marked
 
 pub returns : goal.returns
 returns c =
