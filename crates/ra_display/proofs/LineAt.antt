@@ -23,7 +23,7 @@ module _ (table : TableSeen) (lines : List Line) (place next : ℕ) (olds news :
     (was_is : was ≡ get_or olds place was) (had_is : had ≡ get_or old.each.items place had) where
   pub stepped_at : news ≡ set olds place run → new.each.items ≡ set old.each.items place rest → new.readers ≡ record old.readers { due = slice_set old.readers.due place due }
       → new.holds ≡ slice_set old.holds place holds → new.clock ≡ old.clock
-      → IsLineRun table.nodes (line_contents line) run → HasLineRoom (line_contents line) rest.before → StepsNoted table (line_contents line) (seen_line old.clock was had) rest.before run holds
+      → IsLineRun table.nodes (line_contents line) run → HasLineRoom (line_contents line) rest.before → StepsNoted table (line_contents line) (seen_line old.clock was had) due rest.before run holds
       → (due ≡ false → LineKeeps (line_contents line) (kept_before rest.before) (kept_by run)) → rest.since ≡ (if due then None else Some next) → IsLineSteppedAt table (map line_contents lines) place next olds news old new
   stepped_at runs each readers all clock one room steps rests since = record {
     run = run;
@@ -40,7 +40,7 @@ module _ (table : TableSeen) (lines : List Line) (place next : ℕ) (olds news :
     steps = λ d r e.
         let same : was ≡ get_or olds place r = was_is ∙ get_or_default olds place was r within_runs in
         let same_too : had ≡ get_or old.each.items place e = had_is ∙ get_or_default old.each.items place had e within_each in
-        transport (λ i. StepsNoted table (sym (contents_at lines place line d within is) i) (seen_line old.clock (same i) (same_too i)) rest.before run holds) steps;
+        transport (λ i. StepsNoted table (sym (contents_at lines place line d within is) i) (seen_line old.clock (same i) (same_too i)) due rest.before run holds) steps;
     rests = λ quiet d. subst (λ (l : LineContents). LineKeeps l (kept_before rest.before) (kept_by run)) (sym (contents_at lines place line d within is)) (rests quiet);
     since = since;
   }

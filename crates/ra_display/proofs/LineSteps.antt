@@ -51,7 +51,7 @@ pub record IsLineDone (table : TableSeen) (line : LineContents) (next : ℕ) (ol
   pub resting : s.due ≡ false → IsLineAtRest table.nodes table.values line s.rest s.run s.holds
 
 module _ (table : TableSeen) (frame : IsSomeFrame table) (line : LineContents) (next : ℕ) (old : MemberKept) (s : LineSpot) (room : HasLineRoom line s.rest.before)
-    (steps : StepsNoted table line old s.rest.before s.run s.holds) (rests : s.due ≡ false → LineKeeps line (kept_before s.rest.before) (kept_by s.run)) (since : s.rest.since ≡ (if s.due then None else Some next)) where
+    (steps : StepsNoted table line old s.due s.rest.before s.run s.holds) (rests : s.due ≡ false → LineKeeps line (kept_before s.rest.before) (kept_by s.run)) (since : s.rest.since ≡ (if s.due then None else Some next)) where
   since_by : (b : Bool) → s.due ≡ b → s.rest.since ≡ (if b then None else Some next)
   since_by b e = since ∙ ap (λ d. if d then None else Some next) e
 
@@ -64,7 +64,7 @@ module _ (table : TableSeen) (frame : IsSomeFrame table) (line : LineContents) (
       by_due false e =
           let none : next - next ≡ 0 = omega arith in
           ap (line_since next s.run s.rest.before) (since_by false e) ∙ ap (λ n. owed_member n (kept_before s.rest.before) (kept_by s.run)) none
-          ∙ line_starts table line old s.rest.before s.run s.holds room steps (rests e) frame.start frame.image frame.has
+          ∙ line_starts table line old s.due e s.rest.before s.run s.holds room steps (rests e) frame.start frame.image frame.has
 
   since_within : (b : Bool) → s.due ≡ b → IfSome s.rest.since (λ since. since ≤ next)
   since_within true e = subst (λ s. IfSome s (λ since. since ≤ next)) (sym (since_by true e)) tt
@@ -81,7 +81,7 @@ module _ (table : TableSeen) (frame : IsSomeFrame table) (line : LineContents) (
     resting = λ quiet. record {
       since = next;
       rests = since_by false quiet;
-      on = line_rests_on table line old s.rest.before s.run s.holds room steps (rests quiet) frame.start frame.image frame.has;
+      on = line_rests_on table line old s.due quiet s.rest.before s.run s.holds room steps (rests quiet) frame.start frame.image frame.has;
     };
   }
 
@@ -195,7 +195,7 @@ module _ (table : TableSeen) (frame : IsSomeFrame table) (lines : List LineConte
           subst (Done line d f place) (new_spot d f)
           (line_done table frame (get_or lines place line) next (seen_line start.clock (get_or olds place d) (get_or start.each.items place f))
           (record { run = steps.run; rest = steps.rest; holds = steps.holds; due = steps.due }) (steps.room line)
-          (subst (λ k. StepsNoted table (get_or lines place line) k steps.rest.before steps.run steps.holds) (was d f) (steps.steps line d f))
+          (subst (λ k. StepsNoted table (get_or lines place line) k steps.due steps.rest.before steps.run steps.holds) (was d f) (steps.steps line d f))
           (λ quiet. steps.rests quiet line) steps.since)
 
       pub lines_on : Far news after (place + 1)

@@ -1,5 +1,5 @@
 -- A line that rested at a frame goes on to rest while it sees the same.
-use Rattle.std.proofs.Common.{◌≡◌, ℕ, ◌+◌, ◌-◌, ◌≤◌, Bool, List, [], ◌∷◌, slice_index, sym, ◌∙◌, ap, subst, arith}
+use Rattle.std.proofs.Common.{false, ◌≡◌, ℕ, ◌+◌, ◌-◌, ◌≤◌, Bool, List, [], ◌∷◌, slice_index, sym, ◌∙◌, ap, subst, arith}
 use Rattle.ra_memory.specs.Image.{History}
 use Rattle.ra_memref.specs.Table.{TableSeen}
 use Rattle.ra_memref.specs.Values.{Start}
@@ -19,8 +19,8 @@ use Rattle.ra_display.specs.LineMembers.{line_member}
 use Rattle.ra_display.specs.LineRests.{HasLineRoom, LineGoesOn, LineKeeps, StepsLineSeen, StepsNoted}
 use Rattle.ra_display.specs.Presence.{line_holds}
 
-module _ (table : TableSeen) (line : LineContents) (seen : MemberKept) (b : Before) (new : Member) (holds : Bool) (room : HasLineRoom line b)
-    (steps : StepsNoted table line seen b new holds) (keeps : LineKeeps line (kept_before b) (kept_by new))
+module _ (table : TableSeen) (line : LineContents) (seen : MemberKept) (due : Bool) (quiet : due ≡ false) (b : Before) (new : Member) (holds : Bool) (room : HasLineRoom line b)
+    (steps : StepsNoted table line seen due b new holds) (keeps : LineKeeps line (kept_before b) (kept_by new))
     (start : Start) (image : List ℕ) (has : AreValuesAt table.nodes table.values (first_frame start image)) where
   abbrev m : MemberContents
   m = line_member line
@@ -35,7 +35,7 @@ module _ (table : TableSeen) (line : LineContents) (seen : MemberKept) (b : Befo
   now = kept_by new
 
   was : kept_by steps.mid ≡ old
-  was = steps.kept ∙ sym steps.noted
+  was = steps.kept ∙ sym (steps.noted quiet)
 
   stepped : now ≡ member_next start m h old
   stepped = steps.steps.kept start h has ∙ ap (member_next start m h) was
@@ -44,7 +44,7 @@ module _ (table : TableSeen) (line : LineContents) (seen : MemberKept) (b : Befo
   said = steps.steps.truth start h has ∙ ap (λ (k : MemberKept). line_holds (tests_hold start m.tests h k.tests)) was
 
   small : AreHitsSmall old
-  small = subst AreHitsSmall (sym steps.noted) steps.small
+  small = subst AreHitsSmall (sym (steps.noted quiet)) (steps.small quiet)
 
   tests_stepped : now.tests ≡ tests_next start m.tests h old.tests
   tests_stepped = ap (λ (k : MemberKept). k.tests) stepped

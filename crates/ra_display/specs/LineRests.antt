@@ -119,13 +119,13 @@ AreLinesSeen table (line ∷ lines) (old ∷ olds) (new ∷ news) (holds ∷ all
     StepsLineSeen table line old new holds × AreLinesSeen table lines olds news all
 AreLinesSeen table _ _ _ _ = ⊥
 
--- a line is stepped with what it owes paid, and what it kept before that is noted
-pub record StepsNoted (table : TableSeen) (line : LineContents) (seen : MemberKept) (b : Before) (new : Member) (holds : Bool) : Type 0 where
+-- a line is stepped with what it owes paid, and what it kept before that is noted where it is not due any longer
+pub record StepsNoted (table : TableSeen) (line : LineContents) (seen : MemberKept) (due : Bool) (b : Before) (new : Member) (holds : Bool) : Type 0 where
   pub mid : Member
   pub is : IsLineRun table.nodes line mid
   pub kept : kept_by mid ≡ seen
-  pub noted : kept_before b ≡ seen
-  pub small : AreHitsSmall seen
+  pub noted : due ≡ false → kept_before b ≡ seen
+  pub small : due ≡ false → AreHitsSmall seen
   pub steps : StepsLine table line mid new holds
 
 -- there is room beside the line at a place, which rests since no later count
@@ -150,7 +150,7 @@ pub record IsLineSteppedAt (table : TableSeen) (lines : List LineContents) (plac
   pub is : (line : LineContents) → IsLineRun table.nodes (get_or lines place line) run
   pub room : (line : LineContents) → HasLineRoom (get_or lines place line) rest.before
   pub steps : (line : LineContents) (r : Member) (e : LineRest)
-      → StepsNoted table (get_or lines place line) (seen_line old.clock (get_or olds place r) (get_or old.each.items place e)) rest.before run holds
+      → StepsNoted table (get_or lines place line) (seen_line old.clock (get_or olds place r) (get_or old.each.items place e)) due rest.before run holds
   pub rests : due ≡ false → (line : LineContents) → LineKeeps (get_or lines place line) (kept_before rest.before) (kept_by run)
   pub since : rest.since ≡ (if due then None else Some next)
 

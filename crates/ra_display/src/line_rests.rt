@@ -1,6 +1,6 @@
 //! The lines of a display, of which those that rest are not stepped: docs/DEFINITIONS.md, "Lines at rest".
 
-ghost use Rattle.std.specs.Prelude.{◌≡◌, ◌≤◌, ◌<◌, ◌^◌, ℕ, true, List, length, map, IfOk, IfSome};
+ghost use Rattle.std.specs.Prelude.{◌≡◌, ◌≤◌, ◌<◌, ◌^◌, ℕ, true, not, List, length, map, IfOk, IfSome};
 ghost use Rattle.ra_indirect.specs.declared.node.Node.{Node};
 ghost use Rattle.ra_richpresence.specs.Contents.{LineContents, line_contents};
 ghost use Rattle.ra_member.specs.MemberRuns.{StaysMember, kept_by};
@@ -8,14 +8,14 @@ ghost use Rattle.ra_resting.specs.Before.{HaveOneShape, kept_before};
 ghost use Rattle.ra_resting.specs.Waking.{IsSomeFrame};
 ghost use Rattle.ra_display.specs.Presence.{first_true};
 ghost use Rattle.ra_display.specs.PresenceRuns.{AreLineRuns, IsLineRun};
-ghost use Rattle.ra_display.specs.LineRests.{AreLineRests, AreLinesSeen, HasLinePlace, HasLineRoom, IsLineSteppedAt, StepsNoted, WereLineRests, AreLinesForgotten, line_since, seen_line, seen_lines};
+ghost use Rattle.ra_display.specs.LineRests.{AreLineRests, AreLinesSeen, HasLinePlace, HasLineRoom, IsLineSteppedAt, LineKeeps, StepsNoted, WereLineRests, AreLinesForgotten, line_since, seen_line, seen_lines};
 
 use crate::line_keeps::line_keeps;
 use crate::line_run::step_line;
 use ra_member::Member;
 use ra_memref::{Flags, Table};
 use ra_readers::Readers;
-use ra_resting::{Before, note_member, owed, pay_member, wake};
+use ra_resting::{Before, many_changed, note_member, owed, pay_member, wake};
 use ra_richpresence::Line;
 use ra_text::OutOfMemory;
 use std::alloc::Global;
@@ -36,6 +36,13 @@ pub struct LineRests {
     pub holds: Flags,
     /// A count of frames that only goes on.
     pub clock: u64,
+}
+
+// Whether a line holds at a frame, and whether it rested at it.
+#[derive(Clone, Copy)]
+struct Stepped {
+    holds: bool,
+    rests: bool,
 }
 
 impl LineRests {
@@ -84,7 +91,8 @@ impl LineRests {
         })
     }
 
-    // Steps each line that is due or reads a node that changed, by the frame of the table's last sample.
+    // Steps each line that is due or reads a node that changed, by the frame of the table's last sample. Where many nodes
+    // changed it looks at none for rest.
     pub(crate) fn step(&mut self, runs: &mut [Member], lines: &[Line], table: &Table)
         requires runs { AreLineRuns table.now.nodes (map line_contents lines.now) runs.old }
         requires rests { WereLineRests table.now (map line_contents lines.now) runs.old self.old }
@@ -95,11 +103,12 @@ impl LineRests {
         ensures rests { AreLineRests table.now.nodes table.now.values (map line_contents lines.now) runs.new self.new }
         ensures stepped { AreLinesSeen table.now (map line_contents lines.now) (seen_lines self.old.clock runs.old self.old.each.items) (seen_lines self.new.clock runs.new self.new.each.items) self.new.holds }
     {
+        let noting = !many_changed(&self.readers, table);
         wake(&mut self.readers, self.clock, table);
         let now = self.clock.saturating_add(1);
         let mut at = 0;
         while let Some(place) = self.readers.next_due(at) {
-            self.step_at(runs, lines, table, place, now);
+            self.step_at(runs, lines, table, place, now, noting);
             at = place + 1;
         }
         self.clock = now;
@@ -113,6 +122,7 @@ impl LineRests {
         table: &Table,
         place: usize,
         next: u64,
+        noting: bool,
     )
         requires here { place < length lines.now }
         requires runs { AreLineRuns table.now.nodes (map line_contents lines.now) runs.old }
@@ -123,11 +133,10 @@ impl LineRests {
         let run = &mut runs[place];
         let rest = &mut self.each[place];
         let line = &lines[place];
-        let holds = step_noted(run, rest, line, table, self.clock);
-        let rests = line_keeps(line, &rest.before, run);
-        rest.since = if rests { Some(next) } else { None };
-        self.holds.put(place, holds);
-        self.readers.put(place, !rests);
+        let stepped = step_noted(run, rest, line, table, self.clock, noting);
+        rest.since = if stepped.rests { Some(next) } else { None };
+        self.holds.put(place, stepped.holds);
+        self.readers.put(place, !stepped.rests);
     }
 
     // The place of the first line that holds; as many as there are where none does.
@@ -153,19 +162,32 @@ impl LineRests {
     }
 }
 
-// Steps a line with what it owes at a count of frames paid, notes what it kept before, and says whether it holds.
-fn step_noted(run: &mut Member, rest: &mut LineRest, line: &Line, table: &Table, clock: u64) -> bool
+// Steps a line with what it owes at a count of frames paid, and says whether it holds, and whether it rested, which is not
+// looked at where what it kept before is not to be noted.
+fn step_noted(
+    run: &mut Member,
+    rest: &mut LineRest,
+    line: &Line,
+    table: &Table,
+    clock: u64,
+    noting: bool,
+) -> Stepped
     requires run { IsLineRun table.now.nodes (line_contents line.now) run.old }
     requires room { HasLineRoom (line_contents line.now) rest.old.before }
     requires since { IfSome rest.old.since (λ since. since ≤ clock) }
     requires sampled { table.now.sampled ≡ true }
     ensures run { IsLineRun table.now.nodes (line_contents line.now) run.new }
     ensures room { HasLineRoom (line_contents line.now) rest.new.before }
-    ensures steps { StepsNoted table.now (line_contents line.now) (seen_line clock run.old rest.old) rest.new.before run.new result }
+    ensures steps { StepsNoted table.now (line_contents line.now) (seen_line clock run.old rest.old) (not result.rests) rest.new.before run.new result.holds }
+    ensures rests { result.rests ≡ true → LineKeeps (line_contents line.now) (kept_before rest.new.before) (kept_by run.new) }
 {
     pay_since(run, &rest.before, rest.since, clock);
-    rest.before.note(run);
-    step_line(run, line, table)
+    if noting {
+        rest.before.note(run);
+    }
+    let holds = step_line(run, line, table);
+    let rests = noting && line_keeps(line, &rest.before, run);
+    Stepped { holds, rests }
 }
 
 // Pays what a line owes at a count of frames, where it rests since one of them.

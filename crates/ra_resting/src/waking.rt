@@ -1,6 +1,6 @@
 //! Readers that are woken at a frame.
 
-ghost use Rattle.std.specs.Prelude.{◌≡◌, ◌<◌, ℕ, length, slice_index};
+ghost use Rattle.std.specs.Prelude.{◌≡◌, ◌<◌, ◌/◌, ℕ, length, nat_lt, slice_index};
 ghost use Rattle.ra_resting.specs.Waking.{IsWoken};
 
 use ra_memref::Table;
@@ -13,12 +13,19 @@ pub fn wake(readers: &mut Readers, clock: u64, table: &Table)
     requires nodes { (k : ℕ) → k < length table.now.changed → slice_index table.now.changed k < length table.now.nodes }
     ensures { IsWoken clock table.now.changed readers.old readers.new }
 {
-    let changed = table.changed();
     if clock == u64::MAX {
         readers.wake_all();
-    } else if changed.len() > readers.nodes() / 4 {
+    } else if many_changed(readers, table) {
         readers.wake_all();
     } else {
-        readers.wake(changed);
+        readers.wake(table.changed());
     }
+}
+
+/// More than a quarter of the nodes changed at the table's last sample.
+pub fn many_changed(readers: &Readers, table: &Table) -> bool
+    requires { length readers.now.rows ≡ length table.now.nodes }
+    ensures { result ≡ nat_lt (length table.now.nodes / 4) (length table.now.changed) }
+{
+    table.changed().len() > readers.nodes() / 4
 }

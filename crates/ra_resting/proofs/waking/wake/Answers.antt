@@ -2,13 +2,13 @@ use Rattle.std.proofs.Common.{◌≡◌, List, ℕ, true, false, sym, ◌∙◌,
 use Rattle.ra_memref.specs.Table.{IsListed}
 use Rattle.ra_resting.proofs.waking.wake.Goals as goal
 
-pub returns-else-changed-nodes : goal.returns-else-changed-nodes
-returns-else-changed-nodes c =
+pub returns-else-many_changed : goal.returns-else-many_changed
+returns-else-many_changed c =
     record {
       rows = c.wake.ensures.rows;
       long = c.wake.ensures.long;
       kept = λ r quiet. (c.wake.ensures.kept r quiet, omega arith);
       woken = λ r n quiet listed reads.
-          let due = c.wake.ensures.woken r n (subst (λ (xs : List ℕ). IsListed n xs) (sym c.changed-changed.ensures) listed) reads in
+          let due = c.wake.ensures.woken r n (subst (λ (xs : List ℕ). IsListed n xs) (sym c.changed.ensures) listed) reads in
           let bad : true ≡ false = sym due ∙ quiet in cc;
     }
