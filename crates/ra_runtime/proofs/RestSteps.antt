@@ -39,11 +39,11 @@ pub record IsDone (table : TableSeen) (item : ItemContents) (next : ℕ) (old : 
   pub resting : due ≡ false → IsAtRest table.nodes table.values item rest run
 
 module _ (table : TableSeen) (frame : IsSomeFrame table) (item : ItemContents) (next : ℕ) (old : KeptItem) (run : ItemRun) (rest : Rest) (due : Bool)
-    (is : IsItemRun table.nodes item run) (room : HasRoom item rest.before) (steps : StepsRest table item old rest.before run)
+    (is : IsItemRun table.nodes item run) (room : HasRoom item rest.before) (steps : StepsRest table item old due rest.before run)
     (rests : due ≡ false → ItemRests item rest.before run) (since : rest.since ≡ (if due then None else Some next)) where
   both : due ≡ false → (owed_run 0 rest.before run ≡ kept_run run) × GoesOn table.nodes table.values item rest.before run
   both quiet =
-      item_rests table item rest.before steps.mid run steps.is is room steps.noted steps.steps (rests quiet) frame.start frame.image frame.has
+      item_rests table item rest.before steps.mid run steps.is is room (steps.noted quiet) steps.steps (rests quiet) frame.start frame.image frame.has
 
   since_by : (b : Bool) → due ≡ b → rest.since ≡ (if b then None else Some next)
   since_by b e = since ∙ ap (λ d. if d then None else Some next) e

@@ -22,7 +22,7 @@ module _ (table : TableSeen) (items : List Item) (place next : ℕ) (olds news :
     (was_is : was ≡ get_or olds place was) (had_is : had ≡ get_or old.each.items place had) where
   pub stepped_at : news ≡ set olds place run → new.each.items ≡ set old.each.items place rest → new.readers ≡ record old.readers { due = slice_set old.readers.due place due }
       → new.stepped.items ≡ slice_set old.stepped.items old.count place → new.count ≡ old.count + 1 → new.clock ≡ old.clock
-      → IsItemRun table.nodes (item_contents item) run → HasRoom (item_contents item) rest.before → StepsRest table (item_contents item) (seen_run old.clock was had) rest.before run
+      → IsItemRun table.nodes (item_contents item) run → HasRoom (item_contents item) rest.before → StepsRest table (item_contents item) (seen_run old.clock was had) due rest.before run
       → (due ≡ false → ItemRests (item_contents item) rest.before run) → rest.since ≡ (if due then None else Some next) → IsSteppedAt table (map item_contents items) place next olds news old new
   stepped_at runs each readers stepped count clock one room steps rests since = record {
     run = run;
@@ -39,7 +39,7 @@ module _ (table : TableSeen) (items : List Item) (place next : ℕ) (olds news :
     steps = λ d r e.
         let same : was ≡ get_or olds place r = was_is ∙ get_or_default olds place was r within_runs in
         let same_too : had ≡ get_or old.each.items place e = had_is ∙ get_or_default old.each.items place had e within_each in
-        transport (λ i. StepsRest table (sym (contents_at items place item d within is) i) (seen_run old.clock (same i) (same_too i)) rest.before run) steps;
+        transport (λ i. StepsRest table (sym (contents_at items place item d within is) i) (seen_run old.clock (same i) (same_too i)) due rest.before run) steps;
     rests = λ quiet d. subst (λ (i : ItemContents). ItemRests i rest.before run) (sym (contents_at items place item d within is)) (rests quiet);
     since = since;
   }

@@ -1,5 +1,5 @@
 -- What items kept before a frame, what they owe while they rest, and when they do: docs/DEFINITIONS.md, "Items at rest".
-use Rattle.std.specs.Prelude.{◌≡◌, ℕ, ◌+◌, ◌-◌, true, Option, None, Some, List, [], ◌∷◌, length, slice_index}
+use Rattle.std.specs.Prelude.{◌≡◌, ℕ, ◌+◌, ◌-◌, Bool, true, false, Option, None, Some, List, [], ◌∷◌, length, slice_index}
 use Rattle.ra_condition.specs.Contents.{TriggerContents, groups_of, trigger_hits}
 use Rattle.ra_group.specs.declared.form.Form.TheVariants.{InTrigger}
 use Rattle.ra_indirect.specs.declared.node.Node.{Node}
@@ -127,12 +127,12 @@ FitsRun (before.Achievement b) (Achievement run) = length b.hits.items ≡ lengt
 FitsRun (before.Leaderboard b) (Leaderboard run) = HaveOneShape (kept_before b.member) (kept_by run.member)
 FitsRun _ _ = ⊥
 
--- an item is stepped with what it owes paid, and what it kept before that is noted
-pub record StepsRest (table : TableSeen) (item : ItemContents) (seen : KeptItem) (b : ItemBefore) (new : ItemRun) : Type 0 where
+-- an item is stepped with what it owes paid, and what it kept before that is noted where it is not due any longer
+pub record StepsRest (table : TableSeen) (item : ItemContents) (seen : KeptItem) (due : Bool) (b : ItemBefore) (new : ItemRun) : Type 0 where
   pub mid : ItemRun
   pub is : IsItemRun table.nodes item mid
   pub kept : kept_run mid ≡ seen
-  pub noted : IsNoted b mid
+  pub noted : due ≡ false → IsNoted b mid
   pub steps : StepsItem table item mid new
 
 -- one frame of an item, from what it is seen to keep: what it is seen to keep after it, and what it tells

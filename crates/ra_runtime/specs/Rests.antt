@@ -101,7 +101,7 @@ pub record IsSteppedAt (table : TableSeen) (items : List ItemContents) (place ne
   pub is : (item : ItemContents) → IsItemRun table.nodes (get_or items place item) run
   pub room : (item : ItemContents) → HasRoom (get_or items place item) rest.before
   pub steps : (item : ItemContents) (r : ItemRun) (e : Rest)
-      → StepsRest table (get_or items place item) (seen_run old.clock (get_or olds place r) (get_or old.each.items place e)) rest.before run
+      → StepsRest table (get_or items place item) (seen_run old.clock (get_or olds place r) (get_or old.each.items place e)) due rest.before run
   pub rests : due ≡ false → (item : ItemContents) → ItemRests (get_or items place item) rest.before run
   pub since : rest.since ≡ (if due then None else Some next)
 

@@ -1,6 +1,6 @@
 //! What an item kept before a frame, and whether it rests: docs/DEFINITIONS.md, "Items at rest".
 
-ghost use Rattle.std.specs.Prelude.{◌≡◌, ◌≤◌, ◌<◌, ℕ, true, None, length, slice_index, IfOk, IfSome};
+ghost use Rattle.std.specs.Prelude.{◌≡◌, ◌≤◌, ◌<◌, ℕ, true, not, None, length, slice_index, IfOk, IfSome};
 ghost use Rattle.std.specs.Result.{OnOk};
 ghost use Rattle.ra_resting.specs.Reads.{IsAllRead};
 ghost use Rattle.ra_condition.specs.Contents.{trigger_contents, trigger_hits};
@@ -273,13 +273,14 @@ fn wake(run: &mut ItemRun, rest: &mut Rest, clock: u64)
 }
 
 // Steps an item by the frame of the table's last sample, with what it owes at a count of frames paid, and says whether
-// it rested at it.
+// it rested at it, which is not looked at where it is not to be noted.
 pub(crate) fn step_rest(
     run: &mut ItemRun,
     rest: &mut Rest,
     item: &Item,
     table: &Table,
     clock: u64,
+    noting: bool,
 ) -> bool
     requires run { IsItemRun table.now.nodes (item_contents item.now) run.old }
     requires room { HasRoom (item_contents item.now) rest.old.before }
@@ -288,13 +289,15 @@ pub(crate) fn step_rest(
     ensures run { IsItemRun table.now.nodes (item_contents item.now) run.new }
     ensures room { HasRoom (item_contents item.now) rest.new.before }
     ensures awake { rest.new.since ≡ None }
-    ensures steps { StepsRest table.now (item_contents item.now) (seen_run clock run.old rest.old) rest.new.before run.new }
+    ensures steps { StepsRest table.now (item_contents item.now) (seen_run clock run.old rest.old) (not result) rest.new.before run.new }
     ensures rests { result ≡ true → ItemRests (item_contents item.now) rest.new.before run.new }
 {
     wake(run, rest, clock);
-    rest.before.note(run);
+    if noting {
+        rest.before.note(run);
+    }
     run.step(item, table);
-    rest.before.rests(item, run)
+    noting && rest.before.rests(item, run)
 }
 
 // Notes that a reader reads what an item reads. Memory is the only refusal.

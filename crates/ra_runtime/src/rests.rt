@@ -11,7 +11,7 @@ use crate::item_run::ItemRun;
 use crate::rest::{ItemBefore, Rest, note_reads, step_rest};
 use ra_memref::Table;
 use ra_readers::Readers;
-use ra_resting::wake;
+use ra_resting::{many_changed, wake};
 use ra_set::Item;
 use ra_text::OutOfMemory;
 use std::alloc::Global;
@@ -63,7 +63,8 @@ impl Rests {
         })
     }
 
-    // Steps each item that is due or reads a node that changed, by the frame of the table's last sample.
+    // Steps each item that is due or reads a node that changed, by the frame of the table's last sample. Where many nodes
+    // changed it looks at none for rest.
     pub(crate) fn step(&mut self, runs: &mut [ItemRun], items: &[Item], table: &Table)
         requires runs { AreItemRuns table.now.nodes (map item_contents items.now) runs.old }
         requires rests { WereRests table.now (map item_contents items.now) runs.old self.old }
@@ -75,12 +76,13 @@ impl Rests {
         ensures stepped { AreSteppedSeen table.now (map item_contents items.now) (seen_by runs.old self.old) (seen_by runs.new self.new) runs.new }
         ensures told { AreTold (map item_contents items.now) runs.new self.new }
     {
+        let noting = !many_changed(&self.readers, table);
         wake(&mut self.readers, self.clock, table);
         self.count = 0;
         let now = self.clock.saturating_add(1);
         let mut at = 0;
         while let Some(place) = self.readers.next_due(at) {
-            self.step_at(runs, items, table, place, now);
+            self.step_at(runs, items, table, place, now, noting);
             at = place + 1;
         }
         self.clock = now;
@@ -102,6 +104,7 @@ impl Rests {
         table: &Table,
         place: usize,
         next: u64,
+        noting: bool,
     )
         requires here { place < length items.now }
         requires runs { AreItemRuns table.now.nodes (map item_contents items.now) runs.old }
@@ -112,7 +115,7 @@ impl Rests {
     {
         let run = &mut runs[place];
         let rest = &mut self.each[place];
-        let rests = step_rest(run, rest, &items[place], table, self.clock);
+        let rests = step_rest(run, rest, &items[place], table, self.clock, noting);
         rest.since = if rests { Some(next) } else { None };
         self.readers.put(place, !rests);
         self.stepped[self.count] = place as u32;

@@ -42,7 +42,7 @@ returns c =
     let rest : Rest = record { before = c.step_rest-rests.new.rest.before; since = c.if-rests.rest } in
     stepped_at c.args.table.now items c.args.place c.args.next c.args.runs.now _ c.args.self.now _ item c.index-runs-place.result c.step_rest-rests.new.run had rest (not c.step_rest-rests.result)
     c.requires.here c.index-items-place.is (omega (arith, c.requires.here, length_runs c.args.table.now.nodes (map item_contents items) c.args.runs.now c.requires.runs, length-map items item_contents)) (omega (arith, c.requires.here, c.requires.place.many, length-map items item_contents)) c.index-runs-place.is c.index_mut-rest.ensures.value
-    refl refl c.put.ensures refl refl refl c.step_rest-rests.ensures.run c.step_rest-rests.ensures.room (subst (λ (r : ItemRun). StepsRest c.args.table.now (item_contents item) (seen_run c.args.self.now.clock r had) rest.before c.step_rest-rests.new.run) (sym c.index-runs-place.is) c.step_rest-rests.ensures.steps)
+    refl refl c.put.ensures refl refl refl c.step_rest-rests.ensures.run c.step_rest-rests.ensures.room (subst (λ (r : ItemRun). StepsRest c.args.table.now (item_contents item) (seen_run c.args.self.now.clock r had) (not c.step_rest-rests.result) rest.before c.step_rest-rests.new.run) (sym c.index-runs-place.is) c.step_rest-rests.ensures.steps)
     (λ quiet. c.step_rest-rests.ensures.rests (was_true c.step_rest-rests.result quiet))
     (elim c.if-rests.branch [
       | then-rests w ↦ w.rest-is ∙ sym (ap (λ b. if not b then None else Some c.args.next) w.if-rests.true)
