@@ -1,4 +1,4 @@
-ghost use Rattle.std.specs.Prelude.{◌≡◌, ◌+◌, ◌-◌, ◌<◌, ◌≤◌, ◌^◌, None, Some, option_map, length, IfOk, IfErr, OnOk, OnErr};
+ghost use Rattle.std.specs.Prelude.{◌≡◌, ◌++◌, ◌+◌, ◌-◌, ◌<◌, ◌≤◌, ◌^◌, None, Some, option_map, length, IfOk, IfErr, OnOk, OnErr};
 ghost use Rattle.ra_set.specs.Contents.{set_contents};
 ghost use Rattle.ra_set.specs.Limits.{IsWithinLimits};
 ghost use Rattle.ra_set.specs.Names.{IsNamed};
@@ -241,6 +241,14 @@ impl Runtime {
         let mut out = Vec::new(alloc);
         put_events(&mut out, self.frame, self.events())?;
         Ok(out)
+    }
+
+    /// Puts the lines of the events of the last frame at the end of a text, in the room that it has:
+    /// docs/DEFINITIONS.md, "Printed lines". None where no frame came. For want of memory some may stand there.
+    pub fn put_lines(&self, text: &mut Vec<u8>) -> Result<(), OutOfMemory>
+        ensures { OnOk result (text.new.items ≡ text.old.items ++ self.now.lines) }
+    {
+        put_events(text, self.frame, self.events())
     }
 
     /// How many bytes the image has.

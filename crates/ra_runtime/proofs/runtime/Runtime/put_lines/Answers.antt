@@ -1,0 +1,13 @@
+use Rattle.std.proofs.Common.{List, ap, subst, sym, ◌∙◌}
+use Rattle.ra_set.specs.Contents.{set_contents}
+use Rattle.ra_runtime.specs.declared.event.Event.{Event}
+use Rattle.ra_runtime.specs.Runtime.{RuntimeSeen}
+use Rattle.ra_runtime.proofs.EventLemmas.{Have, last_have}
+use Rattle.ra_runtime.proofs.runtime.Runtime.put_lines.Goals as goal
+
+pub put_events-requires : goal.put_events-requires
+put_events-requires c =
+    let t = c.self.inside in
+    let seen = c.events.ensures ∙ sym (ap (λ (r : RuntimeSeen). r.events) c.self.view_is) in
+    subst (λ (events : List Event). Have events) (sym seen)
+    (last_have t.framed (set_contents t.set).items t.runs.items c.self.invariant.digits)
