@@ -316,12 +316,12 @@ stands_first set size (Some bytes) o behind earned made runtime slots playable s
     stands_behind set size o behind earned bytes made runtime slots playable shape is takes begins none
 
 -- a record that is read, played by a player that is seen so
-pub plays_by : (set : SetContents) (o : Opening) (m : Moment) (earned : Earned) (record_read : Record) (e : Record) (old new : Player) (text : List ℕ) → record_read ≡ e → new ≡ old → text ≡ []
-    → Plays set o (entry_of e) m earned old.runtime (slots_of old.slots.items) [] → Plays set o (entry_of record_read) m earned new.runtime (slots_of new.slots.items) text
-plays_by set o m earned record_read e old new text is same none plays =
-    subst (λ (t : List ℕ). Plays set o (entry_of record_read) m earned new.runtime (slots_of new.slots.items) t) (sym none)
-    (subst (λ (p : Player). Plays set o (entry_of record_read) m earned p.runtime (slots_of p.slots.items) []) (sym same)
-    (subst (λ (r : Record). Plays set o (entry_of r) m earned old.runtime (slots_of old.slots.items) []) (sym is) plays))
+pub plays_by : (set : SetContents) (o : Opening) (m : Moment) (earned : Earned) (record_read : Record) (e : Record) (old new : Player) (text told : List ℕ) → record_read ≡ e → new ≡ old → text ≡ told
+    → Plays set o (entry_of e) m earned old.runtime (slots_of old.slots.items) told → Plays set o (entry_of record_read) m earned new.runtime (slots_of new.slots.items) text
+plays_by set o m earned record_read e old new text told is same one plays =
+    subst (λ (t : List ℕ). Plays set o (entry_of record_read) m earned new.runtime (slots_of new.slots.items) t) (sym one)
+    (subst (λ (p : Player). Plays set o (entry_of record_read) m earned p.runtime (slots_of p.slots.items) told) (sym same)
+    (subst (λ (r : Record). Plays set o (entry_of r) m earned old.runtime (slots_of old.slots.items) told) (sym is) plays))
 
 -- a save prints nothing, and neither does a restore
 pub plays_saved : (set : SetContents) (o : Opening) (m : Moment) (earned : Earned) (k : ℕ) (runtime : RuntimeSeen) (slots : List (Option (List ℕ))) → StandsAt set o (moved (Saved k) m) earned runtime slots → Plays set o (Saved k) m earned runtime slots []

@@ -154,26 +154,33 @@ impl Player {
         }
     }
 
-    /// Plays a record, and answers what it prints. `EmptySlot` where it restores an empty slot.
-    pub fn play(&mut self, alloc: Global, entry: &Record<'_>) -> Result<Vec<u8>, Unplayed>
+    /// Plays a record, and leaves in the text what it prints, in the room that the text has. `EmptySlot` where it restores
+    /// an empty slot.
+    pub fn play(
+        &mut self,
+        alloc: Global,
+        entry: &Record<'_>,
+        text: &mut Vec<u8>,
+    ) -> Result<(), Unplayed>
         requires lies { LiesWithin (length self.old.runtime.image) (entry_of entry.now) }
         requires stands { StandsSomewhere self.old.runtime (slots_of self.old.slots.items) }
-        ensures played { IfOk result (λ text. (set : SetContents) (o : Opening) (m : Moment) (earned : Earned) → StandsAt set o m earned self.old.runtime (slots_of self.old.slots.items)
-            → Plays set o (entry_of entry.now) m earned self.new.runtime (slots_of self.new.slots.items) text.items) }
+        ensures played { OnOk result ((set : SetContents) (o : Opening) (m : Moment) (earned : Earned) → StandsAt set o m earned self.old.runtime (slots_of self.old.slots.items)
+            → Plays set o (entry_of entry.now) m earned self.new.runtime (slots_of self.new.slots.items) text.new.items) }
         ensures empty { IfErr result (λ e. e ≡ Unplayed.EmptySlot → (set : SetContents) (o : Opening) (m : Moment) (earned : Earned) → StandsAt set o m earned self.old.runtime (slots_of self.old.slots.items) → TakesEmpty (entry_of entry.now) m) }
         ensures image { length self.new.runtime.image ≡ length self.old.runtime.image }
     {
+        text.clear();
         match entry {
             Record::Write { at, bytes } => self.write(*at, bytes),
             Record::Frame => {
                 take_frame::<Brand>(&mut self.runtime, Blank::new(1));
-                return Ok(self.runtime.lines(alloc)?);
+                self.runtime.put_lines(text)?;
             }
             Record::Save { slot } => self.save(alloc, *slot)?,
             Record::Restore { slot } => self.restore(*slot)?,
-            Record::Show => return Ok(self.runtime.show(alloc)?),
+            Record::Show => *text = self.runtime.show(alloc)?,
             Record::End => {}
         }
-        Ok(Vec::new(alloc))
+        Ok(())
     }
 }

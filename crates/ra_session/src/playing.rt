@@ -19,11 +19,13 @@ use ra_io::{Files, Sink};
 use ra_trace::{Reader, Record, Why};
 use std::alloc::Global;
 
-// Reads and plays the next record, and writes what it prints. Answers whether it is the end record.
+// Reads and plays the next record, and writes what it prints, which is left in the text. Answers whether it is the end
+// record.
 fn play_next<F: Files, K: Sink>(
     alloc: Global,
     reader: &mut Reader,
     player: &mut Player,
+    text: &mut Vec<u8>,
     files: &mut F,
     out: &mut K,
 ) -> Result<bool, TraceFailed>
@@ -47,8 +49,8 @@ fn play_next<F: Files, K: Sink>(
 {
     let record = reader.next_record(files)?;
     let end = matches!(record, Record::End);
-    match player.play(alloc, &record) {
-        Ok(text) => {
+    match player.play(alloc, &record, text) {
+        Ok(()) => {
             write_all(text.as_slice(), out)?;
             Ok(end)
         }
@@ -88,6 +90,7 @@ pub fn play_records<F: Files, K: Sink>(
     ensures stays { OnlyRead F.content F.read_faults F.put_faults files.old files.new }
     ensures later { K.faults out.old ≤ K.faults out.new }
 {
-    while !play_next(alloc, reader, player, files, out)? {}
+    let mut text = Vec::new(alloc);
+    while !play_next(alloc, reader, player, &mut text, files, out)? {}
     Ok(())
 }

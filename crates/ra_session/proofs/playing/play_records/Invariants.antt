@@ -9,8 +9,8 @@ use Rattle.ra_session.specs.Playing.{StandsAt, StandsSomewhere, IsLeft, slots_of
 use Rattle.ra_session.proofs.TraceLemmas.{PlayedTo}
 use Rattle.ra_session.proofs.playing.play_records.Given as goal
 
-abbrev pub invariant-loop : goal.invariant-loop
-invariant-loop g l = record {
+abbrev pub invariant-loop-text : goal.invariant-loop-text
+invariant-loop-text g l = record {
   to : (bytes : List ℕ) (set : SetContents) (o : Opening) (m : Moment) (earned : Earned) (left : Pieces) → g.F.Files.content l.initial.files l.initial.reader.name ≡ Some bytes
       → StandsAt set o m earned l.initial.player.runtime (slots_of l.initial.player.slots.items) → IsLeft bytes m l.initial.reader left
       → PlayedTo bytes set o m earned left l.reader l.player.runtime (slots_of l.player.slots.items) (g.K.Sink.text l.initial.out) (g.K.Sink.text l.out);
@@ -21,5 +21,5 @@ invariant-loop g l = record {
   later : g.K.Sink.faults l.initial.out ≤ g.K.Sink.faults l.out;
 }
 
-abbrev pub decreases-loop : goal.decreases-loop
-decreases-loop g l = l.reader.limit - l.reader.next
+abbrev pub decreases-loop-text : goal.decreases-loop-text
+decreases-loop-text g l = l.reader.limit - l.reader.next
