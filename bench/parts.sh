@@ -33,7 +33,9 @@ echo "|---|---|"
 made
 row 'a frame of 4,000 achievements of 8 conditions with 4 writes' $((frames - 10)) many.set many.trace many.set many-ten.trace
 row 'a frame of them with no write' $((frames - 10)) many.set still.trace many.set still-ten.trace
-row 'a frame of them in which every byte changes' 10 many.set due.trace many.set due-one.trace
+row 'a frame of 40 such achievements with no write' $((frames - 10)) few.set still.trace few.set still-ten.trace
+row 'a frame of the 4,000 in which every byte changes' 10 many.set due.trace many.set due-one.trace
+row 'a frame with no write behind each of those' 12 many.set due-still.trace many.set due.trace
 row 'a frame of no items' $((frames - 10)) none.set still.trace none.set still-ten.trace
 row 'a frame of a real-sized set' $((frames - 1)) real.set real.trace real.set real-one.trace
 row 'a save of 4,000 achievements of 8 conditions' 100 many.set saves.trace many.set saved.trace

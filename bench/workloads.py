@@ -16,7 +16,9 @@ lines.set    an achievement that tells a measured number at each frame, over cou
              quiet.set has the same achievement and tells nothing
 many.set     over saves.trace and restores.trace: 100 of these records; over saved.trace: one save
              over many-ten.trace: ten frames with such writes, and over still-ten.trace: ten frames and no write
-             over due.trace: 12 frames, each behind another value of every byte; due-one.trace has two of these frames
+             over due.trace: 12 frames, each behind another value of every byte; due-one.trace has two of these frames,
+             and in due-still.trace each has a frame with no write behind it
+few.set      40 achievements of 8 conditions, over still.trace and still-ten.trace
 small.set    a script of one line with a lookup of 8 texts and a format, over shows.trace: 65,536 shows of one frame
              shown.trace has one of these shows
 keys.set     a script whose lookup has 262,144 keys lines, none of which holds the value, over ten.trace: ten shows
@@ -62,14 +64,14 @@ def many_trace(frames):
     return bytes(trace + b"E")
 
 
-def due_trace(frames):
+def due_trace(frames, behind=b"F"):
     """Every byte takes another value before each frame, in two writes."""
     trace = bytearray(header(65536))
     for frame in range(frames):
         half = bytes((frame * 7 + place) % 256 for place in range(32768))
         for start in (0, 32768):
             trace += b"W" + start.to_bytes(4, "little") + len(half).to_bytes(2, "little") + half
-        trace += b"F"
+        trace += behind
     return bytes(trace + b"E")
 
 
@@ -134,17 +136,23 @@ def display_script(part, last):
     return "P\nDisplay:\n" + part * ((MIB_4 - 16) // len(part)) + last
 
 
+def few_set():
+    return "".join(f"A {i + 1} " + "_".join(f"0xH{i * 1600 + k * 200:04x}={k}" for k in range(8)) + "\n" for i in range(40))
+
+
 def main(folder, frames):
     random.seed(1)
     files = {
         "large.set": large_set().encode(),
         "many.set": "".join(achievement(i + 1) for i in range(4000)).encode(),
+        "few.set": few_set().encode(),
         "many.trace": many_trace(frames),
         "many-ten.trace": many_trace(10),
         "still.trace": header(65536) + b"F" * frames + b"E",
         "still-ten.trace": header(65536) + b"F" * 10 + b"E",
         "due.trace": due_trace(12),
         "due-one.trace": due_trace(2),
+        "due-still.trace": due_trace(12, b"FF"),
         "none.set": b"",
         "great.trace": header(134_217_728) + b"FE",
         "frames.trace": header(65536) + b"F" * 1_048_576 + b"E",
