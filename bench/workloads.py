@@ -15,6 +15,7 @@ items.set    16,384 achievements of one condition, over one.trace: one frame
 lines.set    an achievement that tells a measured number at each frame, over counts.trace: 65,536 frames
              quiet.set has the same achievement and tells nothing
 many.set     over saves.trace and restores.trace: 100 of these records; over saved.trace: one save
+             over restored.trace: 100 restores, each with a frame behind it
              over many-ten.trace: ten frames with such writes, and over still-ten.trace: ten frames and no write
              over due.trace: 12 frames, each behind another value of every byte; due-one.trace has two of these frames,
              and in due-still.trace each has a frame with no write behind it
@@ -72,6 +73,24 @@ def due_trace(frames, behind=b"F"):
         for start in (0, 32768):
             trace += b"W" + start.to_bytes(4, "little") + len(half).to_bytes(2, "little") + half
         trace += behind
+    return bytes(trace + b"E")
+
+
+def behind_pointer(number):
+    """An achievement of 4 comparisons, each behind the pointer at 0."""
+    pairs = [f"I:0xH0000_0xH{random.randrange(16, 60000):04x}={random.randrange(256)}" for _ in range(4)]
+    return f"A {number} " + "_".join(pairs) + "\n"
+
+
+def pointer_trace(frames):
+    """The memory is filled but for the pointer, and each frame behind two others moves it."""
+    trace = bytearray(header(65536))
+    filled = bytes((place * 7 + place // 251) % 256 for place in range(32767))
+    for start in (1, 32768):
+        trace += b"W" + start.to_bytes(4, "little") + len(filled).to_bytes(2, "little") + filled
+    trace += b"FF"
+    for frame in range(frames):
+        trace += write(0, frame % 2 + 1) + b"F"
     return bytes(trace + b"E")
 
 
@@ -169,6 +188,7 @@ def main(folder, frames):
         "saved.trace": header(65536) + b"FS\0E",
         "saves.trace": header(65536) + b"F" + b"S\0" * 101 + b"E",
         "restores.trace": header(65536) + b"FS\0" + b"R\0" * 100 + b"E",
+        "restored.trace": header(65536) + b"FS\0" + b"R\0F" * 100 + b"E",
         "small.set": small_script().encode(),
         "shown.trace": header(65536) + b"FPE",
         "shows.trace": header(65536) + b"F" + b"P" * 65_537 + b"E",
@@ -177,6 +197,9 @@ def main(folder, frames):
         "names.set": names_script().encode(),
         "texts.set": display_script("??x\n", "x\n").encode(),
         "macros.set": display_script("@Number(0xH0010)", "\n").encode(),
+        "pointers.set": "".join(behind_pointer(i + 1) for i in range(4000)).encode(),
+        "pointers.trace": pointer_trace(21),
+        "pointers-one.trace": pointer_trace(1),
     }
     for name, content in files.items():
         with open(f"{folder}/{name}", "wb") as file:
