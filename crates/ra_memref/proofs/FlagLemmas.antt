@@ -73,3 +73,39 @@ block_kept flags blocks blocked place was inside flag = record {
 -- to set a flag that is set changes none
 pub set_already : (flags : List Bool) (place : ℕ) → get_or flags place true ≡ true → set flags place true ≡ flags
 set_already flags place is = ap (set flags place) (sym is) ∙ set-get_or flags place true
+
+-- no flag from a place on is set, and those before it are what they were, where the flags from there up to another were taken back
+pub record AreCleared (old new : List Bool) (from at : ℕ) : Type 0 where
+  pub long : length new ≡ length old
+  pub before : (k : ℕ) → k < from → get_or new k true ≡ get_or old k true
+  pub none : NoneSet new from at
+
+pub cleared_none : (flags : List Bool) (from : ℕ) → AreCleared flags flags from from
+cleared_none flags from = record {
+  long = refl;
+  before = λ k low. refl;
+  none = λ k low high. absurd (omega (arith, low, high));
+}
+
+pub cleared_more : (old new : List Bool) (from at : ℕ) → from ≤ at → at < length new → AreCleared old new from at
+    → AreCleared old (set new at false) from (at + 1)
+cleared_more old new from at after below are = record {
+  long = length-set new at false ∙ are.long;
+  before = λ k low. get_or-set_other new at k false true (λ same. absurd (omega (arith, same, low, after)))
+      ∙ are.before k low;
+  none = λ k low high. elim (cases_eq k at) [
+    | inl here ↦ ap (λ i. get_or (set new at false) i true) here ∙ get_or-set_same new at false true below
+    | inr apart ↦ get_or-set_other new at k false true apart ∙ are.none k low (omega (arith, high, apart))
+  ];
+}
+
+-- and then the blocks still are
+pub cleared_blocked : (old new blocks : List Bool) (from : ℕ) → AreCleared old new from (length old)
+    → AreBlocked old blocks → AreBlocked new blocks
+cleared_blocked old new blocks from are blocked = record {
+  enough = omega (arith, blocked.enough, are.long);
+  covered = λ k below is. elim (cases_lt k from) [
+    | inl low ↦ blocked.covered k (omega (arith, below, are.long)) (sym (are.before k low) ∙ is)
+    | inr past ↦ absurd (false≢true (sym (are.none k past (omega (arith, below, are.long))) ∙ is))
+  ];
+}

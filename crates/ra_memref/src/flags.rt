@@ -76,6 +76,16 @@ impl Flags {
         self.regions.fill(true);
     }
 
+    /// Takes back the flags from a place on.
+    pub fn clear_from(&mut self, from: usize)
+        requires { from ≤ length self.old }
+        ensures long { length self.new ≡ length self.old }
+        ensures before { (k : ℕ) → k < from → slice_index_or self.new k true ≡ slice_index_or self.old k true }
+        ensures none { NoneSet self.new from (length self.old) }
+    {
+        clear(&mut self.flags, from);
+    }
+
     /// The place of the first flag from a place on that is set. None exactly where none is.
     ///
     /// No flag changes. A block in which it has looked at each flag, and found none set, is passed over
@@ -92,6 +102,18 @@ impl Flags {
             return Some(from);
         }
         next_by_regions(&self.flags, &mut self.blocks, &mut self.regions, from)
+    }
+}
+
+// Takes back the flags from a place on.
+fn clear(flags: &mut [bool], from: usize)
+    requires { from ≤ length flags.old }
+    ensures long { length flags.new ≡ length flags.old }
+    ensures before { (k : ℕ) → k < from → slice_index_or flags.new k true ≡ slice_index_or flags.old k true }
+    ensures none { NoneSet flags.new from (length flags.old) }
+{
+    for place in from..flags.len() {
+        flags[place] = false;
     }
 }
 
@@ -113,7 +135,7 @@ fn next_by_regions(
     ensures regioned { AreBlocked blocks.new regions.new }
 {
     let mut at = from;
-    while let Some(block) = next_by_blocks(blocks, regions, at / BLOCK) {
+    while let Some(block) = next_block(blocks, regions, at / BLOCK) {
         at = at.max(block * BLOCK);
         if at >= flags.len() {
             return None;
@@ -126,6 +148,19 @@ fn next_by_regions(
         at = end;
     }
     None
+}
+
+// The first block from a place on that is set.
+fn next_block(blocks: &[bool], regions: &mut [bool], from: usize) -> Option<usize>
+    requires regioned { AreBlocked blocks.now regions.old }
+    ensures first { IfSome result (λ n. IsFirstSet blocks.now from n) }
+    ensures none { result ≡ None → NoneSet blocks.now from (length blocks.now) }
+    ensures blocked { AreBlocked blocks.now regions.new }
+{
+    if from < blocks.len() && blocks[from] {
+        return Some(from);
+    }
+    next_by_blocks(blocks, regions, from)
 }
 
 // The first flag from a place on that is set. A block that was gone through whole is one without.

@@ -33,6 +33,6 @@ loop-block-preserved c =
           c.block_end-end.result c.in-Some.ensures.first.within
           (c.next_in.ensures.none c.in_default-next_in.is)
           (λ k below here. c.block_end-end.ensures.whole k below (omega (arith, here, c.max-at.ensures, c.in-Some.ensures.first.after))) _ (ltb-false (c.in-Some.block * 64) c.max-at.result);
-      regioned = block_kept c.loop-block.blocks c.next_by_blocks.new.blocks c.next_by_blocks.ensures.blocked
+      regioned = block_kept c.loop-block.blocks c.next_block.new.regions c.next_block.ensures.blocked
           c.in-Some.block c.in-Some.ensures.first.here c.in-Some.ensures.first.within _;
     }
