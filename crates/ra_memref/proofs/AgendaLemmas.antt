@@ -1,6 +1,6 @@
 -- The agenda of a table: the lists of what names each node, the nodes of the cells, and what is due before a pass.
 use Rattle.std.proofs.Common.{◌≡◌, ◌≢◌, ℕ, suc, ◌+◌, ◌*◌, ◌<◌, inl, inr, Bool, true, false, List, [], ◌∷◌, ◌++◌, length, map, get_or, set, replicate, refl, ap, sym, subst, ◌∙◌, arith, length-append}
-use Rattle.std.proofs.lemmas.List.{get_or-set_same, get_or-set_other, get_or-replicate, get_or_past, length-replicate, length-map, length-set, get_or_append_left}
+use Rattle.std.proofs.lemmas.List.{get_or-set_same, get_or-set_other, length-replicate, length-map, length-set, get_or_append_left}
 use Rattle.std.proofs.Math.Seq.{get_or-append_seam}
 use Rattle.std.proofs.lemmas.Bool.{cases_eq, cases_lt, false≢true}
 use Rattle.ra_links.specs.Rows.{Rows, holder_of}
@@ -14,9 +14,9 @@ use Rattle.ra_indirect.proofs.Spelling.{spelled_of, length-spelled_by}
 use Rattle.ra_indirect.proofs.SpelledLemmas.{NamesBelow, may_follow, names_below}
 use Rattle.ra_memref.specs.Numbers.{NumbersSeen}
 use Rattle.ra_memref.specs.Layout.{HasSlot, IsLaid, cells_before}
-use Rattle.ra_memref.specs.Pass.{IsSizedFor}
+use Rattle.ra_memref.specs.Pass.{IsSizedFor, earlier_at, value_at}
 use Rattle.ra_memref.specs.Flags.{NoneSet}
-use Rattle.ra_memref.specs.Due.{IsQuiet, IsUnmarked, AreQuiet, AreIdle, Names, StandsOn, AreDependents, HasCellNode, AreCellNodes, IsGathered}
+use Rattle.ra_memref.specs.Due.{earlier_by, IsQuiet, IsUnmarked, AreQuiet, AreIdle, Names, StandsOn, AreDependents, HasCellNode, AreCellNodes, IsGathered}
 use Rattle.ra_memref.specs.Watches.{WatchesSeen, MarksWatchers}
 use Rattle.ra_memref.proofs.CellsAlong.{cell_with, along_cell, along_same}
 use Rattle.ra_memref.proofs.LaidLemmas.{cells_one, cells_grow, cells_all}
@@ -281,27 +281,92 @@ module _ (nodes : List Node) (pool : IsPool nodes) (slots : List ℕ) (laid : Is
       (λ i. get_or cell_nodes i 0) slot ∙ has) (get_or numbers.watches.marked (get_or slots j 0) true) refl
 
   -- once the marked cells are gathered, each node that is not due is idle
-  pub gathered_idle : (all : Bool) → (all ≡ false → AreQuiet nodes due numbers slots)
-      → (all ≡ false → IsGathered cell_nodes numbers.watches.marked due due')
-      → (all ≡ true → due' ≡ replicate (length due) true) → AreIdle nodes due' numbers slots
-  gathered_idle false quiet gathered everything = record {
-    quiet = λ n within still. quiet refl n within ((gathered refl).kept n still);
-    unmarked = λ n within still. unmarked_by (gathered refl) n within still (node_at nodes n) refl
+  pub gathered_idle : AreQuiet nodes due numbers slots → IsGathered cell_nodes numbers.watches.marked due due'
+      → AreIdle nodes due' numbers slots
+  gathered_idle quiet gathered = record {
+    quiet = λ n within still. quiet n within (gathered.kept n still);
+    unmarked = λ n within still. unmarked_by gathered n within still (node_at nodes n) refl
         (cells.each n within) (laid.each n within);
   }
-  gathered_idle true quiet gathered everything =
-      let none : (n : ℕ) → get_or due' n true ≡ false
-      → ⊥ = λ n still. false≢true (sym still ∙ ap (λ ds. get_or ds n true) (everything refl) ∙ all_true n
-      (length due)) in
-      record {
-        quiet = λ n within still. absurd (none n still);
-        unmarked = λ n within still. absurd (none n still);
-      }
+
+  settled_by : ((cell : ℕ) → cell < length cell_nodes → get_or due' (get_or cell_nodes cell 0) true ≡ false
+      → earlier_at numbers cell ≡ value_at numbers (get_or cell_nodes cell 0)) → (j : ℕ) → j < length nodes
+      → get_or due' j true ≡ false → (node : Node) → node_at nodes j ≡ node
+      → HasCellNode node cell_nodes (length (cells_before (spelled_by nodes) j)) j
+      → HasSlot (spelled_by nodes) j node (get_or slots j 0) → earlier_by node numbers slots j ≡ value_at numbers j
+  settled_by noted j within still (Const n) same has slot = refl
+  settled_by noted j within still (View kind size c) same has slot = refl
+  settled_by noted j within still (Arith op left right) same has slot = refl
+  settled_by noted j within still (CellNode pointer offset width) same has slot =
+      let node = ap (λ i. get_or cell_nodes i 0) slot ∙ has in
+      noted (get_or slots j 0) (slot_inside j within pointer offset width same)
+      (ap (λ i. get_or due' i true) node ∙ still) ∙ ap (value_at numbers) node
+
+  -- once the cells are due that have another number than at the frame before, each node that is not due is idle
+  pub settled_idle : ((n : ℕ) → n < length nodes → get_or due n true ≡ false
+      → earlier_by (node_at nodes n) numbers slots n ≡ value_at numbers n
+      → IsQuiet (node_at nodes n) numbers slots n × IsUnmarked (node_at nodes n) numbers (get_or slots n 0))
+      → ((n : ℕ) → get_or due' n true ≡ false → get_or due n true ≡ false)
+      → ((cell : ℕ) → cell < length cell_nodes → get_or due' (get_or cell_nodes cell 0) true ≡ false
+      → earlier_at numbers cell ≡ value_at numbers (get_or cell_nodes cell 0)) → AreIdle nodes due' numbers slots
+  settled_idle settled kept noted = record {
+    quiet = λ n within still. (one n within still).0;
+    unmarked = λ n within still. (one n within still).1;
+  }
     where
-      all_true : (n count : ℕ) → get_or (replicate count true) n true ≡ true
-      all_true n count = elim (cases_lt n count) [
-        | inl below ↦ get_or-replicate count n true true below
-        | inr past ↦ get_or_past (replicate count true) n true (omega (arith, past, length-replicate count true))
+      one : (n : ℕ) → n < length nodes → get_or due' n true ≡ false
+          → IsQuiet (node_at nodes n) numbers slots n × IsUnmarked (node_at nodes n) numbers (get_or slots n 0)
+      one n within still = settled n within (kept n still) (settled_by noted n within still (node_at nodes n) refl
+          (cells.each n within) (laid.each n within))
+
+-- the first so many cells that have another number than at the frame before are due too
+pub record AreCellsNoted (cell_nodes : List ℕ) (numbers : NumbersSeen) (old new : List Bool) (count : ℕ) : Type 0 where
+  pub long : length new ≡ length old
+  pub kept : (n : ℕ) → get_or new n true ≡ false → get_or old n true ≡ false
+  pub noted : (cell : ℕ) → cell < count → get_or new (get_or cell_nodes cell 0) true ≡ false
+      → earlier_at numbers cell ≡ value_at numbers (get_or cell_nodes cell 0)
+
+pub cells_noted_none : (cell_nodes : List ℕ) (numbers : NumbersSeen) (due : List Bool)
+    → AreCellsNoted cell_nodes numbers due due 0
+cells_noted_none cell_nodes numbers due = record {
+  long = refl;
+  kept = λ n still. still;
+  noted = λ cell below. absurd (omega (arith, below));
+}
+
+module _ (cell_nodes : List ℕ) (numbers : NumbersSeen) (old now : List Bool) (cell : ℕ)
+    (are : AreCellsNoted cell_nodes numbers old now cell) where
+  -- a cell that has that number still needs not be
+  pub cells_noted_same : earlier_at numbers cell ≡ value_at numbers (get_or cell_nodes cell 0)
+      → AreCellsNoted cell_nodes numbers old now (cell + 1)
+  cells_noted_same same = record {
+    long = are.long;
+    kept = are.kept;
+    noted = λ k below still. elim (cases_eq k cell) [
+      | inl here ↦ subst (λ n. earlier_at numbers n ≡ value_at numbers (get_or cell_nodes n 0)) (sym here) same
+      | inr apart ↦ are.noted k (omega (arith, below, apart)) still
+    ];
+  }
+
+  pub cells_noted_more : (node : ℕ) → node ≡ get_or cell_nodes cell 0 → node < length now
+      → AreCellsNoted cell_nodes numbers old (set now node true) (cell + 1)
+  cells_noted_more node is below = record {
+    long = length-set now node true ∙ are.long;
+    kept = λ n still. are.kept n (kept_by n still);
+    noted = λ k less still. elim (cases_eq k cell) [
+      | inl here ↦
+          absurd (false≢true (sym still ∙ ap (λ i. get_or (set now node true) (get_or cell_nodes i 0) true) here
+          ∙ ap (λ i. get_or (set now node true) i true) (sym is) ∙ get_or-set_same now node true true below))
+      | inr apart ↦ are.noted k (omega (arith, less, apart)) (kept_by (get_or cell_nodes k 0) still)
+    ];
+  }
+    where
+      kept_by : (n : ℕ) → get_or (set now node true) n true ≡ false → get_or now n true ≡ false
+      kept_by n still = elim (cases_eq n node) [
+        | inl here ↦
+            absurd (false≢true (sym still ∙ ap (λ i. get_or (set now node true) i true) here
+            ∙ get_or-set_same now node true true below))
+        | inr apart ↦ sym (get_or-set_other now node n true true apart) ∙ still
       ]
 
 -- which cells are marked does not count for quiet nodes

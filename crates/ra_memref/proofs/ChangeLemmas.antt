@@ -1,6 +1,6 @@
 -- Which nodes a pass lists: each whose number is another than at its start.
 use Rattle.std.proofs.Common.{◌≡◌, ◌≢◌, ℕ, ◌+◌, ◌<◌, ◌≤◌, ◌==◌, inl, inr, Bool, true, false, not, List, [], ◌∷◌, ◌++◌, length, get_or, set, refl, ap, sym, ◌∙◌, arith, length-append}
-use Rattle.std.proofs.lemmas.List.{get_or_append_left, get_or-set_same, get_or-set_other, length-set}
+use Rattle.std.proofs.lemmas.List.{get_or_append_left, get_or_past, get_or-set_same, get_or-set_other, length-set}
 use Rattle.std.proofs.Math.Seq.{get_or-append_seam}
 use Rattle.std.proofs.lemmas.Bool.{cases_eq, cases_lt}
 use Rattle.ra_memref.specs.Table.{IsListed}
@@ -88,3 +88,16 @@ whole_more numbers count below within is = record {
 -- every node is listed, whatever its number was
 pub whole_lists : (listed : List ℕ) (count n : ℕ) → IsWhole listed count → n < count → IsListed n listed
 whole_lists listed count n is below = record { place = n; within = omega (arith, below, is.long); here = is.each n below }
+
+-- so what another number came to is listed, and only nodes are
+pub noted_whole : (listed : List ℕ) (count : ℕ) → IsWhole listed count → (old new : List ℕ) → length old ≡ count
+    → length new ≡ count → AreNoted count count old new listed
+noted_whole listed count is old new long long' = record {
+  each = λ n other. elim (cases_lt n count) [
+    | inl below ↦ whole_lists listed count n is below
+    | inr past ↦ absurd (other (get_or_past old n 0 (omega (arith, past, long))
+        ∙ sym (get_or_past new n 0 (omega (arith, past, long')))))
+  ];
+  nodes = λ k below. omega (arith, is.each k (omega (arith, below, is.long)), below, is.long);
+  few = omega (arith, is.long);
+}

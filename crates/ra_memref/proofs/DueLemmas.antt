@@ -1,7 +1,7 @@
 -- Once a node is taken and what it made due is marked, each node that is not due is idle again.
-use Rattle.std.proofs.Common.{◌≡◌, ℕ, ◌+◌, ◌*◌, ◌<◌, ◌≤◌, refl, ◌==◌, ◌⊎◌, inl, inr, Bool, true, false, not, ◌||◌, Option, Some, List, length, take, replicate, get_or, set, ap, sym, subst, ◌∙◌, arith}
-use Rattle.std.proofs.lemmas.List.{get_or-set_same, get_or-set_other, get_or-replicate, get_or_past, length-replicate, length-set, length-take}
-use Rattle.std.proofs.lemmas.Bool.{cases_eq, cases_lt, eq-eqb, or_parts, false≢true}
+use Rattle.std.proofs.Common.{◌≡◌, ℕ, ◌+◌, ◌*◌, ◌<◌, ◌≤◌, ◌==◌, ◌⊎◌, inl, inr, Bool, true, false, not, ◌||◌, Option, Some, List, length, take, get_or, set, ap, sym, subst, ◌∙◌, arith}
+use Rattle.std.proofs.lemmas.List.{get_or-set_same, get_or-set_other, length-set, length-take}
+use Rattle.std.proofs.lemmas.Bool.{cases_eq, eq-eqb, or_parts, false≢true}
 use Rattle.std.proofs.lemmas.Bool.Decides.{eqb_tells}
 use Rattle.ra_links.specs.Rows.{Rows, holder_of}
 use Rattle.ra_indirect.specs.declared.node.Node.{Node}
@@ -15,7 +15,7 @@ use Rattle.ra_memref.specs.Marking.{is_at}
 use Rattle.ra_memref.specs.Pass.{value_at, IsSizedFor}
 use Rattle.ra_memref.specs.Due.{earlier_by, IsQuiet, IsUnmarked, AreIdle, Names, StandsOn, AreDependents}
 use Rattle.ra_memref.proofs.Passed.{TakesNode}
-use Rattle.ra_memref.proofs.QuietLemmas.{Unseen, quiet_other, quiet_here, unmarked_other, unmarked_here}
+use Rattle.ra_memref.proofs.QuietLemmas.{Unseen, quiet_other, quiet_here, settled_other, unmarked_other, unmarked_here}
 
 -- numbers that do not differ are one
 pub same_number : (a b : ℕ) → not (a == b) ≡ false → a ≡ b
@@ -43,7 +43,7 @@ pub record IsMarked (nodes : List Node) (k : ℕ) (seen again : Bool) (old new :
   pub named : (j : ℕ) → j < length nodes → get_or new j true ≡ false
       → (seen ≡ false) ⊎ ((i : ℕ) → Names (node_at nodes j) i → i ≡ k → ⊥)
 
--- it is so where those that name it are marked, where it is not seen, and where all behind it are due
+-- it is so where those that name it are marked, and where it is not seen
 module _ (nodes : List Node) (k : ℕ) (seen again : Bool) (old new : List Bool) (long : length old ≡ length nodes) where
   module _ (dependents : Rows) (are : AreDependents nodes (length nodes) dependents)
       (each : (j : ℕ) → j < length (set old k again) → get_or new j true
@@ -74,26 +74,12 @@ module _ (nodes : List Node) (k : ℕ) (seen again : Bool) (old new : List Bool)
       named = λ j below still. inr (not_named j below still);
     }
 
-marked_unseen : (nodes : List Node) (k : ℕ) (seen again : Bool) (old : List Bool) → seen ≡ false
+pub marked_unseen : (nodes : List Node) (k : ℕ) (seen again : Bool) (old : List Bool) → seen ≡ false
     → IsMarked nodes k seen again old (set old k again)
 marked_unseen nodes k seen again old unseen = record {
   kept = λ j below still. still;
   named = λ j below still. inl unseen;
 }
-
--- all flags from a place on are set
-abbrev pub AllSet : List Bool → ℕ → Type 0
-AllSet flags from = (k : ℕ) → from ≤ k → get_or flags k true ≡ true
-
-pub all_set : (flags : List Bool) (count : ℕ) → flags ≡ replicate count true → AllSet flags 0
-all_set flags count is = λ k from. ap (λ fs. get_or fs k true) is ∙ elim (cases_lt k count) [
-  | inl below ↦ get_or-replicate count k true true below
-  | inr past ↦ get_or_past (replicate count true) k true (omega (arith, past, length-replicate count true))
-]
-
-pub all_more : (old : List Bool) (k : ℕ) (flag : Bool) → AllSet old k → AllSet (set old k flag) (k + 1)
-all_more old k flag all = λ j from.
-    get_or-set_other old k j flag true (λ same. absurd (omega (arith, same, from))) ∙ all j (omega (arith, from))
 
 -- a node names those before it alone
 named_before : (nodes : List Node) (pool : IsPool nodes) (j : ℕ) → j < length nodes → (i : ℕ)
@@ -108,77 +94,89 @@ named_before nodes pool j within i named = by_node (node_at nodes j)
     by_node (Arith op left right) below (inl named) = omega (arith, below.0, named)
     by_node (Arith op left right) below (inr named) = omega (arith, below.1, named)
 
-marked_all : (nodes : List Node) (pool : IsPool nodes) (k : ℕ) (seen again : Bool) (old : List Bool)
-    → AllSet old k → IsMarked nodes k seen again old (set old k again)
-marked_all nodes pool k seen again old all = record {
-  kept = λ j below still. still;
-  named = λ j below still. inr (λ i named same.
-      let behind : k + 1 ≤ j = omega (arith, named_before nodes pool j below i named, same) in
-      false≢true (sym still ∙ all_more old k again all j behind));
-}
+-- a node would take the number that it has, and is no marked cell
+abbrev IsIdleAt : List Node → NumbersSeen → List ℕ → ℕ → Type 0
+IsIdleAt nodes numbers slots n = IsQuiet (node_at nodes n) numbers slots n
+    × IsUnmarked (node_at nodes n) numbers (get_or slots n 0)
 
--- where all behind it are due, or it is not seen
-pub marked_by : (nodes : List Node) (pool : IsPool nodes) (k : ℕ) (seen again : Bool) (old : List Bool) (all : Bool)
-    → (all ≡ true → AllSet old k) → (all ≡ false → seen ≡ false)
-    → IsMarked nodes k seen again old (set old k again)
-marked_by nodes pool k seen again old true due unseen = marked_all nodes pool k seen again old (due refl)
-marked_by nodes pool k seen again old false due unseen = marked_unseen nodes k seen again old (unseen refl)
+-- so it is with each of the first so many nodes that is not due and has the number of the frame before
+abbrev pub AreSettledTo : List Node → List Bool → NumbersSeen → List ℕ → ℕ → Type 0
+AreSettledTo nodes due numbers slots to =
+    (n : ℕ) → n < to → get_or due n true ≡ false
+    → earlier_by (node_at nodes n) numbers slots n ≡ value_at numbers n → IsIdleAt nodes numbers slots n
+
+pub settled_to : (nodes : List Node) (due : List Bool) (numbers : NumbersSeen) (slots : List ℕ)
+    → AreIdle nodes due numbers slots → (to : ℕ) → to ≤ length nodes → AreSettledTo nodes due numbers slots to
+settled_to nodes due numbers slots idle to most = λ n below still same.
+    let within : n < length nodes = omega (arith, below, most) in
+    (idle.quiet n within still, idle.unmarked n within still)
 
 module _ (nodes : List Node) (pool : IsPool nodes) (slots : List ℕ) (laid : IsLaid nodes slots) (image : List ℕ)
     (k : ℕ) (within : k < length nodes) (old new : NumbersSeen) (sized : IsSizedFor nodes old) (takes : TakesNode
-    (node_at nodes k) slots image k old new) (due due' : List Bool) (long : length due
-    ≡ length nodes) (again : Bool) (marked : IsMarked nodes k (not (value_at old k == value_at new k) || not
-    (earlier_by (node_at nodes k) old slots k == earlier_by (node_at nodes k) new slots k)) again due due')
-    (idle : AreIdle nodes due old slots)
-    (again_is : again ≡ not (earlier_by (node_at nodes k) new slots k == value_at new k)) where
+    (node_at nodes k) slots image k old new) where
   abbrev IsUnseen : Type 0
   IsUnseen = Unseen nodes pool slots laid image k within old new sized takes
 
-  unseen_by : (not (value_at old k == value_at new k) || not
-      (earlier_by (node_at nodes k) old slots k == earlier_by (node_at nodes k) new slots k)) ≡ false → IsUnseen
-  unseen_by none =
-      let parts = or_parts (not (value_at old k == value_at new k)) (not
-      (earlier_by (node_at nodes k) old slots k == earlier_by (node_at nodes k) new slots k)) none in (
-        sym (same_number (value_at old k) (value_at new k) parts.0),
-        sym (same_number (earlier_by (node_at nodes k) old slots k)
-            (earlier_by (node_at nodes k) new slots k) parts.1),
-      )
-
-  unseen_at : (j : ℕ) → j < length nodes → get_or due' j true ≡ false → (i : ℕ) → Names (node_at nodes j) i → i ≡ k
-      → IsUnseen
-  unseen_at j in_j still i named same = elim (marked.named j in_j still) [
-    | inl none ↦ unseen_by none
-    | inr other ↦ absurd (other i named same)
+  -- once this one is taken, a node is idle that sees no other number and was idle, or is this one and settled
+  idle_at : (j : ℕ) → j < length nodes → ((i : ℕ) → Names (node_at nodes j) i → i ≡ k → IsUnseen)
+      → (j ≡ k → earlier_by (node_at nodes k) new slots k ≡ value_at new k)
+      → ((j ≡ k → ⊥) → IsIdleAt nodes old slots j) → IsIdleAt nodes new slots j
+  idle_at j in_j unseen settled was = elim (cases_eq j k) [
+    | inl same ↦
+        subst (IsIdleAt nodes new slots) (sym same) (
+          quiet_here nodes pool slots laid image k within old new sized takes (settled same),
+          unmarked_here nodes pool slots laid image k within old new sized takes,
+        )
+    | inr apart ↦ (
+      quiet_other nodes pool slots laid image k within old new sized takes j in_j apart unseen (was apart).0,
+      unmarked_other nodes pool slots laid image k within old new sized takes j in_j apart (was apart).1,
+    )
   ]
 
-  not_again : (j : ℕ) → j < length nodes → get_or due' j true ≡ false → j ≡ k
-      → earlier_by (node_at nodes k) new slots k ≡ value_at new k
-  not_again j in_j still same =
-      let set_here : get_or (set due k again) k true
-      ≡ again = get_or-set_same due k again true (omega (arith, long, within)) in
-      let none : again ≡ false = sym set_here ∙ ap (λ n. get_or (set due k again) n true) (sym same)
-      ∙ marked.kept j in_j still in
-      same_number (earlier_by (node_at nodes k) new slots k) (value_at new k) (sym again_is ∙ none)
+  -- those up to this one name none behind them
+  pub settled_next : (due : List Bool) → AreSettledTo nodes due old slots k → AreSettledTo nodes due new slots (k + 1)
+  settled_next due before = λ j less still settled.
+      let in_j : j < length nodes = omega (arith, less, within) in
+      idle_at j in_j (λ i named same. absurd (omega (arith, named_before nodes pool j in_j i named, same, less)))
+      (λ same. subst (λ n. earlier_by (node_at nodes n) new slots n ≡ value_at new n) same settled)
+      (λ apart. before j (omega (arith, less, apart)) still
+      (settled_other nodes pool slots laid image k within old new sized takes j in_j apart settled))
 
-  not_before : (j : ℕ) → j < length nodes → get_or due' j true ≡ false → (j ≡ k → ⊥) → get_or due j true ≡ false
-  not_before j in_j still apart = sym (get_or-set_other due k j again true apart) ∙ marked.kept j in_j still
+  module _ (again : Bool) (again_is : again ≡ not (earlier_by (node_at nodes k) new slots k == value_at new k))
+      (due due' : List Bool) (long : length due ≡ length nodes) (marked : IsMarked nodes k (not
+      (value_at old k == value_at new k) || not
+      (earlier_by (node_at nodes k) old slots k == earlier_by (node_at nodes k) new slots k)) again due due')
+      (idle : AreIdle nodes due old slots) where
+    unseen_by : (not (value_at old k == value_at new k) || not
+        (earlier_by (node_at nodes k) old slots k == earlier_by (node_at nodes k) new slots k)) ≡ false → IsUnseen
+    unseen_by none =
+        let parts = or_parts (not (value_at old k == value_at new k)) (not
+        (earlier_by (node_at nodes k) old slots k == earlier_by (node_at nodes k) new slots k)) none in (
+          sym (same_number (value_at old k) (value_at new k) parts.0),
+          sym (same_number (earlier_by (node_at nodes k) old slots k)
+              (earlier_by (node_at nodes k) new slots k) parts.1),
+        )
 
-  pub idle_more : AreIdle nodes due' new slots
-  idle_more = record {
-    quiet = λ j in_j still. elim (cases_eq j k) [
-      | inl same ↦
-          subst (λ n. IsQuiet (node_at nodes n) new slots n) (sym same)
-          (quiet_here nodes pool slots laid image k within old new sized takes (not_again j in_j still same))
-      | inr apart ↦
-          quiet_other nodes pool slots laid image k within old new sized takes j in_j apart
-          (unseen_at j in_j still) (idle.quiet j in_j (not_before j in_j still apart))
-    ];
-    unmarked = λ j in_j still. elim (cases_eq j k) [
-      | inl same ↦
-          subst (λ n. IsUnmarked (node_at nodes n) new (get_or slots n 0)) (sym same)
-          (unmarked_here nodes pool slots laid image k within old new sized takes)
-      | inr apart ↦
-          unmarked_other nodes pool slots laid image k within old new sized takes j in_j apart
-          (idle.unmarked j in_j (not_before j in_j still apart))
-    ];
-  }
+    unseen_at : (j : ℕ) → j < length nodes → get_or due' j true ≡ false → (i : ℕ) → Names (node_at nodes j) i
+        → i ≡ k → IsUnseen
+    unseen_at j in_j still i named same = elim (marked.named j in_j still) [
+      | inl none ↦ unseen_by none
+      | inr other ↦ absurd (other i named same)
+    ]
+
+    one : (j : ℕ) → j < length nodes → get_or due' j true ≡ false → IsIdleAt nodes new slots j
+    one j in_j still =
+        let kept = marked.kept j in_j still in
+        idle_at j in_j (unseen_at j in_j still)
+        (λ same. same_number (earlier_by (node_at nodes k) new slots k) (value_at new k) (sym again_is
+        ∙ sym (get_or-set_same due k again true (omega (arith, long, within)))
+        ∙ ap (λ n. get_or (set due k again) n true) (sym same) ∙ kept))
+        (λ apart.
+        let before = sym (get_or-set_other due k j again true apart) ∙ kept in
+        (idle.quiet j in_j before, idle.unmarked j in_j before))
+
+    pub idle_more : AreIdle nodes due' new slots
+    idle_more = record {
+      quiet = λ j in_j still. (one j in_j still).0;
+      unmarked = λ j in_j still. (one j in_j still).1;
+    }

@@ -281,6 +281,19 @@ module _ (nodes : List Node) (pool : IsPool nodes) (slots : List ℕ) (laid : Is
     ]
 
     module _ (j : ℕ) (in_j : j < length nodes) (apart : j ≡ k → ⊥) where
+      earlier_other_by : (node : Node) → node_at nodes j ≡ node
+          → earlier_by node new slots j ≡ earlier_by node old slots j
+      earlier_other_by (Const n) is = value_other j apart
+      earlier_other_by (CellNode pointer offset width) is =
+          (same_rows j in_j width (subst (IsCellOf width) (sym is) refl) apart).earlier
+      earlier_other_by (View kind size c) is = value_other j apart
+      earlier_other_by (Arith op left right) is = value_other j apart
+
+      -- another node has the number of the frame before where it had it
+      pub settled_other : earlier_by (node_at nodes j) new slots j ≡ value_at new j
+          → earlier_by (node_at nodes j) old slots j ≡ value_at old j
+      settled_other settled = sym (earlier_other_by (node_at nodes j) refl) ∙ settled ∙ value_other j apart
+
       same_prior : (size : Size) (c : ℕ) → node_at nodes j ≡ View Prior size c
           → IsQuiet (View Prior size c) old slots j
           → get_or new.priors (get_or slots j 0) 0 ≡ get_or old.priors (get_or slots j 0) 0

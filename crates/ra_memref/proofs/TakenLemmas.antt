@@ -9,11 +9,11 @@ use Rattle.ra_memref.specs.Values.{Start}
 use Rattle.ra_memref.specs.Table.{AreKept}
 use Rattle.ra_memref.specs.Layout.{IsLaid}
 use Rattle.ra_memref.specs.Marks.{reads_of}
-use Rattle.ra_memref.specs.Pass.{reads_at, IsAgreed, IsAgreedAt, IsSizedFor, TakesFrame}
+use Rattle.ra_memref.specs.Pass.{after_node, reads_at, IsAgreed, IsAgreedAt, IsSizedFor, TakesFrame}
 use Rattle.ra_memref.specs.Flags.{NoneSet}
 use Rattle.ra_memref.specs.Due.{IsQuiet, IsUnmarked, AreIdle}
 use Rattle.ra_memref.proofs.LaidLemmas.{cells_all}
-use Rattle.ra_memref.proofs.Passed.{IsPassed, TakesNode, cell_count}
+use Rattle.ra_memref.proofs.Passed.{IsPassed, TakesNode, takes_node, cell_count}
 use Rattle.ra_memref.proofs.PassEnds.{passed_none, sized_more, kept_all, values_all, places_all}
 use Rattle.ra_memref.proofs.PassLemmas.{passed_more}
 use Rattle.ra_memref.proofs.Visited.{IsVisited, visited_none, visited_node, agreed_there, unmarked_all, agreed_all, counted_all}
@@ -51,6 +51,21 @@ module _ (nodes : List Node) (pool : IsPool nodes) (slots : List ℕ) (laid : Is
           new (node_at nodes k) refl takes;
       size = size ∙ taken.size;
     }
+
+    -- by the equation of the node, and what was read of the image at the start, before the node and behind it
+    pub taken_by : (bytes : List ℕ) → bytes ≡ image → (new : NumbersSeen)
+        → new ≡ after_node (node_at nodes k) now bytes slots k → (begun was is : ℕ) → begun ≤ was → reads ≡ was - begun
+        → is ≡ was + reads_at (node_at nodes k) now (get_or slots k 0)
+        → IsTaken nodes image old new (k + 1) (is - begun)
+    taken_by bytes same new e begun was is risen counts more =
+        let there = takes_node (node_at nodes k) slots bytes k now new e in
+        let takes = subst (λ bs. TakesNode (node_at nodes k) slots bs k now new) same there in
+        let next : suc k ≡ k + 1 = omega arith in
+        let all : reads + reads_at (node_at nodes k) now (get_or slots k 0)
+        ≡ is - begun = omega (arith, risen, counts, more) in
+        subst (IsTaken nodes image old new (k + 1)) all
+        (subst (λ n. IsTaken nodes image old new n (reads + reads_at (node_at nodes k) now (get_or slots k 0))) next
+        (taken_more new takes (ap (λ (n : NumbersSeen). n.watches.size) e)))
 
     pub agreed_node : IsAgreed old image → IsAgreedAt (node_at nodes k) now image (get_or slots k 0)
     agreed_node agrees = agreed_there nodes pool slots laid k within image old now old_sized taken.sized reads

@@ -1,6 +1,6 @@
 //! Which nodes the next pass takes.
 
-ghost use Rattle.std.specs.Prelude.{◌≡◌, ◌≢◌, ◌+◌, ◌<◌, ◌≤◌, ◌^◌, ◌*◌, ℕ, true, false, length, replicate, slice_index, IfOk, IfSome, None};
+ghost use Rattle.std.specs.Prelude.{◌≡◌, ◌≢◌, ◌+◌, ◌<◌, ◌≤◌, ◌^◌, ◌*◌, ℕ, true, false, length, slice_index, IfOk, IfSome, None};
 ghost use Rattle.ra_indirect.specs.Interned.{IsPool};
 ghost use Rattle.ra_links.specs.Rows.{holder_of};
 ghost use Rattle.ra_memref.specs.Due.{AreDependents, AreCellNodes, IsGathered, StandsOn, Names};
@@ -13,8 +13,8 @@ use ra_links::Links;
 use ra_text::OutOfMemory;
 use std::alloc::Global;
 
-/// The nodes that are due, all where the flag stands, which nodes name each node, and the node of each
-/// cell. Only `new` takes memory.
+/// The nodes that are due, of which more may be where the flag `all` stands, which nodes name each node,
+/// and the node of each cell. Only `new` takes memory.
 #[derive(Drop)]
 pub struct Agenda {
     pub due: Flags,
@@ -24,7 +24,7 @@ pub struct Agenda {
 }
 
 impl Agenda {
-    /// Every node of a pool is due. Memory is the only refusal.
+    /// Every node of a pool may be due. Memory is the only refusal.
     pub fn new(alloc: Global, nodes: &[Node]) -> Result<Agenda, OutOfMemory>
         requires pool { IsPool nodes.now }
         requires few { length nodes.now < 2 ^ 30 }
@@ -33,7 +33,8 @@ impl Agenda {
         ensures dependents { IfOk result (λ agenda. AreDependents nodes.now (length nodes.now) agenda.dependents) }
         ensures cells { IfOk result (λ agenda. AreCellNodes nodes.now (length nodes.now) agenda.cell_nodes.items) }
     {
-        let due = Flags::new(alloc, nodes.len())?;
+        let mut due = Flags::new(alloc, nodes.len())?;
+        due.clear_from(0);
         let dependents = dependents_of(alloc, nodes)?;
         let cell_nodes = cell_nodes_of(alloc, nodes)?;
         Ok(Agenda {
@@ -43,29 +44,19 @@ impl Agenda {
             cell_nodes,
         })
     }
+}
 
-    /// Makes the nodes of the marked cells due, or every node where the flag stands, which it tells and
-    /// takes back.
-    pub fn gather(&mut self, numbers: &mut Numbers) -> bool
-        requires cells { length self.old.cell_nodes.items ≡ length numbers.old.watches.marked }
-        requires few { length self.old.cell_nodes.items < 2 ^ 30 }
-        requires within { (k : ℕ) → k < length self.old.cell_nodes.items → slice_index self.old.cell_nodes.items k < length self.old.due }
-        ensures none { self.new.all ≡ false }
-        ensures told { result ≡ self.old.all }
-        ensures gathered { result ≡ false → IsGathered self.old.cell_nodes.items numbers.old.watches.marked self.old.due self.new.due }
-        ensures all { result ≡ true → self.new.due ≡ replicate (length self.old.due) true }
-        ensures dependents { self.new.dependents ≡ self.old.dependents }
-        ensures cell_nodes { self.new.cell_nodes ≡ self.old.cell_nodes }
-        ensures same { numbers.new ≡ numbers.old }
-    {
-        let all = self.all;
-        if all {
-            self.due.fill();
-        } else {
-            gather_marked(&mut self.due, &self.cell_nodes, numbers);
-        }
-        self.all = false;
-        all
+/// Makes the nodes of the marked cells due, where not all may be.
+pub fn gather(due: &mut Flags, cell_nodes: &[u32], numbers: &mut Numbers, all: bool)
+    requires cells { length cell_nodes.now ≡ length numbers.old.watches.marked }
+    requires few { length cell_nodes.now < 2 ^ 30 }
+    requires within { (k : ℕ) → k < length cell_nodes.now → slice_index cell_nodes.now k < length due.old }
+    ensures gathered { all ≡ false → IsGathered cell_nodes.now numbers.old.watches.marked due.old due.new }
+    ensures long { length due.new ≡ length due.old }
+    ensures same { numbers.new ≡ numbers.old }
+{
+    if !all {
+        gather_marked(due, cell_nodes, numbers);
     }
 }
 

@@ -6,10 +6,10 @@ ghost use Rattle.ra_indirect.specs.Interned.{IsPool};
 ghost use Rattle.ra_indirect.specs.Pools.{node_at};
 ghost use Rattle.ra_memref.specs.Layout.{IsLaid};
 ghost use Rattle.ra_memref.specs.Marks.{read_of, reads_of};
-ghost use Rattle.ra_memref.specs.Pass.{prior_after, looked_in, priors_after, after_node, reads_at, IsWithin, IsAgreedIn, IsAgreedAt, IsAgreed, IsSizedFor, TakesFrame, value_at};
+ghost use Rattle.ra_memref.specs.Pass.{prior_after, looked_in, priors_after, after_node, reads_at, IsWithin, IsAgreedIn, IsAgreedAt, IsAgreed, IsSizedFor, TakesFrame, earlier_at, value_at};
 ghost use Rattle.ra_memref.specs.Flags.{NoneSet, IsFirstSet};
 ghost use Rattle.ra_memref.specs.Changes.{AreNoted};
-ghost use Rattle.ra_memref.specs.Due.{earlier_by, AreDependents, AreIdle};
+ghost use Rattle.ra_memref.specs.Due.{earlier_by, AreDependents, AreIdle, IsQuiet, IsUnmarked};
 ghost use Rattle.ra_memref.specs.Watches.{MarksWatchers};
 ghost use Rattle.ra_words.specs.Words.{words_at};
 
@@ -24,6 +24,9 @@ use ra_text::OutOfMemory;
 use ra_words::read_words;
 use std::alloc::Global;
 use std::marker::Model;
+
+/// Which share of the nodes, and of the cells that change, a frame takes up one by one.
+const SHARE: usize = 16;
 
 /// What a node that was taken asks of the pass, and whether its number is another than before.
 #[derive(Clone, Copy)]
@@ -174,27 +177,12 @@ impl Numbers {
         self.watches.next_marked(from)
     }
 
-    /// Takes up one frame, and takes every node in order. Nothing is made due, and nothing listed.
-    pub fn take_all<I: Image>(&mut self, image: &mut I, nodes: &[Node], slots: &[u32])
-        requires pool { IsPool nodes.now }
-        requires laid { IsLaid nodes.now slots.now }
-        requires sized { IsSizedFor nodes.now self.old }
-        requires agreed { IsAgreed self.old (I.bytes image.old) }
-
-        ensures taken { TakesFrame nodes.now self.old self.new (I.bytes image.old) }
-
-        ensures bytes { I.bytes image.new ≡ I.bytes image.old }
-        ensures counter { I.counter image.new ≡ I.counter image.old }
-        ensures reads { I.reads image.new ≡ I.reads image.old + reads_of self.old.watches.marked self.old.watches.places self.new.watches.places }
-    {
-        for (number, node) in nodes.iter().enumerate() {
-            self.take_node::<I, true>(image, *node, slots, number);
-        }
-    }
-
-    /// Takes up one frame: each node that is due is taken, and makes those that name it due where it
-    /// changed. A cell that is marked or moved is read, and the nodes that changed are listed. Where all
-    /// are due, they are taken in order, without a search, and none is made due.
+    /// Takes up one frame. The nodes that are due are taken one by one, lowest first: a cell that is marked
+    /// or moved is read, what names a node that changed is made due, and the node is listed. Where more
+    /// than a sixteenth of all are due, or all may be, the others are taken in order, and all are listed.
+    ///
+    /// It tells whether it took nodes in order. Then a node that is not due may be a cell that is to be due
+    /// at the next frame.
     pub fn take_frame<I: Image>(
         &mut self,
         image: &mut I,
@@ -204,7 +192,7 @@ impl Numbers {
         dependents: &Links,
         changes: &mut Changes,
         all: bool,
-    )
+    ) -> bool
         requires pool { IsPool nodes.now }
         requires laid { IsLaid nodes.now slots.now }
         requires sized { IsSizedFor nodes.now self.old }
@@ -213,12 +201,14 @@ impl Numbers {
         requires few { length nodes.now < 2 ^ 30 }
         requires dues { length due.old ≡ length nodes.now }
         requires dependents { AreDependents nodes.now (length nodes.now) dependents.now }
-        requires idle { AreIdle nodes.now due.old self.old slots.now }
+        requires idle { all ≡ false → AreIdle nodes.now due.old self.old slots.now }
         requires room { changes.old.room ≡ length nodes.now }
-        requires all { all ≡ true → due.old ≡ replicate (length nodes.now) true }
 
         ensures taken { TakesFrame nodes.now self.old self.new (I.bytes image.old) }
-        ensures idle { AreIdle nodes.now due.new self.new slots.now }
+        ensures idle { result ≡ false → AreIdle nodes.now due.new self.new slots.now }
+        ensures settled { result ≡ true → (n : ℕ) → n < length nodes.now → slice_index_or due.new n true ≡ false
+            → earlier_by (node_at nodes.now n) self.new slots.now n ≡ value_at self.new n
+            → IsQuiet (node_at nodes.now n) self.new slots.now n × IsUnmarked (node_at nodes.now n) self.new (slice_index slots.now n) }
         ensures dues { length due.new ≡ length due.old }
         ensures changed { AreNoted (length nodes.now) (length nodes.now) self.old.values self.new.values changes.new.listed }
         ensures room { changes.new.room ≡ changes.old.room }
@@ -228,17 +218,59 @@ impl Numbers {
         ensures reads { I.reads image.new ≡ I.reads image.old + reads_of self.old.watches.marked self.old.watches.places self.new.watches.places }
     {
         changes.clear();
+        let mut left = nodes.len() / SHARE;
         let mut at = 0;
-        while let Some(number) = next_due(due, at, nodes.len(), all) {
-            let changed = self.take_due(image, nodes, slots, due, dependents, number, all);
+        while !all {
+            let Some(number) = due.next_from(at) else {
+                return false;
+            };
+            at = number;
+            if left == 0 {
+                due.clear_from(at);
+                break;
+            }
+            let changed = self.take_due(image, nodes, slots, due, dependents, number);
             changes.note(number as u32, changed);
             at = number + 1;
+            left -= 1;
         }
+        changes.list_all();
+        for number in at..nodes.len() {
+            self.take_node::<I, true>(image, nodes[number], slots, number);
+        }
+        true
+    }
+
+    /// Makes the cells due whose number is not the one of the frame before, unless these are more than a
+    /// sixteenth of all, which it tells.
+    pub fn note_cells(&self, due: &mut Flags, cell_nodes: &[u32]) -> bool
+        requires cells { length cell_nodes.now ≡ length self.now.cells }
+        requires values { length self.now.values ≡ length due.old }
+        requires few { length due.old < 2 ^ 30 }
+        requires within { (k : ℕ) → k < length cell_nodes.now → slice_index cell_nodes.now k < length due.old }
+
+        ensures long { length due.new ≡ length due.old }
+        ensures kept { (n : ℕ) → slice_index_or due.new n true ≡ false → slice_index_or due.old n true ≡ false }
+        ensures noted { result ≡ false → (cell : ℕ) → cell < length cell_nodes.now
+            → slice_index_or due.new (slice_index cell_nodes.now cell) true ≡ false
+            → earlier_at self.now cell ≡ value_at self.now (slice_index cell_nodes.now cell) }
+    {
+        let mut room = cell_nodes.len() / SHARE;
+        for cell in 0..cell_nodes.len() {
+            let node = cell_nodes[cell] as usize;
+            if self.earlier[cell] != self.values[node] {
+                if room == 0 {
+                    return true;
+                }
+                room -= 1;
+                due.put(node, true);
+            }
+        }
+        false
     }
 
     // Takes up a node that is due, and tells whether its number changed. It is due at the next frame too
-    // where it is a cell that changed, and those that name it are due where they see another number. Where
-    // all from this one on are due, those that name it are.
+    // where it is a cell that changed, and those that name it are due where they see another number.
     fn take_due<I: Image>(
         &mut self,
         image: &mut I,
@@ -247,7 +279,6 @@ impl Numbers {
         due: &mut Flags,
         dependents: &Links,
         number: usize,
-        all: bool,
     ) -> bool
         requires pool { IsPool nodes.now }
         requires laid { IsLaid nodes.now slots.now }
@@ -258,19 +289,17 @@ impl Numbers {
         requires idle { AreIdle nodes.now due.old self.old slots.now }
         requires here { number < length nodes.now }
         requires agreed { IsAgreedAt (node_at nodes.now number) self.old (I.bytes image.old) (slice_index slots.now number) }
-        requires all { all ≡ true → (k : ℕ) → number ≤ k → slice_index_or due.old k true ≡ true }
 
         ensures taken { self.new ≡ after_node (node_at nodes.now number) self.old (I.bytes image.old) slots.now number }
         ensures idle { AreIdle nodes.now due.new self.new slots.now }
         ensures dues { length due.new ≡ length due.old }
-        ensures all { all ≡ true → (k : ℕ) → number + 1 ≤ k → slice_index_or due.new k true ≡ true }
         ensures changed { result ≡ not (value_at self.old number == value_at self.new number) }
 
         ensures bytes { I.bytes image.new ≡ I.bytes image.old }
         ensures counter { I.counter image.new ≡ I.counter image.old }
         ensures reads { I.reads image.new ≡ I.reads image.old + reads_at (node_at nodes.now number) self.old (slice_index slots.now number) }
     {
-        let outcome = self.follow(image, nodes[number], slots, number, all);
+        let outcome = self.follow(image, nodes[number], slots, number);
         due.put(number, outcome.again);
         if outcome.seen {
             mark_listed(dependents, due, number as u32);
@@ -279,15 +308,14 @@ impl Numbers {
     }
 
     // Takes up a node, and tells whether its number changed, whether those that name it see another
-    // number, of this frame or of the one before, and are not all due, and whether they would see another
-    // one at the next frame too.
+    // number, of this frame or of the one before, and whether they would see another one at the next
+    // frame too.
     fn follow<I: Image>(
         &mut self,
         image: &mut I,
         node: Node,
         slots: &[u32],
         number: usize,
-        all: bool,
     ) -> Outcome
         requires within { IsWithin node self.old slots.now number }
         requires here { number < length self.old.values }
@@ -296,9 +324,8 @@ impl Numbers {
 
         ensures taken { self.new ≡ after_node node self.old (I.bytes image.old) slots.now number }
         ensures changed { result.changed ≡ not (value_at self.old number == value_at self.new number) }
-        ensures seen { all ≡ false → result.seen ≡ (not (value_at self.old number == value_at self.new number)
+        ensures seen { result.seen ≡ (not (value_at self.old number == value_at self.new number)
             || not (earlier_by node self.old slots.now number == earlier_by node self.new slots.now number)) }
-        ensures unseen { all ≡ true → result.seen ≡ false }
         ensures again { result.again ≡ not (earlier_by node self.new slots.now number == value_at self.new number) }
 
         ensures bytes { I.bytes image.new ≡ I.bytes image.old }
@@ -306,16 +333,13 @@ impl Numbers {
         ensures reads { I.reads image.new ≡ I.reads image.old + reads_at node self.old (slice_index slots.now number) }
     {
         let value = self.values[number];
-        let earlier = if all {
-            value
-        } else {
-            self.earlier_by(node, slots, number)
-        };
+        let earlier = self.earlier_by(node, slots, number);
         self.take_node::<I, false>(image, node, slots, number);
         let earlier_now = self.earlier_by(node, slots, number);
+        let changed = value != self.values[number];
         Outcome {
-            changed: value != self.values[number],
-            seen: !all && (value != self.values[number] || earlier != earlier_now),
+            changed,
+            seen: changed || earlier != earlier_now,
             again: earlier_now != self.values[number],
         }
     }
@@ -444,20 +468,6 @@ impl Numbers {
             Kind::Mem | Kind::Bcd | Kind::Inverted => self.values[cell],
         }
     }
-}
-
-// The first node from one on that is due, which is that one where all of them are.
-fn next_due(due: &mut Flags, from: usize, count: usize, all: bool) -> Option<usize>
-    requires count { count ≡ length due.old }
-    requires all { all ≡ true → (k : ℕ) → from ≤ k → slice_index_or due.old k true ≡ true }
-    ensures first { IfSome result (λ n. IsFirstSet due.old from n) }
-    ensures none { result ≡ None → NoneSet due.old from (length due.old) }
-    ensures same { due.new ≡ due.old }
-{
-    if all && from < count {
-        return Some(from);
-    }
-    due.next_from(from)
 }
 
 // The prior after a frame, from the numbers of the frame before and of this one.

@@ -1,7 +1,7 @@
 ghost use Rattle.std.specs.Prelude.{◌≡◌, ◌+◌, ◌-◌, ◌*◌, ◌<◌, ◌≤◌, ◌^◌, length, slice_index, true, IfOk};
 ghost use Rattle.ra_indirect.specs.Interned.{IsPool};
 
-use crate::agenda::Agenda;
+use crate::agenda::{Agenda, gather};
 use crate::changes::Changes;
 use crate::layout::{lay_out, widths_of};
 use crate::numbers::Numbers;
@@ -88,7 +88,7 @@ impl Table {
     /// The image has the table's size, and each cell that is not marked has its kept number there, as
     /// after a sample of an image that differs from this one only in bytes that were told. It reads each
     /// cell that is marked or has moved, once, and no other, and leaves none marked. It lists each node
-    /// that it gives another number.
+    /// that it gives another number, and every node where more than a sixteenth of them were due.
     pub fn sample<I: Image>(&mut self, image: &mut I)
         requires size { length (I.bytes image.old) ≡ self.old.size }
         requires agrees { Agrees self.old (I.bytes image.old) }
@@ -101,22 +101,26 @@ impl Table {
         ensures bytes { I.bytes image.new ≡ I.bytes image.old }
         ensures counter { I.counter image.new ≡ I.counter image.old }
     {
-        if self.numbers.told_many() {
-            self.numbers.take_all(image, &self.nodes, &self.slots);
-            self.changes.list_all();
-            self.agenda.all = true;
-        } else {
-            let all = self.agenda.gather(&mut self.numbers);
-            self.numbers.take_frame(
-                image,
-                &self.nodes,
-                &self.slots,
-                &mut self.agenda.due,
-                &self.agenda.dependents,
-                &mut self.changes,
-                all,
-            );
-        }
+        let all = self.numbers.told_many() || self.agenda.all;
+        gather(
+            &mut self.agenda.due,
+            &self.agenda.cell_nodes,
+            &mut self.numbers,
+            all,
+        );
+        let in_order = self.numbers.take_frame(
+            image,
+            &self.nodes,
+            &self.slots,
+            &mut self.agenda.due,
+            &self.agenda.dependents,
+            &mut self.changes,
+            all,
+        );
+        self.agenda.all = in_order
+            && self
+                .numbers
+                .note_cells(&mut self.agenda.due, &self.agenda.cell_nodes);
         self.sampled = true;
     }
 
@@ -133,7 +137,7 @@ impl Table {
         self.numbers.value(node as usize)
     }
 
-    /// The nodes that the last sample gave another number: docs/DEFINITIONS.md, "Due nodes".
+    /// The nodes that the last sample gave another number, and maybe others: docs/DEFINITIONS.md, "Due nodes".
     ///
     /// They come as numbers of nodes, at most as many as there are. A node that is not among them has the
     /// number that it had before that sample. No other call changes them.

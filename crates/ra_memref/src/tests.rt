@@ -173,7 +173,8 @@ fn a_delta_is_what_the_old_pointer_gave(rt: HostRuntime) -> Result<(), Fail> {
     )?;
     machine.write(0x24, &[7]);
     machine.write(0x34, &[9]);
-    let changes: [&[u32]; 3] = [&[1, 2, 3], &[1, 2, 3, 4], &[4]];
+    // so few nodes are all taken in order, and all listed
+    let changes: [&[u32]; 3] = [&[0, 1, 2, 3, 4], &[0, 1, 2, 3, 4], &[0, 1, 2, 3, 4]];
     for (pointer, cells, values, changed) in [
         (0x20, [0x20, 7], [0, 0, 0x20, 0, 0], changes[0]),
         (0x30, [0x30, 9], [0, 0, 0x30, 0, 7], changes[1]),

@@ -1,4 +1,3 @@
-use Rattle.std.proofs.Common.{◌≡◌, length}
 use Rattle.ra_memref.proofs.ChangeLemmas.{IsWholeBelow}
 use Rattle.ra_memref.proofs.changes.numbers_below.Given as goal
 

@@ -1,9 +1,8 @@
 use Rattle.std.proofs.Common.{refl, slice_set, ◌∙◌, sym}
-use Rattle.std.proofs.lemmas.Bool.{false≢true}
 use Rattle.ra_indirect.specs.Pools.{node_at}
 use Rattle.ra_memref.proofs.Passed.{takes_node}
 use Rattle.ra_memref.proofs.PassLemmas.{node_within}
-use Rattle.ra_memref.proofs.DueLemmas.{marked_seen, marked_by, all_more, idle_more}
+use Rattle.ra_memref.proofs.DueLemmas.{marked_seen, marked_unseen, idle_more}
 use Rattle.ra_memref.proofs.numbers.Numbers.take_due.Goals as goal
 
 pub follow-outcome-requires-clause-within : goal.follow-outcome-requires-clause-within
@@ -19,15 +18,11 @@ returns-then-outcome-clause-idle g c =
     c.args.self.now c.follow-outcome.new.self c.requires.sized
     (takes_node (node_at c.args.nodes.now c.args.number) c.args.slots.now bytes c.args.number c.args.self.now
     c.follow-outcome.new.self e.taken)
-    c.args.due.now c.mark_listed.new.marks c.requires.dues c.follow-outcome.result.again
+    c.follow-outcome.result.again e.again c.args.due.now c.mark_listed.new.marks c.requires.dues
     (marked_seen c.args.nodes.now c.args.number _ c.follow-outcome.result.again c.args.due.now
     c.mark_listed.new.marks c.requires.dues c.args.dependents.now c.requires.dependents
     (rw c.put.ensures at c.mark_listed.ensures.marked))
-    c.requires.idle e.again
-
-pub returns-then-outcome-clause-all : goal.returns-then-outcome-clause-all
-returns-then-outcome-clause-all g c = λ all. absurd (false≢true (sym (c.follow-outcome.ensures.unseen all)
-    ∙ c.if-outcome.true))
+    c.requires.idle
 
 pub returns-else-outcome-clause-idle : goal.returns-else-outcome-clause-idle
 returns-else-outcome-clause-idle g c =
@@ -37,12 +32,8 @@ returns-else-outcome-clause-idle g c =
     c.requires.here c.args.self.now c.follow-outcome.new.self c.requires.sized
     (takes_node (node_at c.args.nodes.now c.args.number) c.args.slots.now bytes c.args.number c.args.self.now
     c.follow-outcome.new.self e.taken)
-    c.args.due.now (slice_set c.args.due.now c.args.number c.follow-outcome.result.again) c.requires.dues
-    c.follow-outcome.result.again
-    (marked_by c.args.nodes.now c.requires.pool c.args.number _ c.follow-outcome.result.again
-    c.args.due.now c.args.all c.requires.all (λ some. sym (e.seen some) ∙ c.if-outcome.false))
-    c.requires.idle e.again)
-
-pub returns-else-outcome-clause-all : goal.returns-else-outcome-clause-all
-returns-else-outcome-clause-all g c = λ all. rw c.put.ensures
-    (all_more c.args.due.now c.args.number c.follow-outcome.result.again (c.requires.all all))
+    c.follow-outcome.result.again e.again c.args.due.now
+    (slice_set c.args.due.now c.args.number c.follow-outcome.result.again) c.requires.dues
+    (marked_unseen c.args.nodes.now c.args.number _ c.follow-outcome.result.again c.args.due.now
+    (sym e.seen ∙ c.if-outcome.false))
+    c.requires.idle)

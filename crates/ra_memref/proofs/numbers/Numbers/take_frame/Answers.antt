@@ -1,114 +1,200 @@
-use Rattle.std.proofs.Common.{◌≡◌, ℕ, suc, ◌+◌, ◌-◌, ◌<◌, ap, subst, sym, ◌∙◌, refl, arith, length, get_or}
+use Rattle.std.proofs.Common.{◌≡◌, ℕ, true, false, ◌-◌, ◌<◌, ap, subst, sym, ◌∙◌, refl, arith, length, get_or}
 use Rattle.std.proofs.lemmas.List.{get_or-set_other}
+use Rattle.std.proofs.lemmas.Bool.{false≢true}
 use Rattle.ra_indirect.specs.Pools.{node_at}
-use Rattle.ra_memref.specs.Numbers.{NumbersSeen}
-use Rattle.ra_memref.specs.Pass.{IsAgreedAt, reads_at}
-use Rattle.ra_memref.proofs.Passed.{TakesNode, takes_node}
-use Rattle.ra_memref.proofs.TakenLemmas.{IsTaken, taken_none, taken_more, agreed_node, taken_to, takes_frame, counted}
-use Rattle.ra_memref.proofs.DueLemmas.{all_set}
-use Rattle.ra_memref.proofs.ChangeLemmas.{noted_none, noted_more}
+use Rattle.ra_memref.specs.Pass.{IsAgreedAt}
+use Rattle.ra_memref.proofs.Passed.{takes_node}
+use Rattle.ra_memref.proofs.PassLemmas.{node_within}
+use Rattle.ra_memref.proofs.TakenLemmas.{IsTaken, taken_none, taken_by, agreed_node, taken_to, takes_frame, counted}
+use Rattle.ra_memref.proofs.DueLemmas.{settled_to, settled_next}
+use Rattle.ra_memref.proofs.ChangeLemmas.{noted_none, noted_more, noted_whole}
+use Rattle.ra_memref.proofs.numbers.Numbers.take_frame.Goals.{else-loop-due-test, then-loop-due-test+in-Some+then-left-eq0}
 use Rattle.ra_memref.proofs.numbers.Numbers.take_frame.Goals as goal
 
-pub loop-number-init : goal.loop-number-init
-loop-number-init g c =
+pub loop-due-init : goal.loop-due-init
+loop-due-init g c =
     let none : 0 ≡ g.I.Image.reads c.args.image.now - g.I.Image.reads c.args.image.now = omega arith in
     record {
       taken = subst (IsTaken c.args.nodes.now
           (g.I.Image.bytes c.args.image.now) c.args.self.now c.args.self.now 0) none (taken_none c.args.nodes.now
           (g.I.Image.bytes c.args.image.now) c.args.self.now c.requires.sized);
       idle = c.requires.idle;
+      start = λ all. refl;
       most = omega arith;
       dues = c.requires.dues;
       risen = omega arith;
       bytes = refl;
       noted = rw c.clear.ensures (noted_none (length c.args.nodes.now) c.args.self.now.values);
       room = rw c.clear.ensures c.requires.room;
-      all = λ all. all_set c.args.due.now (length c.args.nodes.now) (c.requires.all all);
       counter = refl;
     }
 
-pub next_due-requires-clause-count : goal.next_due-requires-clause-count
-next_due-requires-clause-count g c = sym c.loop-number.invariant.dues
+pub returns-in_default-clause-taken : goal.returns-in_default-clause-taken
+returns-in_default-clause-taken g c =
+    let done = c.loop-due.invariant in
+    let some : c.args.all ≡ false = c.loop-due-test.true in
+    let image = g.I.Image.bytes c.args.image.now in
+    let reads : ℕ = g.I.Image.reads c.loop-due.image - g.I.Image.reads c.args.image.now in
+    let none = c.next_from.ensures.none c.in_default.is in
+    let all = taken_to c.args.nodes.now c.requires.pool c.args.slots.now c.requires.laid image c.args.self.now
+    c.requires.sized c.requires.agreed c.loop-due.self reads c.loop-due.due (done.idle some) c.loop-due.at
+    (length c.args.nodes.now) done.most (omega arith) (λ k low high. none k low
+    (omega (arith, high, done.dues))) done.taken in
+    takes_frame c.args.nodes.now c.requires.pool c.args.slots.now c.requires.laid image c.args.self.now
+    c.requires.sized c.loop-due.self reads all
 
-pub next_due-requires-clause-all : goal.next_due-requires-clause-all
-next_due-requires-clause-all g c = c.loop-number.invariant.all
+pub returns-in_default-clause-reads : goal.returns-in_default-clause-reads
+returns-in_default-clause-reads g c =
+    let done = c.loop-due.invariant in
+    let some : c.args.all ≡ false = c.loop-due-test.true in
+    let image = g.I.Image.bytes c.args.image.now in
+    let reads : ℕ = g.I.Image.reads c.loop-due.image - g.I.Image.reads c.args.image.now in
+    let none = c.next_from.ensures.none c.in_default.is in
+    let all = taken_to c.args.nodes.now c.requires.pool c.args.slots.now c.requires.laid image c.args.self.now
+    c.requires.sized c.requires.agreed c.loop-due.self reads c.loop-due.due (done.idle some) c.loop-due.at
+    (length c.args.nodes.now) done.most (omega arith) (λ k low high. none k low
+    (omega (arith, high, done.dues))) done.taken in
+    omega (
+      arith,
+      counted c.args.nodes.now c.requires.pool c.args.slots.now c.requires.laid image c.args.self.now
+          c.requires.sized c.loop-due.self reads all,
+      done.risen,
+    )
 
-pub take_due-changed-requires-clause-all : goal.take_due-changed-requires-clause-all
-take_due-changed-requires-clause-all g c = rw c.next_due.ensures.same (λ all k from.
-    c.loop-number.invariant.all all k (omega (arith, from, c.in-Some.ensures.first.after)))
-
-pub take_due-changed-requires-clause-sized : goal.take_due-changed-requires-clause-sized
-take_due-changed-requires-clause-sized g c = c.loop-number.invariant.taken.sized
-
-pub take_due-changed-requires-clause-idle : goal.take_due-changed-requires-clause-idle
-take_due-changed-requires-clause-idle g c = rw c.next_due.ensures.same c.loop-number.invariant.idle
+pub returns-in_default-clause-changed : goal.returns-in_default-clause-changed
+returns-in_default-clause-changed g c =
+    let done = c.loop-due.invariant in
+    record { each = done.noted.each; nodes = done.noted.nodes; few = omega (arith, done.noted.few, done.most) }
 
 pub take_due-changed-requires-clause-agreed : goal.take_due-changed-requires-clause-agreed
 take_due-changed-requires-clause-agreed g c =
-    let done = c.loop-number.invariant in
+    let done = c.loop-due.invariant in
+    let some : c.args.all ≡ false = c.loop-due-test.true in
     let first = c.in-Some.ensures.first in
     let image = g.I.Image.bytes c.args.image.now in
-    let reads : ℕ = g.I.Image.reads c.loop-number.image - g.I.Image.reads c.args.image.now in
+    let reads : ℕ = g.I.Image.reads c.loop-due.image - g.I.Image.reads c.args.image.now in
     let here : c.in-Some.number < length c.args.nodes.now = omega (arith, first.within, done.dues) in
     let taken = taken_to c.args.nodes.now c.requires.pool c.args.slots.now c.requires.laid image c.args.self.now
-    c.requires.sized c.requires.agreed c.loop-number.self reads c.loop-number.due done.idle c.loop-number.at
+    c.requires.sized c.requires.agreed c.loop-due.self reads c.loop-due.due (done.idle some) c.loop-due.at
     c.in-Some.number first.after (omega (arith, here)) first.none_before done.taken in
-    subst (λ bytes. IsAgreedAt (node_at c.args.nodes.now c.in-Some.number) c.loop-number.self bytes
+    subst (λ bytes. IsAgreedAt (node_at c.args.nodes.now c.in-Some.number) c.loop-due.self bytes
     (get_or c.args.slots.now c.in-Some.number 0)) (sym done.bytes)
     (agreed_node c.args.nodes.now c.requires.pool c.args.slots.now c.requires.laid image c.args.self.now
-    c.requires.sized c.in-Some.number here c.loop-number.self reads taken c.requires.agreed)
+    c.requires.sized c.in-Some.number here c.loop-due.self reads taken c.requires.agreed)
 
-pub loop-number-smaller : goal.loop-number-smaller
-loop-number-smaller g c =
+pub loop-due-preserved : goal.loop-due-preserved
+loop-due-preserved g c =
+    let done = c.loop-due.invariant in
+    let some : c.args.all ≡ false = c.loop-due-test.true in
     let first = c.in-Some.ensures.first in
-    omega (arith, first.after, first.within, c.loop-number.invariant.dues)
+    let e = c.take_due-changed.ensures in
+    let image = g.I.Image.bytes c.args.image.now in
+    let begun : ℕ = g.I.Image.reads c.args.image.now in
+    let was : ℕ = g.I.Image.reads c.loop-due.image in
+    let here : c.in-Some.number < length c.args.nodes.now = omega (arith, first.within, done.dues) in
+    let taken = taken_to c.args.nodes.now c.requires.pool c.args.slots.now c.requires.laid image c.args.self.now
+    c.requires.sized c.requires.agreed c.loop-due.self (was - begun) c.loop-due.due (done.idle some) c.loop-due.at
+    c.in-Some.number first.after (omega (arith, here)) first.none_before done.taken in
+    record {
+      taken = taken_by c.args.nodes.now c.requires.pool c.args.slots.now c.requires.laid image c.args.self.now
+          c.requires.sized c.in-Some.number here c.loop-due.self (was - begun) taken
+          (g.I.Image.bytes c.loop-due.image) done.bytes c.take_due-changed.new.self e.taken begun was
+          (g.I.Image.reads c.take_due-changed.new.image) done.risen refl e.reads;
+      idle = λ some. e.idle;
+      start = λ all. absurd (false≢true (sym some ∙ all));
+      most = omega (arith, here);
+      dues = e.dues ∙ ap length c.next_from.ensures.same ∙ done.dues;
+      risen = omega (arith, e.reads, done.risen);
+      bytes = e.bytes ∙ done.bytes;
+      noted = rw c.note.ensures (noted_more (length c.args.nodes.now) c.loop-due.at c.args.self.now.values
+          c.loop-due.self.values c.take_due-changed.new.self.values c.loop-due.changes.listed c.in-Some.number
+          done.noted first.after here (λ i apart. ap (λ xs. get_or xs i 0) (takes_node
+          (node_at c.args.nodes.now c.in-Some.number) c.args.slots.now
+          (g.I.Image.bytes c.loop-due.image) c.in-Some.number c.loop-due.self c.take_due-changed.new.self
+          e.taken).values
+          ∙ get_or-set_other c.loop-due.self.values c.in-Some.number i _ 0 apart) c.take_due-changed.result
+          e.changed);
+      room = rw c.note.ensures done.room;
+      counter = e.counter ∙ done.counter;
+    }
+
+pub loop-number-init : goal.loop-number-init
+loop-number-init g c =
+    let done = c.loop-due.invariant in
+    let image = g.I.Image.bytes c.args.image.now in
+    let reads : ℕ = g.I.Image.reads c.loop-due.image - g.I.Image.reads c.args.image.now in
+    elim c.loop-due-test.branch [
+      | else-loop-due-test w ↦ record {
+        taken = rw w.at-is done.taken;
+        settled = λ n below still same. absurd (omega (arith, below, w.at-is, done.start w.loop-due-test.false));
+        most = omega (arith, w.at-is, done.most);
+        dues = ap length w.due-is ∙ done.dues;
+        risen = done.risen;
+        bytes = done.bytes;
+        counter = done.counter;
+      }
+      | then-loop-due-test+in-Some+then-left-eq0 w ↦
+          let some : c.args.all ≡ false = w.loop-due-test.true in
+          let first = w.in-Some.ensures.first in
+          let here : w.in-Some.number < length c.args.nodes.now = omega (arith, first.within, done.dues) in
+          record {
+            taken = rw w.at-is (taken_to c.args.nodes.now c.requires.pool c.args.slots.now c.requires.laid image
+                c.args.self.now c.requires.sized c.requires.agreed c.loop-due.self reads c.loop-due.due (done.idle some)
+                c.loop-due.at w.in-Some.number first.after (omega (arith, here)) first.none_before done.taken);
+            settled = λ n below still same.
+                let low : n < w.in-Some.number = omega (arith, below, w.at-is) in
+                settled_to c.args.nodes.now c.loop-due.due c.loop-due.self c.args.slots.now (done.idle some)
+                w.in-Some.number (omega (arith, here)) n low
+                (ap (λ ds. get_or ds n true) (sym w.next_from.ensures.same) ∙ sym (w.clear_from.ensures.before n low)
+                ∙ ap (λ ds. get_or ds n true) (sym w.due-is) ∙ still)
+                same;
+            most = omega (arith, w.at-is, here);
+            dues = ap length w.due-is ∙ w.clear_from.ensures.long ∙ ap length w.next_from.ensures.same ∙ done.dues;
+            risen = done.risen;
+            bytes = done.bytes;
+            counter = done.counter;
+          }
+    ]
+
+pub take_node-requires-clause-within : goal.take_node-requires-clause-within
+take_node-requires-clause-within g c =
+    node_within c.args.nodes.now c.requires.pool c.args.slots.now c.requires.laid c.loop-number.number
+    c.loop-number-test.true c.loop-number.self c.loop-number.invariant.taken.sized _ refl
+
+pub take_node-requires-clause-agreed : goal.take_node-requires-clause-agreed
+take_node-requires-clause-agreed g c =
+    let done = c.loop-number.invariant in
+    let image = g.I.Image.bytes c.args.image.now in
+    let reads : ℕ = g.I.Image.reads c.loop-number.image - g.I.Image.reads c.args.image.now in
+    subst (λ bytes. IsAgreedAt (node_at c.args.nodes.now c.loop-number.number) c.loop-number.self bytes
+    (get_or c.args.slots.now c.loop-number.number 0)) (sym done.bytes)
+    (agreed_node c.args.nodes.now c.requires.pool c.args.slots.now c.requires.laid image c.args.self.now
+    c.requires.sized c.loop-number.number c.loop-number-test.true c.loop-number.self reads done.taken
+    c.requires.agreed)
 
 pub loop-number-preserved : goal.loop-number-preserved
 loop-number-preserved g c =
     let done = c.loop-number.invariant in
-    let first = c.in-Some.ensures.first in
-    let e = c.take_due-changed.ensures in
+    let e = c.take_node.ensures in
+    let number : ℕ = c.loop-number.number in
+    let here : number < length c.args.nodes.now = c.loop-number-test.true in
     let image = g.I.Image.bytes c.args.image.now in
-    let reads : ℕ = g.I.Image.reads c.loop-number.image - g.I.Image.reads c.args.image.now in
-    let here : c.in-Some.number < length c.args.nodes.now = omega (arith, first.within, done.dues) in
-    let taken = taken_to c.args.nodes.now c.requires.pool c.args.slots.now c.requires.laid image c.args.self.now
-    c.requires.sized c.requires.agreed c.loop-number.self reads c.loop-number.due done.idle c.loop-number.at
-    c.in-Some.number first.after (omega (arith, here)) first.none_before done.taken in
-    let there = takes_node (node_at c.args.nodes.now c.in-Some.number) c.args.slots.now
-    (g.I.Image.bytes c.loop-number.image) c.in-Some.number c.loop-number.self c.take_due-changed.new.self e.taken in
-    let takes = subst (λ bytes. TakesNode
-    (node_at c.args.nodes.now c.in-Some.number) c.args.slots.now bytes c.in-Some.number c.loop-number.self
-    c.take_due-changed.new.self) done.bytes there in
-    let more = taken_more c.args.nodes.now c.requires.pool c.args.slots.now c.requires.laid image c.args.self.now
-    c.requires.sized c.in-Some.number here c.loop-number.self reads taken c.take_due-changed.new.self takes (ap
-    (λ (n : NumbersSeen). n.watches.size) e.taken) in
-    let next : suc c.in-Some.number ≡ c.in-Some.number + 1 = omega arith in
-    let counts : g.I.Image.reads c.loop-number.image - g.I.Image.reads c.args.image.now + reads_at
-    (node_at c.args.nodes.now c.in-Some.number) c.loop-number.self (get_or c.args.slots.now c.in-Some.number 0)
-    ≡ g.I.Image.reads c.take_due-changed.new.image - g.I.Image.reads c.args.image.now = omega
-    (arith, e.reads, done.risen) in
+    let begun : ℕ = g.I.Image.reads c.args.image.now in
+    let was : ℕ = g.I.Image.reads c.loop-number.image in
+    let bytes = g.I.Image.bytes c.loop-number.image in
+    let takes = takes_node (node_at c.args.nodes.now number) c.args.slots.now bytes number c.loop-number.self
+    c.take_node.new.self e.taken in
     record {
-      taken = subst (λ r. IsTaken c.args.nodes.now
-          (g.I.Image.bytes c.args.image.now) c.args.self.now c.take_due-changed.new.self (c.in-Some.number + 1) r)
-          counts
-          (subst (λ n. IsTaken c.args.nodes.now
-          (g.I.Image.bytes c.args.image.now) c.args.self.now c.take_due-changed.new.self n
-          (g.I.Image.reads c.loop-number.image - g.I.Image.reads c.args.image.now + reads_at
-          (node_at c.args.nodes.now c.in-Some.number) c.loop-number.self
-          (get_or c.args.slots.now c.in-Some.number 0))) next more);
-      idle = e.idle;
+      taken = taken_by c.args.nodes.now c.requires.pool c.args.slots.now c.requires.laid image c.args.self.now
+          c.requires.sized number here c.loop-number.self (was - begun) done.taken bytes done.bytes
+          c.take_node.new.self e.taken begun was (g.I.Image.reads c.take_node.new.image) done.risen refl e.reads;
+      settled = settled_next c.args.nodes.now c.requires.pool c.args.slots.now c.requires.laid bytes number here
+          c.loop-number.self c.take_node.new.self done.taken.sized takes c.loop-due-test.due done.settled;
       most = omega (arith, here);
-      dues = e.dues ∙ ap length c.next_due.ensures.same ∙ done.dues;
+      dues = done.dues;
       risen = omega (arith, e.reads, done.risen);
       bytes = e.bytes ∙ done.bytes;
-      noted = rw c.note.ensures (noted_more (length c.args.nodes.now) c.loop-number.at c.args.self.now.values
-          c.loop-number.self.values c.take_due-changed.new.self.values c.loop-number.changes.listed c.in-Some.number
-          done.noted first.after here (λ i apart. ap (λ xs. get_or xs i 0) there.values
-          ∙ get_or-set_other c.loop-number.self.values c.in-Some.number i _ 0 apart) c.take_due-changed.result
-          e.changed);
-      room = rw c.note.ensures done.room;
       counter = e.counter ∙ done.counter;
-      all = e.all;
     }
 
 pub returns-clause-taken : goal.returns-clause-taken
@@ -116,41 +202,39 @@ returns-clause-taken g c =
     let done = c.loop-number.invariant in
     let image = g.I.Image.bytes c.args.image.now in
     let reads : ℕ = g.I.Image.reads c.loop-number.image - g.I.Image.reads c.args.image.now in
-    let none = c.next_due.ensures.none c.in_default.is in
-    let all = taken_to c.args.nodes.now c.requires.pool c.args.slots.now c.requires.laid image c.args.self.now
-    c.requires.sized c.requires.agreed c.loop-number.self reads c.loop-number.due done.idle c.loop-number.at
-    (length c.args.nodes.now) done.most (omega arith) (λ k low high. none k low
-    (omega (arith, high, done.dues))) done.taken in
+    let end : c.loop-number.number ≡ length c.args.nodes.now = omega
+    (arith, c.loop-number.invariant.most, c.loop-number-test.false) in
+    let all = subst (λ n. IsTaken c.args.nodes.now (g.I.Image.bytes c.args.image.now) c.args.self.now
+    c.loop-number.self n (g.I.Image.reads c.loop-number.image - g.I.Image.reads c.args.image.now)) end
+    done.taken in
     takes_frame c.args.nodes.now c.requires.pool c.args.slots.now c.requires.laid image c.args.self.now
     c.requires.sized c.loop-number.self reads all
 
-pub returns-clause-idle : goal.returns-clause-idle
-returns-clause-idle g c = rw c.next_due.ensures.same c.loop-number.invariant.idle
+pub returns-clause-changed : goal.returns-clause-changed
+returns-clause-changed g c =
+    noted_whole c.list_all.new.self.listed (length c.args.nodes.now)
+    (rw c.loop-due.invariant.room at c.list_all.ensures.listed) c.args.self.now.values c.loop-number.self.values
+    c.requires.sized.values c.loop-number.invariant.taken.sized.values
 
-pub returns-clause-bytes : goal.returns-clause-bytes
-returns-clause-bytes g c = c.loop-number.invariant.bytes
-
-pub returns-clause-counter : goal.returns-clause-counter
-returns-clause-counter g c = c.loop-number.invariant.counter
+pub returns-clause-settled : goal.returns-clause-settled
+returns-clause-settled g c = λ whole n below.
+    let end : c.loop-number.number ≡ length c.args.nodes.now = omega
+    (arith, c.loop-number.invariant.most, c.loop-number-test.false) in
+    c.loop-number.invariant.settled n (omega (arith, below, end))
 
 pub returns-clause-reads : goal.returns-clause-reads
 returns-clause-reads g c =
     let done = c.loop-number.invariant in
     let image = g.I.Image.bytes c.args.image.now in
     let reads : ℕ = g.I.Image.reads c.loop-number.image - g.I.Image.reads c.args.image.now in
-    let none = c.next_due.ensures.none c.in_default.is in
-    let all = taken_to c.args.nodes.now c.requires.pool c.args.slots.now c.requires.laid image c.args.self.now
-    c.requires.sized c.requires.agreed c.loop-number.self reads c.loop-number.due done.idle c.loop-number.at
-    (length c.args.nodes.now) done.most (omega arith) (λ k low high. none k low
-    (omega (arith, high, done.dues))) done.taken in
+    let end : c.loop-number.number ≡ length c.args.nodes.now = omega
+    (arith, c.loop-number.invariant.most, c.loop-number-test.false) in
+    let all = subst (λ n. IsTaken c.args.nodes.now (g.I.Image.bytes c.args.image.now) c.args.self.now
+    c.loop-number.self n (g.I.Image.reads c.loop-number.image - g.I.Image.reads c.args.image.now)) end
+    done.taken in
     omega (
       arith,
       counted c.args.nodes.now c.requires.pool c.args.slots.now c.requires.laid image c.args.self.now
           c.requires.sized c.loop-number.self reads all,
       done.risen,
     )
-
-pub returns-clause-changed : goal.returns-clause-changed
-returns-clause-changed g c =
-    let done = c.loop-number.invariant in
-    record { each = done.noted.each; nodes = done.noted.nodes; few = omega (arith, done.noted.few, done.most) }

@@ -1,52 +1,102 @@
-use Rattle.std.proofs.Common.{◌≡◌, ◌∙◌, arith, length, sym}
-use Rattle.ra_memref.proofs.AgendaLemmas.{count_all, gathered_idle}
+use Rattle.std.proofs.Common.{◌≡◌, ◌≤◌, ◌^◌, ◌∙◌, arith, get_or, ap, sym, subst, false}
+use Rattle.std.proofs.lemmas.List.{get_or-map}
+use Rattle.std.proofs.lemmas.Bool.{false≢true}
+use Rattle.ra_memory.specs.Image.{raw}
+use Rattle.ra_indirect.specs.Pools.{cells_of}
+use Rattle.ra_memref.specs.Table.{TableSeen, Agrees, no_cell}
+use Rattle.ra_memref.proofs.AgendaLemmas.{count_all, gathered_idle, settled_idle}
 use Rattle.ra_memref.proofs.TableLemmas.{few_cells}
-use Rattle.ra_memref.proofs.ChangeLemmas.{whole_lists}
-use Rattle.ra_memref.proofs.table.Table.sample.Goals.{then-told_many, else-told_many}
+use Rattle.ra_memref.proofs.table.Table.sample.Goals.{then-told_many, else-told_many, then-in_order, else-in_order}
 use Rattle.ra_memref.proofs.table.Table.sample.Goals as goal
 
-pub gather-all-requires-clause-cells : goal.gather-all-requires-clause-cells
-gather-all-requires-clause-cells g c =
+pub gather-requires-clause-cells : goal.gather-requires-clause-cells
+gather-requires-clause-cells g c =
     let is = c.self.invariant in
-    rw c.told_many.ensures (count_all c.self.inside.nodes.items is.pool c.self.inside.slots.items is.laid c.self.inside.numbers is.sized
+    rw (c.deref.ensures.value, c.told_many.ensures) (count_all c.self.inside.nodes.items is.pool c.self.inside.slots.items is.laid c.self.inside.numbers is.sized
     c.self.inside.agenda.cell_nodes.items is.agenda.cells c.self.inside.agenda.due c.self.inside.agenda.due
     ∙ sym is.sized.marked)
 
-pub gather-all-requires-clause-few : goal.gather-all-requires-clause-few
-gather-all-requires-clause-few g c =
+pub gather-requires-clause-few : goal.gather-requires-clause-few
+gather-requires-clause-few g c =
     let is = c.self.invariant in
-    omega (
+    rw c.deref.ensures.value (omega (
       arith,
       count_all c.self.inside.nodes.items is.pool c.self.inside.slots.items is.laid c.self.inside.numbers
           is.sized c.self.inside.agenda.cell_nodes.items is.agenda.cells c.self.inside.agenda.due
           c.self.inside.agenda.due,
       few_cells c.self.inside.nodes.items,
       is.few,
-    )
+    ))
 
-pub take_frame-requires-clause-idle : goal.take_frame-requires-clause-idle
-take_frame-requires-clause-idle g c =
+pub take_frame-in_order-requires-clause-agreed : goal.take_frame-in_order-requires-clause-agreed
+take_frame-in_order-requires-clause-agreed g c =
     let is = c.self.invariant in
-    rw (c.deref-else-told_many.ensures.value, c.deref-else-told_many-2.ensures.value, c.gather-all.ensures.same, c.told_many.ensures)
-    (gathered_idle c.self.inside.nodes.items is.pool c.self.inside.slots.items is.laid c.self.inside.numbers is.sized
-    c.self.inside.agenda.cell_nodes.items is.agenda.cells c.self.inside.agenda.due c.gather-all.new.self.due
-    c.gather-all.result (λ some. is.quiet (sym c.gather-all.ensures.told ∙ some))
-    (rw c.told_many.ensures at c.gather-all.ensures.gathered)
-    c.gather-all.ensures.all)
+    let agrees = subst (λ (t : TableSeen). Agrees t (g.I.Image.bytes c.args.image.now)) (sym c.self.view_is)
+    c.requires.agrees in
+    rw (c.gather.ensures.same, c.told_many.ensures) (λ k below unmarked.
+    let width = ap (λ ws. get_or ws k 0) is.sized.widths
+    ∙ get_or-map (λ d. d.width) (cells_of c.self.inside.nodes.items) k no_cell 0 (omega (arith, below, is.sized.cells)) in
+    agrees k below unmarked
+    ∙ ap (λ w. raw w (g.I.Image.bytes c.args.image.now) (get_or c.self.inside.numbers.watches.places k 0)) (sym width))
 
-pub returns-clause-changed : goal.returns-clause-changed
-returns-clause-changed g c = elim c.if-told_many.branch [
-  | then-told_many w ↦
-      let room : c.self.inside.changes.room ≡ length c.self.inside.nodes.items = c.self.invariant.room in
-      let whole = w.list_all.ensures.listed in
-      rw (w.self-inside-is, sym c.self.view_is) (record {
-        each = λ n below other. whole_lists w.list_all.new.self.listed c.self.inside.changes.room n whole
-            (omega (arith, below, room));
-        nodes = λ k below. omega (arith, whole.each k (omega (arith, below, whole.long)), below, whole.long, room);
-        few = omega (arith, whole.long, room);
-      })
-  | else-told_many w ↦
-      let noted = rw (w.deref-else-told_many.ensures.value, w.gather-all.ensures.same, c.told_many.ensures) at w.take_frame.ensures.changed in
-      rw (w.self-inside-is, sym c.self.view_is)
-      (record { each = λ n below. noted.each n; nodes = noted.nodes; few = noted.few })
-]
+pub take_frame-in_order-requires-clause-idle : goal.take_frame-in_order-requires-clause-idle
+take_frame-in_order-requires-clause-idle g c = λ some.
+    let is = c.self.invariant in
+    let before : c.self.inside.agenda.all ≡ false = elim c.if-told_many.branch [
+      | then-told_many w ↦ absurd (false≢true (sym some ∙ w.all-is ∙ w.if-told_many.true))
+      | else-told_many w ↦ sym w.all-is ∙ some
+    ] in
+    rw (c.deref-2.ensures.value, c.deref-3.ensures.value, c.gather.ensures.same, c.told_many.ensures)
+    (gathered_idle c.self.inside.nodes.items is.pool c.self.inside.slots.items is.laid c.self.inside.numbers is.sized
+    c.self.inside.agenda.cell_nodes.items is.agenda.cells c.self.inside.agenda.due c.gather.new.due (is.quiet before)
+    (rw (c.deref.ensures.value, c.told_many.ensures) at c.gather.ensures.gathered some))
+
+pub note_cells-self-inside-requires-clause-cells : goal.note_cells-self-inside-requires-clause-cells
+note_cells-self-inside-requires-clause-cells g c =
+    let is = c.self.invariant in
+    let sized = rw c.deref-2.ensures.value at c.take_frame-in_order.ensures.taken.sized in
+    rw c.deref-then-in_order.ensures.value (count_all c.self.inside.nodes.items is.pool c.self.inside.slots.items is.laid c.self.inside.numbers is.sized
+    c.self.inside.agenda.cell_nodes.items is.agenda.cells c.self.inside.agenda.due c.self.inside.agenda.due
+    ∙ sym sized.cells)
+
+pub invariant_of-self : goal.invariant_of-self
+invariant_of-self g c =
+    let is = c.self.invariant in
+    let e = rw (c.deref-2.ensures.value, c.deref-3.ensures.value, c.gather.ensures.same, c.told_many.ensures) at c.take_frame-in_order.ensures in
+    let small : c.take_frame-in_order.new.self.watches.size ≤ 2 ^ 27 = omega (arith, e.taken.size, is.small) in
+    elim c.if-in_order.branch [
+      | then-in_order w ↦
+          let noted = rw w.deref-then-in_order.ensures.value at w.note_cells-self-inside.ensures in
+          rw (w.self-is, w.self-inside-is) (record {
+            pool = is.pool;
+            few = is.few;
+            laid = is.laid;
+            small = small;
+            sized = e.taken.sized;
+            agenda = record {
+              dues = noted.long ∙ e.dues ∙ c.gather.ensures.long ∙ is.agenda.dues;
+              dependents = is.agenda.dependents;
+              cells = is.agenda.cells;
+            };
+            room = e.room ∙ is.room;
+            quiet = λ some. (settled_idle c.self.inside.nodes.items is.pool c.self.inside.slots.items is.laid
+                c.take_frame-in_order.new.self e.taken.sized c.self.inside.agenda.cell_nodes.items is.agenda.cells
+                c.take_frame-in_order.new.due w.note_cells-self-inside.new.due (e.settled w.if-in_order.true) noted.kept
+                (noted.noted some)).quiet;
+          })
+      | else-in_order w ↦
+          rw (w.self-is, w.self-inside-is) (record {
+            pool = is.pool;
+            few = is.few;
+            laid = is.laid;
+            small = small;
+            sized = e.taken.sized;
+            agenda = record {
+              dues = e.dues ∙ c.gather.ensures.long ∙ is.agenda.dues;
+              dependents = is.agenda.dependents;
+              cells = is.agenda.cells;
+            };
+            room = e.room ∙ is.room;
+            quiet = λ some. (e.idle w.if-in_order.false).quiet;
+          })
+    ]
