@@ -86,6 +86,17 @@ impl Flags {
         clear(&mut self.flags, from);
     }
 
+    /// The place of the first flag that is set. None exactly where none is.
+    ///
+    /// No flag changes. It looks at blocks first, so it is for a row in which few flags are set.
+    pub fn first(&mut self) -> Option<usize>
+        ensures first { IfSome result (λ n. IsFirstSet self.old 0 n) }
+        ensures none { result ≡ None → NoneSet self.old 0 (length self.old) }
+        ensures same { self.new ≡ self.old }
+    {
+        next_by_regions(&self.flags, &mut self.blocks, &mut self.regions, 0)
+    }
+
     /// The place of the first flag from a place on that is set. None exactly where none is.
     ///
     /// No flag changes. A block in which it has looked at each flag, and found none set, is passed over
