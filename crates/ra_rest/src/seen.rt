@@ -152,9 +152,15 @@ pub fn pay(hits: &mut [u32], before: &[u32], frames: u32)
     requires { length before.now ≡ length hits.old }
     ensures { hits.new ≡ spec.paid frames before.now hits.old }
 {
+    if frames == 0 {
+        return;
+    }
     for place in 0..hits.len() {
-        if hits[place] != before[place] {
-            hits[place] = hits[place].saturating_add(frames);
-        }
+        let more = if hits[place] != before[place] {
+            frames
+        } else {
+            0
+        };
+        hits[place] = hits[place].saturating_add(more);
     }
 }

@@ -1,7 +1,13 @@
-use Rattle.std.proofs.Common.{◌==◌, cond, slice_index, arith}
+use Rattle.std.proofs.Common.{◌≡◌, ◌==◌, cond, slice_index, sym, subst, arith}
 use Rattle.std.proofs.lemmas.List.FromFn.{fill_by_all}
-use Rattle.ra_rest.specs.Groups.{plus}
+use Rattle.ra_rest.specs.Groups.{paid, plus}
+use Rattle.ra_rest.proofs.Owed.{paid_nothing}
 use Rattle.ra_rest.proofs.seen.pay.Goals as goal
+
+pub returns-then-frames-eq0 : goal.returns-then-frames-eq0
+returns-then-frames-eq0 c =
+    subst (λ n. c.args.hits.now ≡ paid n c.args.before.now c.args.hits.now) (sym c.if-frames-eq0.true)
+    (sym (paid_nothing c.args.before.now c.args.hits.now (λ j. (let fit = c.type_inv.hits j in omega arith))))
 
 pub returns : goal.returns
 returns c =
