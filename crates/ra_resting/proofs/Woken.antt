@@ -1,7 +1,7 @@
 -- Who is not woken at a frame sees what it saw.
-use Rattle.std.proofs.Common.{◌≡◌, ◌⊎◌, inl, inr, ℕ, ◌<◌, ◌≤◌, ◌==◌, Bool, true, false, List, [], ◌∷◌, length, slice_index, slice_index_or, sym, ◌∙◌, ap, arith, refl}
+use Rattle.std.proofs.Common.{◌≡◌, ◌⊎◌, inl, inr, ℕ, ◌<◌, ◌≤◌, ◌==◌, Bool, true, false, List, [], ◌∷◌, length, slice_index, slice_index_or, slice_set, sym, ◌∙◌, ap, arith, refl}
 use Rattle.std.proofs.lemmas.Bool.{cases_lt, eq-eqb, eqb-true}
-use Rattle.std.proofs.lemmas.List.{get_or_past}
+use Rattle.std.proofs.lemmas.List.{get_or_past, set-get_or}
 use Rattle.ra_condition.specs.declared.condition.Condition.{Condition}
 use Rattle.ra_condition.specs.Contents.{TriggerContents, PartContents}
 use Rattle.ra_memref.specs.Table.{TableSeen}
@@ -52,3 +52,10 @@ pub quiet_same : (table : TableSeen) (values : List ℕ) (clock : ℕ) (old new 
 quiet_same table values clock old new changed rows woken k quiet =
     let was = woken.kept k quiet in
     (was.0, was.1, λ n reads. same_unless_listed values table.values n (λ differ. woken.woken k n quiet (changed.each n (omega (arith, reads_within old n k reads, rows)) differ) reads))
+
+-- who is due and is made due is as before
+pub still_due : (readers : ReadersSeen) (place : ℕ) → slice_index_or readers.due place true ≡ true
+    → readers ≡ record readers { due = slice_set readers.due place true }
+still_due readers place due =
+    ap (λ ds. record readers { due = ds })
+    (sym (ap (λ b. slice_set readers.due place b) (sym due) ∙ set-get_or readers.due place true))

@@ -1,6 +1,6 @@
 //! Readers that are woken at a frame.
 
-ghost use Rattle.std.specs.Prelude.{◌≡◌, ◌<◌, ◌/◌, ℕ, length, nat_lt, slice_index};
+ghost use Rattle.std.specs.Prelude.{◌≡◌, ◌<◌, ◌/◌, ◌%◌, ◌==◌, ◌&&◌, ◌||◌, not, ℕ, length, nat_lt, slice_index};
 ghost use Rattle.ra_resting.specs.Waking.{IsWoken};
 
 use ra_memref::Table;
@@ -28,4 +28,12 @@ pub fn many_changed(readers: &Readers, table: &Table) -> bool
     ensures { result ≡ nat_lt (length table.now.nodes / 4) (length table.now.changed) }
 {
     table.changed().len() > readers.nodes() / 4
+}
+
+/// Whether the one at a place is looked at for rest: where so many may still be, and else one of eight, others at each count
+/// of frames, unless it has rested until now.
+pub fn is_looked_at(left: usize, rested: bool, place: usize, clock: u64) -> bool
+    ensures { result ≡ (not (left == 0) || not rested && place % 8 == clock % 8) }
+{
+    left > 0 || !rested && place % 8 == (clock % 8) as usize
 }
