@@ -1,6 +1,6 @@
 //! The lines of a display, of which those that rest are not stepped: docs/DEFINITIONS.md, "Lines at rest".
 
-ghost use Rattle.std.specs.Prelude.{◌≡◌, ◌≤◌, ◌<◌, ◌^◌, ℕ, true, not, List, length, map, IfOk, IfSome};
+ghost use Rattle.std.specs.Prelude.{◌≡◌, ◌≤◌, ◌<◌, ◌^◌, ℕ, true, not, None, Some, if◌then◌else◌, List, length, map, slice_index_or, IfOk, IfSome};
 ghost use Rattle.ra_indirect.specs.declared.node.Node.{Node};
 ghost use Rattle.ra_richpresence.specs.Contents.{LineContents, line_contents};
 ghost use Rattle.ra_member.specs.MemberRuns.{StaysMember, kept_by};
@@ -15,10 +15,13 @@ use crate::line_run::step_line;
 use ra_member::Member;
 use ra_memref::{Flags, Table};
 use ra_readers::Readers;
-use ra_resting::{Before, many_changed, note_member, owed, pay_member, wake};
+use ra_resting::{Before, is_looked_at, many_changed, note_member, owed, pay_member, wake};
 use ra_richpresence::Line;
 use ra_text::OutOfMemory;
 use std::alloc::Global;
+
+/// Which share of the lines a frame looks at for rest, before it looks at some of the others alone.
+const SHARE: usize = 32;
 
 /// What a line kept before its last step, and since which count of frames it rests, if it does.
 #[derive(Drop)]
@@ -92,7 +95,7 @@ impl LineRests {
     }
 
     // Steps each line that is due or reads a node that changed, by the frame of the table's last sample. Where many nodes
-    // changed it looks at none for rest.
+    // changed it looks at none for rest, and where many lines are due at some of them.
     pub(crate) fn step(&mut self, runs: &mut [Member], lines: &[Line], table: &Table)
         requires runs { AreLineRuns table.now.nodes (map line_contents lines.now) runs.old }
         requires rests { WereLineRests table.now (map line_contents lines.now) runs.old self.old }
@@ -106,15 +109,17 @@ impl LineRests {
         let noting = !many_changed(&self.readers, table);
         wake(&mut self.readers, self.clock, table);
         let now = self.clock.saturating_add(1);
+        let mut left = lines.len() / SHARE;
         let mut at = 0;
         while let Some(place) = self.readers.next_due(at) {
-            self.step_at(runs, lines, table, place, now, noting);
+            self.step_at(runs, lines, table, place, now, noting, left);
+            left = left.saturating_sub(1);
             at = place + 1;
         }
         self.clock = now;
     }
 
-    // Steps the line at a place, which rests from the next count of frames on where it rested at this one.
+    // Steps the line at a place, which rests from the next count of frames on where it is seen to have rested at this one.
     fn step_at(
         &mut self,
         runs: &mut [Member],
@@ -123,8 +128,10 @@ impl LineRests {
         place: usize,
         next: u64,
         noting: bool,
+        left: usize,
     )
         requires here { place < length lines.now }
+        requires due { slice_index_or self.old.readers.due place true ≡ true }
         requires runs { AreLineRuns table.now.nodes (map line_contents lines.now) runs.old }
         requires place { HasLinePlace (map line_contents lines.now) self.old place }
         requires sampled { table.now.sampled ≡ true }
@@ -133,10 +140,12 @@ impl LineRests {
         let run = &mut runs[place];
         let rest = &mut self.each[place];
         let line = &lines[place];
-        let stepped = step_noted(run, rest, line, table, self.clock, noting);
-        rest.since = if stepped.rests { Some(next) } else { None };
+        let looked = noting && is_looked_at(left, rest.since.is_some(), place, self.clock);
+        let stepped = step_noted(run, rest, line, table, self.clock, next, looked);
         self.holds.put(place, stepped.holds);
-        self.readers.put(place, !stepped.rests);
+        if stepped.rests {
+            self.readers.put(place, false);
+        }
     }
 
     // The place of the first line that holds; as many as there are where none does.
@@ -145,7 +154,7 @@ impl LineRests {
         ensures first { result ≡ first_true self.old.holds }
         ensures same { self.new ≡ self.old }
     {
-        match self.holds.next_from(0) {
+        match self.holds.first() {
             Some(place) => place,
             None => self.each.len(),
         }
@@ -162,14 +171,17 @@ impl LineRests {
     }
 }
 
-// Steps a line with what it owes at a count of frames paid, and says whether it holds, and whether it rested, which is not
-// looked at where what it kept before is not to be noted.
+// Steps a line with what it owes at a count of frames paid, and says whether it holds, and whether it rested: then it rests
+// from the next count on. That is not looked at where what it kept before is not to be noted.
+//
+// Whether it is looked at is kept in its place and not asked twice, so that a step has one place in the program.
 fn step_noted(
     run: &mut Member,
     rest: &mut LineRest,
     line: &Line,
     table: &Table,
     clock: u64,
+    next: u64,
     noting: bool,
 ) -> Stepped
     requires run { IsLineRun table.now.nodes (line_contents line.now) run.old }
@@ -178,16 +190,32 @@ fn step_noted(
     requires sampled { table.now.sampled ≡ true }
     ensures run { IsLineRun table.now.nodes (line_contents line.now) run.new }
     ensures room { HasLineRoom (line_contents line.now) rest.new.before }
+    ensures since { rest.new.since ≡ (if result.rests then Some next else None) }
     ensures steps { StepsNoted table.now (line_contents line.now) (seen_line clock run.old rest.old) (not result.rests) rest.new.before run.new result.holds }
     ensures rests { result.rests ≡ true → LineKeeps (line_contents line.now) (kept_before rest.new.before) (kept_by run.new) }
 {
     pay_since(run, &rest.before, rest.since, clock);
     if noting {
         rest.before.note(run);
+        rest.since = Some(next);
+    } else {
+        rest.since = None;
     }
     let holds = step_line(run, line, table);
-    let rests = noting && line_keeps(line, &rest.before, run);
-    Stepped { holds, rests }
+    if rest.since.is_none() {
+        return Stepped {
+            holds,
+            rests: false,
+        };
+    }
+    if line_keeps(line, &rest.before, run) {
+        return Stepped { holds, rests: true };
+    }
+    rest.since = None;
+    Stepped {
+        holds,
+        rests: false,
+    }
 }
 
 // Pays what a line owes at a count of frames, where it rests since one of them.

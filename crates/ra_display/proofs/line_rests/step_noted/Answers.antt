@@ -1,5 +1,6 @@
 use Rattle.std.proofs.Common.{not, ap, sym, ◌∙◌, subst}
 use Rattle.std.proofs.lemmas.Bool.{true≢false}
+use Rattle.std.specs.Option.{is_some}
 use Rattle.ra_richpresence.specs.Contents.{line_contents}
 use Rattle.ra_member.specs.MemberRuns.{kept_by}
 use Rattle.ra_member.specs.Members.{HasShape, MemberKept}
@@ -26,28 +27,40 @@ pub step_line-holds-requires-clause-run : goal.step_line-holds-requires-clause-r
 step_line-holds-requires-clause-run c =
     c.pay_since.ensures.stays c.args.table.now.nodes (line_member (line_contents c.args.line.now)) c.requires.run
 
-pub line_keeps-rests-requires-clause-room : goal.line_keeps-rests-requires-clause-room
-line_keeps-rests-requires-clause-room c =
+pub returns-then-is_none-clause-steps : goal.returns-then-is_none-clause-steps
+returns-then-is_none-clause-steps c =
+    let line = line_contents c.args.line.now in
+    record {
+      mid = c.pay_since.new.run;
+      is = c.pay_since.ensures.stays c.args.table.now.nodes (line_member line) c.requires.run;
+      kept = c.pay_since.ensures.kept;
+      noted = λ quiet. absurd (true≢false quiet);
+      small = λ quiet. absurd (true≢false quiet);
+      steps = c.step_line-holds.ensures.steps;
+    }
+
+pub line_keeps-requires-clause-room : goal.line_keeps-requires-clause-room
+line_keeps-requires-clause-room c =
     let line = line_contents c.args.line.now in
     elim c.if-noting.branch [
       | then-noting w ↦ rw (w.rest-is, w.note.ensures.noted) (member_shape c.args.table.now.nodes (line_member line) c.pay_since.new.run (c.pay_since.ensures.stays c.args.table.now.nodes (line_member line) c.requires.run))
       | else-noting w ↦ rw w.rest-is c.requires.room
     ]
 
-pub line_keeps-rests-requires-clause-run : goal.line_keeps-rests-requires-clause-run
-line_keeps-rests-requires-clause-run c =
+pub line_keeps-requires-clause-run : goal.line_keeps-requires-clause-run
+line_keeps-requires-clause-run c =
     member_shape c.args.table.now.nodes (line_member (line_contents c.args.line.now)) c.step_line-holds.new.member c.step_line-holds.ensures.run
 
-pub returns-then-noting-2-clause-room : goal.returns-then-noting-2-clause-room
-returns-then-noting-2-clause-room c =
+pub returns-then-line_keeps-clause-room : goal.returns-then-line_keeps-clause-room
+returns-then-line_keeps-clause-room c =
     let line = line_contents c.args.line.now in
     elim c.if-noting.branch [
       | then-noting w ↦ rw (w.rest-is, w.note.ensures.noted) (member_shape c.args.table.now.nodes (line_member line) c.pay_since.new.run (c.pay_since.ensures.stays c.args.table.now.nodes (line_member line) c.requires.run))
       | else-noting w ↦ rw w.rest-is c.requires.room
     ]
 
-pub returns-then-noting-2-clause-steps : goal.returns-then-noting-2-clause-steps
-returns-then-noting-2-clause-steps c =
+pub returns-then-line_keeps-clause-steps : goal.returns-then-line_keeps-clause-steps
+returns-then-line_keeps-clause-steps c =
     let line = line_contents c.args.line.now in
     elim c.if-noting.branch [
       | then-noting w ↦ rw w.rest-is (record {
@@ -58,17 +71,25 @@ returns-then-noting-2-clause-steps c =
         small = λ quiet. subst AreHitsSmall c.pay_since.ensures.kept w.note.ensures.small;
         steps = c.step_line-holds.ensures.steps;
       })
-      | else-noting w ↦ absurd (true≢false (sym c.if-noting-2.true ∙ w.if-noting.false))
+      | else-noting w ↦ absurd (true≢false (sym (c.is_none.ensures ∙ ap not c.if-is_none.false) ∙ ap (λ r. is_some r.since) w.rest-is))
     ]
 
-pub returns-else-noting-2-clause-steps : goal.returns-else-noting-2-clause-steps
-returns-else-noting-2-clause-steps c =
+pub returns-clause-room : goal.returns-clause-room
+returns-clause-room c =
+    let line = line_contents c.args.line.now in
+    elim c.if-noting.branch [
+      | then-noting w ↦ rw (w.rest-is, w.note.ensures.noted) (member_shape c.args.table.now.nodes (line_member line) c.pay_since.new.run (c.pay_since.ensures.stays c.args.table.now.nodes (line_member line) c.requires.run))
+      | else-noting w ↦ rw w.rest-is c.requires.room
+    ]
+
+pub returns-clause-steps : goal.returns-clause-steps
+returns-clause-steps c =
     let line = line_contents c.args.line.now in
     record {
       mid = c.pay_since.new.run;
       is = c.pay_since.ensures.stays c.args.table.now.nodes (line_member line) c.requires.run;
       kept = c.pay_since.ensures.kept;
-      noted = λ quiet. absurd (true≢false (sym (ap not c.if-noting-2.false) ∙ quiet));
-      small = λ quiet. absurd (true≢false (sym (ap not c.if-noting-2.false) ∙ quiet));
+      noted = λ quiet. absurd (true≢false quiet);
+      small = λ quiet. absurd (true≢false quiet);
       steps = c.step_line-holds.ensures.steps;
     }
