@@ -1,6 +1,6 @@
 //! What an item kept before a frame, and whether it rests: docs/DEFINITIONS.md, "Items at rest".
 
-ghost use Rattle.std.specs.Prelude.{◌≡◌, ◌≤◌, ◌<◌, ℕ, true, not, None, length, slice_index, IfOk, IfSome};
+ghost use Rattle.std.specs.Prelude.{◌≡◌, ◌≤◌, ◌<◌, ℕ, true, not, None, Some, if◌then◌else◌, length, slice_index, IfOk, IfSome};
 ghost use Rattle.std.specs.Result.{OnOk};
 ghost use Rattle.ra_resting.specs.Reads.{IsAllRead};
 ghost use Rattle.ra_condition.specs.Contents.{trigger_contents, trigger_hits};
@@ -273,13 +273,16 @@ fn wake(run: &mut ItemRun, rest: &mut Rest, clock: u64)
 }
 
 // Steps an item by the frame of the table's last sample, with what it owes at a count of frames paid, and says whether
-// it rested at it, which is not looked at where it is not to be noted.
+// it rested at it: then it rests from the next count on. That is not looked at where it is not to be noted.
+//
+// Whether it is looked at is kept in its place and not asked twice, so that a step has one place in the program.
 pub(crate) fn step_rest(
     run: &mut ItemRun,
     rest: &mut Rest,
     item: &Item,
     table: &Table,
     clock: u64,
+    next: u64,
     noting: bool,
 ) -> bool
     requires run { IsItemRun table.now.nodes (item_contents item.now) run.old }
@@ -288,16 +291,24 @@ pub(crate) fn step_rest(
     requires sampled { table.now.sampled ≡ true }
     ensures run { IsItemRun table.now.nodes (item_contents item.now) run.new }
     ensures room { HasRoom (item_contents item.now) rest.new.before }
-    ensures awake { rest.new.since ≡ None }
+    ensures since { rest.new.since ≡ (if result then Some next else None) }
     ensures steps { StepsRest table.now (item_contents item.now) (seen_run clock run.old rest.old) (not result) rest.new.before run.new }
     ensures rests { result ≡ true → ItemRests (item_contents item.now) rest.new.before run.new }
 {
     wake(run, rest, clock);
     if noting {
         rest.before.note(run);
+        rest.since = Some(next);
     }
     run.step(item, table);
-    noting && rest.before.rests(item, run)
+    if rest.since.is_none() {
+        return false;
+    }
+    if rest.before.rests(item, run) {
+        return true;
+    }
+    rest.since = None;
+    false
 }
 
 // Notes that a reader reads what an item reads. Memory is the only refusal.

@@ -1,6 +1,6 @@
 //! All items of a set, of which those that rest are not stepped: docs/DEFINITIONS.md, "Items at rest".
 
-ghost use Rattle.std.specs.Prelude.{◌≡◌, ◌≤◌, ◌<◌, ◌^◌, ◌+◌, ℕ, true, None, List, take, length, map, IfOk};
+ghost use Rattle.std.specs.Prelude.{◌≡◌, ◌≤◌, ◌<◌, ◌^◌, ◌+◌, ℕ, true, None, List, take, length, map, slice_index_or, IfOk};
 ghost use Rattle.ra_indirect.specs.declared.node.Node.{Node};
 ghost use Rattle.ra_set.specs.Contents.{ItemContents, item_contents};
 ghost use Rattle.ra_runtime.specs.AllRuns.{AreItemRuns};
@@ -11,10 +11,13 @@ use crate::item_run::ItemRun;
 use crate::rest::{ItemBefore, Rest, note_reads, step_rest};
 use ra_memref::Table;
 use ra_readers::Readers;
-use ra_resting::{many_changed, wake};
+use ra_resting::{is_looked_at, many_changed, wake};
 use ra_set::Item;
 use ra_text::OutOfMemory;
 use std::alloc::Global;
+
+/// Which share of the items a frame looks at for rest, before it looks at some of the others alone.
+const SHARE: usize = 32;
 
 /// What each item owes, who reads which node and who is due, and who was stepped at the last frame.
 #[derive(Drop)]
@@ -64,7 +67,7 @@ impl Rests {
     }
 
     // Steps each item that is due or reads a node that changed, by the frame of the table's last sample. Where many nodes
-    // changed it looks at none for rest.
+    // changed it looks at none for rest, and where many items are due at some of them.
     pub(crate) fn step(&mut self, runs: &mut [ItemRun], items: &[Item], table: &Table)
         requires runs { AreItemRuns table.now.nodes (map item_contents items.now) runs.old }
         requires rests { WereRests table.now (map item_contents items.now) runs.old self.old }
@@ -80,9 +83,11 @@ impl Rests {
         wake(&mut self.readers, self.clock, table);
         self.count = 0;
         let now = self.clock.saturating_add(1);
+        let mut left = items.len() / SHARE;
         let mut at = 0;
         while let Some(place) = self.readers.next_due(at) {
-            self.step_at(runs, items, table, place, now, noting);
+            self.step_at(runs, items, table, place, now, noting, left);
+            left = left.saturating_sub(1);
             at = place + 1;
         }
         self.clock = now;
@@ -96,7 +101,7 @@ impl Rests {
         &self.stepped[..self.count]
     }
 
-    // Steps the item at a place, which rests from the next count of frames on where it rested at this one.
+    // Steps the item at a place, which rests from the next count of frames on where it is seen to have rested at this one.
     fn step_at(
         &mut self,
         runs: &mut [ItemRun],
@@ -105,8 +110,10 @@ impl Rests {
         place: usize,
         next: u64,
         noting: bool,
+        left: usize,
     )
         requires here { place < length items.now }
+        requires due { slice_index_or self.old.readers.due place true ≡ true }
         requires runs { AreItemRuns table.now.nodes (map item_contents items.now) runs.old }
         requires place { HasPlace (map item_contents items.now) self.old place }
         requires sampled { table.now.sampled ≡ true }
@@ -115,11 +122,14 @@ impl Rests {
     {
         let run = &mut runs[place];
         let rest = &mut self.each[place];
-        let rests = step_rest(run, rest, &items[place], table, self.clock, noting);
-        rest.since = if rests { Some(next) } else { None };
-        self.readers.put(place, !rests);
+        let looked = noting && is_looked_at(left, rest.since.is_some(), place, self.clock);
+        let item = &items[place];
+        let rests = step_rest(run, rest, item, table, self.clock, next, looked);
         self.stepped[self.count] = place as u32;
         self.count += 1;
+        if rests {
+            self.readers.put(place, false);
+        }
     }
 
     // No item rests any longer, and each is due. What they owe is given up.
