@@ -3,8 +3,6 @@
 
 mod node;
 mod pool;
-#[cfg(test)]
-mod tests;
 
 pub use node::Node;
 pub use pool::Pool;

@@ -4,7 +4,5 @@
 #![tactic(auto)]
 
 mod links;
-#[cfg(test)]
-mod tests;
 
 pub use links::Links;

@@ -6,8 +6,6 @@ mod image;
 mod memory;
 mod out_of_range;
 mod steps;
-#[cfg(test)]
-mod tests;
 
 pub use counted::Counted;
 pub use image::Image;

@@ -11,11 +11,9 @@ mod layout;
 mod names;
 mod numbers;
 mod table;
-#[cfg(test)]
-mod tests;
 mod watches;
 
 pub use flags::Flags;
 pub use laws::looking_back_holds;
 pub use names::{Names, names_of};
-pub use table::Table;
+pub use table::{Table, nodes_of};

@@ -200,8 +200,8 @@ impl Table {
     }
 }
 
-// The nodes of a pool, in order.
-pub(crate) fn nodes_of(alloc: Global, pool: &Pool) -> Result<Vec<Node>, OutOfMemory>
+/// The nodes of a pool, in order. Memory is the only refusal.
+pub fn nodes_of(alloc: Global, pool: &Pool) -> Result<Vec<Node>, OutOfMemory>
     ensures nodes { IfOk result (λ nodes. nodes.items ≡ pool.now) }
     ensures pool { IsPool pool.now }
     ensures most { length pool.now ≤ 2 ^ 31 }

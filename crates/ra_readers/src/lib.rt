@@ -4,7 +4,5 @@
 #![tactic(auto)]
 
 mod readers;
-#[cfg(test)]
-mod tests;
 
 pub use readers::Readers;

@@ -1,0 +1,15 @@
+//! Tests of what stands below a frame: images, lists, pools, reference tables, and who reads their nodes.
+//!
+//! They stand apart so that the crates that they show are not proved once more with them.
+#![tactic(auto)]
+
+#[cfg(test)]
+mod images;
+#[cfg(test)]
+mod lists;
+#[cfg(test)]
+mod pools;
+#[cfg(test)]
+mod tables;
+#[cfg(test)]
+mod wakings;

@@ -1,0 +1,91 @@
+ghost use Rattle.std.specs.Prelude.{◌≡◌, ◌<◌, length, IsTrue};
+ghost use Rattle.ra_indirect.specs.Pools.{MayFollow, IsValued, IsCellOf, node_at};
+
+use ra_indirect::{Node, Pool};
+use ra_operand::{Kind, Op, Size};
+use std::test::Fail;
+
+fn is_valued(pool: &Pool, number: u32) -> bool
+    ensures within { IsTrue result → number < length pool.now }
+    ensures valued { IsTrue result → IsValued (node_at pool.now number) }
+{
+    if number >= pool.len() {
+        return false;
+    }
+    match pool.node(number) {
+        Node::Cell { .. } => false,
+        Node::Const(_) | Node::View { .. } | Node::Arith { .. } => true,
+    }
+}
+
+fn is_byte_cell(pool: &Pool, number: u32) -> bool
+    ensures within { IsTrue result → number < length pool.now }
+    ensures cell { IsTrue result → IsCellOf 1 (node_at pool.now number) }
+{
+    if number >= pool.len() {
+        return false;
+    }
+    match pool.node(number) {
+        Node::Cell { width, .. } => width == 1,
+        Node::Const(_) | Node::View { .. } | Node::Arith { .. } => false,
+    }
+}
+
+// A node that may follow, of those that the tables have.
+fn may_follow(pool: &Pool, node: Node) -> bool
+    ensures { IsTrue result → MayFollow pool.now node }
+{
+    match node {
+        Node::Const(_) => true,
+        Node::Cell { pointer, width, .. } => width == 1 && is_valued(pool, pointer),
+        Node::View { size, cell, .. } => match size {
+            Size::Byte => is_byte_cell(pool, cell),
+            _ => false,
+        },
+        Node::Arith { op, left, right } => match op {
+            Op::Add => is_valued(pool, left) && is_valued(pool, right),
+            _ => false,
+        },
+    }
+}
+
+#[test]
+fn each_node_has_one_number(rt: HostRuntime) -> Result<(), Fail> {
+    let mut pool = Pool::new(rt.alloc());
+    assert!(rt; pool.is_empty());
+    let byte = |offset: u32| Node::Cell {
+        pointer: 0,
+        offset,
+        width: 1,
+    };
+    let view = |kind: Kind, cell: u32| Node::View {
+        kind,
+        size: Size::Byte,
+        cell,
+    };
+    let sum = |left: u32, right: u32| Node::Arith {
+        op: Op::Add,
+        left,
+        right,
+    };
+    for (node, number) in [
+        (Node::Const(0), 0),
+        (byte(16), 1),
+        (byte(16), 1),
+        (view(Kind::Mem, 1), 2),
+        (Node::Const(5), 3),
+        (byte(17), 4),
+        (view(Kind::Delta, 1), 5),
+        (view(Kind::Mem, 1), 2),
+        (sum(2, 3), 6),
+        (sum(3, 2), 7),
+        (sum(2, 3), 6),
+        (Node::Const(0), 0),
+    ] {
+        assert!(rt; pool.len() < 9, "{node:?}");
+        assert!(rt; may_follow(&pool, node), "{node:?}");
+        assert_eq!(rt; pool.intern(node)?, number, "{node:?}");
+    }
+    assert_eq!(rt; pool.len(), 8);
+    Ok(())
+}
