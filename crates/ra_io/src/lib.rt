@@ -15,8 +15,6 @@ mod real_sink;
 mod sink;
 mod sure_files;
 mod sure_sink;
-#[cfg(test)]
-mod tests;
 
 pub use files::{Failed, Files, PutFailed};
 pub use mem_files::MemFiles;

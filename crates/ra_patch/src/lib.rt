@@ -11,8 +11,6 @@ mod laws;
 mod read;
 mod refused;
 mod root;
-#[cfg(test)]
-mod tests;
 mod text;
 
 pub use document::{import, set_of};

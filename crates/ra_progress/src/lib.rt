@@ -24,8 +24,6 @@ mod said;
 mod shape;
 mod snapshot;
 mod states;
-#[cfg(test)]
-mod tests;
 mod writing;
 
 pub use checking::check;

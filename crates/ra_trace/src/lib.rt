@@ -11,8 +11,6 @@ mod made_set;
 mod made_trace;
 mod reader;
 mod record;
-#[cfg(test)]
-mod tests;
 mod window;
 mod writer;
 

@@ -3,11 +3,11 @@
 ghost use Rattle.std.specs.Prelude.{◌≤◌, ◌+◌, ◌≡◌, IfOk};
 ghost use Rattle.ra_progress.specs.Names.{IsUsable};
 
-use crate::{
+use md5::{Digest, Md5};
+use ra_progress::{
     ItemKept, ItemShape, Named, PresenceShape, ProgressRefused, Shape, Snapshot, check, decode,
     encode, frames_at, item_at, length, length_1, matches, name_at, order_of, word_at,
 };
-use md5::{Digest, Md5};
 use ra_text::OutOfMemory;
 use std::alloc::Global;
 use std::test::Fail;

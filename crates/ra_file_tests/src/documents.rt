@@ -1,6 +1,6 @@
 //! Documents, and what they give.
 
-use crate::{PatchField, PatchList, PatchRefused, import, set_of};
+use ra_patch::{PatchField, PatchList, PatchRefused, import, set_of};
 use ra_set::{SetRefused, Which};
 use std::alloc::Global;
 use std::test::Fail;

@@ -1,4 +1,4 @@
-use crate::{
+use ra_io::{
     Failed, Files, MemFiles, MemSink, PutFailed, RealFiles, RealSink, Sink, SinkFailed, SureFiles,
     SureSink,
 };

@@ -2,8 +2,8 @@
 
 ghost use Rattle.std.specs.Prelude.{◌^◌, ◌≤◌};
 
-use crate::{Reader, Record, TraceError, Why, Writer, make_set, make_trace};
 use ra_io::{Failed, Files, PutFailed, SureFiles};
+use ra_trace::{Reader, Record, TraceError, Why, Writer, make_set, make_trace};
 use std::alloc::Global;
 use std::test::Fail;
 
