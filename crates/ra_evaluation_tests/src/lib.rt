@@ -1,8 +1,10 @@
-//! Tests of what is stepped at a frame over public calls: pass orders, trees, triggers and values.
+//! Tests of what is stepped at a frame over public calls: groups, pass orders, trees, triggers and values.
 //!
 //! They stand apart so that the crates that they show are not proved once more with them.
 #![tactic(auto)]
 
+#[cfg(test)]
+mod groups;
 #[cfg(test)]
 mod orders;
 #[cfg(test)]

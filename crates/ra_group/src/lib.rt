@@ -9,8 +9,6 @@ mod outcome;
 mod pass;
 mod settled;
 mod tally;
-#[cfg(test)]
-mod tests;
 mod visit;
 
 pub use along::step_at;

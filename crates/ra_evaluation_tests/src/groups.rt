@@ -3,8 +3,8 @@
 ghost use Rattle.std.specs.Prelude.{◌≡◌};
 ghost use Rattle.ra_operand.specs.declared.operand.Operand.TheVariants.{Const};
 
-use crate::{Form, Outcome, step};
 use ra_condition::{Condition, Flag, Group};
+use ra_group::{Form, Outcome, step};
 use ra_operand::{Op, Operand};
 use std::test::Fail;
 
