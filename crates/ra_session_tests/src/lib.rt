@@ -1,4 +1,4 @@
-//! Worked jobs over the calls of `ra_session`, and their faults. It has tests alone, so that what they call is proved
+//! Worked jobs over the calls of `ra_session`, their words and their faults. It has tests alone, so that what they call is proved
 //! once.
 #![tactic(auto)]
 
@@ -34,3 +34,5 @@ mod progress;
 mod refusals;
 #[cfg(test)]
 mod runs;
+#[cfg(test)]
+mod words;
