@@ -2,7 +2,7 @@
 
 ghost use Rattle.std.specs.Prelude.{◌≡◌, IfOk, length};
 
-use crate::{Told, load, play_frame};
+use crate::{load, play_frame};
 use ra_runtime::{Event, Runtime};
 use std::alloc::Global;
 use std::test::Fail;
@@ -22,22 +22,48 @@ fn loaded(alloc: Global) -> Result<Runtime, Fail>
     }
 }
 
-fn tells(told: &Told, events: &[Event], presence: &str) -> bool {
-    told.events.as_slice() == events && told.presence.as_slice() == presence.as_bytes()
+// Whether a frame behind one write of this byte tells these events and this line.
+fn tells(alloc: Global, runtime: &mut Runtime, byte: u8, events: &[Event], line: &str) -> bool
+    requires { length runtime.old.image ≡ 64 }
+    ensures { length runtime.new.image ≡ 64 }
+{
+    match play_frame(alloc, runtime, 0x10, &[byte]) {
+        Ok(told) => told.events.as_slice() == events && told.presence.as_slice() == line.as_bytes(),
+        Err(_) => false,
+    }
+}
+
+// Whether the two frames tell what they have to.
+fn plays(alloc: Global, runtime: &mut Runtime) -> bool
+    requires { length runtime.old.image ≡ 64 }
+{
+    tells(alloc, runtime, 3, &[], "presence 1 Lives 3\n")
+        && tells(
+            alloc,
+            runtime,
+            5,
+            &[Event::Unlock { id: 1 }],
+            "presence 2 Lives 5\n",
+        )
 }
 
 #[test]
 fn a_frame_tells_its_events_and_the_presence(rt: HostRuntime) -> Result<(), Fail> {
     let mut runtime = loaded(rt.alloc())?;
-    let first = play_frame(rt.alloc(), &mut runtime, 0x10, &[3])?;
-    assert!(rt; tells(&first, &[], "presence 1 Lives 3\n"));
-    let second = play_frame(rt.alloc(), &mut runtime, 0x10, &[5])?;
-    assert!(rt; tells(&second, &[Event::Unlock { id: 1 }], "presence 2 Lives 5\n"));
+    let plays = plays(rt.alloc(), &mut runtime);
+    assert!(rt; plays);
     Ok(())
+}
+
+// Whether a text is refused as no set at this place.
+fn is_refused_at(alloc: Global, text: &[u8], at: usize) -> bool {
+    match load(alloc, text, 64) {
+        Ok(_) => false,
+        Err(refused) => refused == ra_set::SetRefused::Syntax { at },
+    }
 }
 
 #[test]
 fn a_text_that_is_no_set_is_refused(rt: HostRuntime) {
-    let refused = load(rt.alloc(), b"A 1 0xH10=5.3\n", 64).err();
-    assert_eq!(rt; refused, Some(ra_set::SetRefused::Syntax { at: 13 }));
+    assert!(rt; is_refused_at(rt.alloc(), b"A 1 0xH10=5.3\n", 13));
 }
