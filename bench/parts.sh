@@ -38,6 +38,8 @@ row 'a frame of the 4,000 in which every byte changes' 10 many.set due.trace man
 row 'a frame with no write behind each of those' 12 many.set due-still.trace many.set due.trace
 row 'a frame with no write behind a restore' 100 many.set restored.trace many.set restores.trace
 row 'a frame of 4,000 achievements of 4 comparisons behind one pointer, which moves' 20 pointers.set pointers.trace pointers.set pointers-one.trace
+row 'a frame of 4,000 achievements of 8 conditions that look at one byte, which changes' 40 looks.set looked.trace looks.set looked-one.trace
+row 'such a frame behind 40 with no write, so that all were at rest' 1 looks.set woken.trace looks.set rested.trace
 row 'a frame of no items' $((frames - 10)) none.set still.trace none.set still-ten.trace
 row 'a frame of a real-sized set' $((frames - 1)) real.set real.trace real.set real-one.trace
 row 'a save of 4,000 achievements of 8 conditions' 100 many.set saves.trace many.set saved.trace

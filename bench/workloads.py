@@ -19,6 +19,9 @@ many.set     over saves.trace and restores.trace: 100 of these records; over sav
              over many-ten.trace: ten frames with such writes, and over still-ten.trace: ten frames and no write
              over due.trace: 12 frames, each behind another value of every byte; due-one.trace has two of these frames,
              and in due-still.trace each has a frame with no write behind it
+looks.set    4,000 achievements of 8 conditions that look at one byte, of which 7 count hits, and one of 40 other bytes
+             over looked.trace: 41 frames, each behind another value of this byte; looked-one.trace has one of these frames
+             over woken.trace: such a frame behind 40 frames with no write, three times, and one more; rested.trace ends before that
 few.set      40 achievements of 8 conditions, over still.trace and still-ten.trace
 small.set    a script of one line with a lookup of 8 texts and a format, over shows.trace: 65,536 shows of one frame
              shown.trace has one of these shows
@@ -92,6 +95,23 @@ def pointer_trace(frames):
     for frame in range(frames):
         trace += write(0, frame % 2 + 1) + b"F"
     return bytes(trace + b"E")
+
+
+def looking(number):
+    """An achievement that looks at the byte 0x10 and at one that stays, and never unlocks."""
+    pairs = [f"0xH0010>{random.randrange(90)}" for _ in range(7)]
+    return f"A {number} " + "_".join(pairs) + "_0xH0011=7\n"
+
+
+def looks_set():
+    others = "_".join(f"0xH{0x100 + 32 * i:04x}=1" for i in range(40))
+    return "".join(looking(i + 1) for i in range(4000)) + f"A 4001 {others}\n"
+
+
+def looked_trace(frames, behind=b"", last=b""):
+    """The byte 0x10 takes another value before each of so many frames."""
+    records = b"".join(write(0x10, 100 + frame % 50) + b"F" + behind for frame in range(frames))
+    return header(65536) + records + last + b"E"
 
 
 def real_condition(turn):
@@ -200,6 +220,11 @@ def main(folder, frames):
         "pointers.set": "".join(behind_pointer(i + 1) for i in range(4000)).encode(),
         "pointers.trace": pointer_trace(21),
         "pointers-one.trace": pointer_trace(1),
+        "looks.set": looks_set().encode(),
+        "looked.trace": looked_trace(41),
+        "looked-one.trace": looked_trace(1),
+        "woken.trace": looked_trace(3, b"F" * 40, write(0x10, 151) + b"F"),
+        "rested.trace": looked_trace(3, b"F" * 40),
     }
     for name, content in files.items():
         with open(f"{folder}/{name}", "wb") as file:
