@@ -15,13 +15,10 @@ use crate::line_run::step_line;
 use ra_member::Member;
 use ra_memref::{Flags, Table};
 use ra_readers::Readers;
-use ra_resting::{Before, is_looked_at, many_changed, note_member, owed, pay_member, wake};
+use ra_resting::{Before, is_looked_at, looks, many_changed, note_member, owed, pay_member, wake};
 use ra_richpresence::Line;
 use ra_text::OutOfMemory;
 use std::alloc::Global;
-
-/// Which share of the lines a frame looks at for rest, before it looks at some of the others alone.
-const SHARE: usize = 32;
 
 /// What a line kept before its last step, and since which count of frames it rests, if it does.
 #[derive(Drop)]
@@ -109,7 +106,7 @@ impl LineRests {
         let noting = !many_changed(&self.readers, table);
         wake(&mut self.readers, self.clock, table);
         let now = self.clock.saturating_add(1);
-        let mut left = lines.len() / SHARE;
+        let mut left = looks(lines.len());
         let mut at = 0;
         while let Some(place) = self.readers.next_due(at) {
             self.step_at(runs, lines, table, place, now, noting, left);

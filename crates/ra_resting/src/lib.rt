@@ -11,4 +11,4 @@ pub use before::{Before, ValueBefore, hits_before, note_row, row_of};
 pub use keeping::{test_keeps, value_keeps};
 pub use paying::{owed, pay_member};
 pub use reads::{note_laid, note_member};
-pub use waking::{is_looked_at, many_changed, wake};
+pub use waking::{is_looked_at, looks, many_changed, wake};

@@ -1,6 +1,6 @@
 //! Readers that are woken at a frame.
 
-ghost use Rattle.std.specs.Prelude.{◌≡◌, ◌<◌, ◌/◌, ◌%◌, ◌==◌, ◌&&◌, ◌||◌, not, ℕ, length, nat_lt, slice_index};
+ghost use Rattle.std.specs.Prelude.{◌≡◌, ◌+◌, ◌<◌, ◌/◌, ◌%◌, ◌==◌, ◌&&◌, ◌||◌, not, ℕ, length, nat_lt, slice_index};
 ghost use Rattle.ra_resting.specs.Waking.{IsWoken};
 
 use ra_memref::Table;
@@ -28,6 +28,13 @@ pub fn many_changed(readers: &Readers, table: &Table) -> bool
     ensures { result ≡ nat_lt (length table.now.nodes / 4) (length table.now.changed) }
 {
     table.changed().len() > readers.nodes() / 4
+}
+
+/// How many of so many are looked at for rest at a frame, whatever their places are.
+pub fn looks(count: usize) -> usize
+    ensures { result ≡ count / 16 + 24 }
+{
+    count / 16 + 24
 }
 
 /// Whether the one at a place is looked at for rest: where so many may still be, and else one of eight, others at each count

@@ -11,13 +11,10 @@ use crate::item_run::ItemRun;
 use crate::rest::{ItemBefore, Rest, note_reads, step_rest};
 use ra_memref::Table;
 use ra_readers::Readers;
-use ra_resting::{is_looked_at, many_changed, wake};
+use ra_resting::{is_looked_at, looks, many_changed, wake};
 use ra_set::Item;
 use ra_text::OutOfMemory;
 use std::alloc::Global;
-
-/// Which share of the items a frame looks at for rest, before it looks at some of the others alone.
-const SHARE: usize = 32;
 
 /// What each item owes, who reads which node and who is due, and who was stepped at the last frame.
 #[derive(Drop)]
@@ -83,7 +80,7 @@ impl Rests {
         wake(&mut self.readers, self.clock, table);
         self.count = 0;
         let now = self.clock.saturating_add(1);
-        let mut left = items.len() / SHARE;
+        let mut left = looks(items.len());
         let mut at = 0;
         while let Some(place) = self.readers.next_due(at) {
             self.step_at(runs, items, table, place, now, noting, left);
