@@ -173,42 +173,43 @@ fn an_id_is_a_whole_number_of_32_bits(rt: HostRuntime) -> Result<(), Fail> {
     Ok(())
 }
 
+// Documents, and the field of an item that refuses each: its list, its place in the list, and which field it is.
+const FIELDS: [(&str, PatchList, u32, PatchField); 5] = [
+    (
+        "{\"PatchData\":{\"Achievements\":[{\"MemAddr\":\"\"}]}}",
+        PatchList::Achievements,
+        0,
+        PatchField::Id,
+    ),
+    (
+        "{\"PatchData\":{\"Achievements\":[{\"ID\":1,\"MemAddr\":\"0=1\\n\"},{\"ID\":2}]}}",
+        PatchList::Achievements,
+        1,
+        PatchField::MemAddr,
+    ),
+    (
+        "{\"PatchData\":{\"Achievements\":[{\"ID\":1,\"MemAddr\":\"\\r\"}],\"Leaderboards\":[{\"ID\":1,\"Format\":\"\"}]}}",
+        PatchList::Leaderboards,
+        0,
+        PatchField::Mem,
+    ),
+    (
+        "{\"PatchData\":{\"Achievements\":[],\"Leaderboards\":[7]}}",
+        PatchList::Leaderboards,
+        0,
+        PatchField::Id,
+    ),
+    (
+        "{\"PatchData\":{\"Achievements\":[],\"Leaderboards\":[{\"ID\":1,\"Mem\":\"\"}]}}",
+        PatchList::Leaderboards,
+        0,
+        PatchField::Format,
+    ),
+];
+
 #[test]
 fn fields_of_items_come_before_their_texts(rt: HostRuntime) {
-    let achievements = PatchList::Achievements;
-    let leaderboards = PatchList::Leaderboards;
-    for (document, list, index, field) in [
-        (
-            "{\"PatchData\":{\"Achievements\":[{\"MemAddr\":\"\"}]}}",
-            achievements,
-            0,
-            PatchField::Id,
-        ),
-        (
-            "{\"PatchData\":{\"Achievements\":[{\"ID\":1,\"MemAddr\":\"0=1\\n\"},{\"ID\":2}]}}",
-            achievements,
-            1,
-            PatchField::MemAddr,
-        ),
-        (
-            "{\"PatchData\":{\"Achievements\":[{\"ID\":1,\"MemAddr\":\"\\r\"}],\"Leaderboards\":[{\"ID\":1,\"Format\":\"\"}]}}",
-            leaderboards,
-            0,
-            PatchField::Mem,
-        ),
-        (
-            "{\"PatchData\":{\"Achievements\":[],\"Leaderboards\":[7]}}",
-            leaderboards,
-            0,
-            PatchField::Id,
-        ),
-        (
-            "{\"PatchData\":{\"Achievements\":[],\"Leaderboards\":[{\"ID\":1,\"Mem\":\"\"}]}}",
-            leaderboards,
-            0,
-            PatchField::Format,
-        ),
-    ] {
+    for (document, list, index, field) in FIELDS {
         let why = PatchRefused::Field { list, index, field };
         assert_eq!(rt;
             refusal(rt.alloc(), document.as_bytes()),

@@ -1,3 +1,5 @@
+//! Files and sinks: which calls fail, and what the adapters leave.
+
 use ra_io::{
     Failed, Files, MemFiles, MemSink, PutFailed, RealFiles, RealSink, Sink, SinkFailed, SureFiles,
     SureSink,

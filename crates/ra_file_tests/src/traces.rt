@@ -215,109 +215,37 @@ fn stops(rt: &HostRuntime, bytes: &[u8], limit: u64, frames: u32) -> Result<Trac
     Ok(why)
 }
 
+// A refusal at a place.
+fn refused(at: u64, why: Why) -> TraceError {
+    TraceError::Refused { at, why }
+}
+
+// A trace is read to a limit, and refused behind so many frames.
 #[test]
 fn refusals_with_their_places(rt: HostRuntime) -> Result<(), Fail> {
     let rows: [(&[u8], u64, u32, TraceError); 13] = [
-        (
-            b"RATR\x01\x10\0\0\0F",
-            99,
-            1,
-            TraceError::Refused {
-                at: 10,
-                why: Why::Cut,
-            },
-        ),
+        (b"RATR\x01\x10\0\0\0F", 99, 1, refused(10, Why::Cut)),
         (
             b"RATR\x01\x10\0\0\0W\x0f\0\0\0\x02\0\x01\x02",
             99,
             0,
-            TraceError::Refused {
-                at: 9,
-                why: Why::PastMemory,
-            },
+            refused(9, Why::PastMemory),
         ),
-        (
-            b"RATR\x01\x10\0\0\0\0",
-            99,
-            0,
-            TraceError::Refused {
-                at: 9,
-                why: Why::Kind,
-            },
-        ),
-        (
-            b"RATR\x01\x10\0\0\0S\x10",
-            99,
-            0,
-            TraceError::Refused {
-                at: 9,
-                why: Why::Slot,
-            },
-        ),
-        (
-            b"RATR\x01\x10\0\0\0R\x10",
-            99,
-            0,
-            TraceError::Refused {
-                at: 9,
-                why: Why::Slot,
-            },
-        ),
-        (
-            b"RATR",
-            99,
-            0,
-            TraceError::Refused {
-                at: 0,
-                why: Why::Header,
-            },
-        ),
-        (
-            b"RATR\x01\x10\0\0",
-            99,
-            0,
-            TraceError::Refused {
-                at: 0,
-                why: Why::Header,
-            },
-        ),
-        (
-            b"RATR\x02\x10\0\0\0F",
-            9,
-            0,
-            TraceError::Refused {
-                at: 0,
-                why: Why::Header,
-            },
-        ),
-        (
-            b"RATR\x01\x01\0\0\x08F",
-            99,
-            0,
-            TraceError::Refused {
-                at: 0,
-                why: Why::Header,
-            },
-        ),
+        (b"RATR\x01\x10\0\0\0\0", 99, 0, refused(9, Why::Kind)),
+        (b"RATR\x01\x10\0\0\0S\x10", 99, 0, refused(9, Why::Slot)),
+        (b"RATR\x01\x10\0\0\0R\x10", 99, 0, refused(9, Why::Slot)),
+        (b"RATR", 99, 0, refused(0, Why::Header)),
+        (b"RATR\x01\x10\0\0", 99, 0, refused(0, Why::Header)),
+        (b"RATR\x02\x10\0\0\0F", 9, 0, refused(0, Why::Header)),
+        (b"RATR\x01\x01\0\0\x08F", 99, 0, refused(0, Why::Header)),
         (
             b"RATR\x01\x10\0\0\0W\xff\0\0\0\x02\0\x01",
             99,
             0,
-            TraceError::Refused {
-                at: 9,
-                why: Why::Cut,
-            },
+            refused(9, Why::Cut),
         ),
         (b"RATR\x01\x10\0\0\0F", 10, 1, TraceError::TooLong),
-        (
-            b"RATR\x01\x10\0\0\0F",
-            11,
-            1,
-            TraceError::Refused {
-                at: 10,
-                why: Why::Cut,
-            },
-        ),
+        (b"RATR\x01\x10\0\0\0F", 11, 1, refused(10, Why::Cut)),
         (b"RATR\x01\x10\0\0\0FFE", 10, 1, TraceError::TooLong),
     ];
     for (bytes, limit, frames, answer) in rows {

@@ -108,64 +108,68 @@ fn each_unlock_has_its_events(rt: HostRuntime) -> Result<(), OutOfMemory> {
 }
 
 // A byte that is no record stands behind the second frame.
+const CUT: &[u8] = b"RATR\x01@\0\0\0FW\x10\0\0\0\x01\0\x05F\0";
+
+const BOARD: &[u8] = b"L 2 VALUE STA:0=1::CAN:0=1::SUB:0=1::VAL:0\n";
+
+// Ids, sets and traces, and the status and the text of each explanation.
+const OTHERS: [(u32, &[u8], &[u8], u8, &[u8]); 9] = [
+    (1, b"A 1 0xH10=6\n", CUT, 7, b"trace refused at 19: kind\n"),
+    (
+        2,
+        b"A 1 0xH10=6\n",
+        b"",
+        12,
+        b"explain refused: no achievement 2\n",
+    ),
+    (2, BOARD, CUT, 12, b"explain refused: no achievement 2\n"),
+    (
+        4294967295,
+        b"",
+        b"",
+        12,
+        b"explain refused: no achievement 4294967295\n",
+    ),
+    (
+        1,
+        b"A 1 0xH10=5.3\n",
+        b"",
+        3,
+        b"set refused: syntax at 13\n",
+    ),
+    (
+        1,
+        b"A 1 0xH10=6\n",
+        b"RATR",
+        7,
+        b"trace refused at 0: header\n",
+    ),
+    (
+        1,
+        b"A 1 0xH10=6\n",
+        b"RATR\x01@\0\0\0R\0",
+        7,
+        b"trace refused at 9: empty\n",
+    ),
+    (
+        1,
+        b"A 1 0xH10=6\n",
+        b"RATR\x01@\0\0\0F",
+        7,
+        b"trace refused at 10: cut\n",
+    ),
+    (
+        1,
+        b"A 1 0xH10=6\nP\nDisplay:\nHi\n",
+        b"RATR\x01@\0\0\0FPE",
+        0,
+        b"no unlock 1\n",
+    ),
+];
+
 #[test]
 fn other_explanations_end_by_their_cause(rt: HostRuntime) -> Result<(), OutOfMemory> {
-    let cut = b"RATR\x01@\0\0\0FW\x10\0\0\0\x01\0\x05F\0";
-    let board = b"L 2 VALUE STA:0=1::CAN:0=1::SUB:0=1::VAL:0\n";
-    let rows: [(u32, &[u8], &[u8], u8, &[u8]); 9] = [
-        (1, b"A 1 0xH10=6\n", cut, 7, b"trace refused at 19: kind\n"),
-        (
-            2,
-            b"A 1 0xH10=6\n",
-            b"",
-            12,
-            b"explain refused: no achievement 2\n",
-        ),
-        (2, board, cut, 12, b"explain refused: no achievement 2\n"),
-        (
-            4294967295,
-            b"",
-            b"",
-            12,
-            b"explain refused: no achievement 4294967295\n",
-        ),
-        (
-            1,
-            b"A 1 0xH10=5.3\n",
-            b"",
-            3,
-            b"set refused: syntax at 13\n",
-        ),
-        (
-            1,
-            b"A 1 0xH10=6\n",
-            b"RATR",
-            7,
-            b"trace refused at 0: header\n",
-        ),
-        (
-            1,
-            b"A 1 0xH10=6\n",
-            b"RATR\x01@\0\0\0R\0",
-            7,
-            b"trace refused at 9: empty\n",
-        ),
-        (
-            1,
-            b"A 1 0xH10=6\n",
-            b"RATR\x01@\0\0\0F",
-            7,
-            b"trace refused at 10: cut\n",
-        ),
-        (
-            1,
-            b"A 1 0xH10=6\nP\nDisplay:\nHi\n",
-            b"RATR\x01@\0\0\0FPE",
-            0,
-            b"no unlock 1\n",
-        ),
-    ];
-    for (id, set, trace, status, text) in rows {
+    for (id, set, trace, status, text) in OTHERS {
         assert!(rt;
             explained(rt.alloc(), id, (set, trace), status, text)?,
             "{set:?} {trace:?}"
