@@ -1,3 +1,5 @@
+//! Images: what is read past the end, and what fits.
+
 ghost use Rattle.std.specs.Prelude.{◌≡◌, ◌<◌};
 
 use ra_memory::{Counted, Image, Memory, OutOfRange, Steps};

@@ -1,8 +1,11 @@
-ghost use Rattle.std.specs.Prelude.{◌≡◌, ◌<◌, length, IsTrue};
+//! Pools of nodes, by hand: docs/DEFINITIONS.md, "Trees, cells and tracked masks".
+
+ghost use Rattle.std.specs.Prelude.{◌≡◌, ◌<◌, ◌^◌, length, IfOk, IsTrue};
 ghost use Rattle.ra_indirect.specs.Pools.{MayFollow, IsValued, IsCellOf, node_at};
 
 use ra_indirect::{Node, Pool};
-use ra_operand::{Kind, Op, Size};
+use ra_operand::{Kind, Op, Size, width};
+use std::alloc::Global;
 use std::test::Fail;
 
 fn is_valued(pool: &Pool, number: u32) -> bool
@@ -18,35 +21,51 @@ fn is_valued(pool: &Pool, number: u32) -> bool
     }
 }
 
-fn is_byte_cell(pool: &Pool, number: u32) -> bool
+fn is_cell_of(pool: &Pool, number: u32, wanted: u8) -> bool
     ensures within { IsTrue result → number < length pool.now }
-    ensures cell { IsTrue result → IsCellOf 1 (node_at pool.now number) }
+    ensures cell { IsTrue result → IsCellOf wanted (node_at pool.now number) }
 {
     if number >= pool.len() {
         return false;
     }
     match pool.node(number) {
-        Node::Cell { width, .. } => width == 1,
+        Node::Cell { width, .. } => width == wanted,
         Node::Const(_) | Node::View { .. } | Node::Arith { .. } => false,
     }
 }
 
-// A node that may follow, of those that the tables have.
-fn may_follow(pool: &Pool, node: Node) -> bool
+/// A node that may follow, of those that the tables have.
+pub(crate) fn may_follow(pool: &Pool, node: Node) -> bool
     ensures { IsTrue result → MayFollow pool.now node }
 {
     match node {
         Node::Const(_) => true,
-        Node::Cell { pointer, width, .. } => width == 1 && is_valued(pool, pointer),
-        Node::View { size, cell, .. } => match size {
-            Size::Byte => is_byte_cell(pool, cell),
-            _ => false,
-        },
+        Node::Cell { pointer, width, .. } => {
+            (width == 1 || width == 2 || width == 4) && is_valued(pool, pointer)
+        }
+        Node::View { size, cell, .. } => is_cell_of(pool, cell, width(size)),
         Node::Arith { op, left, right } => match op {
             Op::Add => is_valued(pool, left) && is_valued(pool, right),
             _ => false,
         },
     }
+}
+
+/// A pool of these nodes.
+pub(crate) fn pool_of(alloc: Global, nodes: &[Node]) -> Result<Pool, Fail>
+    ensures { IfOk result (λ pool. length pool < 2 ^ 30) }
+{
+    let mut pool = Pool::new(alloc);
+    for node in nodes {
+        if pool.len() > 99_999 || !may_follow(&pool, *node) {
+            return Err(Fail::from("no pool"));
+        }
+        pool.intern(*node)?;
+    }
+    if pool.len() > 99_999 {
+        return Err(Fail::from("no pool"));
+    }
+    Ok(pool)
 }
 
 #[test]

@@ -1,79 +1,19 @@
 //! Tables over frames, from the rules.
 
-ghost use Rattle.std.specs.Prelude.{◌≡◌, ◌<◌, ◌≤◌, ◌^◌, length, IfOk, IsTrue};
-ghost use Rattle.ra_indirect.specs.Pools.{MayFollow, IsValued, IsCellOf, node_at};
+ghost use Rattle.std.specs.Prelude.{◌≤◌, ◌^◌};
 
 mod machine;
 mod reads;
 
+use crate::pools::pool_of;
 use crate::tables::machine::Machine;
-use ra_indirect::{Node, Pool};
+use ra_indirect::Node;
 use ra_memref::names_of;
-use ra_operand::{Kind, Op, Size, width};
+use ra_operand::{Kind, Op, Size};
 use std::alloc::Global;
 use std::marker::Brand;
 use std::sync::ledger::Blank;
 use std::test::Fail;
-
-fn is_valued(pool: &Pool, number: u32) -> bool
-    ensures within { IsTrue result → number < length pool.now }
-    ensures valued { IsTrue result → IsValued (node_at pool.now number) }
-{
-    if number >= pool.len() {
-        return false;
-    }
-    match pool.node(number) {
-        Node::Cell { .. } => false,
-        Node::Const(_) | Node::View { .. } | Node::Arith { .. } => true,
-    }
-}
-
-fn is_cell_of(pool: &Pool, number: u32, wanted: u8) -> bool
-    ensures within { IsTrue result → number < length pool.now }
-    ensures cell { IsTrue result → IsCellOf wanted (node_at pool.now number) }
-{
-    if number >= pool.len() {
-        return false;
-    }
-    match pool.node(number) {
-        Node::Cell { width, .. } => width == wanted,
-        Node::Const(_) | Node::View { .. } | Node::Arith { .. } => false,
-    }
-}
-
-// A node that may follow, of those that the tables have.
-fn may_follow(pool: &Pool, node: Node) -> bool
-    ensures { IsTrue result → MayFollow pool.now node }
-{
-    match node {
-        Node::Const(_) => true,
-        Node::Cell { pointer, width, .. } => {
-            (width == 1 || width == 2 || width == 4) && is_valued(pool, pointer)
-        }
-        Node::View { size, cell, .. } => is_cell_of(pool, cell, width(size)),
-        Node::Arith { op, left, right } => match op {
-            Op::Add => is_valued(pool, left) && is_valued(pool, right),
-            _ => false,
-        },
-    }
-}
-
-// A pool of these nodes.
-fn pool_of(alloc: Global, nodes: &[Node]) -> Result<Pool, Fail>
-    ensures { IfOk result (λ pool. length pool < 2 ^ 30) }
-{
-    let mut pool = Pool::new(alloc);
-    for node in nodes {
-        if pool.len() > 99_999 || !may_follow(&pool, *node) {
-            return Err(Fail::from("no pool"));
-        }
-        pool.intern(*node)?;
-    }
-    if pool.len() > 99_999 {
-        return Err(Fail::from("no pool"));
-    }
-    Ok(pool)
-}
 
 // A machine over these nodes, with a memory of so many bytes.
 fn machine_of(alloc: Global, size: u32, nodes: &[Node]) -> Result<Machine, Fail>

@@ -1,3 +1,5 @@
+//! A table beside the memory that it samples.
+
 ghost use Rattle.std.specs.Prelude.{◌≡◌, ◌<◌, ◌≤◌, ◌^◌, length, true};
 ghost use Rattle.ra_memref.specs.Table.{Agrees};
 
@@ -10,7 +12,7 @@ use std::sync::ledger::{Blank, Ledger};
 
 /// An image that also tells how often it was read.
 #[derive(Drop)]
-pub struct Tallied<'a, L: Ledger> {
+pub(crate) struct Tallied<'a, L: Ledger> {
     pub image: Counted<'a, L>,
     pub reads: u32,
 }
@@ -30,7 +32,7 @@ impl<'a, L: Ledger> Image for Tallied<'a, L> {
 
 /// A table with the memory that it samples.
 #[derive(Drop)]
-pub struct Machine {
+pub(crate) struct Machine {
     nodes: Vec<Node>,
     table: Table,
     memory: Memory,
@@ -41,7 +43,8 @@ pub struct Machine {
 }
 
 impl Machine {
-    pub fn new(alloc: Global, pool: Pool, size: u32) -> Result<Machine, OutOfMemory>
+    /// A table over a pool, and a memory of zeros.
+    pub(crate) fn new(alloc: Global, pool: Pool, size: u32) -> Result<Machine, OutOfMemory>
         requires few { length pool < 2 ^ 30 }
         requires size { size ≤ 2 ^ 27 }
     {
@@ -56,7 +59,7 @@ impl Machine {
     }
 
     /// Writes bytes and tells the table; what does not fit is left out.
-    pub fn write(&mut self, at: u32, bytes: &[u8]) {
+    pub(crate) fn write(&mut self, at: u32, bytes: &[u8]) {
         let _size = self.memory.size();
         if let Ok(()) = self.memory.write(at, bytes) {
             self.table.write(at, bytes.len() as u32);
@@ -64,7 +67,11 @@ impl Machine {
     }
 
     /// Samples the memory, and gives each node's value, 0 for a cell.
-    pub fn frame<L: Ledger>(&mut self, alloc: Global, blank: Blank) -> Result<Vec<u32>, OutOfMemory>
+    pub(crate) fn frame<L: Ledger>(
+        &mut self,
+        alloc: Global,
+        blank: Blank,
+    ) -> Result<Vec<u32>, OutOfMemory>
         requires name { blank.name ≡ L.name }
         requires parts { blank.parts ≡ L.parts }
         requires held { 0 < blank.parts }
@@ -79,7 +86,7 @@ impl Machine {
     }
 
     /// Samples the memory, and tells how often that reads it.
-    pub fn reads<L: Ledger>(&mut self, blank: Blank) -> u32
+    pub(crate) fn reads<L: Ledger>(&mut self, blank: Blank) -> u32
         requires name { blank.name ≡ L.name }
         requires parts { blank.parts ≡ L.parts }
         requires held { 0 < blank.parts }
@@ -97,7 +104,7 @@ impl Machine {
     }
 
     /// Puts the kept numbers back, where there are bytes for each.
-    pub fn put_back(&mut self, bytes: &[u8]) -> bool {
+    pub(crate) fn put_back(&mut self, bytes: &[u8]) -> bool {
         let fits = bytes.len() == 4 * (self.table.cells().len() + self.table.priors().len());
         if fits {
             self.table.put_back(bytes);
@@ -106,7 +113,7 @@ impl Machine {
     }
 
     /// Sets the kept number of a cell, where there is such a cell.
-    pub fn put_cell(&mut self, cell: u32, number: u32) -> bool {
+    pub(crate) fn put_cell(&mut self, cell: u32, number: u32) -> bool {
         let fits = (cell as usize) < self.table.cells().len();
         if fits {
             self.table.put_cell(cell, number);
@@ -115,7 +122,7 @@ impl Machine {
     }
 
     /// Sets the kept number of a tracked mask, where there is such a mask.
-    pub fn put_prior(&mut self, prior: u32, number: u32) -> bool {
+    pub(crate) fn put_prior(&mut self, prior: u32, number: u32) -> bool {
         let fits = (prior as usize) < self.table.priors().len();
         if fits {
             self.table.put_prior(prior, number);
@@ -123,15 +130,18 @@ impl Machine {
         fits
     }
 
-    pub fn cells(&self) -> &[u32] {
+    /// The kept number of each cell.
+    pub(crate) fn cells(&self) -> &[u32] {
         self.table.cells()
     }
 
-    pub fn priors(&self) -> &[u32] {
+    /// The kept number of each tracked mask.
+    pub(crate) fn priors(&self) -> &[u32] {
         self.table.priors()
     }
 
-    pub fn changed(&self) -> &[u32] {
+    /// The nodes that the last sample listed.
+    pub(crate) fn changed(&self) -> &[u32] {
         self.table.changed()
     }
 }
