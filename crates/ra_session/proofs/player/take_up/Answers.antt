@@ -18,7 +18,7 @@ returns-in-Some-clause-taken c =
     let new = c.restore.new.self in
     let accepted = subst (λ p. IfSome p (λ bytes. refusal (shape_of old.set) bytes.items ≡ None)) c.in-Some.is c.requires in
     let taken = done_by c.restore.result (refusal (shape_of old.set) c.as_slice.result.now) c.restore.ensures.ok c.restore.ensures.refused
-        (subst (λ bytes. refusal (shape_of old.set) bytes ≡ None) (sym c.as_slice.ensures.value) accepted) in
+    (subst (λ bytes. refusal (shape_of old.set) bytes ≡ None) (sym c.as_slice.ensures.value) accepted) in
     subst (λ p. TakesUpFrom (option_map (λ bytes. bytes.items) p) old new) (sym c.in-Some.is)
     (subst (TakesUp old new) c.as_slice.ensures.value taken)
 

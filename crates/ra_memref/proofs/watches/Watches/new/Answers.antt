@@ -1,7 +1,14 @@
-use Rattle.std.proofs.Common.{◌≡◌, ◌∙◌, ap, length, true, arith}
+use Rattle.std.proofs.Common.{◌≡◌, ◌∙◌, ◌*◌, [], ap, length, replicate, true, arith}
 use Rattle.std.proofs.lemmas.List.{length-replicate}
-use Rattle.ra_memref.proofs.Indexed.{standing_more, puts_of, read_at}
+use Rattle.ra_memref.specs.Watches.{pages_of}
+use Rattle.ra_memref.proofs.Indexed.{standing_more, standing_none, puts_of, read_at}
 use Rattle.ra_memref.proofs.watches.Watches.new.Goals as goal
+
+pub loop-cell-init : goal.loop-cell-init
+loop-cell-init c =
+    standing_none c.args.size c.args.widths.items c.args.places.items c.in_ok-pages.pages (c.in_ok-pages.ensures
+    ∙ ap (λ n. record { lists = replicate n []; nodes = 2 * c.len-2.result }) (c.div_ceil.ensures ∙ omega arith)
+    ∙ ap (λ n. record { lists = replicate (pages_of c.args.size) []; nodes = 2 * n }) (c.len-2.ensures ∙ c.args.places.ok.0))
 
 pub loop-cell-preserved : goal.loop-cell-preserved
 loop-cell-preserved c =
