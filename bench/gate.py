@@ -1,13 +1,14 @@
 #!/usr/bin/env python3
 """Processor minutes of a run of `rt ci`, by crate and kind of work, user and system time together.
 
-    bench/gate.py             runs `rt ci --anew` with one job and prints the table
-    bench/gate.py NAME..      the same for these crates and those below them
+    bench/gate.py             runs `rt ci` from nothing with one job and prints the table
+    bench/gate.py NAME..      the same for these crates and those below them, where the kit's `rt ci` takes names
     bench/gate.py --watch PID prints the table of a run that goes on already, from now on
 
-Proofs are those of the crates, tests those of the crates with their tests; a seed is what the edits of a crate
-begin with, and the floor is the seconds of a check in which nothing is left to prove. The times of processes are
-read four times a second, so the last moment of each is missing.
+Proofs are those of the crates, tests those of the crates with their tests; a seed is the check that the edits of a
+crate begin with, and the floor is the seconds of the cheapest check behind it, in which next to nothing is left to
+prove. RT_JOBS=N runs it with N jobs. The times of processes are read four times a second, so the last moment of each is
+missing.
 """
 
 import os
@@ -35,7 +36,9 @@ def kind_of(words):
         return crate, "tests" if "--test" in words else "proofs"
     if "check" not in words[:3]:
         return None
-    over = words[words.index("--incremental") + 1] if "--incremental" in words else ""
+    if "--incremental" not in words:
+        return crate, "proofs"
+    over = words[words.index("--incremental") + 1]
     return crate, "seeds" if over.endswith("/seed") else "edits"
 
 
@@ -79,11 +82,15 @@ def table(seen):
     commands = defaultdict(float)
     for command, work, seconds in seen.values():
         commands[command, work] += seconds
-    minutes, floors = defaultdict(float), {}
-    for (_, (crate, kind)), seconds in commands.items():
-        minutes[crate, kind] += seconds / 60
-        if kind == "seeds" and seconds > 1:
+    seeded, minutes, floors = {crate for _, (crate, kind) in commands if kind == "seeds"}, defaultdict(float), {}
+    for ((_, begun), (crate, kind)), seconds in sorted(commands.items(), key=lambda it: int(it[0][0][1])):
+        # a kit whose seeds have no folder of their own: the first edit of a crate is its seed
+        if kind == "edits" and crate not in seeded:
+            seeded.add(crate)
+            kind = "seeds"
+        elif kind in ("seeds", "edits") and seconds > 1:
             floors[crate] = min(seconds, floors.get(crate, seconds))
+        minutes[crate, kind] += seconds / 60
     crates = sorted({crate for crate, _ in minutes})
     print("| Crate | " + " | ".join(kind.capitalize() for kind in KINDS) + " | All | Floor, s |")
     print("|---|" + "---|" * (len(KINDS) + 2))
@@ -103,7 +110,9 @@ def main(words):
         table(seen)
         return 0
     environment = dict(os.environ, RT_JOBS=os.environ.get("RT_JOBS", "1"))
-    with subprocess.Popen(["rt", "ci", "--anew", *words], env=environment, stdout=subprocess.DEVNULL) as run:
+    # a kit that keeps what a run has passed has a word that leaves it aside
+    keeps = "--anew" in subprocess.run(["rt", "help"], capture_output=True, text=True, check=False).stderr
+    with subprocess.Popen(["rt", "ci", *["--anew"] * keeps, *words], env=environment, stdout=subprocess.DEVNULL) as run:
         while run.poll() is None:
             look(run.pid, seen)
             time.sleep(0.25)
