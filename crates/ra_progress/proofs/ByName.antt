@@ -1,14 +1,14 @@
 -- Values that are put by name: the last one of a name stays.
-use Rattle.std.proofs.Common.{◌≡◌, ℕ, suc, ◌+◌, ◌*◌, ◌-◌, ◌<◌, ◌≤◌, ◌==◌, true, false, if◌then◌else◌, Option, Some, List, length, map, get_or, bytes_eq, slice_index, slice_index_or, refl, sym, ◌∙◌, ap, subst, arith}
+use Rattle.std.proofs.Common.{◌≡◌, ℕ, suc, ◌+◌, ◌*◌, ◌-◌, ◌<◌, ◌≤◌, ◌==◌, true, false, if◌then◌else◌, Option, Some, List, ◌++◌, length, map, take, drop, append-nil, get_or, bytes_eq, slice_index, slice_index_or, refl, sym, ◌∙◌, ap, subst, arith}
 use Rattle.std.specs.List.{range_with_len, Contains}
-use Rattle.std.proofs.lemmas.List.{get_or-map, length-map, ext_get_or, get_or_default}
+use Rattle.std.proofs.lemmas.List.{drop_all, take_all, get_or-map, length-map, ext_get_or, get_or_default}
 use Rattle.std.proofs.lemmas.Simd.{map-map}
 use Rattle.std.proofs.lemmas.List.Elements.{Contains-get_or}
 use Rattle.std.proofs.lemmas.List.Sorted.{Contains-permutation}
 use Rattle.std.proofs.lemmas.List.FromFn.{length-range_with_len, get_or-range_with_len}
 use Rattle.std.proofs.lemmas.Slice.Eq.{bytes_eq-Decides}
 use Rattle.ra_progress.specs.Contents.{Name, ShapeContents, shape_contents}
-use Rattle.ra_words.specs.Words.{word_at}
+use Rattle.ra_words.specs.Words.{word_at, words_at}
 use Rattle.ra_progress.specs.Layout.{Numbered, version_in, name_at, numbered_at, entry_after, entries_from}
 use Rattle.ra_progress.specs.Names.{IsOrder, IsRange, IsUsable, names_of, order_in, named_by}
 use Rattle.ra_progress.specs.declared.named.Named.{Named}
@@ -124,3 +124,21 @@ pub said_by_name : (shape : ShapeContents) (bytes : List ℕ) (at : ℕ) (names 
     → (version_in bytes == 1) ≡ false → of_this_set shape bytes ≡ false
     → said_numbers shape bytes at names numbered ≡ map (λ name. last_number name numbered 0) names
 said_by_name shape bytes at names numbered other foreign = rw (other, foreign) refl
+
+-- version 1 says so many words
+pub said_in_1 : (shape : ShapeContents) (bytes : List ℕ) (at : ℕ) (names : List Name) (numbered : List Numbered)
+    → version_in bytes ≡ 1 → said_numbers shape bytes at names numbered ≡ words_at bytes at (length names)
+said_in_1 shape bytes at names numbered first = rw first refl
+
+-- a later version says the numbers in their order where the file is of the set
+pub said_by_place : (shape : ShapeContents) (bytes : List ℕ) (at : ℕ) (names : List Name) (numbered : List Numbered)
+    → (version_in bytes == 1) ≡ false → of_this_set shape bytes ≡ true
+    → said_numbers shape bytes at names numbered ≡ map (λ n. n.number) numbered
+said_by_place shape bytes at names numbered other own = rw (other, own) refl
+
+-- what was put over all of a list is all of it
+pub put_over : {A : Type 0} (n : ℕ) (new old : List A) → length new ≡ n → length old ≡ n
+    → take n (new ++ drop (length new) old) ≡ new
+put_over n new old long before =
+    ap (λ rest. take n (new ++ rest)) (drop_all (length new) old (omega (arith, long, before)))
+    ∙ ap (take n) (append-nil new) ∙ take_all n new (omega (arith, long))

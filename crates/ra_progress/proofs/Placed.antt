@@ -1,5 +1,5 @@
 -- Each place of an own entry is that of a block that is looked at, and such a block lies within the file.
-use Rattle.std.proofs.Common.{◌≡◌, ◌⊎◌, inl, inr, ℕ, zero, suc, ◌+◌, ◌-◌, ◌<◌, ◌≤◌, ◌==◌, not, true, false, if◌then◌else◌, Option, None, Some, List, [], ◌∷◌, ◌++◌, length, map, drop, find, get_or, drop-cons, bytes_eq, slice_index_or, sum_by, refl, sym, ◌∙◌, subst, arith}
+use Rattle.std.proofs.Common.{◌≡◌, ◌⊎◌, inl, inr, ℕ, zero, suc, ◌+◌, ◌-◌, ◌*◌, ◌<◌, ◌≤◌, ◌==◌, not, true, false, if◌then◌else◌, Option, None, Some, List, [], ◌∷◌, ◌++◌, length, map, drop, find, get_or, drop-cons, bytes_eq, slice_index_or, sum_by, refl, sym, ◌∙◌, subst, arith}
 use Rattle.std.specs.List.{AllByRecursion}
 use Rattle.std.proofs.lemmas.Bool.{eqb-true}
 use Rattle.std.proofs.lemmas.List.{length-map, get_or-map}
@@ -55,6 +55,28 @@ whole_layout shape bytes whole other = record {
       | true ↦ λ e. inl (eqb-true v 2 e)
       | false ↦ λ e. inr (eqb-true v 3 (sym (rw (not_1, e) refl) ∙ read))
     ] refl
+
+-- a file of this set has as many cells and priors as the set
+pub counts_of_this_set : (shape : ShapeContents) (bytes : List ℕ) → of_this_set shape bytes ≡ true
+    → (cell_count bytes ≡ length shape.cells) × (prior_count bytes ≡ length shape.priors)
+counts_of_this_set shape bytes same =
+    let digest = both_true (bytes_eq (digest_in bytes) shape.digest) _ same in
+    let cells = both_true (cell_count bytes == length shape.cells) _ digest.1 in
+    let priors = both_true (prior_count bytes == length shape.priors)
+    (have_sizes (own_entries shape) (entries_in bytes)) cells.1 in (
+      eqb-true (cell_count bytes) (length shape.cells) cells.0,
+      eqb-true (prior_count bytes) (length shape.priors) priors.0,
+    )
+
+-- the numbers of version 1 lie within the file
+pub numbers_in_1 : (shape : ShapeContents) (bytes : List ℕ) → IsWhole shape bytes → version_in bytes ≡ 1
+    → 29 + 4 * (length shape.cells + length shape.priors) ≤ length bytes
+numbers_in_1 shape bytes whole first =
+    let own : length bytes ≡ length_1_of shape = whole.as_long ∙ rw first refl in omega (arith, own)
+
+-- the names with their numbers lie within a file with a layout
+pub numbers_named : (bytes : List ℕ) → HasLayout bytes → 57 + 20 * (cell_count bytes + prior_count bytes) ≤ length bytes
+numbers_named bytes layout = omega (arith, (walk_first bytes layout).within)
 
 module _ (P : Block → Type 0) where
   place_1 : (owns : List Own) (start n at : ℕ) → AllByRecursion P (blocks_from start owns) → n < length owns

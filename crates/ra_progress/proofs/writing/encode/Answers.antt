@@ -1,4 +1,4 @@
-use Rattle.std.proofs.Common.{◌≡◌, ◌++◌, ◌∙◌, sym, ap, length, map, option_map, option_to_list, arith}
+use Rattle.std.proofs.Common.{◌≡◌, ◌++◌, ◌∙◌, sym, ap, map, option_map, option_to_list, arith}
 use Rattle.std.proofs.lemmas.List.{length-map}
 use Rattle.md5.specs.Md5.{md5}
 use Rattle.ra_progress.specs.Contents.{shape_contents, snapshot_contents, kept_item, kept_presence}

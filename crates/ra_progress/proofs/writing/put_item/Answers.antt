@@ -1,5 +1,4 @@
 use Rattle.ra_progress.proofs.Written.{achievement_short, board_short}
-use Rattle.ra_progress.specs.Writing.{FitsShort}
 use Rattle.ra_progress.proofs.writing.put_item.Goals as goal
 
 pub state_byte-state-requires : goal.state_byte-state-requires
