@@ -1,5 +1,5 @@
 -- What clap reads of `explain SET TRACE ID`.
-use Rattle.std.proofs.Common.{ℕ, ◌≡◌, List, [], ◌∷◌, codes, Some, option_map, true, false, refl, ◌==◌}
+use Rattle.std.proofs.Common.{ℕ, ◌≡◌, List, [], ◌∷◌, codes, option_map, true, false, refl, ◌==◌}
 use Rattle.clap.specs.Words.{takes}
 use Rattle.clap.proofs.OnLiterals.{clap_on_literals}
 use Rattle.ra_jobs.specs.Words.{Explain}
