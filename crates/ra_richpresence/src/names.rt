@@ -56,5 +56,5 @@ fn take_name_byte(cursor: &mut Cursor<'_>) -> Result<u8, Stop>
 fn is_name_byte(byte: u8) -> bool
     ensures { result ≡ is_in name_byte byte }
 {
-    !matches!(byte, b'(' | b')' | b'@' | b'\\')
+    byte != b'(' && byte != b')' && byte != b'@' && byte != b'\\'
 }
