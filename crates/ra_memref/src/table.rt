@@ -54,7 +54,7 @@ impl Table {
         requires few { length pool < 2 ^ 30 }
         ensures { IfOk result (IsFresh pool size) }
     {
-        let nodes = nodes_of(alloc, &pool)?;
+        let nodes = taken_from(alloc, pool)?;
         let layout = lay_out(alloc, &nodes)?;
         let widths = widths_of(alloc, &nodes)?;
         let watches = Watches::new(alloc, size, layout.places, widths)?;
@@ -198,6 +198,14 @@ impl Table {
         self.agenda.all = true;
         self.sampled = false;
     }
+}
+
+// The nodes of a pool, which is given up.
+fn taken_from(alloc: Global, pool: Pool) -> Result<Vec<Node>, OutOfMemory>
+    ensures nodes { IfOk result (λ nodes. nodes.items ≡ pool) }
+    ensures pool { IsPool pool }
+{
+    nodes_of(alloc, &pool)
 }
 
 /// The nodes of a pool, in order. Memory is the only refusal.
