@@ -211,12 +211,11 @@ fn run_command<'a>(alloc: Global) -> Result<Command<'a>, AllocError>
     ensures app { IfOk result (λ c. app_of c ≡ run_app) }
     ensures local { IfOk result (λ c. (out-Command c).has_globals ≡ false) }
 {
-    let run = Command::new(alloc, "run")
+    Command::new(alloc, "run")
         .arg(required(alloc, "SET"))?
         .arg(required(alloc, "TRACE"))?
         .arg(optional(alloc, "restore"))?
-        .arg(optional(alloc, "save"))?;
-    Ok(run)
+        .arg(optional(alloc, "save"))
 }
 
 // A command with one word behind its name.
@@ -224,8 +223,7 @@ fn short_command<'a>(alloc: Global, name: &'a str, id: &'a str) -> Result<Comman
     ensures app { IfOk result (λ c. app_of c ≡ short_app name.entry.now id.entry.now) }
     ensures local { IfOk result (λ c. (out-Command c).has_globals ≡ false) }
 {
-    let command = Command::new(alloc, name).arg(required(alloc, id))?;
-    Ok(command)
+    Command::new(alloc, name).arg(required(alloc, id))
 }
 
 // A command with two words behind its name.
@@ -238,10 +236,9 @@ fn pair_command<'a>(
     ensures app { IfOk result (λ c. app_of c ≡ pair_app name.entry.now first.entry.now second.entry.now) }
     ensures local { IfOk result (λ c. (out-Command c).has_globals ≡ false) }
 {
-    let command = Command::new(alloc, name)
+    Command::new(alloc, name)
         .arg(required(alloc, first))?
-        .arg(required(alloc, second))?;
-    Ok(command)
+        .arg(required(alloc, second))
 }
 
 // `explain SET TRACE ID`.
@@ -249,11 +246,10 @@ fn explain_command<'a>(alloc: Global) -> Result<Command<'a>, AllocError>
     ensures app { IfOk result (λ c. app_of c ≡ explain_app) }
     ensures local { IfOk result (λ c. (out-Command c).has_globals ≡ false) }
 {
-    let command = Command::new(alloc, "explain")
+    Command::new(alloc, "explain")
         .arg(required(alloc, "SET"))?
         .arg(required(alloc, "TRACE"))?
-        .arg(required(alloc, "ID"))?;
-    Ok(command)
+        .arg(required(alloc, "ID"))
 }
 
 // A command with the job `run` more.
@@ -261,8 +257,7 @@ fn with_run<'a>(alloc: Global, command: Command<'a>) -> Result<Command<'a>, Allo
     ensures { IfOk result (λ c. app_of c ≡ with_subcommand (app_of command.entry) run_app.top) }
 {
     let run = run_command(alloc)?;
-    let joined = command.subcommand(run)?;
-    Ok(joined)
+    command.subcommand(run)
 }
 
 // A command with a job of one word more.
@@ -275,8 +270,7 @@ fn with_short<'a>(
     ensures { IfOk result (λ c. app_of c ≡ with_subcommand (app_of command.entry) (short_app name.entry.now id.entry.now).top) }
 {
     let short = short_command(alloc, name, id)?;
-    let joined = command.subcommand(short)?;
-    Ok(joined)
+    command.subcommand(short)
 }
 
 // A command with a job of two words more.
@@ -290,8 +284,7 @@ fn with_pair<'a>(
     ensures { IfOk result (λ c. app_of c ≡ with_subcommand (app_of command.entry) (pair_app name.entry.now first.entry.now second.entry.now).top) }
 {
     let pair = pair_command(alloc, name, first, second)?;
-    let joined = command.subcommand(pair)?;
-    Ok(joined)
+    command.subcommand(pair)
 }
 
 // A command with the job `explain` more.
@@ -299,8 +292,7 @@ fn with_explain<'a>(alloc: Global, command: Command<'a>) -> Result<Command<'a>, 
     ensures { IfOk result (λ c. app_of c ≡ with_subcommand (app_of command.entry) explain_app.top) }
 {
     let explain = explain_command(alloc)?;
-    let joined = command.subcommand(explain)?;
-    Ok(joined)
+    command.subcommand(explain)
 }
 
 // The command with its jobs. The words begin with the name of a job.
@@ -314,8 +306,7 @@ fn player_command<'a>(alloc: Global) -> Result<Command<'a>, AllocError>
     let import = with_pair(alloc, make, "import", "FILE", "SET")?;
     let lint = with_short(alloc, import, "lint", "SET")?;
     let normal = with_pair(alloc, lint, "normal", "SET", "OUT")?;
-    let explain = with_explain(alloc, normal)?;
-    Ok(explain)
+    with_explain(alloc, normal)
 }
 
 // What clap reads of the words.

@@ -1,8 +1,10 @@
 use Rattle.std.proofs.Common.{ap, ◌∙◌}
+use Rattle.std.proofs.lemmas.Result.{IfOk-weaker}
 use Rattle.clap.specs.Words.{App, app_of, with_subcommand}
 use Rattle.ra_jobs.proofs.job_words.with_short.Goals as goal
 
 pub returns : goal.returns
 returns c =
-    c.in_ok-joined.ensures.shape c.in_ok-short.ensures.local
-    ∙ ap (λ (a : App). with_subcommand (app_of c.args.command) a.top) c.in_ok-short.ensures.app
+    IfOk-weaker c.subcommand.result _ _
+    (λ new adds. adds.shape c.in_ok-short.ensures.local ∙ ap (λ (a : App). with_subcommand (app_of c.args.command) a.top) c.in_ok-short.ensures.app)
+    c.subcommand.ensures
