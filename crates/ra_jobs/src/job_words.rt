@@ -256,8 +256,13 @@ fn explain_command<'a>(alloc: Global) -> Result<Command<'a>, AllocError>
 fn with_run<'a>(alloc: Global, command: Command<'a>) -> Result<Command<'a>, AllocError>
     ensures { IfOk result (λ c. app_of c ≡ with_subcommand (app_of command.entry) run_app.top) }
 {
-    let run = run_command(alloc)?;
-    command.subcommand(run)
+    match run_command(alloc) {
+        Ok(run) => command.subcommand(run),
+        Err(failed) => {
+            drop(command);
+            Err(failed)
+        }
+    }
 }
 
 // A command with a job of one word more.
@@ -269,8 +274,13 @@ fn with_short<'a>(
 ) -> Result<Command<'a>, AllocError>
     ensures { IfOk result (λ c. app_of c ≡ with_subcommand (app_of command.entry) (short_app name.entry.now id.entry.now).top) }
 {
-    let short = short_command(alloc, name, id)?;
-    command.subcommand(short)
+    match short_command(alloc, name, id) {
+        Ok(short) => command.subcommand(short),
+        Err(failed) => {
+            drop(command);
+            Err(failed)
+        }
+    }
 }
 
 // A command with a job of two words more.
@@ -283,16 +293,26 @@ fn with_pair<'a>(
 ) -> Result<Command<'a>, AllocError>
     ensures { IfOk result (λ c. app_of c ≡ with_subcommand (app_of command.entry) (pair_app name.entry.now first.entry.now second.entry.now).top) }
 {
-    let pair = pair_command(alloc, name, first, second)?;
-    command.subcommand(pair)
+    match pair_command(alloc, name, first, second) {
+        Ok(pair) => command.subcommand(pair),
+        Err(failed) => {
+            drop(command);
+            Err(failed)
+        }
+    }
 }
 
 // A command with the job `explain` more.
 fn with_explain<'a>(alloc: Global, command: Command<'a>) -> Result<Command<'a>, AllocError>
     ensures { IfOk result (λ c. app_of c ≡ with_subcommand (app_of command.entry) explain_app.top) }
 {
-    let explain = explain_command(alloc)?;
-    command.subcommand(explain)
+    match explain_command(alloc) {
+        Ok(explain) => command.subcommand(explain),
+        Err(failed) => {
+            drop(command);
+            Err(failed)
+        }
+    }
 }
 
 // The command with its jobs. The words begin with the name of a job.
