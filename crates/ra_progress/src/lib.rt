@@ -6,6 +6,7 @@
 
 mod checking;
 mod entries;
+mod entry_blocks;
 mod entry_places;
 mod hex;
 mod laws;
@@ -27,6 +28,9 @@ mod states;
 mod writing;
 
 pub use checking::check;
+pub use entry_blocks::{
+    AchievementBlock, BoardBlock, PresenceBlock, achievement_block, board_block, presence_block,
+};
 pub use hex::Hex;
 pub use laws::both_ways;
 pub use layout::{cell_count, entry_after, entry_count, first_entry, prior_count};

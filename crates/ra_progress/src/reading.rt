@@ -7,12 +7,13 @@ ghost use Rattle.ra_progress.specs.Names.{IsUsable};
 ghost use Rattle.ra_progress.specs.Reading.{IsAccepted};
 ghost use Rattle.ra_progress.specs.Saying as spec;
 
+use crate::entry_blocks::{achievement_block, board_block, presence_block};
 use crate::places::frames_at;
 use crate::said::Said;
 use crate::shape::{ItemShape, PresenceShape, Shape};
 use crate::snapshot::{ItemKept, PresenceKept, Snapshot};
 use ra_text::OutOfMemory;
-use ra_words::{word_at, words_at};
+use ra_words::words_at;
 use std::alloc::Global;
 
 /// The snapshot that bytes say which `check` accepts: docs/DEFINITIONS.md, "Progress file".
@@ -79,19 +80,24 @@ fn said_item(alloc: Global, bytes: &[u8], item: ItemShape, at: u64) -> Result<It
     requires within { at + layout.item_length item ≤ length_of_list bytes.now }
     ensures { IfOk result (λ kept. kept_item kept ≡ spec.said_item bytes.now item at) }
 {
-    let byte = bytes[at as usize];
     match item {
-        ItemShape::Achievement { hits } => Ok(ItemKept::Achievement {
-            state: state_said(bytes[4], byte),
-            measured: word_at(bytes, at + 1),
-            hits: words_at(alloc, bytes, at + 5, hits)?,
-            earned: is_earned(bytes[4], byte),
-        }),
-        ItemShape::Leaderboard { hits, parts } => Ok(ItemKept::Leaderboard {
-            state: byte,
-            hits: words_at(alloc, bytes, at + 1, hits)?,
-            kept: words_at(alloc, bytes, at + 1 + 4 * u64::from(hits), parts)?,
-        }),
+        ItemShape::Achievement { hits } => {
+            let block = achievement_block(bytes, at);
+            Ok(ItemKept::Achievement {
+                state: block.state,
+                measured: block.measured,
+                hits: words_at(alloc, bytes, block.hits, hits)?,
+                earned: block.earned,
+            })
+        }
+        ItemShape::Leaderboard { hits, parts } => {
+            let block = board_block(bytes, at, u64::from(hits));
+            Ok(ItemKept::Leaderboard {
+                state: block.state,
+                hits: words_at(alloc, bytes, block.hits, hits)?,
+                kept: words_at(alloc, bytes, block.numbers, parts)?,
+            })
+        }
     }
 }
 
@@ -164,11 +170,14 @@ fn presence_or_plain(
     ensures { IfOk result (λ kept. kept_presence kept ≡ spec.said_or (spec.said_presence bytes.now p) (plain_presence p) place) }
 {
     match place {
-        Some(at) => Ok(PresenceKept {
-            shown: word_at(bytes, at),
-            hits: words_at(alloc, bytes, at + 4, p.hits)?,
-            kept: words_at(alloc, bytes, at + 4 + 4 * u64::from(p.hits), p.parts)?,
-        }),
+        Some(at) => {
+            let block = presence_block(bytes, at, p.hits);
+            Ok(PresenceKept {
+                shown: block.shown,
+                hits: words_at(alloc, bytes, block.hits, p.hits)?,
+                kept: words_at(alloc, bytes, block.numbers, p.parts)?,
+            })
+        }
         None => Ok(PresenceKept {
             shown: p.lines.saturating_sub(1),
             hits: vec![in alloc; 0; p.hits as usize]?,
