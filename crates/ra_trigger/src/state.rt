@@ -17,7 +17,33 @@ pub enum State {
 
 impl State {
     ghost use Rattle.std.specs.Prelude.{◌≡◌};
-    ghost use Rattle.ra_trigger.specs.States.{state_after, is_cleared};
+    ghost use Rattle.ra_trigger.specs.States.{state_after, state_byte, state_of, is_cleared};
+
+    /// The byte that stands for the state: docs/DEFINITIONS.md, "Achievement states".
+    pub fn byte(self) -> u8
+        ensures { result ≡ state_byte self }
+    {
+        match self {
+            State::Waiting => 0,
+            State::Active => 1,
+            State::Paused => 2,
+            State::Primed => 3,
+            State::Triggered => 4,
+        }
+    }
+
+    /// The state that a byte stands for; every byte from 4 on stands for `Triggered`.
+    pub fn of_byte(byte: u8) -> State
+        ensures { result ≡ state_of byte }
+    {
+        match byte {
+            0 => State::Waiting,
+            1 => State::Active,
+            2 => State::Paused,
+            3 => State::Primed,
+            _ => State::Triggered,
+        }
+    }
 
     /// The state after a frame.
     pub(crate) fn after(self, now: &Verdict) -> Self
