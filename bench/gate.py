@@ -4,6 +4,10 @@
     bench/gate.py             runs `rt ci` from nothing with one job and prints the table
     bench/gate.py NAME..      the same for these crates and those below them, where the kit's `rt ci` takes names
     bench/gate.py --watch PID prints the table of a run that goes on already, from now on
+    bench/gate.py --join FILE.. prints one table of those that these files hold, the oldest first
+
+A kit that keeps what a run has passed needs several runs for one table: where a later one proves a crate anew its row takes
+the place of the older one, and else it is added to that, since a run may end before it has tried every edit.
 
 Proofs are those of the crates, tests those of the crates with their tests; a seed is the check that the edits of a
 crate begin with, and the floor is the seconds of the cheapest check behind it, in which next to nothing is left to
@@ -78,7 +82,8 @@ def look(top, seen):
         seen[key][2] = max(seen[key][2], seconds)
 
 
-def table(seen):
+def figures(seen):
+    """The processor minutes of each crate and kind, and the floor of each crate, of what was seen of a run."""
     commands = defaultdict(float)
     for command, work, seconds in seen.values():
         commands[command, work] += seconds
@@ -91,6 +96,34 @@ def table(seen):
         elif kind in ("seeds", "edits") and seconds > 1:
             floors[crate] = min(seconds, floors.get(crate, seconds))
         minutes[crate, kind] += seconds / 60
+    return minutes, floors
+
+
+def figures_in(text):
+    """The same of a table that was printed."""
+    minutes, floors = defaultdict(float), {}
+    for cells in (re.split(r" *\| *", line.strip())[1:-1] for line in text.splitlines() if line.startswith("| ra_")):
+        for kind, cell in zip(KINDS, cells[1:]):
+            minutes[cells[0], kind] += float(cell or 0)
+        if cells[6]:
+            floors[cells[0]] = float(cells[6])
+    return minutes, floors
+
+
+def joined(tables):
+    """One of several tables, the oldest first."""
+    minutes, floors = defaultdict(float), {}
+    for newer, newer_floors in tables:
+        anew = {crate for (crate, kind), it in newer.items() if kind == "proofs" and it > 0}
+        for key in [it for it in minutes if it[0] in anew]:
+            del minutes[key]
+        for key, it in newer.items():
+            minutes[key] += it
+        floors.update(newer_floors)
+    return minutes, floors
+
+
+def table(minutes, floors):
     crates = sorted({crate for crate, _ in minutes})
     print("| Crate | " + " | ".join(kind.capitalize() for kind in KINDS) + " | All | Floor, s |")
     print("|---|" + "---|" * (len(KINDS) + 2))
@@ -107,7 +140,14 @@ def main(words):
         while os.path.exists(f"/proc/{top}"):
             look(top, seen)
             time.sleep(0.25)
-        table(seen)
+        table(*figures(seen))
+        return 0
+    if words[:1] == ["--join"]:
+        texts = []
+        for name in words[1:]:
+            with open(name, encoding="utf-8") as file:
+                texts.append(file.read())
+        table(*joined(map(figures_in, texts)))
         return 0
     environment = dict(os.environ, RT_JOBS=os.environ.get("RT_JOBS", "1"))
     # a kit that keeps what a run has passed has a word that leaves it aside
@@ -116,7 +156,7 @@ def main(words):
         while run.poll() is None:
             look(run.pid, seen)
             time.sleep(0.25)
-        table(seen)
+        table(*figures(seen))
         return run.returncode
 
 
