@@ -9,7 +9,7 @@ ghost use Rattle.ra_display.specs.PresenceBack.{HasDisplay, PutsBackDisplay, Put
 
 use crate::presence_run::PresenceRun;
 use ra_member::{Member, Places};
-use ra_progress::{PresenceShape, word_at};
+use ra_progress::{PresenceShape, presence_block};
 
 // Puts back what the bytes say of the display, if there is one.
 pub fn put_back_presence(
@@ -35,10 +35,10 @@ fn put_back_display(run: &mut PresenceRun, shape: &PresenceShape, bytes: &[u8], 
 {
     match place {
         Some(at) => {
-            let at = at as usize;
-            run.shown = word_at(bytes, at as u64);
-            let hits = at + 4;
-            let numbers = hits + 4 * shape.hits as usize;
+            let block = presence_block(bytes, at, shape.hits);
+            run.shown = block.shown;
+            let hits = block.hits as usize;
+            let numbers = block.numbers as usize;
             put_back_lines(&mut run.lines, bytes, Places { hits, numbers });
         }
         None => {

@@ -19,7 +19,8 @@ put_back_lines-requires-clause-hits c =
     let has : HasDisplay c.args.bytes.now (Some c.in-Some.at) c.args.shape.now = subst (λ (place : Option ℕ). HasDisplay c.args.bytes.now place c.args.shape.now) c.in-Some.is c.requires.block in
     let shape = ap (λ (s : PresenceShape). s.hits) c.requires.shape in
     let same = ap (λ runs. length (hits_of_lines runs)) c.deref_mut.ensures.value in
-    omega (arith, has.0.1, shape, ap length (lines_hits run.lines.items), same)
+    let said = c.presence_block-block.ensures in
+    omega (arith, has.0.1, shape, ap length (lines_hits run.lines.items), same, said.hits)
 
 pub put_back_lines-requires-clause-numbers : goal.put_back_lines-requires-clause-numbers
 put_back_lines-requires-clause-numbers c =
@@ -27,7 +28,8 @@ put_back_lines-requires-clause-numbers c =
     let has : HasDisplay c.args.bytes.now (Some c.in-Some.at) c.args.shape.now = subst (λ (place : Option ℕ). HasDisplay c.args.bytes.now place c.args.shape.now) c.in-Some.is c.requires.block in
     let shape = ap (λ (s : PresenceShape). s.parts) c.requires.shape in
     let same = ap (λ runs. length (numbers_of_lines runs)) c.deref_mut.ensures.value in
-    omega (arith, has.0.1, shape, ap length (lines_numbers run.lines.items), same)
+    let said = c.presence_block-block.ensures in
+    omega (arith, has.0.1, shape, ap length (lines_numbers run.lines.items), same, said.numbers)
 
 pub returns-in-Some : goal.returns-in-Some
 returns-in-Some c =
@@ -37,16 +39,17 @@ returns-in-Some c =
     let hits = at + 4 in
     let numbers = at + 4 + 4 * c.args.shape.now.hits in
     let news = c.put_back_lines.new.lines in
-    let new : PresenceRun = record { lines = with_items old.lines news; shown = c.word_at-run.result } in
+    let new : PresenceRun = record { lines = with_items old.lines news; shown = c.presence_block-block.result.shown } in
     let has : HasDisplay bytes (Some at) c.args.shape.now = subst (λ (place : Option ℕ). HasDisplay bytes place c.args.shape.now) c.in-Some.is c.requires.block in
     let same : new.lines.items ≡ news = with_items_is old.lines news (c.put_back_lines.auto.lines ∙ c.deref_mut.ensures.len) in
     let e = c.put_back_lines.ensures in
     let stay : StayLines old.lines.items new.lines.items = subst (λ (olds : List Member). StayLines olds new.lines.items) c.deref_mut.ensures.value (subst (λ (runs : List Member). StayLines c.deref_mut.result.now runs) (sym same) e.stay) in
-    let all_hits = ap hits_of_lines same ∙ rw c.deref_mut.ensures.value at e.hits in
-    let all_numbers = ap numbers_of_lines same ∙ rw c.deref_mut.ensures.value at e.numbers in
+    let said = c.presence_block-block.ensures in
+    let all_hits = ap hits_of_lines same ∙ rw c.deref_mut.ensures.value at (rw said.hits at e.hits) in
+    let all_numbers = ap numbers_of_lines same ∙ rw c.deref_mut.ensures.value at (rw said.numbers at e.numbers) in
     let within : word_at bytes at < length old.lines.items = omega (arith, has.1, ap (λ (s : PresenceShape). s.lines) c.requires.shape) in
     subst (λ (place : Option ℕ). PutsBackDisplay bytes place old new) (sym c.in-Some.is)
-    (display_back bytes at hits numbers old new c.word_at-run.ensures within stay all_hits all_numbers refl (ap (λ (s : PresenceShape). at + 4 + 4 * s.hits) c.requires.shape))
+    (display_back bytes at hits numbers old new c.presence_block-block.ensures.shown within stay all_hits all_numbers refl (ap (λ (s : PresenceShape). at + 4 + 4 * s.hits) c.requires.shape))
 
 pub returns-in-None : goal.returns-in-None
 returns-in-None c =
