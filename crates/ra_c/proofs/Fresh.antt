@@ -13,13 +13,13 @@ use Rattle.ra_set.specs.Texts.{item_texts, script_text}
 use Rattle.ra_progress.specs.Layout.{length_of}
 use Rattle.ra_progress.specs.Names.{IsName}
 use Rattle.ra_progress.specs.Reading.{refusal}
-use Rattle.ra_runtime.specs.Openings.{plain_opening}
-use Rattle.ra_runtime.specs.OpeningLaws.{HasDigests}
+use Rattle.ra_meaning.specs.Openings.{plain_opening}
+use Rattle.ra_meaning.specs.OpeningLaws.{HasDigests}
 use Rattle.ra_progress.specs.Spelling.{progress_bytes}
-use Rattle.ra_runtime.specs.Runtime.{RuntimeSeen, IsMade}
-use Rattle.ra_runtime.specs.Order.{shape_of}
-use Rattle.ra_runtime.proofs.Digests.{md5_bytes}
-use Rattle.ra_runtime.proofs.Snapshots.{is_shape, opening_comes_back, plain_is_opening}
+use Rattle.ra_meaning.specs.Runtime.{RuntimeSeen, IsMade}
+use Rattle.ra_meaning.specs.Order.{shape_of}
+use Rattle.ra_meaning.proofs.Digests.{md5_bytes}
+use Rattle.ra_meaning.proofs.Snapshots.{is_shape, opening_comes_back, plain_is_opening}
 use Rattle.ra_c.specs.Answers.{IsFirst, IsSaveOf}
 
 -- a digest is sixteen bytes

@@ -6,7 +6,7 @@ use Rattle.std.specs.declared.result.Result.TheVariants.{Ok, Err}
 use Rattle.std.proofs.lemmas.List.{length-replicate}
 use Rattle.ra_memory.proofs.Written.{length-written}
 use Rattle.ra_condition.specs.Contents.{TriggerContents}
-use Rattle.ra_runtime.specs.Runtime.{RuntimeSeen}
+use Rattle.ra_meaning.specs.Runtime.{RuntimeSeen}
 use Rattle.ra_explain.specs.Recorders.{RecorderSeen}
 use Rattle.ra_c.specs.Answers.{Calls, Gives}
 use Rattle.ra_c.specs.Games.{GameSeen}

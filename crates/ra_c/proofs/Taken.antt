@@ -7,11 +7,11 @@ use Rattle.std.specs.Prelude.{not, ◌==◌, None, Some, OnOk, OnErr, IfOk, IfEr
 use Rattle.std.specs.declared.result.Result.{Result}
 use Rattle.std.specs.declared.result.Result.TheVariants.{Ok, Err}
 use Rattle.ra_memory.specs.Image.{written}
-use Rattle.ra_runtime.specs.Runtime.{RuntimeSeen, IsWritten, TakesUp}
+use Rattle.ra_meaning.specs.Runtime.{RuntimeSeen, IsWritten, TakesUp}
 use Rattle.ra_set.specs.Contents.{SetContents}
 use Rattle.ra_progress.specs.Reading.{refusal}
 use Rattle.ra_progress.specs.declared.refused.ProgressRefused.{ProgressRefused}
-use Rattle.ra_runtime.specs.Order.{shape_of}
+use Rattle.ra_meaning.specs.Order.{shape_of}
 use Rattle.ra_c.specs.declared.held.Held.TheInside.{Inside}
 use Rattle.ra_c.specs.Answers.{BeginsAgain, IsFirst, IsSeen}
 use Rattle.ra_c.specs.Views.{IsHeld}

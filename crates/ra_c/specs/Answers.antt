@@ -8,9 +8,9 @@ use Rattle.ra_set.specs.declared.refused.SetRefused.{SetRefused}
 use Rattle.ra_progress.specs.Reading.{refusal}
 use Rattle.ra_progress.specs.Spelling.{progress_bytes}
 use Rattle.ra_progress.specs.declared.refused.ProgressRefused.{ProgressRefused}
-use Rattle.ra_runtime.specs.Openings.{plain_opening}
-use Rattle.ra_runtime.specs.Order.{shape_of}
-use Rattle.ra_runtime.specs.Runtime.{RuntimeSeen, IsMade, IsWritten, ShowsKept, TakesFrame, TakesUp}
+use Rattle.ra_meaning.specs.Openings.{plain_opening}
+use Rattle.ra_meaning.specs.Order.{shape_of}
+use Rattle.ra_meaning.specs.Runtime.{RuntimeSeen, IsMade, IsWritten, ShowsKept, TakesFrame, TakesUp}
 use Rattle.ra_c.specs.Codes.{done, memory, no_progress, out_of_range, no_room, empty}
 use Rattle.ra_c.specs.Reasons.{progress_reason, set_reason}
 use Rattle.ra_c.specs.ToldEvents.{told_event}

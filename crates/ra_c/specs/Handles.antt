@@ -1,6 +1,6 @@
 -- What a handle holds: docs/DEFINITIONS.md, "Calls from C".
 use Rattle.std.specs.Prelude.{Option, None, Some, option_map}
-use Rattle.ra_runtime.specs.Runtime.{RuntimeSeen}
+use Rattle.ra_meaning.specs.Runtime.{RuntimeSeen}
 use Rattle.ra_explain.specs.Recorders.{RecorderSeen}
 use Rattle.ra_c.specs.Games.{GameSeen}
 use Rattle.ra_c.specs.declared.handle.Handle.{Handle}

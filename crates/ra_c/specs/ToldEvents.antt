@@ -1,7 +1,7 @@
 -- Events as C reads them: docs/DEFINITIONS.md, "Calls from C".
 use Rattle.std.specs.Prelude.{ℕ, ℤ, pos}
-use Rattle.ra_runtime.specs.declared.event.Event.{Event}
-use Rattle.ra_runtime.specs.declared.event.Event.TheVariants.{Measured, Primed, Unprimed, Unlock, Start, Track, Cancel, Submit}
+use Rattle.ra_meaning.specs.declared.event.Event.{Event}
+use Rattle.ra_meaning.specs.declared.event.Event.TheVariants.{Measured, Primed, Unprimed, Unlock, Start, Track, Cancel, Submit}
 use Rattle.ra_c.specs.declared.told_event.ToldEvent.{ToldEvent}
 
 -- an event of this kind, with the item and the number that is told

@@ -1,8 +1,8 @@
 -- What a held runtime is seen as, by its fields.
 use Rattle.std.specs.Prelude.{◌≡◌, None}
 use Rattle.ra_progress.specs.Reading.{refusal}
-use Rattle.ra_runtime.specs.Order.{shape_of}
-use Rattle.ra_runtime.specs.Runtime.{RuntimeSeen}
+use Rattle.ra_meaning.specs.Order.{shape_of}
+use Rattle.ra_meaning.specs.Runtime.{RuntimeSeen}
 use Rattle.ra_c.specs.Answers.{IsFirst}
 use Rattle.ra_c.specs.declared.held.Held.TheInside.{Inside}
 

@@ -1,6 +1,6 @@
 ghost use Rattle.std.specs.Prelude.{◌≡◌, ◌⊎◌, ◌≤◌, ◌^◌, true, None, Some, IsSomeAnd, IfOk, IfErr, OnOk, OnErr};
 ghost use Rattle.ra_set.specs.Refusals.{Refuses};
-ghost use Rattle.ra_runtime.specs.Runtime.{TakesFrame};
+ghost use Rattle.ra_meaning.specs.Runtime.{TakesFrame};
 
 use crate::choosing::find_trigger;
 use crate::codes::{DONE, MEMORY, RANGE};

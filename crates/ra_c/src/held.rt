@@ -2,8 +2,8 @@ ghost use Rattle.std.specs.Prelude.{◌≡◌, ◌⊎◌, ◌↔◌, true, ◌+�
 ghost use Rattle.ra_memory.specs.Image.{written};
 ghost use Rattle.ra_set.specs.Refusals.{Refuses};
 ghost use Rattle.ra_progress.specs.Layout.{length_of};
-ghost use Rattle.ra_runtime.specs.Order.{shape_of};
-ghost use Rattle.ra_runtime.specs.Runtime.{IsWritten, TakesFrame};
+ghost use Rattle.ra_meaning.specs.Order.{shape_of};
+ghost use Rattle.ra_meaning.specs.Runtime.{IsWritten, TakesFrame};
 
 use crate::codes::{DONE, RANGE};
 use crate::told_event::ToldEvent;
@@ -28,7 +28,7 @@ pub struct Held {
 }
 
 impl Model for Held {
-    ghost use Rattle.ra_runtime.specs.Runtime.{RuntimeSeen};
+    ghost use Rattle.ra_meaning.specs.Runtime.{RuntimeSeen};
 
     ghost Value = { RuntimeSeen };
 

@@ -1,7 +1,7 @@
 -- A write, and then a frame.
 use Rattle.std.proofs.Common.{ap, subst, ◌∙◌, ◌≤◌, ◌+◌, ℕ, List, length}
 use Rattle.ra_memory.proofs.Written.{length-written}
-use Rattle.ra_runtime.specs.Runtime.{RuntimeSeen, IsWritten, TakesFrame}
+use Rattle.ra_meaning.specs.Runtime.{RuntimeSeen, IsWritten, TakesFrame}
 use Rattle.ra_embed.specs.Embedding.{PlaysFrame}
 
 -- a frame behind a write goes on over the written image

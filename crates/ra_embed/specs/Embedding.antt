@@ -4,11 +4,11 @@ use Rattle.ra_memory.specs.Image.{History, AreImages, written}
 use Rattle.ra_progress.specs.Contents.{Opening, IsOpening}
 use Rattle.ra_progress.specs.Spelling.{progress_bytes}
 use Rattle.ra_set.specs.Accepted.{IsSet}
-use Rattle.ra_runtime.specs.Earned.{earned_in}
-use Rattle.ra_runtime.specs.Order.{shape_of}
-use Rattle.ra_runtime.specs.declared.event.Event.{Event}
-use Rattle.ra_runtime.specs.Play.{events, lines, earns}
-use Rattle.ra_runtime.specs.Runtime.{RuntimeSeen, IsMade, ShowsKept, StandsAfter}
+use Rattle.ra_meaning.specs.Earned.{earned_in}
+use Rattle.ra_meaning.specs.Order.{shape_of}
+use Rattle.ra_meaning.specs.declared.event.Event.{Event}
+use Rattle.ra_meaning.specs.Play.{events, lines, earns}
+use Rattle.ra_meaning.specs.Runtime.{RuntimeSeen, IsMade, ShowsKept, StandsAfter}
 
 -- the text spells a set, and this is its runtime before the first frame
 pub record IsLoaded (text : List ℕ) (size : ℕ) (runtime : RuntimeSeen) : Type 0 where

@@ -6,7 +6,7 @@ use Rattle.std.proofs.lemmas.Option.{none-some}
 use Rattle.ra_condition.specs.Contents.{TriggerContents}
 use Rattle.ra_memory.specs.Image.{History, written}
 use Rattle.ra_trace.specs.Entries.{Entry, Written, Framed, Saved, Restored, Shown}
-use Rattle.ra_runtime.specs.Play.{Moment, moved, kept_in}
+use Rattle.ra_meaning.specs.Play.{Moment, moved, kept_in}
 use Rattle.ra_explain.specs.Recorders.{RecorderSeen, StandsFor, Stands, SlotStands, IsFilled, KeepsHistories, KeepsSlots, KeepsOtherSlots, IsWritten, TakesFrame, RefusesFrame, IsSaved, IsRestored, TakesUpSlot, unlocks_at, most_rows, product_of}
 use Rattle.ra_explain.specs.declared.refused.ExplainRefused.TheVariants.{Rows}
 use Rattle.ra_session.specs.Explaining.{Reason, Decided, AtUnlock, AtRows, decided_from, rows_with}

@@ -15,9 +15,9 @@ use Rattle.ra_set.proofs.AnswerLemmas.{one-refusal, set-not_refused, same-set}
 use Rattle.ra_trace.specs.declared.error.TraceError.TheVariants as errors
 use Rattle.ra_trace.specs.Cutting.{Stop, Reached, RefusedAt, PastLimit}
 use Rattle.ra_trace.specs.Entries.{Entry, Written, Framed, Saved, Restored, Shown, Ended}
-use Rattle.ra_runtime.specs.Earned.{Earned, none_earned}
-use Rattle.ra_runtime.specs.Openings.{plain_opening}
-use Rattle.ra_runtime.specs.Play.{Moment, moved, first_moment, earned_next}
+use Rattle.ra_meaning.specs.Earned.{Earned, none_earned}
+use Rattle.ra_meaning.specs.Openings.{plain_opening}
+use Rattle.ra_meaning.specs.Play.{Moment, moved, first_moment, earned_next}
 use Rattle.ra_explain.specs.Explains.{ExplanationContents}
 use Rattle.ra_explain.specs.Recorders.{RecorderSeen, unlocks_at, most_rows}
 use Rattle.ra_explain.specs.Unlocks.{IsExplanation}

@@ -7,7 +7,7 @@ use Rattle.ra_trace.specs.declared.error.TraceError.TheVariants as errors
 use Rattle.ra_trace.specs.Entries.{Entry, Framed, Ended}
 use Rattle.ra_trace.specs.Cutting.{Pieces, RefusedAt, stop_within}
 use Rattle.ra_trace.specs.Reading.{ReaderSeen, Holds, Stands, IsBehindRecord, IsStop, next_stop}
-use Rattle.ra_runtime.specs.Play.{Moment, moved}
+use Rattle.ra_meaning.specs.Play.{Moment, moved}
 use Rattle.ra_explain.specs.Recorders.{RecorderSeen}
 use Rattle.ra_session.specs.Endings.{ending_of}
 use Rattle.ra_session.specs.Expected.{trace_limit}

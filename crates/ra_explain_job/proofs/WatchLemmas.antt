@@ -10,7 +10,7 @@ use Rattle.ra_trace.specs.declared.error.TraceError.{TraceError}
 use Rattle.ra_trace.specs.declared.error.TraceError.TheVariants as errors
 use Rattle.ra_trace.specs.Cutting.{Stop, RefusedAt, header_size, no_slots, trace_behind, stop_within}
 use Rattle.ra_trace.specs.Reading.{IsStop, header_stop}
-use Rattle.ra_runtime.specs.Play.{first_moment}
+use Rattle.ra_meaning.specs.Play.{first_moment}
 use Rattle.ra_explain.specs.Recorders.{RecorderSeen, KeptRows, IsNew}
 use Rattle.ra_session.specs.Endings.{ending_of}
 use Rattle.ra_session.specs.Expected.{decided_in, trace_in, trace_limit}

@@ -6,7 +6,7 @@ use Rattle.ra_trace.specs.declared.error.TraceError.TheVariants as errors
 use Rattle.ra_trace.specs.Entries.{Entry, Framed, Ended}
 use Rattle.ra_trace.specs.Cutting.{Pieces, stop_within, with_entry}
 use Rattle.ra_trace.specs.Reading.{ReaderSeen}
-use Rattle.ra_runtime.specs.Play.{Moment, moved}
+use Rattle.ra_meaning.specs.Play.{Moment, moved}
 use Rattle.ra_explain.specs.Recorders.{RecorderSeen, Stands, SlotStands}
 use Rattle.ra_session.specs.Endings.{ending_of}
 use Rattle.ra_session.specs.Expected.{decided_in, trace_in, trace_limit}

@@ -3,7 +3,7 @@
 ghost use Rattle.std.specs.Prelude.{◌≡◌, ◌≤◌, ◌<◌, ◌+◌, true, length, IfOk, IfErr, OnOk};
 ghost use Rattle.ra_trace.specs.Entries.{entry_of, Framed, Restored, Saved, Written};
 ghost use Rattle.ra_trace.specs.Reading.{LiesWithin};
-ghost use Rattle.ra_runtime.specs.Play.{Moment};
+ghost use Rattle.ra_meaning.specs.Play.{Moment};
 ghost use Rattle.ra_explain_job.specs.Watching.{Follows, GoesOn, RefusesEntry, TakesEntry};
 ghost use Rattle.ra_explain_job.specs.declared.failed.Untaken.TheVariants as untaken;
 

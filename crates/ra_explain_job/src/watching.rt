@@ -6,7 +6,7 @@ ghost use Rattle.ra_condition.specs.Spelled.{IsTrigger};
 ghost use Rattle.ra_io.specs.Causes.{Rose};
 ghost use Rattle.ra_io.specs.Files.{OnlyRead};
 ghost use Rattle.ra_trace.specs.Cutting.{Pieces};
-ghost use Rattle.ra_runtime.specs.Play.{Moment};
+ghost use Rattle.ra_meaning.specs.Play.{Moment};
 ghost use Rattle.ra_session.specs.Playing.{IsLeft};
 ghost use Rattle.ra_trace.specs.declared.error.TraceError.TheVariants as error;
 ghost use Rattle.ra_explain_job.specs.Watching.{EndsFor, EndsWatch, Follows, TakesNext, reason_at, stop_of};

@@ -17,12 +17,12 @@ use Rattle.ra_value.specs.Steps.{ValueKept, no_value, signed_greatest}
 use Rattle.ra_member.specs.Members.{MemberContents, no_member, no_values, tests_next, tests_hold, values_next, member_hits, member_numbers, opened_member}
 use Rattle.ra_member.proofs.Opened.{member_again, none_saved}
 use Rattle.ra_member.proofs.Shaped.{no_member_shape}
-use Rattle.ra_runtime.specs.Boards.{BoardKept, state_by, running_values, board_next, board_after, number_at, value_number, tracked_number, opened_board}
+use Rattle.ra_meaning.specs.Boards.{BoardKept, state_by, running_values, board_next, board_after, number_at, value_number, tracked_number, opened_board}
 use Rattle.ra_progress.specs.Contents.{plain_item}
-use Rattle.ra_runtime.specs.declared.event.Event.{Event}
-use Rattle.ra_runtime.specs.declared.event.Event.TheVariants as events
-use Rattle.ra_runtime.specs.Events.{event_if, is_started, same_number, board_events}
-use Rattle.ra_runtime.specs.Order.{progress_in, board_member, item_shape}
+use Rattle.ra_meaning.specs.declared.event.Event.{Event}
+use Rattle.ra_meaning.specs.declared.event.Event.TheVariants as events
+use Rattle.ra_meaning.specs.Events.{event_if, is_started, same_number, board_events}
+use Rattle.ra_meaning.specs.Order.{progress_in, board_member, item_shape}
 use Rattle.ra_set.specs.Contents.{Ranks}
 use Rattle.ra_normal.specs.Contents.{normal_value, normal_board}
 use Rattle.ra_normal.proofs.ValuesAlike.{ValuesMatch, no_values_match, values_step}

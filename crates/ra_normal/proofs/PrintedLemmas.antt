@@ -7,13 +7,13 @@ use Rattle.ra_memref.specs.Values.{Start}
 use Rattle.ra_set.specs.Contents.{ItemContents, Unlocks, Ranks, SetContents}
 use Rattle.ra_set.specs.Spelled.{IsItem}
 use Rattle.ra_trace.specs.Entries.{Entry, Written, Framed, Saved, Restored, Shown, Ended}
-use Rattle.ra_runtime.specs.Boards.{opened_board}
-use Rattle.ra_runtime.specs.Openings.{number_beside, prior_beside, start_of, frames_after, plain_opening}
+use Rattle.ra_meaning.specs.Boards.{opened_board}
+use Rattle.ra_meaning.specs.Openings.{number_beside, prior_beside, start_of, frames_after, plain_opening}
 use Rattle.ra_progress.specs.Contents.{plain_item}
-use Rattle.ra_runtime.specs.Lines.{event_lines}
-use Rattle.ra_runtime.specs.Order.{set_cells, set_tracked, item_shape, shape_of}
-use Rattle.ra_runtime.specs.Earned.{Earned, both_earned}
-use Rattle.ra_runtime.specs.Play.{item_events, unless_earned, lines, unlocks, earns, shown_by, shown, Moment, moved, printed, earned_next, first_moment, text_from, text_of}
+use Rattle.ra_meaning.specs.Lines.{event_lines}
+use Rattle.ra_meaning.specs.Order.{set_cells, set_tracked, item_shape, shape_of}
+use Rattle.ra_meaning.specs.Earned.{Earned, both_earned}
+use Rattle.ra_meaning.specs.Play.{item_events, unless_earned, lines, unlocks, earns, shown_by, shown, Moment, moved, printed, earned_next, first_moment, text_from, text_of}
 use Rattle.ra_normal.specs.Contents.{normal_board, normal_item}
 use Rattle.ra_normal.proofs.AcceptedLemmas.{normal_set}
 use Rattle.ra_normal.proofs.BoardsAlike.{board_alike, same_events, plain_match}

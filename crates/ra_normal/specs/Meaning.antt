@@ -4,9 +4,9 @@ use Rattle.ra_set.specs.Accepted.{IsSet}
 use Rattle.ra_set.specs.Contents.{SetContents}
 use Rattle.ra_memory.specs.Image.{History}
 use Rattle.ra_trace.specs.Entries.{Entry}
-use Rattle.ra_runtime.specs.Earned.{Earned}
-use Rattle.ra_runtime.specs.Openings.{plain_opening}
-use Rattle.ra_runtime.specs.Play.{text_of}
+use Rattle.ra_meaning.specs.Earned.{Earned}
+use Rattle.ra_meaning.specs.Openings.{plain_opening}
+use Rattle.ra_meaning.specs.Play.{text_of}
 use Rattle.ra_normal.specs.Contents.{normal_item}
 use Rattle.ra_normal.specs.Text.{IsNormal}
 

@@ -14,8 +14,8 @@ use Rattle.ra_member.specs.MemberRuns.{IsMember, HasTest, HasValue, StepsTestAt,
 use Rattle.ra_member.specs.Runs.{IsTriggerRun, IsValueRun}
 use Rattle.ra_member.proofs.Stepping.{value_kept, AreTestsStepped, AreTestsAfter, AreValuesStepped, tests_begin, test_here, test_on, tests_end, values_begin, value_here, value_on, values_end}
 use Rattle.ra_runtime.specs.declared.board_run.BoardRun.{BoardRun}
-use Rattle.ra_runtime.specs.Order.{board_member, progress_in}
-use Rattle.ra_runtime.specs.Boards.{running_values, state_by, tracked_number}
+use Rattle.ra_meaning.specs.Order.{board_member, progress_in}
+use Rattle.ra_meaning.specs.Boards.{running_values, state_by, tracked_number}
 use Rattle.ra_runtime.specs.BoardRuns.{FollowsValues, StepsBoard, board_kept}
 
 -- the tests of a board, one after the other

@@ -9,18 +9,18 @@ use Rattle.ra_trigger.specs.declared.change.Change.{Change}
 use Rattle.ra_trigger.specs.States.{is_primed, is_triggered}
 use Rattle.ra_set.specs.Contents.{ItemContents, Unlocks, Ranks}
 use Rattle.ra_runtime.specs.declared.board_run.BoardRun.{BoardRun}
-use Rattle.ra_runtime.specs.declared.event.Event.{Event}
-use Rattle.ra_runtime.specs.declared.event.Event.TheVariants as events
+use Rattle.ra_meaning.specs.declared.event.Event.{Event}
+use Rattle.ra_meaning.specs.declared.event.Event.TheVariants as events
 use Rattle.ra_runtime.specs.declared.item_run.ItemRun.{ItemRun}
 use Rattle.ra_runtime.specs.declared.item_run.ItemRun.TheVariants.{Achievement, Leaderboard}
 use Rattle.ra_runtime.specs.AllRuns.{HaveDigits, all_events}
-use Rattle.ra_runtime.specs.Boards.{tracked_number, value_number}
+use Rattle.ra_meaning.specs.Boards.{tracked_number, value_number}
 use Rattle.ra_runtime.specs.BoardRuns.{board_kept}
-use Rattle.ra_runtime.specs.Events.{event_if, is_started, same_number}
-use Rattle.ra_runtime.specs.Lines.{HasEventDigits}
+use Rattle.ra_meaning.specs.Events.{event_if, is_started, same_number}
+use Rattle.ra_meaning.specs.Lines.{HasEventDigits}
 use Rattle.ra_runtime.specs.Rests.{events_at, events_of}
 use Rattle.ra_runtime.specs.RunEvents.{HasItemDigits, measured_event, change_events, board_run_events, run_events}
-use Rattle.ra_runtime.proofs.Each.{each_append}
+use Rattle.ra_meaning.proofs.Each.{each_append}
 
 abbrev pub Have : List Event → Type 0
 Have events = AllByRecursion HasEventDigits events

@@ -11,20 +11,20 @@ use Rattle.ra_richpresence.specs.Contents.{ScriptContents}
 use Rattle.ra_set.specs.Contents.{ItemContents, SetContents}
 use Rattle.ra_progress.specs.Contents.{KeptItem, KeptPresence, Opening}
 use Rattle.ra_runtime.specs.declared.item_run.ItemRun.{ItemRun}
-use Rattle.ra_runtime.specs.Order.{trees_in_set, set_cells, set_tracked}
-use Rattle.ra_runtime.specs.Earned.{Earned, is_earned, earned_in, with_earned}
-use Rattle.ra_runtime.specs.Openings.{start_of, snapshot, item_after, number_beside, prior_beside, frames_after, optional_presence}
-use Rattle.ra_runtime.specs.Lines.{event_lines}
-use Rattle.ra_runtime.specs.Play.{item_events, events, lines, earns, unless_earned}
+use Rattle.ra_meaning.specs.Order.{trees_in_set, set_cells, set_tracked}
+use Rattle.ra_meaning.specs.Earned.{Earned, is_earned, earned_in, with_earned}
+use Rattle.ra_meaning.specs.Openings.{start_of, snapshot, item_after, number_beside, prior_beside, frames_after, optional_presence}
+use Rattle.ra_meaning.specs.Lines.{event_lines}
+use Rattle.ra_meaning.specs.Play.{item_events, events, lines, earns, unless_earned}
 use Rattle.ra_member.specs.Runs.{HasValues}
 use Rattle.ra_runtime.specs.Rests.{AreSteppedSeen, IsSomeFrame}
 use Rattle.ra_runtime.specs.AllRuns.{all_events, opening_by, IsOver}
 use Rattle.ra_display.specs.PresenceRuns.{StepsOptional}
 use Rattle.std.proofs.lemmas.List.{length-map}
-use Rattle.ra_runtime.specs.Runtime.{RuntimeSeen, TakesFrame, ReadsFew}
-use Rattle.ra_runtime.proofs.Law.{cuts_anywhere}
-use Rattle.ra_runtime.proofs.EarnedFrames.{AreSeen, snapshot_with, events_with, earns_with, runs_earn}
-use Rattle.ra_runtime.proofs.Beside.{apart_firsts, numbers_beside, priors_beside}
+use Rattle.ra_meaning.specs.Runtime.{RuntimeSeen, TakesFrame, ReadsFew}
+use Rattle.ra_meaning.proofs.Law.{cuts_anywhere}
+use Rattle.ra_meaning.proofs.EarnedFrames.{AreSeen, snapshot_with, events_with, earns_with, runs_earn}
+use Rattle.ra_meaning.proofs.Beside.{apart_firsts, numbers_beside, priors_beside}
 
 module _ (table : TableSeen) (start : Start) (image : List ℕ) (has : HasValues table start (image ∷ [])) where
   stepped_kept : (items : List ItemContents) (olds news : List KeptItem) (runs : List ItemRun) → AreSteppedSeen table items olds news runs

@@ -6,11 +6,11 @@ use Rattle.ra_memory.specs.Image.{History}
 use Rattle.ra_set.specs.Contents.{SetContents}
 use Rattle.ra_progress.specs.Contents.{Opening}
 use Rattle.ra_runtime.specs.Changed.{told_at, events_at, lines_at, IsItemByItem}
-use Rattle.ra_runtime.specs.declared.event.Event.{Event}
-use Rattle.ra_runtime.specs.Earned.{Earned}
-use Rattle.ra_runtime.specs.Lines.{event_line, event_lines}
-use Rattle.ra_runtime.specs.Openings.{start_of, frames_after}
-use Rattle.ra_runtime.specs.Play.{item_events, unless_earned, events, lines}
+use Rattle.ra_meaning.specs.declared.event.Event.{Event}
+use Rattle.ra_meaning.specs.Earned.{Earned}
+use Rattle.ra_meaning.specs.Lines.{event_line, event_lines}
+use Rattle.ra_meaning.specs.Openings.{start_of, frames_after}
+use Rattle.ra_meaning.specs.Play.{item_events, unless_earned, events, lines}
 
 -- what the elements of a list give, by their places and any number of places behind them
 by_places : {A B : Type 0} (f : A → List B) (g : Option A → List B) → g None ≡ [] → ((x : A) → g (Some x) ≡ f x) → (at : ℕ → List B) (xs : List A) (from n : ℕ) → length xs ≤ n → ((j : ℕ) → at (from + j) ≡ g (slice_get xs j)) → flat_map f xs ≡ flat_map at (range_with_len from n)

@@ -15,19 +15,19 @@ use Rattle.ra_member.proofs.Shaped.{member_shape}
 use Rattle.ra_runtime.specs.declared.achievement_run.AchievementRun.{AchievementRun}
 use Rattle.ra_runtime.specs.declared.board_run.BoardRun.{BoardRun}
 use Rattle.ra_runtime.specs.declared.item_run.ItemRun.TheVariants.{Achievement, Leaderboard}
-use Rattle.ra_runtime.specs.Boards.{tracked_number, value_number, board_after, kept_board}
-use Rattle.ra_runtime.specs.declared.event.Event.{Event}
-use Rattle.ra_runtime.specs.declared.event.Event.TheVariants as events
-use Rattle.ra_runtime.specs.Events.{event_if, is_started, same_number, achievement_events, board_events}
-use Rattle.ra_runtime.specs.Openings.{kept_achievement}
-use Rattle.ra_runtime.specs.Histories.{achievement_after}
-use Rattle.ra_runtime.specs.Order.{board_member}
+use Rattle.ra_meaning.specs.Boards.{tracked_number, value_number, board_after, kept_board}
+use Rattle.ra_meaning.specs.declared.event.Event.{Event}
+use Rattle.ra_meaning.specs.declared.event.Event.TheVariants as events
+use Rattle.ra_meaning.specs.Events.{event_if, is_started, same_number, achievement_events, board_events}
+use Rattle.ra_meaning.specs.Openings.{kept_achievement}
+use Rattle.ra_meaning.specs.Histories.{achievement_after}
+use Rattle.ra_meaning.specs.Order.{board_member}
 use Rattle.ra_runtime.specs.Runs.{StepsAchievement, earned_by}
 use Rattle.ra_runtime.specs.BoardRuns.{IsBoardRun, StepsBoard, board_kept}
 use Rattle.ra_runtime.specs.RunEvents.{measured_event, change_events, board_run_events}
 use Rattle.ra_runtime.specs.ItemRuns.{StepsItem, kept_run}
-use Rattle.ra_runtime.specs.Play.{item_events, unless_earned}
-use Rattle.ra_runtime.proofs.Again.{achievement_again, board_again}
+use Rattle.ra_meaning.specs.Play.{item_events, unless_earned}
+use Rattle.ra_meaning.proofs.Again.{achievement_again, board_again}
 
 same_turned : (m n : ℕ) → (m == n) ≡ (n == m)
 same_turned m n = grind arith

@@ -26,27 +26,27 @@ use Rattle.ra_resting.proofs.GoesOn.{tests_go_on, tests_say_on, values_go_on, te
 use Rattle.ra_resting.proofs.OneOn.{achievement_goes_on, achievement_owes_nothing}
 use Rattle.ra_runtime.specs.declared.achievement_run.AchievementRun.{AchievementRun}
 use Rattle.ra_runtime.specs.declared.board_run.BoardRun.{BoardRun}
-use Rattle.ra_runtime.specs.declared.event.Event.{Event}
-use Rattle.ra_runtime.specs.declared.event.Event.TheVariants as events
+use Rattle.ra_meaning.specs.declared.event.Event.{Event}
+use Rattle.ra_meaning.specs.declared.event.Event.TheVariants as events
 use Rattle.ra_runtime.specs.declared.item_run.ItemRun.{ItemRun}
 use Rattle.ra_runtime.specs.declared.item_run.ItemRun.TheVariants.{Achievement, Leaderboard}
 use Rattle.ra_runtime.specs.declared.rest.ItemBefore.{ItemBefore}
 use Rattle.ra_runtime.specs.declared.rest.ItemBefore.TheVariants as before
 use Rattle.ra_runtime.specs.declared.rest.BoardBefore.{BoardBefore}
 use Rattle.ra_runtime.specs.declared.rest.TriggerBefore.{TriggerBefore}
-use Rattle.ra_runtime.specs.Boards.{BoardKept, board_after, board_next, kept_board, number_at, opened_board, running_values, state_by, tracked_number}
+use Rattle.ra_meaning.specs.Boards.{BoardKept, board_after, board_next, kept_board, number_at, opened_board, running_values, state_by, tracked_number}
 use Rattle.ra_runtime.specs.BoardRuns.{IsBoardRun, board_kept}
-use Rattle.ra_runtime.specs.Earned.{is_earned}
-use Rattle.ra_runtime.specs.Events.{achievement_events, board_events, event_if, is_started, same_number}
-use Rattle.ra_runtime.specs.Histories.{achievement_after}
+use Rattle.ra_meaning.specs.Earned.{is_earned}
+use Rattle.ra_meaning.specs.Events.{achievement_events, board_events, event_if, is_started, same_number}
+use Rattle.ra_meaning.specs.Histories.{achievement_after}
 use Rattle.ra_runtime.specs.ItemRuns.{IsItemRun, StepsItem, kept_run}
-use Rattle.ra_runtime.specs.Openings.{item_after, kept_achievement, opened_achievement}
-use Rattle.ra_runtime.specs.Order.{board_member}
-use Rattle.ra_runtime.specs.Play.{item_events, unless_earned}
+use Rattle.ra_meaning.specs.Openings.{item_after, kept_achievement, opened_achievement}
+use Rattle.ra_meaning.specs.Order.{board_member}
+use Rattle.ra_meaning.specs.Play.{item_events, unless_earned}
 use Rattle.ra_runtime.specs.Resting.{AreValuesAt, BoardRests, GoesOn, HasRoom, IsNoted, ItemRests, TriggerRests, board_before, first_frame, owed_board, owed_run, trigger_before}
 use Rattle.ra_runtime.specs.RunEvents.{run_events}
-use Rattle.ra_runtime.proofs.Again.{achievement_again, board_again}
-use Rattle.ra_runtime.proofs.Fitting.{BoardFits, board_fits}
+use Rattle.ra_meaning.proofs.Again.{achievement_again, board_again}
+use Rattle.ra_meaning.proofs.Fitting.{BoardFits, board_fits}
 
 -- what was earned or triggered is so once more where it is triggered
 once_more : (earned triggered : Bool) → ((earned || triggered) || triggered) ≡ (earned || triggered)

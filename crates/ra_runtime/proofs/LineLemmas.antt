@@ -1,6 +1,6 @@
 -- The words of lines, put at the end of a text.
 use Rattle.std.proofs.Common.{◌≡◌, ◌∙◌, ℕ, List, [], ◌∷◌, ◌++◌, ap, append_assoc}
-use Rattle.ra_runtime.specs.Lines.{line_of}
+use Rattle.ra_meaning.specs.Lines.{line_of}
 
 pub head_words : (out word frame id : List ℕ) → ((((out ++ word) ++ 32 ∷ []) ++ frame) ++ 32 ∷ []) ++ id ≡ out ++ (word ++ 32 ∷ (frame ++ 32 ∷ id))
 head_words out word frame id = simp append_assoc

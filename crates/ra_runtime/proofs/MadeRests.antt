@@ -19,7 +19,7 @@ use Rattle.ra_runtime.specs.declared.rest.Rest.{Rest}
 use Rattle.ra_runtime.specs.declared.rests.Rests.{Rests}
 use Rattle.ra_runtime.specs.AllRuns.{AreItemRuns}
 use Rattle.ra_runtime.specs.ItemRuns.{IsItemRun, kept_run}
-use Rattle.ra_runtime.specs.Order.{board_member}
+use Rattle.ra_meaning.specs.Order.{board_member}
 use Rattle.ra_runtime.specs.Resting.{FitsRun, HasRoom, IsToldOf, reads_of_run, seen_runs, seen_since}
 use Rattle.ra_runtime.specs.Rests.{AreForgotten, AreRests}
 use Rattle.ra_resting.proofs.Turns.{element}

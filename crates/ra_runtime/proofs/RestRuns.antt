@@ -18,9 +18,9 @@ use Rattle.ra_runtime.specs.declared.item_run.ItemRun.TheVariants.{Achievement, 
 use Rattle.ra_runtime.specs.declared.rest.ItemBefore.{ItemBefore}
 use Rattle.ra_runtime.specs.declared.rest.ItemBefore.TheVariants as before
 use Rattle.ra_runtime.specs.ItemRuns.{IsItemRun}
-use Rattle.ra_runtime.specs.Boards.{kept_board}
-use Rattle.ra_runtime.specs.Openings.{kept_achievement}
-use Rattle.ra_runtime.specs.Order.{board_member}
+use Rattle.ra_meaning.specs.Boards.{kept_board}
+use Rattle.ra_meaning.specs.Openings.{kept_achievement}
+use Rattle.ra_meaning.specs.Order.{board_member}
 use Rattle.ra_runtime.specs.declared.rest.TriggerBefore.{TriggerBefore}
 use Rattle.ra_runtime.specs.Resting.{FitsRun, owed_run}
 use Rattle.ra_resting.proofs.AtMost.{member_at_most, paid_at_most}

@@ -18,9 +18,9 @@ use Rattle.ra_runtime.specs.ItemRuns.{IsItemRun, kept_run}
 use Rattle.ra_runtime.specs.Resting.{GoesOn, HasRoom, IsToldOf, ItemRests, StepsRest, StepsSeen, owed_run, seen_run, seen_runs, seen_since}
 use Rattle.ra_runtime.specs.Rests.{AreRests, AreSteppedSeen, HasPlace, IsAtRest, IsPlace, IsSomeFrame, IsSteppedAt, due_below, events_at, events_of, maybe_events}
 use Rattle.ra_runtime.specs.RunEvents.{run_events}
-use Rattle.ra_runtime.specs.Earned.{is_earned}
-use Rattle.ra_runtime.specs.Openings.{item_after}
-use Rattle.ra_runtime.specs.Play.{item_events, unless_earned}
+use Rattle.ra_meaning.specs.Earned.{is_earned}
+use Rattle.ra_meaning.specs.Openings.{item_after}
+use Rattle.ra_meaning.specs.Play.{item_events, unless_earned}
 use Rattle.ra_runtime.proofs.ItemsRest.{item_rests}
 use Rattle.ra_runtime.proofs.RunsLemmas.{length_runs}
 use Rattle.ra_resting.proofs.Turns.{element}

@@ -23,16 +23,16 @@ use Rattle.ra_member.proofs.Cleared.{cleared_saved}
 use Rattle.ra_runtime.specs.declared.achievement_run.AchievementRun.{AchievementRun}
 use Rattle.ra_runtime.specs.declared.board_run.BoardRun.{BoardRun}
 use Rattle.ra_runtime.specs.declared.item_run.ItemRun.TheVariants.{Achievement, Leaderboard}
-use Rattle.ra_runtime.specs.Earned.{item_with}
-use Rattle.ra_runtime.specs.Openings.{kept_achievement}
+use Rattle.ra_meaning.specs.Earned.{item_with}
+use Rattle.ra_meaning.specs.Openings.{kept_achievement}
 use Rattle.ra_runtime.specs.Runs.{earned_by}
 use Rattle.ra_runtime.specs.Shapes.{board_run_shape}
 use Rattle.ra_member.specs.Runs.{IsLaid}
-use Rattle.ra_runtime.specs.Boards.{kept_board}
-use Rattle.ra_runtime.specs.Order.{board_member}
+use Rattle.ra_meaning.specs.Boards.{kept_board}
+use Rattle.ra_meaning.specs.Order.{board_member}
 use Rattle.ra_runtime.specs.ItemRuns.{IsItemRun}
 use Rattle.ra_runtime.specs.Restoring.{PutsBackBoard, PutsBackItem}
-use Rattle.ra_runtime.proofs.Unplayed.{byte_again, board_byte_again, earned_again}
+use Rattle.ra_meaning.proofs.Unplayed.{byte_again, board_byte_again, earned_again}
 use Rattle.ra_words.proofs.Rows.{length-words_at}
 
 -- an achievement of which only the kept numbers change, and not how many there are

@@ -16,22 +16,22 @@ use Rattle.ra_progress.proofs.Owns.{own_total}
 use Rattle.ra_runtime.specs.declared.board_run.BoardRun.{BoardRun}
 use Rattle.ra_runtime.specs.declared.item_run.ItemRun.{ItemRun}
 use Rattle.ra_display.specs.declared.presence_run.PresenceRun.{PresenceRun}
-use Rattle.ra_runtime.specs.Order.{script_members, presence_shape, shape_of}
+use Rattle.ra_meaning.specs.Order.{script_members, presence_shape, shape_of}
 use Rattle.ra_runtime.specs.AllRuns.{AreItemRuns, opening_by}
 use Rattle.ra_runtime.specs.declared.rest.Rest.{Rest}
 use Rattle.ra_runtime.specs.Resting.{FitsRun, seen_run, seen_runs}
 use Rattle.ra_runtime.specs.Rests.{AreFitting}
 use Rattle.ra_leaderboard.specs.States.{board_byte}
-use Rattle.ra_runtime.specs.Openings.{kept_achievement}
+use Rattle.ra_meaning.specs.Openings.{kept_achievement}
 use Rattle.ra_runtime.specs.Shapes.{board_run_shape, run_shape}
-use Rattle.ra_runtime.proofs.ItemWords.{state_within, earned_where_triggered, board_state_within}
+use Rattle.ra_meaning.proofs.ItemWords.{state_within, earned_where_triggered, board_state_within}
 use Rattle.ra_display.specs.declared.line_rests.LineRests.{LineRests}
 use Rattle.ra_display.specs.LineRests.{AreOptionalRests, optional_presence_seen, seen_lines}
 use Rattle.ra_display.specs.PresenceRuns.{IsOptionalPresence}
-use Rattle.ra_runtime.specs.Saving.{FitWords, FitOptional}
+use Rattle.ra_member.specs.MemberRuns.{FitWords, kept_by}
+use Rattle.ra_display.specs.SavedPresence.{FitOptional}
 use Rattle.ra_member.proofs.GrowthLemmas.{taken_next}
 use Rattle.ra_member.specs.Members.{saved_hits, saved_numbers}
-use Rattle.ra_member.specs.MemberRuns.{kept_by}
 use Rattle.ra_member.proofs.Opened.{members_long}
 use Rattle.ra_runtime.proofs.ShapeLemmas.{runs_shaped}
 use Rattle.ra_display.proofs.SeenLines.{lines_shaped}

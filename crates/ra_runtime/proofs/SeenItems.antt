@@ -14,16 +14,16 @@ use Rattle.ra_runtime.specs.declared.rest.ItemBefore.TheVariants as before
 use Rattle.ra_runtime.specs.declared.rest.Rest.{Rest}
 use Rattle.ra_runtime.specs.declared.rests.Rests.{Rests}
 use Rattle.ra_runtime.specs.AllRuns.{AreItemRuns}
-use Rattle.ra_runtime.specs.Boards.{tracked_number}
+use Rattle.ra_meaning.specs.Boards.{tracked_number}
 use Rattle.ra_runtime.specs.BoardRuns.{board_kept}
-use Rattle.ra_runtime.specs.Earned.{is_earned}
+use Rattle.ra_meaning.specs.Earned.{is_earned}
 use Rattle.ra_runtime.specs.ItemRuns.{IsItemRun, kept_run}
 use Rattle.ra_runtime.specs.ItemStates.{item_state, run_state}
-use Rattle.ra_runtime.specs.Order.{board_member}
+use Rattle.ra_meaning.specs.Order.{board_member}
 use Rattle.ra_runtime.specs.Resting.{FitsRun, HasRoom, board_before, owed_board, seen_runs, seen_since}
 use Rattle.ra_runtime.specs.Rests.{AreFitting, AreRests, seen_by}
-use Rattle.ra_runtime.proofs.Again.{achievement_again, board_again}
-use Rattle.ra_runtime.proofs.EarnedFrames.{AreSeen, IsSeen}
+use Rattle.ra_meaning.proofs.Again.{achievement_again, board_again}
+use Rattle.ra_meaning.proofs.EarnedFrames.{AreSeen, IsSeen}
 use Rattle.ra_runtime.proofs.ItemsRest.{rows_many, tracked_by}
 
 -- what there is room for is what a run keeps

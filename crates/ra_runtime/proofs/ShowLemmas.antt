@@ -7,16 +7,16 @@ use Rattle.ra_richpresence.specs.Contents.{ScriptContents}
 use Rattle.ra_set.specs.Spelled.{OptionalScript}
 use Rattle.ra_progress.specs.Contents.{KeptPresence, PresenceFits}
 use Rattle.ra_display.specs.declared.presence_run.PresenceRun.{PresenceRun}
-use Rattle.ra_runtime.specs.Lines.{line_of}
-use Rattle.ra_runtime.specs.Order.{presence_shape}
-use Rattle.ra_runtime.specs.Openings.{optional_presence}
-use Rattle.ra_runtime.specs.Play.{shown_by}
+use Rattle.ra_meaning.specs.Lines.{line_of}
+use Rattle.ra_meaning.specs.Order.{presence_shape}
+use Rattle.ra_meaning.specs.Openings.{optional_presence}
+use Rattle.ra_meaning.specs.Play.{shown_by}
 use Rattle.ra_display.specs.Presence.{DisplayKept, display_after, opened_display, display_text, presence_after}
 use Rattle.ra_display.specs.declared.line_rests.LineRests.{LineRests}
 use Rattle.ra_display.specs.LineRests.{AreLineRests, AreOptionalRests, display_seen, optional_presence_seen, presence_seen}
 use Rattle.ra_display.specs.PresenceRuns.{IsPresenceRun, IsOptionalPresence}
 use Rattle.ra_display.specs.Showing.{MayShow, shown_text, optional_text}
-use Rattle.ra_runtime.proofs.OpeningFits.{script_fits}
+use Rattle.ra_meaning.proofs.OpeningFits.{script_fits}
 use Rattle.ra_display.proofs.PresenceCuts.{DisplayFits, display_again, display_fits}
 use Rattle.ra_display.proofs.SeenLines.{lines_fitting, lines_shaped, text_seen}
 

@@ -8,9 +8,9 @@ use Rattle.ra_resting.proofs.Woken.{member_through, through}
 use Rattle.ra_resting.specs.Inputs.{Instant}
 use Rattle.ra_runtime.specs.declared.item_run.ItemRun.{ItemRun}
 use Rattle.ra_runtime.specs.declared.rest.ItemBefore.{ItemBefore}
-use Rattle.ra_runtime.specs.Earned.{is_earned}
-use Rattle.ra_runtime.specs.Order.{board_member}
-use Rattle.ra_runtime.specs.Play.{item_events, unless_earned}
+use Rattle.ra_meaning.specs.Earned.{is_earned}
+use Rattle.ra_meaning.specs.Order.{board_member}
+use Rattle.ra_meaning.specs.Play.{item_events, unless_earned}
 use Rattle.ra_runtime.specs.Resting.{AreValuesAt, GoesOn, IsToldOf, ItemSeesSame, StepsSeen, first_frame, owed_run}
 use Rattle.ra_runtime.specs.Rests.{IsSomeFrame}
 use Rattle.ra_runtime.specs.RunEvents.{run_events}

@@ -12,8 +12,8 @@ use Rattle.ra_progress.specs.Saying.{own_places, said_items, said_or, said_prese
 use Rattle.ra_memref.specs.Names.{cell_name, tracked_name}
 use Rattle.ra_runtime.specs.declared.item_run.ItemRun.{ItemRun}
 use Rattle.ra_display.specs.declared.presence_run.PresenceRun.{PresenceRun}
-use Rattle.ra_runtime.specs.Earned.{is_earned, items_with, both_earned, earned_in, with_earned}
-use Rattle.ra_runtime.specs.Order.{set_cells, set_tracked, item_shape, presence_shape, shape_of}
+use Rattle.ra_meaning.specs.Earned.{is_earned, items_with, both_earned, earned_in, with_earned}
+use Rattle.ra_meaning.specs.Order.{set_cells, set_tracked, item_shape, presence_shape, shape_of}
 use Rattle.ra_runtime.specs.ItemRuns.{kept_run}
 use Rattle.ra_runtime.specs.AllRuns.{AreItemRuns, IsOver, opening_by}
 use Rattle.ra_display.specs.PresenceRuns.{IsOptionalPresence, optional_presence_kept}

@@ -1,13 +1,11 @@
 -- Items that wait, one after the other over a pool that grows.
-use Rattle.std.proofs.Common.{◌≡◌, ℕ, Option, None, Some, List, [], ◌∷◌, ◌++◌, map, sum_by, refl, sym, ◌∙◌, ap, ap₂, arith}
+use Rattle.std.proofs.Common.{ℕ, List, [], ◌∷◌, ◌++◌, map, refl, sym, ◌∙◌, ap, ap₂, arith}
 use Rattle.std.proofs.lemmas.List.{map-append}
-use Rattle.std.proofs.lemmas.List.Sums.{sum_by-cons}
-use Rattle.ra_condition.specs.Contents.{PartContents}
 use Rattle.ra_indirect.specs.declared.node.Node.{Node}
 use Rattle.ra_indirect.specs.Growing.{IsFront}
 use Rattle.ra_leaderboard.specs.Contents.{BoardContents}
 use Rattle.ra_set.specs.Contents.{ItemContents, Unlocks, Ranks}
-use Rattle.ra_set.specs.Limits.{value_conditions, optional_value, item_conditions}
+use Rattle.ra_set.specs.Limits.{item_conditions}
 use Rattle.ra_value_format.specs.declared.format.Format.{Format}
 use Rattle.ra_progress.specs.Contents.{OfBoard, plain_item}
 use Rattle.ra_member.specs.Members.{MemberContents, trees_in_member, member_conditions}
@@ -20,14 +18,15 @@ use Rattle.ra_runtime.specs.declared.board_run.BoardRun.{BoardRun}
 use Rattle.ra_runtime.specs.declared.achievement_run.AchievementRun.{AchievementRun}
 use Rattle.ra_runtime.specs.declared.item_run.ItemRun.{ItemRun}
 use Rattle.ra_runtime.specs.declared.item_run.ItemRun.TheVariants.{Achievement, Leaderboard}
-use Rattle.ra_runtime.specs.Order.{board_member, progress_in, trees_in_item, item_shape}
-use Rattle.ra_runtime.specs.Boards.{kept_board}
-use Rattle.ra_runtime.specs.Openings.{kept_achievement}
+use Rattle.ra_meaning.specs.Order.{board_member, trees_in_item, item_shape}
+use Rattle.ra_meaning.specs.Boards.{kept_board}
+use Rattle.ra_meaning.specs.Openings.{kept_achievement}
 use Rattle.ra_runtime.specs.BoardRuns.{IsNewBoard}
 use Rattle.ra_runtime.specs.ItemRuns.{IsItemRun, IsNewItem, kept_run}
 use Rattle.ra_runtime.specs.AllRuns.{AreItemRuns}
 use Rattle.ra_runtime.specs.Planning.{AreWaiting}
 use Rattle.ra_runtime.proofs.RunsLemmas.{runs_more}
+use Rattle.ra_meaning.proofs.ItemCounts.{board_conditions}
 
 -- a run stays one where the pool grows
 module _ (old new : List Node) (front : IsFront old new) where
@@ -42,15 +41,6 @@ module _ (old new : List Node) (front : IsFront old new) where
   item_runs_more [] (run ∷ runs) are = absurd are
   item_runs_more (item ∷ items) [] are = absurd are
   item_runs_more (item ∷ items) (run ∷ runs) are = (item_run_more item run are.0, item_runs_more items runs are.1)
-
-pub progress_conditions : (progress : Option (List PartContents)) → sum_by value_conditions (progress_in progress) ≡ optional_value progress
-progress_conditions None = refl
-progress_conditions (Some parts) = omega arith
-
--- a board has as many conditions as its member
-pub board_conditions : (b : BoardContents) (id : ℕ) (format : Format) → member_conditions (board_member b) ≡ item_conditions (Ranks id format b)
-board_conditions b id format =
-    omega (arith, progress_conditions b.progress, sum_by-cons value_conditions b.value (progress_in b.progress))
 
 -- an item that waits
 pub achievement_made : (old new : List Node) (id : ℕ) (t : _) (run : AchievementRun) → IsNewAchievement old new t run → IsNewItem old new (Unlocks id t) (Achievement run)

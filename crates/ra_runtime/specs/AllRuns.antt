@@ -2,13 +2,13 @@
 use Rattle.std.specs.Prelude.{◌≡◌, ℕ, Option, List, [], ◌∷◌, ◌++◌, length}
 use Rattle.ra_indirect.specs.Pools.{cells_of, tracked_of}
 use Rattle.ra_progress.specs.Contents.{KeptItem, KeptPresence, Opening}
-use Rattle.ra_runtime.specs.Order.{set_cells, set_tracked}
+use Rattle.ra_meaning.specs.Order.{set_cells, set_tracked}
 use Rattle.ra_indirect.specs.declared.node.Node.{Node}
 use Rattle.ra_memref.specs.Table.{TableSeen}
 use Rattle.ra_set.specs.Contents.{ItemContents, SetContents}
 use Rattle.ra_runtime.specs.declared.item_run.ItemRun.{ItemRun}
 use Rattle.ra_runtime.specs.ItemRuns.{IsItemRun}
-use Rattle.ra_runtime.specs.declared.event.Event.{Event}
+use Rattle.ra_meaning.specs.declared.event.Event.{Event}
 use Rattle.ra_runtime.specs.RunEvents.{run_events, HasItemDigits}
 
 -- each item with its plans

@@ -12,8 +12,8 @@ use Rattle.ra_member.specs.declared.member.Member.{Member}
 use Rattle.ra_member.specs.MemberRuns.{IsMember, IsNewMember, kept_by}
 use Rattle.ra_member.specs.Runs.{HasValues}
 use Rattle.ra_runtime.specs.declared.board_run.BoardRun.{BoardRun}
-use Rattle.ra_runtime.specs.Boards.{BoardKept, running_values, board_after, tracked_number}
-use Rattle.ra_runtime.specs.Order.{board_member}
+use Rattle.ra_meaning.specs.Boards.{BoardKept, running_values, board_after, tracked_number}
+use Rattle.ra_meaning.specs.Order.{board_member}
 
 -- what a run of a board keeps
 abbrev pub board_kept : BoardRun → BoardKept

@@ -13,12 +13,12 @@ use Rattle.ra_progress.specs.Contents.{KeptItem, Opening, IsOpening}
 use Rattle.ra_progress.specs.Reading.{IsAccepted}
 use Rattle.ra_progress.specs.Saying.{says}
 use Rattle.ra_progress.specs.Spelling.{progress_bytes}
-use Rattle.ra_runtime.specs.declared.event.Event.{Event}
-use Rattle.ra_runtime.specs.Earned.{Earned, earned_in, with_earned, HoldTriggered}
-use Rattle.ra_runtime.specs.Lines.{event_lines}
-use Rattle.ra_runtime.specs.Openings.{start_of, frames_after, snapshot}
-use Rattle.ra_runtime.specs.Order.{trees_in_item, trees_in_line, lines_in, trees_in_set, set_cells, set_tracked, shape_of}
-use Rattle.ra_runtime.specs.Play.{item_events, unless_earned, events, lines, shown}
+use Rattle.ra_meaning.specs.declared.event.Event.{Event}
+use Rattle.ra_meaning.specs.Earned.{Earned, earned_in, with_earned, HoldTriggered}
+use Rattle.ra_meaning.specs.Lines.{event_lines}
+use Rattle.ra_meaning.specs.Openings.{start_of, frames_after, snapshot}
+use Rattle.ra_meaning.specs.Order.{trees_in_item, trees_in_line, lines_in, trees_in_set, set_cells, set_tracked, shape_of}
+use Rattle.ra_meaning.specs.Play.{item_events, unless_earned, events, lines, shown}
 
 -- ---- when names tell things apart
 

@@ -9,12 +9,12 @@ use Rattle.ra_member.specs.Plans.{GrowsWithin}
 use Rattle.ra_member.specs.Runs.{HasValues}
 use Rattle.ra_runtime.specs.declared.item_run.ItemRun.{ItemRun}
 use Rattle.ra_runtime.specs.declared.item_run.ItemRun.TheVariants.{Achievement, Leaderboard}
-use Rattle.ra_runtime.specs.Boards.{kept_board}
+use Rattle.ra_meaning.specs.Boards.{kept_board}
 use Rattle.ra_progress.specs.Contents.{KeptItem, plain_item}
-use Rattle.ra_runtime.specs.Earned.{is_earned}
-use Rattle.ra_runtime.specs.Openings.{item_after, kept_achievement}
-use Rattle.ra_runtime.specs.Order.{trees_in_item, item_shape}
-use Rattle.ra_runtime.specs.Play.{item_events, unless_earned}
+use Rattle.ra_meaning.specs.Earned.{is_earned}
+use Rattle.ra_meaning.specs.Openings.{item_after, kept_achievement}
+use Rattle.ra_meaning.specs.Order.{trees_in_item, item_shape}
+use Rattle.ra_meaning.specs.Play.{item_events, unless_earned}
 use Rattle.ra_runtime.specs.Runs.{IsAchievementRun}
 use Rattle.ra_runtime.specs.BoardRuns.{IsBoardRun, board_kept}
 use Rattle.ra_runtime.specs.RunEvents.{run_events}

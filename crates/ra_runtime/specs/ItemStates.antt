@@ -6,9 +6,9 @@ use Rattle.ra_runtime.specs.declared.item_run.ItemRun.{ItemRun}
 use Rattle.ra_runtime.specs.declared.item_run.ItemRun.TheVariants as runs
 use Rattle.ra_runtime.specs.declared.item_state.ItemState.{ItemState}
 use Rattle.ra_runtime.specs.declared.item_state.ItemState.TheVariants.{Achievement, Leaderboard}
-use Rattle.ra_runtime.specs.Boards.{opened_board, tracked_number}
+use Rattle.ra_meaning.specs.Boards.{opened_board, tracked_number}
 use Rattle.ra_runtime.specs.BoardRuns.{board_kept}
-use Rattle.ra_runtime.specs.Openings.{opened_achievement}
+use Rattle.ra_meaning.specs.Openings.{opened_achievement}
 
 -- where an item stands, by what is kept of it
 abbrev pub item_state : ItemContents × KeptItem → ItemState

@@ -1,7 +1,7 @@
 -- The events that are left of a walk over items: docs/DEFINITIONS.md, "Events".
 use Rattle.std.specs.Prelude.{List, ◌++◌, map}
 use Rattle.ra_set.specs.Contents.{item_contents}
-use Rattle.ra_runtime.specs.declared.event.Event.{Event}
+use Rattle.ra_meaning.specs.declared.event.Event.{Event}
 use Rattle.ra_runtime.specs.declared.events.Events.TheInside.{Inside}
 use Rattle.ra_runtime.specs.Rests.{events_of}
 use Rattle.ra_runtime.specs.RunEvents.{told_events}

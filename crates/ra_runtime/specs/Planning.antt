@@ -6,7 +6,7 @@ use Rattle.ra_set.specs.Contents.{ItemContents}
 use Rattle.ra_set.specs.Limits.{item_conditions}
 use Rattle.ra_runtime.specs.declared.item_run.ItemRun.{ItemRun}
 use Rattle.ra_member.specs.Plans.{GrowsWithin}
-use Rattle.ra_runtime.specs.Order.{trees_in_item, item_shape}
+use Rattle.ra_meaning.specs.Order.{trees_in_item, item_shape}
 use Rattle.ra_progress.specs.Contents.{plain_item}
 use Rattle.ra_runtime.specs.ItemRuns.{kept_run}
 use Rattle.ra_runtime.specs.AllRuns.{AreItemRuns}

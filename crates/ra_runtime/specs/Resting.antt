@@ -20,7 +20,7 @@ use Rattle.ra_resting.specs.Inputs.{Instant, SeeSame, MemberSeesSame}
 use Rattle.ra_resting.specs.Reads.{reads_of_laid, reads_of_member}
 use Rattle.ra_resting.specs.Owing.{AreHitsSmall, AreSmall, TestsKeep, ValuesKeep, owed_member}
 use Rattle.ra_readers.specs.Readers.{ReadersSeen, Reads}
-use Rattle.ra_runtime.specs.declared.event.Event.{Event}
+use Rattle.ra_meaning.specs.declared.event.Event.{Event}
 use Rattle.ra_runtime.specs.declared.item_run.ItemRun.{ItemRun}
 use Rattle.ra_runtime.specs.declared.item_run.ItemRun.TheVariants.{Achievement, Leaderboard}
 use Rattle.ra_runtime.specs.declared.rest.ItemBefore.{ItemBefore}
@@ -28,13 +28,13 @@ use Rattle.ra_runtime.specs.declared.rest.ItemBefore.TheVariants as before
 use Rattle.ra_runtime.specs.declared.rest.BoardBefore.{BoardBefore}
 use Rattle.ra_runtime.specs.declared.rest.Rest.{Rest}
 use Rattle.ra_runtime.specs.declared.rest.TriggerBefore.{TriggerBefore}
-use Rattle.ra_runtime.specs.Boards.{BoardKept, kept_board}
+use Rattle.ra_meaning.specs.Boards.{BoardKept, kept_board}
 use Rattle.ra_runtime.specs.BoardRuns.{board_kept}
 use Rattle.ra_runtime.specs.ItemRuns.{IsItemRun, StepsItem, kept_run}
-use Rattle.ra_runtime.specs.Openings.{item_after, kept_achievement}
-use Rattle.ra_runtime.specs.Order.{board_member}
-use Rattle.ra_runtime.specs.Earned.{is_earned}
-use Rattle.ra_runtime.specs.Play.{item_events, unless_earned}
+use Rattle.ra_meaning.specs.Openings.{item_after, kept_achievement}
+use Rattle.ra_meaning.specs.Order.{board_member}
+use Rattle.ra_meaning.specs.Earned.{is_earned}
+use Rattle.ra_meaning.specs.Play.{item_events, unless_earned}
 use Rattle.ra_runtime.specs.RunEvents.{run_events}
 pub use Rattle.ra_resting.specs.Waking.{AreValuesAt, first_frame}
 

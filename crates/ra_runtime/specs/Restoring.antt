@@ -11,8 +11,8 @@ use Rattle.ra_progress.specs.Saying.{said_or, said_item}
 use Rattle.ra_memref.specs.Table.{TableSeen, SamePool}
 use Rattle.ra_runtime.specs.declared.board_run.BoardRun.{BoardRun}
 use Rattle.ra_runtime.specs.declared.item_run.ItemRun.{ItemRun}
-use Rattle.ra_runtime.specs.Earned.{is_earned, item_with}
-use Rattle.ra_runtime.specs.Boards.{kept_board}
+use Rattle.ra_meaning.specs.Earned.{is_earned, item_with}
+use Rattle.ra_meaning.specs.Boards.{kept_board}
 use Rattle.ra_runtime.specs.BoardRuns.{IsBoardRun, board_kept}
 use Rattle.ra_runtime.specs.ItemRuns.{IsItemRun, kept_run}
 use Rattle.ra_runtime.specs.Shapes.{board_run_shape, run_shape}

@@ -5,7 +5,7 @@ use Rattle.ra_indirect.specs.declared.node.Node.{Node}
 use Rattle.ra_memref.specs.Table.{TableSeen, IsListed}
 use Rattle.ra_set.specs.Contents.{ItemContents}
 use Rattle.ra_progress.specs.Contents.{KeptItem}
-use Rattle.ra_runtime.specs.declared.event.Event.{Event}
+use Rattle.ra_meaning.specs.declared.event.Event.{Event}
 use Rattle.ra_runtime.specs.declared.item_run.ItemRun.{ItemRun}
 use Rattle.ra_runtime.specs.declared.rest.Rest.{Rest}
 use Rattle.ra_runtime.specs.declared.rests.Rests.{Rests}

@@ -9,14 +9,14 @@ use Rattle.ra_leaderboard.specs.States.{became_started, became_cancelled, became
 use Rattle.ra_set.specs.Contents.{ItemContents, Unlocks, Ranks}
 use Rattle.ra_runtime.specs.declared.achievement_run.AchievementRun.{AchievementRun}
 use Rattle.ra_runtime.specs.declared.board_run.BoardRun.{BoardRun}
-use Rattle.ra_runtime.specs.declared.event.Event.{Event}
-use Rattle.ra_runtime.specs.declared.event.Event.TheVariants as events
+use Rattle.ra_meaning.specs.declared.event.Event.{Event}
+use Rattle.ra_meaning.specs.declared.event.Event.TheVariants as events
 use Rattle.ra_runtime.specs.declared.item_run.ItemRun.{ItemRun}
 use Rattle.ra_runtime.specs.declared.item_run.ItemRun.TheVariants.{Achievement, Leaderboard}
 use Rattle.ra_runtime.specs.declared.told.Told.{Told}
-use Rattle.ra_runtime.specs.Boards.{tracked_number, value_number}
+use Rattle.ra_meaning.specs.Boards.{tracked_number, value_number}
 use Rattle.ra_runtime.specs.BoardRuns.{board_kept}
-use Rattle.ra_runtime.specs.Events.{event_if, is_started, same_number}
+use Rattle.ra_meaning.specs.Events.{event_if, is_started, same_number}
 
 -- the event of a new measured number, if there is one
 abbrev pub measured_event : ℕ → Option ℕ → List Event

@@ -8,11 +8,11 @@ use Rattle.ra_progress.specs.Contents.{shape_contents}
 use Rattle.ra_progress.specs.Names.{IsUsable}
 use Rattle.ra_progress.specs.Room.{IsRoom}
 use Rattle.ra_runtime.specs.declared.runtime.Runtime.TheInside.{Inside}
-use Rattle.ra_runtime.specs.Order.{shape_of}
-use Rattle.ra_runtime.specs.Runtime.{RuntimeSeen}
+use Rattle.ra_meaning.specs.Order.{shape_of}
+use Rattle.ra_meaning.specs.Runtime.{RuntimeSeen}
 use Rattle.ra_runtime.specs.AllRuns.{AreItemRuns, HaveDigits, IsOver, all_events, opening_by}
-use Rattle.ra_runtime.specs.declared.event.Event.{Event}
-use Rattle.ra_runtime.specs.Lines.{event_lines}
+use Rattle.ra_meaning.specs.declared.event.Event.{Event}
+use Rattle.ra_meaning.specs.Lines.{event_lines}
 use Rattle.ra_display.specs.LineRests.{AreOptionalRests, optional_presence_seen}
 use Rattle.ra_display.specs.PresenceRuns.{IsOptionalPresence}
 use Rattle.ra_runtime.specs.Rests.{AreRests, AreTold, seen_by}

@@ -12,7 +12,7 @@ use Rattle.ra_display.specs.declared.presence_run.PresenceRun.{PresenceRun}
 use Rattle.ra_runtime.specs.declared.item_run.ItemRun.TheVariants.{Achievement, Leaderboard}
 use Rattle.ra_memref.specs.declared.names.Names.{Names}
 use Rattle.ra_memref.specs.Names.{cell_name, tracked_name}
-use Rattle.ra_runtime.specs.Order.{set_cells, set_tracked, item_shape, presence_shape}
+use Rattle.ra_meaning.specs.Order.{set_cells, set_tracked, item_shape, presence_shape}
 use Rattle.ra_progress.specs.Contents.{plain_item, plain_presence}
 use Rattle.ra_runtime.specs.ItemRuns.{kept_run}
 use Rattle.ra_runtime.specs.AllRuns.{AreItemRuns, IsOver}

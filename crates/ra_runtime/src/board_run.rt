@@ -9,8 +9,8 @@ ghost use Rattle.ra_leaderboard.specs.States as states;
 ghost use Rattle.ra_set.specs.Limits.{optional_value};
 ghost use Rattle.ra_member.specs.Members.{MemberContents, member_conditions};
 ghost use Rattle.ra_member.specs.MemberRuns.{IsMember, IsNewMember, StepsValues};
-ghost use Rattle.ra_runtime.specs.Boards as boards;
-ghost use Rattle.ra_runtime.specs.Order.{board_member, progress_in};
+ghost use Rattle.ra_meaning.specs.Boards as boards;
+ghost use Rattle.ra_meaning.specs.Order.{board_member, progress_in};
 ghost use Rattle.ra_runtime.specs.BoardRuns.{FollowsValues, IsBoardRun, IsNewBoard, StepsBoard, board_kept};
 
 use ra_condition::ValueText;

@@ -2,9 +2,9 @@ ghost use Rattle.std.specs.Prelude.{◌≡◌, map};
 ghost use Rattle.ra_set.specs.Contents.{item_contents};
 ghost use Rattle.ra_runtime.specs.Rests.{events_of};
 
-use crate::event::Event;
 use crate::item_run::ItemRun;
 use crate::told::Told;
+use ra_meaning::Event;
 use ra_set::Item;
 use std::marker::Model;
 
@@ -22,7 +22,7 @@ pub struct Events<'a> {
 
 impl<'a> Model for Events<'a> {
     ghost use Rattle.std.specs.Prelude.{List};
-    ghost use Rattle.ra_runtime.specs.declared.event.Event.{Event};
+    ghost use Rattle.ra_meaning.specs.declared.event.Event.{Event};
 
     ghost Value = { List Event };
 

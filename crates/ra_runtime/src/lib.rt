@@ -3,7 +3,6 @@
 
 mod achievement_run;
 mod board_run;
-mod event;
 mod events;
 mod item_run;
 mod item_state;
@@ -19,11 +18,11 @@ mod state_bytes;
 mod told;
 mod written;
 
-pub use event::Event;
 pub use events::Events;
 pub use item_state::ItemState;
-pub use laws::{
-    calls_succeed, changed_sets_go_on, earned_achievements_stay_earned, histories_are_folds,
+pub use laws::changed_sets_go_on;
+pub use ra_meaning::{
+    Event, calls_succeed, earned_achievements_stay_earned, histories_are_folds,
     histories_may_be_cut, openings_stand,
 };
 pub use runtime::Runtime;

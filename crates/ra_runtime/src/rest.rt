@@ -9,7 +9,7 @@ ghost use Rattle.ra_leaderboard.specs.Contents.{board_contents};
 ghost use Rattle.ra_member.specs.Members.{HasShape};
 ghost use Rattle.ra_member.specs.MemberRuns.{kept_by};
 ghost use Rattle.ra_resting.specs.Before.{HaveOneShape, kept_before};
-ghost use Rattle.ra_runtime.specs.Order.{board_member};
+ghost use Rattle.ra_meaning.specs.Order.{board_member};
 ghost use Rattle.ra_runtime.specs.BoardRuns.{board_kept};
 ghost use Rattle.ra_runtime.specs.ItemRuns.{IsItemRun, kept_run};
 ghost use Rattle.ra_runtime.specs.Resting.{BoardRests, FitsRun, HasRoom, IsNoted, ItemRests, StaysItem, StepsRest, TriggerRests, board_before, owed_run, reads_of_run, seen_run, trigger_before};

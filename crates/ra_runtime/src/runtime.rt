@@ -8,8 +8,8 @@ ghost use Rattle.ra_progress.specs.Reading.{IsAccepted, refusal};
 ghost use Rattle.ra_progress.specs.Spelling.{progress_bytes};
 ghost use Rattle.ra_memref.specs.Marks.{reads_of};
 ghost use Rattle.ra_runtime.specs.ItemStates.{state_at};
-ghost use Rattle.ra_runtime.specs.Order.{shape_of};
-ghost use Rattle.ra_runtime.specs.Saving.{IsSaved};
+ghost use Rattle.ra_meaning.specs.Order.{shape_of};
+ghost use Rattle.ra_meaning.specs.Saving.{IsSaved};
 ghost use Rattle.ra_set.specs.Spelled.{IsSpelled};
 
 use crate::events::Events;
@@ -57,7 +57,7 @@ pub struct Runtime {
 }
 
 impl Model for Runtime {
-    ghost use Rattle.ra_runtime.specs.Runtime.{RuntimeSeen};
+    ghost use Rattle.ra_meaning.specs.Runtime.{RuntimeSeen};
 
     ghost Value = { RuntimeSeen };
 
@@ -69,8 +69,8 @@ impl Model for Runtime {
 }
 
 impl Runtime {
-    ghost use Rattle.ra_runtime.specs.Lines.{IsTextOf};
-    ghost use Rattle.ra_runtime.specs.Runtime.{IsMade, IsWritten, ReadsFew, ShowsKept, TakesFrame, TakesUp};
+    ghost use Rattle.ra_meaning.specs.Lines.{IsTextOf};
+    ghost use Rattle.ra_meaning.specs.Runtime.{IsMade, IsWritten, ReadsFew, ShowsKept, TakesFrame, TakesUp};
 
     /// A set over a memory of `size` bytes, all 0, before the first frame: docs/DEFINITIONS.md, "What a
     /// runtime keeps".

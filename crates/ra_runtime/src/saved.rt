@@ -7,7 +7,7 @@ ghost use Rattle.ra_progress.specs.Spelling.{item_bytes, named_blocks};
 ghost use Rattle.ra_progress.specs.Writing.{named_block};
 ghost use Rattle.ra_runtime.specs.declared.item_run.ItemRun.TheVariants.{Achievement, Leaderboard};
 ghost use Rattle.ra_runtime.specs.ItemRuns.{kept_run};
-ghost use Rattle.ra_runtime.specs.Openings.{kept_achievement};
+ghost use Rattle.ra_meaning.specs.Openings.{kept_achievement};
 ghost use Rattle.ra_runtime.specs.Resting.{FitsRun, owed_run, seen_run};
 ghost use Rattle.ra_runtime.specs.Rests.{AreFitting, seen_by};
 ghost use Rattle.ra_member.specs.Members.{saved_hits, saved_numbers};

@@ -15,7 +15,7 @@ ghost use Rattle.ra_display.specs.PresenceRuns.{IsOptionalPresence, optional_pre
 ghost use Rattle.ra_runtime.specs.AllRuns.{AreItemRuns};
 ghost use Rattle.ra_runtime.specs.ItemRuns.{kept_run};
 ghost use Rattle.ra_runtime.specs.Rests.{AreRests, seen_by};
-ghost use Rattle.ra_runtime.specs.Order as spec;
+ghost use Rattle.ra_meaning.specs.Order as spec;
 ghost use Rattle.ra_runtime.specs.Shapes.{run_shape, board_run_shape, optional_run_shape, IsSmall, IsSmallPresence, IsLaidOut, NameSet};
 ghost use Rattle.ra_set.specs.Spelled.{IsSpelled};
 

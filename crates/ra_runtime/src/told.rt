@@ -3,14 +3,14 @@ ghost use Rattle.std.specs.Prelude.{map, ◌≡◌, [], ◌++◌, ◌&&◌, ◌|
 ghost use Rattle.std.specs.Option.{option_to_list};
 ghost use Rattle.ra_set.specs.Contents.{item_contents};
 ghost use Rattle.ra_leaderboard.specs.States as states;
-ghost use Rattle.ra_runtime.specs.Events.{event_if, is_started, same_number};
+ghost use Rattle.ra_meaning.specs.Events.{event_if, is_started, same_number};
 ghost use Rattle.ra_runtime.specs.RunEvents.{achievement_run_events, board_run_events, change_events, measured_event, run_events, told_events};
 
 use crate::achievement_run::AchievementRun;
 use crate::board_run::BoardRun;
-use crate::event::Event;
 use crate::item_run::ItemRun;
 use ra_leaderboard::{BoardChange, BoardState};
+use ra_meaning::Event;
 use ra_set::Item;
 use ra_trigger::{Change, State};
 use ra_value_format::Format;

@@ -3,12 +3,12 @@ use Rattle.std.proofs.Common.{◌≡◌, ℕ, ◌||◌, Bool, true, false, List,
 use Rattle.ra_memory.specs.Image.{History}
 use Rattle.ra_set.specs.Contents.{ItemContents, Unlocks, Ranks, SetContents}
 use Rattle.ra_progress.specs.Contents.{KeptItem, OfAchievement, OfBoard, Opening, ItemsFit, IsOpening}
-use Rattle.ra_runtime.specs.Earned.{Earned, HoldTriggered, IsEarnedToo, is_earned, items_with, with_earned, both_earned, earned_in, none_earned}
-use Rattle.ra_runtime.specs.Openings.{start_of, item_after, snapshot, plain_opening}
-use Rattle.ra_runtime.specs.Order.{item_shape, shape_of}
-use Rattle.ra_runtime.specs.Play.{earns}
-use Rattle.ra_runtime.proofs.EarnedItems.{items_same, items_again, fit_hold, frame_holds, stay_earned}
-use Rattle.ra_runtime.proofs.Snapshots.{snapshot_none}
+use Rattle.ra_meaning.specs.Earned.{Earned, HoldTriggered, IsEarnedToo, is_earned, items_with, with_earned, both_earned, earned_in, none_earned}
+use Rattle.ra_meaning.specs.Openings.{start_of, item_after, snapshot, plain_opening}
+use Rattle.ra_meaning.specs.Order.{item_shape, shape_of}
+use Rattle.ra_meaning.specs.Play.{earns}
+use Rattle.ra_meaning.proofs.EarnedItems.{items_same, items_again, fit_hold, frame_holds, stay_earned}
+use Rattle.ra_meaning.proofs.Snapshots.{snapshot_none}
 
 or_self : (a : Bool) → (a || a) ≡ a
 or_self true = refl

@@ -12,7 +12,7 @@ use Rattle.ra_memory.specs.Image.{History}
 use Rattle.ra_set.specs.Contents.{SetContents}
 use Rattle.ra_progress.specs.Contents.{Opening}
 use Rattle.ra_jobs.specs.Words.{Job, Run, file_in, puts_of, reads_of}
-use Rattle.ra_runtime.specs.Earned.{Earned}
+use Rattle.ra_meaning.specs.Earned.{Earned}
 use Rattle.ra_session.specs.Expected.{Expected, RunSays, played}
 use Rattle.ra_session.specs.Closing.{EndsBefore}
 use Rattle.ra_session.specs.Failures.{ending_at, ending_of_load, ending_of_put, ending_of_trace}

@@ -9,7 +9,7 @@ use Rattle.ra_trace.specs.declared.error.TraceError.TheVariants as errors
 use Rattle.ra_trace.specs.Entries.{Entry, Written, Saved, Ended, entry_bytes}
 use Rattle.ra_trace.specs.Cutting.{Stop, RefusedAt, PastLimit, Pieces, Reached, cut, cut_unless, cut_behind, with_entry, refusal, front, filled_after, no_slots, stop_within}
 use Rattle.ra_trace.specs.Reading.{ReaderSeen, Holds, Stands, IsBehindRecord, IsBehindHeader, IsStop, seen_from, next_stop}
-use Rattle.ra_runtime.specs.Play.{Moment, moved, first_moment}
+use Rattle.ra_meaning.specs.Play.{Moment, moved, first_moment}
 use Rattle.ra_session.specs.Endings.{ending_of}
 use Rattle.ra_session.specs.Expected.{trace_limit}
 use Rattle.ra_session.specs.Playing.{IsLeft, TakesEmpty}

@@ -17,9 +17,9 @@ use Rattle.ra_progress.specs.Reading.{refusal}
 use Rattle.ra_progress.specs.Laws.{IsShape}
 use Rattle.ra_progress.specs.Saying.{says}
 use Rattle.ra_trace.specs.Cutting.{Stop, Reached, RefusedAt, PastLimit}
-use Rattle.ra_runtime.specs.Order.{shape_of}
-use Rattle.ra_runtime.specs.Earned.{Earned, HoldTriggered, earned_in, none_earned, with_earned}
-use Rattle.ra_runtime.specs.Openings.{snapshot, plain_opening}
+use Rattle.ra_meaning.specs.Order.{shape_of}
+use Rattle.ra_meaning.specs.Earned.{Earned, HoldTriggered, earned_in, none_earned, with_earned}
+use Rattle.ra_meaning.specs.Openings.{snapshot, plain_opening}
 use Rattle.ra_jobs.specs.Words.{Job, Run, file_in, reads_of}
 use Rattle.ra_session.specs.Endings.{ending_of}
 use Rattle.ra_session.specs.Expected.{Expected, RunSays, refuses_set, refuses_file, begins, goes_on, takes_up, played, prints_nothing, progress_limit, set_limit}

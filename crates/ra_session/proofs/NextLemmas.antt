@@ -14,9 +14,9 @@ use Rattle.ra_trace.specs.declared.record.Record.TheVariants as trace
 use Rattle.ra_trace.specs.Entries.{Entry, entry_of, Written, Framed, Saved, Restored, Shown, Ended}
 use Rattle.ra_trace.specs.Cutting.{Pieces, RefusedAt, stop_within}
 use Rattle.ra_trace.specs.Reading.{ReaderSeen, Holds, Stands, IsBehindRecord, IsStop, next_stop}
-use Rattle.ra_runtime.specs.Runtime.{RuntimeSeen}
-use Rattle.ra_runtime.specs.Earned.{Earned}
-use Rattle.ra_runtime.specs.Play.{Moment, moved, printed, earned_next}
+use Rattle.ra_meaning.specs.Runtime.{RuntimeSeen}
+use Rattle.ra_meaning.specs.Earned.{Earned}
+use Rattle.ra_meaning.specs.Play.{Moment, moved, printed, earned_next}
 use Rattle.ra_session.specs.Endings.{ending_of}
 use Rattle.ra_session.specs.declared.ending.Ending.TheVariants.{BadTrace}
 use Rattle.ra_session.specs.Expected.{pieces_from, trace_limit}

@@ -4,15 +4,15 @@ use Rattle.ra_memory.specs.Image.{History}
 use Rattle.ra_set.specs.Contents.{SetContents}
 use Rattle.ra_progress.specs.Contents.{Opening}
 use Rattle.ra_progress.specs.Saying.{says}
-use Rattle.ra_runtime.specs.Order.{shape_of}
+use Rattle.ra_meaning.specs.Order.{shape_of}
 use Rattle.ra_trace.specs.declared.error.Why.{Why}
 use Rattle.ra_trace.specs.declared.error.Why.TheVariants.{Header, Cut}
 use Rattle.ra_trace.specs.Entries.{Entry, Written}
 use Rattle.ra_trace.specs.Cutting.{Stop, RefusedAt, Pieces, cut, cut_unless, cut_behind, refusal, front, header_size, no_slots, trace_behind, stop_within}
 use Rattle.ra_trace.specs.Reading.{ReaderSeen, seen_from}
-use Rattle.ra_runtime.specs.Earned.{Earned, earned_in, none_earned}
-use Rattle.ra_runtime.specs.Openings.{plain_opening}
-use Rattle.ra_runtime.specs.Play.{Moment, first_moment}
+use Rattle.ra_meaning.specs.Earned.{Earned, earned_in, none_earned}
+use Rattle.ra_meaning.specs.Openings.{plain_opening}
+use Rattle.ra_meaning.specs.Play.{Moment, first_moment}
 use Rattle.ra_session.specs.Endings.{ending_of}
 use Rattle.ra_session.specs.declared.ending.Ending.TheVariants.{Done, BadTrace, LongTrace}
 use Rattle.ra_session.specs.Expected.{Expected, IsReadBehind, RunSays, refuses_set, refuses_file, begins, goes_on, SetSays, tells, ImportSays, refuses_document, imports, NormalSays, passes_limit, puts_text, played, pieces_from, trace_limit, takes_up}

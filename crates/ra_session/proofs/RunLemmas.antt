@@ -6,9 +6,9 @@ use Rattle.md5.proofs.StandardFacts.{length-md5}
 use Rattle.ra_io.specs.Causes.{NoneFell}
 use Rattle.ra_memory.specs.Image.{History}
 use Rattle.ra_progress.specs.Names.{IsName}
-use Rattle.ra_runtime.specs.Order.{shape_of}
-use Rattle.ra_runtime.specs.OpeningLaws.{HasDigests}
-use Rattle.ra_runtime.proofs.Digests.{md5_bytes}
+use Rattle.ra_meaning.specs.Order.{shape_of}
+use Rattle.ra_meaning.specs.OpeningLaws.{HasDigests}
+use Rattle.ra_meaning.proofs.Digests.{md5_bytes}
 use Rattle.std.specs.List.{concat, AllByRecursion}
 use Rattle.std.specs.Result.{IsErrAnd, IsErrOf}
 use Rattle.std.proofs.lemmas.List.{take_all, length-take}
@@ -23,9 +23,9 @@ use Rattle.ra_trace.specs.declared.error.TraceError.{TraceError}
 use Rattle.ra_trace.specs.declared.error.TraceError.TheVariants as errors
 use Rattle.ra_trace.specs.Cutting.{Stop, RefusedAt, header_size, no_slots, trace_behind, stop_within}
 use Rattle.ra_trace.specs.Reading.{IsStop, header_stop}
-use Rattle.ra_runtime.specs.Runtime.{RuntimeSeen}
-use Rattle.ra_runtime.specs.Earned.{Earned}
-use Rattle.ra_runtime.specs.Play.{first_moment, moment_after, earned_after, saved_end}
+use Rattle.ra_meaning.specs.Runtime.{RuntimeSeen}
+use Rattle.ra_meaning.specs.Earned.{Earned}
+use Rattle.ra_meaning.specs.Play.{first_moment, moment_after, earned_after, saved_end}
 use Rattle.ra_session.specs.Endings.{ending_of}
 use Rattle.ra_session.specs.declared.ending.Ending.{Ending}
 use Rattle.ra_session.specs.declared.ending.Ending.TheVariants.{Done, NoMemory, NoJob, BadSet, ReadFault, SinkFault, BadProgress, BadTrace, LongTrace, SaveFault, BadDocument, LongNormal, NoAchievement, ManyRows}

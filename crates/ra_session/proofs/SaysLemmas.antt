@@ -9,9 +9,9 @@ use Rattle.ra_progress.specs.Layout.{length_of}
 use Rattle.ra_progress.specs.Reading.{refusal}
 use Rattle.ra_progress.specs.Saying.{says}
 use Rattle.ra_progress.proofs.Checks.{none_accepted}
-use Rattle.ra_runtime.specs.Earned.{earned_in}
-use Rattle.ra_runtime.specs.Order.{shape_of}
-use Rattle.ra_runtime.proofs.Snapshots.{is_shape, said_is_opening}
+use Rattle.ra_meaning.specs.Earned.{earned_in}
+use Rattle.ra_meaning.specs.Order.{shape_of}
+use Rattle.ra_meaning.proofs.Snapshots.{is_shape, said_is_opening}
 use Rattle.ra_session.specs.Expected.{progress_limit}
 use Rattle.ra_session.specs.Loading.{AreAccepted, BeginsAt}
 use Rattle.ra_session.specs.Playing.{IsPlayable}

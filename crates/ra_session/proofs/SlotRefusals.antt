@@ -7,7 +7,7 @@ use Rattle.ra_memory.specs.Image.{History}
 use Rattle.ra_trace.specs.declared.error.Why.{Why}
 use Rattle.ra_trace.specs.declared.error.Why.TheVariants.{Cut, EmptySlot}
 use Rattle.ra_trace.specs.Cutting.{refusal, restore_refusal, front}
-use Rattle.ra_runtime.specs.Play.{Moment}
+use Rattle.ra_meaning.specs.Play.{Moment}
 use Rattle.ra_session.specs.Playing.{TakesEmpty}
 
 abbrev all_filled : List Bool

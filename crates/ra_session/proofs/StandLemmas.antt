@@ -11,14 +11,14 @@ use Rattle.ra_progress.specs.Reading.{refusal}
 use Rattle.ra_progress.specs.Saying.{says}
 use Rattle.ra_trace.specs.declared.record.Record.{Record}
 use Rattle.ra_trace.specs.Entries.{entry_of, Written, Framed, Saved, Restored, Shown, Ended}
-use Rattle.ra_runtime.specs.Runtime.{RuntimeSeen, IsMade, IsWritten, ShowsKept, StandsAfter, TakesFrame, TakesUp}
-use Rattle.ra_runtime.specs.Order.{shape_of}
-use Rattle.ra_runtime.specs.Earned.{Earned, HoldTriggered, both_earned, earned_in, none_earned, with_earned}
-use Rattle.ra_runtime.specs.Openings.{start_of, snapshot, plain_opening}
-use Rattle.ra_runtime.specs.Play.{Moment, moved, lines, unlocks, earns, shown, first_moment, kept_in}
+use Rattle.ra_meaning.specs.Runtime.{RuntimeSeen, IsMade, IsWritten, ShowsKept, StandsAfter, TakesFrame, TakesUp}
+use Rattle.ra_meaning.specs.Order.{shape_of}
+use Rattle.ra_meaning.specs.Earned.{Earned, HoldTriggered, both_earned, earned_in, none_earned, with_earned}
+use Rattle.ra_meaning.specs.Openings.{start_of, snapshot, plain_opening}
+use Rattle.ra_meaning.specs.Play.{Moment, moved, lines, unlocks, earns, shown, first_moment, kept_in}
 use Rattle.ra_session.specs.declared.player.Player.{Player}
-use Rattle.ra_runtime.proofs.EarnedItems.{opening_with}
-use Rattle.ra_runtime.proofs.Snapshots.{plain_is_opening, opening_comes_back, snapshot_fits}
+use Rattle.ra_meaning.proofs.EarnedItems.{opening_with}
+use Rattle.ra_meaning.proofs.Snapshots.{plain_is_opening, opening_comes_back, snapshot_fits}
 use Rattle.ra_session.specs.Loading.{AreAccepted, BeginsAt}
 use Rattle.ra_session.proofs.EarnedLemmas.{earned_self, earned_later, kept_earned, earns_hold, save_holds, restored_with, none_and_file, opened_with, opened_holds, plain_earned}
 use Rattle.ra_session.specs.Playing.{StandsAt, IsPlayable, IsSaveOf, HoldsKept, HoldEachKept, TakesEmpty, TakesUpFrom, Plays, slots_of}

@@ -4,8 +4,8 @@ use Rattle.std.specs.List.{concat}
 use Rattle.ra_set.specs.Contents.{SetContents}
 use Rattle.ra_progress.specs.Contents.{Opening}
 use Rattle.ra_trace.specs.Entries.{Entry}
-use Rattle.ra_runtime.specs.Earned.{Earned}
-use Rattle.ra_runtime.specs.Play.{Moment, moved, printed, earned_next, text_from}
+use Rattle.ra_meaning.specs.Earned.{Earned}
+use Rattle.ra_meaning.specs.Play.{Moment, moved, printed, earned_next, text_from}
 use Rattle.ra_session.specs.Expected.{pieces_from}
 
 -- joined, the pieces from a moment on are the text from there

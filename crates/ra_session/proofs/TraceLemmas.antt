@@ -11,9 +11,9 @@ use Rattle.ra_progress.specs.Contents.{Opening}
 use Rattle.ra_trace.specs.Entries.{Ended}
 use Rattle.ra_trace.specs.Cutting.{Pieces, Reached, stop_within}
 use Rattle.ra_trace.specs.Reading.{ReaderSeen}
-use Rattle.ra_runtime.specs.Runtime.{RuntimeSeen}
-use Rattle.ra_runtime.specs.Earned.{Earned}
-use Rattle.ra_runtime.specs.Play.{Moment, moved, moment_after, printed, earned_next, earned_after}
+use Rattle.ra_meaning.specs.Runtime.{RuntimeSeen}
+use Rattle.ra_meaning.specs.Earned.{Earned}
+use Rattle.ra_meaning.specs.Play.{Moment, moved, moment_after, printed, earned_next, earned_after}
 use Rattle.ra_session.specs.Endings.{ending_of}
 use Rattle.ra_session.specs.declared.ending.Ending.{Ending}
 use Rattle.ra_session.specs.declared.ending.Ending.TheVariants.{Done, NoMemory, ReadFault, SinkFault, SaveFault}

@@ -14,10 +14,10 @@ use Rattle.ra_progress.specs.Refusals.{hex}
 use Rattle.ra_trace.specs.Entries.{Entry}
 use Rattle.ra_trace.specs.Cutting.{Trace, no_slots, trace_within}
 use Rattle.ra_trace.specs.Workload.{made_set, made_trace}
-use Rattle.ra_runtime.specs.Order.{set_cells, set_tracked, shape_of}
-use Rattle.ra_runtime.specs.Earned.{Earned, HoldTriggered, earned_in, none_earned, with_earned}
-use Rattle.ra_runtime.specs.Openings.{snapshot, plain_opening}
-use Rattle.ra_runtime.specs.Play.{Moment, moved, printed, earned_next, first_moment, saved_end}
+use Rattle.ra_meaning.specs.Order.{set_cells, set_tracked, shape_of}
+use Rattle.ra_meaning.specs.Earned.{Earned, HoldTriggered, earned_in, none_earned, with_earned}
+use Rattle.ra_meaning.specs.Openings.{snapshot, plain_opening}
+use Rattle.ra_meaning.specs.Play.{Moment, moved, printed, earned_next, first_moment, saved_end}
 use Rattle.ra_progress.specs.declared.refused.ProgressRefused.{ProgressRefused}
 use Rattle.ra_set.specs.Accepted.{IsSet}
 use Rattle.ra_set.specs.Refusals.{Refuses}

@@ -6,7 +6,7 @@ use Rattle.ra_condition.specs.Contents.{TriggerContents, groups_of, trigger_hits
 use Rattle.ra_memory.specs.Image.{History}
 use Rattle.ra_set.specs.Contents.{ItemContents, Unlocks, Ranks}
 use Rattle.ra_trace.specs.Entries.{Entry, Framed, Ended}
-use Rattle.ra_runtime.specs.Play.{Moment, moved}
+use Rattle.ra_meaning.specs.Play.{Moment, moved}
 use Rattle.ra_explain.specs.Explains.{ExplanationContents}
 use Rattle.ra_explain.specs.Recorders.{unlocks_at, most_rows}
 use Rattle.ra_explain.specs.declared.explanation.Event.{Event}

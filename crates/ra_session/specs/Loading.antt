@@ -9,9 +9,9 @@ use Rattle.ra_progress.specs.Contents.{Opening, IsOpening}
 use Rattle.ra_progress.specs.Laws.{IsShape}
 use Rattle.ra_progress.specs.Reading.{refusal}
 use Rattle.ra_progress.specs.Saying.{says}
-use Rattle.ra_runtime.specs.Order.{shape_of}
-use Rattle.ra_runtime.specs.Earned.{Earned, HoldTriggered, none_earned, with_earned}
-use Rattle.ra_runtime.specs.Openings.{snapshot, plain_opening}
+use Rattle.ra_meaning.specs.Order.{shape_of}
+use Rattle.ra_meaning.specs.Earned.{Earned, HoldTriggered, none_earned, with_earned}
+use Rattle.ra_meaning.specs.Openings.{snapshot, plain_opening}
 use Rattle.ra_io.specs.Causes.{Rose}
 use Rattle.ra_jobs.specs.Words.{file_in}
 use Rattle.ra_session.specs.Expected.{progress_limit, set_limit}

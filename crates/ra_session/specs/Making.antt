@@ -4,8 +4,8 @@ use Rattle.std.specs.List.{concat}
 use Rattle.ra_set.specs.Contents.{SetContents}
 use Rattle.ra_set.specs.Accepted.{IsSet}
 use Rattle.ra_trace.specs.Workload.{made_set, made_trace}
-use Rattle.ra_runtime.specs.Earned.{none_earned}
-use Rattle.ra_runtime.specs.Openings.{plain_opening}
+use Rattle.ra_meaning.specs.Earned.{none_earned}
+use Rattle.ra_meaning.specs.Openings.{plain_opening}
 use Rattle.ra_session.specs.Expected.{played}
 
 -- the name of the set in memory

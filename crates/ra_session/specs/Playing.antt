@@ -14,12 +14,12 @@ use Rattle.ra_lint.specs.Fewness.{HasFewAlts}
 use Rattle.ra_trace.specs.Entries.{Entry, Restored, Ended}
 use Rattle.ra_trace.specs.Cutting.{Pieces, Reached, cut, with_entry, stop_within}
 use Rattle.ra_trace.specs.Reading.{ReaderSeen, Holds, seen_from}
-use Rattle.ra_runtime.specs.Runtime.{RuntimeSeen, TakesUp}
-use Rattle.ra_runtime.specs.Order.{shape_of}
-use Rattle.ra_runtime.specs.OpeningLaws.{HasDigests}
-use Rattle.ra_runtime.specs.Earned.{Earned, HoldTriggered, IsEarnedToo, with_earned}
-use Rattle.ra_runtime.specs.Openings.{snapshot}
-use Rattle.ra_runtime.specs.Play.{Moment, moved, printed, earned_next}
+use Rattle.ra_meaning.specs.Runtime.{RuntimeSeen, TakesUp}
+use Rattle.ra_meaning.specs.Order.{shape_of}
+use Rattle.ra_meaning.specs.OpeningLaws.{HasDigests}
+use Rattle.ra_meaning.specs.Earned.{Earned, HoldTriggered, IsEarnedToo, with_earned}
+use Rattle.ra_meaning.specs.Openings.{snapshot}
+use Rattle.ra_meaning.specs.Play.{Moment, moved, printed, earned_next}
 use Rattle.ra_session.specs.Endings.{ending_of}
 use Rattle.ra_session.specs.Expected.{Expected, pieces_from, trace_limit}
 use Rattle.ra_session.specs.Closing.{EndsBefore}

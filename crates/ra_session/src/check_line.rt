@@ -1,7 +1,7 @@
 //! The line of `check`: docs/DEFINITIONS.md, "Counts of a set".
 
 ghost use Rattle.std.specs.Prelude.{◌≡◌, ◌<◌, ◌^◌, length, map, IfOk, string_bytes};
-ghost use Rattle.ra_runtime.specs.Order.{set_cells, set_tracked};
+ghost use Rattle.ra_meaning.specs.Order.{set_cells, set_tracked};
 ghost use Rattle.ra_set.specs.Contents.{item_contents, set_contents};
 ghost use Rattle.ra_set.specs.Limits.{set_conditions};
 ghost use Rattle.ra_session.specs.Expected as spec;

@@ -5,8 +5,8 @@ ghost use Rattle.std.specs.List.{concat};
 ghost use Rattle.ra_set.specs.Contents.{SetContents};
 ghost use Rattle.ra_memory.specs.Image.{History};
 ghost use Rattle.ra_progress.specs.Contents.{Opening};
-ghost use Rattle.ra_runtime.specs.Earned.{Earned};
-ghost use Rattle.ra_runtime.specs.Play.{text_of};
+ghost use Rattle.ra_meaning.specs.Earned.{Earned};
+ghost use Rattle.ra_meaning.specs.Play.{text_of};
 ghost use Rattle.ra_session.specs.Expected.{played, trace_in};
 
 /// What a run prints, record by record, is the text of its trace: docs/DEFINITIONS.md, "Printed lines".

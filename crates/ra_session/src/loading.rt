@@ -8,7 +8,7 @@ ghost use Rattle.ra_progress.specs.Contents.{shape_contents};
 ghost use Rattle.ra_progress.specs.Names.{IsUsable};
 ghost use Rattle.ra_progress.specs.Reading.{refusal};
 ghost use Rattle.ra_memory.specs.Image.{AreBytes};
-ghost use Rattle.ra_runtime.specs.Order as order;
+ghost use Rattle.ra_meaning.specs.Order as order;
 ghost use Rattle.ra_session.specs.Expected.{progress_limit};
 ghost use Rattle.ra_session.specs.Loading.{AreAccepted, AreOfFile, HasNoProgress, HasNoSet, IsLoaded, IsNotLoaded, IsTaken, progress_in};
 ghost use Rattle.ra_session.specs.Outside.{AnyRose};

@@ -8,10 +8,10 @@ ghost use Rattle.ra_progress.specs.Reading.{refusal};
 ghost use Rattle.ra_set.specs.Contents.{SetContents, set_contents};
 ghost use Rattle.ra_trace.specs.Entries.{entry_of, Saved, Restored};
 ghost use Rattle.ra_trace.specs.Reading.{LiesWithin};
-ghost use Rattle.ra_runtime.specs.Earned.{Earned};
-ghost use Rattle.ra_runtime.specs.Order.{shape_of};
-ghost use Rattle.ra_runtime.specs.Play.{Moment, moved, first_moment};
-ghost use Rattle.ra_runtime.specs.Runtime.{IsWritten, TakesFrame};
+ghost use Rattle.ra_meaning.specs.Earned.{Earned};
+ghost use Rattle.ra_meaning.specs.Order.{shape_of};
+ghost use Rattle.ra_meaning.specs.Play.{Moment, moved, first_moment};
+ghost use Rattle.ra_meaning.specs.Runtime.{IsWritten, TakesFrame};
 ghost use Rattle.ra_session.specs.Loading.{AreAccepted, BeginsAt, progress_in};
 ghost use Rattle.ra_session.specs.Playing.{StandsAt, StandsSomewhere, IsPlayable, TakesEmpty, TakesUpFrom, Plays, kept_bytes, slots_of};
 

@@ -7,7 +7,7 @@ ghost use Rattle.ra_io.specs.Files.{OnlyRead, SameContent};
 ghost use Rattle.ra_memory.specs.Image.{History};
 ghost use Rattle.ra_progress.specs.Contents.{Opening};
 ghost use Rattle.ra_set.specs.Contents.{set_contents};
-ghost use Rattle.ra_runtime.specs.Earned.{Earned};
+ghost use Rattle.ra_meaning.specs.Earned.{Earned};
 ghost use Rattle.ra_session.specs.Closing.{EndsBefore};
 ghost use Rattle.ra_session.specs.Expected.{played};
 ghost use Rattle.ra_session.specs.Failures.{ending_at};

@@ -4,7 +4,7 @@ use Rattle.ra_io.specs.Causes.{Rose}
 use Rattle.ra_trace.specs.Cutting.{header_size}
 use Rattle.ra_trace.specs.Reading.{IsStop, header_stop}
 use Rattle.ra_trace.specs.declared.error.TraceError.TheVariants as error
-use Rattle.ra_runtime.specs.Play.{first_moment}
+use Rattle.ra_meaning.specs.Play.{first_moment}
 use Rattle.ra_session.specs.Endings.{ending_of}
 use Rattle.ra_session.specs.Expected.{trace_in, trace_limit}
 use Rattle.ra_session.proofs.LeftLemmas.{left_whole, pieces_of}

@@ -1,5 +1,5 @@
 use Rattle.ra_leaderboard.specs.Contents.{board_contents}
-use Rattle.ra_runtime.specs.Order.{board_member}
+use Rattle.ra_meaning.specs.Order.{board_member}
 use Rattle.ra_runtime.proofs.BoardLemmas.{member_stepped}
 use Rattle.ra_runtime.proofs.board_run.follow.Goals as goal
 use Rattle.ra_runtime.proofs.board_run.follow.Goals.{then-begins, else-begins}

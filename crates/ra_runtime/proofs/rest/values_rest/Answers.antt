@@ -4,7 +4,7 @@ use Rattle.ra_condition.specs.Contents.{value_contents, value_hits}
 use Rattle.ra_value.specs.Steps.{ValueKept}
 use Rattle.ra_resting.specs.Before.{value_before}
 use Rattle.ra_resting.specs.Owing.{ValuesKeep}
-use Rattle.ra_runtime.specs.Order.{progress_in}
+use Rattle.ra_meaning.specs.Order.{progress_in}
 use Rattle.ra_resting.proofs.Kept.{value_kept}
 use Rattle.ra_runtime.proofs.RestRuns.{two_keep}
 use Rattle.ra_runtime.proofs.rest.values_rest.Goals as goal

@@ -2,7 +2,7 @@ use Rattle.std.proofs.Common.{ℕ, ◌<◌, ◌^◌, subst, arith}
 use Rattle.ra_progress.specs.Contents.{ItemFits}
 use Rattle.ra_progress.specs.declared.shape.ItemShape.TheVariants as shapes
 use Rattle.ra_trigger.specs.Steps.{TriggerKept}
-use Rattle.ra_runtime.specs.Openings.{kept_achievement}
+use Rattle.ra_meaning.specs.Openings.{kept_achievement}
 use Rattle.ra_runtime.proofs.SaveLemmas.{achievement_kept_fits}
 use Rattle.ra_runtime.proofs.saved.put_achievement_run.Goals as goal
 

@@ -1,6 +1,6 @@
 use Rattle.std.proofs.Common.{◌≡◌, ◌++◌}
 use Rattle.std.specs.List.{AllByRecursion}
-use Rattle.ra_runtime.specs.Lines.{event_lines, HasEventDigits}
+use Rattle.ra_meaning.specs.Lines.{event_lines, HasEventDigits}
 use Rattle.ra_runtime.proofs.written.put_events.Given as goal
 
 abbrev pub invariant-loop-event : goal.invariant-loop-event

@@ -2,7 +2,7 @@ use Rattle.std.proofs.Common.{◌∙◌, ap, length}
 use Rattle.std.proofs.lemmas.List.{length-map}
 use Rattle.ra_set.specs.Contents.{set_contents}
 use Rattle.ra_progress.specs.Contents.{ShapeContents}
-use Rattle.ra_runtime.specs.Order.{set_cells, set_tracked}
+use Rattle.ra_meaning.specs.Order.{set_cells, set_tracked}
 use Rattle.ra_session.proofs.check_line.check_line.Goals as goal
 
 pub counted_line-requires-clause-cells : goal.counted_line-requires-clause-cells

@@ -1,4 +1,4 @@
-use Rattle.ra_runtime.specs.Play.{first_moment}
+use Rattle.ra_meaning.specs.Play.{first_moment}
 use Rattle.ra_session.specs.Expected.{trace_in}
 use Rattle.ra_session.proofs.TextLemmas.{pieces_text}
 use Rattle.ra_session.proofs.laws.runs_print_their_texts.Goals as goal

@@ -1,7 +1,7 @@
 use Rattle.std.proofs.Common.{◌∙◌, ◌≡◌, ap, sym, subst, refl, List, ℕ, take, Some, None}
 use Rattle.ra_set.specs.Contents.{set_contents}
 use Rattle.ra_progress.specs.Reading.{refusal}
-use Rattle.ra_runtime.specs.Order.{shape_of}
+use Rattle.ra_meaning.specs.Order.{shape_of}
 use Rattle.ra_session.specs.Loading.{AreAccepted}
 use Rattle.ra_session.proofs.LoadLemmas.{refused_at}
 use Rattle.ra_session.proofs.NextLemmas.{told}

@@ -4,8 +4,8 @@ use Rattle.ra_io.specs.Causes.{Rose}
 use Rattle.ra_io.specs.SureFiles.{names_of}
 use Rattle.ra_set.specs.Contents.{set_contents}
 use Rattle.ra_trace.specs.Workload.{made_set, made_trace}
-use Rattle.ra_runtime.specs.Earned.{none_earned}
-use Rattle.ra_runtime.specs.Openings.{plain_opening}
+use Rattle.ra_meaning.specs.Earned.{none_earned}
+use Rattle.ra_meaning.specs.Openings.{plain_opening}
 use Rattle.ra_session.specs.Closing.{EndsBefore}
 use Rattle.ra_session.specs.declared.ending.Ending.TheVariants.{Done, NoMemory}
 use Rattle.ra_session.specs.Expected.{played}

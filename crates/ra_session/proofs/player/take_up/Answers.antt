@@ -1,8 +1,8 @@
 use Rattle.std.proofs.Common.{◌≡◌, Result, Ok, Err, Option, None, Some, IfSome, IfErr, OnOk, option_map, refl, sym, subst, ◌∙◌}
 use Rattle.std.proofs.lemmas.Option.{none-some}
 use Rattle.ra_progress.specs.Reading.{refusal}
-use Rattle.ra_runtime.specs.Order.{shape_of}
-use Rattle.ra_runtime.specs.Runtime.{TakesUp}
+use Rattle.ra_meaning.specs.Order.{shape_of}
+use Rattle.ra_meaning.specs.Runtime.{TakesUp}
 use Rattle.ra_session.specs.Playing.{TakesUpFrom}
 use Rattle.ra_session.proofs.player.take_up.Goals as goal
 

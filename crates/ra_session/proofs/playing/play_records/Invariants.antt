@@ -3,8 +3,8 @@ use Rattle.ra_io.specs.Files.{OnlyRead}
 use Rattle.ra_set.specs.Contents.{SetContents}
 use Rattle.ra_progress.specs.Contents.{Opening}
 use Rattle.ra_trace.specs.Cutting.{Pieces}
-use Rattle.ra_runtime.specs.Earned.{Earned}
-use Rattle.ra_runtime.specs.Play.{Moment}
+use Rattle.ra_meaning.specs.Earned.{Earned}
+use Rattle.ra_meaning.specs.Play.{Moment}
 use Rattle.ra_session.specs.Playing.{StandsAt, StandsSomewhere, IsLeft, slots_of}
 use Rattle.ra_session.proofs.TraceLemmas.{PlayedTo}
 use Rattle.ra_session.proofs.playing.play_records.Given as goal

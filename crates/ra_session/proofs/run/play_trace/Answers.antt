@@ -1,7 +1,7 @@
 use Rattle.std.proofs.Common.{arith, ◌≡◌, ◌∙◌, ap, subst, take, ℕ, List, Some}
 use Rattle.ra_io.specs.Causes.{Rose}
 use Rattle.ra_set.specs.Contents.{set_contents}
-use Rattle.ra_runtime.specs.Play.{first_moment}
+use Rattle.ra_meaning.specs.Play.{first_moment}
 use Rattle.ra_trace.specs.Cutting.{header_size}
 use Rattle.ra_trace.specs.Reading.{IsStop, header_stop}
 use Rattle.ra_session.specs.Failures.{ending_of_trace, trace_failed}

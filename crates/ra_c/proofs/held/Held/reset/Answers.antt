@@ -1,5 +1,5 @@
 use Rattle.std.proofs.Common.{sym, refl, subst, ◌∙◌}
-use Rattle.ra_runtime.specs.Runtime.{RuntimeSeen}
+use Rattle.ra_meaning.specs.Runtime.{RuntimeSeen}
 use Rattle.ra_c.specs.Answers.{BeginsAgain}
 use Rattle.ra_c.proofs.Taken.{begins_again, restore_stays, still_held}
 use Rattle.ra_c.proofs.held.Held.reset.Goals as goal

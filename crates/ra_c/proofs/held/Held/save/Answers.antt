@@ -1,6 +1,6 @@
 use Rattle.std.proofs.Common.{subst}
 use Rattle.std.specs.Prelude.{IfOk}
-use Rattle.ra_runtime.specs.Runtime.{RuntimeSeen}
+use Rattle.ra_meaning.specs.Runtime.{RuntimeSeen}
 use Rattle.ra_c.specs.Answers.{IsSaveOf}
 use Rattle.ra_c.proofs.Fresh.{save_is}
 use Rattle.ra_c.proofs.Taken.{if_ok}

@@ -1,6 +1,7 @@
 use Rattle.ra_leaderboard.specs.Contents.{board_contents}
 use Rattle.std.proofs.Common.{arith}
-use Rattle.ra_runtime.proofs.WaitingLemmas.{board_conditions, leaderboard_made}
+use Rattle.ra_meaning.proofs.ItemCounts.{board_conditions}
+use Rattle.ra_runtime.proofs.WaitingLemmas.{leaderboard_made}
 use Rattle.ra_runtime.proofs.item_run.ItemRun.new.Goals as goal
 
 pub returns-in_ok-run-in-Leaderboard : goal.returns-in_ok-run-in-Leaderboard

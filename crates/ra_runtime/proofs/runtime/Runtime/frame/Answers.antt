@@ -7,7 +7,7 @@ use Rattle.ra_set.specs.Contents.{item_contents, set_contents}
 use Rattle.ra_runtime.specs.declared.item_run.ItemRun.{ItemRun}
 use Rattle.ra_runtime.specs.AllRuns.{AreItemRuns, all_events, opening_by}
 use Rattle.ra_display.specs.LineRests.{AreOptionalRests, optional_presence_seen}
-use Rattle.ra_runtime.specs.Lines.{event_lines}
+use Rattle.ra_meaning.specs.Lines.{event_lines}
 use Rattle.ra_runtime.specs.Rests.{AreRests, AreSteppedSeen, AreTold, WereRests, seen_by}
 use Rattle.ra_runtime.specs.Seen.{runtime_seen}
 use Rattle.ra_runtime.proofs.FrameLemmas.{frame_kept, frame_earned, frame_events, frame_lines, over_after, some_frame, takes_frame, reads_few}

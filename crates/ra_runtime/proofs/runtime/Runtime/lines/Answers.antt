@@ -1,8 +1,8 @@
 use Rattle.std.proofs.Common.{List, ◌++◌, sym, ◌∙◌, ap, subst}
 use Rattle.ra_set.specs.Contents.{set_contents}
-use Rattle.ra_runtime.specs.declared.event.Event.{Event}
-use Rattle.ra_runtime.specs.Lines.{event_lines}
-use Rattle.ra_runtime.specs.Runtime.{RuntimeSeen}
+use Rattle.ra_meaning.specs.declared.event.Event.{Event}
+use Rattle.ra_meaning.specs.Lines.{event_lines}
+use Rattle.ra_meaning.specs.Runtime.{RuntimeSeen}
 use Rattle.ra_runtime.proofs.EventLemmas.{Have, last_have}
 use Rattle.ra_runtime.proofs.runtime.Runtime.lines.Goals as goal
 

@@ -6,7 +6,7 @@ use Rattle.ra_set.specs.Contents.{set_contents}
 use Rattle.ra_runtime.specs.declared.item_run.ItemRun.{ItemRun}
 use Rattle.ra_runtime.specs.Shapes.{run_shape, IsSmall}
 use Rattle.ra_runtime.proofs.ShapeLemmas.{laid_shapes, laid_small, laid_presence, laid_small_presence, have_digits}
-use Rattle.ra_runtime.proofs.SmallShape.{small_shape}
+use Rattle.ra_meaning.proofs.SmallShape.{small_shape}
 use Rattle.ra_runtime.proofs.runtime.Runtime.new.Goals as goal
 
 not_framed : false ≡ true → ⊥

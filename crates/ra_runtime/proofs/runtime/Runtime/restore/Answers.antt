@@ -2,8 +2,8 @@ use Rattle.std.proofs.Common.{refl, ◌∙◌, ap, subst}
 use Rattle.ra_progress.specs.Contents.{ShapeContents}
 use Rattle.ra_progress.specs.Reading.{IsAccepted}
 use Rattle.ra_progress.proofs.Checks.{accepted_none}
-use Rattle.ra_runtime.specs.Order.{shape_of}
-use Rattle.ra_runtime.specs.Runtime.{RuntimeSeen}
+use Rattle.ra_meaning.specs.Order.{shape_of}
+use Rattle.ra_meaning.specs.Runtime.{RuntimeSeen}
 use Rattle.ra_runtime.proofs.runtime.Runtime.restore.Goals as goal
 
 pub take_up-requires : goal.take_up-requires

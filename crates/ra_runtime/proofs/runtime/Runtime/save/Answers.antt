@@ -11,14 +11,14 @@ use Rattle.ra_progress.specs.Spelling.{progress_bytes, body_bytes, item_bytes, p
 use Rattle.ra_progress.specs.Writing.{front_bytes}
 use Rattle.ra_progress.proofs.Written.{body_in_parts}
 use Rattle.ra_runtime.specs.declared.item_run.ItemRun.{ItemRun}
-use Rattle.ra_runtime.specs.Order.{set_cells, set_tracked, shape_of}
+use Rattle.ra_meaning.specs.Order.{set_cells, set_tracked, shape_of}
 use Rattle.ra_display.specs.LineRests.{optional_presence_seen}
 use Rattle.ra_display.proofs.SeenLines.{optional_fitting}
 use Rattle.ra_runtime.specs.AllRuns.{opening_by}
 use Rattle.ra_runtime.specs.Rests.{AreFitting, seen_by}
-use Rattle.ra_runtime.specs.Runtime.{RuntimeSeen}
+use Rattle.ra_meaning.specs.Runtime.{RuntimeSeen}
 use Rattle.ra_runtime.specs.Shapes.{run_shape}
-use Rattle.ra_runtime.specs.Saving.{IsSaved}
+use Rattle.ra_meaning.specs.Saving.{IsSaved}
 use Rattle.ra_runtime.proofs.ShapeLemmas.{runs_shaped, presence_shaped}
 use Rattle.ra_runtime.proofs.RunsLemmas.{length_runs}
 use Rattle.ra_runtime.proofs.SaveLemmas.{opening_taken, seen_many, short_parts}

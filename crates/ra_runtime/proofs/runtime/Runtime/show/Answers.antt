@@ -2,9 +2,9 @@ use Rattle.std.proofs.Common.{◌≡◌, ℕ, ◌∙◌, ap, length}
 use Rattle.std.proofs.lemmas.Result.{IfOk-weaker}
 use Rattle.ra_set.specs.Contents.{set_contents}
 use Rattle.ra_progress.specs.Contents.{Opening}
-use Rattle.ra_runtime.specs.Openings.{start_of, frames_after}
-use Rattle.ra_runtime.specs.Play.{shown_by}
-use Rattle.ra_runtime.specs.Runtime.{ShowsKept}
+use Rattle.ra_meaning.specs.Openings.{start_of, frames_after}
+use Rattle.ra_meaning.specs.Play.{shown_by}
+use Rattle.ra_meaning.specs.Runtime.{ShowsKept}
 use Rattle.ra_runtime.specs.Seen.{runtime_seen}
 use Rattle.ra_display.specs.Showing.{optional_text}
 use Rattle.ra_runtime.proofs.ShowLemmas.{may_show, shows}

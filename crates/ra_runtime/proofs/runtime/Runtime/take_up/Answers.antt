@@ -11,15 +11,15 @@ use Rattle.ra_progress.specs.Saying.{own_places}
 use Rattle.ra_progress.proofs.Owns.{own_count}
 use Rattle.ra_progress.proofs.Placed.{if_some}
 use Rattle.ra_runtime.specs.declared.item_run.ItemRun.{ItemRun}
-use Rattle.ra_runtime.specs.Order.{shape_of}
+use Rattle.ra_meaning.specs.Order.{shape_of}
 use Rattle.ra_runtime.specs.AllRuns.{AreItemRuns}
 use Rattle.ra_display.specs.PresenceRuns.{IsOptionalPresence}
 use Rattle.ra_runtime.specs.Restoring.{HasDisplay, TakesNumbers, restored_items}
-use Rattle.ra_runtime.specs.Runtime.{RuntimeSeen}
+use Rattle.ra_meaning.specs.Runtime.{RuntimeSeen}
 use Rattle.ra_runtime.specs.Shapes.{run_shape}
 use Rattle.ra_runtime.proofs.RestoredRuns.{items_have, display_has}
 use Rattle.ra_runtime.proofs.ShapeLemmas.{runs_shaped, presence_shaped}
-use Rattle.ra_runtime.proofs.Snapshots.{script_has_lines}
+use Rattle.ra_meaning.proofs.Snapshots.{script_has_lines}
 use Rattle.ra_runtime.proofs.TakenUp.{over_restored, marked_restored, kept_restored}
 use Rattle.ra_runtime.specs.ItemRuns.{kept_run}
 use Rattle.ra_runtime.specs.Rests.{AreRests, seen_by}

@@ -6,7 +6,7 @@ use Rattle.ra_memory.specs.Image.{written}
 use Rattle.ra_memref.specs.Table.{TableSeen, DifferWithin}
 use Rattle.ra_memref.proofs.AgreeLemmas.{DifferWithin-written}
 use Rattle.ra_set.specs.Contents.{set_contents}
-use Rattle.ra_runtime.specs.Runtime.{RuntimeSeen}
+use Rattle.ra_meaning.specs.Runtime.{RuntimeSeen}
 use Rattle.ra_runtime.specs.AllRuns.{AreItemRuns}
 use Rattle.ra_runtime.specs.Rests.{AreRests}
 use Rattle.ra_display.specs.LineRests.{AreOptionalRests}

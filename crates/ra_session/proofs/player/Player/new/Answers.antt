@@ -1,7 +1,7 @@
 use Rattle.std.proofs.Common.{arith, ◌≡◌, ◌∙◌, ap, None, replicate, length}
 use Rattle.std.proofs.lemmas.Bool.Decides.{nat_tests}
 use Rattle.ra_set.specs.Contents.{set_contents}
-use Rattle.ra_runtime.specs.Order.{shape_of}
+use Rattle.ra_meaning.specs.Order.{shape_of}
 use Rattle.ra_session.specs.Loading.{progress_in}
 use Rattle.ra_session.specs.Playing.{slots_of}
 use Rattle.ra_session.proofs.SaysLemmas.{shape_fits}

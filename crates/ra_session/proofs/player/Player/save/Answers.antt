@@ -1,7 +1,7 @@
 use Rattle.std.proofs.Common.{arith, ◌≡◌, sym, subst, slice_set, Some, length, ◌≤◌, option_map, inl, inr}
 use Rattle.std.proofs.lemmas.Bool.{cases_lt, false≢true}
 use Rattle.std.proofs.lemmas.List.{length-map}
-use Rattle.ra_runtime.specs.Play.{moved}
+use Rattle.ra_meaning.specs.Play.{moved}
 use Rattle.ra_trace.specs.Entries.{Saved}
 use Rattle.ra_session.specs.Playing.{StandsAt, slots_of}
 use Rattle.ra_session.proofs.StandLemmas.{stands_saved, stands_past}

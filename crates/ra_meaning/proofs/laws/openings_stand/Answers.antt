@@ -1,0 +1,15 @@
+use Rattle.ra_progress.proofs.Again.{again}
+use Rattle.ra_meaning.specs.Order.{shape_of}
+use Rattle.ra_meaning.proofs.Snapshots.{plain_is_opening, snapshot_fits, is_shape, said_is_opening}
+use Rattle.ra_meaning.proofs.Unplayed.{snapshot_none}
+use Rattle.ra_meaning.proofs.laws.openings_stand.Goals as goal
+
+pub returns : goal.returns
+returns c = λ set. record {
+  plain = plain_is_opening set;
+  after = snapshot_fits set;
+  none = snapshot_none set;
+  shape = is_shape set;
+  said = said_is_opening set;
+  again = λ bytes shape fit accepted own. again bytes fit (shape_of set) shape accepted own;
+}

@@ -1,0 +1,16 @@
+pub mod BoardLaws
+pub mod Boards
+pub mod Calls
+pub mod Earned
+pub mod EarnedLaws
+pub mod Events
+pub mod FoldLaws
+pub mod Histories
+pub mod Lines
+pub mod OpeningLaws
+pub mod Openings
+pub mod Order
+pub mod Play
+pub mod PresenceLaws
+pub mod Runtime
+pub mod Saving

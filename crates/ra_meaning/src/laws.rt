@@ -1,0 +1,50 @@
+//! Laws on the definitions, for whoever reads them.
+
+ghost use Rattle.ra_set.specs.Contents.{SetContents};
+ghost use Rattle.ra_memref.specs.Values.{Start};
+ghost use Rattle.ra_meaning.specs.Calls.{CallsSucceed};
+ghost use Rattle.ra_meaning.specs.EarnedLaws.{StayEarned};
+ghost use Rattle.ra_meaning.specs.FoldLaws.{AreFolds};
+ghost use Rattle.ra_meaning.specs.OpeningLaws.{HasOpenings};
+ghost use Rattle.ra_meaning.specs.Runtime.{CutsAnywhere};
+
+/// A history may be cut at any frame: docs/DEFINITIONS.md, "The law of cuts".
+///
+/// A law: it does nothing. It holds for every set, every opening of its shape, and every history.
+pub fn histories_may_be_cut()
+    ensures { (set : SetContents) → CutsAnywhere set }
+{}
+
+/// Nothing is earned before the first frame, each opening has earned what is triggered in it, and neither a frame nor a
+/// restore takes back what was earned: docs/DEFINITIONS.md, "Earned achievements".
+///
+/// A law: it does nothing. It holds for every set.
+pub fn earned_achievements_stay_earned()
+    ensures { (set : SetContents) → StayEarned set }
+{}
+
+/// Writes that fit, frames and restores of saved bytes succeed over a made runtime, in any number and
+/// order: docs/DEFINITIONS.md, "Calls that take no memory".
+///
+/// A law: it does nothing.
+pub fn calls_succeed()
+    ensures { (set : SetContents) → CallsSucceed set }
+{}
+
+/// The plain opening of a set is an opening of it, and so is the snapshot after each history, which after none is the
+/// opening before it. What accepted bytes say is an opening, and its bytes are they: docs/DEFINITIONS.md, "Openings and
+/// snapshots" and "Progress file".
+///
+/// A law: it does nothing. It holds for every set; of the first two for every one that some file spells.
+pub fn openings_stand()
+    ensures { (set : SetContents) → HasOpenings set }
+{}
+
+/// What items and display lines keep after a history is kept by a fold of one step a frame, and each field of a
+/// leaderboard is what its own recursion over the history says: docs/DEFINITIONS.md, "After a history" and
+/// "Leaderboard states".
+///
+/// A law: it does nothing.
+pub fn histories_are_folds()
+    ensures { (start : Start) → AreFolds start }
+{}

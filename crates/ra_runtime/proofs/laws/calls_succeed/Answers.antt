@@ -1,5 +1,0 @@
-use Rattle.ra_runtime.proofs.CallLemmas as calls
-use Rattle.ra_runtime.proofs.laws.calls_succeed.Goals as goal
-
-pub returns : goal.returns
-returns c = calls.calls_succeed

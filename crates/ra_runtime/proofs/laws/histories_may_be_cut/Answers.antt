@@ -1,5 +1,0 @@
-use Rattle.ra_runtime.proofs.Law.{cuts_anywhere}
-use Rattle.ra_runtime.proofs.laws.histories_may_be_cut.Goals as goal
-
-pub returns : goal.returns
-returns c = cuts_anywhere
