@@ -10,15 +10,16 @@ use Rattle.ra_memref.specs.Table.{TableSeen, AreKept, Samples, ReadsWanted, spel
 use Rattle.ra_richpresence.specs.Contents.{ScriptContents}
 use Rattle.ra_set.specs.Contents.{ItemContents, SetContents}
 use Rattle.ra_progress.specs.Contents.{KeptItem, KeptPresence, Opening}
-use Rattle.ra_runtime.specs.declared.item_run.ItemRun.{ItemRun}
+use Rattle.ra_items.specs.declared.item_run.ItemRun.{ItemRun}
 use Rattle.ra_meaning.specs.Order.{trees_in_set, set_cells, set_tracked}
 use Rattle.ra_meaning.specs.Earned.{Earned, is_earned, earned_in, with_earned}
 use Rattle.ra_meaning.specs.Openings.{start_of, snapshot, item_after, number_beside, prior_beside, frames_after, optional_presence}
 use Rattle.ra_meaning.specs.Lines.{event_lines}
 use Rattle.ra_meaning.specs.Play.{item_events, events, lines, earns, unless_earned}
 use Rattle.ra_member.specs.Runs.{HasValues}
-use Rattle.ra_runtime.specs.Rests.{AreSteppedSeen, IsSomeFrame}
-use Rattle.ra_runtime.specs.AllRuns.{all_events, opening_by, IsOver}
+use Rattle.ra_items.specs.Rests.{AreSteppedSeen, IsSomeFrame}
+use Rattle.ra_items.specs.AllRuns.{all_events}
+use Rattle.ra_runtime.specs.Laid.{opening_by, IsOver}
 use Rattle.ra_display.specs.PresenceRuns.{StepsOptional}
 use Rattle.std.proofs.lemmas.List.{length-map}
 use Rattle.ra_meaning.specs.Runtime.{RuntimeSeen, TakesFrame, ReadsFew}

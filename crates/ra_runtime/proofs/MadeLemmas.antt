@@ -13,18 +13,18 @@ use Rattle.ra_memref.specs.Names.{cell_name, tracked_name}
 use Rattle.ra_memref.specs.Table.{TableSeen, IsFresh}
 use Rattle.ra_set.specs.Contents.{SetContents}
 use Rattle.ra_set.specs.Limits.{item_conditions, script_conditions, set_conditions, IsWithinLimits}
-use Rattle.ra_runtime.specs.declared.item_run.ItemRun.{ItemRun}
+use Rattle.ra_items.specs.declared.item_run.ItemRun.{ItemRun}
 use Rattle.ra_display.specs.declared.presence_run.PresenceRun.{PresenceRun}
 use Rattle.ra_meaning.specs.Order.{trees_in_item, trees_in_line, lines_in, trees_in_set, set_cells, set_tracked}
-use Rattle.ra_runtime.specs.AllRuns.{AreItemRuns, IsOver}
+use Rattle.ra_items.specs.AllRuns.{AreItemRuns}
+use Rattle.ra_runtime.specs.Laid.{IsOver, NameSet, IsLaidOut}
 use Rattle.ra_display.specs.NewPresence.{IsNewPresence}
 use Rattle.ra_member.specs.Plans.{GrowsWithin}
-use Rattle.ra_runtime.specs.Planning.{GrowsByItems, AreWaiting}
+use Rattle.ra_items.specs.Planning.{GrowsByItems, AreWaiting}
 use Rattle.ra_display.specs.PresenceRuns.{IsOptionalPresence}
-use Rattle.ra_runtime.specs.Shapes.{NameSet, IsLaidOut}
 use Rattle.ra_member.proofs.PlanLemmas.{within_through}
 use Rattle.ra_meaning.proofs.MaskCounts.{masks_few}
-use Rattle.ra_runtime.proofs.WaitingLemmas.{item_runs_more}
+use Rattle.ra_items.proofs.WaitingLemmas.{item_runs_more}
 
 module _ (set : SetContents) where
   -- a pool that grew by the trees of the set has the cells and the tracked masks of the set

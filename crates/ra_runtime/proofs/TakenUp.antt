@@ -10,16 +10,20 @@ use Rattle.ra_progress.specs.Layout.{frames_at}
 use Rattle.ra_progress.specs.Room.{IsRoom, Says}
 use Rattle.ra_progress.specs.Saying.{own_places, said_items, said_or, said_presence, script_place, says}
 use Rattle.ra_memref.specs.Names.{cell_name, tracked_name}
-use Rattle.ra_runtime.specs.declared.item_run.ItemRun.{ItemRun}
+use Rattle.ra_items.specs.declared.item_run.ItemRun.{ItemRun}
 use Rattle.ra_display.specs.declared.presence_run.PresenceRun.{PresenceRun}
 use Rattle.ra_meaning.specs.Earned.{is_earned, items_with, both_earned, earned_in, with_earned}
 use Rattle.ra_meaning.specs.Order.{set_cells, set_tracked, item_shape, presence_shape, shape_of}
-use Rattle.ra_runtime.specs.ItemRuns.{kept_run}
-use Rattle.ra_runtime.specs.AllRuns.{AreItemRuns, IsOver, opening_by}
+use Rattle.ra_items.specs.ItemRuns.{kept_run}
+use Rattle.ra_items.specs.AllRuns.{AreItemRuns}
+use Rattle.ra_runtime.specs.Laid.{IsOver, opening_by}
 use Rattle.ra_display.specs.PresenceRuns.{IsOptionalPresence, optional_presence_kept}
-use Rattle.ra_runtime.specs.Restoring.{PutsBackPresence, TakesNumbers, restored_item, restored_items}
-use Rattle.ra_runtime.specs.Shapes.{run_shape}
-use Rattle.ra_runtime.proofs.ShapeLemmas.{runs_shaped, presence_shaped}
+use Rattle.ra_display.specs.PresenceBack.{PutsBackPresence}
+use Rattle.ra_runtime.specs.Numbers.{TakesNumbers}
+use Rattle.ra_items.specs.Restoring.{restored_item, restored_items}
+use Rattle.ra_items.specs.Shapes.{run_shape}
+use Rattle.ra_items.proofs.ShapeLemmas.{runs_shaped}
+use Rattle.ra_runtime.proofs.LaidShapes.{presence_shaped}
 
 -- what items keep after a restore is what the bytes say, earned where it was before, or is said to be
 restored_are : (bytes : List ℕ) (runs : List ItemRun) (places : List (Option ℕ))

@@ -1,14 +1,4 @@
-pub mod AllRuns
-pub mod BoardRuns
 pub mod Changed
-pub mod ItemRuns
-pub mod ItemStates
-pub mod Left
-pub mod Planning
-pub mod Resting
-pub mod Restoring
-pub mod RunEvents
-pub mod Rests
-pub mod Runs
+pub mod Laid
+pub mod Numbers
 pub mod Seen
-pub mod Shapes

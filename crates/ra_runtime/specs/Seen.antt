@@ -10,12 +10,13 @@ use Rattle.ra_progress.specs.Room.{IsRoom}
 use Rattle.ra_runtime.specs.declared.runtime.Runtime.TheInside.{Inside}
 use Rattle.ra_meaning.specs.Order.{shape_of}
 use Rattle.ra_meaning.specs.Runtime.{RuntimeSeen}
-use Rattle.ra_runtime.specs.AllRuns.{AreItemRuns, HaveDigits, IsOver, all_events, opening_by}
+use Rattle.ra_items.specs.AllRuns.{AreItemRuns, HaveDigits, all_events}
+use Rattle.ra_runtime.specs.Laid.{IsOver, opening_by}
 use Rattle.ra_meaning.specs.declared.event.Event.{Event}
 use Rattle.ra_meaning.specs.Lines.{event_lines}
 use Rattle.ra_display.specs.LineRests.{AreOptionalRests, optional_presence_seen}
 use Rattle.ra_display.specs.PresenceRuns.{IsOptionalPresence}
-use Rattle.ra_runtime.specs.Rests.{AreRests, AreTold, seen_by}
+use Rattle.ra_items.specs.Rests.{AreRests, AreTold, seen_by}
 
 -- the events of the last frame; none where no frame came
 abbrev pub last_events : Inside → List Event

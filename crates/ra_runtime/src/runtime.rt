@@ -7,23 +7,18 @@ ghost use Rattle.ra_progress.specs.Names.{IsUsable};
 ghost use Rattle.ra_progress.specs.Reading.{IsAccepted, refusal};
 ghost use Rattle.ra_progress.specs.Spelling.{progress_bytes};
 ghost use Rattle.ra_memref.specs.Marks.{reads_of};
-ghost use Rattle.ra_runtime.specs.ItemStates.{state_at};
+ghost use Rattle.ra_items.specs.ItemStates.{state_at};
 ghost use Rattle.ra_meaning.specs.Order.{shape_of};
 ghost use Rattle.ra_meaning.specs.Saving.{IsSaved};
 ghost use Rattle.ra_set.specs.Spelled.{IsSpelled};
 
-use crate::events::Events;
-use crate::item_run::ItemRun;
-use crate::item_state::ItemState;
-use crate::restored::{put_back_runs, take_numbers};
-use crate::rests::Rests;
-use crate::runs::state_in;
-use crate::saved::put_runs;
+use crate::numbers::take_numbers;
 use crate::shapes::{at_rest, shape_and_room};
 use crate::written::put_events;
 use ra_display::{
     LineRests, PresenceRun, put_back_presence, put_display, shown_line, step_presence,
 };
+use ra_items::{Events, ItemRun, ItemState, Rests, put_back_runs, put_runs, state_in};
 use ra_memory::{Counted, Memory, Steps};
 use ra_memref::Table;
 use ra_progress::{ProgressRefused, Said, Shape, begin, check, close, frames_at};

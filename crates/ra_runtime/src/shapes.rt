@@ -4,31 +4,28 @@ ghost use Rattle.std.specs.Prelude.{◌≡◌, ◌≤◌, ◌<◌, ◌^◌, leng
 ghost use Rattle.ra_set.specs.Contents.{set_contents};
 ghost use Rattle.ra_set.specs.Limits.{IsWithinLimits};
 ghost use Rattle.ra_set.specs.Names.{IsNamed};
-ghost use Rattle.ra_progress.specs.Contents.{shape_contents};
+ghost use Rattle.ra_progress.specs.Contents.{shape_contents, plain_item, plain_presence};
 ghost use Rattle.ra_progress.specs.Layout.{length_of};
 ghost use Rattle.ra_progress.specs.Names.{IsUsable};
 ghost use Rattle.ra_progress.specs.Room.{IsRoom};
-ghost use Rattle.ra_progress.specs.Contents.{plain_item, plain_presence};
-ghost use Rattle.ra_set.specs.Spelled.{OptionalScript};
+ghost use Rattle.ra_set.specs.Spelled.{OptionalScript, IsSpelled};
 ghost use Rattle.ra_display.specs.LineRests.{AreOptionalRests, optional_presence_seen};
 ghost use Rattle.ra_display.specs.PresenceRuns.{IsOptionalPresence, optional_presence_kept};
-ghost use Rattle.ra_runtime.specs.AllRuns.{AreItemRuns};
-ghost use Rattle.ra_runtime.specs.ItemRuns.{kept_run};
-ghost use Rattle.ra_runtime.specs.Rests.{AreRests, seen_by};
+ghost use Rattle.ra_items.specs.AllRuns.{AreItemRuns};
+ghost use Rattle.ra_items.specs.ItemRuns.{kept_run};
+ghost use Rattle.ra_items.specs.Rests.{AreRests, seen_by};
 ghost use Rattle.ra_meaning.specs.Order as spec;
-ghost use Rattle.ra_runtime.specs.Shapes.{run_shape, board_run_shape, optional_run_shape, IsSmall, IsSmallPresence, IsLaidOut, NameSet};
-ghost use Rattle.ra_set.specs.Spelled.{IsSpelled};
+ghost use Rattle.ra_items.specs.Shapes.{run_shape, IsSmall};
+ghost use Rattle.ra_display.specs.PresenceShapes.{optional_run_shape, IsSmallPresence};
+ghost use Rattle.ra_runtime.specs.Laid.{IsLaidOut, NameSet};
 
-use crate::board_run::BoardRun;
-use crate::item_run::ItemRun;
-use crate::rests::Rests;
-use crate::runs::new_runs;
 use ra_display::{
     LineRests, PresenceRun, counted_presence, new_presence, presence_shape, rest_lines,
 };
 use ra_indirect::Pool;
+use ra_items::{ItemRun, Rests, item_shapes, new_runs};
 use ra_memref::{Names, Table, names_of};
-use ra_progress::{ItemShape, PresenceShape, Said, Shape, order_of};
+use ra_progress::{PresenceShape, Said, Shape, order_of};
 use ra_set::Set;
 use ra_text::OutOfMemory;
 use std::alloc::Global;
@@ -209,41 +206,4 @@ pub(crate) fn shape_and_room(
     let shape = shape_over(alloc, set, runs, presence, names)?;
     let said = Said::new(alloc, &shape)?;
     Ok((shape, said))
-}
-
-// The shape of each item.
-fn item_shapes(alloc: Global, runs: &[ItemRun]) -> Result<Vec<ItemShape>, OutOfMemory>
-    requires { All IsSmall (map run_shape runs.now) }
-    ensures { IfOk result (λ shapes. shapes.items ≡ map run_shape runs.now) }
-{
-    let mut shapes = Vec::new(alloc);
-    for run in runs {
-        shapes.push(item_shape(run))?;
-    }
-    Ok(shapes)
-}
-
-// How many hits and parts an item keeps.
-fn item_shape(run: &ItemRun) -> ItemShape
-    requires { IsSmall (run_shape run.now) }
-    ensures { result ≡ run_shape run.now }
-{
-    match run {
-        ItemRun::Achievement(run) => ItemShape::Achievement {
-            hits: run.run.trigger.hits().len() as u32,
-        },
-        ItemRun::Leaderboard(run) => board_shape(run),
-    }
-}
-
-// How many hits and parts a board keeps.
-fn board_shape(run: &BoardRun) -> ItemShape
-    requires { IsSmall (board_run_shape run.now) }
-    ensures { result ≡ board_run_shape run.now }
-{
-    let saved = run.member.shape();
-    ItemShape::Leaderboard {
-        hits: saved.hits as u32,
-        parts: saved.numbers as u32,
-    }
 }

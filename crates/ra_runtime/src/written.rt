@@ -7,7 +7,7 @@ ghost use Rattle.std.specs.Fmt.{signed_decimal};
 ghost use Rattle.ra_value_format.specs.Formats.{HasDigits, formatted};
 ghost use Rattle.ra_meaning.specs.Lines.{HasEventDigits, event_line, event_lines, line_of};
 
-use crate::events::Events;
+use ra_items::Events;
 use ra_meaning::Event;
 use ra_text::OutOfMemory;
 use ra_value_format::{Format, put_unsigned, put_value};

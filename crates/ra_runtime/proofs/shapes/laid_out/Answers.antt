@@ -1,7 +1,7 @@
 use Rattle.std.proofs.Common.{◌≡◌, List, [], map, ap, subst}
 use Rattle.ra_indirect.specs.declared.node.Node.{Node}
 use Rattle.ra_set.specs.Contents.{ItemContents, item_contents, set_contents}
-use Rattle.ra_runtime.specs.Planning.{AreWaiting}
+use Rattle.ra_items.specs.Planning.{AreWaiting}
 use Rattle.ra_runtime.proofs.MadeLemmas.{laid, names_set}
 use Rattle.ra_runtime.proofs.shapes.laid_out.Goals as goal
 

@@ -1,10 +1,10 @@
 use Rattle.std.proofs.Common.{[], All, map, ap, subst, sym, ◌∙◌, arith}
 use Rattle.ra_set.specs.Contents.{item_contents, set_contents}
 use Rattle.ra_meaning.specs.Order.{item_shape}
-use Rattle.ra_runtime.specs.Planning.{GrowsByItems}
-use Rattle.ra_runtime.specs.Shapes.{run_shape, IsSmall}
+use Rattle.ra_items.specs.Planning.{GrowsByItems}
+use Rattle.ra_items.specs.Shapes.{run_shape, IsSmall}
 use Rattle.ra_runtime.proofs.MadeLemmas.{few_cells, few_tracked, names_set}
-use Rattle.ra_runtime.proofs.ShapeLemmas.{runs_shaped, items_small}
+use Rattle.ra_items.proofs.ShapeLemmas.{runs_shaped, items_small}
 use Rattle.ra_meaning.proofs.SmallShape.{small_shape}
 use Rattle.ra_runtime.proofs.shapes.shape_of.Goals as goal
 

@@ -4,15 +4,16 @@ use Rattle.std.proofs.lemmas.List.{with_items_is}
 use Rattle.std.specs.Vec.{with_items}
 use Rattle.ra_indirect.specs.declared.node.Node.{Node}
 use Rattle.ra_set.specs.Contents.{item_contents, set_contents}
-use Rattle.ra_runtime.specs.declared.item_run.ItemRun.{ItemRun}
-use Rattle.ra_runtime.specs.AllRuns.{AreItemRuns, all_events, opening_by}
+use Rattle.ra_items.specs.declared.item_run.ItemRun.{ItemRun}
+use Rattle.ra_items.specs.AllRuns.{AreItemRuns, all_events}
+use Rattle.ra_runtime.specs.Laid.{opening_by}
 use Rattle.ra_display.specs.LineRests.{AreOptionalRests, optional_presence_seen}
 use Rattle.ra_meaning.specs.Lines.{event_lines}
-use Rattle.ra_runtime.specs.Rests.{AreRests, AreSteppedSeen, AreTold, WereRests, seen_by}
+use Rattle.ra_items.specs.Rests.{AreRests, AreSteppedSeen, AreTold, WereRests, seen_by}
 use Rattle.ra_runtime.specs.Seen.{runtime_seen}
 use Rattle.ra_runtime.proofs.FrameLemmas.{frame_kept, frame_earned, frame_events, frame_lines, over_after, some_frame, takes_frame, reads_few}
 use Rattle.ra_display.proofs.SeenLines.{were_rests}
-use Rattle.ra_runtime.proofs.SeenItems.{rests_seen}
+use Rattle.ra_items.proofs.SeenItems.{rests_seen}
 use Rattle.ra_runtime.proofs.runtime.Runtime.frame.Goals as goal
 
 pub step-requires-clause-rests : goal.step-requires-clause-rests

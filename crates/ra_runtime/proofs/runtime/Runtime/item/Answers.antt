@@ -1,9 +1,9 @@
 use Rattle.std.proofs.Common.{List, option_map, ◌∙◌, ap}
 use Rattle.std.specs.List.{slice_get}
 use Rattle.ra_set.specs.Contents.{set_contents}
-use Rattle.ra_runtime.specs.declared.item_run.ItemRun.{ItemRun}
-use Rattle.ra_runtime.specs.ItemStates.{run_state}
-use Rattle.ra_runtime.proofs.SeenItems.{rests_stand}
+use Rattle.ra_items.specs.declared.item_run.ItemRun.{ItemRun}
+use Rattle.ra_items.specs.ItemStates.{run_state}
+use Rattle.ra_items.proofs.SeenItems.{rests_stand}
 use Rattle.ra_runtime.proofs.runtime.Runtime.item.Goals as goal
 
 pub returns : goal.returns

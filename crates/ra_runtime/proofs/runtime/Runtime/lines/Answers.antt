@@ -3,7 +3,7 @@ use Rattle.ra_set.specs.Contents.{set_contents}
 use Rattle.ra_meaning.specs.declared.event.Event.{Event}
 use Rattle.ra_meaning.specs.Lines.{event_lines}
 use Rattle.ra_meaning.specs.Runtime.{RuntimeSeen}
-use Rattle.ra_runtime.proofs.EventLemmas.{Have, last_have}
+use Rattle.ra_items.proofs.EventLemmas.{Have, last_have}
 use Rattle.ra_runtime.proofs.runtime.Runtime.lines.Goals as goal
 
 pub put_events-requires : goal.put_events-requires

@@ -3,9 +3,10 @@ use Rattle.std.proofs.lemmas.List.{length-replicate}
 use Rattle.ra_indirect.specs.Pools.{cells_of}
 use Rattle.ra_memref.proofs.AgreeLemmas.{Agrees-marked}
 use Rattle.ra_set.specs.Contents.{set_contents}
-use Rattle.ra_runtime.specs.declared.item_run.ItemRun.{ItemRun}
-use Rattle.ra_runtime.specs.Shapes.{run_shape, IsSmall}
-use Rattle.ra_runtime.proofs.ShapeLemmas.{laid_shapes, laid_small, laid_presence, laid_small_presence, have_digits}
+use Rattle.ra_items.specs.declared.item_run.ItemRun.{ItemRun}
+use Rattle.ra_items.specs.Shapes.{run_shape, IsSmall}
+use Rattle.ra_runtime.proofs.LaidShapes.{laid_shapes, laid_small, laid_presence, laid_small_presence}
+use Rattle.ra_items.proofs.ShapeLemmas.{have_digits}
 use Rattle.ra_meaning.proofs.SmallShape.{small_shape}
 use Rattle.ra_runtime.proofs.runtime.Runtime.new.Goals as goal
 

@@ -2,7 +2,7 @@ use Rattle.std.proofs.Common.{List, ap, subst, sym, ◌∙◌}
 use Rattle.ra_set.specs.Contents.{set_contents}
 use Rattle.ra_meaning.specs.declared.event.Event.{Event}
 use Rattle.ra_meaning.specs.Runtime.{RuntimeSeen}
-use Rattle.ra_runtime.proofs.EventLemmas.{Have, last_have}
+use Rattle.ra_items.proofs.EventLemmas.{Have, last_have}
 use Rattle.ra_runtime.proofs.runtime.Runtime.put_lines.Goals as goal
 
 pub put_events-requires : goal.put_events-requires

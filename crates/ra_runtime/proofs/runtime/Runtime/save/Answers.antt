@@ -10,19 +10,21 @@ use Rattle.ra_progress.specs.Layout.{item_length}
 use Rattle.ra_progress.specs.Spelling.{progress_bytes, body_bytes, item_bytes, presence_block, named_blocks}
 use Rattle.ra_progress.specs.Writing.{front_bytes}
 use Rattle.ra_progress.proofs.Written.{body_in_parts}
-use Rattle.ra_runtime.specs.declared.item_run.ItemRun.{ItemRun}
+use Rattle.ra_items.specs.declared.item_run.ItemRun.{ItemRun}
 use Rattle.ra_meaning.specs.Order.{set_cells, set_tracked, shape_of}
 use Rattle.ra_display.specs.LineRests.{optional_presence_seen}
 use Rattle.ra_display.proofs.SeenLines.{optional_fitting}
-use Rattle.ra_runtime.specs.AllRuns.{opening_by}
-use Rattle.ra_runtime.specs.Rests.{AreFitting, seen_by}
+use Rattle.ra_runtime.specs.Laid.{opening_by}
+use Rattle.ra_items.specs.Rests.{AreFitting, seen_by}
 use Rattle.ra_meaning.specs.Runtime.{RuntimeSeen}
-use Rattle.ra_runtime.specs.Shapes.{run_shape}
+use Rattle.ra_items.specs.Shapes.{run_shape}
 use Rattle.ra_meaning.specs.Saving.{IsSaved}
-use Rattle.ra_runtime.proofs.ShapeLemmas.{runs_shaped, presence_shaped}
-use Rattle.ra_runtime.proofs.RunsLemmas.{length_runs}
-use Rattle.ra_runtime.proofs.SaveLemmas.{opening_taken, seen_many, short_parts}
-use Rattle.ra_runtime.proofs.SeenItems.{rests_fit}
+use Rattle.ra_items.proofs.ShapeLemmas.{runs_shaped}
+use Rattle.ra_runtime.proofs.LaidShapes.{presence_shaped}
+use Rattle.ra_items.proofs.RunsLemmas.{length_runs}
+use Rattle.ra_runtime.proofs.SavedOpening.{opening_taken, short_parts}
+use Rattle.ra_items.proofs.SaveLemmas.{seen_many}
+use Rattle.ra_items.proofs.SeenItems.{rests_fit}
 use Rattle.ra_runtime.proofs.runtime.Runtime.save.Goals as goal
 
 pub begin-requires-clause-cells : goal.begin-requires-clause-cells

@@ -10,23 +10,26 @@ use Rattle.ra_progress.specs.Room.{IsRoom, Says}
 use Rattle.ra_progress.specs.Saying.{own_places}
 use Rattle.ra_progress.proofs.Owns.{own_count}
 use Rattle.ra_progress.proofs.Placed.{if_some}
-use Rattle.ra_runtime.specs.declared.item_run.ItemRun.{ItemRun}
+use Rattle.ra_items.specs.declared.item_run.ItemRun.{ItemRun}
 use Rattle.ra_meaning.specs.Order.{shape_of}
-use Rattle.ra_runtime.specs.AllRuns.{AreItemRuns}
+use Rattle.ra_items.specs.AllRuns.{AreItemRuns}
 use Rattle.ra_display.specs.PresenceRuns.{IsOptionalPresence}
-use Rattle.ra_runtime.specs.Restoring.{HasDisplay, TakesNumbers, restored_items}
+use Rattle.ra_display.specs.PresenceBack.{HasDisplay}
+use Rattle.ra_runtime.specs.Numbers.{TakesNumbers}
+use Rattle.ra_items.specs.Restoring.{restored_items}
 use Rattle.ra_meaning.specs.Runtime.{RuntimeSeen}
-use Rattle.ra_runtime.specs.Shapes.{run_shape}
-use Rattle.ra_runtime.proofs.RestoredRuns.{items_have, display_has}
-use Rattle.ra_runtime.proofs.ShapeLemmas.{runs_shaped, presence_shaped}
+use Rattle.ra_items.specs.Shapes.{run_shape}
+use Rattle.ra_items.proofs.RestoredRuns.{items_have, display_has}
+use Rattle.ra_items.proofs.ShapeLemmas.{runs_shaped}
+use Rattle.ra_runtime.proofs.LaidShapes.{presence_shaped}
 use Rattle.ra_meaning.proofs.Snapshots.{script_has_lines}
 use Rattle.ra_runtime.proofs.TakenUp.{over_restored, marked_restored, kept_restored}
-use Rattle.ra_runtime.specs.ItemRuns.{kept_run}
-use Rattle.ra_runtime.specs.Rests.{AreRests, seen_by}
-use Rattle.ra_runtime.proofs.RunsLemmas.{length_runs}
+use Rattle.ra_items.specs.ItemRuns.{kept_run}
+use Rattle.ra_items.specs.Rests.{AreRests, seen_by}
+use Rattle.ra_items.proofs.RunsLemmas.{length_runs}
 use Rattle.ra_display.specs.LineRests.{AreOptionalRests, optional_presence_seen}
 use Rattle.ra_display.proofs.SeenLines.{rests_forgotten}
-use Rattle.ra_runtime.proofs.SeenItems.{rests_earned}
+use Rattle.ra_items.proofs.SeenItems.{rests_earned}
 use Rattle.ra_runtime.proofs.runtime.Runtime.take_up.Goals as goal
 
 not_framed : false ≡ true → ⊥

@@ -7,8 +7,8 @@ use Rattle.ra_memref.specs.Table.{TableSeen, DifferWithin}
 use Rattle.ra_memref.proofs.AgreeLemmas.{DifferWithin-written}
 use Rattle.ra_set.specs.Contents.{set_contents}
 use Rattle.ra_meaning.specs.Runtime.{RuntimeSeen}
-use Rattle.ra_runtime.specs.AllRuns.{AreItemRuns}
-use Rattle.ra_runtime.specs.Rests.{AreRests}
+use Rattle.ra_items.specs.AllRuns.{AreItemRuns}
+use Rattle.ra_items.specs.Rests.{AreRests}
 use Rattle.ra_display.specs.LineRests.{AreOptionalRests}
 use Rattle.ra_display.specs.PresenceRuns.{IsOptionalPresence}
 use Rattle.ra_runtime.proofs.runtime.Runtime.write.Goals as goal

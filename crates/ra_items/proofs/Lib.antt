@@ -1,0 +1,17 @@
+pub mod BoardLemmas
+pub mod EventLemmas
+pub mod ItemLemmas
+pub mod ItemStates
+mod ItemsRest
+mod MadeRests
+mod RestRuns
+mod RestSteps
+pub mod RestoreLemmas
+pub mod RestoredRuns
+pub mod RunsLemmas
+pub mod SaveLemmas
+pub mod SeenItems
+pub mod ShapeLemmas
+mod SkippedItems
+mod StepAt
+pub mod WaitingLemmas

@@ -1,0 +1,12 @@
+pub mod AllRuns
+pub mod BoardRuns
+pub mod ItemRuns
+pub mod ItemStates
+pub mod Left
+pub mod Planning
+pub mod Resting
+pub mod Restoring
+pub mod Rests
+pub mod RunEvents
+pub mod Runs
+pub mod Shapes

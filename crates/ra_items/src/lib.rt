@@ -1,0 +1,28 @@
+//! The items of a set over one table of memory references, of which those that rest are not stepped.
+#![tactic(auto)]
+
+mod achievement_run;
+mod board_run;
+mod events;
+mod item_run;
+mod item_state;
+mod rest;
+mod restored;
+mod rests;
+mod runs;
+mod saved;
+mod shapes;
+mod state_bytes;
+mod told;
+
+pub use achievement_run::AchievementRun;
+pub use board_run::BoardRun;
+pub use events::Events;
+pub use item_run::ItemRun;
+pub use item_state::ItemState;
+pub use rest::{BoardBefore, ItemBefore, Rest, TriggerBefore};
+pub use restored::put_back_runs;
+pub use rests::Rests;
+pub use runs::{new_runs, state_in};
+pub use saved::put_runs;
+pub use shapes::item_shapes;

@@ -1,0 +1,150 @@
+//! All items of a set, of which those that rest are not stepped: docs/DEFINITIONS.md, "Items at rest".
+
+ghost use Rattle.std.specs.Prelude.{◌≡◌, ◌≤◌, ◌<◌, ◌^◌, ◌+◌, ℕ, true, None, List, take, length, map, slice_index_or, IfOk};
+ghost use Rattle.ra_indirect.specs.declared.node.Node.{Node};
+ghost use Rattle.ra_set.specs.Contents.{ItemContents, item_contents};
+ghost use Rattle.ra_items.specs.AllRuns.{AreItemRuns};
+ghost use Rattle.ra_items.specs.ItemRuns.{kept_run};
+ghost use Rattle.ra_items.specs.Rests.{AreForgotten, AreRests, AreTold, AreSteppedSeen, HasPlace, IsSomeFrame, IsSteppedAt, WereRests, seen_by};
+
+use crate::item_run::ItemRun;
+use crate::rest::{ItemBefore, Rest, note_reads, step_rest};
+use ra_memref::Table;
+use ra_readers::Readers;
+use ra_resting::{is_looked_at, looks, many_changed, wake};
+use ra_set::Item;
+use ra_text::OutOfMemory;
+use std::alloc::Global;
+
+/// What each item owes, who reads which node and who is due, and who was stepped at the last frame.
+#[derive(Drop)]
+pub struct Rests {
+    pub each: Vec<Rest>,
+    pub readers: Readers,
+    /// The places of the items that were stepped at the last frame, in order, as many as are counted.
+    pub stepped: Vec<u32>,
+    pub count: usize,
+    /// A count of frames that only goes on.
+    pub clock: u64,
+}
+
+impl Rests {
+    /// No item rests, and each is due. Memory is the only refusal.
+    pub fn new(
+        alloc: Global,
+        runs: &[ItemRun],
+        items: &[Item],
+        table: &Table,
+        nodes: usize,
+    ) -> Result<Rests, OutOfMemory>
+        requires runs { AreItemRuns table.now.nodes (map item_contents items.now) runs.now }
+        requires nodes { length table.now.nodes ≡ nodes }
+        requires few { length items.now < 2 ^ 32 }
+        ensures rests { IfOk result (λ rests. (values : List ℕ) → AreRests table.now.nodes values (map item_contents items.now) runs.now rests) }
+        ensures kept { IfOk result (λ rests. seen_by runs.now rests ≡ map kept_run runs.now) }
+    {
+        let mut each = Vec::new(alloc);
+        let mut readers = Readers::new(alloc, nodes, items.len())?;
+        for (place, run) in runs.iter().enumerate() {
+            let before = ItemBefore::new(alloc, run)?;
+            each.push(Rest {
+                before,
+                since: None,
+            })?;
+            note_reads(&mut readers, run, place as u32)?;
+        }
+        let stepped = vec![in alloc; 0; items.len()]?;
+        Ok(Rests {
+            each,
+            readers,
+            stepped,
+            count: 0,
+            clock: 0,
+        })
+    }
+
+    /// Steps each item that is due or reads a node that changed, by the frame of the table's last sample. Where many nodes
+    /// changed it looks at none for rest, and where many items are due at some of them.
+    pub fn step(&mut self, runs: &mut [ItemRun], items: &[Item], table: &Table)
+        requires runs { AreItemRuns table.now.nodes (map item_contents items.now) runs.old }
+        requires rests { WereRests table.now (map item_contents items.now) runs.old self.old }
+        requires frame { IsSomeFrame table.now }
+        requires sampled { table.now.sampled ≡ true }
+        requires few { length items.now < 2 ^ 32 }
+        ensures runs { AreItemRuns table.now.nodes (map item_contents items.now) runs.new }
+        ensures rests { AreRests table.now.nodes table.now.values (map item_contents items.now) runs.new self.new }
+        ensures stepped { AreSteppedSeen table.now (map item_contents items.now) (seen_by runs.old self.old) (seen_by runs.new self.new) runs.new }
+        ensures told { AreTold (map item_contents items.now) runs.new self.new }
+    {
+        let noting = !many_changed(&self.readers, table);
+        wake(&mut self.readers, self.clock, table);
+        self.count = 0;
+        let now = self.clock.saturating_add(1);
+        let mut left = looks(items.len());
+        let mut at = 0;
+        while let Some(place) = self.readers.next_due(at) {
+            self.step_at(runs, items, table, place, now, noting, left);
+            left = left.saturating_sub(1);
+            at = place + 1;
+        }
+        self.clock = now;
+    }
+
+    /// The places of the items that were stepped at the last frame, in order.
+    pub fn stepped(&self) -> &[u32]
+        requires { self.now.count ≤ length self.now.stepped.items }
+        ensures { result.now ≡ take self.now.count self.now.stepped.items }
+    {
+        &self.stepped[..self.count]
+    }
+
+    // Steps the item at a place, which rests from the next count of frames on where it is seen to have rested at this one.
+    fn step_at(
+        &mut self,
+        runs: &mut [ItemRun],
+        items: &[Item],
+        table: &Table,
+        place: usize,
+        next: u64,
+        noting: bool,
+        left: usize,
+    )
+        requires here { place < length items.now }
+        requires due { slice_index_or self.old.readers.due place true ≡ true }
+        requires runs { AreItemRuns table.now.nodes (map item_contents items.now) runs.old }
+        requires place { HasPlace (map item_contents items.now) self.old place }
+        requires sampled { table.now.sampled ≡ true }
+        requires few { length items.now < 2 ^ 32 }
+        ensures { IsSteppedAt table.now (map item_contents items.now) place next runs.old runs.new self.old self.new }
+    {
+        let run = &mut runs[place];
+        let rest = &mut self.each[place];
+        let looked = noting && is_looked_at(left, rest.since.is_some(), place, self.clock);
+        let item = &items[place];
+        let rests = step_rest(run, rest, item, table, self.clock, next, looked);
+        self.stepped[self.count] = place as u32;
+        self.count += 1;
+        if rests {
+            self.readers.put(place, false);
+        }
+    }
+
+    /// No item rests any longer, and each is due. What they owe is given up.
+    pub fn forget(&mut self)
+        ensures each { (nodes : List Node) (values later : List ℕ) (items : List ItemContents) (before runs : List ItemRun)
+            → AreRests nodes values items before self.old → AreRests nodes later items runs self.new }
+        ensures kept { (runs : List ItemRun) → length runs ≡ length self.old.each.items → seen_by runs self.new ≡ map kept_run runs }
+    {
+        forget_each(&mut self.each);
+        self.readers.wake_all();
+    }
+}
+
+// None of these rests any longer.
+fn forget_each(rests: &mut [Rest])
+    ensures { AreForgotten rests.old rests.new }
+{
+    for place in 0..rests.len() {
+        rests[place].since = None;
+    }
+}

@@ -1,0 +1,175 @@
+//! What the runs keep, written as a progress file keeps it.
+
+ghost use Rattle.std.specs.Prelude.{◌≡◌, ◌++◌, ◌≤◌, length, map, sum_by, OnOk};
+ghost use Rattle.ra_progress.specs.Contents.{ItemFits, ItemsFit};
+ghost use Rattle.ra_progress.specs.Layout.{item_length};
+ghost use Rattle.ra_progress.specs.Spelling.{item_bytes, named_blocks};
+ghost use Rattle.ra_progress.specs.Writing.{named_block};
+ghost use Rattle.ra_items.specs.declared.item_run.ItemRun.TheVariants.{Achievement, Leaderboard};
+ghost use Rattle.ra_items.specs.ItemRuns.{kept_run};
+ghost use Rattle.ra_meaning.specs.Openings.{kept_achievement};
+ghost use Rattle.ra_items.specs.Resting.{FitsRun, owed_run, seen_run};
+ghost use Rattle.ra_items.specs.Rests.{AreFitting, seen_by};
+ghost use Rattle.ra_member.specs.Members.{saved_hits, saved_numbers};
+ghost use Rattle.ra_member.specs.MemberRuns.{kept_by};
+ghost use Rattle.ra_leaderboard.specs.States.{board_byte};
+ghost use Rattle.ra_progress.specs.Contents.{OfBoard};
+ghost use Rattle.std.specs.Prelude.{IfSome};
+ghost use Rattle.ra_items.specs.Shapes.{run_shape};
+
+use crate::achievement_run::AchievementRun;
+use crate::board_run::BoardRun;
+use crate::item_run::ItemRun;
+use crate::rest::{ItemBefore, Rest};
+use crate::rests::Rests;
+use crate::state_bytes::{byte_of_board, byte_of_state};
+use ra_member::Member;
+use ra_progress::{put_achievement, put_board, put_presence, state_byte};
+use ra_rest::pay;
+use ra_resting::{hits_before, owed, row_of};
+use ra_text::OutOfMemory;
+use std::alloc::Global;
+
+/// Writes what is kept of all items behind other bytes, each with its name, and what they owe with it.
+pub fn put_runs(
+    alloc: Global,
+    bytes: &mut Vec<u8>,
+    names: &[[u8; 16]],
+    runs: &[ItemRun],
+    rests: &Rests,
+) -> Result<(), OutOfMemory>
+    requires names { length names.now ≡ length runs.now }
+    requires many { length rests.now.each.items ≡ length runs.now }
+    requires fit { AreFitting runs.now rests.now.each.items rests.now.clock }
+    requires short { sum_by item_length (map run_shape runs.now) ≤ 8388608 }
+    ensures bytes { OnOk result (bytes.new.items
+        ≡ bytes.old.items ++ named_blocks names.now (map item_bytes (seen_by runs.now rests.now))) }
+    ensures fit { OnOk result (ItemsFit (map run_shape runs.now) (seen_by runs.now rests.now)) }
+{
+    for k in 0..runs.len() {
+        put_run(
+            alloc,
+            bytes,
+            &names[k],
+            &runs[k],
+            &rests.each[k],
+            rests.clock,
+        )?;
+    }
+    Ok(())
+}
+
+// Writes what is kept of an item behind other bytes, with its name, and what it owes at a count of frames.
+fn put_run(
+    alloc: Global,
+    bytes: &mut Vec<u8>,
+    name: &[u8; 16],
+    run: &ItemRun,
+    rest: &Rest,
+    clock: u64,
+) -> Result<(), OutOfMemory>
+    requires fits { FitsRun rest.now.before run.now }
+    requires since { IfSome rest.now.since (λ since. since ≤ clock) }
+    requires short { item_length (run_shape run.now) ≤ 8388608 }
+    ensures bytes { OnOk result (bytes.new.items ≡ bytes.old.items ++ named_block name.now (item_bytes (seen_run clock run.now rest.now))) }
+    ensures fits { OnOk result (ItemFits (run_shape run.now) (seen_run clock run.now rest.now)) }
+{
+    match rest.since {
+        Some(since) => put_owed(alloc, bytes, name, run, &rest.before, owed(since, clock)),
+        None => put_kept(alloc, bytes, name, run),
+    }
+}
+
+// Writes what is kept of an item that owes nothing behind other bytes, with its name.
+fn put_kept(
+    alloc: Global,
+    bytes: &mut Vec<u8>,
+    name: &[u8; 16],
+    run: &ItemRun,
+) -> Result<(), OutOfMemory>
+    requires { item_length (run_shape run.now) ≤ 8388608 }
+    ensures bytes { OnOk result (bytes.new.items ≡ bytes.old.items ++ named_block name.now (item_bytes (kept_run run.now))) }
+    ensures fits { OnOk result (ItemFits (run_shape run.now) (kept_run run.now)) }
+{
+    match run {
+        ItemRun::Achievement(run) => put_achievement_run(bytes, name, run, run.run.trigger.hits()),
+        ItemRun::Leaderboard(run) => {
+            let mut hits = Vec::new(alloc);
+            let mut numbers = Vec::new(alloc);
+            run.member.save(&mut hits, &mut numbers)?;
+            put_board_run(bytes, name, run, &hits, &numbers)
+        }
+    }
+}
+
+// Writes what is kept of an item that owes hits for so many frames behind other bytes, with its name.
+fn put_owed(
+    alloc: Global,
+    bytes: &mut Vec<u8>,
+    name: &[u8; 16],
+    run: &ItemRun,
+    before: &ItemBefore,
+    frames: u32,
+) -> Result<(), OutOfMemory>
+    requires fits { FitsRun before.now run.now }
+    requires short { item_length (run_shape run.now) ≤ 8388608 }
+    ensures bytes { OnOk result (bytes.new.items ≡ bytes.old.items ++ named_block name.now (item_bytes (owed_run frames before.now run.now))) }
+    ensures fits { OnOk result (ItemFits (run_shape run.now) (owed_run frames before.now run.now)) }
+{
+    match (run, before) {
+        (ItemRun::Achievement(run), ItemBefore::Achievement(before)) => {
+            let mut hits = row_of(alloc, run.run.trigger.hits())?;
+            pay(&mut hits, &before.hits, frames);
+            put_achievement_run(bytes, name, run, &hits)
+        }
+        (ItemRun::Leaderboard(run), ItemBefore::Leaderboard(before)) => {
+            let mut hits = Vec::new(alloc);
+            let mut numbers = Vec::new(alloc);
+            run.member.save(&mut hits, &mut numbers)?;
+            let row = hits_before(alloc, &before.member)?;
+            pay(&mut hits, &row, frames);
+            put_board_run(bytes, name, run, &hits, &numbers)
+        }
+        _ => Ok(()),
+    }
+}
+
+// Writes an achievement with these hits behind other bytes, with its name.
+fn put_achievement_run(
+    bytes: &mut Vec<u8>,
+    name: &[u8; 16],
+    run: &AchievementRun,
+    hits: &[u32],
+) -> Result<(), OutOfMemory>
+    requires many { length hits.now ≡ length run.now.run.trigger.hits }
+    requires short { item_length (run_shape (Achievement run.now)) ≤ 8388608 }
+    ensures bytes { OnOk result (bytes.new.items
+        ≡ bytes.old.items ++ named_block name.now (item_bytes (kept_achievement run.now.earned (record run.now.run.trigger { hits = hits.now })))) }
+    ensures fits { OnOk result (ItemFits (run_shape (Achievement run.now)) (kept_achievement run.now.earned (record run.now.run.trigger { hits = hits.now }))) }
+{
+    let trigger = &run.run.trigger;
+    let measured = trigger.measured();
+    let state = state_byte(byte_of_state(trigger.state()), run.is_earned());
+    put_achievement(bytes, name, state, measured, hits)?;
+    Ok(())
+}
+
+// Writes a board with these hits of its fields in a row, and these numbers of its values, behind other bytes, with its
+// name.
+fn put_board_run(
+    bytes: &mut Vec<u8>,
+    name: &[u8; 16],
+    run: &BoardRun,
+    hits: &[u32],
+    numbers: &[u32],
+) -> Result<(), OutOfMemory>
+    requires hits { length hits.now ≡ length (saved_hits (kept_by run.now.member)) }
+    requires numbers { numbers.now ≡ saved_numbers (kept_by run.now.member) }
+    requires short { item_length (run_shape (Leaderboard run.now)) ≤ 8388608 }
+    ensures bytes { OnOk result (bytes.new.items
+        ≡ bytes.old.items ++ named_block name.now (item_bytes (OfBoard (board_byte run.now.board) hits.now numbers.now))) }
+    ensures fits { OnOk result (ItemFits (run_shape (Leaderboard run.now)) (OfBoard (board_byte run.now.board) hits.now numbers.now)) }
+{
+    put_board(bytes, name, byte_of_board(run.board.state()), hits, numbers)?;
+    Ok(())
+}
