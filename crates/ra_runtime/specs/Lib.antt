@@ -1,4 +1,3 @@
-pub mod Changed
 pub mod Laid
 pub mod Numbers
 pub mod Seen

@@ -1,13 +1,12 @@
 //! A set over a memory: a runtime that is made, stepped, shown, saved and restored.
 #![tactic(auto)]
 
-mod laws;
 mod numbers;
 mod runtime;
 mod shapes;
 mod written;
 
-pub use laws::changed_sets_go_on;
+pub use ra_changed::changed_sets_go_on;
 pub use ra_items::{Events, ItemState};
 pub use ra_meaning::{
     Event, calls_succeed, earned_achievements_stay_earned, histories_are_folds,

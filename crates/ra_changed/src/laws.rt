@@ -1,8 +1,8 @@
-//! Laws on the definitions, for whoever reads them.
+//! The law of a changed set, for whoever reads it.
 
 ghost use Rattle.std.specs.Prelude.{ℕ, List};
 ghost use Rattle.ra_set.specs.Contents.{SetContents};
-ghost use Rattle.ra_runtime.specs.Changed.{AllNamesApart, IsItemByItem, NamesApart, SetsGoOn};
+ghost use Rattle.ra_changed.specs.Changed.{AllNamesApart, IsItemByItem, NamesApart, SetsGoOn};
 
 /// A set that was changed goes on with what is the same in both: docs/DEFINITIONS.md, "The law of a changed set".
 ///
