@@ -12,7 +12,6 @@ mod rests;
 mod runs;
 mod saved;
 mod shapes;
-mod state_bytes;
 mod told;
 
 pub use achievement_run::AchievementRun;

@@ -13,10 +13,10 @@ ghost use Rattle.ra_items.specs.Restoring.{HasItem, PutsBackBoard, PutsBackItem,
 use crate::achievement_run::AchievementRun;
 use crate::board_run::BoardRun;
 use crate::item_run::ItemRun;
-use crate::state_bytes::{board_of_byte, state_of_byte};
 use ra_leaderboard::BoardState;
 use ra_member::Places;
-use ra_progress::{is_earned, state_said, word_at};
+use ra_progress::{achievement_block, board_block};
+use ra_trigger::State;
 
 /// Puts back what the bytes say of all items, by the places of their blocks. What is earned stays earned.
 pub fn put_back_runs(runs: &mut [ItemRun], bytes: &[u8], places: &[Option<u64>])
@@ -50,13 +50,14 @@ fn put_back_achievement(run: &mut AchievementRun, bytes: &[u8], place: Option<u6
     let earned = run.is_earned();
     match place {
         Some(at) => {
-            let at = at as usize;
-            let hits = at + 5;
+            let block = achievement_block(bytes, at);
+            let hits = block.hits as usize;
             let end = hits + 4 * run.run.trigger.hits().len();
-            let state = state_of_byte(state_said(bytes[4], bytes[at]));
-            let measured = word_at(bytes, (at + 1) as u64);
-            run.earned = earned | is_earned(bytes[4], bytes[at]);
-            run.run.trigger.put_back(state, measured, &bytes[hits..end]);
+            let state = State::of_byte(block.state);
+            run.earned = earned | block.earned;
+            run.run
+                .trigger
+                .put_back(state, block.measured, &bytes[hits..end]);
         }
         None => {
             run.earned = earned;
@@ -72,10 +73,10 @@ fn put_back_board(run: &mut BoardRun, bytes: &[u8], place: Option<u64>)
 {
     match place {
         Some(at) => {
-            let at = at as usize;
-            run.board.put_back(board_of_byte(bytes[at]));
-            let hits = at + 1;
-            let numbers = hits + 4 * run.member.shape().hits;
+            let block = board_block(bytes, at, run.member.shape().hits as u64);
+            run.board.put_back(BoardState::of_byte(block.state));
+            let hits = block.hits as usize;
+            let numbers = block.numbers as usize;
             run.member.put_back(bytes, Places { hits, numbers });
         }
         None => {

@@ -22,7 +22,6 @@ use crate::board_run::BoardRun;
 use crate::item_run::ItemRun;
 use crate::rest::{ItemBefore, Rest};
 use crate::rests::Rests;
-use crate::state_bytes::{byte_of_board, byte_of_state};
 use ra_member::Member;
 use ra_progress::{put_achievement, put_board, put_presence, state_byte};
 use ra_rest::pay;
@@ -149,7 +148,7 @@ fn put_achievement_run(
 {
     let trigger = &run.run.trigger;
     let measured = trigger.measured();
-    let state = state_byte(byte_of_state(trigger.state()), run.is_earned());
+    let state = state_byte(trigger.state().byte(), run.is_earned());
     put_achievement(bytes, name, state, measured, hits)?;
     Ok(())
 }
@@ -170,6 +169,6 @@ fn put_board_run(
         ≡ bytes.old.items ++ named_block name.now (item_bytes (OfBoard (board_byte run.now.board) hits.now numbers.now))) }
     ensures fits { OnOk result (ItemFits (run_shape (Leaderboard run.now)) (OfBoard (board_byte run.now.board) hits.now numbers.now)) }
 {
-    put_board(bytes, name, byte_of_board(run.board.state()), hits, numbers)?;
+    put_board(bytes, name, run.board.state().byte(), hits, numbers)?;
     Ok(())
 }
