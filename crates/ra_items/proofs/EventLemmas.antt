@@ -86,8 +86,3 @@ walk_on items runs places others place told event rest is is_told splits =
 pub walk_past : (event : Option Event) (told behind : List Event) → is_some event ≡ false → IfNone event (told ≡ []) → option_to_list event ++ (told ++ behind) ≡ behind
 walk_past None told behind is none = ap (λ l. l ++ behind) none
 walk_past (Some event) told behind is none = absurd (let bad : true ≡ false = is in cc)
-
--- none where no frame came
-pub last_have : (framed : Bool) (items : List ItemContents) (runs : List ItemRun) → HaveDigits items → Have (if framed then all_events items runs else [])
-last_have true items runs have = events_have items runs have
-last_have false items runs have = tt

@@ -1,5 +1,5 @@
 -- What a runtime is seen as, by its fields, and what these always have: docs/DEFINITIONS.md, "What a runtime keeps".
-use Rattle.std.specs.Prelude.{◌≡◌, true, List, [], length, if◌then◌else◌}
+use Rattle.std.specs.Prelude.{◌≡◌, ℕ, Option, None, Some, IsSome, List, [], length}
 use Rattle.ra_memref.specs.Table.{Agrees}
 use Rattle.ra_set.specs.Contents.{set_contents}
 use Rattle.ra_set.specs.Limits.{IsWithinLimits}
@@ -18,9 +18,15 @@ use Rattle.ra_display.specs.LineRests.{AreOptionalRests, optional_presence_seen}
 use Rattle.ra_display.specs.PresenceRuns.{IsOptionalPresence}
 use Rattle.ra_items.specs.Rests.{AreRests, AreTold, seen_by}
 
--- the events of the last frame; none where no frame came
-abbrev pub last_events : Inside → List Event
-last_events t = if t.framed then all_events (set_contents t.set).items t.runs.items else []
+-- the events of a frame, where one came, by its number
+abbrev pub events_where : Option ℕ → List Event → List Event
+events_where None events = []
+events_where (Some frame) events = events
+
+-- the lines of these events of a frame, where one came, by its number
+abbrev pub lines_where : Option ℕ → List Event → List ℕ
+lines_where None events = []
+lines_where (Some frame) events = event_lines frame events
 
 -- what a caller sees of the inside of a runtime
 abbrev pub runtime_seen : Inside → RuntimeSeen
@@ -28,8 +34,8 @@ runtime_seen t = record {
   set = set_contents t.set;
   image = t.memory;
   kept = opening_by t.count t.table (seen_by t.runs.items t.rests) (optional_presence_seen t.presence t.line_rests);
-  events = last_events t;
-  lines = event_lines t.frame (last_events t);
+  events = events_where t.last (all_events (set_contents t.set).items t.runs.items);
+  lines = lines_where t.last (all_events (set_contents t.set).items t.runs.items);
   marked = t.table.marked;
   places = t.table.places;
 }
@@ -44,7 +50,7 @@ pub record IsRuntime (t : Inside) : Type 0 where
   pub over : IsOver (set_contents t.set) t.table
   pub runs : AreItemRuns t.table.nodes (set_contents t.set).items t.runs.items
   pub rests : AreRests t.table.nodes t.table.values (set_contents t.set).items t.runs.items t.rests
-  pub told : t.framed ≡ true → AreTold (set_contents t.set).items t.runs.items t.rests
+  pub told : IsSome t.last → AreTold (set_contents t.set).items t.runs.items t.rests
   pub presence : IsOptionalPresence t.table.nodes (set_contents t.set).script t.presence
   pub lines : AreOptionalRests t.table.nodes t.table.values (set_contents t.set).script t.presence t.line_rests
   pub digits : HaveDigits (set_contents t.set).items

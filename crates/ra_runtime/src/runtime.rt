@@ -45,10 +45,8 @@ pub struct Runtime {
     line_rests: LineRests,
     // the count of frames, which stops at the last number
     count: u64,
-    // the number of the last frame: the count before it
-    frame: u64,
-    // a frame came
-    framed: bool,
+    // the number of the last frame, where one came: the count before it
+    last: Option<u64>,
 }
 
 impl Model for Runtime {
@@ -92,8 +90,7 @@ impl Runtime {
             presence,
             line_rests,
             count: 0,
-            frame: 0,
-            framed: false,
+            last: None,
         })
     }
 
@@ -169,7 +166,7 @@ impl Runtime {
         put_back_presence(&mut self.presence, &self.shape.presence, bytes, display);
         self.line_rests.forget();
         self.count = frames_at(bytes);
-        self.framed = false;
+        self.last = None;
     }
 
     /// Takes one frame of every item: docs/DEFINITIONS.md, "What a runtime keeps". No memory is taken.
@@ -190,9 +187,8 @@ impl Runtime {
             &self.set.script,
             &self.table,
         );
-        self.frame = self.count;
+        self.last = Some(self.count);
         self.count = self.count.saturating_add(1);
-        self.framed = true;
     }
 
     /// Takes one frame, as `frame` does, where nobody counts what is read. No memory is taken.
@@ -220,10 +216,9 @@ impl Runtime {
     pub fn events(&self) -> Events<'_>
         ensures { result ≡ self.now.events }
     {
-        if self.framed {
-            Events::new(&self.set.items, &self.runs, self.rests.stepped())
-        } else {
-            Events::new(&[], &[], &[])
+        match self.last {
+            Some(_) => Events::new(&self.set.items, &self.runs, self.rests.stepped()),
+            None => Events::new(&[], &[], &[]),
         }
     }
 
@@ -234,7 +229,7 @@ impl Runtime {
         ensures of_events { IfOk result (λ text. IsTextOf text.items self.now.events) }
     {
         let mut out = Vec::new(alloc);
-        put_events(&mut out, self.frame, self.events())?;
+        self.tell(&mut out)?;
         Ok(out)
     }
 
@@ -243,7 +238,18 @@ impl Runtime {
     pub fn put_lines(&self, text: &mut Vec<u8>) -> Result<(), OutOfMemory>
         ensures { OnOk result (text.new.items ≡ text.old.items ++ self.now.lines) }
     {
-        put_events(text, self.frame, self.events())
+        self.tell(text)
+    }
+
+    // Puts the lines of the events of the last frame, where one came, at the end of a text; they are the text of its events.
+    fn tell(&self, text: &mut Vec<u8>) -> Result<(), OutOfMemory>
+        ensures put { OnOk result (text.new.items ≡ text.old.items ++ self.now.lines) }
+        ensures of_events { IsTextOf self.now.lines self.now.events }
+    {
+        match self.last {
+            Some(frame) => put_events(text, frame, self.events()),
+            None => Ok(()),
+        }
     }
 
     /// How many bytes the image has.

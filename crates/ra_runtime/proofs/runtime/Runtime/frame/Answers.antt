@@ -1,4 +1,4 @@
-use Rattle.std.proofs.Common.{◌≡◌, ◌∙◌, ◌<◌, ◌^◌, ap, sym, subst, refl, length, map, slice_index, List, true, rules, arith}
+use Rattle.std.proofs.Common.{◌≡◌, ◌∙◌, ◌<◌, ◌^◌, Some, ap, sym, subst, refl, length, map, slice_index, List, true, rules, arith}
 use Rattle.std.proofs.Math.Path.{transport}
 use Rattle.std.proofs.lemmas.List.{with_items_is}
 use Rattle.std.specs.Vec.{with_items}
@@ -70,7 +70,7 @@ invariant_of-self g c =
       over = over_after set t.count t.table now t.memory (seen_by t.runs.items t.rests) (optional_presence_seen t.presence t.line_rests) c.self.invariant.over c.sample.ensures.taken;
       runs = subst (λ (rs : List ItemRun). AreItemRuns now.nodes set.items rs) (sym same) runs;
       rests = subst (λ (rs : List ItemRun). AreRests now.nodes now.values set.items rs c.step.new.self) (sym same) rests;
-      told = λ framed. subst (λ (rs : List ItemRun). AreTold set.items rs c.step.new.self) (sym same) told;
+      told = λ came. subst (λ (rs : List ItemRun). AreTold set.items rs c.step.new.self) (sym same) told;
       presence = c.step_presence.ensures.run;
       lines = c.step_presence.ensures.rests;
       digits = c.self.invariant.digits;
@@ -97,7 +97,7 @@ returns-clause-taken g c =
     let over = c.self.invariant.over in
     let taken = c.sample.ensures.taken in
     let steps = c.step_presence.ensures.steps in
-    rw (← c.self.view_is) (takes_frame (runtime_seen t) (runtime_seen (record { set = t.set; shape = t.shape; said = t.said; memory = t.memory; table = now; runs = with_items t.runs news; rests = rests; presence = shown; line_rests = line_rests; count = c.saturating_add-self-inside.result; frame = count; framed = true })) refl refl
+    rw (← c.self.view_is) (takes_frame (runtime_seen t) (runtime_seen (record { set = t.set; shape = t.shape; said = t.said; memory = t.memory; table = now; runs = with_items t.runs news; rests = rests; presence = shown; line_rests = line_rests; count = c.saturating_add-self-inside.result; last = Some count })) refl refl
     ((λ i. opening_by (c.saturating_add-self-inside.ensures i) now (seen_by (same i) rests) is) ∙ frame_kept set count t.table now t.memory olds was over taken (seen_by news rests) news is stepped steps)
     (frame_earned set count t.table now t.memory olds was over taken (seen_by news rests) news is stepped steps (rests_seen t.table.nodes t.table.values set.items t.runs.items t.rests c.self.invariant.runs c.self.invariant.rests))
     (ap (all_events set.items) same ∙ frame_events set count t.table now t.memory olds was over taken (seen_by news rests) news is stepped steps)

@@ -10,8 +10,9 @@ use Rattle.ra_items.proofs.ShapeLemmas.{have_digits}
 use Rattle.ra_meaning.proofs.SmallShape.{small_shape}
 use Rattle.ra_runtime.proofs.runtime.Runtime.new.Goals as goal
 
-not_framed : false ≡ true → ⊥
-not_framed same = cc
+-- no frame came where there is no number of one
+none_came : false ≡ true → ⊥
+none_came same = cc
 
 pub shape_and_room-requires-clause-short : goal.shape_and_room-requires-clause-short
 shape_and_room-requires-clause-short c =
@@ -47,7 +48,7 @@ invariant_of-result c =
       over = laid.over;
       runs = laid.runs_too;
       rests = c.in_ok-table.ensures.rests;
-      told = λ framed. absurd (not_framed framed);
+      told = λ came. absurd (none_came came);
       presence = laid.presence_too;
       lines = c.in_ok-table.ensures.lines;
       digits = have_digits (set_contents c.args.set).items c.requires.spelled.items;

@@ -32,8 +32,9 @@ use Rattle.ra_display.proofs.SeenLines.{rests_forgotten}
 use Rattle.ra_items.proofs.SeenItems.{rests_earned}
 use Rattle.ra_runtime.proofs.runtime.Runtime.take_up.Goals as goal
 
-not_framed : false ≡ true → ⊥
-not_framed same = cc
+-- no frame came where there is no number of one
+none_came : false ≡ true → ⊥
+none_came same = cc
 
 pub read-requires-clause-accepted : goal.read-requires-clause-accepted
 read-requires-clause-accepted c =
@@ -107,7 +108,7 @@ invariant_of-self c =
       runs = subst (λ (rs : List ItemRun). AreItemRuns table.nodes set.items rs) (sym same) (subst (λ (ns : List Node). AreItemRuns ns set.items news) (sym takes.pool.0) after);
       rests = subst (λ (ns : List Node). AreRests ns table.values set.items (with_items t.runs news).items c.forget.new.self) (sym takes.pool.0)
           (c.forget.ensures.each t.table.nodes t.table.values table.values set.items t.runs.items (with_items t.runs news).items inv.rests);
-      told = λ framed. absurd (not_framed framed);
+      told = λ came. absurd (none_came came);
       presence = subst (λ (ns : List Node). IsOptionalPresence ns set.script c.put_back_presence.new.run) (sym takes.pool.0) (c.put_back_presence.ensures.run t.table.nodes set.script inv.presence);
       lines = subst (λ (ns : List Node). AreOptionalRests ns table.values set.script c.put_back_presence.new.run c.forget-2.new.self) (sym takes.pool.0)
           (rests_forgotten t.table.nodes t.table.values table.values set.script t.presence c.put_back_presence.new.run t.line_rests c.forget-2.new.self inv.presence (c.put_back_presence.ensures.run t.table.nodes set.script inv.presence) inv.lines (record { each = c.forget-2.ensures.each; kept = c.forget-2.ensures.kept })).0;
