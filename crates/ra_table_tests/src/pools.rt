@@ -5,6 +5,7 @@ ghost use Rattle.ra_indirect.specs.Pools.{MayFollow, IsValued, IsCellOf, node_at
 
 use ra_indirect::{Node, Pool};
 use ra_operand::{Kind, Op, Size, width};
+use ra_text::OutOfMemory;
 use std::alloc::Global;
 use std::test::Fail;
 
@@ -68,26 +69,62 @@ pub(crate) fn pool_of(alloc: Global, nodes: &[Node]) -> Result<Pool, Fail>
     Ok(pool)
 }
 
-#[test]
-fn each_node_has_one_number(rt: HostRuntime) -> Result<(), Fail> {
-    let mut pool = Pool::new(rt.alloc());
-    assert!(rt; pool.is_empty());
-    let byte = |offset: u32| Node::Cell {
+// Whether a node may follow these few, and gets this number.
+fn gets(pool: &mut Pool, node: Node, number: u32) -> Result<bool, OutOfMemory> {
+    if pool.len() > 8 || !may_follow(pool, node) {
+        return Ok(false);
+    }
+    let found = pool.intern(node)?;
+    Ok(found == number)
+}
+
+// The place of the first node that does not get its number.
+fn other_number(pool: &mut Pool, rows: &[(Node, u32)]) -> Result<Option<usize>, OutOfMemory> {
+    for (place, (node, number)) in rows.iter().enumerate() {
+        if !gets(pool, *node, *number)? {
+            return Ok(Some(place));
+        }
+    }
+    Ok(None)
+}
+
+// The place of the first node that does not get its number in a pool that is empty, and how many nodes it then has.
+fn numbered(alloc: Global, rows: &[(Node, u32)]) -> Result<(Option<usize>, u32), OutOfMemory> {
+    let mut pool = Pool::new(alloc);
+    if !pool.is_empty() {
+        return Ok((None, 0));
+    }
+    let other = other_number(&mut pool, rows)?;
+    Ok((other, pool.len()))
+}
+
+fn byte(offset: u32) -> Node {
+    Node::Cell {
         pointer: 0,
         offset,
         width: 1,
-    };
-    let view = |kind: Kind, cell: u32| Node::View {
+    }
+}
+
+fn view(kind: Kind, cell: u32) -> Node {
+    Node::View {
         kind,
         size: Size::Byte,
         cell,
-    };
-    let sum = |left: u32, right: u32| Node::Arith {
+    }
+}
+
+fn sum(left: u32, right: u32) -> Node {
+    Node::Arith {
         op: Op::Add,
         left,
         right,
-    };
-    for (node, number) in [
+    }
+}
+
+#[test]
+fn each_node_has_one_number(rt: HostRuntime) -> Result<(), OutOfMemory> {
+    let rows = [
         (Node::Const(0), 0),
         (byte(16), 1),
         (byte(16), 1),
@@ -100,11 +137,7 @@ fn each_node_has_one_number(rt: HostRuntime) -> Result<(), Fail> {
         (sum(3, 2), 7),
         (sum(2, 3), 6),
         (Node::Const(0), 0),
-    ] {
-        assert!(rt; pool.len() < 9, "{node:?}");
-        assert!(rt; may_follow(&pool, node), "{node:?}");
-        assert_eq!(rt; pool.intern(node)?, number, "{node:?}");
-    }
-    assert_eq!(rt; pool.len(), 8);
+    ];
+    assert_eq!(rt; numbered(rt.alloc(), &rows)?, (None, 8));
     Ok(())
 }

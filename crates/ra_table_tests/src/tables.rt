@@ -1,51 +1,30 @@
 //! Tables over frames, from the rules.
 
-ghost use Rattle.std.specs.Prelude.{◌≤◌, ◌^◌};
-
 mod machine;
 mod reads;
+mod steps;
 
 use crate::pools::pool_of;
-use crate::tables::machine::Machine;
+use crate::tables::steps::Step::{
+    Cells, Changed, Frame, Priors, PutBack, PutCell, PutPrior, Write,
+};
+use crate::tables::steps::{Step, other_step};
 use ra_indirect::Node;
 use ra_memref::names_of;
 use ra_operand::{Kind, Op, Size};
 use std::alloc::Global;
-use std::marker::Brand;
-use std::sync::ledger::Blank;
 use std::test::Fail;
 
-// A machine over these nodes, with a memory of so many bytes.
-fn machine_of(alloc: Global, size: u32, nodes: &[Node]) -> Result<Machine, Fail>
-    requires { size ≤ 2 ^ 27 }
-{
-    let pool = pool_of(alloc, nodes)?;
-    let machine = Machine::new(alloc, pool, size)?;
-    Ok(machine)
-}
-
-// The names of the cells and then of the tracked masks of these nodes, in hexadecimal digits.
-fn names_in(alloc: Global, nodes: &[Node]) -> Result<Vec<String>, Fail> {
+// Whether the cells and the tracked masks of these nodes have these names.
+fn are_named(
+    alloc: Global,
+    nodes: &[Node],
+    cells: &[[u8; 16]],
+    priors: &[[u8; 16]],
+) -> Result<bool, Fail> {
     let pool = pool_of(alloc, nodes)?;
     let names = names_of(alloc, &pool)?;
-    let mut texts = Vec::new(alloc);
-    for name in &names.cells {
-        texts.push(hexadecimal(alloc, name)?)?;
-    }
-    for name in &names.priors {
-        texts.push(hexadecimal(alloc, name)?)?;
-    }
-    Ok(texts)
-}
-
-// Two digits for each byte.
-fn hexadecimal(alloc: Global, bytes: &[u8; 16]) -> Result<String, Fail> {
-    let mut text = String::new(alloc);
-    for byte in bytes {
-        let digits = format!(in alloc; "{byte:02x}")?;
-        text.push_str(&digits)?;
-    }
-    Ok(text)
+    Ok(names.cells.as_slice() == cells && names.priors.as_slice() == priors)
 }
 
 fn byte_cell(pointer: u32, offset: u32) -> Node {
@@ -68,177 +47,202 @@ fn view(kind: Kind, size: Size, cell: u32) -> Node {
     Node::View { kind, size, cell }
 }
 
+const MASKS: &[Step<'static>] = &[
+    Write(0x10, &[1]),
+    Frame(&[0, 0, 0, 0, 0, 0]),
+    Cells(&[1]),
+    Priors(&[0, 0, 0]),
+    Write(0x10, &[3]),
+    Frame(&[0, 0, 0, 0, 1, 1]),
+    Cells(&[3]),
+    Priors(&[0, 0, 1]),
+    Write(0x10, &[2]),
+    Frame(&[0, 0, 1, 0, 3, 2]),
+    Cells(&[2]),
+    Priors(&[1, 0, 3]),
+    Write(0x10, &[2]),
+    Frame(&[0, 0, 1, 0, 3, 2]),
+    Cells(&[2]),
+    Priors(&[1, 0, 3]),
+];
+
 #[test]
 fn each_mask_has_a_prior_of_its_own(rt: HostRuntime) -> Result<(), Fail> {
-    let mut machine = machine_of(
-        rt.alloc(),
-        64,
-        &[
-            Node::Const(0),
-            byte_cell(0, 0x10),
-            view(Kind::Prior, Size::Bit0, 1),
-            view(Kind::Prior, Size::Bit1, 1),
-            view(Kind::Prior, Size::Byte, 1),
-            view(Kind::Prior, Size::Count, 1),
-            view(Kind::Prior, Size::Bit0, 1),
-        ],
-    )?;
-    for (byte, priors, values) in [
-        (1, [0, 0, 0], [0, 0, 0, 0, 0, 0]),
-        (3, [0, 0, 1], [0, 0, 0, 0, 1, 1]),
-        (2, [1, 0, 3], [0, 0, 1, 0, 3, 2]),
-        (2, [1, 0, 3], [0, 0, 1, 0, 3, 2]),
-    ] {
-        machine.write(0x10, &[byte]);
-        let found = machine.frame::<Brand>(rt.alloc(), Blank::new(1))?;
-        assert_eq!(rt; machine.cells(), [u32::from(byte)].as_slice(), "at {byte}");
-        assert_eq!(rt; machine.priors(), priors.as_slice(), "at {byte}");
-        assert_eq!(rt; found.as_slice(), values.as_slice(), "at {byte}");
-    }
+    let nodes = [
+        Node::Const(0),
+        byte_cell(0, 0x10),
+        view(Kind::Prior, Size::Bit0, 1),
+        view(Kind::Prior, Size::Bit1, 1),
+        view(Kind::Prior, Size::Byte, 1),
+        view(Kind::Prior, Size::Count, 1),
+        view(Kind::Prior, Size::Bit0, 1),
+    ];
+    assert_eq!(rt; other_step(rt.alloc(), 64, &nodes, MASKS)?, None);
     Ok(())
 }
+
+// So few nodes are all taken in order, and all listed.
+const DELTAS: &[Step<'static>] = &[
+    Write(0x24, &[7]),
+    Write(0x34, &[9]),
+    Write(0x10, &[0x20]),
+    Frame(&[0, 0, 0x20, 0, 0]),
+    Cells(&[0x20, 7]),
+    Changed(&[0, 1, 2, 3, 4]),
+    Write(0x10, &[0x30]),
+    Frame(&[0, 0, 0x30, 0, 7]),
+    Cells(&[0x30, 9]),
+    Changed(&[0, 1, 2, 3, 4]),
+    Write(0x10, &[0x30]),
+    Frame(&[0, 0, 0x30, 0, 9]),
+    Cells(&[0x30, 9]),
+    Changed(&[0, 1, 2, 3, 4]),
+];
 
 #[test]
 fn a_delta_is_what_the_old_pointer_gave(rt: HostRuntime) -> Result<(), Fail> {
-    let mut machine = machine_of(
-        rt.alloc(),
-        64,
-        &[
-            Node::Const(0),
-            word_cell(0, 0x10),
-            view(Kind::Mem, Size::Four, 1),
-            byte_cell(2, 4),
-            view(Kind::Delta, Size::Byte, 3),
-        ],
-    )?;
-    machine.write(0x24, &[7]);
-    machine.write(0x34, &[9]);
-    // so few nodes are all taken in order, and all listed
-    let changes: [&[u32]; 3] = [&[0, 1, 2, 3, 4], &[0, 1, 2, 3, 4], &[0, 1, 2, 3, 4]];
-    for (pointer, cells, values, changed) in [
-        (0x20, [0x20, 7], [0, 0, 0x20, 0, 0], changes[0]),
-        (0x30, [0x30, 9], [0, 0, 0x30, 0, 7], changes[1]),
-        (0x30, [0x30, 9], [0, 0, 0x30, 0, 9], changes[2]),
-    ] {
-        machine.write(0x10, &[pointer]);
-        let found = machine.frame::<Brand>(rt.alloc(), Blank::new(1))?;
-        assert_eq!(rt; machine.cells(), cells.as_slice(), "at {pointer}");
-        assert_eq!(rt; found.as_slice(), values.as_slice(), "at {pointer}");
-        assert_eq!(rt; machine.changed(), changed, "at {pointer}");
-    }
+    let nodes = [
+        Node::Const(0),
+        word_cell(0, 0x10),
+        view(Kind::Mem, Size::Four, 1),
+        byte_cell(2, 4),
+        view(Kind::Delta, Size::Byte, 3),
+    ];
+    assert_eq!(rt; other_step(rt.alloc(), 64, &nodes, DELTAS)?, None);
     Ok(())
 }
+
+const WRAPPED: &[Step<'static>] = &[
+    Write(0, &[0xf8, 0xff, 0xff, 0xff]),
+    Write(8, &[7]),
+    Write(0x3e, &[1, 2]),
+    Frame(&[0, 0, 0xffff_fff8, 0, 7, 0, 0x0102_0000]),
+    Cells(&[0xffff_fff8, 7, 513]),
+];
 
 #[test]
 fn a_pointer_wraps_and_the_end_is_zeros(rt: HostRuntime) -> Result<(), Fail> {
-    let mut machine = machine_of(
-        rt.alloc(),
-        64,
-        &[
-            Node::Const(0),
-            word_cell(0, 0),
-            view(Kind::Mem, Size::Four, 1),
-            byte_cell(2, 0x10),
-            view(Kind::Mem, Size::Byte, 3),
-            word_cell(0, 0x3e),
-            view(Kind::Mem, Size::FourBig, 5),
-        ],
-    )?;
-    machine.write(0, &[0xf8, 0xff, 0xff, 0xff]);
-    machine.write(8, &[7]);
-    machine.write(0x3e, &[1, 2]);
-    let found = machine.frame::<Brand>(rt.alloc(), Blank::new(1))?;
-    assert_eq!(rt; machine.cells(), [0xffff_fff8, 7, 513].as_slice());
-    let values = [0, 0, 0xffff_fff8, 0, 7, 0, 0x0102_0000];
-    assert_eq!(rt; found.as_slice(), values.as_slice());
+    let nodes = [
+        Node::Const(0),
+        word_cell(0, 0),
+        view(Kind::Mem, Size::Four, 1),
+        byte_cell(2, 0x10),
+        view(Kind::Mem, Size::Byte, 3),
+        word_cell(0, 0x3e),
+        view(Kind::Mem, Size::FourBig, 5),
+    ];
+    assert_eq!(rt; other_step(rt.alloc(), 64, &nodes, WRAPPED)?, None);
     Ok(())
 }
+
+// A cell, its delta and a prior of one of its masks.
+fn byte_nodes() -> [Node; 4] {
+    [
+        Node::Const(0),
+        byte_cell(0, 0x10),
+        view(Kind::Delta, Size::Byte, 1),
+        view(Kind::Prior, Size::Bit0, 1),
+    ]
+}
+
+const NUMBERS_BACK: &[Step<'static>] = &[
+    PutBack(&[0xff, 0xff, 0xff, 0xff, 0x78, 0x56, 0x34, 0x12], true),
+    PutBack(&[0xff, 0xff, 0xff, 0x78, 0x56, 0x34, 0x12], false),
+    Cells(&[0xffff_ffff]),
+    Priors(&[0x1234_5678]),
+    Frame(&[0, 0, 255, 1]),
+    Priors(&[1]),
+];
 
 #[test]
 fn kept_numbers_are_put_back(rt: HostRuntime) -> Result<(), Fail> {
-    let mut machine = machine_of(
-        rt.alloc(),
-        64,
-        &[
-            Node::Const(0),
-            byte_cell(0, 0x10),
-            view(Kind::Delta, Size::Byte, 1),
-            view(Kind::Prior, Size::Bit0, 1),
-        ],
-    )?;
-    let bytes = [0xff, 0xff, 0xff, 0xff, 0x78, 0x56, 0x34, 0x12];
-    assert!(rt; machine.put_back(&bytes));
-    assert!(rt; !machine.put_back(&bytes[1..]));
-    assert_eq!(rt; machine.cells(), [0xffff_ffff].as_slice());
-    assert_eq!(rt; machine.priors(), [0x1234_5678].as_slice());
-    let found = machine.frame::<Brand>(rt.alloc(), Blank::new(1))?;
-    assert_eq!(rt; machine.priors(), [1].as_slice());
-    assert_eq!(rt; found.as_slice(), [0, 0, 255, 1].as_slice());
+    assert_eq!(rt;
+        other_step(rt.alloc(), 64, &byte_nodes(), NUMBERS_BACK)?,
+        None
+    );
     Ok(())
 }
 
-#[test]
-fn names_are_digests_of_trees(rt: HostRuntime) -> Result<(), Fail> {
-    let found = names_in(
-        rt.alloc(),
-        &[
-            Node::Const(0),
-            byte_cell(0, 0x10),
-            view(Kind::Mem, Size::Byte, 1),
-            byte_cell(2, 0x20),
-            word_cell(0, 0),
-            view(Kind::Mem, Size::Four, 4),
-            byte_cell(5, 0x10),
-            Node::Arith {
-                op: Op::Add,
-                left: 5,
-                right: 2,
-            },
-            byte_cell(7, 0x20),
-            view(Kind::Delta, Size::FourBig, 4),
-            byte_cell(9, 0x20),
-            view(Kind::Prior, Size::Bit0, 1),
-            view(Kind::Prior, Size::Byte, 1),
-            view(Kind::Prior, Size::Count, 1),
-        ],
-    )?;
-    let names = [
-        "59749bd5ca8abe768eb137061a4f30c6",
-        "b7e5c2adb3d979ce67a8cc653e6e805d",
-        "662706d9cb9f5c0d62739f6c5e6192cf",
-        "306ab5104a0b6bd9fbe2cfdff50efa27",
-        "10baf5ad11b715dfafca92ab79a31120",
-        "849600f9d4d734af30c1e44c21ab18cd",
-        "5c39f2d432b38de140c5dd6edd9071c0",
-        "9a54cce3d75776823211f374d4f977a0",
-    ];
-    assert_eq!(rt; found.len(), names.len());
-    for (text, name) in found.iter().zip(&names) {
-        assert_eq!(rt; text.as_str(), *name);
-    }
-    Ok(())
-}
+const NUMBERS_PUT: &[Step<'static>] = &[
+    PutCell(0, 0x0102, true),
+    PutPrior(0, 9, true),
+    PutCell(1, 3, false),
+    PutPrior(1, 3, false),
+    Cells(&[0x0102]),
+    Priors(&[9]),
+    Frame(&[0, 0, 2, 1]),
+    Cells(&[0]),
+];
 
 #[test]
 fn a_kept_number_is_put(rt: HostRuntime) -> Result<(), Fail> {
-    let mut machine = machine_of(
-        rt.alloc(),
-        64,
-        &[
-            Node::Const(0),
-            byte_cell(0, 0x10),
-            view(Kind::Delta, Size::Byte, 1),
-            view(Kind::Prior, Size::Bit0, 1),
-        ],
-    )?;
-    assert!(rt; machine.put_cell(0, 0x0102));
-    assert!(rt; machine.put_prior(0, 9));
-    assert!(rt; !machine.put_cell(1, 3));
-    assert!(rt; !machine.put_prior(1, 3));
-    assert_eq!(rt; machine.cells(), [0x0102].as_slice());
-    assert_eq!(rt; machine.priors(), [9].as_slice());
-    let found = machine.frame::<Brand>(rt.alloc(), Blank::new(1))?;
-    assert_eq!(rt; machine.cells(), [0].as_slice());
-    assert_eq!(rt; found.as_slice(), [0, 0, 2, 1].as_slice());
+    assert_eq!(rt;
+        other_step(rt.alloc(), 64, &byte_nodes(), NUMBERS_PUT)?,
+        None
+    );
+    Ok(())
+}
+
+const CELL_NAMES: &[[u8; 16]] = &[
+    [
+        0x59, 0x74, 0x9b, 0xd5, 0xca, 0x8a, 0xbe, 0x76, 0x8e, 0xb1, 0x37, 0x06, 0x1a, 0x4f, 0x30,
+        0xc6,
+    ],
+    [
+        0xb7, 0xe5, 0xc2, 0xad, 0xb3, 0xd9, 0x79, 0xce, 0x67, 0xa8, 0xcc, 0x65, 0x3e, 0x6e, 0x80,
+        0x5d,
+    ],
+    [
+        0x66, 0x27, 0x06, 0xd9, 0xcb, 0x9f, 0x5c, 0x0d, 0x62, 0x73, 0x9f, 0x6c, 0x5e, 0x61, 0x92,
+        0xcf,
+    ],
+    [
+        0x30, 0x6a, 0xb5, 0x10, 0x4a, 0x0b, 0x6b, 0xd9, 0xfb, 0xe2, 0xcf, 0xdf, 0xf5, 0x0e, 0xfa,
+        0x27,
+    ],
+    [
+        0x10, 0xba, 0xf5, 0xad, 0x11, 0xb7, 0x15, 0xdf, 0xaf, 0xca, 0x92, 0xab, 0x79, 0xa3, 0x11,
+        0x20,
+    ],
+    [
+        0x84, 0x96, 0x00, 0xf9, 0xd4, 0xd7, 0x34, 0xaf, 0x30, 0xc1, 0xe4, 0x4c, 0x21, 0xab, 0x18,
+        0xcd,
+    ],
+];
+
+const PRIOR_NAMES: &[[u8; 16]] = &[
+    [
+        0x5c, 0x39, 0xf2, 0xd4, 0x32, 0xb3, 0x8d, 0xe1, 0x40, 0xc5, 0xdd, 0x6e, 0xdd, 0x90, 0x71,
+        0xc0,
+    ],
+    [
+        0x9a, 0x54, 0xcc, 0xe3, 0xd7, 0x57, 0x76, 0x82, 0x32, 0x11, 0xf3, 0x74, 0xd4, 0xf9, 0x77,
+        0xa0,
+    ],
+];
+
+#[test]
+fn names_are_digests_of_trees(rt: HostRuntime) -> Result<(), Fail> {
+    let nodes = [
+        Node::Const(0),
+        byte_cell(0, 0x10),
+        view(Kind::Mem, Size::Byte, 1),
+        byte_cell(2, 0x20),
+        word_cell(0, 0),
+        view(Kind::Mem, Size::Four, 4),
+        byte_cell(5, 0x10),
+        Node::Arith {
+            op: Op::Add,
+            left: 5,
+            right: 2,
+        },
+        byte_cell(7, 0x20),
+        view(Kind::Delta, Size::FourBig, 4),
+        byte_cell(9, 0x20),
+        view(Kind::Prior, Size::Bit0, 1),
+        view(Kind::Prior, Size::Byte, 1),
+        view(Kind::Prior, Size::Count, 1),
+    ];
+    assert!(rt; are_named(rt.alloc(), &nodes, CELL_NAMES, PRIOR_NAMES)?);
     Ok(())
 }

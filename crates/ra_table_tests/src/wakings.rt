@@ -1,35 +1,81 @@
 //! Nodes that change, and the readers that they make due.
 
+ghost use Rattle.std.specs.Prelude.{◌≡◌, length, IfOk};
+
 use ra_readers::Readers;
 use ra_text::OutOfMemory;
+use std::alloc::Global;
 
-#[test]
-fn changed_nodes_wake_their_readers_alone(rt: HostRuntime) -> Result<(), OutOfMemory> {
-    let mut readers = Readers::new(rt.alloc(), 3, 3)?;
-    assert_eq!(rt; readers.nodes(), 3);
+// Three nodes and three readers. The first node is read by 1, the last one by 2 twice and by 0.
+fn noted(alloc: Global) -> Result<Readers, OutOfMemory>
+    ensures rows { IfOk result (λ readers. length readers.rows ≡ 3) }
+    ensures due { IfOk result (λ readers. length readers.due ≡ 3) }
+{
+    let mut readers = Readers::new(alloc, 3, 3)?;
+    note_all(&mut readers)?;
+    Ok(readers)
+}
+
+fn note_all(readers: &mut Readers) -> Result<(), OutOfMemory>
+    requires rows { length readers.old.rows ≡ 3 }
+    requires due { length readers.old.due ≡ 3 }
+    ensures rows { length readers.new.rows ≡ 3 }
+    ensures due { length readers.new.due ≡ 3 }
+{
     readers.note(0, 1)?;
     readers.note(2, 2)?;
     readers.note(2, 2)?;
-    readers.note(2, 0)?;
-    assert_eq!(rt; readers.next_due(0), Some(0), "all are due at first");
+    readers.note(2, 0)
+}
+
+// Which readers are due at first, while the first rests, and while all do.
+fn due_at_rest(readers: &mut Readers) -> [Option<usize>; 3]
+    requires { length readers.old.due ≡ 3 }
+    ensures rows { readers.new.rows ≡ readers.old.rows }
+    ensures due { length readers.new.due ≡ 3 }
+{
+    let first = readers.next_due(0);
     readers.put(0, false);
-    assert_eq!(rt; readers.next_due(0), Some(1));
+    let second = readers.next_due(0);
     readers.put(1, false);
     readers.put(2, false);
-    assert_eq!(rt; readers.next_due(0), None, "all rest");
+    [first, second, readers.next_due(0)]
+}
 
+// Which is due when a node changed that nobody reads, and which are when the last one did.
+fn due_of_changed(readers: &mut Readers) -> [Option<usize>; 4]
+    requires { length readers.old.rows ≡ 3 }
+    ensures { length readers.new.due ≡ length readers.old.due }
+{
     readers.wake(&[1]);
-    assert_eq!(rt; readers.next_due(0), None, "a node that nobody reads");
+    let none = readers.next_due(0);
     readers.wake(&[1, 2]);
-    assert_eq!(rt;
-        readers.next_due(0),
-        Some(0),
-        "the last reader of the last node"
-    );
-    assert_eq!(rt; readers.next_due(1), Some(2));
-    assert_eq!(rt; readers.next_due(3), None);
+    let last = readers.next_due(0);
+    [none, last, readers.next_due(1), readers.next_due(3)]
+}
+
+// Which is due behind the first when the first rests and then all are due.
+fn due_of_all(readers: &mut Readers) -> Option<usize>
+    requires { length readers.old.due ≡ 3 }
+{
     readers.put(0, false);
     readers.wake_all();
-    assert_eq!(rt; readers.next_due(1), Some(1));
+    readers.next_due(1)
+}
+
+fn wakes_alone(readers: &mut Readers) -> bool
+    requires rows { length readers.old.rows ≡ 3 }
+    requires due { length readers.old.due ≡ 3 }
+{
+    due_at_rest(readers) == [Some(0), Some(1), None]
+        && due_of_changed(readers) == [None, Some(0), Some(2), None]
+        && due_of_all(readers) == Some(1)
+}
+
+#[test]
+fn changed_nodes_wake_their_readers_alone(rt: HostRuntime) -> Result<(), OutOfMemory> {
+    let mut readers = noted(rt.alloc())?;
+    let alone = readers.nodes() == 3 && wakes_alone(&mut readers);
+    assert!(rt; alone);
     Ok(())
 }

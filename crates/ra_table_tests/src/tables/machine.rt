@@ -49,13 +49,22 @@ impl Machine {
         requires size { size ≤ 2 ^ 27 }
     {
         let nodes = nodes_of(alloc, &pool)?;
-        let table = Table::new(alloc, pool, size)?;
         let memory = Memory::new(alloc, size)?;
-        Ok(Machine {
+        let table = Table::new(alloc, pool, size)?;
+        Ok(Machine::joined(nodes, table, memory))
+    }
+
+    fn joined(nodes: Vec<Node>, table: Table, memory: Memory) -> Machine
+        requires nodes { table.nodes ≡ nodes.items }
+        requires size { table.size ≡ length memory }
+        requires few { length nodes.items < 2 ^ 30 }
+        requires agrees { Agrees table memory }
+    {
+        Machine {
             nodes,
             table,
             memory,
-        })
+        }
     }
 
     /// Writes bytes and tells the table; what does not fit is left out.
