@@ -26,6 +26,81 @@ fn refusal(alloc: Global, document: &[u8]) -> Option<PatchRefused> {
     set_of(alloc, document).err()
 }
 
+// A document, and its set file.
+type Given = (&'static str, &'static str);
+
+// The place of the first document that gives another set file, or none.
+fn other_given(alloc: Global, rows: &[Given]) -> Option<usize> {
+    for (place, (document, text)) in rows.iter().enumerate() {
+        if !gives(alloc, *document, *text) {
+            return Some(place);
+        }
+    }
+    None
+}
+
+// The place of the first document that gives a set of another count of items, or another answer on its script.
+fn other_set(alloc: Global, rows: &[(&str, usize, bool)]) -> Option<usize> {
+    for (place, (document, items, has_script)) in rows.iter().enumerate() {
+        if !gives_set(alloc, *document, *items, *has_script) {
+            return Some(place);
+        }
+    }
+    None
+}
+
+// The place of the first document that is not refused as no JSON.
+fn other_json(alloc: Global, documents: &[&[u8]]) -> Option<usize> {
+    for (place, document) in documents.iter().enumerate() {
+        if refusal(alloc, *document) != Some(PatchRefused::NotJson) {
+            return Some(place);
+        }
+    }
+    None
+}
+
+// A document, and the field that refuses it: its list, its place in the list, and which field it is.
+type Wrong<'a> = (&'a str, PatchList, u32, PatchField);
+
+// The place of the first document that is not refused for its field.
+fn other_field(alloc: Global, rows: &[Wrong<'_>]) -> Option<usize> {
+    for (place, (document, list, index, field)) in rows.iter().enumerate() {
+        let why = PatchRefused::Field {
+            list: *list,
+            index: *index,
+            field: *field,
+        };
+        if refusal(alloc, document.as_bytes()) != Some(why) {
+            return Some(place);
+        }
+    }
+    None
+}
+
+// The place of the first document that is not refused for a text of this item.
+fn other_break(alloc: Global, rows: &[(&str, PatchList, u32)]) -> Option<usize> {
+    for (place, (document, list, index)) in rows.iter().enumerate() {
+        let why = PatchRefused::Break {
+            list: *list,
+            index: *index,
+        };
+        if refusal(alloc, document.as_bytes()) != Some(why) {
+            return Some(place);
+        }
+    }
+    None
+}
+
+// The place of the first document whose set file is not refused so.
+fn other_cause(alloc: Global, rows: &[(&str, SetRefused)]) -> Option<usize> {
+    for (place, (document, cause)) in rows.iter().enumerate() {
+        if refusal(alloc, document.as_bytes()) != Some(PatchRefused::Set(*cause)) {
+            return Some(place);
+        }
+    }
+    None
+}
+
 #[test]
 fn a_whole_document_gives_its_lines(rt: HostRuntime) {
     let document =
@@ -37,110 +112,114 @@ fn a_whole_document_gives_its_lines(rt: HostRuntime) {
     assert!(rt; gives(rt.alloc(), document, text));
 }
 
+const SETS: &[(&'static str, usize, bool)] = &[
+    ("{\"PatchData\":{\"Achievements\":[]}}", 0, false),
+    (
+        "{\"PatchData\":{\"Achievements\":[{\"ID\":7,\"MemAddr\":\"\"},{\"ID\":8,\"MemAddr\":\"0=1\"}],\
+        \"RichPresencePatch\":\"Display:\\nHi\"}}",
+        2,
+        true,
+    ),
+];
+
 #[test]
 fn a_document_gives_the_set_of_its_lines(rt: HostRuntime) {
-    for (document, items, has_script) in [
-        ("{\"PatchData\":{\"Achievements\":[]}}", 0, false),
-        (
-            "{\"PatchData\":{\"Achievements\":[{\"ID\":7,\"MemAddr\":\"\"},{\"ID\":8,\"MemAddr\":\"0=1\"}],\
-            \"RichPresencePatch\":\"Display:\\nHi\"}}",
-            2,
-            true,
-        ),
-    ] {
-        assert!(rt;
-            gives_set(rt.alloc(), document, items, has_script),
-            "{document}"
-        );
-    }
+    assert_eq!(rt; other_set(rt.alloc(), SETS), None);
 }
+
+const MISSING: &[Given] = &[
+    ("{\"PatchData\":{\"Achievements\":[]}}", ""),
+    (
+        "{\"PatchData\":{\"Achievements\":[],\"RichPresencePatch\":null}}",
+        "",
+    ),
+    (
+        "{\"PatchData\":{\"Achievements\":[],\"RichPresencePatch\":\"\"}}",
+        "",
+    ),
+    (
+        "{\"PatchData\":{\"Achievements\":[],\"Leaderboards\":[]}}",
+        "",
+    ),
+];
 
 #[test]
 fn what_may_be_missing_gives_nothing(rt: HostRuntime) {
-    for (document, text) in [
-        ("{\"PatchData\":{\"Achievements\":[]}}", ""),
-        (
-            "{\"PatchData\":{\"Achievements\":[],\"RichPresencePatch\":null}}",
-            "",
-        ),
-        (
-            "{\"PatchData\":{\"Achievements\":[],\"RichPresencePatch\":\"\"}}",
-            "",
-        ),
-        (
-            "{\"PatchData\":{\"Achievements\":[],\"Leaderboards\":[]}}",
-            "",
-        ),
-    ] {
-        assert!(rt; gives(rt.alloc(), document, text), "{document}");
-    }
+    assert_eq!(rt; other_given(rt.alloc(), MISSING), None);
 }
+
+const REPEATED: &[Given] = &[
+    (
+        "{\"PatchData\":{\"Achievements\":[{\"ID\":1,\"\\u0049\\u0044\":9,\"MemAddr\":\"0=1\"}]}}",
+        "A 9 0=1\n",
+    ),
+    (
+        "{\"PatchData\":{\"Achievements\":[{\"ID\":null,\"MemAddr\":\"0=1\",\"ID\":4294967295}]}}",
+        "A 4294967295 0=1\n",
+    ),
+    (
+        "{\"PatchData\":7,\"PatchData\":{\"Achievements\":7,\"Achievements\":[{\"ID\":0,\"MemAddr\":\"\"}]}}",
+        "A 0 \n",
+    ),
+];
 
 #[test]
 fn the_last_of_a_repeated_name_counts(rt: HostRuntime) {
-    for (document, text) in [
-        (
-            "{\"PatchData\":{\"Achievements\":[{\"ID\":1,\"\\u0049\\u0044\":9,\"MemAddr\":\"0=1\"}]}}",
-            "A 9 0=1\n",
-        ),
-        (
-            "{\"PatchData\":{\"Achievements\":[{\"ID\":null,\"MemAddr\":\"0=1\",\"ID\":4294967295}]}}",
-            "A 4294967295 0=1\n",
-        ),
-        (
-            "{\"PatchData\":7,\"PatchData\":{\"Achievements\":7,\"Achievements\":[{\"ID\":0,\"MemAddr\":\"\"}]}}",
-            "A 0 \n",
-        ),
-    ] {
-        assert!(rt; gives(rt.alloc(), document, text), "{document}");
-    }
+    assert_eq!(rt; other_given(rt.alloc(), REPEATED), None);
 }
+
+const NO_JSON: &[&'static [u8]] = &[
+    b"",
+    b"\xef\xbb\xbf{}",
+    b"{\"a\":\"\xff\"}",
+    b"{\"a\":\"\\ud800\"}",
+    b"{\"a\":1}{}",
+    b"{\"a\":01}",
+];
 
 #[test]
 fn what_is_no_json_is_refused(rt: HostRuntime) {
-    for document in [
-        &b""[..],
-        b"\xef\xbb\xbf{}",
-        b"{\"a\":\"\xff\"}",
-        b"{\"a\":\"\\ud800\"}",
-        b"{\"a\":1}{}",
-        b"{\"a\":01}",
-    ] {
-        assert_eq!(rt; refusal(rt.alloc(), document), Some(PatchRefused::NotJson));
-    }
+    assert_eq!(rt; other_json(rt.alloc(), NO_JSON), None);
 }
+
+const ROOT_FIELDS: &[Wrong<'static>] = &[
+    ("[]", PatchList::Root, 0, PatchField::PatchData),
+    ("{}", PatchList::Root, 0, PatchField::PatchData),
+    (
+        "{\"PatchData\":[]}",
+        PatchList::Root,
+        0,
+        PatchField::PatchData,
+    ),
+    (
+        "{\"PatchData\":{}}",
+        PatchList::Root,
+        0,
+        PatchField::Achievements,
+    ),
+    (
+        "{\"PatchData\":{\"Achievements\":{}}}",
+        PatchList::Root,
+        0,
+        PatchField::Achievements,
+    ),
+    (
+        "{\"PatchData\":{\"Achievements\":[7],\"Leaderboards\":null}}",
+        PatchList::Root,
+        0,
+        PatchField::Leaderboards,
+    ),
+    (
+        "{\"PatchData\":{\"Achievements\":[7],\"RichPresencePatch\":0}}",
+        PatchList::Root,
+        0,
+        PatchField::RichPresencePatch,
+    ),
+];
 
 #[test]
 fn a_field_of_the_root_that_is_wrong_is_refused(rt: HostRuntime) {
-    for (document, field) in [
-        ("[]", PatchField::PatchData),
-        ("{}", PatchField::PatchData),
-        ("{\"PatchData\":[]}", PatchField::PatchData),
-        ("{\"PatchData\":{}}", PatchField::Achievements),
-        (
-            "{\"PatchData\":{\"Achievements\":{}}}",
-            PatchField::Achievements,
-        ),
-        (
-            "{\"PatchData\":{\"Achievements\":[7],\"Leaderboards\":null}}",
-            PatchField::Leaderboards,
-        ),
-        (
-            "{\"PatchData\":{\"Achievements\":[7],\"RichPresencePatch\":0}}",
-            PatchField::RichPresencePatch,
-        ),
-    ] {
-        let why = PatchRefused::Field {
-            list: PatchList::Root,
-            index: 0,
-            field,
-        };
-        assert_eq!(rt;
-            refusal(rt.alloc(), document.as_bytes()),
-            Some(why),
-            "{document}"
-        );
-    }
+    assert_eq!(rt; other_field(rt.alloc(), ROOT_FIELDS), None);
 }
 
 // The document of one achievement with this id.
@@ -150,31 +229,41 @@ fn with_id(alloc: Global, id: &str) -> Result<String, Fail> {
     )?)
 }
 
+const IDS: &[&str] = &[
+    "7.0",
+    "7e0",
+    "-0",
+    "-1",
+    "4294967296",
+    "\"7\"",
+    "null",
+    "18446744073709551616",
+];
+
+// The place of the first id whose document is not refused for it.
+fn other_id(alloc: Global, ids: &[&str]) -> Result<Option<usize>, Fail> {
+    for (place, id) in ids.iter().enumerate() {
+        let document = with_id(alloc, *id)?;
+        let rows = [(
+            document.as_str(),
+            PatchList::Achievements,
+            0,
+            PatchField::Id,
+        )];
+        if other_field(alloc, &rows).is_some() {
+            return Ok(Some(place));
+        }
+    }
+    Ok(None)
+}
+
 #[test]
 fn an_id_is_a_whole_number_of_32_bits(rt: HostRuntime) -> Result<(), Fail> {
-    let why = PatchRefused::Field {
-        list: PatchList::Achievements,
-        index: 0,
-        field: PatchField::Id,
-    };
-    for id in [
-        "7.0",
-        "7e0",
-        "-0",
-        "-1",
-        "4294967296",
-        "\"7\"",
-        "null",
-        "18446744073709551616",
-    ] {
-        let document = with_id(rt.alloc(), id)?;
-        assert_eq!(rt; refusal(rt.alloc(), document.as_bytes()), Some(why), "{id}");
-    }
+    assert_eq!(rt; other_id(rt.alloc(), IDS)?, None);
     Ok(())
 }
 
-// Documents, and the field of an item that refuses each: its list, its place in the list, and which field it is.
-const FIELDS: [(&str, PatchList, u32, PatchField); 5] = [
+const FIELDS: &[Wrong<'static>] = &[
     (
         "{\"PatchData\":{\"Achievements\":[{\"MemAddr\":\"\"}]}}",
         PatchList::Achievements,
@@ -209,49 +298,35 @@ const FIELDS: [(&str, PatchList, u32, PatchField); 5] = [
 
 #[test]
 fn fields_of_items_come_before_their_texts(rt: HostRuntime) {
-    for (document, list, index, field) in FIELDS {
-        let why = PatchRefused::Field { list, index, field };
-        assert_eq!(rt;
-            refusal(rt.alloc(), document.as_bytes()),
-            Some(why),
-            "{document}"
-        );
-    }
+    assert_eq!(rt; other_field(rt.alloc(), FIELDS), None);
 }
+
+const BREAKS: &[(&'static str, PatchList, u32)] = &[
+    (
+        "{\"PatchData\":{\"Achievements\":[{\"ID\":1,\"MemAddr\":\"\"},{\"ID\":2,\"MemAddr\":\"0=1\\r\"}]}}",
+        PatchList::Achievements,
+        1,
+    ),
+    (
+        "{\"PatchData\":{\"Achievements\":[],\"Leaderboards\":[{\"ID\":1,\"Mem\":\"\",\"Format\":\"\"}]}}",
+        PatchList::Leaderboards,
+        0,
+    ),
+    (
+        "{\"PatchData\":{\"Achievements\":[],\"Leaderboards\":[{\"ID\":1,\"Mem\":\"\",\"Format\":\"A B\"}]}}",
+        PatchList::Leaderboards,
+        0,
+    ),
+    (
+        "{\"PatchData\":{\"Achievements\":[],\"Leaderboards\":[{\"ID\":1,\"Mem\":\"\\n\",\"Format\":\"A\"}]}}",
+        PatchList::Leaderboards,
+        0,
+    ),
+];
 
 #[test]
 fn a_text_that_would_end_its_line_is_refused(rt: HostRuntime) {
-    let achievements = PatchList::Achievements;
-    let leaderboards = PatchList::Leaderboards;
-    for (document, list, index) in [
-        (
-            "{\"PatchData\":{\"Achievements\":[{\"ID\":1,\"MemAddr\":\"\"},{\"ID\":2,\"MemAddr\":\"0=1\\r\"}]}}",
-            achievements,
-            1,
-        ),
-        (
-            "{\"PatchData\":{\"Achievements\":[],\"Leaderboards\":[{\"ID\":1,\"Mem\":\"\",\"Format\":\"\"}]}}",
-            leaderboards,
-            0,
-        ),
-        (
-            "{\"PatchData\":{\"Achievements\":[],\"Leaderboards\":[{\"ID\":1,\"Mem\":\"\",\"Format\":\"A B\"}]}}",
-            leaderboards,
-            0,
-        ),
-        (
-            "{\"PatchData\":{\"Achievements\":[],\"Leaderboards\":[{\"ID\":1,\"Mem\":\"\\n\",\"Format\":\"A\"}]}}",
-            leaderboards,
-            0,
-        ),
-    ] {
-        let why = PatchRefused::Break { list, index };
-        assert_eq!(rt;
-            refusal(rt.alloc(), document.as_bytes()),
-            Some(why),
-            "{document}"
-        );
-    }
+    assert_eq!(rt; other_break(rt.alloc(), BREAKS), None);
 }
 
 #[test]
@@ -262,29 +337,24 @@ fn a_format_is_any_one_word(rt: HostRuntime) {
     assert!(rt; gives(rt.alloc(), document, text));
 }
 
+const CAUSES: &[(&'static str, SetRefused)] = &[
+    (
+        "{\"PatchData\":{\"Achievements\":[{\"ID\":1,\"MemAddr\":\"0=1\"},{\"ID\":1,\"MemAddr\":\"0=1\"}]}}",
+        SetRefused::DuplicateId { id: 1, line: 2 },
+    ),
+    (
+        "{\"PatchData\":{\"Achievements\":[{\"ID\":1,\"MemAddr\":\"x\"}]}}",
+        SetRefused::Syntax { at: 4 },
+    ),
+    (
+        "{\"PatchData\":{\"Achievements\":[],\"RichPresencePatch\":\"Foo\"}}",
+        SetRefused::Syntax { at: 2 },
+    ),
+];
+
 #[test]
 fn a_set_file_that_is_refused_is_told(rt: HostRuntime) {
-    for (document, cause) in [
-        (
-            "{\"PatchData\":{\"Achievements\":[{\"ID\":1,\"MemAddr\":\"0=1\"},{\"ID\":1,\"MemAddr\":\"0=1\"}]}}",
-            SetRefused::DuplicateId { id: 1, line: 2 },
-        ),
-        (
-            "{\"PatchData\":{\"Achievements\":[{\"ID\":1,\"MemAddr\":\"x\"}]}}",
-            SetRefused::Syntax { at: 4 },
-        ),
-        (
-            "{\"PatchData\":{\"Achievements\":[],\"RichPresencePatch\":\"Foo\"}}",
-            SetRefused::Syntax { at: 2 },
-        ),
-    ] {
-        let why = PatchRefused::Set(cause);
-        assert_eq!(rt;
-            refusal(rt.alloc(), document.as_bytes()),
-            Some(why),
-            "{document}"
-        );
-    }
+    assert_eq!(rt; other_cause(rt.alloc(), CAUSES), None);
 }
 
 // The document of so many achievements with an empty trigger.
