@@ -1,16 +1,18 @@
 //! The worked file of one achievement in each version, and its neighbours.
 
-ghost use Rattle.std.specs.Prelude.{◌≤◌, ◌+◌, ◌≡◌, IfOk};
+ghost use Rattle.std.specs.Prelude.{◌≤◌, ◌<◌, length as size_of, IfOk};
 ghost use Rattle.ra_progress.specs.Names.{IsUsable};
 
 use md5::{Digest, Md5};
+use ra_progress::ProgressRefused::{
+    BadEntry, BadState, OtherSet, WrongLength, WrongMark, WrongVersion,
+};
 use ra_progress::{
     ItemKept, ItemShape, Named, PresenceShape, ProgressRefused, Shape, Snapshot, check, decode,
     encode, frames_at, item_at, length, length_1, matches, name_at, order_of, word_at,
 };
 use ra_text::OutOfMemory;
 use std::alloc::Global;
-use std::test::Fail;
 
 const DIGEST: [u8; 16] = [
     0x95, 0xc3, 0x20, 0x26, 0xa3, 0xa7, 0xb6, 0xfc, 0x1a, 0xa5, 0x3d, 0x35, 0x5d, 0x82, 0xba, 0x02,
@@ -35,17 +37,14 @@ const FILE: [u8; 106] = [
 ];
 
 #[test]
-fn names_stand_in_the_file(rt: HostRuntime) -> Result<(), Fail> {
-    assert_eq!(rt; name_at(&FILE, 5), DIGEST);
-    assert_eq!(rt; name_at(&FILE, 33), CELL);
-    assert_eq!(rt; name_at(&FILE, 61), ITEM);
-    assert_eq!(rt; word_at(&FILE, 49), 5);
-    assert_eq!(rt; frames_at(&FILE), 5);
-    Ok(())
+fn names_stand_in_the_file(rt: HostRuntime) {
+    let names = [name_at(&FILE, 5), name_at(&FILE, 33), name_at(&FILE, 61)];
+    assert_eq!(rt; names, [DIGEST, CELL, ITEM]);
+    assert_eq!(rt; (word_at(&FILE, 49), frames_at(&FILE)), (5, 5));
 }
 
 #[test]
-fn equal_names_stand_by_number(rt: HostRuntime) -> Result<(), Fail> {
+fn equal_names_stand_by_number(rt: HostRuntime) -> Result<(), OutOfMemory> {
     let names = [CELL, ITEM, CELL, [0; 16], [255; 16]];
     let order = order_of(rt.alloc(), &names, &Some(CELL))?;
     assert_eq!(rt; order.as_slice(), [3, 0, 2, 5, 1, 4].as_slice());
@@ -54,7 +53,8 @@ fn equal_names_stand_by_number(rt: HostRuntime) -> Result<(), Fail> {
 
 // The shape of the set of the worked file.
 fn row_1(alloc: Global) -> Result<Shape, OutOfMemory>
-    ensures { IfOk result (λ shape. IsUsable shape) }
+    ensures usable { IfOk result (λ shape. IsUsable shape) }
+    ensures items { IfOk result (λ shape. 0 < size_of shape.items.items) }
 {
     Ok(Shape {
         digest: DIGEST,
@@ -106,8 +106,23 @@ fn refused(
     Ok(check(shape, &summed(alloc, texts)?).err())
 }
 
-// The first cell, and the state, the first hit and the flag of the achievement of a number that
-// such a file says.
+// The first cell, and the state, the first hit and the flag of an achievement of a moment.
+fn said_of(snapshot: &Snapshot, number: usize) -> Option<(u32, u8, u32, bool)> {
+    let cell = snapshot.cells.get(0).copied().unwrap_or(0);
+    match snapshot.items.get(number) {
+        Some(
+            ItemKept::Achievement {
+                state,
+                hits,
+                earned,
+                ..
+            },
+        ) => Some((cell, *state, hits.get(0).copied().unwrap_or(0), *earned)),
+        _ => None,
+    }
+}
+
+// The same of the achievement of a number that such a file says.
 fn said(
     alloc: Global,
     shape: &Shape,
@@ -121,22 +136,19 @@ fn said(
         return Ok(None);
     }
     let snapshot = decode(alloc, shape, &bytes)?;
-    match snapshot.items.get(number) {
-        Some(
-            ItemKept::Achievement {
-                state,
-                hits,
-                earned,
-                ..
-            },
-        ) => Ok(Some((
-            snapshot.cells.get(0).copied().unwrap_or(0),
-            *state,
-            hits.get(0).copied().unwrap_or(0),
-            *earned,
-        ))),
-        _ => Ok(None),
-    }
+    Ok(said_of(&snapshot, number))
+}
+
+// Why such a file is refused by the set of the worked file.
+fn refused_1(alloc: Global, texts: &[&str]) -> Result<Option<ProgressRefused>, OutOfMemory> {
+    let shape = row_1(alloc)?;
+    refused(alloc, &shape, texts)
+}
+
+// What such a file says of the achievement of that set.
+fn said_1(alloc: Global, texts: &[&str]) -> Result<Option<(u32, u8, u32, bool)>, OutOfMemory> {
+    let shape = row_1(alloc)?;
+    said(alloc, &shape, 0, texts)
 }
 
 const OTHER: [u8; 16] = [0xee; 16];
@@ -161,56 +173,111 @@ const A: &str = "798a55fc599d9d9b406c25a642fa8a9a";
 
 const X: &str = "11111111111111111111111111111111";
 
+// The texts of a file, and what it says: the cell, and the state, the hit and the flag of the achievement.
+type Said = (&'static [&'static str], (u32, u8, u32, bool));
+
+// The place of the first file that says something else.
+fn other_said(alloc: Global, rows: &[Said]) -> Result<Option<usize>, OutOfMemory> {
+    for (place, (texts, wanted)) in rows.iter().enumerate() {
+        if said_1(alloc, *texts)? != Some(*wanted) {
+            return Ok(Some(place));
+        }
+    }
+    Ok(None)
+}
+
+// The texts of a file, and why it is refused.
+type Refusal = (&'static [&'static str], Option<ProgressRefused>);
+
+// The place of the first file that is not refused so.
+fn other_refusal(alloc: Global, rows: &[Refusal]) -> Result<Option<usize>, OutOfMemory> {
+    for (place, (texts, why)) in rows.iter().enumerate() {
+        if refused_1(alloc, *texts)? != *why {
+            return Ok(Some(place));
+        }
+    }
+    Ok(None)
+}
+
+const VERSIONS: &[Said] = &[
+    (
+        &[
+            FRONT,
+            "01000000",
+            C,
+            "05000000 00000000 01000000",
+            A,
+            "09000000 0c 00000000 03000000",
+        ],
+        (5, 4, 3, true),
+    ),
+    (
+        &[
+            FRONT_2,
+            "01000000",
+            C,
+            "05000000 00000000 01000000",
+            A,
+            "09000000 04 00000000 03000000",
+        ],
+        (5, 4, 3, true),
+    ),
+    (&[FRONT_1, "05000000 04 00000000 03000000"], (5, 4, 3, true)),
+];
+
 #[test]
-fn each_version_is_read(rt: HostRuntime) -> Result<(), Fail> {
-    let alloc = rt.alloc();
-    let shape = row_1(alloc)?;
-    let cell = "05000000 00000000 01000000";
-    let new = [
-        FRONT,
-        "01000000",
-        C,
-        cell,
-        A,
-        "09000000 0c 00000000 03000000",
-    ];
-    assert_eq!(rt; said(alloc, &shape, 0, &new)?, Some((5, 4, 3, true)));
-    let older = [
-        FRONT_2,
-        "01000000",
-        C,
-        cell,
-        A,
-        "09000000 04 00000000 03000000",
-    ];
-    assert_eq!(rt; said(alloc, &shape, 0, &older)?, Some((5, 4, 3, true)));
-    let oldest = [FRONT_1, "05000000 04 00000000 03000000"];
-    assert_eq!(rt; said(alloc, &shape, 0, &oldest)?, Some((5, 4, 3, true)));
+fn each_version_is_read(rt: HostRuntime) -> Result<(), OutOfMemory> {
+    assert_eq!(rt; other_said(rt.alloc(), VERSIONS)?, None);
     Ok(())
 }
 
-#[test]
-fn states_are_in_the_table_of_their_version(rt: HostRuntime) -> Result<(), Fail> {
-    let alloc = rt.alloc();
-    let shape = row_1(alloc)?;
+// The front of a file of the set, its state byte, and why it is refused.
+type State = (&'static str, &'static str, Option<ProgressRefused>);
+
+const STATES: &[State] = &[
+    (FRONT, "04", Some(BadState { at: 61, found: 4 })),
+    (FRONT, "07", Some(BadState { at: 61, found: 7 })),
+    (FRONT, "0d", Some(BadState { at: 61, found: 13 })),
+    (FRONT_2, "05", Some(BadState { at: 61, found: 5 })),
+    (FRONT_2, "08", Some(BadState { at: 61, found: 8 })),
+    (FRONT, "03", None),
+    (FRONT, "08", None),
+    (FRONT, "0c", None),
+    (FRONT_2, "04", None),
+];
+
+fn other_state(alloc: Global, rows: &[State]) -> Result<Option<usize>, OutOfMemory> {
     let none = "00000000 00000000 01000000";
-    for (front, byte, found) in [
-        (FRONT, "04", 4),
-        (FRONT, "07", 7),
-        (FRONT, "0d", 13),
-        (FRONT_2, "05", 5),
-        (FRONT_2, "08", 8),
-    ] {
-        let bad = ProgressRefused::BadState { at: 61, found };
-        let file = [front, none, A, "09000000", byte, "00000000 03000000"];
-        assert_eq!(rt; refused(alloc, &shape, &file)?, Some(bad));
+    for (place, (front, byte, why)) in rows.iter().enumerate() {
+        let file = [*front, none, A, "09000000", *byte, "00000000 03000000"];
+        if refused_1(alloc, &file)? != *why {
+            return Ok(Some(place));
+        }
     }
-    for (front, byte) in [(FRONT, "03"), (FRONT, "08"), (FRONT, "0c"), (FRONT_2, "04")] {
-        let file = [front, none, A, "09000000", byte, "00000000 03000000"];
-        assert_eq!(rt; refused(alloc, &shape, &file)?, None);
-    }
+    Ok(None)
+}
+
+#[test]
+fn states_are_in_the_table_of_their_version(rt: HostRuntime) -> Result<(), OutOfMemory> {
+    assert_eq!(rt; other_state(rt.alloc(), STATES)?, None);
     Ok(())
 }
+
+// How many first bytes of the worked file there are, and how many it wants.
+type Need = (u64, u64);
+
+const NEEDS: &[Need] = &[
+    (44, 45),
+    (45, 49),
+    (48, 49),
+    (49, 73),
+    (72, 73),
+    (73, 77),
+    (77, 97),
+    (96, 97),
+    (97, 106),
+    (105, 106),
+];
 
 // Why so many first bytes of the worked file are refused.
 fn refused_front(shape: &Shape, count: usize) -> Option<ProgressRefused>
@@ -219,151 +286,233 @@ fn refused_front(shape: &Shape, count: usize) -> Option<ProgressRefused>
     check(shape, &FILE[..count.min(106)]).err()
 }
 
-#[test]
-fn a_cut_file_wants_its_need(rt: HostRuntime) -> Result<(), Fail> {
-    let shape = row_1(rt.alloc())?;
-    for (found, wanted) in [
-        (44, 45),
-        (45, 49),
-        (48, 49),
-        (49, 73),
-        (72, 73),
-        (73, 77),
-        (77, 97),
-        (96, 97),
-        (97, 106),
-        (105, 106),
-    ] {
-        let short = ProgressRefused::WrongLength { wanted, found };
-        assert_eq!(rt; refused_front(&shape, found as usize), Some(short));
+// The first count of bytes that is not refused for its need.
+fn other_need(shape: &Shape, rows: &[Need]) -> Option<u64>
+    requires { IsUsable shape.now }
+{
+    for (found, wanted) in rows {
+        let short = WrongLength {
+            wanted: *wanted,
+            found: *found,
+        };
+        if refused_front(shape, *found as usize) != Some(short) {
+            return Some(*found);
+        }
     }
-    assert_eq!(rt; refused_front(&shape, 106), None);
+    None
+}
+
+// The same of the set of the worked file, and why the whole file is refused.
+fn needs(alloc: Global) -> Result<(Option<u64>, Option<ProgressRefused>), OutOfMemory> {
+    let shape = row_1(alloc)?;
+    Ok((other_need(&shape, NEEDS), refused_front(&shape, 106)))
+}
+
+#[test]
+fn a_cut_file_wants_its_need(rt: HostRuntime) -> Result<(), OutOfMemory> {
+    assert!(rt; needs(rt.alloc())? == (None, None));
     Ok(())
 }
 
 // Why the worked file is refused with four other bytes at a place, and a byte more at its end.
-fn refused_changed(shape: &Shape, at: usize, four: [u8; 4]) -> Option<ProgressRefused>
-    requires within { at + 4 ≤ 107 }
-    requires usable { IsUsable shape.now }
+fn refused_changed(shape: &Shape, at: u8, four: [u8; 4]) -> Option<ProgressRefused>
+    requires { IsUsable shape.now }
 {
+    let at = usize::from(at).min(103);
     let mut file = [0; 107];
     file[..106].copy_from_slice(&FILE);
     file[at..at + 4].copy_from_slice(&four);
     check(shape, &file).err()
 }
 
-#[test]
-fn the_first_check_that_fails_is_told(rt: HostRuntime) -> Result<(), Fail> {
-    let shape = row_1(rt.alloc())?;
-    for (at, wanted) in [
-        (103, 106),
-        (29, 85899345953),
-        (57, 85899345977),
-        (77, 4294967392),
-    ] {
-        let long = ProgressRefused::WrongLength { wanted, found: 107 };
-        assert_eq!(rt; refused_changed(&shape, at, [255; 4]), Some(long));
+// A place, four bytes there, and why the file is refused then.
+type Change = (u8, [u8; 4], ProgressRefused);
+
+const CHANGES: &[Change] = &[
+    (
+        103,
+        [255; 4],
+        WrongLength {
+            wanted: 106,
+            found: 107,
+        },
+    ),
+    (
+        29,
+        [255; 4],
+        WrongLength {
+            wanted: 85899345953,
+            found: 107,
+        },
+    ),
+    (
+        57,
+        [255; 4],
+        WrongLength {
+            wanted: 85899345977,
+            found: 107,
+        },
+    ),
+    (
+        77,
+        [255; 4],
+        WrongLength {
+            wanted: 4294967392,
+            found: 107,
+        },
+    ),
+    (0, *b"RIPG", WrongMark { found: *b"RIPG" }),
+    (4, [9, 0, 0, 0], WrongVersion { found: 9 }),
+    (
+        4,
+        [1, 0, 0, 0],
+        WrongLength {
+            wanted: 58,
+            found: 107,
+        },
+    ),
+];
+
+// The place of the first change that is not refused so.
+fn other_change(shape: &Shape, rows: &[Change]) -> Option<usize>
+    requires { IsUsable shape.now }
+{
+    for (place, (at, four, why)) in rows.iter().enumerate() {
+        if refused_changed(shape, *at, *four) != Some(*why) {
+            return Some(place);
+        }
     }
-    let mark = ProgressRefused::WrongMark { found: *b"RIPG" };
-    assert_eq!(rt; refused_changed(&shape, 0, *b"RIPG"), Some(mark));
-    let version = ProgressRefused::WrongVersion { found: 9 };
-    assert_eq!(rt; refused_changed(&shape, 4, [9, 0, 0, 0]), Some(version));
-    let old = ProgressRefused::WrongLength {
-        wanted: 58,
-        found: 107,
-    };
-    assert_eq!(rt; refused_changed(&shape, 4, [1, 0, 0, 0]), Some(old));
-    Ok(())
+    None
+}
+
+// The same of the set of the worked file.
+fn other_change_1(alloc: Global) -> Result<Option<usize>, OutOfMemory> {
+    let shape = row_1(alloc)?;
+    Ok(other_change(&shape, CHANGES))
 }
 
 #[test]
-fn files_of_other_sets(rt: HostRuntime) -> Result<(), Fail> {
-    let alloc = rt.alloc();
-    let shape = row_1(alloc)?;
-    let other = Some(ProgressRefused::OtherSet {
-        wanted: DIGEST,
-        found: OTHER,
-    });
-    let cells_alone = [OTHER_FRONT, "01000000", C, "09000000 00000000 00000000"];
-    assert_eq!(rt; refused(alloc, &shape, &cells_alone)?, other);
-    let old = [OTHER_FRONT_1, "05000000 04 00000000 03000000"];
-    assert_eq!(rt; refused(alloc, &shape, &old)?, other);
-    let no_entry = [FRONT, "00000000 00000000 00000000"];
-    let none = Some(ProgressRefused::OtherSet {
-        wanted: DIGEST,
-        found: DIGEST,
-    });
-    assert_eq!(rt; refused(alloc, &shape, &no_entry)?, none);
+fn the_first_check_that_fails_is_told(rt: HostRuntime) -> Result<(), OutOfMemory> {
+    assert_eq!(rt; other_change_1(rt.alloc())?, None);
     Ok(())
 }
 
+const OTHER_SETS: &[Refusal] = &[
+    (
+        &[OTHER_FRONT, "01000000", C, "09000000 00000000 00000000"],
+        Some(OtherSet {
+            wanted: DIGEST,
+            found: OTHER,
+        }),
+    ),
+    (
+        &[OTHER_FRONT_1, "05000000 04 00000000 03000000"],
+        Some(OtherSet {
+            wanted: DIGEST,
+            found: OTHER,
+        }),
+    ),
+    (
+        &[FRONT, "00000000 00000000 00000000"],
+        Some(OtherSet {
+            wanted: DIGEST,
+            found: DIGEST,
+        }),
+    ),
+];
+
 #[test]
-fn each_entry_of_an_own_name_is_judged(rt: HostRuntime) -> Result<(), Fail> {
-    let alloc = rt.alloc();
-    let shape = row_1(alloc)?;
-    let two = "00000000 00000000 02000000";
-    let bad = "09000000 07 00000000 03000000";
-    let good = "09000000 01 00000000 03000000";
-    let long = "0d000000 01 00000000 03000000 00000000";
-    let bad_length = Some(ProgressRefused::BadEntry {
-        at: 86,
-        wanted: 9,
-        found: 13,
-    });
-    assert_eq!(rt;
-        refused(alloc, &shape, &[OTHER_FRONT, two, A, bad, A, long])?,
-        bad_length
-    );
-    let bad_state = Some(ProgressRefused::BadState { at: 61, found: 7 });
-    assert_eq!(rt;
-        refused(alloc, &shape, &[OTHER_FRONT, two, A, bad, A, good])?,
-        bad_state
-    );
-    for foreign in [bad, "00000000"] {
-        let file = [OTHER_FRONT, two, X, foreign, A, good];
-        assert_eq!(rt; refused(alloc, &shape, &file)?, None);
-    }
+fn files_of_other_sets(rt: HostRuntime) -> Result<(), OutOfMemory> {
+    assert_eq!(rt; other_refusal(rt.alloc(), OTHER_SETS)?, None);
     Ok(())
 }
 
+// Two entries, and entries of a state that is none, of a good one, and of a hit too many.
+const TWO: &str = "00000000 00000000 02000000";
+
+const BAD: &str = "09000000 07 00000000 03000000";
+
+const GOOD: &str = "09000000 01 00000000 03000000";
+
+const LONG: &str = "0d000000 01 00000000 03000000 00000000";
+
+const ENTRIES: &[Refusal] = &[
+    (
+        &[OTHER_FRONT, TWO, A, BAD, A, LONG],
+        Some(BadEntry {
+            at: 86,
+            wanted: 9,
+            found: 13,
+        }),
+    ),
+    (
+        &[OTHER_FRONT, TWO, A, BAD, A, GOOD],
+        Some(BadState { at: 61, found: 7 }),
+    ),
+    (&[OTHER_FRONT, TWO, X, BAD, A, GOOD], None),
+    (&[OTHER_FRONT, TWO, X, "00000000", A, GOOD], None),
+];
+
 #[test]
-fn places_where_the_file_is_of_this_set_and_names_else(rt: HostRuntime) -> Result<(), Fail> {
-    let alloc = rt.alloc();
-    let shape = row_1(alloc)?;
-    let nine = "09000000 00000000 01000000";
-    let places = [
-        FRONT,
-        "01000000",
-        X,
-        nine,
-        X,
-        "09000000 09 00000000 03000000",
-    ];
-    assert_eq!(rt; said(alloc, &shape, 0, &places)?, Some((9, 1, 3, true)));
-    let active = "09000000 01 00000000 03000000";
-    let one_more = [FRONT, "02000000", X, "02000000", C, nine, A, active];
-    assert_eq!(rt; said(alloc, &shape, 0, &one_more)?, Some((9, 1, 3, false)));
-    let last = [
-        OTHER_FRONT,
-        "02000000",
-        C,
-        "01000000",
-        C,
-        "07000000 00000000 01000000",
-        A,
-        active,
-    ];
-    assert_eq!(rt; said(alloc, &shape, 0, &last)?, Some((7, 1, 3, false)));
-    let triggered = "09000000 04 00000000 08000000";
-    let two = [
-        OTHER_FRONT_2,
-        "00000000 00000000 02000000",
-        A,
-        active,
-        A,
-        triggered,
-    ];
-    assert_eq!(rt; said(alloc, &shape, 0, &two)?, Some((0, 4, 8, true)));
+fn each_entry_of_an_own_name_is_judged(rt: HostRuntime) -> Result<(), OutOfMemory> {
+    assert_eq!(rt; other_refusal(rt.alloc(), ENTRIES)?, None);
+    Ok(())
+}
+
+const PLACES: &[Said] = &[
+    (
+        &[
+            FRONT,
+            "01000000",
+            X,
+            "09000000 00000000 01000000",
+            X,
+            "09000000 09 00000000 03000000",
+        ],
+        (9, 1, 3, true),
+    ),
+    (
+        &[
+            FRONT,
+            "02000000",
+            X,
+            "02000000",
+            C,
+            "09000000 00000000 01000000",
+            A,
+            GOOD,
+        ],
+        (9, 1, 3, false),
+    ),
+    (
+        &[
+            OTHER_FRONT,
+            "02000000",
+            C,
+            "01000000",
+            C,
+            "07000000 00000000 01000000",
+            A,
+            GOOD,
+        ],
+        (7, 1, 3, false),
+    ),
+    (
+        &[
+            OTHER_FRONT_2,
+            TWO,
+            A,
+            GOOD,
+            A,
+            "09000000 04 00000000 08000000",
+        ],
+        (0, 4, 8, true),
+    ),
+];
+
+#[test]
+fn places_where_the_file_is_of_this_set_and_names_else(rt: HostRuntime) -> Result<(), OutOfMemory> {
+    assert_eq!(rt; other_said(rt.alloc(), PLACES)?, None);
     Ok(())
 }
 
@@ -388,37 +537,70 @@ fn forced(alloc: Global, second: u32) -> Result<Shape, OutOfMemory>
     })
 }
 
-#[test]
-fn own_entries_of_one_forced_name(rt: HostRuntime) -> Result<(), Fail> {
-    let alloc = rt.alloc();
-    let unlike = forced(alloc, 2)?;
-    let one = "00000000 00000000 01000000";
-    let nine = [OTHER_FRONT, one, A, "09000000 01 00000000 03000000"];
-    let wants_13 = Some(ProgressRefused::BadEntry {
+// One entry of one hit, and of two.
+const NINE: &[&str] = &[
+    OTHER_FRONT,
+    "00000000 00000000 01000000",
+    A,
+    "09000000 01 00000000 03000000",
+];
+
+const THIRTEEN: &[&str] = &[
+    OTHER_FRONT,
+    "00000000 00000000 01000000",
+    A,
+    "0d000000 01 00000000 03000000 00000000",
+];
+
+// Why both are refused by achievements of one name that have other counts of hits.
+fn refused_unlike(alloc: Global) -> Result<[Option<ProgressRefused>; 2], OutOfMemory> {
+    let shape = forced(alloc, 2)?;
+    let nine = refused(alloc, &shape, NINE)?;
+    let thirteen = refused(alloc, &shape, THIRTEEN)?;
+    Ok([nine, thirteen])
+}
+
+const UNLIKE: [Option<ProgressRefused>; 2] = [
+    Some(BadEntry {
         at: 57,
         wanted: 13,
         found: 9,
-    });
-    assert_eq!(rt; refused(alloc, &unlike, &nine)?, wants_13);
-    let wants_9 = Some(ProgressRefused::BadEntry {
+    }),
+    Some(BadEntry {
         at: 57,
         wanted: 9,
         found: 13,
-    });
-    let thirteen = [
-        OTHER_FRONT,
-        one,
-        A,
-        "0d000000 01 00000000 03000000 00000000",
-    ];
-    assert_eq!(rt; refused(alloc, &unlike, &thirteen)?, wants_9);
-    let alike = forced(alloc, 1)?;
-    for number in [0, 1] {
-        assert_eq!(rt; said(alloc, &alike, number, &nine)?, Some((0, 1, 3, false)));
-    }
-    assert_eq!(rt; matches(&alike, Named::Cell, &CELL), (0, 2));
-    assert_eq!(rt; matches(&alike, Named::Cell, &[0; 16]), (0, 0));
-    assert_eq!(rt; matches(&alike, Named::Cell, &[255; 16]), (2, 2));
+    }),
+];
+
+// What the entry says of the achievement of a number, of two of one name that have one hit each.
+fn said_alike(alloc: Global, number: usize) -> Result<Option<(u32, u8, u32, bool)>, OutOfMemory> {
+    let shape = forced(alloc, 1)?;
+    said(alloc, &shape, number, NINE)
+}
+
+// Where these names of cells stand among the two of one name.
+fn matches_alike(alloc: Global) -> Result<[(u32, u32); 3], OutOfMemory> {
+    let shape = forced(alloc, 1)?;
+    Ok([
+        matches(&shape, Named::Cell, &CELL),
+        matches(&shape, Named::Cell, &[0; 16]),
+        matches(&shape, Named::Cell, &[255; 16]),
+    ])
+}
+
+// Whether the entry says the same of both.
+fn says_alike(alloc: Global) -> Result<bool, OutOfMemory> {
+    let said = [said_alike(alloc, 0)?, said_alike(alloc, 1)?];
+    Ok(said == [Some((0, 1, 3, false)); 2])
+}
+
+#[test]
+fn own_entries_of_one_forced_name(rt: HostRuntime) -> Result<(), OutOfMemory> {
+    let unlike = refused_unlike(rt.alloc())? == UNLIKE;
+    let alike = says_alike(rt.alloc())?;
+    let matched = matches_alike(rt.alloc())? == [(0, 2), (0, 0), (2, 2)];
+    assert!(rt; unlike && alike && matched);
     Ok(())
 }
 
@@ -445,95 +627,149 @@ fn forced_script(alloc: Global) -> Result<Shape, OutOfMemory>
     })
 }
 
-#[test]
-fn a_script_of_the_name_of_an_item(rt: HostRuntime) -> Result<(), Fail> {
-    let shape = forced_script(rt.alloc())?;
-    assert_eq!(rt; matches(&shape, Named::Entry, &ITEM), (0, 2));
-    assert_eq!(rt; matches(&shape, Named::Prior, &ITEM), (0, 0));
-    Ok(())
+fn matches_script(alloc: Global) -> Result<[(u32, u32); 2], OutOfMemory> {
+    let shape = forced_script(alloc)?;
+    Ok([
+        matches(&shape, Named::Entry, &ITEM),
+        matches(&shape, Named::Prior, &ITEM),
+    ])
 }
 
 #[test]
-fn the_most_bytes(rt: HostRuntime) -> Result<(), Fail> {
-    let shape = row_1(rt.alloc())?;
+fn a_script_of_the_name_of_an_item(rt: HostRuntime) -> Result<(), OutOfMemory> {
+    assert_eq!(rt; matches_script(rt.alloc())?, [(0, 2), (0, 0)]);
+    Ok(())
+}
+
+// Why bytes are refused by the set of the worked file.
+fn refused_bytes(alloc: Global, bytes: &[u8]) -> Result<Option<ProgressRefused>, OutOfMemory> {
+    let shape = row_1(alloc)?;
+    Ok(check(&shape, bytes).err())
+}
+
+#[test]
+fn the_most_bytes(rt: HostRuntime) -> Result<(), OutOfMemory> {
     let bytes = vec![in rt.alloc(); 0; 8388609]?;
-    let long = ProgressRefused::WrongLength {
+    let refused = refused_bytes(rt.alloc(), &bytes)?;
+    let long = WrongLength {
         wanted: 8388608,
         found: 8388609,
     };
-    assert_eq!(rt; check(&shape, &bytes), Err(long));
+    assert_eq!(rt; refused, Some(long));
     Ok(())
 }
 
-// A file of the most bytes: entries of a foreign name, and one of nine bytes.
-fn longest(alloc: Global, last: &[u8; 16]) -> Result<Vec<u8>, OutOfMemory> {
-    let mut bytes = Vec::new(alloc);
+// Foreign entries of no bytes.
+fn put_foreign(bytes: &mut Vec<u8>, count: u32) -> Result<(), OutOfMemory> {
+    for _ in 0..count {
+        bytes.extend_from_slice(&OTHER)?;
+        bytes.extend_from_slice(&[0; 4])?;
+    }
+    Ok(())
+}
+
+// A file of the most bytes before its sum: entries of a foreign name, and one of nine bytes.
+fn put_longest(bytes: &mut Vec<u8>, last: &[u8; 16]) -> Result<(), OutOfMemory> {
     bytes.extend_from_slice(&FILE[..5])?;
     bytes.extend_from_slice(&OTHER)?;
     bytes.extend_from_slice(&FILE[21..29])?;
     bytes.extend_from_slice(&[0, 0, 0, 0, 0, 0, 0, 0, 0x63, 0x66, 6, 0])?;
-    for _ in 0..419425 {
-        bytes.extend_from_slice(&OTHER)?;
-        bytes.extend_from_slice(&[0; 4])?;
-    }
+    put_foreign(bytes, 419425)?;
     bytes.extend_from_slice(&OTHER)?;
     bytes.extend_from_slice(&[2, 0, 0, 0, 0, 0])?;
     bytes.extend_from_slice(last)?;
     bytes.extend_from_slice(&[9, 0, 0, 0, 1, 0, 0, 0, 0, 3, 0, 0, 0])?;
+    Ok(())
+}
+
+// Such a file, with its sum.
+fn longest(alloc: Global, last: &[u8; 16]) -> Result<Vec<u8>, OutOfMemory> {
+    let mut bytes = Vec::new(alloc);
+    put_longest(&mut bytes, last)?;
     let sum = Md5::digest(bytes.as_slice());
     bytes.extend_from_slice(&sum)?;
     Ok(bytes)
 }
 
-#[test]
-fn a_file_of_the_most_bytes(rt: HostRuntime) -> Result<(), Fail> {
-    let shape = row_1(rt.alloc())?;
-    let foreign = longest(rt.alloc(), &OTHER)?;
-    let other = ProgressRefused::OtherSet {
-        wanted: DIGEST,
-        found: OTHER,
-    };
-    assert_eq!(rt; foreign.len(), 8388608);
-    assert_eq!(rt; check(&shape, &foreign), Err(other));
-    let own = longest(rt.alloc(), &ITEM)?;
-    assert_eq!(rt; check(&shape, &own), Ok(()));
-    Ok(())
+// Whether such a file has the most bytes, and is refused so.
+fn longest_is(
+    alloc: Global,
+    last: &[u8; 16],
+    why: Option<ProgressRefused>,
+) -> Result<bool, OutOfMemory> {
+    let bytes = longest(alloc, last)?;
+    Ok(refused_bytes(alloc, &bytes)? == why && bytes.len() == 8388608)
 }
 
 #[test]
-fn the_worked_file(rt: HostRuntime) -> Result<(), Fail> {
+fn a_file_of_the_most_bytes(rt: HostRuntime) -> Result<(), OutOfMemory> {
+    let other = OtherSet {
+        wanted: DIGEST,
+        found: OTHER,
+    };
+    let foreign = longest_is(rt.alloc(), &OTHER, Some(other))?;
+    assert!(rt; foreign && longest_is(rt.alloc(), &ITEM, None)?);
+    Ok(())
+}
+
+// The worked file, from its shape and what it keeps.
+fn worked(alloc: Global) -> Result<Vec<u8>, OutOfMemory> {
     let shape = Shape {
         digest: DIGEST,
-        cells: vec![in rt.alloc(); CELL]?,
-        priors: Vec::new(rt.alloc()),
-        items: vec![in rt.alloc(); ItemShape::Achievement { hits: 1 }]?,
-        item_names: vec![in rt.alloc(); ITEM]?,
+        cells: vec![in alloc; CELL]?,
+        priors: Vec::new(alloc),
+        items: vec![in alloc; ItemShape::Achievement { hits: 1 }]?,
+        item_names: vec![in alloc; ITEM]?,
         presence: None,
         presence_name: None,
-        cell_order: order_of(rt.alloc(), &[CELL], &None)?,
-        prior_order: order_of(rt.alloc(), &[], &None)?,
-        entry_order: order_of(rt.alloc(), &[ITEM], &None)?,
+        cell_order: order_of(alloc, &[CELL], &None)?,
+        prior_order: order_of(alloc, &[], &None)?,
+        entry_order: order_of(alloc, &[ITEM], &None)?,
     };
     let kept = ItemKept::Achievement {
         state: 4,
         measured: 0,
-        hits: vec![in rt.alloc(); 3]?,
+        hits: vec![in alloc; 3]?,
         earned: true,
     };
     let snapshot = Snapshot {
         frames: 5,
-        cells: vec![in rt.alloc(); 5]?,
-        priors: Vec::new(rt.alloc()),
-        items: vec![in rt.alloc(); kept]?,
+        cells: vec![in alloc; 5]?,
+        priors: Vec::new(alloc),
+        items: vec![in alloc; kept]?,
         presence: None,
     };
-    assert_eq!(rt; length(&shape), 106);
-    assert_eq!(rt; length_1(&shape), 58);
-    assert_eq!(rt; item_at(&shape, 1, 0), 33);
-    assert_eq!(rt; item_at(&shape, 3, 0), 81);
-    assert_eq!(rt; matches(&shape, Named::Entry, &ITEM), (0, 1));
-    assert_eq!(rt; matches(&shape, Named::Entry, &CELL), (0, 0));
-    let bytes = encode(rt.alloc(), &shape, &snapshot)?;
-    assert_eq!(rt; bytes.as_slice(), FILE.as_slice());
+    encode(alloc, &shape, &snapshot)
+}
+
+fn is_worked(alloc: Global) -> Result<bool, OutOfMemory> {
+    let bytes = worked(alloc)?;
+    Ok(bytes.as_slice() == FILE.as_slice())
+}
+
+// The lengths of the file in the third version and in the first, and the places of the item in the first and in the third.
+fn lengths(alloc: Global) -> Result<[u64; 4], OutOfMemory> {
+    let shape = row_1(alloc)?;
+    Ok([
+        length(&shape),
+        length_1(&shape),
+        item_at(&shape, 1, 0),
+        item_at(&shape, 3, 0),
+    ])
+}
+
+fn matches_1(alloc: Global) -> Result<[(u32, u32); 2], OutOfMemory> {
+    let shape = row_1(alloc)?;
+    Ok([
+        matches(&shape, Named::Entry, &ITEM),
+        matches(&shape, Named::Entry, &CELL),
+    ])
+}
+
+#[test]
+fn the_worked_file(rt: HostRuntime) -> Result<(), OutOfMemory> {
+    let lengths = lengths(rt.alloc())? == [106, 58, 33, 81];
+    let matched = matches_1(rt.alloc())? == [(0, 1), (0, 0)];
+    assert!(rt; lengths && matched && is_worked(rt.alloc())?);
     Ok(())
 }
