@@ -1,11 +1,13 @@
 //! Worked traces, and what refuses their neighbours.
 
-ghost use Rattle.std.specs.Prelude.{◌^◌, ◌≤◌};
+ghost use Rattle.std.specs.Prelude.{◌≡◌, length};
+ghost use Rattle.ra_trace.specs.Reading.{opened};
 
 use ra_io::{Failed, Files, PutFailed, SureFiles};
+use ra_text::OutOfMemory;
+use ra_trace::TraceError::{Refused, TooLong};
 use ra_trace::{Reader, Record, TraceError, Why, Writer, make_set, make_trace};
 use std::alloc::Global;
-use std::test::Fail;
 
 // A memory of 32 bytes: F, W 10=05, F, F, W 10=00, F, W 10=05, F, E.
 const WORKED: [u8; 39] = [
@@ -13,9 +15,9 @@ const WORKED: [u8; 39] = [
     0x10, 0, 0, 0, 1, 0, 0, b'F', b'W', 0x10, 0, 0, 0, 1, 0, 5, b'F', b'E',
 ];
 
-#[test]
-fn the_worked_trace_is_written(rt: HostRuntime) -> Result<(), Fail> {
-    let mut writer = Writer::new(rt.alloc(), 32)?;
+fn write_worked(writer: &mut Writer) -> Result<(), OutOfMemory>
+    requires { writer.old.size ≡ 32 }
+{
     writer.frame()?;
     writer.write(0x10, &[5])?;
     writer.frame()?;
@@ -23,48 +25,42 @@ fn the_worked_trace_is_written(rt: HostRuntime) -> Result<(), Fail> {
     writer.write(0x10, &[0])?;
     writer.frame()?;
     writer.write(0x10, &[5])?;
-    writer.frame()?;
-    let bytes = writer.finish()?;
+    writer.frame()
+}
+
+fn worked(alloc: Global) -> Result<Vec<u8>, OutOfMemory> {
+    let mut writer = Writer::new(alloc, 32)?;
+    write_worked(&mut writer)?;
+    writer.finish()
+}
+
+#[test]
+fn the_worked_trace_is_written(rt: HostRuntime) -> Result<(), OutOfMemory> {
+    let bytes = worked(rt.alloc())?;
     assert_eq!(rt; bytes.as_slice(), WORKED.as_slice());
     Ok(())
 }
 
-#[test]
-fn each_kind_of_record_is_written(rt: HostRuntime) -> Result<(), Fail> {
-    let mut writer = Writer::new(rt.alloc(), 16)?;
+fn write_others(writer: &mut Writer) -> Result<(), OutOfMemory>
+    requires { writer.old.size ≡ 16 }
+{
     writer.save(15)?;
     writer.restore(0)?;
     writer.show()?;
-    writer.write(16, &[])?;
-    let bytes = writer.finish()?;
-    let wanted = b"RATR\x01\x10\0\0\0S\x0fR\0PW\x10\0\0\0\0\0E";
-    assert_eq!(rt; bytes.as_slice(), wanted.as_slice());
-    Ok(())
+    writer.write(16, &[])
+}
+
+fn others(alloc: Global) -> Result<Vec<u8>, OutOfMemory> {
+    let mut writer = Writer::new(alloc, 16)?;
+    write_others(&mut writer)?;
+    writer.finish()
 }
 
 #[test]
-fn a_write_of_most_bytes(rt: HostRuntime) -> Result<(), Fail> {
-    let data = vec![in rt.alloc(); 7u8; 65535]?;
-    let mut writer = Writer::new(rt.alloc(), 65535)?;
-    writer.write(0, &data)?;
-    let bytes = writer.finish()?;
-    assert_eq!(rt; bytes.len(), 9 + 7 + 65535 + 1);
-    let mut files = SureFiles::new(rt.alloc())?;
-    files.add("t", &bytes)?;
-    let mut reader = Reader::open(rt.alloc(), "t", 65552)?;
-    let Ok(size) = reader.header(&mut files) else {
-        return Err("a header")?;
-    };
-    assert_eq!(rt; size, 65535);
-    assert_eq!(rt;
-        reader.next_record(&mut files),
-        Ok(Record::Write {
-            at: 0,
-            bytes: &data
-        })
-    );
-    assert_eq!(rt; reader.next_record(&mut files), Ok(Record::End));
-    assert_eq!(rt; reader.place(), 65551);
+fn each_kind_of_record_is_written(rt: HostRuntime) -> Result<(), OutOfMemory> {
+    let bytes = others(rt.alloc())?;
+    let wanted = b"RATR\x01\x10\0\0\0S\x0fR\0PW\x10\0\0\0\0\0E";
+    assert_eq!(rt; bytes.as_slice(), wanted.as_slice());
     Ok(())
 }
 
@@ -96,7 +92,69 @@ impl Files for SlowFiles {
     }
 }
 
-const WORKED_RECORDS: [(Record<'static>, u64); 9] = [
+// Files in which t has these bytes, of which a read gives so many at most.
+fn slow(alloc: Global, trace: &[u8], most: usize) -> Result<SlowFiles, OutOfMemory> {
+    let mut files = SureFiles::new(alloc)?;
+    files.add("t", trace)?;
+    Ok(SlowFiles { files, most })
+}
+
+// Whether a new reader reads this size and these records, each at its place.
+fn reads_so(
+    reader: &mut Reader,
+    files: &mut SlowFiles,
+    size: u32,
+    records: &[(Record<'_>, u64)],
+) -> bool
+    requires { reader.old ≡ opened reader.old.name reader.old.limit }
+{
+    if reader.header(files) != Ok(size) || reader.place() != 0 {
+        return false;
+    }
+    for (record, place) in records {
+        if reader.next_record(files) != Ok(*record) || reader.place() != *place {
+            return false;
+        }
+    }
+    true
+}
+
+// A trace of a memory of the most bytes of a write, all of which are written.
+fn filled(alloc: Global, filling: &[u8]) -> Result<Vec<u8>, OutOfMemory>
+    requires { length filling.now ≡ 65535 }
+{
+    let mut writer = Writer::new(alloc, 65535)?;
+    writer.write(0, filling)?;
+    writer.finish()
+}
+
+// Whether a trace is read as that write and its end, each at its place.
+fn reads_filled(alloc: Global, trace: &[u8], filling: &[u8]) -> Result<bool, OutOfMemory> {
+    let mut files = slow(alloc, trace, 65_552)?;
+    let mut reader = Reader::open(alloc, "t", 65552)?;
+    let write = Record::Write {
+        at: 0,
+        bytes: filling,
+    };
+    let records = [(write, 9), (Record::End, 65551)];
+    Ok(reads_so(&mut reader, &mut files, 65535, &records))
+}
+
+// Whether it has its length and is read so.
+fn is_filled(alloc: Global) -> Result<bool, OutOfMemory> {
+    let filling = vec![in alloc; 7u8; 65535]?;
+    let bytes = filled(alloc, &filling)?;
+    let read = reads_filled(alloc, &bytes, &filling)?;
+    Ok(read && bytes.len() == 9 + 7 + 65535 + 1)
+}
+
+#[test]
+fn a_write_of_most_bytes(rt: HostRuntime) -> Result<(), OutOfMemory> {
+    assert!(rt; is_filled(rt.alloc())?);
+    Ok(())
+}
+
+const WORKED_RECORDS: &[(Record<'static>, u64)] = &[
     (Record::Frame, 9),
     (
         Record::Write {
@@ -127,173 +185,269 @@ const WORKED_RECORDS: [(Record<'static>, u64); 9] = [
 ];
 
 // Whether the worked trace is read as its size and its records, each at its place, from so many bytes a read.
-fn reads_worked(alloc: Global, most: usize) -> Result<bool, Fail> {
-    let files = SureFiles::new(alloc)?;
-    let mut files = SlowFiles { files, most };
-    files.files.add("t", &WORKED)?;
+fn reads_worked(alloc: Global, most: usize) -> Result<bool, OutOfMemory> {
+    let mut files = slow(alloc, &WORKED, most)?;
     let mut reader = Reader::open(alloc, "t", 39)?;
-    let Ok(size) = reader.header(&mut files) else {
-        return Ok(false);
-    };
-    let mut same = size == 32 && reader.place() == 0;
-    for (record, place) in WORKED_RECORDS {
-        same = same && reader.next_record(&mut files) == Ok(record) && reader.place() == place;
-    }
-    Ok(same)
+    Ok(reads_so(&mut reader, &mut files, 32, WORKED_RECORDS))
 }
 
 #[test]
-fn the_worked_trace_is_read_in_any_pieces(rt: HostRuntime) -> Result<(), Fail> {
-    for most in [1, 7, 65_536] {
-        assert!(rt; reads_worked(rt.alloc(), most)?, "{most} bytes a read");
-    }
+fn the_worked_trace_is_read_in_any_pieces(rt: HostRuntime) -> Result<(), OutOfMemory> {
+    let alloc = rt.alloc();
+    assert!(rt; reads_worked(alloc, 1)? && reads_worked(alloc, 7)? && reads_worked(alloc, 65_536)?);
     Ok(())
 }
 
 // Three writes of the most bytes, a frame behind the first and the second.
-fn long_trace(alloc: Global) -> Result<Vec<u8>, Fail> {
-    let data = vec![in alloc; 5u8; 65535]?;
-    let mut writer = Writer::new(alloc, 131_072)?;
-    writer.write(0, &data)?;
+fn write_long(writer: &mut Writer, filling: &[u8]) -> Result<(), OutOfMemory>
+    requires size { writer.old.size ≡ 131072 }
+    requires filling { length filling.now ≡ 65535 }
+{
+    writer.write(0, filling)?;
     writer.frame()?;
-    writer.write(0x10000, &data)?;
+    writer.write(0x10000, filling)?;
     writer.frame()?;
-    writer.write(1, &data)?;
-    let bytes = writer.finish()?;
-    Ok(bytes)
+    writer.write(1, filling)
 }
 
-// The places of the records of a trace up to its end, from so many bytes a read.
-fn places(alloc: Global, trace: &[u8], most: usize) -> Result<Vec<u64>, Fail> {
-    let files = SureFiles::new(alloc)?;
-    let mut files = SlowFiles { files, most };
-    files.files.add("t", trace)?;
-    let mut reader = Reader::open(alloc, "t", 1_099_511_627_776)?;
-    let mut places = Vec::new(alloc);
-    let Ok(_) = reader.header(&mut files) else {
-        return Ok(places);
-    };
-    for _ in 0..6 {
-        if reader.next_record(&mut files).is_ok() {
-            places.push(reader.place())?;
+fn long_trace(alloc: Global) -> Result<Vec<u8>, OutOfMemory> {
+    let filling = vec![in alloc; 5u8; 65535]?;
+    let mut writer = Writer::new(alloc, 131_072)?;
+    write_long(&mut writer, &filling)?;
+    writer.finish()
+}
+
+// The places of its records.
+const LONG_PLACES: &[u64] = &[9, 65_551, 65_552, 131_094, 131_095, 196_637];
+
+// Whether a new reader reads records at these places.
+fn stands_so(reader: &mut Reader, files: &mut SlowFiles, places: &[u64]) -> bool
+    requires { reader.old ≡ opened reader.old.name reader.old.limit }
+{
+    if reader.header(files).is_err() {
+        return false;
+    }
+    for place in places {
+        if reader.next_record(files).is_err() || reader.place() != *place {
+            return false;
         }
     }
-    Ok(places)
+    true
+}
+
+// Whether the records of a long trace stand at their places, from so many bytes a read.
+fn reads_long(alloc: Global, trace: &[u8], most: usize) -> Result<bool, OutOfMemory> {
+    let mut files = slow(alloc, trace, most)?;
+    let mut reader = Reader::open(alloc, "t", 1_099_511_627_776)?;
+    Ok(stands_so(&mut reader, &mut files, LONG_PLACES))
+}
+
+// The first of these counts of bytes a read from which they do not.
+fn other_pieces(
+    alloc: Global,
+    trace: &[u8],
+    mosts: &[usize],
+) -> Result<Option<usize>, OutOfMemory> {
+    for most in mosts {
+        if !reads_long(alloc, trace, *most)? {
+            return Ok(Some(*most));
+        }
+    }
+    Ok(None)
 }
 
 // What is left of a record and a piece behind it may be more than there is room for.
 #[test]
-fn each_long_record_passes_the_front(rt: HostRuntime) -> Result<(), Fail> {
+fn each_long_record_passes_the_front(rt: HostRuntime) -> Result<(), OutOfMemory> {
     let trace = long_trace(rt.alloc())?;
-    for most in [1, 7, 65_535, 65_536] {
-        let found = places(rt.alloc(), &trace, most)?;
-        let wanted = [9, 65_551, 65_552, 131_094, 131_095, 196_637];
-        assert_eq!(rt; found.as_slice(), wanted.as_slice(), "{most} bytes a read");
-    }
+    let other = other_pieces(rt.alloc(), &trace, &[1, 7, 65_535, 65_536])?;
+    assert_eq!(rt; other, None);
     Ok(())
 }
 
-// The first answer of a file within a limit that is no record, behind this many frames.
-fn stops(rt: &HostRuntime, bytes: &[u8], limit: u64, frames: u32) -> Result<TraceError, Fail>
-    requires least { 9 ≤ limit }
-    requires most { limit ≤ 2 ^ 40 }
+// The first answer of a new reader that is no record, behind this many frames.
+fn stop_of(reader: &mut Reader, files: &mut SlowFiles, frames: u32) -> Option<TraceError>
+    requires { reader.old ≡ opened reader.old.name reader.old.limit }
 {
-    let mut files = SureFiles::new(rt.alloc())?;
-    files.add("t", bytes)?;
-    let mut reader = Reader::open(rt.alloc(), "t", limit)?;
-    if let Err(why) = reader.header(&mut files) {
-        return Ok(why);
+    if let Err(why) = reader.header(files) {
+        return Some(why);
     }
     for _ in 0..frames {
-        if reader.next_record(&mut files) != Ok(Record::Frame) {
-            return Err("no frame")?;
+        let is_frame = matches!(reader.next_record(files), Ok(Record::Frame));
+        if !is_frame {
+            return None;
         }
     }
-    let Err(why) = reader.next_record(&mut files) else {
-        return Err("a record")?;
-    };
-    Ok(why)
+    reader.next_record(files).err()
 }
 
-// A refusal at a place.
-fn refused(at: u64, why: Why) -> TraceError {
-    TraceError::Refused { at, why }
+// The same of a trace within a limit of so many bytes behind the header.
+fn stops(
+    alloc: Global,
+    trace: &[u8],
+    behind: u8,
+    frames: u32,
+) -> Result<Option<TraceError>, OutOfMemory> {
+    let mut files = slow(alloc, trace, 65_536)?;
+    let mut reader = Reader::open(alloc, "t", 9 + u64::from(behind))?;
+    Ok(stop_of(&mut reader, &mut files, frames))
 }
 
-// A trace is read to a limit, and refused behind so many frames.
-#[test]
-fn refusals_with_their_places(rt: HostRuntime) -> Result<(), Fail> {
-    let rows: [(&[u8], u64, u32, TraceError); 13] = [
-        (b"RATR\x01\x10\0\0\0F", 99, 1, refused(10, Why::Cut)),
-        (
-            b"RATR\x01\x10\0\0\0W\x0f\0\0\0\x02\0\x01\x02",
-            99,
-            0,
-            refused(9, Why::PastMemory),
-        ),
-        (b"RATR\x01\x10\0\0\0\0", 99, 0, refused(9, Why::Kind)),
-        (b"RATR\x01\x10\0\0\0S\x10", 99, 0, refused(9, Why::Slot)),
-        (b"RATR\x01\x10\0\0\0R\x10", 99, 0, refused(9, Why::Slot)),
-        (b"RATR", 99, 0, refused(0, Why::Header)),
-        (b"RATR\x01\x10\0\0", 99, 0, refused(0, Why::Header)),
-        (b"RATR\x02\x10\0\0\0F", 9, 0, refused(0, Why::Header)),
-        (b"RATR\x01\x01\0\0\x08F", 99, 0, refused(0, Why::Header)),
-        (
-            b"RATR\x01\x10\0\0\0W\xff\0\0\0\x02\0\x01",
-            99,
-            0,
-            refused(9, Why::Cut),
-        ),
-        (b"RATR\x01\x10\0\0\0F", 10, 1, TraceError::TooLong),
-        (b"RATR\x01\x10\0\0\0F", 11, 1, refused(10, Why::Cut)),
-        (b"RATR\x01\x10\0\0\0FFE", 10, 1, TraceError::TooLong),
-    ];
-    for (bytes, limit, frames, answer) in rows {
-        assert_eq!(rt; stops(&rt, bytes, limit, frames)?, answer, "{bytes:?}");
+// A trace, how far it is read behind the header, and why it stops behind so many frames.
+type Stop = (&'static [u8], u8, u32, TraceError);
+
+const STOPS: &[Stop] = &[
+    (
+        b"RATR\x01\x10\0\0\0F",
+        90,
+        1,
+        Refused {
+            at: 10,
+            why: Why::Cut,
+        },
+    ),
+    (
+        b"RATR\x01\x10\0\0\0W\x0f\0\0\0\x02\0\x01\x02",
+        90,
+        0,
+        Refused {
+            at: 9,
+            why: Why::PastMemory,
+        },
+    ),
+    (
+        b"RATR\x01\x10\0\0\0\0",
+        90,
+        0,
+        Refused {
+            at: 9,
+            why: Why::Kind,
+        },
+    ),
+    (
+        b"RATR\x01\x10\0\0\0S\x10",
+        90,
+        0,
+        Refused {
+            at: 9,
+            why: Why::Slot,
+        },
+    ),
+    (
+        b"RATR\x01\x10\0\0\0R\x10",
+        90,
+        0,
+        Refused {
+            at: 9,
+            why: Why::Slot,
+        },
+    ),
+    (
+        b"RATR",
+        90,
+        0,
+        Refused {
+            at: 0,
+            why: Why::Header,
+        },
+    ),
+    (
+        b"RATR\x01\x10\0\0",
+        90,
+        0,
+        Refused {
+            at: 0,
+            why: Why::Header,
+        },
+    ),
+    (
+        b"RATR\x02\x10\0\0\0F",
+        0,
+        0,
+        Refused {
+            at: 0,
+            why: Why::Header,
+        },
+    ),
+    (
+        b"RATR\x01\x01\0\0\x08F",
+        90,
+        0,
+        Refused {
+            at: 0,
+            why: Why::Header,
+        },
+    ),
+    (
+        b"RATR\x01\x10\0\0\0W\xff\0\0\0\x02\0\x01",
+        90,
+        0,
+        Refused {
+            at: 9,
+            why: Why::Cut,
+        },
+    ),
+    (b"RATR\x01\x10\0\0\0F", 1, 1, TooLong),
+    (
+        b"RATR\x01\x10\0\0\0F",
+        2,
+        1,
+        Refused {
+            at: 10,
+            why: Why::Cut,
+        },
+    ),
+    (b"RATR\x01\x10\0\0\0FFE", 1, 1, TooLong),
+];
+
+fn other_stop(alloc: Global, rows: &[Stop]) -> Result<Option<usize>, OutOfMemory> {
+    for (place, (trace, behind, frames, why)) in rows.iter().enumerate() {
+        if stops(alloc, *trace, *behind, *frames)? != Some(*why) {
+            return Ok(Some(place));
+        }
     }
+    Ok(None)
+}
+
+#[test]
+fn refusals_with_their_places(rt: HostRuntime) -> Result<(), OutOfMemory> {
+    assert_eq!(rt; other_stop(rt.alloc(), STOPS)?, None);
     Ok(())
 }
 
-#[test]
-fn sets_of_the_workload(rt: HostRuntime) -> Result<(), Fail> {
+// Whether the set of a number begins with these bytes. 47 bytes a line and its id, and 109 bytes behind the achievements.
+fn makes_set(alloc: Global, number: u32, first: &[u8]) -> Result<bool, OutOfMemory> {
     let last = b"::VAL:0x 0000\nP\nDisplay:\n@Number(0xX0000)\n";
-    let rows: [(u32, &[u8]); 2] = [
-        (
-            0,
-            b"A 1 I:0x 3c6e_0xH4750>d0xH4750.2._R:0xHd1cc=255\nA 2 I:0x 6252_",
-        ),
-        (
-            4_294_967_295,
-            b"A 1 I:0x 3c55_0xH3017>d0xH3017.8._R:0xH2283=255\n",
-        ),
-    ];
-    for (number, first) in rows {
-        let text = make_set(rt.alloc(), number)?;
-        assert!(rt; text.starts_with(first), "set {number}");
-        assert!(rt; text.ends_with(last), "set {number}");
-        // 47 bytes a line and its id, and 109 bytes behind the achievements.
-        assert_eq!(rt; text.len(), 256 * 47 + 9 + 2 * 90 + 3 * 157 + 109);
-    }
+    let text = make_set(alloc, number)?;
+    let length = 256 * 47 + 9 + 2 * 90 + 3 * 157 + 109;
+    Ok(text.starts_with(first) && text.ends_with(last) && text.len() == length)
+}
+
+const SET_0: &[u8] = b"A 1 I:0x 3c6e_0xH4750>d0xH4750.2._R:0xHd1cc=255\nA 2 I:0x 6252_";
+
+const SET_LAST: &[u8] = b"A 1 I:0x 3c55_0xH3017>d0xH3017.8._R:0xH2283=255\n";
+
+#[test]
+fn sets_of_the_workload(rt: HostRuntime) -> Result<(), OutOfMemory> {
+    assert!(rt; makes_set(rt.alloc(), 0, SET_0)?);
+    assert!(rt; makes_set(rt.alloc(), 4_294_967_295, SET_LAST)?);
     Ok(())
 }
 
+// Whether the trace of a number begins with these bytes, and has its length and its end.
+fn makes_trace(alloc: Global, number: u32, first: &[u8]) -> Result<bool, OutOfMemory> {
+    let bytes = make_trace(alloc, number)?;
+    let length = 9 + 4096 * (8 * 8 + 1) + 64 * 2 + 8 * 3 + 1;
+    Ok(bytes.starts_with(first) && bytes.ends_with(b"FS\x0fPR\0E") && bytes.len() == length)
+}
+
+const TRACE_0: &[u8] = b"RATR\x01\0\0\x01\0W\x88\x3c\0\0\x01\0\x88W\x16\x81\0\0\x01\0\x73";
+
+const TRACE_LAST: &[u8] = b"RATR\x01\0\0\x01\0W\x6e\x3c\0\0\x01\0\x50W\xcc\xd1\0\0\x01\0\xf9";
+
 #[test]
-fn traces_of_the_workload(rt: HostRuntime) -> Result<(), Fail> {
-    let rows: [(u32, &[u8]); 2] = [
-        (
-            0,
-            b"RATR\x01\0\0\x01\0W\x88\x3c\0\0\x01\0\x88W\x16\x81\0\0\x01\0\x73",
-        ),
-        (
-            4_294_967_295,
-            b"RATR\x01\0\0\x01\0W\x6e\x3c\0\0\x01\0\x50W\xcc\xd1\0\0\x01\0\xf9",
-        ),
-    ];
-    for (number, first) in rows {
-        let bytes = make_trace(rt.alloc(), number)?;
-        assert!(rt; bytes.starts_with(first), "trace {number}");
-        assert!(rt; bytes.ends_with(b"FS\x0fPR\0E"), "trace {number}");
-        assert_eq!(rt; bytes.len(), 9 + 4096 * (8 * 8 + 1) + 64 * 2 + 8 * 3 + 1);
-    }
+fn traces_of_the_workload(rt: HostRuntime) -> Result<(), OutOfMemory> {
+    assert!(rt; makes_trace(rt.alloc(), 0, TRACE_0)?);
+    assert!(rt; makes_trace(rt.alloc(), 4_294_967_295, TRACE_LAST)?);
     Ok(())
 }

@@ -1,5 +1,0 @@
-use Rattle.std.specs.Option.{IsSome}
-use Rattle.ra_file_tests.proofs.traces.stops.Given as goal
-
-abbrev pub invariant-loop : goal.invariant-loop
-invariant-loop l = IsSome l.reader.size
