@@ -15,6 +15,7 @@ use ra_resting::{Before, test_keeps, value_keeps};
 use ra_richpresence::{Line, Piece};
 
 // Whether a line kept all but free hits at its last frame.
+#[inline(never)]
 pub(crate) fn line_keeps(line: &Line, before: &Before, run: &Member) -> bool
     requires room { HasLineRoom (line_contents line.now) before.now }
     requires run { HasShape (line_member (line_contents line.now)) (kept_by run.now) }

@@ -191,12 +191,10 @@ fn step_noted(
     ensures steps { StepsNoted table.now (line_contents line.now) (seen_line clock run.old rest.old) (not result.rests) rest.new.before run.new result.holds }
     ensures rests { result.rests ≡ true → LineKeeps (line_contents line.now) (kept_before rest.new.before) (kept_by run.new) }
 {
-    pay_since(run, &rest.before, rest.since, clock);
+    pay_since(run, rest, clock);
     if noting {
         rest.before.note(run);
         rest.since = Some(next);
-    } else {
-        rest.since = None;
     }
     let holds = step_line(run, line, table);
     if rest.since.is_none() {
@@ -215,15 +213,18 @@ fn step_noted(
     }
 }
 
-// Pays what a line owes at a count of frames, where it rests since one of them.
-fn pay_since(run: &mut Member, before: &Before, since: Option<u64>, clock: u64)
-    requires room { HaveOneShape (kept_before before.now) (kept_by run.old) }
-    requires since { IfSome since (λ since. since ≤ clock) }
+// Pays what a line owes at a count of frames, where it rests since one of them, and rests no longer.
+fn pay_since(run: &mut Member, rest: &mut LineRest, clock: u64)
+    requires room { HaveOneShape (kept_before rest.old.before) (kept_by run.old) }
+    requires since { IfSome rest.old.since (λ since. since ≤ clock) }
     ensures stays { StaysMember run.old run.new }
-    ensures kept { kept_by run.new ≡ line_since clock run.old before.now since }
+    ensures kept { kept_by run.new ≡ line_since clock run.old rest.old.before rest.old.since }
+    ensures before { rest.new.before ≡ rest.old.before }
+    ensures awake { rest.new.since ≡ None }
 {
-    if let Some(since) = since {
-        pay_member(run, before, owed(since, clock));
+    if let Some(since) = rest.since {
+        pay_member(run, &rest.before, owed(since, clock));
+        rest.since = None;
     }
 }
 

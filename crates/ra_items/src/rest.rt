@@ -80,6 +80,7 @@ impl ItemBefore {
     }
 
     // Takes up what an item keeps now.
+    #[inline(never)]
     pub(crate) fn note(&mut self, run: &ItemRun)
         requires { FitsRun self.old run.now }
         ensures { IsNoted self.new run.now }
@@ -92,6 +93,7 @@ impl ItemBefore {
     }
 
     // Whether an item rested at its last frame.
+    #[inline(never)]
     pub(crate) fn rests(&self, item: &Item, run: &ItemRun) -> bool
         requires room { HasRoom (item_contents item.now) self.now }
         requires fits { FitsRun self.now run.now }

@@ -148,6 +148,7 @@ fn counted_by_part(part: &Part) -> &[Condition]
 ///
 /// `before` are the hits before the frame at which the rest began, and `hits` those after it. Where
 /// both are the same, none are owed.
+#[inline(never)]
 pub fn pay(hits: &mut [u32], before: &[u32], frames: u32)
     requires { length before.now ≡ length hits.old }
     ensures { hits.new ≡ spec.paid frames before.now hits.old }

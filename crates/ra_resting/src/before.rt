@@ -38,6 +38,7 @@ impl Before {
     }
 
     /// Takes up what a member keeps now. No memory is taken.
+    #[inline(never)]
     pub fn note(&mut self, member: &Member)
         requires { HaveOneShape (kept_before self.old) (kept_by member.now) }
         ensures noted { kept_before self.new ≡ kept_by member.now }

@@ -32,9 +32,9 @@ pub fn many_changed(readers: &Readers, table: &Table) -> bool
 
 /// How many of so many are looked at for rest at a frame, whatever their places are.
 pub fn looks(count: usize) -> usize
-    ensures { result ≡ count / 16 + 24 }
+    ensures { result ≡ count / 32 + 3 }
 {
-    count / 16 + 24
+    count / 32 + 3
 }
 
 /// Whether the one at a place is looked at for rest: where so many may still be, and else one of eight, others at each count

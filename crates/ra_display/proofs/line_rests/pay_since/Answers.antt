@@ -9,7 +9,7 @@ use Rattle.ra_display.proofs.line_rests.pay_since.Goals as goal
 pub returns-in-Some-clause-kept : goal.returns-in-Some-clause-kept
 returns-in-Some-clause-kept c =
     let run = c.args.run.now in
-    let before = c.args.before.now in
+    let before = c.args.rest.now.before in
     c.pay_member.ensures.paid
     ∙ ap (λ n. owed_member n (kept_before before) (kept_by run)) c.owed.ensures
     ∙ member_at_most (c.args.clock - c.in-Some.since) (kept_before before) (kept_by run)

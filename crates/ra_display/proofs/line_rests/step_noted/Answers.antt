@@ -21,7 +21,7 @@ pub note-requires : goal.note-requires
 note-requires c =
     let line = line_contents c.args.line.now in
     let run = c.pay_since.new.run in
-    one_shape_of (line_member line) (kept_before c.args.rest.now.before) (kept_by run) c.requires.room (member_shape c.args.table.now.nodes (line_member line) run (c.pay_since.ensures.stays c.args.table.now.nodes (line_member line) c.requires.run))
+    rw c.pay_since.ensures.before (one_shape_of (line_member line) (kept_before c.args.rest.now.before) (kept_by run) c.requires.room (member_shape c.args.table.now.nodes (line_member line) run (c.pay_since.ensures.stays c.args.table.now.nodes (line_member line) c.requires.run)))
 
 pub step_line-holds-requires-clause-run : goal.step_line-holds-requires-clause-run
 step_line-holds-requires-clause-run c =
@@ -44,7 +44,7 @@ line_keeps-requires-clause-room c =
     let line = line_contents c.args.line.now in
     elim c.if-noting.branch [
       | then-noting w ↦ rw (w.rest-is, w.note.ensures.noted) (member_shape c.args.table.now.nodes (line_member line) c.pay_since.new.run (c.pay_since.ensures.stays c.args.table.now.nodes (line_member line) c.requires.run))
-      | else-noting w ↦ rw w.rest-is c.requires.room
+      | else-noting w ↦ rw (w.rest-is, c.pay_since.ensures.before) c.requires.room
     ]
 
 pub line_keeps-requires-clause-run : goal.line_keeps-requires-clause-run
@@ -56,7 +56,7 @@ returns-then-line_keeps-clause-room c =
     let line = line_contents c.args.line.now in
     elim c.if-noting.branch [
       | then-noting w ↦ rw (w.rest-is, w.note.ensures.noted) (member_shape c.args.table.now.nodes (line_member line) c.pay_since.new.run (c.pay_since.ensures.stays c.args.table.now.nodes (line_member line) c.requires.run))
-      | else-noting w ↦ rw w.rest-is c.requires.room
+      | else-noting w ↦ rw (w.rest-is, c.pay_since.ensures.before) c.requires.room
     ]
 
 pub returns-then-line_keeps-clause-steps : goal.returns-then-line_keeps-clause-steps
@@ -71,7 +71,7 @@ returns-then-line_keeps-clause-steps c =
         small = λ quiet. subst AreHitsSmall c.pay_since.ensures.kept w.note.ensures.small;
         steps = c.step_line-holds.ensures.steps;
       })
-      | else-noting w ↦ absurd (true≢false (sym (c.is_none.ensures ∙ ap not c.if-is_none.false) ∙ ap (λ r. is_some r.since) w.rest-is))
+      | else-noting w ↦ absurd (true≢false (sym (c.is_none.ensures ∙ ap not c.if-is_none.false) ∙ ap (λ r. is_some r.since) w.rest-is ∙ ap is_some c.pay_since.ensures.awake))
     ]
 
 pub returns-clause-room : goal.returns-clause-room
@@ -79,7 +79,7 @@ returns-clause-room c =
     let line = line_contents c.args.line.now in
     elim c.if-noting.branch [
       | then-noting w ↦ rw (w.rest-is, w.note.ensures.noted) (member_shape c.args.table.now.nodes (line_member line) c.pay_since.new.run (c.pay_since.ensures.stays c.args.table.now.nodes (line_member line) c.requires.run))
-      | else-noting w ↦ rw w.rest-is c.requires.room
+      | else-noting w ↦ rw (w.rest-is, c.pay_since.ensures.before) c.requires.room
     ]
 
 pub returns-clause-steps : goal.returns-clause-steps
