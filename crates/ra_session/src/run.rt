@@ -68,7 +68,7 @@ pub fn play_trace<F: Files, K: Sink>(
 }
 
 // Puts what a player keeps into the file that is named, where one is.
-fn put_progress<F: Files>(
+fn put_kept<F: Files>(
     alloc: Global,
     player: &Player,
     save: Option<&str>,
@@ -90,6 +90,25 @@ fn put_progress<F: Files>(
         Ok(bytes) => files.put(name, bytes.as_slice()),
         Err(_) => Err(PutFailed::Memory),
     }
+}
+
+// Puts what a player keeps into the file that is named, where one is, and gives the player up.
+fn put_progress<F: Files>(
+    alloc: Global,
+    player: Player,
+    save: Option<&str>,
+    files: &mut F,
+) -> Result<(), PutFailed>
+    ensures saved { OnOk result (AllByRecursion (HasBytes (kept_bytes player.runtime) (F.content files.old) (F.content files.new)) (file_in (option_map (λ name. name.now) save.entry))) }
+    ensures others { (name : List ℕ) → AllByRecursion (λ put. name ≢ put) (file_in (option_map (λ name. name.now) save.entry)) → F.content files.new name ≡ F.content files.old name }
+
+    // What a fault shows, and what stays.
+    ensures failed { IsErrOf result PutFailed.Failed → AnyRose (F.put_faults files.old) (F.put_faults files.new) (file_in (option_map (λ name. name.now) save.entry)) }
+    ensures memory { IsErrOf result PutFailed.Memory → SameContent (F.content files.old) (F.content files.new) }
+    ensures reads { NoneFell (F.read_faults files.old) (F.read_faults files.new) }
+    ensures puts { NoneFell (F.put_faults files.old) (F.put_faults files.new) }
+{
+    put_kept(alloc, &player, save, files)
 }
 
 /// Runs a set and a trace, up to the last line: docs/DEFINITIONS.md, "A run".
@@ -120,7 +139,7 @@ pub fn run_job<F: Files, K: Sink>(
         Ok(player) => player,
         Err(failed) => return Ending::from(failed),
     };
-    match put_progress(alloc, &player, run.save, files) {
+    match put_progress(alloc, player, run.save, files) {
         Ok(()) => Ending::Done,
         Err(failed) => Ending::from(failed),
     }

@@ -2,7 +2,7 @@ use Rattle.std.proofs.Common.{sym, subst, [], Bor, List, ℕ, Option, option_map
 use Rattle.ra_session.specs.Outside.{AnyRose}
 use Rattle.ra_jobs.specs.Words.{file_in}
 use Rattle.ra_session.proofs.RunLemmas.{any_first}
-use Rattle.ra_session.proofs.run.put_progress.Goals as goal
+use Rattle.ra_session.proofs.run.put_kept.Goals as goal
 
 pub returns-in-Ok-clause-failed : goal.returns-in-Ok-clause-failed
 returns-in-Ok-clause-failed g c = λ is.
