@@ -6,7 +6,6 @@ use ra_leaderboard::{Board, BoardState, parse_board, take_board};
 use ra_operand::Operand;
 use ra_text::Cursor;
 use std::alloc::Global;
-use std::test::Fail;
 
 // The text is refused as a board, and its first bad place is this.
 fn is_no_board(alloc: Global, text: &str, at: usize) -> bool {
@@ -100,13 +99,17 @@ fn boards_keep_their_fields_in_any_order(rt: HostRuntime) {
     }
 }
 
+// How many conditions the SUB of the board has that stands at the cursor.
+fn submit_count(alloc: Global, cursor: &mut Cursor<'_>) -> Option<usize> {
+    let board = take_board(alloc, cursor).ok()?;
+    Some(board.submit.core.conditions.len())
+}
+
 #[test]
-fn a_board_is_read_by_a_cursor(rt: HostRuntime) -> Result<(), Fail> {
+fn a_board_is_read_by_a_cursor(rt: HostRuntime) {
     let mut cursor = Cursor::new(b"L CAN:::STA:::VAL:1::SUB:0=1\nA", 2);
-    let board = take_board(rt.alloc(), &mut cursor).map_err(|_| "refused")?;
-    assert_eq!(rt; board.submit.core.conditions.len(), 1);
-    assert_eq!(rt; cursor.rest, b"\nA".as_slice());
-    Ok(())
+    let count = submit_count(rt.alloc(), &mut cursor);
+    assert!(rt; count == Some(1) && cursor.rest == b"\nA".as_slice());
 }
 
 // What a board tells of a step from a state: the state before it and after it, and that which it then has.

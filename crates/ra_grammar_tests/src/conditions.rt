@@ -1,8 +1,10 @@
+ghost use Rattle.std.specs.Prelude.{◌≤◌, length};
+
 use ra_condition::{
     Flag, Refused, parse_trigger, parse_value, print_trigger, print_value, read_trigger, read_value,
 };
+use ra_text::OutOfMemory;
 use std::alloc::Global;
-use std::test::Fail;
 
 // The text is refused as a trigger, and its first bad place is this.
 fn is_no_trigger(alloc: Global, text: &str, at: usize) -> bool {
@@ -148,23 +150,35 @@ const FLAGS: &[(&str, &str, Flag)] = &[
     ("K:0=0", "k:0=0", Flag::Remember),
 ];
 
-#[test]
-fn flags_are_read_in_either_case(rt: HostRuntime) {
-    for &(upper, lower, flag) in FLAGS {
-        for text in [upper, lower] {
-            assert!(rt; first_flag(rt.alloc(), text) == Some(flag), "at {text}");
+// The place of the first condition that is read with another flag, in one of its cases.
+fn other_flag(alloc: Global, rows: &[(&str, &str, Flag)]) -> Option<usize> {
+    for (place, (upper, lower, flag)) in rows.iter().enumerate() {
+        let found = [first_flag(alloc, *upper), first_flag(alloc, *lower)];
+        if !(found == [Some(*flag); 2]) {
+            return Some(place);
         }
     }
+    None
 }
 
 #[test]
-fn triggers_are_read_from_a_place(rt: HostRuntime) -> Result<(), Fail> {
-    let (trigger, end) = read_trigger(rt.alloc(), b"STA:0=1S0=2::CAN", 4).map_err(|_| "refused")?;
-    assert_eq!(rt; end, 11);
-    assert_eq!(rt; trigger.alts.len(), 1);
-    let refused = read_trigger(rt.alloc(), b"STA:0=1_::CAN", 4).err();
-    assert_eq!(rt; refused, Some(Refused::Syntax { at: 8 }));
-    Ok(())
+fn flags_are_read_in_either_case(rt: HostRuntime) {
+    assert_eq!(rt; other_flag(rt.alloc(), FLAGS), None);
+}
+
+// How many alt groups a trigger has that is read from a place, and where it ends.
+fn alts_from(alloc: Global, text: &[u8], at: usize) -> Result<(usize, usize), Refused>
+    requires { at ≤ length text.now }
+{
+    let (trigger, end) = read_trigger(alloc, text, at)?;
+    Ok((trigger.alts.len(), end))
+}
+
+#[test]
+fn triggers_are_read_from_a_place(rt: HostRuntime) {
+    assert_eq!(rt; alts_from(rt.alloc(), b"STA:0=1S0=2::CAN", 4), Ok((1, 11)));
+    let refused = Refused::Syntax { at: 8 };
+    assert_eq!(rt; alts_from(rt.alloc(), b"STA:0=1_::CAN", 4), Err(refused));
 }
 
 // Texts that are no value, and their first bad place.
@@ -215,29 +229,50 @@ fn values_print_what_they_keep(rt: HostRuntime) {
     }
 }
 
-#[test]
-fn values_are_read_from_a_place(rt: HostRuntime) -> Result<(), Fail> {
-    let (value, end) = read_value(rt.alloc(), b"@N(M:0=1(3))", 3).map_err(|_| "refused")?;
-    assert_eq!(rt; end, 11);
-    assert_eq!(rt; value.parts.len(), 1);
-    let refused = read_value(rt.alloc(), b"@N(A:0=1)", 3).err();
-    assert_eq!(rt; refused, Some(Refused::Syntax { at: 8 }));
-    Ok(())
+// How many parts a value has that is read from a place, and where it ends.
+fn parts_from(alloc: Global, text: &[u8], at: usize) -> Result<(usize, usize), Refused>
+    requires { at ≤ length text.now }
+{
+    let (value, end) = read_value(alloc, text, at)?;
+    Ok((value.parts.len(), end))
 }
 
 #[test]
-fn a_trigger_of_four_mebibytes_is_read(rt: HostRuntime) -> Result<(), Fail> {
-    let mut text = Vec::new(rt.alloc());
+fn values_are_read_from_a_place(rt: HostRuntime) {
+    assert_eq!(rt; parts_from(rt.alloc(), b"@N(M:0=1(3))", 3), Ok((1, 11)));
+    let refused = Refused::Syntax { at: 8 };
+    assert_eq!(rt; parts_from(rt.alloc(), b"@N(A:0=1)", 3), Err(refused));
+}
+
+// A text of 65,536 conditions, and what stands behind them.
+fn long_text(alloc: Global, end: &[u8]) -> Result<Vec<u8>, OutOfMemory> {
+    let mut text = Vec::new(alloc);
     for _ in 0..65535u32 {
         text.extend_from_slice(
             b"M:d0xH0000000000000010=99999999999999999999999.000000000000010._",
         )?;
     }
     text.extend_from_slice(b"0=1")?;
-    let trigger = parse_trigger(rt.alloc(), text.as_slice()).map_err(|_| "refused")?;
-    assert_eq!(rt; trigger.core.conditions.len(), 65536);
-    text.push(b'_')?;
-    let refused = parse_trigger(rt.alloc(), text.as_slice()).err();
-    assert_eq!(rt; refused, Some(Refused::Syntax { at: text.len() }));
+    text.extend_from_slice(end)?;
+    Ok(text)
+}
+
+// How many conditions the core group of a trigger has.
+fn core_count(alloc: Global, text: &[u8]) -> Result<usize, Refused> {
+    let trigger = parse_trigger(alloc, text)?;
+    Ok(trigger.core.conditions.len())
+}
+
+// The same of such a text, and how many bytes it has.
+fn long_count(alloc: Global, end: &[u8]) -> Result<(Result<usize, Refused>, usize), OutOfMemory> {
+    let text = long_text(alloc, end)?;
+    Ok((core_count(alloc, &text), text.len()))
+}
+
+#[test]
+fn a_trigger_of_four_mebibytes_is_read(rt: HostRuntime) -> Result<(), OutOfMemory> {
+    assert_eq!(rt; long_count(rt.alloc(), b"")?, (Ok(65_536), 4_194_243));
+    let refused = Refused::Syntax { at: 4_194_244 };
+    assert_eq!(rt; long_count(rt.alloc(), b"_")?, (Err(refused), 4_194_244));
     Ok(())
 }

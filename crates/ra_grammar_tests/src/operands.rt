@@ -77,8 +77,8 @@ fn operands_are_refused_at_the_first_bad_place(rt: HostRuntime) {
 
 #[test]
 fn operands_are_read_from_a_place(rt: HostRuntime) {
-    assert_eq!(rt; parse_operand(b"A:5", 2), Ok((Operand::Const(5), 3)));
-    assert_eq!(rt; parse_operand(b"A:0xz", 2), Err(Syntax { at: 4 }));
+    let found = [parse_operand(b"A:5", 2), parse_operand(b"A:0xz", 2)];
+    assert_eq!(rt; found, [Ok((Operand::Const(5), 3)), Err(Syntax { at: 4 })]);
 }
 
 // The operand has this canonical text.
@@ -192,6 +192,5 @@ fn compare_as_worked() -> bool {
 
 #[test]
 fn operators_go_without_sign(rt: HostRuntime) {
-    assert!(rt; compute_as_worked());
-    assert!(rt; compare_as_worked());
+    assert!(rt; compute_as_worked() && compare_as_worked());
 }

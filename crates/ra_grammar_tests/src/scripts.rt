@@ -134,11 +134,12 @@ fn last_lines_keep_their_text(rt: HostRuntime) {
 }
 
 // A script with two sections of one name, two `*` lines and a macro.
+const SAMPLE: &[u8] = b"Lookup:L\n1-3,0x10=a\\=\\b=c\n*=first\n2=b\n*=second\n\
+    Format:L\nFormatType=SECS\nFormat:F\nFormatType=FIXED2\n\
+    Display:\n?0=1?Yes @F(5)\\@@L(0xH10)!\nNo\nLookup:F\n9=z\nFormat:G\nFormatType=what\n";
+
 fn sample(alloc: Global) -> Result<Script, Refused> {
-    let text = b"Lookup:L\n1-3,0x10=a\\=\\b=c\n*=first\n2=b\n*=second\n\
-        Format:L\nFormatType=SECS\nFormat:F\nFormatType=FIXED2\n\
-        Display:\n?0=1?Yes @F(5)\\@@L(0xH10)!\nNo\nLookup:F\n9=z\nFormat:G\nFormatType=what\n";
-    parse_script(alloc, text)
+    parse_script(alloc, SAMPLE)
 }
 
 // The lookup has the keys and the rest of the first section of its name.

@@ -208,8 +208,9 @@ fn counts(alloc: Global, text: &[u8], items: usize, count: u64) -> bool {
 #[test]
 fn a_set_has_at_most_so_many_bytes(rt: HostRuntime) -> Result<(), Fail> {
     let bytes = vec![in rt.alloc(); b'#'; 4_194_305]?;
-    assert!(rt; passes(rt.alloc(), &bytes, Which::Bytes, 4_194_305));
-    assert!(rt; counts(rt.alloc(), &bytes[1..], 0, 0));
+    let over = passes(rt.alloc(), &bytes, Which::Bytes, 4_194_305);
+    let most = counts(rt.alloc(), &bytes[1..], 0, 0);
+    assert!(rt; over && most);
     Ok(())
 }
 
@@ -222,24 +223,35 @@ fn achievements(alloc: Global, count: u32) -> Result<String, Fail> {
     Ok(text)
 }
 
+// Whether so many achievements are a set.
+fn are_a_set(alloc: Global, count: u32) -> Result<bool, Fail> {
+    let text = achievements(alloc, count)?;
+    Ok(counts(alloc, text.as_bytes(), count as usize, 0))
+}
+
+// Whether so many achievements are too many.
+fn are_too_many(alloc: Global, count: u32) -> Result<bool, Fail> {
+    let text = achievements(alloc, count)?;
+    Ok(passes(alloc, text.as_bytes(), Which::Items, u64::from(count)))
+}
+
 #[test]
 fn a_set_has_at_most_so_many_items(rt: HostRuntime) -> Result<(), Fail> {
-    let text = achievements(rt.alloc(), 16_384)?;
-    assert!(rt; counts(rt.alloc(), text.as_bytes(), 16_384, 0));
-    let more = achievements(rt.alloc(), 16_385)?;
-    assert!(rt; passes(rt.alloc(), more.as_bytes(), Which::Items, 16_385));
+    assert!(rt; are_a_set(rt.alloc(), 16_384)? && are_too_many(rt.alloc(), 16_385)?);
     Ok(())
+}
+
+// Whether so many achievements are refused since a line behind them repeats an id.
+fn are_repeated(alloc: Global, count: u32, id: u32, line: u32) -> Result<bool, Fail> {
+    let mut text = achievements(alloc, count)?;
+    write!(text, "A {id} ")?;
+    let again = SetRefused::DuplicateId { id, line };
+    Ok(is_refused(alloc, &text, again))
 }
 
 #[test]
 fn a_repeated_id_is_told_before_too_many_items(rt: HostRuntime) -> Result<(), Fail> {
-    let mut text = achievements(rt.alloc(), 16_385)?;
-    text.push_str("A 3 ")?;
-    let again = SetRefused::DuplicateId {
-        id: 3,
-        line: 16_386,
-    };
-    assert!(rt; is_refused(rt.alloc(), &text, again));
+    assert!(rt; are_repeated(rt.alloc(), 16_385, 3, 16_386)?);
     Ok(())
 }
 
@@ -253,11 +265,22 @@ fn conditions_of_one(alloc: Global, count: u32) -> Result<String, Fail> {
     Ok(text)
 }
 
+// Whether an achievement of so many conditions is a set, and one condition more is too many.
+fn are_most_conditions(alloc: Global, count: u32) -> Result<bool, Fail> {
+    let mut text = conditions_of_one(alloc, count)?;
+    let most = counts(alloc, text.as_bytes(), 1, u64::from(count));
+    text.push_str("\nA 2 0=1")?;
+    let over = passes(
+        alloc,
+        text.as_bytes(),
+        Which::Conditions,
+        u64::from(count) + 1,
+    );
+    Ok(most && over)
+}
+
 #[test]
 fn a_set_has_at_most_so_many_conditions(rt: HostRuntime) -> Result<(), Fail> {
-    let mut text = conditions_of_one(rt.alloc(), 65_536)?;
-    assert!(rt; counts(rt.alloc(), text.as_bytes(), 1, 65_536));
-    text.push_str("\nA 2 0=1")?;
-    assert!(rt; passes(rt.alloc(), text.as_bytes(), Which::Conditions, 65_537));
+    assert!(rt; are_most_conditions(rt.alloc(), 65_536)?);
     Ok(())
 }

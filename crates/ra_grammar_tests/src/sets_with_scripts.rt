@@ -192,17 +192,28 @@ fn counts(alloc: Global, text: &str, count: u64) -> bool {
     }
 }
 
-#[test]
-fn a_display_line_has_at_most_so_many_macros(rt: HostRuntime) -> Result<(), Fail> {
-    let front = "P\nDisplay:\n?0=1?@N(1)\n";
-    let text = repeated(rt.alloc(), front, "@N(1)", 256, "")?;
-    assert!(rt; counts(rt.alloc(), &text, 258));
-    let more = repeated(rt.alloc(), front, "@N(1)", 257, "")?;
+// Whether a display line of so many macros is in a set of so many conditions.
+fn are_macros(alloc: Global, macros: usize, count: u64) -> Result<bool, Fail> {
+    let text = repeated(alloc, MACROS, "@N(1)", macros, "")?;
+    Ok(counts(alloc, &text, count))
+}
+
+// Whether a display line of so many macros is refused for them.
+fn are_too_many_macros(alloc: Global, macros: usize) -> Result<bool, Fail> {
+    let text = repeated(alloc, MACROS, "@N(1)", macros, "")?;
     let limit = SetRefused::Limit {
         which: Which::Macros,
-        found: 257,
+        found: macros as u64,
     };
-    assert!(rt; is_refused(rt.alloc(), &more, limit));
+    Ok(is_refused(alloc, &text, limit))
+}
+
+// A file up to the macros of its last line.
+const MACROS: &str = "P\nDisplay:\n?0=1?@N(1)\n";
+
+#[test]
+fn a_display_line_has_at_most_so_many_macros(rt: HostRuntime) -> Result<(), Fail> {
+    assert!(rt; are_macros(rt.alloc(), 256, 258)? && are_too_many_macros(rt.alloc(), 257)?);
     Ok(())
 }
 
@@ -217,34 +228,60 @@ fn judges(
     Ok(parse_set(alloc, text.as_bytes()).err() == refused)
 }
 
-#[test]
-fn a_kept_lookup_text_has_at_most_so_many_bytes(rt: HostRuntime) -> Result<(), Fail> {
+// Fronts of files, how many bytes their lookup text has, and whether it is too long.
+const LOOKUPS: &[(&str, usize, bool)] = &[
+    ("P\nLookup:L\n0=a\n*=", 1_024, false),
+    ("P\nLookup:L\n0=a\n*=", 1_025, true),
+    ("P\nLookup:L\n*=a\n*=", 1_025, false),
+    ("P\nFormat:L\nFormatType=SECS\nLookup:L\n0=", 1_025, false),
+];
+
+// The place of the first file that is judged otherwise.
+fn other_lookup(alloc: Global, rows: &[(&str, usize, bool)]) -> Result<Option<usize>, Fail> {
     let limit = SetRefused::Limit {
         which: Which::Lookup,
         found: 1_025,
     };
-    for (front, count, refused) in [
-        ("P\nLookup:L\n0=a\n*=", 1_024, None),
-        ("P\nLookup:L\n0=a\n*=", 1_025, Some(limit)),
-        ("P\nLookup:L\n*=a\n*=", 1_025, None),
-        ("P\nFormat:L\nFormatType=SECS\nLookup:L\n0=", 1_025, None),
-    ] {
-        let is_judged = judges(rt.alloc(), front, count, refused)?;
-        assert!(rt; is_judged, "at {front}");
+    for (place, (front, count, long)) in rows.iter().enumerate() {
+        let refused = if *long { Some(limit) } else { None };
+        if !judges(alloc, *front, *count, refused)? {
+            return Ok(Some(place));
+        }
     }
+    Ok(None)
+}
+
+#[test]
+fn a_kept_lookup_text_has_at_most_so_many_bytes(rt: HostRuntime) -> Result<(), Fail> {
+    assert_eq!(rt; other_lookup(rt.alloc(), LOOKUPS)?, None);
     Ok(())
+}
+
+// A file of so many conditions more than two, of which one is in its script.
+fn conditions_of_both(alloc: Global, more: usize) -> Result<String, Fail> {
+    repeated(alloc, "A 1 0=1", "_0=1", more, "\nP\nDisplay:\n@N(M:0=1)")
+}
+
+// Whether it is a set of so many.
+fn are_conditions(alloc: Global, more: usize, count: u64) -> Result<bool, Fail> {
+    let text = conditions_of_both(alloc, more)?;
+    Ok(counts(alloc, &text, count))
+}
+
+// Whether it is refused for so many.
+fn are_too_many_conditions(alloc: Global, more: usize, found: u64) -> Result<bool, Fail> {
+    let text = conditions_of_both(alloc, more)?;
+    let limit = SetRefused::Limit {
+        which: Which::Conditions,
+        found,
+    };
+    Ok(is_refused(alloc, &text, limit))
 }
 
 #[test]
 fn conditions_of_items_and_script_are_counted_together(rt: HostRuntime) -> Result<(), Fail> {
-    let end = "\nP\nDisplay:\n@N(M:0=1)";
-    let text = repeated(rt.alloc(), "A 1 0=1", "_0=1", 65_534, end)?;
-    assert!(rt; counts(rt.alloc(), &text, 65_536));
-    let more = repeated(rt.alloc(), "A 1 0=1", "_0=1", 65_535, end)?;
-    let limit = SetRefused::Limit {
-        which: Which::Conditions,
-        found: 65_537,
-    };
-    assert!(rt; is_refused(rt.alloc(), &more, limit));
+    let most = are_conditions(rt.alloc(), 65_534, 65_536)?;
+    let over = are_too_many_conditions(rt.alloc(), 65_535, 65_537)?;
+    assert!(rt; most && over);
     Ok(())
 }
