@@ -747,7 +747,7 @@ fn is_worked(alloc: Global) -> Result<bool, OutOfMemory> {
     Ok(bytes.as_slice() == FILE.as_slice())
 }
 
-// The lengths of the file in the third version and in the first, and the places of the item in the first and in the third.
+// The lengths of the file in the third version and in the first, and the places of the item in the first and the third.
 fn lengths(alloc: Global) -> Result<[u64; 4], OutOfMemory> {
     let shape = row_1(alloc)?;
     Ok([

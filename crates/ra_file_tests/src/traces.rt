@@ -415,7 +415,8 @@ fn refusals_with_their_places(rt: HostRuntime) -> Result<(), OutOfMemory> {
     Ok(())
 }
 
-// Whether the set of a number begins with these bytes. 47 bytes a line and its id, and 109 bytes behind the achievements.
+// Whether the set of a number begins with these bytes, and has its length and its end. It has 47 bytes a line and its id,
+// and 109 bytes behind the achievements.
 fn makes_set(alloc: Global, number: u32, first: &[u8]) -> Result<bool, OutOfMemory> {
     let last = b"::VAL:0x 0000\nP\nDisplay:\n@Number(0xX0000)\n";
     let text = make_set(alloc, number)?;
