@@ -1,7 +1,8 @@
 //! What a display keeps and shows, and that a save and a restore keep it.
 
 use crate::steps::Step::{At, Close, Frame, Lines, Put, Restore, Save, Show, Words, Write};
-use crate::steps::{Step, told};
+use crate::steps::{Step, tells};
+use ra_text::OutOfMemory;
 use std::alloc::Global;
 use std::test::Fail;
 
@@ -28,8 +29,7 @@ fn a_test_keeps_its_hits(rt: HostRuntime) -> Result<(), Fail> {
         At(5),
         words,
     ];
-    let found = told(rt.alloc(), TWICE, &steps)?;
-    assert_eq!(rt; found.as_slice(), TWICE_WORDS.as_bytes());
+    assert!(rt; tells(rt.alloc(), TWICE, &steps, TWICE_WORDS.as_bytes())?);
     Ok(())
 }
 
@@ -47,73 +47,111 @@ const THREE_WORDS: &str = "2 0 0 0 0 0 \n1 1 1 1 2 3 \n0 2 1 1 2 3 \n0 2 1 4 8 1
 fn the_first_line_that_holds_is_shown(rt: HostRuntime) -> Result<(), Fail> {
     let words = Words(81, 6);
     let steps = [At(0), words, At(1), words, At(1), words, At(4), words];
-    let found = told(rt.alloc(), THREE_LINES, &steps)?;
-    assert_eq!(rt; found.as_slice(), THREE_WORDS.as_bytes());
+    assert!(rt; tells(rt.alloc(), THREE_LINES, &steps, THREE_WORDS.as_bytes())?);
     Ok(())
 }
 
-// A display of one line: what it keeps after a frame at which the byte is 4, with so many cells before it.
-fn words_of_line(alloc: Global, line: &str, cells: usize, count: usize) -> Result<Vec<u8>, Fail> {
+// A line of a display, how many cells stand before what it keeps, how many numbers that are, and these.
+type Kept = (&'static str, usize, usize, &'static str);
+
+const KEPT: &[Kept] = &[
+    ("@Number(v5$v-1)", 0, 3, "0 5 4294967295 \n"),
+    ("@Number(v-1$h80000000)", 0, 3, "0 4294967295 2147483648 \n"),
+    ("@Number(A:7/0_M:5)", 0, 4, "0 0 1 5 \n"),
+    ("@Number(B:1_M:0)", 0, 4, "0 0 1 4294967295 \n"),
+    ("@Number(0xH0010*3_v2)", 1, 2, "0 14 \n"),
+    ("@Number(A:0xH0010=9.3._M:1)", 1, 4, "0 0 1 5 \n"),
+    ("\\@@Foo(5)\\\\", 0, 2, "0 5 \n"),
+    ("@Number(1)@Number(0xH0010)", 1, 3, "0 1 4 \n"),
+];
+
+// Whether a display of one line keeps that after a frame at which the byte is 4.
+fn keeps_so(alloc: Global, kept: &Kept) -> Result<bool, Fail> {
+    let (line, cells, count, wanted) = *kept;
     let file = format!(in alloc; "P\nDisplay:\n{line}\n")?;
     let place = 61usize.wrapping_add(cells.wrapping_mul(20));
-    told(alloc, &file, &[At(4), Words(place, count)])
+    tells(
+        alloc,
+        &file,
+        &[At(4), Words(place, count)],
+        wanted.as_bytes(),
+    )
+}
+
+// The place of the first line that keeps something else.
+fn other_kept(alloc: Global, rows: &[Kept]) -> Result<Option<usize>, Fail> {
+    for (place, kept) in rows.iter().enumerate() {
+        if !keeps_so(alloc, kept)? {
+            return Ok(Some(place));
+        }
+    }
+    Ok(None)
 }
 
 #[test]
 fn macros_keep_their_hits_and_numbers(rt: HostRuntime) -> Result<(), Fail> {
-    for (line, cells, count, wanted) in [
-        ("@Number(v5$v-1)", 0, 3, "0 5 4294967295 \n"),
-        ("@Number(v-1$h80000000)", 0, 3, "0 4294967295 2147483648 \n"),
-        ("@Number(A:7/0_M:5)", 0, 4, "0 0 1 5 \n"),
-        ("@Number(B:1_M:0)", 0, 4, "0 0 1 4294967295 \n"),
-        ("@Number(0xH0010*3_v2)", 1, 2, "0 14 \n"),
-        ("@Number(A:0xH0010=9.3._M:1)", 1, 4, "0 0 1 5 \n"),
-        ("\\@@Foo(5)\\\\", 0, 2, "0 5 \n"),
-        ("@Number(1)@Number(0xH0010)", 1, 3, "0 1 4 \n"),
-    ] {
-        let found = words_of_line(rt.alloc(), line, cells, count)?;
-        assert_eq!(rt; found.as_slice(), wanted.as_bytes(), "{line}");
-    }
+    assert_eq!(rt; other_kept(rt.alloc(), KEPT)?, None);
     Ok(())
 }
 
-// A display whose last line shows this value, at a frame at which the byte is 4.
-fn value_shown(alloc: Global, value: &str) -> Result<Vec<u8>, Fail> {
+// A value, and what a display whose last line is its macro shows.
+type Shown = (&'static str, &'static str);
+
+const SHOWN: &[Shown] = &[
+    ("v5$v-1", "presence 1 5\n"),
+    ("v-1$h80000000", "presence 1 -1\n"),
+    ("A:7/0_M:5", "presence 1 5\n"),
+    ("B:1_M:0", "presence 1 -1\n"),
+    ("0xH0010*3_v2", "presence 1 14\n"),
+    ("A:0xH0010=9.3._M:1", "presence 1 5\n"),
+];
+
+// Whether that is shown at a frame at which the byte is 4.
+fn shows_so(alloc: Global, value: &str, wanted: &str) -> Result<bool, Fail> {
     let file = format!(in alloc; "P\nDisplay:\n?0=1?@Number(0xH0010)\n@Number({value})\n")?;
-    told(alloc, &file, &[At(4), Show])
+    tells(alloc, &file, &[At(4), Show], wanted.as_bytes())
+}
+
+// The place of the first value that is shown as something else.
+fn other_shown(alloc: Global, rows: &[Shown]) -> Result<Option<usize>, Fail> {
+    for (place, (value, wanted)) in rows.iter().enumerate() {
+        if !shows_so(alloc, *value, *wanted)? {
+            return Ok(Some(place));
+        }
+    }
+    Ok(None)
 }
 
 #[test]
 fn values_are_shown_as_signed_numbers(rt: HostRuntime) -> Result<(), Fail> {
-    for (value, wanted) in [
-        ("v5$v-1", "presence 1 5\n"),
-        ("v-1$h80000000", "presence 1 -1\n"),
-        ("A:7/0_M:5", "presence 1 5\n"),
-        ("B:1_M:0", "presence 1 -1\n"),
-        ("0xH0010*3_v2", "presence 1 14\n"),
-        ("A:0xH0010=9.3._M:1", "presence 1 5\n"),
-    ] {
-        let found = value_shown(rt.alloc(), value)?;
-        assert_eq!(rt; found.as_slice(), wanted.as_bytes(), "{value}");
-    }
+    assert_eq!(rt; other_shown(rt.alloc(), SHOWN)?, None);
     Ok(())
 }
 
 #[test]
 fn a_name_that_no_format_has_is_told(rt: HostRuntime) -> Result<(), Fail> {
     let file = "P\nDisplay:\n\\@@Foo(5)\\\\\n";
-    let found = told(rt.alloc(), file, &[At(0), Show])?;
-    assert_eq!(rt;
-        found.as_slice(),
-        b"presence 1 @[Unknown macro]Foo\\\n".as_slice()
+    assert!(rt;
+        tells(
+            rt.alloc(),
+            file,
+            &[At(0), Show],
+            b"presence 1 @[Unknown macro]Foo\\\n".as_slice()
+        )?
     );
     Ok(())
 }
 
 #[test]
 fn a_set_without_a_script_shows_nothing(rt: HostRuntime) -> Result<(), Fail> {
-    let found = told(rt.alloc(), "A 1 0xH0010=5\n", &[Show, At(5), Show])?;
-    assert_eq!(rt; found.as_slice(), b"".as_slice());
+    assert!(rt;
+        tells(
+            rt.alloc(),
+            "A 1 0xH0010=5\n",
+            &[Show, At(5), Show],
+            b"".as_slice()
+        )?
+    );
     Ok(())
 }
 
@@ -193,21 +231,32 @@ const BACK: [Step; 8] = [
     Write(0x31, 0),
 ];
 
+// All these steps.
+fn steps_of(alloc: Global, parts: &[&[Step]]) -> Result<Vec<Step>, OutOfMemory> {
+    let mut steps = Vec::new(alloc);
+    for part in parts {
+        steps.extend_from_slice(*part)?;
+    }
+    Ok(steps)
+}
+
+// Whether the set goes on behind its restore as the uncut one did.
+fn goes_on(alloc: Global) -> Result<bool, Fail> {
+    let steps = steps_of(alloc, &[&BEGIN, &END, &BACK, &END])?;
+    let back = "taken\npresence 3 Forest with 000000 points\n";
+    let wanted = format!(in alloc; "{BEGINNING}{ENDING}{back}{ENDING_AGAIN}")?;
+    tells(alloc, REALISTIC, &steps, wanted.as_bytes())
+}
+
 #[test]
 fn a_restored_set_goes_on_as_the_uncut_one(rt: HostRuntime) -> Result<(), Fail> {
-    let mut steps = Vec::new(rt.alloc());
-    for part in [BEGIN.as_slice(), &END, &BACK, &END] {
-        steps.extend_from_slice(part)?;
-    }
-    let found = told(rt.alloc(), REALISTIC, &steps)?;
-    let back = "taken\npresence 3 Forest with 000000 points\n";
-    let wanted = format!(in rt.alloc(); "{BEGINNING}{ENDING}{back}{ENDING_AGAIN}")?;
-    assert_eq!(rt; found.as_slice(), wanted.as_bytes());
+    assert!(rt; goes_on(rt.alloc())?);
     Ok(())
 }
 
-// A frame behind a save, the restore of it, a write that is not seen before the next frame, and that frame.
-fn frame_twice(alloc: Global, byte: u8) -> Result<Vec<u8>, Fail> {
+// Whether this is shown at a frame behind a save, behind the restore of it, and a write that is not seen before the next
+// frame, and at that frame.
+fn shows_twice(alloc: Global, byte: u8, shown: &str) -> Result<bool, Fail> {
     let steps = [
         At(5),
         Save,
@@ -220,18 +269,19 @@ fn frame_twice(alloc: Global, byte: u8) -> Result<Vec<u8>, Fail> {
         At(byte),
         Show,
     ];
-    told(alloc, TWICE, &steps)
+    let wanted = format!(in alloc;
+        "presence 2 {shown}\ntaken\npresence 1 At 5\npresence 1 At 5\npresence 2 {shown}\n"
+    )?;
+    tells(alloc, TWICE, &steps, wanted.as_bytes())
 }
 
 #[test]
 fn a_restore_takes_back_line_hits_and_numbers(rt: HostRuntime) -> Result<(), Fail> {
-    for (byte, shown) in [(5, "Twice"), (7, "At 7"), (9, "At 9")] {
-        let found = frame_twice(rt.alloc(), byte)?;
-        let wanted = format!(in rt.alloc();
-            "presence 2 {shown}\ntaken\npresence 1 At 5\npresence 1 At 5\npresence 2 {shown}\n"
-        )?;
-        assert_eq!(rt; found.as_slice(), wanted.as_bytes(), "at {byte}");
-    }
+    let (five, seven) = (
+        shows_twice(rt.alloc(), 5, "Twice")?,
+        shows_twice(rt.alloc(), 7, "At 7")?,
+    );
+    assert!(rt; five && seven && shows_twice(rt.alloc(), 9, "At 9")?);
     Ok(())
 }
 
@@ -262,7 +312,6 @@ fn a_line_that_is_not_there_is_refused(rt: HostRuntime) -> Result<(), Fail> {
         Restore,
         Show,
     ];
-    let found = told(rt.alloc(), TWICE, &steps)?;
-    assert_eq!(rt; found.as_slice(), ANOTHER_LINE.as_bytes());
+    assert!(rt; tells(rt.alloc(), TWICE, &steps, ANOTHER_LINE.as_bytes())?);
     Ok(())
 }

@@ -1,7 +1,7 @@
 //! Events of worked sets, and where their items stand.
 
 use crate::steps::Step::{Advance, At, Item, Numbers, Restore, Save, Write};
-use crate::steps::{Step, told};
+use crate::steps::{Step, tells};
 use std::alloc::Global;
 use std::test::Fail;
 
@@ -28,8 +28,7 @@ fn a_paused_group_keeps_its_measured_number(rt: HostRuntime) -> Result<(), Fail>
         Write(3, 0),
         Advance,
     ];
-    let found = told(rt.alloc(), PAUSED, &steps)?;
-    assert_eq!(rt; found.as_slice(), PAUSED_EVENTS.as_bytes());
+    assert!(rt; tells(rt.alloc(), PAUSED, &steps, PAUSED_EVENTS.as_bytes())?);
     Ok(())
 }
 
@@ -38,8 +37,14 @@ const RECALLED: &str = "A 1 0xH0001={recall}_K:0xH0002_P:0xH0003=9\n";
 #[test]
 fn a_remembered_number_unlocks(rt: HostRuntime) -> Result<(), Fail> {
     let steps = [Write(1, 4), Write(2, 3), Advance, Write(2, 4), Advance];
-    let found = told(rt.alloc(), RECALLED, &steps)?;
-    assert_eq!(rt; found.as_slice(), b"1 Unlock { id: 1 }\n".as_slice());
+    assert!(rt;
+        tells(
+            rt.alloc(),
+            RECALLED,
+            &steps,
+            b"1 Unlock { id: 1 }\n".as_slice()
+        )?
+    );
     Ok(())
 }
 
@@ -73,8 +78,14 @@ const ATTEMPTS_STEPS: [Step; 16] = [
 
 #[test]
 fn an_attempt_tells_its_numbers(rt: HostRuntime) -> Result<(), Fail> {
-    let found = told(rt.alloc(), ATTEMPTS, &ATTEMPTS_STEPS)?;
-    assert_eq!(rt; found.as_slice(), ATTEMPTS_EVENTS.as_bytes());
+    assert!(rt;
+        tells(
+            rt.alloc(),
+            ATTEMPTS,
+            &ATTEMPTS_STEPS,
+            ATTEMPTS_EVENTS.as_bytes()
+        )?
+    );
     Ok(())
 }
 
@@ -112,7 +123,6 @@ fn items_stand_where_they_stopped(rt: HostRuntime) -> Result<(), Fail> {
         Restore,
         Item(1),
     ];
-    let found = told(rt.alloc(), STANDING, &steps)?;
-    assert_eq!(rt; found.as_slice(), STANDS.as_bytes());
+    assert!(rt; tells(rt.alloc(), STANDING, &steps, STANDS.as_bytes())?);
     Ok(())
 }

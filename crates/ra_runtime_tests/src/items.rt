@@ -2,7 +2,7 @@
 
 use crate::played::set_of;
 use crate::steps::Step::{At, Shape};
-use crate::steps::{put_shape, told};
+use crate::steps::{put_shape, tells};
 use ra_runtime::shape_of;
 use std::alloc::Global;
 use std::test::Fail;
@@ -24,8 +24,7 @@ cancel 6 2
 #[test]
 fn items_print_in_set_order(rt: HostRuntime) -> Result<(), Fail> {
     let steps = [At(0), At(5), At(6), At(7), At(0), At(5), At(9)];
-    let found = told(rt.alloc(), BOTH, &steps)?;
-    assert_eq!(rt; found.as_slice(), BOTH_LINES.as_bytes());
+    assert!(rt; tells(rt.alloc(), BOTH, &steps, BOTH_LINES.as_bytes())?);
     Ok(())
 }
 
@@ -37,22 +36,25 @@ None
 
 #[test]
 fn a_byte_is_one_cell(rt: HostRuntime) -> Result<(), Fail> {
-    let found = told(rt.alloc(), BOTH, &[Shape])?;
-    assert_eq!(rt; found.as_slice(), BOTH_SHAPE.as_bytes());
+    assert!(rt; tells(rt.alloc(), BOTH, &[Shape], BOTH_SHAPE.as_bytes())?);
     Ok(())
 }
 
-fn shape_told(alloc: Global, file: &str) -> Result<Vec<u8>, Fail> {
+fn has_shape(alloc: Global, file: &str, wanted: &[u8]) -> Result<bool, Fail> {
     let mut out = Vec::new(alloc);
+    put_shape_of(alloc, file, &mut out)?;
+    Ok(out.as_slice() == wanted)
+}
+
+fn put_shape_of(alloc: Global, file: &str, out: &mut Vec<u8>) -> Result<(), Fail> {
     let set = set_of(alloc, file)?;
     let shape = shape_of(alloc, &set)?;
-    put_shape(alloc, &shape, &mut out)?;
-    Ok(out)
+    put_shape(alloc, &shape, out)?;
+    Ok(())
 }
 
 #[test]
 fn a_set_has_its_shape_before_it_is_played(rt: HostRuntime) -> Result<(), Fail> {
-    let found = shape_told(rt.alloc(), BOTH)?;
-    assert_eq!(rt; found.as_slice(), BOTH_SHAPE.as_bytes());
+    assert!(rt; has_shape(rt.alloc(), BOTH, BOTH_SHAPE.as_bytes())?);
     Ok(())
 }

@@ -1,7 +1,7 @@
 //! Progress files of small sets: their bytes, and each refusal.
 
 use crate::steps::Step::{At, Close, Cut, Flips, Item, Lines, Put, Restore, Same, Save};
-use crate::steps::{saved, told};
+use crate::steps::{saves, tells};
 use std::test::Fail;
 
 const THREE_HITS: &str = "A 1 0xH0010=5.3.\n";
@@ -14,8 +14,7 @@ const THREE_HITS_FILE: &[u8] =
 #[test]
 fn a_saved_file_has_its_fields_in_order(rt: HostRuntime) -> Result<(), Fail> {
     let steps = [At(0), At(5), At(5), At(0), At(5), Save];
-    let found = saved(rt.alloc(), THREE_HITS, &steps)?;
-    assert_eq!(rt; found.as_slice(), THREE_HITS_FILE);
+    assert!(rt; saves(rt.alloc(), THREE_HITS, &steps, THREE_HITS_FILE)?);
     Ok(())
 }
 
@@ -39,8 +38,7 @@ fn refused_bytes_change_nothing(rt: HostRuntime) -> Result<(), Fail> {
         Same,
     ];
     let wanted = "0 accepted\nunlock 4 1\n0 accepted\nunlock 4 1\ntaken\nsame\n";
-    let found = told(rt.alloc(), THREE_HITS, &steps)?;
-    assert_eq!(rt; found.as_slice(), wanted.as_bytes());
+    assert!(rt; tells(rt.alloc(), THREE_HITS, &steps, wanted.as_bytes())?);
     Ok(())
 }
 
@@ -62,8 +60,14 @@ fn what_was_earned_is_told_no_more(rt: HostRuntime) -> Result<(), Fail> {
     ];
     let wanted =
         "measured 1 1 1\nmeasured 2 1 2\nunlock 2 1\ntaken\nsame\nSome(Achievement { state: Triggered, measured: 2 })\n";
-    let found = told(rt.alloc(), "A 1 M:0xH0010=5.2.\n", &steps)?;
-    assert_eq!(rt; found.as_slice(), wanted.as_bytes());
+    assert!(rt;
+        tells(
+            rt.alloc(),
+            "A 1 M:0xH0010=5.2.\n",
+            &steps,
+            wanted.as_bytes()
+        )?
+    );
     Ok(())
 }
 
@@ -104,8 +108,7 @@ fn each_refusal_tells_what_differs(rt: HostRuntime) -> Result<(), Fail> {
         Save,
         Restore,
     ];
-    let found = told(rt.alloc(), THREE_HITS, &steps)?;
-    assert_eq!(rt; found.as_slice(), REFUSALS.as_bytes());
+    assert!(rt; tells(rt.alloc(), THREE_HITS, &steps, REFUSALS.as_bytes())?);
     Ok(())
 }
 
@@ -137,7 +140,13 @@ fn counts_stand_still_at_their_ends(rt: HostRuntime) -> Result<(), Fail> {
         Close,
         Same,
     ];
-    let found = told(rt.alloc(), LAST_NUMBERS, &steps)?;
-    assert_eq!(rt; found.as_slice(), b"taken\nsame\n".as_slice());
+    assert!(rt;
+        tells(
+            rt.alloc(),
+            LAST_NUMBERS,
+            &steps,
+            b"taken\nsame\n".as_slice()
+        )?
+    );
     Ok(())
 }

@@ -63,6 +63,28 @@ pub(crate) fn saved(alloc: Global, file: &str, steps: &[Step]) -> Result<Vec<u8>
     Ok(out)
 }
 
+/// Whether that is what the steps tell.
+pub(crate) fn tells(
+    alloc: Global,
+    file: &str,
+    steps: &[Step],
+    wanted: &[u8],
+) -> Result<bool, Fail> {
+    let found = told(alloc, file, steps)?;
+    Ok(found.as_slice() == wanted)
+}
+
+/// Whether these are the bytes of the save that the steps keep.
+pub(crate) fn saves(
+    alloc: Global,
+    file: &str,
+    steps: &[Step],
+    wanted: &[u8],
+) -> Result<bool, Fail> {
+    let found = saved(alloc, file, steps)?;
+    Ok(found.as_slice() == wanted)
+}
+
 fn take_and_keep(
     alloc: Global,
     played: &mut Played,
