@@ -1,26 +1,16 @@
 //! A set that an emulator loads, and its first frames.
 
-ghost use Rattle.std.specs.Prelude.{◌≡◌, IfOk, length};
+ghost use Rattle.std.specs.Prelude.{◌≡◌, length};
 
 use crate::{load, play_frame};
 use ra_runtime::{Event, Runtime};
 use std::alloc::Global;
-use std::test::Fail;
 
 const SET: &str = "A 1 0xH0010=5
 P
 Display:
 Lives @Number(0xH0010)
 ";
-
-fn loaded(alloc: Global) -> Result<Runtime, Fail>
-    ensures { IfOk result (λ runtime. length runtime.image ≡ 64) }
-{
-    match load(alloc, SET.as_bytes(), 64) {
-        Ok(runtime) => Ok(runtime),
-        Err(_) => Err(Fail::from("no set")),
-    }
-}
 
 // Whether a frame behind one write of this byte tells these events and this line.
 fn tells(alloc: Global, runtime: &mut Runtime, byte: u8, events: &[Event], line: &str) -> bool
@@ -47,12 +37,17 @@ fn plays(alloc: Global, runtime: &mut Runtime) -> bool
         )
 }
 
+// Whether the set is loaded, and then plays so.
+fn loads_and_plays(alloc: Global) -> bool {
+    match load(alloc, SET.as_bytes(), 64) {
+        Ok(mut runtime) => plays(alloc, &mut runtime),
+        Err(_) => false,
+    }
+}
+
 #[test]
-fn a_frame_tells_its_events_and_the_presence(rt: HostRuntime) -> Result<(), Fail> {
-    let mut runtime = loaded(rt.alloc())?;
-    let plays = plays(rt.alloc(), &mut runtime);
-    assert!(rt; plays);
-    Ok(())
+fn a_frame_tells_its_events_and_the_presence(rt: HostRuntime) {
+    assert!(rt; loads_and_plays(rt.alloc()));
 }
 
 // Whether a text is refused as no set at this place.
