@@ -1,6 +1,6 @@
 //! Faults of the files and of the output, at every call.
 
-use crate::jobs::{FIVES, RUN, THREE_HITS, status_of};
+use crate::jobs::{FIVES, RUN, THREE_HITS, failing_files, status_of};
 use crate::progress::{RESTORE, SAVE};
 use ra_io::{Files, MemFiles, MemSink, Sink, SinkFailed};
 use ra_session::RunFiles;
@@ -42,11 +42,8 @@ fn put(calls: &[u64]) -> Faults<'_> {
 
 // Files of a set and the trace of fives, where these reads and puts fail.
 fn failing(alloc: Global, set: &[u8], faults: &Faults<'_>) -> Result<MemFiles, OutOfMemory> {
-    let mut files = MemFiles::new(alloc)?;
-    files.add("S", set)?;
-    files.add("T", FIVES)?;
-    files.fail(faults.reads.to_vec(alloc)?, faults.puts.to_vec(alloc)?);
-    Ok(files)
+    let given = [("S", set), ("T", FIVES)];
+    failing_files(alloc, &given, faults.reads, faults.puts)
 }
 
 // Whether a run ends so, and whether it then has put its file just where it is done.
@@ -57,11 +54,25 @@ fn fails_so(
     status: u8,
     text: &[u8],
 ) -> Result<bool, OutOfMemory> {
+    let writes = faults.writes.to_vec(alloc)?;
     let mut files = failing(alloc, THREE_HITS, faults)?;
-    let mut out = MemSink::new(alloc, faults.most.max(1), faults.writes.to_vec(alloc)?);
+    let mut out = MemSink::new(alloc, faults.most.max(1), writes);
     let ends = status_of(alloc, run, &mut files, &mut out) == status && out.taken() == text;
     let kept = files.read_at("p", 0, &mut [0; 64]).is_ok();
     Ok(ends && kept == (status == 0 && run.save.is_some()))
+}
+
+// A run, what fails, and its status and text.
+type Row<'a> = (&'a RunFiles<'a>, Faults<'a>, u8, &'a [u8]);
+
+// The place of the first run that does not end so.
+fn other_ending(alloc: Global, rows: &[Row<'_>]) -> Result<Option<usize>, OutOfMemory> {
+    for (place, (run, faults, status, text)) in rows.iter().enumerate() {
+        if !fails_so(alloc, *run, faults, *status, *text)? {
+            return Ok(Some(place));
+        }
+    }
+    Ok(None)
 }
 
 // The set is read once, and once more at its end, and the trace once: nothing behind its end record is asked for. A
@@ -78,7 +89,7 @@ fn a_fault_ends_a_run(rt: HostRuntime) -> Result<(), OutOfMemory> {
         writes: &[2],
         ..NONE
     };
-    let rows: [(&RunFiles<'_>, Faults<'_>, u8, &[u8]); 10] = [
+    let rows: [Row<'_>; 10] = [
         (&SAVE, read(&[1]), 4, b"read fault\n"),
         (&SAVE, read(&[2]), 4, b"read fault\n"),
         (&SAVE, read(&[3]), 4, b"read fault\n"),
@@ -90,19 +101,12 @@ fn a_fault_ends_a_run(rt: HostRuntime) -> Result<(), OutOfMemory> {
         (&RESTORE, put(&[1]), 4, b"read fault\n"),
         (&RUN, NONE, 0, b"unlock 4 1\n"),
     ];
-    for (run, faults, status, text) in rows {
-        assert!(rt;
-            fails_so(rt.alloc(), run, &faults, status, text)?,
-            "{run:?} {faults:?}"
-        );
-    }
+    assert_eq!(rt; other_ending(rt.alloc(), &rows)?, None);
     Ok(())
 }
 
-// A write that takes a byte and fails at a call leaves the bytes before it, and none is tried again.
-#[test]
-fn a_failing_write_leaves_a_front(rt: HostRuntime) -> Result<(), OutOfMemory> {
-    let text = b"unlock 4 1\n";
+// The first call whose write fails that leaves something else than what was written before.
+fn other_front(alloc: Global, text: &[u8]) -> Result<Option<u8>, OutOfMemory> {
     for call in 1..=12u8 {
         let written = usize::from(call) - 1;
         let calls = [u64::from(call)];
@@ -112,11 +116,23 @@ fn a_failing_write_leaves_a_front(rt: HostRuntime) -> Result<(), OutOfMemory> {
             ..NONE
         };
         let status = if written < text.len() { 5 } else { 0 };
-        assert!(rt;
-            fails_so(rt.alloc(), &SAVE, &faults, status, &text[..written])?,
-            "call {call}"
-        );
+        if !fails_so(
+            alloc,
+            &SAVE,
+            &faults,
+            status,
+            &text[..written.min(text.len())],
+        )? {
+            return Ok(Some(call));
+        }
     }
+    Ok(None)
+}
+
+// A write that takes a byte and fails at a call leaves the bytes before it, and none is tried again.
+#[test]
+fn a_failing_write_leaves_a_front(rt: HostRuntime) -> Result<(), OutOfMemory> {
+    assert_eq!(rt; other_front(rt.alloc(), b"unlock 4 1\n")?, None);
     Ok(())
 }
 
@@ -165,20 +181,29 @@ fn wary_so(
     Ok(status_of(alloc, &SAVE, &mut files, &mut out) == status && out.text.as_slice() == text)
 }
 
+// A set, whether the first write fails, and the status and the text.
+type Wariness = (&'static [u8], bool, u8, &'static [u8]);
+
+const WARY: [Wariness; 4] = [
+    (THREE_HITS, false, 0, b"unlock 4 1\n"),
+    (THREE_HITS, true, 5, b""),
+    (b"A 1 0xH0010=6\n", false, 0, b""),
+    (b"A 1 0xH0010=6\n", true, 0, b""),
+];
+
+// The place of the first run that does not end so.
+fn other_wary(alloc: Global, rows: &[Wariness]) -> Result<Option<usize>, OutOfMemory> {
+    for (place, (set, fresh, status, text)) in rows.iter().enumerate() {
+        if !wary_so(alloc, *set, *fresh, *status, *text)? {
+            return Ok(Some(place));
+        }
+    }
+    Ok(None)
+}
+
 // Frames that print nothing write no piece, and a write that failed is not tried again.
 #[test]
 fn no_piece_is_empty_and_no_write_comes_again(rt: HostRuntime) -> Result<(), OutOfMemory> {
-    let rows: [(&[u8], bool, u8, &[u8]); 4] = [
-        (THREE_HITS, false, 0, b"unlock 4 1\n"),
-        (THREE_HITS, true, 5, b""),
-        (b"A 1 0xH0010=6\n", false, 0, b""),
-        (b"A 1 0xH0010=6\n", true, 0, b""),
-    ];
-    for (set, fresh, status, text) in rows {
-        assert!(rt;
-            wary_so(rt.alloc(), set, fresh, status, text)?,
-            "{set:?} {fresh}"
-        );
-    }
+    assert_eq!(rt; other_wary(rt.alloc(), &WARY)?, None);
     Ok(())
 }

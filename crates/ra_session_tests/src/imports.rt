@@ -1,5 +1,6 @@
 //! Sets that are taken of documents and put, and what is left where they are not.
 
+use crate::jobs::failing_files;
 use ra_io::{Files, MemFiles, MemSink};
 use ra_session::{finish, import_job};
 use ra_text::OutOfMemory;
@@ -51,11 +52,10 @@ fn imports_so(
     text: &[u8],
     left: &[u8],
 ) -> Result<bool, OutOfMemory> {
-    let mut files = MemFiles::new(alloc)?;
-    files.add("F", document)?;
-    files.add("S", BEFORE)?;
-    files.fail(faults.reads.to_vec(alloc)?, faults.puts.to_vec(alloc)?);
-    let mut out = MemSink::new(alloc, 16, faults.writes.to_vec(alloc)?);
+    let given = [("F", document), ("S", BEFORE)];
+    let writes = faults.writes.to_vec(alloc)?;
+    let mut files = failing_files(alloc, &given, faults.reads, faults.puts)?;
+    let mut out = MemSink::new(alloc, 16, writes);
     let ending = import_job(alloc, "F", "S", &mut files, &mut out);
     let ends = finish(alloc, ending, &mut out) == status && out.taken() == text;
     Ok(ends && holds(&mut files, left))
@@ -101,52 +101,93 @@ const ROWS: [Row; 9] = [
     ),
 ];
 
+// The place of the first import that does not end so.
+fn other_import(alloc: Global, rows: &[Row]) -> Result<Option<usize>, OutOfMemory> {
+    for (place, (document, status, text, left)) in rows.iter().enumerate() {
+        if !imports_so(alloc, *document, &NONE, *status, *text, *left)? {
+            return Ok(Some(place));
+        }
+    }
+    Ok(None)
+}
+
 #[test]
 fn an_import_puts_the_set_of_its_document(rt: HostRuntime) -> Result<(), OutOfMemory> {
-    for (document, status, text, left) in ROWS {
-        assert!(rt;
-            imports_so(rt.alloc(), document, &NONE, status, text, left)?,
-            "{document:?}"
-        );
-    }
+    assert_eq!(rt; other_import(rt.alloc(), &ROWS)?, None);
     Ok(())
+}
+
+// What fails, and the status, the text, and what the name holds then.
+type FaultRow = (Faults<'static>, u8, &'static [u8], &'static [u8]);
+
+const FAULTS: [FaultRow; 5] = [
+    (
+        Faults {
+            reads: &[2],
+            puts: &[],
+            writes: &[],
+        },
+        4,
+        b"read fault\n",
+        BEFORE,
+    ),
+    (
+        Faults {
+            reads: &[],
+            puts: &[1],
+            writes: &[],
+        },
+        9,
+        b"save fault\n",
+        BEFORE,
+    ),
+    (
+        Faults {
+            reads: &[],
+            puts: &[],
+            writes: &[1],
+        },
+        5,
+        b"",
+        SET,
+    ),
+    (
+        Faults {
+            reads: &[],
+            puts: &[],
+            writes: &[2],
+        },
+        5,
+        b"imported achieve",
+        SET,
+    ),
+    (
+        Faults {
+            reads: &[],
+            puts: &[1],
+            writes: &[1],
+        },
+        5,
+        b"",
+        BEFORE,
+    ),
+];
+
+// The place of the first import that does not end so.
+fn other_fault(alloc: Global, rows: &[FaultRow]) -> Result<Option<usize>, OutOfMemory> {
+    for (place, (faults, status, text, left)) in rows.iter().enumerate() {
+        if !imports_so(alloc, DOCUMENT, faults, *status, *text, *left)? {
+            return Ok(Some(place));
+        }
+    }
+    Ok(None)
 }
 
 // The put comes before the line, so of a put and a write that fail the status is that of the put, and behind a put a write
 // that fails leaves the set.
 #[test]
 fn a_fault_ends_an_import(rt: HostRuntime) -> Result<(), OutOfMemory> {
-    let read = Faults {
-        reads: &[2],
-        ..NONE
-    };
-    let put = Faults { puts: &[1], ..NONE };
-    let first_write = Faults {
-        writes: &[1],
-        ..NONE
-    };
-    let second_write = Faults {
-        writes: &[2],
-        ..NONE
-    };
-    let put_and_write = Faults {
-        puts: &[1],
-        writes: &[1],
-        ..NONE
-    };
-    let rows: [(Faults<'_>, u8, &[u8], &[u8]); 5] = [
-        (read, 4, b"read fault\n", BEFORE),
-        (put, 9, b"save fault\n", BEFORE),
-        (first_write, 5, b"", SET),
-        (second_write, 5, b"imported achieve", SET),
-        (put_and_write, 5, b"", BEFORE),
-    ];
-    for (faults, status, text, left) in rows {
-        assert!(rt;
-            imports_so(rt.alloc(), DOCUMENT, &faults, status, text, left)?,
-            "{faults:?}"
-        );
-    }
+    assert_eq!(rt; other_fault(rt.alloc(), &FAULTS)?, None);
     Ok(())
 }
 
@@ -171,33 +212,42 @@ fn long_imports_so(
     imports_so(alloc, document.as_slice(), &NONE, status, text, left)
 }
 
+// How long a document is, and the status, the text, and what the name holds then.
+type LongRow = (usize, u8, &'static [u8], &'static [u8]);
+
+const LONG: [LongRow; 3] = [
+    (
+        16_777_216,
+        0,
+        b"imported achievements 0 leaderboards 0 presence 0\n",
+        b"",
+    ),
+    (
+        16_777_217,
+        10,
+        b"import refused: bytes 16777217 over 16777216\n",
+        BEFORE,
+    ),
+    (
+        16_777_300,
+        10,
+        b"import refused: bytes 16777217 over 16777216\n",
+        BEFORE,
+    ),
+];
+
+// The place of the first length at which an import does not end so.
+fn other_long(alloc: Global, rows: &[LongRow]) -> Result<Option<usize>, OutOfMemory> {
+    for (place, (len, status, text, left)) in rows.iter().enumerate() {
+        if !long_imports_so(alloc, *len, *status, *text, *left)? {
+            return Ok(Some(place));
+        }
+    }
+    Ok(None)
+}
+
 #[test]
 fn a_document_has_a_limit(rt: HostRuntime) -> Result<(), OutOfMemory> {
-    let rows: [(usize, u8, &[u8], &[u8]); 3] = [
-        (
-            16_777_216,
-            0,
-            b"imported achievements 0 leaderboards 0 presence 0\n",
-            b"",
-        ),
-        (
-            16_777_217,
-            10,
-            b"import refused: bytes 16777217 over 16777216\n",
-            BEFORE,
-        ),
-        (
-            16_777_300,
-            10,
-            b"import refused: bytes 16777217 over 16777216\n",
-            BEFORE,
-        ),
-    ];
-    for (len, status, text, left) in rows {
-        assert!(rt;
-            long_imports_so(rt.alloc(), len, status, text, left)?,
-            "{len}"
-        );
-    }
+    assert_eq!(rt; other_long(rt.alloc(), &LONG)?, None);
     Ok(())
 }

@@ -1,6 +1,6 @@
 //! Jobs over files and an output in memory, and what they answer and print.
 
-use ra_io::{Files, Sink, SureFiles, SureSink};
+use ra_io::{Files, MemFiles, Sink, SureFiles, SureSink};
 use ra_session::{RunFiles, check_job, finish, run_job};
 use ra_text::OutOfMemory;
 use std::alloc::Global;
@@ -43,12 +43,45 @@ pub(crate) fn ends_so<F: Files>(
     status_of(alloc, run, files, &mut out) == status && out.taken() == text
 }
 
+/// Files of these names and bytes.
+pub(crate) fn files_with(alloc: Global, given: &[(&str, &[u8])]) -> Result<SureFiles, OutOfMemory> {
+    let mut files = SureFiles::new(alloc)?;
+    add_all(&mut files, given)?;
+    Ok(files)
+}
+
+fn add_all(files: &mut SureFiles, given: &[(&str, &[u8])]) -> Result<(), OutOfMemory> {
+    for (name, bytes) in given {
+        files.add(*name, *bytes)?;
+    }
+    Ok(())
+}
+
 /// Files of a set and a trace.
 pub(crate) fn files_of(alloc: Global, set: &[u8], trace: &[u8]) -> Result<SureFiles, OutOfMemory> {
-    let mut files = SureFiles::new(alloc)?;
-    files.add("S", set)?;
-    files.add("T", trace)?;
+    files_with(alloc, &[("S", set), ("T", trace)])
+}
+
+/// Files of these names and bytes, of which the reads and the puts of these numbers fail.
+pub(crate) fn failing_files(
+    alloc: Global,
+    given: &[(&str, &[u8])],
+    reads: &[u64],
+    puts: &[u64],
+) -> Result<MemFiles, OutOfMemory> {
+    let reads = reads.to_vec(alloc)?;
+    let puts = puts.to_vec(alloc)?;
+    let mut files = MemFiles::new(alloc)?;
+    files.fail(reads, puts);
+    add_failing(&mut files, given)?;
     Ok(files)
+}
+
+fn add_failing(files: &mut MemFiles, given: &[(&str, &[u8])]) -> Result<(), OutOfMemory> {
+    for (name, bytes) in given {
+        files.add(*name, *bytes)?;
+    }
+    Ok(())
 }
 
 /// Whether a run of a set over a trace answers this status and prints this text.

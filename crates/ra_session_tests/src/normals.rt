@@ -1,7 +1,7 @@
 //! Normal texts of sets, put and told, and what they print.
 
-use crate::jobs::run_ends_so;
-use ra_io::{Files, MemFiles, MemSink, SureFiles, SureSink};
+use crate::jobs::{failing_files, files_with, run_ends_so};
+use ra_io::{Files, MemSink, SureSink};
 use ra_session::{finish, normal_job};
 use ra_text::OutOfMemory;
 use std::alloc::Global;
@@ -37,9 +37,7 @@ fn normal_is(
     text: &[u8],
     left: &[u8],
 ) -> Result<bool, OutOfMemory> {
-    let mut files = SureFiles::new(alloc)?;
-    files.add("S", set)?;
-    files.add("N", BEFORE)?;
+    let mut files = files_with(alloc, &[("S", set), ("N", BEFORE)])?;
     let mut out = SureSink::new(alloc);
     let ending = normal_job(alloc, "S", "N", &mut files, &mut out);
     let ends = finish(alloc, ending, &mut out) == status && out.taken() == text;
@@ -85,19 +83,25 @@ const ROWS: [Row; 8] = [
     ),
 ];
 
+// The place of the first set whose normal text does not end so.
+fn other_normal(alloc: Global, rows: &[Row]) -> Result<Option<usize>, OutOfMemory> {
+    for (place, (set, status, text, left)) in rows.iter().enumerate() {
+        if !normal_is(alloc, *set, *status, *text, *left)? {
+            return Ok(Some(place));
+        }
+    }
+    Ok(None)
+}
+
 #[test]
 fn a_normal_text_is_put_and_told(rt: HostRuntime) -> Result<(), OutOfMemory> {
-    for (set, status, text, left) in ROWS {
-        assert!(rt; normal_is(rt.alloc(), set, status, text, left)?, "{set:?}");
-    }
+    assert_eq!(rt; other_normal(rt.alloc(), &ROWS)?, None);
     Ok(())
 }
 
 // Whether the normal text of a set has so many conditions, or passes the limit so, and nothing is put then.
 fn long_normal_is(alloc: Global, set: &[u8], status: u8, text: &[u8]) -> Result<bool, OutOfMemory> {
-    let mut files = SureFiles::new(alloc)?;
-    files.add("S", set)?;
-    files.add("N", BEFORE)?;
+    let mut files = files_with(alloc, &[("S", set), ("N", BEFORE)])?;
     let mut out = SureSink::new(alloc);
     let ending = normal_job(alloc, "S", "N", &mut files, &mut out);
     let ends = finish(alloc, ending, &mut out) == status && out.taken() == text;
@@ -114,31 +118,51 @@ fn ones(alloc: Global, count: usize, separator: u8) -> Result<Vec<u8>, OutOfMemo
     Ok(set)
 }
 
+// Whether the normal text of so many ones ends so.
+fn ones_normal_is(
+    alloc: Global,
+    count: usize,
+    separator: u8,
+    status: u8,
+    text: &[u8],
+) -> Result<bool, OutOfMemory> {
+    let set = ones(alloc, count, separator)?;
+    long_normal_is(alloc, set.as_slice(), status, text)
+}
+
+// A count of terms, what stands between them, and the status and the text.
+type OnesRow = (usize, u8, u8, &'static [u8]);
+
+const ONES: [OnesRow; 3] = [
+    (
+        65_536,
+        b'_',
+        11,
+        b"normal refused: conditions 65537 over 65536\n",
+    ),
+    (32_768, b'$', 0, b"normal bytes 262176 conditions 65536\n"),
+    (
+        32_769,
+        b'$',
+        11,
+        b"normal refused: conditions 65538 over 65536\n",
+    ),
+];
+
+// The place of the first count of terms whose normal text does not end so.
+fn other_ones(alloc: Global, rows: &[OnesRow]) -> Result<Option<usize>, OutOfMemory> {
+    for (place, (count, separator, status, text)) in rows.iter().enumerate() {
+        if !ones_normal_is(alloc, *count, *separator, *status, *text)? {
+            return Ok(Some(place));
+        }
+    }
+    Ok(None)
+}
+
 // One part has a condition more than terms, and as many parts have twice as many conditions.
 #[test]
 fn a_normal_text_has_a_limit_of_conditions(rt: HostRuntime) -> Result<(), OutOfMemory> {
-    let rows: [(usize, u8, u8, &[u8]); 3] = [
-        (
-            65_536,
-            b'_',
-            11,
-            b"normal refused: conditions 65537 over 65536\n",
-        ),
-        (32_768, b'$', 0, b"normal bytes 262176 conditions 65536\n"),
-        (
-            32_769,
-            b'$',
-            11,
-            b"normal refused: conditions 65538 over 65536\n",
-        ),
-    ];
-    for (count, separator, status, text) in rows {
-        let set = ones(rt.alloc(), count, separator)?;
-        assert!(rt;
-            long_normal_is(rt.alloc(), set.as_slice(), status, text)?,
-            "{count}"
-        );
-    }
+    assert_eq!(rt; other_ones(rt.alloc(), &ONES)?, None);
     Ok(())
 }
 
@@ -151,23 +175,42 @@ fn long_script(alloc: Global, len: usize) -> Result<Vec<u8>, OutOfMemory> {
     Ok(set)
 }
 
+// Whether the normal text of a script up to this length ends so.
+fn script_normal_is(
+    alloc: Global,
+    len: usize,
+    status: u8,
+    text: &[u8],
+) -> Result<bool, OutOfMemory> {
+    let set = long_script(alloc, len)?;
+    long_normal_is(alloc, set.as_slice(), status, text)
+}
+
+// A length, and the status and the text.
+type ScriptRow = (usize, u8, &'static [u8]);
+
+const SCRIPTS: [ScriptRow; 2] = [
+    (4_194_298, 0, b"normal bytes 4194304 conditions 2\n"),
+    (
+        4_194_299,
+        11,
+        b"normal refused: bytes 4194305 over 4194304\n",
+    ),
+];
+
+// The place of the first length at which a normal text does not end so.
+fn other_script(alloc: Global, rows: &[ScriptRow]) -> Result<Option<usize>, OutOfMemory> {
+    for (place, (len, status, text)) in rows.iter().enumerate() {
+        if !script_normal_is(alloc, *len, *status, *text)? {
+            return Ok(Some(place));
+        }
+    }
+    Ok(None)
+}
+
 #[test]
 fn a_normal_text_has_a_limit_of_bytes(rt: HostRuntime) -> Result<(), OutOfMemory> {
-    let rows: [(usize, u8, &[u8]); 2] = [
-        (4_194_298, 0, b"normal bytes 4194304 conditions 2\n"),
-        (
-            4_194_299,
-            11,
-            b"normal refused: bytes 4194305 over 4194304\n",
-        ),
-    ];
-    for (len, status, text) in rows {
-        let set = long_script(rt.alloc(), len)?;
-        assert!(rt;
-            long_normal_is(rt.alloc(), set.as_slice(), status, text)?,
-            "{len}"
-        );
-    }
+    assert_eq!(rt; other_script(rt.alloc(), &SCRIPTS)?, None);
     Ok(())
 }
 
@@ -192,21 +235,27 @@ const FAULTS: [FaultRow; 4] = [
 // Whether a fault ends the job so. A write takes at most sixteen bytes.
 fn fault_ends_so(alloc: Global, row: &FaultRow) -> Result<bool, OutOfMemory> {
     let (reads, puts, writes, status, text, left) = *row;
-    let mut files = MemFiles::new(alloc)?;
-    files.add("S", SET)?;
-    files.add("N", BEFORE)?;
-    files.fail(reads.to_vec(alloc)?, puts.to_vec(alloc)?);
-    let mut out = MemSink::new(alloc, 16, writes.to_vec(alloc)?);
+    let writes = writes.to_vec(alloc)?;
+    let mut files = failing_files(alloc, &[("S", SET), ("N", BEFORE)], reads, puts)?;
+    let mut out = MemSink::new(alloc, 16, writes);
     let ending = normal_job(alloc, "S", "N", &mut files, &mut out);
     let ends = finish(alloc, ending, &mut out) == status && out.taken() == text;
     Ok(ends && holds(&mut files, left))
 }
 
+// The place of the first fault that does not end the job so.
+fn other_fault(alloc: Global, rows: &[FaultRow]) -> Result<Option<usize>, OutOfMemory> {
+    for (place, row) in rows.iter().enumerate() {
+        if !fault_ends_so(alloc, row)? {
+            return Ok(Some(place));
+        }
+    }
+    Ok(None)
+}
+
 #[test]
 fn a_fault_ends_a_normal_text(rt: HostRuntime) -> Result<(), OutOfMemory> {
-    for row in FAULTS {
-        assert!(rt; fault_ends_so(rt.alloc(), &row)?, "{row:?}");
-    }
+    assert_eq!(rt; other_fault(rt.alloc(), &FAULTS)?, None);
     Ok(())
 }
 
@@ -217,23 +266,33 @@ const ATTEMPTS: &[u8] =
 const SUBMITS: &[u8] =
     b"submit 1 7 42 42\nstart 4 7\ntrack 4 7 42\ntrack 5 7 60\nsubmit 6 7 60 60\n";
 
+// Sets with their normal texts, and what they print.
+const SAME: [(&'static [u8], &'static [u8]); 4] = [
+    (SET, b""),
+    (NORMAL, b""),
+    (
+        b"L 7 VALUE STA:0xH0001=1::CAN:0=1::SUB:0xH0002=1::VAL:0xH0003*2\n",
+        SUBMITS,
+    ),
+    (
+        b"L 7 VALUE STA:0xH0001=1::CAN:0=1::SUB:0xH0002=1::VAL:A:0xH0003*2_M:0\n",
+        SUBMITS,
+    ),
+];
+
+// The place of the first set that prints something else.
+fn other_print(alloc: Global, rows: &[(&[u8], &[u8])]) -> Result<Option<usize>, OutOfMemory> {
+    for (place, (set, text)) in rows.iter().enumerate() {
+        if !run_ends_so(alloc, *set, ATTEMPTS, 0, *text)? {
+            return Ok(Some(place));
+        }
+    }
+    Ok(None)
+}
+
 // Sets with their normal texts print the same.
 #[test]
 fn a_normal_text_prints_the_same(rt: HostRuntime) -> Result<(), OutOfMemory> {
-    let rows: [(&[u8], &[u8]); 4] = [
-        (SET, b""),
-        (NORMAL, b""),
-        (
-            b"L 7 VALUE STA:0xH0001=1::CAN:0=1::SUB:0xH0002=1::VAL:0xH0003*2\n",
-            SUBMITS,
-        ),
-        (
-            b"L 7 VALUE STA:0xH0001=1::CAN:0=1::SUB:0xH0002=1::VAL:A:0xH0003*2_M:0\n",
-            SUBMITS,
-        ),
-    ];
-    for (set, text) in rows {
-        assert!(rt; run_ends_so(rt.alloc(), set, ATTEMPTS, 0, text)?, "{set:?}");
-    }
+    assert_eq!(rt; other_print(rt.alloc(), &SAME)?, None);
     Ok(())
 }

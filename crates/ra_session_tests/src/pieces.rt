@@ -1,6 +1,6 @@
 //! Traces that come in pieces, and a read of one that fails at a place.
 
-use crate::jobs::{FIVES, RUN, THREE_HITS, status_of};
+use crate::jobs::{FIVES, RUN, THREE_HITS, files_of, status_of};
 use ra_io::{Failed, Files, PutFailed, SureFiles, SureSink};
 use ra_text::OutOfMemory;
 use std::alloc::Global;
@@ -45,15 +45,13 @@ pub(crate) fn pieced(
     given: (&[u8], &[u8]),
     reads: (usize, u64),
 ) -> Result<PiecedFiles, OutOfMemory> {
-    let mut files = PiecedFiles {
-        files: SureFiles::new(alloc)?,
+    let files = files_of(alloc, given.0, given.1)?;
+    Ok(PiecedFiles {
+        files,
         most: reads.0,
         failing: reads.1,
         faults: 0,
-    };
-    files.files.add("S", given.0)?;
-    files.files.add("T", given.1)?;
-    Ok(files)
+    })
 }
 
 // Whether a run over so many bytes a read, of which one may fail, ends so.
@@ -72,27 +70,36 @@ fn pieces_end_so(
 // A place at which no read begins.
 const NOWHERE: u64 = u64::MAX;
 
+// How many bytes a read gives, the place of a read that fails, and the status and the text.
+type Row = (usize, u64, u8, &'static [u8]);
+
+const PIECES: [Row; 4] = [
+    (1, NOWHERE, 0, b"unlock 4 1\n"),
+    (7, NOWHERE, 0, b"unlock 4 1\n"),
+    (65_536, NOWHERE, 0, b"unlock 4 1\n"),
+    (1, 38, 4, b"unlock 4 1\nread fault\n"),
+];
+
+// The place of the first run over the trace of fives that does not end so.
+fn other_pieces(alloc: Global, rows: &[Row]) -> Result<Option<usize>, OutOfMemory> {
+    for (place, (most, failing, status, text)) in rows.iter().enumerate() {
+        if !pieces_end_so(
+            alloc,
+            (THREE_HITS, FIVES),
+            (*most, *failing),
+            *status,
+            *text,
+        )? {
+            return Ok(Some(place));
+        }
+    }
+    Ok(None)
+}
+
 // The trace has 39 bytes, the last of which is its end record.
 #[test]
 fn plays_a_trace_in_any_pieces(rt: HostRuntime) -> Result<(), OutOfMemory> {
-    let rows: [(usize, u64, u8, &[u8]); 4] = [
-        (1, NOWHERE, 0, b"unlock 4 1\n"),
-        (7, NOWHERE, 0, b"unlock 4 1\n"),
-        (65_536, NOWHERE, 0, b"unlock 4 1\n"),
-        (1, 38, 4, b"unlock 4 1\nread fault\n"),
-    ];
-    for (most, failing, status, text) in rows {
-        assert!(rt;
-            pieces_end_so(
-                rt.alloc(),
-                (THREE_HITS, FIVES),
-                (most, failing),
-                status,
-                text
-            )?,
-            "{most} bytes a read"
-        );
-    }
+    assert_eq!(rt; other_pieces(rt.alloc(), &PIECES)?, None);
     Ok(())
 }
 
@@ -109,20 +116,22 @@ fn filled_twice(alloc: Global) -> Result<Vec<u8>, OutOfMemory> {
     Ok(trace)
 }
 
+// Whether a run over the longest writes, so many bytes a read, unlocks.
+fn longest_unlocks(alloc: Global, trace: &[u8], most: usize) -> Result<bool, OutOfMemory> {
+    let set = b"A 1 d0xH0010=5\n";
+    pieces_end_so(alloc, (set, trace), (most, NOWHERE), 0, b"unlock 1 1\n")
+}
+
+// The same for some and for many bytes a read.
+fn both_unlock(alloc: Global) -> Result<bool, OutOfMemory> {
+    let trace = filled_twice(alloc)?;
+    let some = longest_unlocks(alloc, trace.as_slice(), 7)?;
+    let many = longest_unlocks(alloc, trace.as_slice(), 65_536)?;
+    Ok(some && many)
+}
+
 #[test]
 fn plays_the_longest_writes_in_pieces(rt: HostRuntime) -> Result<(), OutOfMemory> {
-    let trace = filled_twice(rt.alloc())?;
-    for most in [7, 65_536] {
-        assert!(rt;
-            pieces_end_so(
-                rt.alloc(),
-                (b"A 1 d0xH0010=5\n", trace.as_slice()),
-                (most, NOWHERE),
-                0,
-                b"unlock 1 1\n"
-            )?,
-            "{most} bytes a read"
-        );
-    }
+    assert!(rt; both_unlock(rt.alloc())?);
     Ok(())
 }

@@ -1,7 +1,7 @@
 //! Worked runs that go on from a progress file, and that put one.
 
 use crate::displays::{FOREST, FOREST_TRACE};
-use crate::jobs::{FIVES, THREE_HITS, ends_so, files_of, status_of};
+use crate::jobs::{FIVES, THREE_HITS, ends_so, files_of, files_with, status_of};
 use ra_io::{Files, SureFiles, SureSink};
 use ra_session::RunFiles;
 use ra_text::OutOfMemory;
@@ -41,6 +41,16 @@ const KEPT_OF_SIXES: &[u8] =
 const BAD_STATE: &[u8] =
     b"RAPG\x01\x95\xc3\x20\x26\xa3\xa7\xb6\xfc\x1a\xa5\x3d\x35\x5d\x82\xba\x02\x05\0\0\0\0\0\0\0\x05\0\0\0\x07\0\0\0\0\x03\0\0\0\x7f\x39\x8f\x95\x52\x2a\x98\x95\x41\xae\xab\xfa\xf5\xfb\x0d\xc0";
 
+// What the file p has before a run.
+const OLDER: &[u8] = b"an older file";
+
+// Two texts, one behind the other.
+fn joined(alloc: Global, front: &[u8], back: &[u8]) -> Result<Vec<u8>, OutOfMemory> {
+    let mut text = front.to_vec(alloc)?;
+    text.extend_from_slice(back)?;
+    Ok(text)
+}
+
 // Whether a file has these bytes.
 fn has(files: &mut SureFiles, name: &str, bytes: &[u8]) -> bool {
     let mut buf = [0; 512];
@@ -59,8 +69,8 @@ fn puts(
     text: &[u8],
     kept: &[u8],
 ) -> Result<bool, OutOfMemory> {
-    let mut files = files_of(alloc, set, trace)?;
-    files.add("p", b"an older file")?;
+    let given = [("S", set), ("T", trace), ("p", OLDER)];
+    let mut files = files_with(alloc, &given)?;
     let run = RunFiles {
         set: "S",
         trace: "T",
@@ -70,27 +80,42 @@ fn puts(
     Ok(ends_so(alloc, &run, &mut files, 0, text) && has(&mut files, save, kept))
 }
 
+// A set and a trace, the file that is put, what the run prints, and what the file has then.
+type Put = (
+    &'static [u8],
+    &'static [u8],
+    &'static str,
+    &'static [u8],
+    &'static [u8],
+);
+
+const PUTS: [Put; 4] = [
+    (THREE_HITS, FIVES, "p", b"unlock 4 1\n", WRITTEN),
+    (THREE_HITS, FIVES, "S", b"unlock 4 1\n", WRITTEN),
+    (THREE_HITS, FIVES, "T", b"unlock 4 1\n", WRITTEN),
+    (
+        b"A 1 P:0xH0001=1.2._0xH0002=1.2.\n",
+        b"RATR\x01\x40\0\0\0W\x01\0\0\0\x02\0\x01\x01FW\x01\0\0\0\x02\0\0\0FW\x01\0\0\0\x02\0\x01\x01FW\x01\0\0\0\x02\0\0\0FW\x01\0\0\0\x02\0\x01\x01FE",
+        "p",
+        b"",
+        b"RAPG\x03\xe3\xfe\xbd\x0c\x71\x96\x92\xfa\xb6\x2c\x18\x79\x33\xcf\xe6\x4a\x05\0\0\0\0\0\0\0\x02\0\0\0\x11\x67\x39\xea\x97\x09\x8d\xb8\xaa\xc8\x5e\xb7\x2f\xe3\x1e\x97\x01\0\0\0\x09\x4e\x96\xf9\x3d\x27\xc9\x10\x19\xcd\xa8\xc4\xc4\x08\x4e\xed\x01\0\0\0\0\0\0\0\x01\0\0\0\x23\x4f\xab\x81\x48\x29\x45\xd6\x35\x2e\xd2\x59\xcf\xbc\x8e\xf4\x0d\0\0\0\x02\0\0\0\0\x02\0\0\0\x01\0\0\0\x73\x42\xef\xb0\xa8\x9f\0\xd3\x35\x56\xe3\xad\x26\xc3\x69\x89",
+    ),
+];
+
+// The place of the first run that prints or leaves something else.
+fn other_put(alloc: Global, rows: &[Put]) -> Result<Option<usize>, OutOfMemory> {
+    for (place, (set, trace, save, text, kept)) in rows.iter().enumerate() {
+        if !puts(alloc, *set, *trace, *save, *text, *kept)? {
+            return Ok(Some(place));
+        }
+    }
+    Ok(None)
+}
+
 // A file that the job reads may be the one that it puts: it is read before.
 #[test]
 fn puts_what_is_kept_at_the_end(rt: HostRuntime) -> Result<(), OutOfMemory> {
-    let rows: [(&[u8], &[u8], &str, &[u8], &[u8]); 4] = [
-        (THREE_HITS, FIVES, "p", b"unlock 4 1\n", WRITTEN),
-        (THREE_HITS, FIVES, "S", b"unlock 4 1\n", WRITTEN),
-        (THREE_HITS, FIVES, "T", b"unlock 4 1\n", WRITTEN),
-        (
-            b"A 1 P:0xH0001=1.2._0xH0002=1.2.\n",
-            b"RATR\x01\x40\0\0\0W\x01\0\0\0\x02\0\x01\x01FW\x01\0\0\0\x02\0\0\0FW\x01\0\0\0\x02\0\x01\x01FW\x01\0\0\0\x02\0\0\0FW\x01\0\0\0\x02\0\x01\x01FE",
-            "p",
-            b"",
-            b"RAPG\x03\xe3\xfe\xbd\x0c\x71\x96\x92\xfa\xb6\x2c\x18\x79\x33\xcf\xe6\x4a\x05\0\0\0\0\0\0\0\x02\0\0\0\x11\x67\x39\xea\x97\x09\x8d\xb8\xaa\xc8\x5e\xb7\x2f\xe3\x1e\x97\x01\0\0\0\x09\x4e\x96\xf9\x3d\x27\xc9\x10\x19\xcd\xa8\xc4\xc4\x08\x4e\xed\x01\0\0\0\0\0\0\0\x01\0\0\0\x23\x4f\xab\x81\x48\x29\x45\xd6\x35\x2e\xd2\x59\xcf\xbc\x8e\xf4\x0d\0\0\0\x02\0\0\0\0\x02\0\0\0\x01\0\0\0\x73\x42\xef\xb0\xa8\x9f\0\xd3\x35\x56\xe3\xad\x26\xc3\x69\x89",
-        ),
-    ];
-    for (set, trace, save, text, kept) in rows {
-        assert!(rt;
-            puts(rt.alloc(), set, trace, save, text, kept)?,
-            "{save} of {set:?}"
-        );
-    }
+    assert_eq!(rt; other_put(rt.alloc(), &PUTS)?, None);
     Ok(())
 }
 
@@ -110,8 +135,7 @@ fn goes_on(
     before: &[u8],
     after: &[u8],
 ) -> Result<bool, OutOfMemory> {
-    let mut files = files_of(alloc, set, trace)?;
-    files.add("p", before)?;
+    let mut files = files_with(alloc, &[("S", set), ("T", trace), ("p", before)])?;
     Ok(ends_so(alloc, &GO_ON, &mut files, 0, b"") && has(&mut files, "p", after))
 }
 
@@ -131,11 +155,24 @@ fn goes_on_at_the_last_numbers(rt: HostRuntime) -> Result<(), OutOfMemory> {
 
 // Whether a progress file is refused by the set of three hits, for this reason.
 fn is_refused(alloc: Global, kept: &[u8], why: &[u8]) -> Result<bool, OutOfMemory> {
-    let mut files = files_of(alloc, THREE_HITS, b"no trace")?;
-    files.add("p", kept)?;
-    let mut text = b"progress refused: ".to_vec(alloc)?;
-    text.extend_from_slice(why)?;
+    let text = joined(alloc, b"progress refused: ", why)?;
+    let given = [
+        ("S", THREE_HITS),
+        ("T", b"no trace".as_slice()),
+        ("p", kept),
+    ];
+    let mut files = files_with(alloc, &given)?;
     Ok(ends_so(alloc, &RESTORE, &mut files, 6, text.as_slice()))
+}
+
+// The place of the first progress file that is not refused so.
+fn other_refusal(alloc: Global, rows: &[(&[u8], &[u8])]) -> Result<Option<usize>, OutOfMemory> {
+    for (place, (kept, why)) in rows.iter().enumerate() {
+        if !is_refused(alloc, *kept, *why)? {
+            return Ok(Some(place));
+        }
+    }
+    Ok(None)
 }
 
 // Each change of the files of three hits is refused, with both values.
@@ -165,9 +202,7 @@ fn refuses_progress_files(rt: HostRuntime) -> Result<(), OutOfMemory> {
         (BAD_STATE, b"state 7 at 33\n"),
         (&mark, b"mark 00415047 wanted 52415047\n"),
     ];
-    for (kept, why) in rows {
-        assert!(rt; is_refused(rt.alloc(), kept, why)?, "{why:?}");
-    }
+    assert_eq!(rt; other_refusal(rt.alloc(), &rows)?, None);
     Ok(())
 }
 
@@ -213,13 +248,6 @@ fn both_end_so(alloc: Global, files: &mut SureFiles, cut: &Cut<'_>) -> bool {
     ends_so(alloc, &SAVE, files, 0, cut.early) && ends_so(alloc, &LATER_RUN, files, 0, cut.late)
 }
 
-// Whether the uncut run prints what the two print, one behind the other.
-fn whole_ends_so(alloc: Global, files: &mut SureFiles, cut: &Cut<'_>) -> Result<bool, OutOfMemory> {
-    let mut text = cut.early.to_vec(alloc)?;
-    text.extend_from_slice(cut.late)?;
-    Ok(ends_so(alloc, &SAVE, files, 0, text.as_slice()))
-}
-
 // Whether two of the files p have the same bytes.
 fn agree(one: &mut SureFiles, other: &mut SureFiles) -> bool {
     let mut buf = [0; 512];
@@ -231,39 +259,49 @@ fn agree(one: &mut SureFiles, other: &mut SureFiles) -> bool {
 
 // Whether the runs of a cut trace print and keep what the run of the whole one does.
 fn is_gone_on(alloc: Global, cut: &Cut<'_>) -> Result<bool, OutOfMemory> {
+    let text = joined(alloc, cut.early, cut.late)?;
+    let given = [("S", cut.set), ("T", cut.first), ("U", cut.later)];
+    let mut both = files_with(alloc, &given)?;
     let mut whole = files_of(alloc, cut.set, cut.trace)?;
-    let mut both = files_of(alloc, cut.set, cut.first)?;
-    both.add("U", cut.later)?;
     Ok(
-        whole_ends_so(alloc, &mut whole, cut)?
+        ends_so(alloc, &SAVE, &mut whole, 0, text.as_slice())
             && both_end_so(alloc, &mut both, cut)
             && agree(&mut whole, &mut both),
     )
 }
 
+const CUTS: [Cut<'static>; 2] = [
+    Cut {
+        set: MEASURED,
+        trace: UNCUT,
+        first: FIRST,
+        later: LATER,
+        early: b"measured 0 1 1\nmeasured 1 1 0\n",
+        late: b"measured 2 1 3\nmeasured 4 1 4\nunlock 4 1\n",
+    },
+    Cut {
+        set: FOREST,
+        trace: FOREST_TRACE,
+        first: FOREST_FIRST,
+        later: FOREST_LATER,
+        early: b"presence 1 In the menu\nstart 1 9\ntrack 1 9 0:00.01\ntrack 2 9 0:00.03\n",
+        late: b"submit 3 9 3 0:00.05\nunlock 5 101\npresence 6 Castle with 001000 points\n",
+    },
+];
+
+// The place of the first cut trace whose runs print or keep something else.
+fn other_cut(alloc: Global, rows: &[Cut<'_>]) -> Result<Option<usize>, OutOfMemory> {
+    for (place, cut) in rows.iter().enumerate() {
+        if !is_gone_on(alloc, cut)? {
+            return Ok(Some(place));
+        }
+    }
+    Ok(None)
+}
+
 #[test]
 fn goes_on_where_a_run_was_cut(rt: HostRuntime) -> Result<(), OutOfMemory> {
-    let rows = [
-        Cut {
-            set: MEASURED,
-            trace: UNCUT,
-            first: FIRST,
-            later: LATER,
-            early: b"measured 0 1 1\nmeasured 1 1 0\n",
-            late: b"measured 2 1 3\nmeasured 4 1 4\nunlock 4 1\n",
-        },
-        Cut {
-            set: FOREST,
-            trace: FOREST_TRACE,
-            first: FOREST_FIRST,
-            later: FOREST_LATER,
-            early: b"presence 1 In the menu\nstart 1 9\ntrack 1 9 0:00.01\ntrack 2 9 0:00.03\n",
-            late: b"submit 3 9 3 0:00.05\nunlock 5 101\npresence 6 Castle with 001000 points\n",
-        },
-    ];
-    for cut in &rows {
-        assert!(rt; is_gone_on(rt.alloc(), cut)?, "{:?}", cut.set);
-    }
+    assert_eq!(rt; other_cut(rt.alloc(), &CUTS)?, None);
     Ok(())
 }
 
@@ -275,9 +313,8 @@ fn leaves(
     kept: &[u8],
     wanted: u8,
 ) -> Result<bool, OutOfMemory> {
-    let mut files = files_of(alloc, set, trace)?;
-    files.add("q", kept)?;
-    files.add("p", b"an older file")?;
+    let given = [("S", set), ("T", trace), ("q", kept), ("p", OLDER)];
+    let mut files = files_with(alloc, &given)?;
     let run = RunFiles {
         set: "S",
         trace: "T",
@@ -286,22 +323,30 @@ fn leaves(
     };
     let mut out = SureSink::new(alloc);
     let status = status_of(alloc, &run, &mut files, &mut out);
-    Ok(status == wanted && has(&mut files, "p", b"an older file"))
+    Ok(status == wanted && has(&mut files, "p", OLDER))
+}
+
+// A set, a trace and a progress file that is gone on from, and the status.
+type Left<'a> = (&'a [u8], &'a [u8], &'a [u8], u8);
+
+// The place of the first run that ends otherwise, or leaves another file.
+fn other_left(alloc: Global, rows: &[Left<'_>]) -> Result<Option<usize>, OutOfMemory> {
+    for (place, (set, trace, kept, status)) in rows.iter().enumerate() {
+        if !leaves(alloc, *set, *trace, *kept, *status)? {
+            return Ok(Some(place));
+        }
+    }
+    Ok(None)
 }
 
 // A set, a progress file or a trace that is refused leaves the file to save into.
 #[test]
 fn puts_nothing_before_the_end(rt: HostRuntime) -> Result<(), OutOfMemory> {
-    let rows: [(&[u8], &[u8], &[u8], u8); 3] = [
+    let rows: [Left<'_>; 3] = [
         (b"A 1\n", FIVES, KEPT, 3),
         (THREE_HITS, FIVES, b"", 6),
         (THREE_HITS, &FIVES[..38], KEPT, 7),
     ];
-    for (set, trace, kept, status) in rows {
-        assert!(rt;
-            leaves(rt.alloc(), set, trace, kept, status)?,
-            "status {status}"
-        );
-    }
+    assert_eq!(rt; other_left(rt.alloc(), &rows)?, None);
     Ok(())
 }
