@@ -113,10 +113,18 @@ const ROWS: [Cuts<'static>; 3] = [
     },
 ];
 
+// The place of the first of these traces that does not end so at a length, with that length.
+fn other_trace(alloc: Global, rows: &[Cuts<'_>]) -> Result<Option<(usize, usize)>, OutOfMemory> {
+    for (place, cuts) in rows.iter().enumerate() {
+        if let Some(len) = other_cut(alloc, cuts)? {
+            return Ok(Some((place, len)));
+        }
+    }
+    Ok(None)
+}
+
 #[test]
 fn a_cut_trace_prints_what_lies_before_the_cut(rt: HostRuntime) -> Result<(), OutOfMemory> {
-    for cuts in &ROWS {
-        assert_eq!(rt; other_cut(rt.alloc(), cuts)?, None, "{:?}", cuts.set);
-    }
+    assert_eq!(rt; other_trace(rt.alloc(), &ROWS)?, None);
     Ok(())
 }

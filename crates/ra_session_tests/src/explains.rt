@@ -99,11 +99,19 @@ const ROWS: [Row; 13] = [
     ),
 ];
 
+// The place of the first trace whose unlock is explained otherwise.
+fn other_unlock(alloc: Global, rows: &[Row]) -> Result<Option<usize>, OutOfMemory> {
+    for (place, (set, trace, text)) in rows.iter().enumerate() {
+        if !explained(alloc, 1, (*set, *trace), 0, *text)? {
+            return Ok(Some(place));
+        }
+    }
+    Ok(None)
+}
+
 #[test]
 fn each_unlock_has_its_events(rt: HostRuntime) -> Result<(), OutOfMemory> {
-    for (set, trace, text) in ROWS {
-        assert!(rt; explained(rt.alloc(), 1, (set, trace), 0, text)?, "{set:?}");
-    }
+    assert_eq!(rt; other_unlock(rt.alloc(), &ROWS)?, None);
     Ok(())
 }
 
@@ -112,8 +120,10 @@ const CUT: &[u8] = b"RATR\x01@\0\0\0FW\x10\0\0\0\x01\0\x05F\0";
 
 const BOARD: &[u8] = b"L 2 VALUE STA:0=1::CAN:0=1::SUB:0=1::VAL:0\n";
 
-// Ids, sets and traces, and the status and the text of each explanation.
-const OTHERS: [(u32, &[u8], &[u8], u8, &[u8]); 9] = [
+// An id, a set and a trace, and the status and the text of its explanation.
+type Other = (u32, &'static [u8], &'static [u8], u8, &'static [u8]);
+
+const OTHERS: [Other; 9] = [
     (1, b"A 1 0xH10=6\n", CUT, 7, b"trace refused at 19: kind\n"),
     (
         2,
@@ -167,32 +177,51 @@ const OTHERS: [(u32, &[u8], &[u8], u8, &[u8]); 9] = [
     ),
 ];
 
+// The place of the first explanation that does not end so.
+fn other_ending(alloc: Global, rows: &[Other]) -> Result<Option<usize>, OutOfMemory> {
+    for (place, (id, set, trace, status, text)) in rows.iter().enumerate() {
+        if !explained(alloc, *id, (*set, *trace), *status, *text)? {
+            return Ok(Some(place));
+        }
+    }
+    Ok(None)
+}
+
 #[test]
 fn other_explanations_end_by_their_cause(rt: HostRuntime) -> Result<(), OutOfMemory> {
-    for (id, set, trace, status, text) in OTHERS {
-        assert!(rt;
-            explained(rt.alloc(), id, (set, trace), status, text)?,
-            "{set:?} {trace:?}"
-        );
-    }
+    assert_eq!(rt; other_ending(rt.alloc(), &OTHERS)?, None);
     Ok(())
+}
+
+// Whether the explanation of the fives ends so, where a read at this place of the trace fails.
+fn pieced_so(alloc: Global, failing: u64, status: u8, text: &[u8]) -> Result<bool, OutOfMemory> {
+    let mut files = pieced(alloc, (THREE_HITS, FIVES), (1, failing))?;
+    Ok(explains_so(alloc, 1, &mut files, status, text))
+}
+
+// The place of the read that fails, and the status and the text.
+type Reading = (u64, u8, &'static [u8]);
+
+const READS: [Reading; 3] = [
+    (37, 4, b"read fault\n"),
+    (38, 0, b"unlock 4 1\nsince 0\n0.0 1:1 2:2 4:3\n"),
+    (39, 0, b"unlock 4 1\nsince 0\n0.0 1:1 2:2 4:3\n"),
+];
+
+// The place of the first explanation that does not end so.
+fn other_read(alloc: Global, rows: &[Reading]) -> Result<Option<usize>, OutOfMemory> {
+    for (place, (failing, status, text)) in rows.iter().enumerate() {
+        if !pieced_so(alloc, *failing, *status, *text)? {
+            return Ok(Some(place));
+        }
+    }
+    Ok(None)
 }
 
 // The trace of fives is read a byte at a time. Its unlock is the frame at 37, and the record behind it is never asked for.
 #[test]
 fn no_record_behind_the_unlock_is_read(rt: HostRuntime) -> Result<(), OutOfMemory> {
-    let rows: [(u64, u8, &[u8]); 3] = [
-        (37, 4, b"read fault\n"),
-        (38, 0, b"unlock 4 1\nsince 0\n0.0 1:1 2:2 4:3\n"),
-        (39, 0, b"unlock 4 1\nsince 0\n0.0 1:1 2:2 4:3\n"),
-    ];
-    for (failing, status, text) in rows {
-        let mut files = pieced(rt.alloc(), (THREE_HITS, FIVES), (1, failing))?;
-        assert!(rt;
-            explains_so(rt.alloc(), 1, &mut files, status, text),
-            "{failing}"
-        );
-    }
+    assert_eq!(rt; other_read(rt.alloc(), &READS)?, None);
     Ok(())
 }
 
@@ -211,12 +240,16 @@ fn wide(alloc: Global, frames: u32) -> Result<(Vec<u8>, Vec<u8>), OutOfMemory> {
     Ok((set, trace))
 }
 
+// Whether the explanation of a wide achievement over so many frames is refused so.
+fn wide_is_refused(alloc: Global, frames: u32, text: &[u8]) -> Result<bool, OutOfMemory> {
+    let (set, trace) = wide(alloc, frames)?;
+    explained(alloc, 1, (set.as_slice(), trace.as_slice()), 12, text)
+}
+
 // The frame behind 1,024 others is one too many.
 #[test]
 fn rows_past_the_most_are_refused(rt: HostRuntime) -> Result<(), OutOfMemory> {
-    let (set, trace) = wide(rt.alloc(), 1025)?;
-    let given = (set.as_slice(), trace.as_slice());
     let text = b"explain refused: rows 67174400 over 67108864\n";
-    assert!(rt; explained(rt.alloc(), 1, given, 12, text)?);
+    assert!(rt; wide_is_refused(rt.alloc(), 1025, text)?);
     Ok(())
 }

@@ -15,20 +15,30 @@ fn pointers(alloc: Global) -> Result<String, OutOfMemory> {
     Ok(set)
 }
 
+// Whether the pointers are checked with this line.
+fn pointers_check(alloc: Global, line: &[u8]) -> Result<bool, OutOfMemory> {
+    let set = pointers(alloc)?;
+    check_ends_so(alloc, set.as_bytes(), 0, line)
+}
+
 #[test]
 fn checks_a_deep_set(rt: HostRuntime) -> Result<(), OutOfMemory> {
-    let set = pointers(rt.alloc())?;
     let line =
         b"achievements 1 leaderboards 0 conditions 65535 cells 65535 priors 0 md5 ac4c792c032c6818aa6a6ed3933cadbf\n";
-    assert!(rt; check_ends_so(rt.alloc(), set.as_bytes(), 0, line)?);
+    assert!(rt; pointers_check(rt.alloc(), line)?);
     Ok(())
+}
+
+// Whether a run of the pointers over a trace prints this.
+fn pointers_play(alloc: Global, trace: &[u8], text: &[u8]) -> Result<bool, OutOfMemory> {
+    let set = pointers(alloc)?;
+    run_ends_so(alloc, set.as_bytes(), trace, 0, text)
 }
 
 #[test]
 fn plays_a_deep_chain_of_pointers(rt: HostRuntime) -> Result<(), OutOfMemory> {
-    let set = pointers(rt.alloc())?;
     let trace = b"RATR\x01\x40\0\0\0FW\0\0\0\0\x01\0\x01FE";
-    assert!(rt; run_ends_so(rt.alloc(), set.as_bytes(), trace, 0, b"unlock 1 1\n")?);
+    assert!(rt; pointers_play(rt.alloc(), trace, b"unlock 1 1\n")?);
     Ok(())
 }
 
@@ -42,11 +52,16 @@ fn doubled(alloc: Global) -> Result<String, OutOfMemory> {
     Ok(set)
 }
 
+// Whether a run of the values over a trace prints this.
+fn values_play(alloc: Global, trace: &[u8], text: &[u8]) -> Result<bool, OutOfMemory> {
+    let set = doubled(alloc)?;
+    run_ends_so(alloc, set.as_bytes(), trace, 0, text)
+}
+
 #[test]
 fn plays_a_deep_chain_of_values(rt: HostRuntime) -> Result<(), OutOfMemory> {
-    let set = doubled(rt.alloc())?;
     let trace = b"RATR\x01\x40\0\0\0FW\x10\0\0\0\x01\0\x01FE";
-    assert!(rt; run_ends_so(rt.alloc(), set.as_bytes(), trace, 0, b"unlock 1 1\n")?);
+    assert!(rt; values_play(rt.alloc(), trace, b"unlock 1 1\n")?);
     Ok(())
 }
 
@@ -74,11 +89,15 @@ fn slot_lines(alloc: Global) -> Result<String, OutOfMemory> {
     Ok(text)
 }
 
+// Whether a run of a set over the trace of all slots prints their lines.
+fn slots_play(alloc: Global, set: &[u8]) -> Result<bool, OutOfMemory> {
+    let trace = all_slots(alloc)?;
+    let text = slot_lines(alloc)?;
+    run_ends_so(alloc, set, trace.as_slice(), 0, text.as_bytes())
+}
+
 #[test]
 fn restores_from_all_slots(rt: HostRuntime) -> Result<(), OutOfMemory> {
-    let trace = all_slots(rt.alloc())?;
-    let text = slot_lines(rt.alloc())?;
-    let set = b"P\nDisplay:\n@Number(M:0=0)\n";
-    assert!(rt; run_ends_so(rt.alloc(), set, trace.as_slice(), 0, text.as_bytes())?);
+    assert!(rt; slots_play(rt.alloc(), b"P\nDisplay:\n@Number(M:0=0)\n")?);
     Ok(())
 }

@@ -47,10 +47,18 @@ const ROWS: [Row; 7] = [
     (b"A 1 0xH10=5.3\n", 3, b"set refused: syntax at 13\n"),
 ];
 
+// The place of the first set whose warnings do not end so.
+fn other_lint(alloc: Global, rows: &[Row]) -> Result<Option<usize>, OutOfMemory> {
+    for (place, (set, status, text)) in rows.iter().enumerate() {
+        if !lints_so(alloc, *set, *status, *text)? {
+            return Ok(Some(place));
+        }
+    }
+    Ok(None)
+}
+
 #[test]
 fn each_warning_has_its_line(rt: HostRuntime) -> Result<(), OutOfMemory> {
-    for (set, status, text) in ROWS {
-        assert!(rt; lints_so(rt.alloc(), set, status, text)?, "{set:?}");
-    }
+    assert_eq!(rt; other_lint(rt.alloc(), &ROWS)?, None);
     Ok(())
 }

@@ -18,53 +18,91 @@ fn reads(alloc: Global, texts: &[&str], job: Option<Job<'_>>) -> Result<bool, Ou
     Ok(read_job(alloc, words.as_slice())? == job)
 }
 
-fn run<'a>(restore: Option<&'a str>, save: Option<&'a str>) -> Job<'a> {
-    Job::Run {
-        set: "S",
-        trace: "T",
-        restore,
-        save,
-    }
-}
+// Words, and the job that they are.
+type Row = (&'static [&'static str], Job<'static>);
 
-fn explain<'a>(id: u32) -> Job<'a> {
-    Job::Explain {
-        set: "S",
-        trace: "T",
-        id,
+const JOBS: [Row; 14] = [
+    (
+        &["run", "S", "T"],
+        Job::Run {
+            set: "S",
+            trace: "T",
+            restore: None,
+            save: None,
+        },
+    ),
+    (
+        &["run", "S", "T", "--restore", "P"],
+        Job::Run {
+            set: "S",
+            trace: "T",
+            restore: Some("P"),
+            save: None,
+        },
+    ),
+    (
+        &["run", "S", "T", "--save", "Q"],
+        Job::Run {
+            set: "S",
+            trace: "T",
+            restore: None,
+            save: Some("Q"),
+        },
+    ),
+    (
+        &["run", "S", "T", "--restore", "P", "--save", "Q"],
+        Job::Run {
+            set: "S",
+            trace: "T",
+            restore: Some("P"),
+            save: Some("Q"),
+        },
+    ),
+    (&["check", "S"], Job::Check { set: "S" }),
+    (&["check", "a b=-"], Job::Check { set: "a b=-" }),
+    (&["lint", "S"], Job::Lint { set: "S" }),
+    (&["normal", "S", "O"], Job::Normal { set: "S", out: "O" }),
+    (
+        &["explain", "S", "T", "0"],
+        Job::Explain {
+            set: "S",
+            trace: "T",
+            id: 0,
+        },
+    ),
+    (
+        &["explain", "S", "T", "4294967295"],
+        Job::Explain {
+            set: "S",
+            trace: "T",
+            id: 4294967295,
+        },
+    ),
+    (&["make", "0"], Job::Make { number: 0 }),
+    (&["make", "17"], Job::Make { number: 17 }),
+    (&["make", "4294967295"], Job::Make { number: 4294967295 }),
+    (
+        &["import", "F", "S"],
+        Job::Import {
+            file: "F",
+            set: "S",
+        },
+    ),
+];
+
+// The place of the first words that are not this job.
+fn other_job(alloc: Global, rows: &[Row]) -> Result<Option<usize>, OutOfMemory> {
+    for (place, (texts, job)) in rows.iter().enumerate() {
+        if !reads(alloc, *texts, Some(*job))? {
+            return Ok(Some(place));
+        }
     }
+    Ok(None)
 }
 
 #[test]
 fn each_shape_is_a_job(rt: HostRuntime) -> Result<(), OutOfMemory> {
-    let rows: [(&[&str], Job<'_>); 14] = [
-        (&["run", "S", "T"], run(None, None)),
-        (&["run", "S", "T", "--restore", "P"], run(Some("P"), None)),
-        (&["run", "S", "T", "--save", "Q"], run(None, Some("Q"))),
-        (
-            &["run", "S", "T", "--restore", "P", "--save", "Q"],
-            run(Some("P"), Some("Q")),
-        ),
-        (&["check", "S"], Job::Check { set: "S" }),
-        (&["check", "a b=-"], Job::Check { set: "a b=-" }),
-        (&["lint", "S"], Job::Lint { set: "S" }),
-        (&["normal", "S", "O"], Job::Normal { set: "S", out: "O" }),
-        (&["explain", "S", "T", "0"], explain(0)),
-        (&["explain", "S", "T", "4294967295"], explain(4294967295)),
-        (&["make", "0"], Job::Make { number: 0 }),
-        (&["make", "17"], Job::Make { number: 17 }),
-        (&["make", "4294967295"], Job::Make { number: 4294967295 }),
-        (
-            &["import", "F", "S"],
-            Job::Import {
-                file: "F",
-                set: "S",
-            },
-        ),
-    ];
-    for (texts, job) in rows {
-        assert!(rt; reads(rt.alloc(), texts, Some(job))?, "{texts:?}");
-    }
+    assert_eq!(rt; other_job(rt.alloc(), &JOBS)?, None);
     Ok(())
 }
 
@@ -121,10 +159,18 @@ const NO_JOBS: [&[&str]; 50] = [
     &["import", "--save", "F", "S"],
 ];
 
+// The place of the first words that are a job.
+fn other_words(alloc: Global, rows: &[&[&str]]) -> Result<Option<usize>, OutOfMemory> {
+    for (place, texts) in rows.iter().enumerate() {
+        if !reads(alloc, *texts, None)? {
+            return Ok(Some(place));
+        }
+    }
+    Ok(None)
+}
+
 #[test]
 fn other_words_are_no_job(rt: HostRuntime) -> Result<(), OutOfMemory> {
-    for texts in NO_JOBS {
-        assert!(rt; reads(rt.alloc(), texts, None)?, "{texts:?}");
-    }
+    assert_eq!(rt; other_words(rt.alloc(), &NO_JOBS)?, None);
     Ok(())
 }
