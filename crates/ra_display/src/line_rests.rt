@@ -104,7 +104,7 @@ impl LineRests {
         ensures stepped { AreLinesSeen table.now (map line_contents lines.now) (seen_lines self.old.clock runs.old self.old.each.items) (seen_lines self.new.clock runs.new self.new.each.items) self.new.holds }
     {
         let noting = !many_changed(&self.readers, table);
-        wake(&mut self.readers, self.clock, table);
+        wake(&mut self.readers, lines.len(), self.clock, table);
         let now = self.clock.saturating_add(1);
         let mut left = looks(lines.len());
         let mut at = 0;

@@ -77,7 +77,7 @@ impl Rests {
         ensures told { AreTold (map item_contents items.now) runs.new self.new }
     {
         let noting = !many_changed(&self.readers, table);
-        wake(&mut self.readers, self.clock, table);
+        wake(&mut self.readers, items.len(), self.clock, table);
         self.count = 0;
         let now = self.clock.saturating_add(1);
         let mut left = looks(items.len());

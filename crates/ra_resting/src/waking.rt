@@ -6,13 +6,17 @@ ghost use Rattle.ra_resting.specs.Waking.{IsWoken};
 use ra_memref::Table;
 use ra_readers::Readers;
 
-/// Makes due who reads a node that changed at the table's last sample. Where many did, or the count of frames is at its
-/// end, all are due. No memory is taken.
-pub fn wake(readers: &mut Readers, clock: u64, table: &Table)
+/// Makes due who of so many readers reads a node that changed at the table's last sample. Where many did, or the count of
+/// frames is at its end, all are due. No memory is taken.
+pub fn wake(readers: &mut Readers, count: usize, clock: u64, table: &Table)
+    requires count { count ≡ length readers.old.due }
     requires rows { length readers.old.rows ≡ length table.now.nodes }
     requires nodes { (k : ℕ) → k < length table.now.changed → slice_index table.now.changed k < length table.now.nodes }
     ensures { IsWoken clock table.now.changed readers.old readers.new }
 {
+    if count == 0 {
+        return;
+    }
     if clock == u64::MAX {
         readers.wake_all();
     } else if many_changed(readers, table) {
@@ -32,9 +36,9 @@ pub fn many_changed(readers: &Readers, table: &Table) -> bool
 
 /// How many of so many are looked at for rest at a frame, whatever their places are.
 pub fn looks(count: usize) -> usize
-    ensures { result ≡ count / 32 + 3 }
+    ensures { result ≡ count / 64 + 4 }
 {
-    count / 32 + 3
+    count / 64 + 4
 }
 
 /// Whether the one at a place is looked at for rest: where so many may still be, and else one of eight, others at each count

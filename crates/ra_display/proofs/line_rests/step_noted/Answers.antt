@@ -3,7 +3,6 @@ use Rattle.std.proofs.lemmas.Bool.{true≢false}
 use Rattle.std.specs.Option.{is_some}
 use Rattle.ra_richpresence.specs.Contents.{line_contents}
 use Rattle.ra_member.specs.MemberRuns.{kept_by}
-use Rattle.ra_member.specs.Members.{HasShape, MemberKept}
 use Rattle.ra_member.proofs.Shaped.{member_shape}
 use Rattle.ra_resting.specs.Before.{kept_before}
 use Rattle.ra_resting.specs.Owing.{AreHitsSmall}

@@ -1,6 +1,17 @@
-use Rattle.std.proofs.Common.{◌≡◌, List, ℕ, true, false, sym, ◌∙◌, subst, arith}
+use Rattle.std.proofs.Common.{◌≡◌, List, ℕ, true, false, refl, sym, ◌∙◌, subst, arith}
 use Rattle.ra_memref.specs.Table.{IsListed}
+use Rattle.ra_resting.proofs.Woken.{none_quiet}
 use Rattle.ra_resting.proofs.waking.wake.Goals as goal
+
+pub returns-then-count-eq0 : goal.returns-then-count-eq0
+returns-then-count-eq0 c =
+    let due = c.args.readers.now.due in
+    record {
+      rows = refl;
+      long = refl;
+      kept = λ r quiet. absurd (none_quiet due r (omega arith) quiet);
+      woken = λ r n quiet listed reads. none_quiet due r (omega arith) quiet;
+    }
 
 pub returns-else-many_changed : goal.returns-else-many_changed
 returns-else-many_changed c =

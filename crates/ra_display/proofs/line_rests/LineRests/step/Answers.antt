@@ -1,4 +1,5 @@
 use Rattle.std.proofs.Common.{length, map, refl, sym, ◌∙◌, subst, arith}
+use Rattle.std.proofs.lemmas.List.{length-map}
 use Rattle.ra_memref.specs.Flags.{NoneSet, IsFirstSet}
 use Rattle.ra_readers.specs.Readers.{ReadersSeen}
 use Rattle.ra_richpresence.specs.Contents.{line_contents}
@@ -11,6 +12,10 @@ use Rattle.ra_display.proofs.line_rests.LineRests.step.Goals as goal
 -- the rests with other readers
 abbrev with_readers : LineRests → ReadersSeen → LineRests
 with_readers rests readers = woken_rests rests readers
+
+pub wake-requires-clause-count : goal.wake-requires-clause-count
+wake-requires-clause-count c =
+    omega (arith, c.requires.rests.are.due, length-map c.args.lines.now line_contents)
 
 pub wake-requires-clause-nodes : goal.wake-requires-clause-nodes
 wake-requires-clause-nodes c = c.requires.rests.changed.nodes

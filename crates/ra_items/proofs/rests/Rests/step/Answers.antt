@@ -1,4 +1,5 @@
 use Rattle.std.proofs.Common.{map, refl, sym, subst, arith}
+use Rattle.std.proofs.lemmas.List.{length-map}
 use Rattle.ra_memref.specs.Flags.{IsFirstSet}
 use Rattle.ra_readers.specs.Readers.{ReadersSeen}
 use Rattle.ra_set.specs.Contents.{item_contents}
@@ -11,6 +12,10 @@ use Rattle.ra_items.proofs.rests.Rests.step.Goals as goal
 -- the rests with other readers
 abbrev with_readers : Rests → ReadersSeen → Rests
 with_readers rests readers = record { each = rests.each; readers = readers; stepped = rests.stepped; count = rests.count; clock = rests.clock }
+
+pub wake-requires-clause-count : goal.wake-requires-clause-count
+wake-requires-clause-count c =
+    omega (arith, c.requires.rests.are.due, length-map c.args.items.now item_contents)
 
 pub step_at-requires-clause-place : goal.step_at-requires-clause-place
 step_at-requires-clause-place c =
