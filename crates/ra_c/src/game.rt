@@ -56,17 +56,30 @@ impl Game {
         ensures unrecorded { IfOk result (λ game. game.value.recording ≡ None) }
         ensures refused { IfErr result (λ why. why ≡ SetRefused.Memory ⊎ Refuses text.now why) }
     {
+        let game = Game::made(alloc, text, size)?;
+        match Box::new(alloc, game) {
+            Ok(game) => Ok(game),
+            Err(failed) => {
+                drop(failed);
+                Err(SetRefused::Memory)
+            }
+        }
+    }
+
+    // The same, without its box.
+    fn made(alloc: Global, text: &[u8], size: u32) -> Result<Game, SetRefused>
+        requires { size ≤ 2 ^ 27 }
+        ensures loaded { IfOk result (λ game. IsLoaded text.now size game.runtime) }
+        ensures unrecorded { IfOk result (λ game. game.recording ≡ None) }
+        ensures refused { IfErr result (λ why. why ≡ SetRefused.Memory ⊎ Refuses text.now why) }
+    {
         let copy = copied(alloc, text)?;
         let held = Held::new(alloc, text, size)?;
-        let game = Game {
+        Ok(Game {
             held,
             text: copy,
             recording: None,
-        };
-        match Box::new(alloc, game) {
-            Ok(game) => Ok(game),
-            Err(_) => Err(SetRefused::Memory),
-        }
+        })
     }
 
     /// Writes the bytes from the address `at` on. `RANGE` where they pass the end.
@@ -135,7 +148,7 @@ impl Game {
     {
         match self.held.restore(bytes) {
             Ok(()) => {
-                self.recording = None;
+                drop(self.recording.take());
                 Ok(())
             }
             Err(why) => Err(why),
@@ -148,7 +161,7 @@ impl Game {
         ensures unrecorded { self.new.recording ≡ None }
     {
         self.held.reset();
-        self.recording = None;
+        drop(self.recording.take());
     }
 
     /// Records the achievement of this id from now on. `RANGE` where frames were taken, or no achievement has the id.

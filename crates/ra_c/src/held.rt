@@ -1,9 +1,12 @@
 ghost use Rattle.std.specs.Prelude.{◌≡◌, ◌⊎◌, ◌↔◌, true, ◌+◌, ◌≤◌, ◌^◌, length, replicate, IfOk, IfErr, OnOk, OnErr};
 ghost use Rattle.ra_memory.specs.Image.{written};
+ghost use Rattle.ra_set.specs.Names.{IsNamed};
 ghost use Rattle.ra_set.specs.Refusals.{Refuses};
+ghost use Rattle.ra_set.specs.Spelled.{IsSpelled};
 ghost use Rattle.ra_progress.specs.Layout.{length_of};
 ghost use Rattle.ra_meaning.specs.Order.{shape_of};
 ghost use Rattle.ra_meaning.specs.Runtime.{IsWritten, TakesFrame};
+ghost use Rattle.ra_c.specs.Answers.{IsLoaded};
 
 use crate::codes::{DONE, RANGE};
 use crate::told_event::ToldEvent;
@@ -47,8 +50,23 @@ fn overwrite(image: &mut Vec<u8>, at: usize, bytes: &[u8])
     image[at..at + bytes.len()].copy_from_slice(bytes);
 }
 
+// The runtime of a set's text, alone.
+fn runtime_of(alloc: Global, text: &[u8], size: u32) -> Result<Runtime, SetRefused>
+    requires { size ≤ 2 ^ 27 }
+    ensures loaded { IfOk result (IsLoaded text.now size) }
+    ensures spelled { IfOk result (λ runtime. IsSpelled runtime.set) }
+    ensures named { IfOk result (λ runtime. IsNamed runtime.set) }
+    ensures refused { IfErr result (λ why. why ≡ SetRefused.Memory ⊎ Refuses text.now why) }
+{
+    let set = parse_set(alloc, text)?;
+    match Runtime::new(alloc, set, size) {
+        Ok(runtime) => Ok(runtime),
+        Err(_) => Err(SetRefused::Memory),
+    }
+}
+
 impl Held {
-    ghost use Rattle.ra_c.specs.Answers.{AnswersSee, BeginsAgain, AnswersWrite, AreEventsOf, AreLinesOf, IsLoaded, IsSaveOf, IsSeen, IsShownBy, RefusesProgress, TakesProgress};
+    ghost use Rattle.ra_c.specs.Answers.{AnswersSee, BeginsAgain, AnswersWrite, AreEventsOf, AreLinesOf, IsSaveOf, IsSeen, IsShownBy, RefusesProgress, TakesProgress};
 
     /// The runtime of a set's text over a memory of `size` bytes, all 0.
     ///
@@ -58,14 +76,18 @@ impl Held {
         ensures loaded { IfOk result (IsLoaded text.now size) }
         ensures refused { IfErr result (λ why. why ≡ SetRefused.Memory ⊎ Refuses text.now why) }
     {
-        let set = parse_set(alloc, text)?;
-        let runtime = Runtime::new(alloc, set, size)?;
-        let (first, shadow) = Held::copies(alloc, &runtime)?;
-        Ok(Held {
-            runtime,
-            shadow,
-            first,
-        })
+        let runtime = runtime_of(alloc, text, size)?;
+        match Held::copies(alloc, &runtime) {
+            Ok((first, shadow)) => Ok(Held {
+                runtime,
+                shadow,
+                first,
+            }),
+            Err(_) => {
+                drop(runtime);
+                Err(SetRefused::Memory)
+            }
+        }
     }
 
     // The progress bytes of a runtime, and as many zeros as its image has bytes. The progress of a set is never too long.

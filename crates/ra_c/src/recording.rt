@@ -131,5 +131,5 @@ pub fn frame_too(recording: &mut Option<Recording>)
     {
         return;
     }
-    *recording = None;
+    drop(recording.take());
 }
