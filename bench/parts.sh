@@ -40,6 +40,15 @@ row 'a frame with no write behind a restore' 100 many.set restored.trace many.se
 row 'a frame of 4,000 achievements of 4 comparisons behind one pointer, which moves' 20 pointers.set pointers.trace pointers.set pointers-one.trace
 row 'a frame of 4,000 achievements of 8 conditions that look at one byte, which changes' 40 looks.set looked.trace looks.set looked-one.trace
 row 'such a frame behind 40 with no write, so that all were at rest' 1 looks.set woken.trace looks.set rested.trace
+row 'a frame of a display of 4,000 lines of 8 conditions that look at one byte, which changes' 40 look-lines.set looked.trace look-lines.set looked-one.trace
+row 'such a frame behind 40 with no write, so that all were at rest' 1 look-lines.set woken.trace look-lines.set rested.trace
+for count in 1 4 10 40 400; do
+    for what in "achievements due-$count" "lines due-lines-$count"; do
+        file=${what#* }.set
+        row "a frame of $count ${what% *} of 8 conditions, all due" 40 "$file" looked.trace "$file" looked-one.trace
+        row "such a frame behind 40 with no write, so that all were at rest" 1 "$file" woken.trace "$file" rested.trace
+    done
+done
 row 'a frame of no items' $((frames - 10)) none.set still.trace none.set still-ten.trace
 row 'a frame of a real-sized set' $((frames - 1)) real.set real.trace real.set real-one.trace
 row 'a save of 4,000 achievements of 8 conditions' 100 many.set saves.trace many.set saved.trace

@@ -22,6 +22,10 @@ many.set     over saves.trace and restores.trace: 100 of these records; over sav
 looks.set    4,000 achievements of 8 conditions that look at one byte, of which 7 count hits, and one of 40 other bytes
              over looked.trace: 41 frames, each behind another value of this byte; looked-one.trace has one of these frames
              over woken.trace: such a frame behind 40 frames with no write, three times, and one more; rested.trace ends before that
+look-lines.set  a display of 4,000 lines of such conditions, over the same traces
+due-N.set    N achievements of 8 conditions, for N of 1, 4, 10, 40 and 400: the first looks at this byte, the others at four that stay,
+             and all but the last count hits, over the same traces
+due-lines-N.set  a display of N lines of such conditions
 few.set      40 achievements of 8 conditions, over still.trace and still-ten.trace
 small.set    a script of one line with a lookup of 8 texts and a format, over shows.trace: 65,536 shows of one frame
              shown.trace has one of these shows
@@ -103,9 +107,35 @@ def looking(number):
     return f"A {number} " + "_".join(pairs) + "_0xH0011=7\n"
 
 
+def others(number):
+    """An achievement of 40 other bytes, so that few of all nodes change."""
+    return f"A {number} " + "_".join(f"0xH{0x100 + 32 * i:04x}=1" for i in range(40)) + "\n"
+
+
 def looks_set():
-    others = "_".join(f"0xH{0x100 + 32 * i:04x}=1" for i in range(40))
-    return "".join(looking(i + 1) for i in range(4000)) + f"A 4001 {others}\n"
+    return "".join(looking(i + 1) for i in range(4000)) + others(4001)
+
+
+def display_of(tests):
+    """A display of a line for each of these tests, and a last line without one."""
+    return "P\nDisplay:\n" + "".join(f"?{test}?x\n" for test in tests) + "y\n"
+
+
+def look_lines_set():
+    return others(4001) + display_of(looking(0).split(" ")[2].strip() for _ in range(4000))
+
+
+def due(number):
+    """Eight conditions of which the first looks at the byte 0x10, and the others at four bytes that stay. The last one fails."""
+    stays = [f"0xH{0x100 + (number + k) % 4:04x}={7 if k == 7 else 0}" for k in range(1, 8)]
+    return "_".join([f"0xH0010>{random.randrange(90)}"] + stays)
+
+
+def due_sets(count):
+    """A set of so many achievements of such conditions, and one of a display of so many lines of them."""
+    tests = [due(i) for i in range(count)]
+    items = "".join(f"A {i + 1} {test}\n" for i, test in enumerate(tests))
+    return {f"due-{count}.set": items.encode(), f"due-lines-{count}.set": display_of(tests).encode()}
 
 
 def looked_trace(frames, behind=b"", last=b""):
@@ -221,11 +251,14 @@ def main(folder, frames):
         "pointers.trace": pointer_trace(21),
         "pointers-one.trace": pointer_trace(1),
         "looks.set": looks_set().encode(),
+        "look-lines.set": look_lines_set().encode(),
         "looked.trace": looked_trace(41),
         "looked-one.trace": looked_trace(1),
         "woken.trace": looked_trace(3, b"F" * 40, write(0x10, 151) + b"F"),
         "rested.trace": looked_trace(3, b"F" * 40),
     }
+    for count in (1, 4, 10, 40, 400):
+        files |= due_sets(count)
     for name, content in files.items():
         with open(f"{folder}/{name}", "wb") as file:
             file.write(content)
