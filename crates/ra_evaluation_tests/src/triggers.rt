@@ -1,15 +1,19 @@
 //! Triggers stepped by hand, from the rules. The pass order of each group is written out.
 
-ghost use Rattle.std.specs.Prelude.{◌≡◌, IfOk, [], ◌∷◌};
+ghost use Rattle.std.specs.Prelude.{◌≡◌, ◌*◌, IfOk, [], ◌∷◌, length};
 ghost use Rattle.ra_operand.specs.declared.operand.Operand.TheVariants.{Const};
 ghost use Rattle.ra_operand.specs.declared.op.Op.TheVariants.{Eq};
-ghost use Rattle.ra_condition.specs.Contents.{trigger_contents};
+ghost use Rattle.ra_condition.specs.Contents.{trigger_contents, trigger_hits};
+ghost use Rattle.ra_trigger.specs.Kept.{orders_of, pauses_of};
 
+mod told;
+
+use crate::triggers::told::{Told, first_other, other_frame};
 use ra_condition::{Condition, Flag, Group, TriggerText};
 use ra_operand::{Op, Operand};
+use ra_text::OutOfMemory;
 use ra_trigger::{State, Trigger};
 use std::alloc::{AllocError, Global};
-use std::test::Fail;
 
 // A condition of which only the flag and the target count.
 fn with(flag: Flag, target: u32) -> Condition
@@ -50,126 +54,196 @@ fn with_alt(alloc: Global, core: &[Condition], alt: &[Condition]) -> Result<Trig
     })
 }
 
+// The place of the first frame of a new trigger of a core group alone that tells otherwise.
+fn other_of_core(
+    alloc: Global,
+    core: &[Condition],
+    orders: &[u32],
+    pauses: &[u32],
+    lefts: &[u32],
+    frames: &[(&[bool], Told<'_>)],
+) -> Result<Option<usize>, OutOfMemory>
+    requires orders { orders.now ≡ orders_of (record { core = core.now; alts = [] }) }
+    requires pauses { pauses.now ≡ pauses_of (record { core = core.now; alts = [] }) }
+    requires lefts { length lefts.now ≡ trigger_hits (record { core = core.now; alts = [] }) }
+{
+    let text = core_alone(alloc, core)?;
+    other_frame(alloc, &text, orders, pauses, lefts, frames)
+}
+
+// The place of the first frame of a new trigger of a core group and an alt group that tells otherwise.
+fn other_with_alt(
+    alloc: Global,
+    core: &[Condition],
+    alt: &[Condition],
+    orders: &[u32],
+    pauses: &[u32],
+    lefts: &[u32],
+    frames: &[(&[bool], Told<'_>)],
+) -> Result<Option<usize>, OutOfMemory>
+    requires orders { orders.now ≡ orders_of (record { core = core.now; alts = alt.now ∷ [] }) }
+    requires pauses { pauses.now ≡ pauses_of (record { core = core.now; alts = alt.now ∷ [] }) }
+    requires lefts { length lefts.now ≡ trigger_hits (record { core = core.now; alts = alt.now ∷ [] }) }
+{
+    let text = with_alt(alloc, core, alt)?;
+    other_frame(alloc, &text, orders, pauses, lefts, frames)
+}
+
+const PAUSED_BY_HITS: &[(&'static [bool], Told<'static>)] = &[
+    (&[true, true], Told::Hits(State::Active, &[1, 1])),
+    (&[false, false], Told::Hits(State::Active, &[1, 1])),
+    (&[true, true], Told::Hits(State::Paused, &[2, 1])),
+    (&[false, false], Told::Hits(State::Paused, &[2, 1])),
+    (&[true, true], Told::Hits(State::Paused, &[2, 1])),
+];
+
 #[test]
-fn a_pause_stays_by_its_hits(rt: HostRuntime) -> Result<(), Fail> {
-    let text = core_alone(rt.alloc(), &[with(Flag::PauseIf, 2), with(Flag::Plain, 2)])?;
-    let mut trigger = Trigger::new(rt.alloc(), &text).ok().ok_or("no memory")?;
-    for (truth, state, hits) in [
-        (true, State::Active, [1, 1]),
-        (false, State::Active, [1, 1]),
-        (true, State::Paused, [2, 1]),
-        (false, State::Paused, [2, 1]),
-        (true, State::Paused, [2, 1]),
-    ] {
-        let change = trigger.step(&text, &[0, 1], &[1], &[truth, truth], &[0, 0]);
-        assert_eq!(rt; change.after, state);
-        assert_eq!(rt; trigger.state(), state);
-        assert_eq!(rt; trigger.hits(), hits.as_slice());
-    }
+fn a_pause_stays_by_its_hits(rt: HostRuntime) -> Result<(), OutOfMemory> {
+    let core = [with(Flag::PauseIf, 2), with(Flag::Plain, 2)];
+    let other = other_of_core(rt.alloc(), &core, &[0, 1], &[1], &[0, 0], PAUSED_BY_HITS)?;
+    assert_eq!(rt; other, None);
     Ok(())
 }
 
+const RESET_BY_ALT: &[(&'static [bool], Told<'static>)] = &[
+    (&[true, false], Told::Hits(State::Active, &[1, 0])),
+    (&[true, false], Told::Hits(State::Active, &[2, 0])),
+    (&[true, true], Told::Hits(State::Active, &[0, 0])),
+    (&[true, false], Told::Hits(State::Active, &[1, 0])),
+    (&[true, false], Told::Hits(State::Active, &[2, 0])),
+    (&[true, false], Told::Hits(State::Triggered, &[3, 0])),
+    (&[true, true], Told::Hits(State::Triggered, &[3, 0])),
+];
+
 #[test]
-fn an_alt_resets_the_core(rt: HostRuntime) -> Result<(), Fail> {
-    let text = with_alt(
+fn an_alt_resets_the_core(rt: HostRuntime) -> Result<(), OutOfMemory> {
+    let (core, alt) = ([with(Flag::Plain, 3)], [with(Flag::ResetIf, 0)]);
+    let other = other_with_alt(
         rt.alloc(),
-        &[with(Flag::Plain, 3)],
-        &[with(Flag::ResetIf, 0)],
+        &core,
+        &alt,
+        &[0, 0],
+        &[0, 0],
+        &[0, 0],
+        RESET_BY_ALT,
     )?;
-    let mut trigger = Trigger::new(rt.alloc(), &text).ok().ok_or("no memory")?;
-    for (resets, state, hits) in [
-        (false, State::Active, [1, 0]),
-        (false, State::Active, [2, 0]),
-        (true, State::Active, [0, 0]),
-        (false, State::Active, [1, 0]),
-        (false, State::Active, [2, 0]),
-        (false, State::Triggered, [3, 0]),
-        (true, State::Triggered, [3, 0]),
-    ] {
-        let change = trigger.step(&text, &[0, 0], &[0, 0], &[true, resets], &[0, 0]);
-        assert_eq!(rt; change.after, state);
-        assert_eq!(rt; trigger.hits(), hits.as_slice());
-    }
+    assert_eq!(rt; other, None);
     Ok(())
 }
 
+const MEASURED: &[(&'static [bool], Told<'static>)] = &[
+    (
+        &[true, true, false],
+        Told::Measured(State::Active, Some(1), 1),
+    ),
+    (
+        &[true, false, false],
+        Told::Measured(State::Active, Some(0), 0),
+    ),
+    (
+        &[true, true, false],
+        Told::Measured(State::Active, Some(3), 3),
+    ),
+    (&[true, true, true], Told::Measured(State::Paused, None, 3)),
+    (
+        &[true, true, false],
+        Told::Measured(State::Triggered, Some(4), 4),
+    ),
+    (
+        &[true, true, false],
+        Told::Measured(State::Triggered, None, 4),
+    ),
+];
+
 #[test]
-fn a_paused_trigger_keeps_its_number(rt: HostRuntime) -> Result<(), Fail> {
-    let conditions = [
+fn a_paused_trigger_keeps_its_number(rt: HostRuntime) -> Result<(), OutOfMemory> {
+    let core = [
         with(Flag::Measured, 4),
         with(Flag::MeasuredIf, 0),
         with(Flag::PauseIf, 0),
     ];
-    let text = core_alone(rt.alloc(), &conditions)?;
-    let mut trigger = Trigger::new(rt.alloc(), &text).ok().ok_or("no memory")?;
-    for (counts, pauses, state, changed, measured) in [
-        (true, false, State::Active, Some(1), 1),
-        (false, false, State::Active, Some(0), 0),
-        (true, false, State::Active, Some(3), 3),
-        (true, true, State::Paused, None, 3),
-        (true, false, State::Triggered, Some(4), 4),
-        (true, false, State::Triggered, None, 4),
-    ] {
-        let change = trigger.step(&text, &[2, 0, 1], &[1], &[true, counts, pauses], &[0, 0, 0]);
-        assert_eq!(rt; change.after, state);
-        assert_eq!(rt; change.measured, changed);
-        assert_eq!(rt; trigger.measured(), measured);
-    }
+    let other = other_of_core(rt.alloc(), &core, &[2, 0, 1], &[1], &[0, 0, 0], MEASURED)?;
+    assert_eq!(rt; other, None);
     Ok(())
 }
 
+const FOLLOWING: &[(&'static [bool], Told<'static>)] = &[
+    (&[true, true], Told::States(State::Waiting, State::Waiting)),
+    (&[true, true], Told::States(State::Waiting, State::Waiting)),
+    (&[false, false], Told::States(State::Waiting, State::Active)),
+    (&[false, true], Told::States(State::Active, State::Primed)),
+    (&[false, false], Told::States(State::Primed, State::Active)),
+    (&[false, true], Told::States(State::Active, State::Primed)),
+    (&[true, true], Told::States(State::Primed, State::Triggered)),
+];
+
 #[test]
-fn states_follow_one_another(rt: HostRuntime) -> Result<(), Fail> {
-    let text = core_alone(
-        rt.alloc(),
-        &[with(Flag::TriggerIf, 0), with(Flag::Plain, 0)],
-    )?;
-    let mut trigger = Trigger::new(rt.alloc(), &text).ok().ok_or("no memory")?;
-    for (truths, before, after) in [
-        ([true, true], State::Waiting, State::Waiting),
-        ([true, true], State::Waiting, State::Waiting),
-        ([false, false], State::Waiting, State::Active),
-        ([false, true], State::Active, State::Primed),
-        ([false, false], State::Primed, State::Active),
-        ([false, true], State::Active, State::Primed),
-        ([true, true], State::Primed, State::Triggered),
-    ] {
-        let change = trigger.step(&text, &[0, 1], &[0], &truths, &[0, 0]);
-        assert_eq!(rt; change.before, before);
-        assert_eq!(rt; change.after, after);
-    }
+fn states_follow_one_another(rt: HostRuntime) -> Result<(), OutOfMemory> {
+    let core = [with(Flag::TriggerIf, 0), with(Flag::Plain, 0)];
+    let other = other_of_core(rt.alloc(), &core, &[0, 1], &[0], &[0, 0], FOLLOWING)?;
+    assert_eq!(rt; other, None);
     Ok(())
 }
 
+// The kept hits of three conditions, the last the greatest number that there is.
+const KEPT: [u8; 12] = [7, 0, 0, 0, 0, 0, 0, 0, 255, 255, 255, 255];
+
+const PAST_THE_TARGET: &[(&'static [bool], Told<'static>)] = &[(
+    &[true, false, true],
+    Told::Hits(State::Active, &[8, 0, 4_294_967_295]),
+)];
+
+// Whether a trigger that takes them back has its number, and then steps so.
+fn passes_target(trigger: &mut Trigger, text: &TriggerText) -> bool
+    requires orders { 0 ∷ 0 ∷ 1 ∷ [] ≡ orders_of (trigger_contents text.now) }
+    requires pauses { 0 ∷ 0 ∷ [] ≡ pauses_of (trigger_contents text.now) }
+    requires text { trigger_hits (trigger_contents text.now) ≡ 3 }
+    requires hits { length trigger.old.hits ≡ 3 }
+{
+    trigger.put_back(State::Active, 9, &KEPT);
+    trigger.measured() == 9
+        && first_other(
+            trigger,
+            text,
+            &[0, 0, 1],
+            &[0, 0],
+            &[0, 0, 0],
+            PAST_THE_TARGET,
+        )
+        .is_none()
+}
+
+fn new_passes_target(alloc: Global, text: &TriggerText) -> Result<bool, OutOfMemory>
+    requires orders { 0 ∷ 0 ∷ 1 ∷ [] ≡ orders_of (trigger_contents text.now) }
+    requires pauses { 0 ∷ 0 ∷ [] ≡ pauses_of (trigger_contents text.now) }
+    requires text { trigger_hits (trigger_contents text.now) ≡ 3 }
+{
+    let mut trigger = Trigger::new(alloc, text)?;
+    Ok(passes_target(&mut trigger, text))
+}
+
 #[test]
-fn kept_hits_may_pass_the_target(rt: HostRuntime) -> Result<(), Fail> {
+fn kept_hits_may_pass_the_target(rt: HostRuntime) -> Result<(), OutOfMemory> {
     let alt = [with(Flag::Plain, 0), with(Flag::Plain, 2)];
     let text = with_alt(rt.alloc(), &[with(Flag::Plain, 0)], &alt)?;
-    let mut trigger = Trigger::new(rt.alloc(), &text).ok().ok_or("no memory")?;
-    let bytes = [7, 0, 0, 0, 0, 0, 0, 0, 255, 255, 255, 255];
-    trigger.put_back(State::Active, 9, &bytes);
-    assert_eq!(rt; trigger.measured(), 9);
-    let change = trigger.step(&text, &[0, 0, 1], &[0, 0], &[true, false, true], &[0, 0, 0]);
-    assert_eq!(rt; change.after, State::Active);
-    assert_eq!(rt; trigger.hits(), [8, 0, 4_294_967_295].as_slice());
+    let passes = new_passes_target(rt.alloc(), &text)?;
+    drop(text);
+    assert!(rt; passes);
     Ok(())
 }
 
+const WITHOUT_STATES: &[(&'static [bool], Told<'static>)] = &[
+    (&[true, false], Told::Truth(false, &[1, 0])),
+    (&[true, false], Told::Truth(true, &[2, 0])),
+    (&[true, false], Told::Truth(true, &[2, 0])),
+    (&[true, true], Told::Truth(false, &[0, 0])),
+    (&[true, false], Told::Truth(false, &[1, 0])),
+];
+
 #[test]
-fn a_trigger_without_states_is_false_on_a_reset(rt: HostRuntime) -> Result<(), Fail> {
-    let text = core_alone(rt.alloc(), &[with(Flag::Plain, 2), with(Flag::ResetIf, 0)])?;
-    let mut trigger = Trigger::new(rt.alloc(), &text).ok().ok_or("no memory")?;
-    for (resets, truth, hits) in [
-        (false, false, [1, 0]),
-        (false, true, [2, 0]),
-        (false, true, [2, 0]),
-        (true, false, [0, 0]),
-        (false, false, [1, 0]),
-    ] {
-        let answer = trigger.truth(&text, &[0, 1], &[0], &[true, resets], &[0, 0]);
-        assert_eq!(rt; answer, truth);
-        assert_eq!(rt; trigger.state(), State::Waiting);
-        assert_eq!(rt; trigger.hits(), hits.as_slice());
-    }
+fn a_trigger_without_states_is_false_on_a_reset(rt: HostRuntime) -> Result<(), OutOfMemory> {
+    let core = [with(Flag::Plain, 2), with(Flag::ResetIf, 0)];
+    let other = other_of_core(rt.alloc(), &core, &[0, 1], &[0], &[0, 0], WITHOUT_STATES)?;
+    assert_eq!(rt; other, None);
     Ok(())
 }
