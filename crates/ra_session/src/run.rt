@@ -63,8 +63,14 @@ pub fn play_trace<F: Files, K: Sink>(
     let mut reader = Reader::open(alloc, trace, TRACE_LIMIT)?;
     let size = reader.header(files)?;
     let mut player = Player::new(alloc, beginning, size)?;
-    play_records(alloc, &mut reader, &mut player, files, out)?;
-    Ok(player)
+    match play_records(alloc, &mut reader, &mut player, files, out) {
+        Ok(()) => Ok(player),
+        Err(failed) => {
+            // One drop by a call: an implicit one would be written out on each way out.
+            drop(player);
+            Err(failed)
+        }
+    }
 }
 
 // Puts what a player keeps into the file that is named, where one is.

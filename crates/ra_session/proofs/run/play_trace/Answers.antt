@@ -1,4 +1,4 @@
-use Rattle.std.proofs.Common.{arith, ◌≡◌, ◌∙◌, ap, subst, take, ℕ, List, Some}
+use Rattle.std.proofs.Common.{arith, ◌≡◌, ◌∙◌, Err, ap, subst, take, ℕ, List, Some}
 use Rattle.ra_io.specs.Causes.{Rose}
 use Rattle.ra_set.specs.Contents.{set_contents}
 use Rattle.ra_meaning.specs.Play.{first_moment}
@@ -13,7 +13,7 @@ use Rattle.ra_session.proofs.LoadLemmas.{begins_somewhere}
 use Rattle.ra_session.proofs.NextLemmas.{told}
 use Rattle.ra_session.proofs.LeftLemmas.{left_whole, pieces_of}
 use Rattle.ra_session.specs.declared.failures.TraceFailed.TheVariants as failed
-use Rattle.ra_session.proofs.RunLemmas.{played_behind, saved_behind, bad_header, ends_by, err_from, no_memory_left}
+use Rattle.ra_session.proofs.RunLemmas.{played_behind, saved_behind, bad_header, ends_by, no_memory_left}
 use Rattle.ra_session.proofs.run.play_trace.Goals as goal
 
 pub returns-in_err-reader-clause-printed : goal.returns-in_err-reader-clause-printed
@@ -40,18 +40,29 @@ play_records-requires-clause-stands g c =
     let (o, behind, earned, at) = begins_somewhere set (progress_in c.args.beginning) c.requires.playable c.requires.accepted in
     record { set = set; opening = o; moment = first_moment c.in_ok-size.size behind; earned = earned; stands = c.in_ok-player.ensures.stands o behind earned at }
 
-pub returns-in_err-play_records-clause-printed : goal.returns-in_err-play_records-clause-printed
-returns-in_err-play_records-clause-printed g c = λ bytes o behind earned is_told at.
+pub returns-in-Ok-clause-printed : goal.returns-in-Ok-clause-printed
+returns-in-Ok-clause-printed g c = λ bytes o behind earned is_told at.
     let set = set_contents c.args.beginning.set in
     let name : c.in_ok-reader.reader.name ≡ c.args.trace.now = ap (λ r. r.name) c.in_ok-reader.ensures in
     let limit : c.in_ok-reader.reader.limit ≡ trace_limit = ap (λ r. r.limit) c.in_ok-reader.ensures in
     let there : g.F.Files.content c.args.files.now c.in_ok-reader.reader.name ≡ Some bytes = ap (g.F.Files.content c.args.files.now) name ∙ is_told in
     let header = told _ _ bytes there c.in_ok-size.ensures.ok in
     let left = left_whole bytes c.in_ok-size.size behind c.in_ok-reader.reader c.header.new.self limit c.in_ok-size.ensures.seen (told _ _ bytes there c.in_ok-size.ensures.held) in
-    ends_by (played set o behind earned bytes) c.in_err-play_records.field-0.0 c.from_residual-in_err-play_records.result (g.K.Sink.text c.args.out.now) (g.K.Sink.text c.play_records.new.out) c.from_residual-in_err-play_records.ensures.1
-    (played_behind set o behind earned bytes c.in_ok-size.size (ending_of_trace c.in_err-play_records.field-0.0) (g.K.Sink.text c.args.out.now) (g.K.Sink.text c.play_records.new.out) (subst (λ l. header_size (take l bytes) ≡ Some c.in_ok-size.size) limit header)
-    (c.in_err-play_records.ensures.printed bytes set o (first_moment c.in_ok-size.size behind) earned (pieces_of c.in_ok-size.size bytes)
-    (ap (g.F.Files.content c.header.new.files) c.in_ok-size.ensures.seen.same.name ∙ c.in_ok-size.ensures.stays.same.each c.in_ok-reader.reader.name ∙ there) (c.in_ok-player.ensures.stands o behind earned at) left))
+    played_behind set o behind earned bytes c.in_ok-size.size Done (g.K.Sink.text c.args.out.now) (g.K.Sink.text c.play_records.new.out) (subst (λ l. header_size (take l bytes) ≡ Some c.in_ok-size.size) limit header)
+    (c.in-Ok.ensures.printed bytes set o (first_moment c.in_ok-size.size behind) earned (pieces_of c.in_ok-size.size bytes)
+    (ap (g.F.Files.content c.header.new.files) c.in_ok-size.ensures.seen.same.name ∙ c.in_ok-size.ensures.stays.same.each c.in_ok-reader.reader.name ∙ there) (c.in_ok-player.ensures.stands o behind earned at) left)
+
+pub returns-in-Ok-clause-kept : goal.returns-in-Ok-clause-kept
+returns-in-Ok-clause-kept g c = λ bytes o behind earned is_told at.
+    let set = set_contents c.args.beginning.set in
+    let name : c.in_ok-reader.reader.name ≡ c.args.trace.now = ap (λ r. r.name) c.in_ok-reader.ensures in
+    let limit : c.in_ok-reader.reader.limit ≡ trace_limit = ap (λ r. r.limit) c.in_ok-reader.ensures in
+    let there : g.F.Files.content c.args.files.now c.in_ok-reader.reader.name ≡ Some bytes = ap (g.F.Files.content c.args.files.now) name ∙ is_told in
+    let header = told _ _ bytes there c.in_ok-size.ensures.ok in
+    let left = left_whole bytes c.in_ok-size.size behind c.in_ok-reader.reader c.header.new.self limit c.in_ok-size.ensures.seen (told _ _ bytes there c.in_ok-size.ensures.held) in
+    saved_behind set o behind earned bytes c.in_ok-size.size (slots_of c.play_records.new.player.slots.items) c.play_records.new.player.runtime (subst (λ l. header_size (take l bytes) ≡ Some c.in_ok-size.size) limit header)
+    (c.in-Ok.ensures.ends bytes set o (first_moment c.in_ok-size.size behind) earned (pieces_of c.in_ok-size.size bytes)
+    (ap (g.F.Files.content c.header.new.files) c.in_ok-size.ensures.seen.same.name ∙ c.in_ok-size.ensures.stays.same.each c.in_ok-reader.reader.name ∙ there) (c.in_ok-player.ensures.stands o behind earned at) left)
 
 pub returns-clause-printed : goal.returns-clause-printed
 returns-clause-printed g c = λ bytes o behind earned is_told at.
@@ -61,29 +72,17 @@ returns-clause-printed g c = λ bytes o behind earned is_told at.
     let there : g.F.Files.content c.args.files.now c.in_ok-reader.reader.name ≡ Some bytes = ap (g.F.Files.content c.args.files.now) name ∙ is_told in
     let header = told _ _ bytes there c.in_ok-size.ensures.ok in
     let left = left_whole bytes c.in_ok-size.size behind c.in_ok-reader.reader c.header.new.self limit c.in_ok-size.ensures.seen (told _ _ bytes there c.in_ok-size.ensures.held) in
-    played_behind set o behind earned bytes c.in_ok-size.size Done (g.K.Sink.text c.args.out.now) (g.K.Sink.text c.play_records.new.out) (subst (λ l. header_size (take l bytes) ≡ Some c.in_ok-size.size) limit header)
-    (c.in_ok-play_records.ensures.printed bytes set o (first_moment c.in_ok-size.size behind) earned (pieces_of c.in_ok-size.size bytes)
+    played_behind set o behind earned bytes c.in_ok-size.size (ending_of_trace c.in-Err.failed) (g.K.Sink.text c.args.out.now) (g.K.Sink.text c.play_records.new.out) (subst (λ l. header_size (take l bytes) ≡ Some c.in_ok-size.size) limit header)
+    (c.in-Err.ensures.printed bytes set o (first_moment c.in_ok-size.size behind) earned (pieces_of c.in_ok-size.size bytes)
     (ap (g.F.Files.content c.header.new.files) c.in_ok-size.ensures.seen.same.name ∙ c.in_ok-size.ensures.stays.same.each c.in_ok-reader.reader.name ∙ there) (c.in_ok-player.ensures.stands o behind earned at) left)
 
-pub returns-clause-kept : goal.returns-clause-kept
-returns-clause-kept g c = λ bytes o behind earned is_told at.
-    let set = set_contents c.args.beginning.set in
-    let name : c.in_ok-reader.reader.name ≡ c.args.trace.now = ap (λ r. r.name) c.in_ok-reader.ensures in
-    let limit : c.in_ok-reader.reader.limit ≡ trace_limit = ap (λ r. r.limit) c.in_ok-reader.ensures in
-    let there : g.F.Files.content c.args.files.now c.in_ok-reader.reader.name ≡ Some bytes = ap (g.F.Files.content c.args.files.now) name ∙ is_told in
-    let header = told _ _ bytes there c.in_ok-size.ensures.ok in
-    let left = left_whole bytes c.in_ok-size.size behind c.in_ok-reader.reader c.header.new.self limit c.in_ok-size.ensures.seen (told _ _ bytes there c.in_ok-size.ensures.held) in
-    saved_behind set o behind earned bytes c.in_ok-size.size (slots_of c.play_records.new.player.slots.items) c.play_records.new.player.runtime (subst (λ l. header_size (take l bytes) ≡ Some c.in_ok-size.size) limit header)
-    (c.in_ok-play_records.ensures.ends bytes set o (first_moment c.in_ok-size.size behind) earned (pieces_of c.in_ok-size.size bytes)
-    (ap (g.F.Files.content c.header.new.files) c.in_ok-size.ensures.seen.same.name ∙ c.in_ok-size.ensures.stays.same.each c.in_ok-reader.reader.name ∙ there) (c.in_ok-player.ensures.stands o behind earned at) left)
-
-pub returns-in_err-play_records-clause-read : goal.returns-in_err-play_records-clause-read
-returns-in_err-play_records-clause-read g c =
+pub returns-clause-read : goal.returns-clause-read
+returns-clause-read g c =
     let before : List ℕ → ℕ = g.F.Files.read_faults c.args.files.now in
     let mid : List ℕ → ℕ = g.F.Files.read_faults c.header.new.files in
     let after : List ℕ → ℕ = g.F.Files.read_faults c.play_records.new.files in
     let name : c.header.new.self.name ≡ c.args.trace.now = c.in_ok-size.ensures.seen.same.name ∙ ap (λ r. r.name) c.in_ok-reader.ensures in
-    err_from c.in_err-play_records.field-0.0 failed.Read _ c.from_residual-in_err-play_records.result c.from_residual-in_err-play_records.ensures.1
-    (λ is.
-    let rose : Rose (mid c.args.trace.now) (after c.args.trace.now) = subst (λ n. Rose (mid n) (after n)) name (c.in_err-play_records.ensures.read is) in
-    omega (arith, rose, c.in_ok-size.ensures.stays.reads.each c.args.trace.now))
+    λ is.
+    let same : c.in-Err.failed ≡ failed.Read = cc is in
+    let rose : Rose (mid c.args.trace.now) (after c.args.trace.now) = subst (λ n. Rose (mid n) (after n)) name (c.in-Err.ensures.read (ap Err same)) in
+    omega (arith, rose, c.in_ok-size.ensures.stays.reads.each c.args.trace.now)

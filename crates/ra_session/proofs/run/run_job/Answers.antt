@@ -66,8 +66,8 @@ returns-in-Ok-put_progress-clause-leaves g c =
     (kept_bytes c.in-Ok-play_trace.player.runtime) (bytes_since _ _ _ _ (file_in save) since c.in-Ok-put_progress.ensures.saved) (others_since _ _ _ (file_in save) since c.in-Ok-put_progress.ensures.others)
     (λ bytes o behind earned told at. play.kept bytes o behind earned (load.stays.same.each run.trace.now ∙ told) at)
 
-pub returns-clause-ran : goal.returns-clause-ran
-returns-clause-ran g c =
+pub returns-in-Err-put_progress-clause-ran : goal.returns-in-Err-put_progress-clause-ran
+returns-in-Err-put_progress-clause-ran g c =
     let run = c.args.run.now in
     let load = c.in-Ok.ensures in
     let play = c.in-Ok-play_trace.ensures in
@@ -82,8 +82,8 @@ returns-clause-ran g c =
     c.in-Err-put_progress.failed c.from-in-Err-put_progress.result c.from-in-Err-put_progress.ensures
     (λ is. rose_before _ _ _ (file_in save) (none_after _ _ _ load.stays.puts play.stays.puts) (c.in-Err-put_progress.ensures.failed is))
 
-pub returns-clause-leaves : goal.returns-clause-leaves
-returns-clause-leaves g c =
+pub returns-in-Err-put_progress-clause-leaves : goal.returns-in-Err-put_progress-clause-leaves
+returns-in-Err-put_progress-clause-leaves g c =
     let run = c.args.run.now in
     let load = c.in-Ok.ensures in
     let play = c.in-Ok-play_trace.ensures in
