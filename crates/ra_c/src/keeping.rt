@@ -1,12 +1,9 @@
 ghost use Rattle.std.specs.Prelude.{◌≡◌, ◌≢◌, ◌⊎◌, None};
-ghost use Rattle.ra_c.specs.Answers.{AnswersReset, AnswersRestore, AnswersTold, Calls, IsSaveOf};
-ghost use Rattle.ra_c.specs.Codes.{done, memory, no_progress, empty};
-ghost use Rattle.ra_c.specs.Handles.{held_in, recorded_in};
+ghost use Rattle.ra_game.specs.Answers.{AnswersReset, AnswersRestore, AnswersTold, Calls, IsSaveOf};
+ghost use Rattle.ra_game.specs.Codes.{done, memory, no_progress, empty};
+ghost use Rattle.ra_game.specs.Handles.{held_in, recorded_in};
 
-use crate::codes::{DONE, EMPTY, PROGRESS};
-use crate::given::give;
-use crate::handle::Handle;
-use crate::refusal::{Refusal, of_progress};
+use ra_game::{Handle, Refusal};
 use std::alloc::Global;
 
 /// The progress bytes of the present state: docs/DEFINITIONS.md, "Calls from C" and "Progress file".
@@ -24,14 +21,7 @@ pub extern "C" fn ra_save(
     ensures unwritten { result ≢ done → out.new ≡ out.old }
     ensures uncounted { (result ≡ memory) ⊎ (result ≡ empty) → count.new ≡ count.old }
 {
-    match handle.take(alloc) {
-        Some(game) => {
-            let code = give(game.save(alloc), out, count);
-            handle.put(game);
-            code
-        }
-        None => EMPTY,
-    }
+    ra_game::save(alloc, handle, out, count)
 }
 
 /// Takes up what progress bytes say, of this set or of a changed one: docs/DEFINITIONS.md, "Calls from C".
@@ -50,20 +40,7 @@ pub extern "C" fn ra_restore(
     ensures recording { result ≢ done → recorded_in handle.new ≡ recorded_in handle.old }
     ensures unsaid { result ≢ no_progress → why.new ≡ why.old }
 {
-    match handle.take(alloc) {
-        Some(mut game) => {
-            let restored = game.restore(bytes);
-            handle.put(game);
-            match restored {
-                Ok(()) => DONE,
-                Err(reason) => {
-                    *why = of_progress(reason);
-                    PROGRESS
-                }
-            }
-        }
-        None => EMPTY,
-    }
+    ra_game::restore(alloc, handle, bytes, why)
 }
 
 /// Begins anew over the present memory, as when the emulated machine is reset: docs/DEFINITIONS.md, "Calls from C".
@@ -75,12 +52,5 @@ pub extern "C" fn ra_reset(alloc: Global, handle: &mut Handle) -> u32
     ensures begun { Calls (AnswersReset result) result (held_in handle.old) (held_in handle.new) }
     ensures unrecorded { recorded_in handle.new ≡ None }
 {
-    match handle.take(alloc) {
-        Some(mut game) => {
-            game.reset();
-            handle.put(game);
-            DONE
-        }
-        None => EMPTY,
-    }
+    ra_game::reset(alloc, handle)
 }

@@ -1,13 +1,9 @@
 ghost use Rattle.std.specs.Prelude.{◌≡◌, ◌≢◌, ◌⊎◌, ◌↔◌, ◌<◌, ◌^◌, None, IsSomeAnd};
-ghost use Rattle.ra_c.specs.Answers.{IsLoaded, IsRefusedText};
-ghost use Rattle.ra_c.specs.Codes.{done, memory, no_set, out_of_range, empty, full};
-ghost use Rattle.ra_c.specs.Handles.{held_in, recorded_in};
+ghost use Rattle.ra_game.specs.Answers.{IsLoaded, IsRefusedText};
+ghost use Rattle.ra_game.specs.Codes.{done, memory, no_set, out_of_range, empty, full};
+ghost use Rattle.ra_game.specs.Handles.{held_in, recorded_in};
 
-use crate::codes::{DONE, EMPTY, HELD, MEMORY, RANGE, SET};
-use crate::game::Game;
-use crate::handle::Handle;
-use crate::refusal::{Refusal, of_set};
-use ra_set::SetRefused;
+use ra_game::{Handle, Refusal};
 use std::alloc::Global;
 
 /// Makes a runtime of a set's text over a memory of `size` bytes, all 0: docs/DEFINITIONS.md, "Calls from C".
@@ -32,23 +28,7 @@ pub extern "C" fn ra_new(
     ensures unsaid { result ≢ no_set → why.new ≡ why.old }
     ensures other { (result ≡ done) ⊎ ((result ≡ memory) ⊎ ((result ≡ no_set) ⊎ ((result ≡ out_of_range) ⊎ (result ≡ full)))) }
 {
-    if !handle.is_empty() {
-        return HELD;
-    }
-    if size > 134_217_728 {
-        return RANGE;
-    }
-    match Game::boxed(alloc, text, size) {
-        Ok(game) => {
-            handle.put(game);
-            DONE
-        }
-        Err(SetRefused::Memory) => MEMORY,
-        Err(reason) => {
-            *why = of_set(reason);
-            SET
-        }
-    }
+    ra_game::make(alloc, text, size, handle, why)
 }
 
 /// Frees the runtime that the handle holds, which then holds nothing: docs/DEFINITIONS.md, "Calls from C".
@@ -60,10 +40,7 @@ pub extern "C" fn ra_free(alloc: Global, handle: &mut Handle) -> u32
     ensures none { result ≡ empty ↔ held_in handle.old ≡ None }
     ensures freed { result ≡ done ↔ held_in handle.old ≢ None }
 {
-    match handle.take(alloc) {
-        Some(_) => DONE,
-        None => EMPTY,
-    }
+    ra_game::free(alloc, handle)
 }
 
 /// The version of this interface, which a later one that differs counts up.

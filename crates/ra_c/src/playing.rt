@@ -1,10 +1,9 @@
 ghost use Rattle.std.specs.Prelude.{◌≡◌};
-ghost use Rattle.ra_c.specs.Answers.{AnswersFrame, AnswersSee, AnswersWrite, Calls};
-ghost use Rattle.ra_c.specs.Handles.{held_in, recorded_in};
-ghost use Rattle.ra_c.specs.Recordings.{RecordsFrame, RecordsWrite};
+ghost use Rattle.ra_game.specs.Answers.{AnswersFrame, AnswersSee, AnswersWrite, Calls};
+ghost use Rattle.ra_game.specs.Handles.{held_in, recorded_in};
+ghost use Rattle.ra_game.specs.Recordings.{RecordsFrame, RecordsWrite};
 
-use crate::codes::{DONE, EMPTY};
-use crate::handle::Handle;
+use ra_game::Handle;
 use std::alloc::Global;
 
 /// Writes the bytes from the address `at` on: docs/DEFINITIONS.md, "Calls from C".
@@ -15,14 +14,7 @@ pub extern "C" fn ra_write(alloc: Global, handle: &mut Handle, at: u32, bytes: &
     ensures played { Calls (AnswersWrite at bytes.now result) result (held_in handle.old) (held_in handle.new) }
     ensures recorded { RecordsWrite at bytes.now result (recorded_in handle.old) (recorded_in handle.new) }
 {
-    match handle.take(alloc) {
-        Some(mut game) => {
-            let code = game.write(at, bytes);
-            handle.put(game);
-            code
-        }
-        None => EMPTY,
-    }
+    ra_game::write(alloc, handle, at, bytes)
 }
 
 /// Takes the bytes from the address `at` on as they now are, of which most are as they were: docs/DEFINITIONS.md, "Calls
@@ -34,14 +26,7 @@ pub extern "C" fn ra_see(alloc: Global, handle: &mut Handle, at: u32, bytes: &[u
     ensures played { Calls (AnswersSee at bytes.now result) result (held_in handle.old) (held_in handle.new) }
     ensures recorded { RecordsWrite at bytes.now result (recorded_in handle.old) (recorded_in handle.new) }
 {
-    match handle.take(alloc) {
-        Some(mut game) => {
-            let code = game.see(at, bytes);
-            handle.put(game);
-            code
-        }
-        None => EMPTY,
-    }
+    ra_game::see(alloc, handle, at, bytes)
 }
 
 /// Takes one frame: docs/DEFINITIONS.md, "Calls from C".
@@ -52,12 +37,5 @@ pub extern "C" fn ra_frame(alloc: Global, handle: &mut Handle) -> u32
     ensures played { Calls (AnswersFrame result) result (held_in handle.old) (held_in handle.new) }
     ensures recorded { RecordsFrame (recorded_in handle.old) (recorded_in handle.new) }
 {
-    match handle.take(alloc) {
-        Some(mut game) => {
-            game.frame();
-            handle.put(game);
-            DONE
-        }
-        None => EMPTY,
-    }
+    ra_game::frame(alloc, handle)
 }

@@ -1,12 +1,9 @@
 ghost use Rattle.std.specs.Prelude.{◌≡◌, ◌≢◌, ◌⊎◌};
-ghost use Rattle.ra_c.specs.Answers.{AnswersTold, AreEventsOf, AreLinesOf, Calls, IsShownBy};
-ghost use Rattle.ra_c.specs.Codes.{done, memory, empty};
-ghost use Rattle.ra_c.specs.Handles.{held_in, recorded_in};
+ghost use Rattle.ra_game.specs.Answers.{AnswersTold, AreEventsOf, AreLinesOf, Calls, IsShownBy};
+ghost use Rattle.ra_game.specs.Codes.{done, memory, empty};
+ghost use Rattle.ra_game.specs.Handles.{held_in, recorded_in};
 
-use crate::codes::EMPTY;
-use crate::given::give;
-use crate::handle::Handle;
-use crate::told_event::ToldEvent;
+use ra_game::{Handle, ToldEvent};
 use std::alloc::Global;
 
 /// The events of the last frame, items in set order: docs/DEFINITIONS.md, "Calls from C" and "Events".
@@ -25,14 +22,7 @@ pub extern "C" fn ra_events(
     ensures unwritten { result ≢ done → out.new ≡ out.old }
     ensures uncounted { (result ≡ memory) ⊎ (result ≡ empty) → count.new ≡ count.old }
 {
-    match handle.take(alloc) {
-        Some(game) => {
-            let code = give(game.events(alloc), out, count);
-            handle.put(game);
-            code
-        }
-        None => EMPTY,
-    }
+    ra_game::events(alloc, handle, out, count)
 }
 
 /// The lines of the events of the last frame: docs/DEFINITIONS.md, "Calls from C" and "Printed lines".
@@ -50,14 +40,7 @@ pub extern "C" fn ra_lines(
     ensures unwritten { result ≢ done → out.new ≡ out.old }
     ensures uncounted { (result ≡ memory) ⊎ (result ≡ empty) → count.new ≡ count.old }
 {
-    match handle.take(alloc) {
-        Some(game) => {
-            let code = give(game.lines(alloc), out, count);
-            handle.put(game);
-            code
-        }
-        None => EMPTY,
-    }
+    ra_game::lines(alloc, handle, out, count)
 }
 
 /// The presence line after the last frame: docs/DEFINITIONS.md, "Calls from C" and "Presence over frames".
@@ -76,12 +59,5 @@ pub extern "C" fn ra_show(
     ensures unwritten { result ≢ done → out.new ≡ out.old }
     ensures uncounted { (result ≡ memory) ⊎ (result ≡ empty) → count.new ≡ count.old }
 {
-    match handle.take(alloc) {
-        Some(game) => {
-            let code = give(game.show(alloc), out, count);
-            handle.put(game);
-            code
-        }
-        None => EMPTY,
-    }
+    ra_game::show(alloc, handle, out, count)
 }
