@@ -118,8 +118,10 @@ def joined(tables):
         for key in [it for it in minutes if it[0] in anew]:
             del minutes[key]
         for key, it in newer.items():
-            minutes[key] += it
-        floors.update(newer_floors)
+            # a run that ended before its edits were through makes their seed again
+            minutes[key] = max(minutes[key], it) if key[1] == "seeds" else minutes[key] + it
+        for crate, it in newer_floors.items():
+            floors[crate] = min(it, floors.get(crate, it))
     return minutes, floors
 
 
