@@ -61,10 +61,10 @@ fn has(files: &mut SureFiles, name: &str, bytes: &[u8]) -> bool {
 }
 
 // Whether a run of a set over a trace prints this text, and leaves a file these bytes.
-fn puts(
+fn puts<'a>(
     alloc: Global,
-    set: &[u8],
-    trace: &[u8],
+    set: &'a [u8],
+    trace: &'a [u8],
     save: &str,
     text: &[u8],
     kept: &[u8],
@@ -306,11 +306,11 @@ fn goes_on_where_a_run_was_cut(rt: HostRuntime) -> Result<(), OutOfMemory> {
 }
 
 // Whether a run that is to end so, from the file q and into p, leaves p.
-fn leaves(
+fn leaves<'a>(
     alloc: Global,
-    set: &[u8],
-    trace: &[u8],
-    kept: &[u8],
+    set: &'a [u8],
+    trace: &'a [u8],
+    kept: &'a [u8],
     wanted: u8,
 ) -> Result<bool, OutOfMemory> {
     let given = [("S", set), ("T", trace), ("q", kept), ("p", OLDER)];
