@@ -20,16 +20,16 @@ use Rattle.ra_meaning.specs.Lines.{event_lines}
 use Rattle.ra_meaning.specs.Openings.{start_of, item_after, frames_after, snapshot}
 use Rattle.ra_meaning.specs.Order.{item_shape, trees_in_item, trees_in_line, lines_in, shape_of}
 use Rattle.ra_meaning.specs.Play.{item_events, unless_earned, shown_by}
-use Rattle.ra_meaning.proofs.Agreeing.{value_agrees}
-use Rattle.ra_meaning.proofs.Covered.{tree_alike}
-use Rattle.ra_meaning.proofs.EarnedFrames.{item_with_tells}
-use Rattle.ra_meaning.proofs.EarnedItems.{items_same, opening_with}
-use Rattle.ra_meaning.proofs.Law.{events_of_item, shown_goes_on, counts_go_on}
+use Rattle.ra_meaning.proofs.Openings.Agreeing.{value_agrees}
+use Rattle.ra_meaning.proofs.Openings.Covered.{tree_alike}
+use Rattle.ra_meaning.proofs.Earned.Frames.{item_with_tells}
+use Rattle.ra_meaning.proofs.Earned.Items.{items_same, opening_with}
+use Rattle.ra_meaning.proofs.Cuts.Law.{events_of_item, shown_goes_on, counts_go_on}
 use Rattle.ra_changed.proofs.NamedNumbers.{TreesOf}
 use Rattle.ra_changed.proofs.ReadByOther.{map_at}
 use Rattle.ra_meaning.proofs.SetFiles.{set_spelled}
 use Rattle.ra_changed.proofs.SharedOwns.{contains_in, HasItem, shared_item, HasBoth, shared_script}
-use Rattle.ra_meaning.proofs.Snapshots.{snapshot_fits}
+use Rattle.ra_meaning.proofs.Openings.Snapshots.{snapshot_fits}
 use Rattle.ra_changed.proofs.TakenOver.{TakenItem, TakenScript, item_trees, script_trees, item_taken, script_taken}
 
 -- ---- what stands at a place

@@ -15,8 +15,8 @@ use Rattle.ra_member.proofs.Listed.{In, In_front, In_flat, In_one, InOne, In_fir
 use Rattle.ra_changed.specs.Changed.{NamesTell}
 use Rattle.ra_meaning.specs.Openings.{number_beside, prior_beside}
 use Rattle.ra_meaning.specs.Order.{trees_in_set, set_cells, set_tracked}
-use Rattle.ra_meaning.proofs.Beside.{apart_firsts, numbers_beside, priors_beside}
-use Rattle.ra_meaning.proofs.Covered.{found_number, found_prior}
+use Rattle.ra_meaning.proofs.Openings.Beside.{apart_firsts, numbers_beside, priors_beside}
+use Rattle.ra_meaning.proofs.Openings.Covered.{found_number, found_prior}
 use Rattle.ra_changed.proofs.SharedOwns.{contains_in}
 
 -- the last number of a name is that of its thing, where the name tells the thing

@@ -34,7 +34,7 @@ use Rattle.ra_meaning.proofs.Each.{each_replicate, each_set}
 use Rattle.ra_changed.proofs.NamedThings.{apart_within}
 use Rattle.ra_meaning.proofs.SetFiles.{set_spelled}
 use Rattle.ra_changed.proofs.SharedOwns.{in_contained}
-use Rattle.ra_meaning.proofs.Snapshots.{plain_is_opening}
+use Rattle.ra_meaning.proofs.Openings.Snapshots.{plain_is_opening}
 
 -- an achievement, and a file in which another one stands before it
 abbrev hits_text : List ℕ

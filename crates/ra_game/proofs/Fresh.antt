@@ -19,7 +19,7 @@ use Rattle.ra_progress.specs.Spelling.{progress_bytes}
 use Rattle.ra_meaning.specs.Runtime.{RuntimeSeen, IsMade}
 use Rattle.ra_meaning.specs.Order.{shape_of}
 use Rattle.ra_meaning.proofs.Digests.{md5_bytes}
-use Rattle.ra_meaning.proofs.Snapshots.{is_shape, opening_comes_back, plain_is_opening}
+use Rattle.ra_meaning.proofs.Openings.Snapshots.{is_shape, opening_comes_back, plain_is_opening}
 use Rattle.ra_game.specs.Answers.{IsFirst, IsSaveOf}
 
 -- a digest is sixteen bytes

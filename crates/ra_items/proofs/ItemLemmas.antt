@@ -27,7 +27,7 @@ use Rattle.ra_items.specs.BoardRuns.{IsBoardRun, StepsBoard, board_kept}
 use Rattle.ra_items.specs.RunEvents.{measured_event, change_events, board_run_events}
 use Rattle.ra_items.specs.ItemRuns.{StepsItem, kept_run}
 use Rattle.ra_meaning.specs.Play.{item_events, unless_earned}
-use Rattle.ra_meaning.proofs.Again.{achievement_again, board_again}
+use Rattle.ra_meaning.proofs.Openings.Again.{achievement_again, board_again}
 
 same_turned : (m n : ℕ) → (m == n) ≡ (n == m)
 same_turned m n = grind arith

@@ -45,8 +45,8 @@ use Rattle.ra_meaning.specs.Order.{board_member}
 use Rattle.ra_meaning.specs.Play.{item_events, unless_earned}
 use Rattle.ra_items.specs.Resting.{AreValuesAt, BoardRests, GoesOn, HasRoom, IsNoted, ItemRests, TriggerRests, board_before, first_frame, owed_board, owed_run, trigger_before}
 use Rattle.ra_items.specs.RunEvents.{run_events}
-use Rattle.ra_meaning.proofs.Again.{achievement_again, board_again}
-use Rattle.ra_meaning.proofs.Fitting.{BoardFits, board_fits}
+use Rattle.ra_meaning.proofs.Openings.Again.{achievement_again, board_again}
+use Rattle.ra_meaning.proofs.Counts.Fitting.{BoardFits, board_fits}
 
 -- what was earned or triggered is so once more where it is triggered
 once_more : (earned triggered : Bool) → ((earned || triggered) || triggered) ≡ (earned || triggered)

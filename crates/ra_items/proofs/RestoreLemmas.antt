@@ -32,7 +32,7 @@ use Rattle.ra_meaning.specs.Boards.{kept_board}
 use Rattle.ra_meaning.specs.Order.{board_member}
 use Rattle.ra_items.specs.ItemRuns.{IsItemRun}
 use Rattle.ra_items.specs.Restoring.{PutsBackBoard, PutsBackItem}
-use Rattle.ra_meaning.proofs.Unplayed.{byte_again, board_byte_again, earned_again}
+use Rattle.ra_meaning.proofs.Openings.Unplayed.{byte_again, board_byte_again, earned_again}
 use Rattle.ra_words.proofs.Rows.{length-words_at}
 
 -- an achievement of which only the kept numbers change, and not how many there are

@@ -14,7 +14,7 @@ use Rattle.ra_items.specs.Rests.{AreFitting}
 use Rattle.ra_leaderboard.specs.States.{board_byte}
 use Rattle.ra_meaning.specs.Openings.{kept_achievement}
 use Rattle.ra_items.specs.Shapes.{board_run_shape, run_shape}
-use Rattle.ra_meaning.proofs.ItemWords.{state_within, earned_where_triggered, board_state_within}
+use Rattle.ra_meaning.proofs.Words.Items.{state_within, earned_where_triggered, board_state_within}
 use Rattle.ra_member.specs.MemberRuns.{FitWords, kept_by}
 use Rattle.ra_member.proofs.GrowthLemmas.{taken_next}
 use Rattle.ra_member.specs.Members.{saved_hits, saved_numbers}

@@ -22,8 +22,8 @@ use Rattle.ra_items.specs.ItemStates.{item_state, run_state}
 use Rattle.ra_meaning.specs.Order.{board_member}
 use Rattle.ra_items.specs.Resting.{FitsRun, HasRoom, board_before, owed_board, seen_runs, seen_since}
 use Rattle.ra_items.specs.Rests.{AreFitting, AreRests, seen_by}
-use Rattle.ra_meaning.proofs.Again.{achievement_again, board_again}
-use Rattle.ra_meaning.proofs.EarnedFrames.{AreSeen, IsSeen}
+use Rattle.ra_meaning.proofs.Openings.Again.{achievement_again, board_again}
+use Rattle.ra_meaning.proofs.Earned.Frames.{AreSeen, IsSeen}
 use Rattle.ra_items.proofs.ItemsRest.{rows_many, tracked_by}
 
 -- what there is room for is what a run keeps

@@ -16,7 +16,7 @@ use Rattle.ra_items.specs.ItemRuns.{IsItemRun}
 use Rattle.ra_items.specs.AllRuns.{AreItemRuns, HaveDigits}
 use Rattle.ra_items.specs.Shapes.{run_shape, IsSmall}
 use Rattle.ra_set.specs.Spelled.{IsItem}
-use Rattle.ra_meaning.proofs.ItemCounts.{board_within}
+use Rattle.ra_meaning.proofs.Counts.Items.{board_within}
 
 -- what a run keeps has the counts of its item
 module _ (nodes : List Node) where

@@ -26,7 +26,7 @@ use Rattle.ra_items.specs.ItemRuns.{IsItemRun, IsNewItem, kept_run}
 use Rattle.ra_items.specs.AllRuns.{AreItemRuns}
 use Rattle.ra_items.specs.Planning.{AreWaiting}
 use Rattle.ra_items.proofs.RunsLemmas.{runs_more}
-use Rattle.ra_meaning.proofs.ItemCounts.{board_conditions}
+use Rattle.ra_meaning.proofs.Counts.Items.{board_conditions}
 
 -- a run stays one where the pool grows
 module _ (old new : List Node) (front : IsFront old new) where

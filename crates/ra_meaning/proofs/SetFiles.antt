@@ -20,9 +20,9 @@ use Rattle.ra_meaning.specs.OpeningLaws.{HasDigests}
 use Rattle.ra_meaning.specs.Order.{shape_of}
 use Rattle.ra_meaning.proofs.Digests.{md5_bytes}
 use Rattle.ra_meaning.proofs.Each.{each_map}
-use Rattle.ra_meaning.proofs.FewCells.{few_cells, few_tracked}
-use Rattle.ra_meaning.proofs.SmallShape.{small_shape}
-use Rattle.ra_meaning.proofs.Snapshots.{is_shape}
+use Rattle.ra_meaning.proofs.Counts.FewCells.{few_cells, few_tracked}
+use Rattle.ra_meaning.proofs.Counts.SmallShape.{small_shape}
+use Rattle.ra_meaning.proofs.Openings.Snapshots.{is_shape}
 
 script_spelled : (file : List ℕ) (contents : FileContents) → length file ≤ 4194304 → set_file file contents → OptionalScript (option_map script_of contents.script)
 script_spelled file contents size (inl h) =

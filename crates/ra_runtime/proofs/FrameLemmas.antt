@@ -23,9 +23,9 @@ use Rattle.ra_runtime.specs.Laid.{opening_by, IsOver}
 use Rattle.ra_display.specs.PresenceRuns.{StepsOptional}
 use Rattle.std.proofs.lemmas.List.{length-map}
 use Rattle.ra_meaning.specs.Runtime.{RuntimeSeen, TakesFrame, ReadsFew}
-use Rattle.ra_meaning.proofs.Law.{cuts_anywhere}
-use Rattle.ra_meaning.proofs.EarnedFrames.{AreSeen, snapshot_with, events_with, earns_with, runs_earn}
-use Rattle.ra_meaning.proofs.Beside.{apart_firsts, numbers_beside, priors_beside}
+use Rattle.ra_meaning.proofs.Cuts.Law.{cuts_anywhere}
+use Rattle.ra_meaning.proofs.Earned.Frames.{AreSeen, snapshot_with, events_with, earns_with, runs_earn}
+use Rattle.ra_meaning.proofs.Openings.Beside.{apart_firsts, numbers_beside, priors_beside}
 
 module _ (table : TableSeen) (start : Start) (image : List ℕ) (has : HasValues table start (image ∷ [])) where
   stepped_kept : (items : List ItemContents) (olds news : List KeptItem) (runs : List ItemRun) → AreSteppedSeen table items olds news runs

@@ -18,7 +18,7 @@ use Rattle.ra_runtime.specs.Laid.{IsLaidOut}
 use Rattle.ra_set.specs.Spelled.{OptionalScript, IsSpelled}
 use Rattle.ra_display.proofs.NewLines.{shown_lines}
 use Rattle.ra_display.proofs.ShownLines.{lines_fit_runs}
-use Rattle.ra_meaning.proofs.ItemCounts.{lines_within}
+use Rattle.ra_meaning.proofs.Counts.Items.{lines_within}
 use Rattle.ra_items.proofs.ShapeLemmas.{runs_shaped, items_small}
 
 -- what a display keeps has the counts of its script

@@ -23,7 +23,7 @@ use Rattle.ra_member.specs.Plans.{GrowsWithin}
 use Rattle.ra_items.specs.Planning.{GrowsByItems, AreWaiting}
 use Rattle.ra_display.specs.PresenceRuns.{IsOptionalPresence}
 use Rattle.ra_member.proofs.PlanLemmas.{within_through}
-use Rattle.ra_meaning.proofs.MaskCounts.{masks_few}
+use Rattle.ra_meaning.proofs.Counts.Masks.{masks_few}
 use Rattle.ra_items.proofs.WaitingLemmas.{item_runs_more}
 
 module _ (set : SetContents) where

@@ -16,7 +16,7 @@ use Rattle.ra_display.specs.declared.line_rests.LineRests.{LineRests}
 use Rattle.ra_display.specs.LineRests.{AreLineRests, AreOptionalRests, display_seen, optional_presence_seen, presence_seen}
 use Rattle.ra_display.specs.PresenceRuns.{IsPresenceRun, IsOptionalPresence}
 use Rattle.ra_display.specs.Showing.{MayShow, shown_text, optional_text}
-use Rattle.ra_meaning.proofs.OpeningFits.{script_fits}
+use Rattle.ra_meaning.proofs.Openings.Fits.{script_fits}
 use Rattle.ra_display.proofs.PresenceCuts.{DisplayFits, display_again, display_fits}
 use Rattle.ra_display.proofs.SeenLines.{lines_fitting, lines_shaped, text_seen}
 

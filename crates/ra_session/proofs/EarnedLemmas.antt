@@ -7,8 +7,8 @@ use Rattle.ra_meaning.specs.Earned.{Earned, HoldTriggered, IsEarnedToo, is_earne
 use Rattle.ra_meaning.specs.Openings.{start_of, item_after, snapshot, plain_opening}
 use Rattle.ra_meaning.specs.Order.{item_shape, shape_of}
 use Rattle.ra_meaning.specs.Play.{earns}
-use Rattle.ra_meaning.proofs.EarnedItems.{items_same, items_again, fit_hold, frame_holds, stay_earned}
-use Rattle.ra_meaning.proofs.Snapshots.{snapshot_none}
+use Rattle.ra_meaning.proofs.Earned.Items.{items_same, items_again, fit_hold, frame_holds, stay_earned}
+use Rattle.ra_meaning.proofs.Openings.Snapshots.{snapshot_none}
 
 or_self : (a : Bool) → (a || a) ≡ a
 or_self true = refl

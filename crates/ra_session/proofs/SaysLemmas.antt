@@ -11,7 +11,7 @@ use Rattle.ra_progress.specs.Saying.{says}
 use Rattle.ra_progress.proofs.Checks.{none_accepted}
 use Rattle.ra_meaning.specs.Earned.{earned_in}
 use Rattle.ra_meaning.specs.Order.{shape_of}
-use Rattle.ra_meaning.proofs.Snapshots.{is_shape, said_is_opening}
+use Rattle.ra_meaning.proofs.Openings.Snapshots.{is_shape, said_is_opening}
 use Rattle.ra_session.specs.Expected.{progress_limit}
 use Rattle.ra_session.specs.Loading.{AreAccepted, BeginsAt}
 use Rattle.ra_session.specs.Playing.{IsPlayable}

@@ -17,8 +17,8 @@ use Rattle.ra_meaning.specs.Earned.{Earned, HoldTriggered, both_earned, earned_i
 use Rattle.ra_meaning.specs.Openings.{start_of, snapshot, plain_opening}
 use Rattle.ra_meaning.specs.Play.{Moment, moved, lines, unlocks, earns, shown, first_moment, kept_in}
 use Rattle.ra_session.specs.declared.player.Player.{Player}
-use Rattle.ra_meaning.proofs.EarnedItems.{opening_with}
-use Rattle.ra_meaning.proofs.Snapshots.{plain_is_opening, opening_comes_back, snapshot_fits}
+use Rattle.ra_meaning.proofs.Earned.Items.{opening_with}
+use Rattle.ra_meaning.proofs.Openings.Snapshots.{plain_is_opening, opening_comes_back, snapshot_fits}
 use Rattle.ra_session.specs.Loading.{AreAccepted, BeginsAt}
 use Rattle.ra_session.proofs.EarnedLemmas.{earned_self, earned_later, kept_earned, earns_hold, save_holds, restored_with, none_and_file, opened_with, opened_holds, plain_earned}
 use Rattle.ra_session.specs.Playing.{StandsAt, IsPlayable, IsSaveOf, HoldsKept, HoldEachKept, TakesEmpty, TakesUpFrom, Plays, slots_of}

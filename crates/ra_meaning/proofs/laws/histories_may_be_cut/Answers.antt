@@ -1,4 +1,4 @@
-use Rattle.ra_meaning.proofs.Law.{cuts_anywhere}
+use Rattle.ra_meaning.proofs.Cuts.Law.{cuts_anywhere}
 use Rattle.ra_meaning.proofs.laws.histories_may_be_cut.Goals as goal
 
 pub returns : goal.returns

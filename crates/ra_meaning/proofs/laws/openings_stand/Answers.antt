@@ -1,7 +1,7 @@
 use Rattle.ra_progress.proofs.Again.{again}
 use Rattle.ra_meaning.specs.Order.{shape_of}
-use Rattle.ra_meaning.proofs.Snapshots.{plain_is_opening, snapshot_fits, is_shape, said_is_opening}
-use Rattle.ra_meaning.proofs.Unplayed.{snapshot_none}
+use Rattle.ra_meaning.proofs.Openings.Snapshots.{plain_is_opening, snapshot_fits, is_shape, said_is_opening}
+use Rattle.ra_meaning.proofs.Openings.Unplayed.{snapshot_none}
 use Rattle.ra_meaning.proofs.laws.openings_stand.Goals as goal
 
 pub returns : goal.returns

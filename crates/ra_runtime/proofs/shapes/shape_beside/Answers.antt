@@ -5,7 +5,7 @@ use Rattle.ra_progress.specs.Contents.{ShapeContents, shape_contents}
 use Rattle.ra_progress.specs.Layout.{length_of}
 use Rattle.ra_progress.specs.Names.{IsOrder, IsPaired}
 use Rattle.ra_meaning.specs.Order as spec
-use Rattle.ra_meaning.proofs.Snapshots.{is_paired}
+use Rattle.ra_meaning.proofs.Openings.Snapshots.{is_paired}
 use Rattle.ra_runtime.proofs.shapes.shape_beside.Goals as goal
 
 pub returns-clause-shape : goal.returns-clause-shape

@@ -5,7 +5,7 @@ use Rattle.ra_items.specs.Planning.{GrowsByItems}
 use Rattle.ra_items.specs.Shapes.{run_shape, IsSmall}
 use Rattle.ra_runtime.proofs.MadeLemmas.{few_cells, few_tracked, names_set}
 use Rattle.ra_items.proofs.ShapeLemmas.{runs_shaped, items_small}
-use Rattle.ra_meaning.proofs.SmallShape.{small_shape}
+use Rattle.ra_meaning.proofs.Counts.SmallShape.{small_shape}
 use Rattle.ra_runtime.proofs.shapes.shape_of.Goals as goal
 
 pub shape_beside-requires-clause-names : goal.shape_beside-requires-clause-names

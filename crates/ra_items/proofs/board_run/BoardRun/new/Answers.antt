@@ -4,7 +4,7 @@ use Rattle.ra_leaderboard.specs.Contents.{board_contents}
 use Rattle.ra_set.specs.Limits.{value_conditions}
 use Rattle.ra_member.specs.Members.{MemberContents}
 use Rattle.ra_meaning.specs.Order.{board_member, progress_in}
-use Rattle.ra_meaning.proofs.ItemCounts.{progress_conditions}
+use Rattle.ra_meaning.proofs.Counts.Items.{progress_conditions}
 use Rattle.ra_items.proofs.board_run.BoardRun.new.Goals as goal
 
 pub add_value-requires-clause-room : goal.add_value-requires-clause-room

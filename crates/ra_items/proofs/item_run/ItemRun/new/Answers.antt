@@ -1,6 +1,6 @@
 use Rattle.ra_leaderboard.specs.Contents.{board_contents}
 use Rattle.std.proofs.Common.{arith}
-use Rattle.ra_meaning.proofs.ItemCounts.{board_conditions}
+use Rattle.ra_meaning.proofs.Counts.Items.{board_conditions}
 use Rattle.ra_items.proofs.WaitingLemmas.{leaderboard_made}
 use Rattle.ra_items.proofs.item_run.ItemRun.new.Goals as goal
 

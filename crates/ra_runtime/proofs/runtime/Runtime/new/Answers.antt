@@ -7,7 +7,7 @@ use Rattle.ra_items.specs.declared.item_run.ItemRun.{ItemRun}
 use Rattle.ra_items.specs.Shapes.{run_shape, IsSmall}
 use Rattle.ra_runtime.proofs.LaidShapes.{laid_shapes, laid_small, laid_presence, laid_small_presence}
 use Rattle.ra_items.proofs.ShapeLemmas.{have_digits}
-use Rattle.ra_meaning.proofs.SmallShape.{small_shape}
+use Rattle.ra_meaning.proofs.Counts.SmallShape.{small_shape}
 use Rattle.ra_runtime.proofs.runtime.Runtime.new.Goals as goal
 
 -- no frame came where there is no number of one

@@ -22,7 +22,7 @@ use Rattle.ra_items.specs.Shapes.{run_shape}
 use Rattle.ra_items.proofs.RestoredRuns.{items_have, display_has}
 use Rattle.ra_items.proofs.ShapeLemmas.{runs_shaped}
 use Rattle.ra_runtime.proofs.LaidShapes.{presence_shaped}
-use Rattle.ra_meaning.proofs.Snapshots.{script_has_lines}
+use Rattle.ra_meaning.proofs.Openings.Snapshots.{script_has_lines}
 use Rattle.ra_runtime.proofs.TakenUp.{over_restored, marked_restored, kept_restored}
 use Rattle.ra_items.specs.ItemRuns.{kept_run}
 use Rattle.ra_items.specs.Rests.{AreRests, seen_by}

@@ -13,7 +13,7 @@ use Rattle.ra_trigger.specs.States.{is_triggered, is_cleared}
 use Rattle.ra_trigger.specs.Steps.{frames_along, greatest_of, together, TriggerKept, kept_after, step as trigger_step, hits_after_truth}
 use Rattle.ra_value.specs.Steps.{ValueKept, PartStep, part_step, part_steps, number_after, step as value_step}
 use Rattle.ra_meaning.proofs.Each.{each_take, each_drop, each_replicate, each_at, each_map, each_map_of, each_flat_map}
-use Rattle.ra_meaning.proofs.TreeWords.{IsWord, if_word}
+use Rattle.ra_meaning.proofs.Words.Trees.{IsWord, if_word}
 
 -- numbers of 32 bits
 abbrev pub AreAllWords : List ℕ → Type 0

@@ -14,7 +14,7 @@ use Rattle.ra_progress.specs.Contents.{Opening}
 use Rattle.ra_meaning.specs.Order.{trees_in_set, set_cells, set_tracked}
 use Rattle.ra_meaning.specs.Openings.{number_beside, prior_beside, start_of, snapshot}
 use Rattle.ra_member.proofs.Listed.{In, In_front, In_behind, In_split, In_flat, In_firsts, In_of_firsts, InOne, In_one, map_agree}
-use Rattle.ra_meaning.proofs.Agreeing.{value_agrees}
+use Rattle.ra_meaning.proofs.Openings.Agreeing.{value_agrees}
 
 -- beside a list of cells stand the numbers that a function gives them
 pub found_number : (f : Cell → ℕ) (c : Cell) (cells : List Cell) → In c cells → number_beside cells (map f cells) c ≡ f c

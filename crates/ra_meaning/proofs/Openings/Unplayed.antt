@@ -13,7 +13,7 @@ use Rattle.ra_progress.specs.Contents.{KeptItem, OfAchievement, OfBoard, KeptPre
 use Rattle.ra_member.proofs.Opened.{member_opened, members_opened}
 use Rattle.ra_meaning.specs.Order.{board_member, trees_in_set, set_cells, set_tracked, script_members, item_shape, presence_shape, shape_of}
 use Rattle.ra_meaning.specs.Openings.{start_of, frames_after, item_after, optional_presence, snapshot}
-use Rattle.ra_meaning.proofs.Beside.{apart_firsts, numbers_beside, priors_beside}
+use Rattle.ra_meaning.proofs.Openings.Beside.{apart_firsts, numbers_beside, priors_beside}
 
 -- a state byte in its table is that of the state that it says
 pub byte_again : (state : ℕ) → state ≤ 4 → state_byte (state_of state) ≡ state

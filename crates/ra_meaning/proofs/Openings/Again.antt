@@ -12,7 +12,7 @@ use Rattle.ra_member.proofs.Opened.{member_again}
 use Rattle.ra_meaning.specs.Order.{board_member}
 use Rattle.ra_meaning.specs.Boards.{BoardKept, opened_board, kept_board}
 use Rattle.ra_meaning.specs.Openings.{opened_achievement, kept_achievement}
-use Rattle.ra_meaning.proofs.Fitting.{BoardFits}
+use Rattle.ra_meaning.proofs.Counts.Fitting.{BoardFits}
 
 state_again : (s : State) → state_of (state_byte s) ≡ s
 state_again Waiting = refl

@@ -12,9 +12,9 @@ use Rattle.ra_leaderboard.specs.Spelled.{IsBoard}
 use Rattle.ra_set.specs.Contents.{ItemContents, Unlocks, Ranks, SetContents}
 use Rattle.ra_set.specs.Spelled.{IsItem, IsSpelled}
 use Rattle.ra_meaning.specs.Order.{board_member, progress_in}
-use Rattle.ra_meaning.proofs.SpelledTrees.{HasOperands, FitsGroup}
-use Rattle.ra_meaning.proofs.MemberWords.{FitsTrigger, FitsPart, FitsValue, FitsMember}
-use Rattle.ra_meaning.proofs.ItemWords.{FitsItem}
+use Rattle.ra_meaning.proofs.Spelled.Trees.{HasOperands, FitsGroup}
+use Rattle.ra_meaning.proofs.Words.Members.{FitsTrigger, FitsPart, FitsValue, FitsMember}
+use Rattle.ra_meaning.proofs.Words.Items.{FitsItem}
 
 pub weaker : {A : Type 0} (P Q : A → Type 0) → ((a : A) → P a → Q a) → (xs : List A) → All P xs → AllByRecursion Q xs
 weaker P Q each xs all = recursion_from_All Q xs (All-weaker P Q each xs all)

@@ -11,7 +11,7 @@ use Rattle.ra_progress.specs.Contents.{ItemFits, ItemsFit, PresenceFits, IsOpeni
 use Rattle.ra_meaning.specs.Order.{presence_shape, shape_of}
 use Rattle.ra_meaning.specs.Openings.{plain_opening}
 use Rattle.ra_meaning.proofs.Each.{each_replicate}
-use Rattle.ra_meaning.proofs.TreeWords.{IsWord}
+use Rattle.ra_meaning.proofs.Words.Trees.{IsWord}
 
 -- a script, where there is one, has a line
 abbrev pub HasLines : SetContents → Type 0

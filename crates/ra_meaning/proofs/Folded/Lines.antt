@@ -17,7 +17,7 @@ use Rattle.ra_meaning.specs.FoldLaws.{AreFolds}
 use Rattle.ra_meaning.specs.Histories.{achievement_after, test_hits, value_after}
 use Rattle.ra_display.specs.Presence.{DisplayKept, line_holds, first_true, display_next, display_after}
 use Rattle.ra_meaning.specs.PresenceLaws.{kept_line, line_after, line_test_hits, line_truth, shown_line}
-use Rattle.ra_meaning.proofs.FoldedBoards.{by_fields}
+use Rattle.ra_meaning.proofs.Folded.Boards.{by_fields}
 
 module _ (start : Start) where
   abbrev tests_fold : List TriggerContents → List (List ℕ) → History → List (List ℕ)

@@ -24,11 +24,11 @@ use Rattle.ra_meaning.specs.Order.{board_member, item_shape}
 use Rattle.ra_meaning.specs.Histories.{achievement_after}
 use Rattle.ra_meaning.specs.Boards.{BoardKept, running_values, board_next, board_after, opened_board}
 use Rattle.ra_meaning.specs.Openings.{opened_achievement, item_after}
-use Rattle.ra_meaning.proofs.Fitting.{board_fits}
-use Rattle.ra_meaning.proofs.OpeningFits.{opened_fits}
-use Rattle.ra_meaning.proofs.TreeWords.{AreStartWords}
-use Rattle.ra_meaning.proofs.GroupWords.{AreTriggerWords, step_words, AreValueWords}
-use Rattle.ra_meaning.proofs.MemberWords.{FitsTrigger, FitsValue, FitsMember, AreMemberWords, opened_words, saved_words, no_values_words, lefts_words, tests_words, values_words}
+use Rattle.ra_meaning.proofs.Counts.Fitting.{board_fits}
+use Rattle.ra_meaning.proofs.Openings.Fits.{opened_fits}
+use Rattle.ra_meaning.proofs.Words.Trees.{AreStartWords}
+use Rattle.ra_meaning.proofs.Words.Groups.{AreTriggerWords, step_words, AreValueWords}
+use Rattle.ra_meaning.proofs.Words.Members.{FitsTrigger, FitsValue, FitsMember, AreMemberWords, opened_words, saved_words, no_values_words, lefts_words, tests_words, values_words}
 
 -- the operands of an item are of 32 bits
 abbrev pub FitsItem : ItemContents → Type 0

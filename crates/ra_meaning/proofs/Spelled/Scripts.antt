@@ -10,9 +10,9 @@ use Rattle.ra_richpresence.specs.Spelled.{IsPiece, IsTested, IsUntested, IsDispl
 use Rattle.ra_set.specs.Spelled.{OptionalScript}
 use Rattle.ra_meaning.specs.Order.{tests_in}
 use Rattle.ra_meaning.proofs.Each.{each_append}
-use Rattle.ra_meaning.proofs.MemberWords.{FitsTrigger, FitsValue}
-use Rattle.ra_meaning.proofs.PresenceWords.{FitsLine, HasUntested, FitsScript}
-use Rattle.ra_meaning.proofs.SpelledSets.{weaker, spelled_trigger, spelled_value}
+use Rattle.ra_meaning.proofs.Words.Members.{FitsTrigger, FitsValue}
+use Rattle.ra_meaning.proofs.Words.Presence.{FitsLine, HasUntested, FitsScript}
+use Rattle.ra_meaning.proofs.Spelled.Sets.{weaker, spelled_trigger, spelled_value}
 
 spelled_pieces : (pieces : List PieceContents) → AllByRecursion IsPiece pieces → AllByRecursion FitsValue (filter_map value_in pieces)
 spelled_pieces [] are = tt

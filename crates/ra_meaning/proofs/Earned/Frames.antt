@@ -12,7 +12,7 @@ use Rattle.ra_meaning.specs.Earned.{Earned, is_earned, item_with, items_with, wi
 use Rattle.ra_meaning.specs.Histories.{achievement_after}
 use Rattle.ra_meaning.specs.Openings.{start_of, kept_achievement, opened_achievement, item_after, snapshot}
 use Rattle.ra_meaning.specs.Play.{item_events, events, earns, unless_earned, unlocks}
-use Rattle.ra_meaning.proofs.Again.{achievement_again}
+use Rattle.ra_meaning.proofs.Openings.Again.{achievement_again}
 
 module _ (start : Start) (history : History) where
   item_with_after : (e : Bool) (item : ItemContents) (k : KeptItem) → item_after start history (item, item_with e k) ≡ item_with (is_earned (item_after start history (item, item_with e k))) (item_after start history (item, k))

@@ -13,7 +13,7 @@ use Rattle.ra_member.specs.Members.{no_values, values_next}
 use Rattle.ra_meaning.specs.Order.{board_member, progress_in}
 use Rattle.ra_meaning.specs.Boards.{BoardKept, board_next, board_after}
 use Rattle.ra_meaning.specs.BoardLaws.{FieldsKept, fields_kept, running_value, progress_parts, IsByFields}
-use Rattle.ra_meaning.proofs.Fitting.{BoardFits, board_fits}
+use Rattle.ra_meaning.proofs.Counts.Fitting.{BoardFits, board_fits}
 
 -- the value, and the progress where there is one, as both say whether they run and whether they begin anew
 values_apart : (start : Start) (h : History) (runs anew : Bool) (parts : List PartContents) (progress : Option (List PartContents)) (kept : List ValueKept) → length kept ≡ length (parts ∷ progress_in progress)

@@ -27,13 +27,13 @@ use Rattle.ra_meaning.specs.Order.{item_shape, presence_shape, set_cells, set_tr
 use Rattle.ra_meaning.specs.OpeningLaws.{HasDigests}
 use Rattle.ra_progress.specs.Layout.{length_of}
 use Rattle.ra_meaning.specs.Openings.{start_of, frames_after, plain_opening, snapshot}
-use Rattle.ra_meaning.proofs.PlainOpening.{plain_fits}
-pub use Rattle.ra_meaning.proofs.Unplayed.{snapshot_none}
-use Rattle.ra_meaning.proofs.CellWords.{start_words, cells_fit, priors_fit}
-use Rattle.ra_meaning.proofs.ItemWords.{items_fit}
-use Rattle.ra_meaning.proofs.PresenceWords.{HasUntested, FitsScript, presence_fits}
-use Rattle.ra_meaning.proofs.SpelledSets.{spelled_items}
-use Rattle.ra_meaning.proofs.SpelledScripts.{spelled_script, script_in}
+use Rattle.ra_meaning.proofs.Openings.Plain.{plain_fits}
+pub use Rattle.ra_meaning.proofs.Openings.Unplayed.{snapshot_none}
+use Rattle.ra_meaning.proofs.Words.Cells.{start_words, cells_fit, priors_fit}
+use Rattle.ra_meaning.proofs.Words.Items.{items_fit}
+use Rattle.ra_meaning.proofs.Words.Presence.{HasUntested, FitsScript, presence_fits}
+use Rattle.ra_meaning.proofs.Spelled.Sets.{spelled_items}
+use Rattle.ra_meaning.proofs.Spelled.Scripts.{spelled_script, script_in}
 
 -- a script, where there is one, has operands of 32 bits and a line without a test
 abbrev pub HasScript : SetContents → Type 0

@@ -17,7 +17,7 @@ use Rattle.ra_condition.specs.Spelled.{FitsFactor, IsTerm}
 use Rattle.ra_indirect.specs.Trees.{Tree, constant, join}
 use Rattle.ra_chain.specs.Elaboration.{tree_at, operand_tree, pointer_of, last_remembered, recall_of, added, subtracted, sum_after, sum_of, left_operand, right_operand, joined, handed_on, value_by_rules, values_along, values_of, left_of, times, term_tree, summed_from, terms_tree}
 use Rattle.ra_meaning.proofs.Each.{each_at, each_set, each_replicate}
-use Rattle.ra_meaning.proofs.TreeWords.{HasWords}
+use Rattle.ra_meaning.proofs.Words.Trees.{HasWords}
 
 -- both operands of a condition are of 32 bits
 abbrev pub HasOperands : Condition → Type 0

@@ -16,8 +16,8 @@ use Rattle.ra_memref.specs.Names.{cell_name, tracked_name}
 use Rattle.ra_meaning.specs.Openings.{number_beside, prior_beside, start_of, snapshot}
 use Rattle.ra_member.proofs.Listed.{In, In_split, In_of_firsts, In_one}
 use Rattle.ra_meaning.proofs.Each.{each_at, each_drop}
-use Rattle.ra_meaning.proofs.TreeWords.{IsWord, if_word, four_at_most, AreStartWords, cell_word, tracked_word}
-use Rattle.ra_meaning.proofs.GroupWords.{AreAllWords}
+use Rattle.ra_meaning.proofs.Words.Trees.{IsWord, if_word, four_at_most, AreStartWords, cell_word, tracked_word}
+use Rattle.ra_meaning.proofs.Words.Groups.{AreAllWords}
 
 mapped_words : {A : Type 0} (f : A → ℕ) (xs : List A) → ((x : A) → In x xs → IsWord (f x)) → AreAllWords (map f xs)
 mapped_words f [] each = tt

@@ -13,9 +13,9 @@ use Rattle.ra_member.specs.Frames.{left_at, lefts_at, truths_at, sum_at, value_n
 use Rattle.ra_member.specs.Members.{MemberContents, MemberKept, no_values, tests_next, values_next, hit_lengths, number_lengths, saved_hits, saved_numbers, values_of, opened_member}
 use Rattle.ra_member.specs.Rows.{rows_by}
 use Rattle.ra_meaning.proofs.Each.{each_append, each_take, each_drop, each_replicate, each_map, each_map_of, each_flat_map}
-use Rattle.ra_meaning.proofs.TreeWords.{IsWord, AreStartWords, value_word}
-use Rattle.ra_meaning.proofs.SpelledTrees.{FitsGroup, left_words, terms_words}
-use Rattle.ra_meaning.proofs.GroupWords.{AreAllWords, truth_words, AreValueWords, value_words}
+use Rattle.ra_meaning.proofs.Words.Trees.{IsWord, AreStartWords, value_word}
+use Rattle.ra_meaning.proofs.Spelled.Trees.{FitsGroup, left_words, terms_words}
+use Rattle.ra_meaning.proofs.Words.Groups.{AreAllWords, truth_words, AreValueWords, value_words}
 
 -- the operands of a trigger are of 32 bits
 abbrev pub FitsTrigger : TriggerContents → Type 0

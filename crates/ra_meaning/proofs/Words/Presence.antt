@@ -10,12 +10,12 @@ use Rattle.ra_member.proofs.Opened.{members_long}
 use Rattle.ra_meaning.specs.Order.{line_member, script_members, presence_shape}
 use Rattle.ra_display.specs.Presence.{DisplayKept, line_holds, lines_hold, first_true, display_after, opened_display}
 use Rattle.ra_meaning.specs.Openings.{optional_presence}
-use Rattle.ra_meaning.proofs.OpeningFits.{script_fits}
+use Rattle.ra_meaning.proofs.Openings.Fits.{script_fits}
 use Rattle.ra_display.proofs.PresenceCuts.{DisplayFits, display_fits}
 use Rattle.ra_meaning.proofs.Each.{each_append, each_take, each_drop, each_map_of}
-use Rattle.ra_meaning.proofs.TreeWords.{IsWord, AreStartWords}
-use Rattle.ra_meaning.proofs.GroupWords.{AreAllWords}
-use Rattle.ra_meaning.proofs.MemberWords.{FitsMember, AreMemberWords, opened_words, saved_words, tests_words, values_words}
+use Rattle.ra_meaning.proofs.Words.Trees.{IsWord, AreStartWords}
+use Rattle.ra_meaning.proofs.Words.Groups.{AreAllWords}
+use Rattle.ra_meaning.proofs.Words.Members.{FitsMember, AreMemberWords, opened_words, saved_words, tests_words, values_words}
 
 -- some line has no test
 abbrev pub HasUntested : List LineContents → Type 0

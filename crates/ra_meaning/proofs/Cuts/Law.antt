@@ -25,12 +25,12 @@ use Rattle.ra_meaning.specs.Play.{item_events, events, lines, earns, unless_earn
 use Rattle.ra_meaning.specs.Runtime.{CutsAnywhere}
 use Rattle.ra_member.proofs.GoingOn.{GoesOn, goes_on}
 use Rattle.ra_member.proofs.Listed.{In_front, In_behind}
-use Rattle.ra_meaning.proofs.ItemCuts.{goes_front, goes_behind, achievement_cut, board_cut}
-use Rattle.ra_meaning.proofs.Fitting.{BoardFits, board_fits}
-use Rattle.ra_meaning.proofs.Again.{achievement_again, board_again}
-use Rattle.ra_meaning.proofs.OpeningFits.{opened_fits, script_fits}
+use Rattle.ra_meaning.proofs.Cuts.Items.{goes_front, goes_behind, achievement_cut, board_cut}
+use Rattle.ra_meaning.proofs.Counts.Fitting.{BoardFits, board_fits}
+use Rattle.ra_meaning.proofs.Openings.Again.{achievement_again, board_again}
+use Rattle.ra_meaning.proofs.Openings.Fits.{opened_fits, script_fits}
 use Rattle.ra_display.proofs.PresenceCuts.{display_goes_on}
-use Rattle.ra_meaning.proofs.Covered.{tree_alike, cells_cut, priors_cut}
+use Rattle.ra_meaning.proofs.Openings.Covered.{tree_alike, cells_cut, priors_cut}
 
 -- what is triggered stays so
 stays : (b : Bool) (k other : TriggerKept) → b ≡ true → is_triggered k.state ≡ true → is_triggered (if b then k else other).state ≡ true

@@ -1,0 +1,3 @@
+-- The law of cuts.
+pub mod Items
+pub mod Law

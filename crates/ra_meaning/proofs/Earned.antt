@@ -1,0 +1,3 @@
+-- What is earned.
+pub mod Frames
+pub mod Items

@@ -1,0 +1,4 @@
+-- What texts spell.
+pub mod Scripts
+pub mod Sets
+pub mod Trees
