@@ -1,16 +1,12 @@
 //! Texts of boards, and the states of an attempt row by row.
 
-use ra_condition::{Part, Refused, TriggerText, ValueText};
+use crate::reading::{Reader, other_refusal};
+use ra_condition::{Part, TriggerText, ValueText};
 use ra_leaderboard::BoardState::{Active, Cancelled, Started, Submitted, Waiting};
 use ra_leaderboard::{Board, BoardState, parse_board, take_board};
 use ra_operand::Operand;
 use ra_text::Cursor;
 use std::alloc::Global;
-
-// The text is refused as a board, and its first bad place is this.
-fn is_no_board(alloc: Global, text: &str, at: usize) -> bool {
-    parse_board(alloc, text.as_bytes()).err() == Some(Refused::Syntax { at })
-}
 
 // The number that the first condition of a trigger compares with.
 fn number_of(trigger: &TriggerText) -> Option<u32> {
@@ -20,14 +16,18 @@ fn number_of(trigger: &TriggerText) -> Option<u32> {
     }
 }
 
+// The first operand of a part.
+fn operand_of(part: &Part) -> Option<Operand> {
+    match part {
+        Part::Terms(terms) => Some(terms.first()?.operand),
+        Part::Conditions(group) => Some(group.conditions.first()?.left),
+    }
+}
+
 // The number of the first term or condition of a value.
 fn first_number(value: &ValueText) -> Option<u32> {
-    let operand = match value.parts.first()? {
-        Part::Terms(terms) => terms.first()?.operand,
-        Part::Conditions(group) => group.conditions.first()?.left,
-    };
-    match operand {
-        Operand::Const(number) => Some(number),
+    match operand_of(value.parts.first()?) {
+        Some(Operand::Const(number)) => Some(number),
         _ => None,
     }
 }
@@ -52,9 +52,7 @@ const NO_BOARDS: &[(&str, usize)] = &[
 
 #[test]
 fn boards_are_refused_at_the_first_bad_place(rt: HostRuntime) {
-    for &(text, at) in NO_BOARDS {
-        assert!(rt; is_no_board(rt.alloc(), text, at), "at {text}");
-    }
+    assert_eq!(rt; other_refusal(rt.alloc(), Reader::Board, NO_BOARDS), None);
 }
 
 // The numbers of the fields of the board that the text spells, in the order STA, CAN, SUB, VAL, PRO.

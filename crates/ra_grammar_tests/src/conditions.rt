@@ -1,20 +1,12 @@
 ghost use Rattle.std.specs.Prelude.{◌≤◌, length};
 
+use crate::reading::{Reader, other_refusal, repeated};
 use ra_condition::{
-    Flag, Refused, parse_trigger, parse_value, print_trigger, print_value, read_trigger, read_value,
+    Flag, Refused, TriggerText, parse_trigger, parse_value, print_trigger, print_value,
+    read_trigger, read_value,
 };
 use ra_text::OutOfMemory;
 use std::alloc::Global;
-
-// The text is refused as a trigger, and its first bad place is this.
-fn is_no_trigger(alloc: Global, text: &str, at: usize) -> bool {
-    parse_trigger(alloc, text.as_bytes()).err() == Some(Refused::Syntax { at })
-}
-
-// The text is refused as a value, and its first bad place is this.
-fn is_no_value(alloc: Global, text: &str, at: usize) -> bool {
-    parse_value(alloc, text.as_bytes()).err() == Some(Refused::Syntax { at })
-}
 
 // The text spells a trigger with this canonical text.
 fn trigger_prints(alloc: Global, text: &str, canonical: &str) -> bool {
@@ -38,14 +30,20 @@ fn value_prints(alloc: Global, text: &str, canonical: &str) -> bool {
     }
 }
 
-// The flag of the first condition of the trigger that the text spells.
-fn first_flag(alloc: Global, text: &str) -> Option<Flag> {
-    let trigger = parse_trigger(alloc, text.as_bytes()).ok()?;
-    trigger
-        .core
-        .conditions
-        .first()
-        .map(|condition| condition.flag)
+// The first condition of the trigger has this flag.
+fn is_first_flag(trigger: &TriggerText, flag: Flag) -> bool {
+    match trigger.core.conditions.first() {
+        Some(condition) => condition.flag == flag,
+        None => false,
+    }
+}
+
+// The text spells a trigger whose first condition has this flag.
+fn has_flag(alloc: Global, text: &str, flag: Flag) -> bool {
+    match parse_trigger(alloc, text.as_bytes()) {
+        Ok(trigger) => is_first_flag(&trigger, flag),
+        Err(_) => false,
+    }
 }
 
 // Texts that are no trigger, and their first bad place.
@@ -92,9 +90,10 @@ const NO_TRIGGERS: &[(&str, usize)] = &[
 
 #[test]
 fn triggers_are_refused_at_the_first_bad_place(rt: HostRuntime) {
-    for &(text, at) in NO_TRIGGERS {
-        assert!(rt; is_no_trigger(rt.alloc(), text, at), "at {text}");
-    }
+    assert_eq!(rt;
+        other_refusal(rt.alloc(), Reader::Trigger, NO_TRIGGERS),
+        None
+    );
 }
 
 // Texts of triggers, and their canonical text.
@@ -153,8 +152,7 @@ const FLAGS: &[(&str, &str, Flag)] = &[
 // The place of the first condition that is read with another flag, in one of its cases.
 fn other_flag(alloc: Global, rows: &[(&str, &str, Flag)]) -> Option<usize> {
     for (place, (upper, lower, flag)) in rows.iter().enumerate() {
-        let found = [first_flag(alloc, *upper), first_flag(alloc, *lower)];
-        if !(found == [Some(*flag); 2]) {
+        if !(has_flag(alloc, *upper, *flag) && has_flag(alloc, *lower, *flag)) {
             return Some(place);
         }
     }
@@ -176,9 +174,9 @@ fn alts_from(alloc: Global, text: &[u8], at: usize) -> Result<(usize, usize), Re
 
 #[test]
 fn triggers_are_read_from_a_place(rt: HostRuntime) {
-    assert_eq!(rt; alts_from(rt.alloc(), b"STA:0=1S0=2::CAN", 4), Ok((1, 11)));
-    let refused = Refused::Syntax { at: 8 };
-    assert_eq!(rt; alts_from(rt.alloc(), b"STA:0=1_::CAN", 4), Err(refused));
+    let read = alts_from(rt.alloc(), b"STA:0=1S0=2::CAN", 4) == Ok((1, 11));
+    let refused = Err(Refused::Syntax { at: 8 });
+    assert!(rt; read && alts_from(rt.alloc(), b"STA:0=1_::CAN", 4) == refused);
 }
 
 // Texts that are no value, and their first bad place.
@@ -203,9 +201,7 @@ const NO_VALUES: &[(&str, usize)] = &[
 
 #[test]
 fn values_are_refused_at_the_first_bad_place(rt: HostRuntime) {
-    for &(text, at) in NO_VALUES {
-        assert!(rt; is_no_value(rt.alloc(), text, at), "at {text}");
-    }
+    assert_eq!(rt; other_refusal(rt.alloc(), Reader::Value, NO_VALUES), None);
 }
 
 // Texts of values, and their canonical text.
@@ -239,22 +235,15 @@ fn parts_from(alloc: Global, text: &[u8], at: usize) -> Result<(usize, usize), R
 
 #[test]
 fn values_are_read_from_a_place(rt: HostRuntime) {
-    assert_eq!(rt; parts_from(rt.alloc(), b"@N(M:0=1(3))", 3), Ok((1, 11)));
-    let refused = Refused::Syntax { at: 8 };
-    assert_eq!(rt; parts_from(rt.alloc(), b"@N(A:0=1)", 3), Err(refused));
+    let read = parts_from(rt.alloc(), b"@N(M:0=1(3))", 3) == Ok((1, 11));
+    let refused = Err(Refused::Syntax { at: 8 });
+    assert!(rt; read && parts_from(rt.alloc(), b"@N(A:0=1)", 3) == refused);
 }
 
-// A text of 65,536 conditions, and what stands behind them.
+// A text of 65,535 conditions, and what stands behind them.
 fn long_text(alloc: Global, end: &[u8]) -> Result<Vec<u8>, OutOfMemory> {
-    let mut text = Vec::new(alloc);
-    for _ in 0..65535u32 {
-        text.extend_from_slice(
-            b"M:d0xH0000000000000010=99999999999999999999999.000000000000010._",
-        )?;
-    }
-    text.extend_from_slice(b"0=1")?;
-    text.extend_from_slice(end)?;
-    Ok(text)
+    let condition = b"M:d0xH0000000000000010=99999999999999999999999.000000000000010._";
+    repeated(alloc, &[], condition, 65_535, end)
 }
 
 // How many conditions the core group of a trigger has.
@@ -271,8 +260,8 @@ fn long_count(alloc: Global, end: &[u8]) -> Result<(Result<usize, Refused>, usiz
 
 #[test]
 fn a_trigger_of_four_mebibytes_is_read(rt: HostRuntime) -> Result<(), OutOfMemory> {
-    assert_eq!(rt; long_count(rt.alloc(), b"")?, (Ok(65_536), 4_194_243));
+    assert_eq!(rt; long_count(rt.alloc(), b"0=1")?, (Ok(65_536), 4_194_243));
     let refused = Refused::Syntax { at: 4_194_244 };
-    assert_eq!(rt; long_count(rt.alloc(), b"_")?, (Err(refused), 4_194_244));
+    assert_eq!(rt; long_count(rt.alloc(), b"0=1_")?, (Err(refused), 4_194_244));
     Ok(())
 }

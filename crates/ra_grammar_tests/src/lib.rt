@@ -14,6 +14,10 @@ mod numbers;
 #[cfg(test)]
 mod operands;
 #[cfg(test)]
+mod pieces;
+#[cfg(test)]
+mod reading;
+#[cfg(test)]
 mod script_limits;
 #[cfg(test)]
 mod scripts;

@@ -1,16 +1,9 @@
+use crate::pieces::{Shown, ends_with, has_pieces};
+use crate::reading::{Reader, other_refusal};
 use ra_condition::Refused;
-use ra_richpresence::{Line, Lookup, Piece, Script, one_script, parse_script};
+use ra_richpresence::{Lookup, Script, one_script, parse_script};
 use ra_value_format::Format;
 use std::alloc::Global;
-
-// The place where the text is refused, if it is.
-fn refused_at(alloc: Global, text: &[u8]) -> Option<Option<usize>> {
-    match parse_script(alloc, text) {
-        Ok(_) => None,
-        Err(Refused::Syntax { at }) => Some(Some(at)),
-        Err(Refused::Memory) => Some(None),
-    }
-}
 
 // Texts that are no script, and where their first bad line begins.
 const NO_SCRIPTS: &[(&str, usize)] = &[
@@ -49,10 +42,7 @@ const NO_SCRIPTS: &[(&str, usize)] = &[
 
 #[test]
 fn scripts_are_refused_at_their_first_bad_line(rt: HostRuntime) {
-    for &(text, at) in NO_SCRIPTS {
-        let refused = refused_at(rt.alloc(), text.as_bytes());
-        assert!(rt; refused == Some(Some(at)), "at {text}");
-    }
+    assert_eq!(rt; other_refusal(rt.alloc(), Reader::Script, NO_SCRIPTS), None);
 }
 
 // Texts of scripts.
@@ -75,29 +65,17 @@ const SCRIPTS: &[&str] = &[
     "Display:  \t\nHi\r",
 ];
 
+fn is_script(alloc: Global, text: &[u8]) -> bool {
+    match parse_script(alloc, text) {
+        Ok(_) => true,
+        Err(_) => false,
+    }
+}
+
 #[test]
 fn scripts_are_accepted(rt: HostRuntime) {
     for &text in SCRIPTS {
-        assert!(rt;
-            refused_at(rt.alloc(), text.as_bytes()).is_none(),
-            "at {text}"
-        );
-    }
-}
-
-// The bytes of a line's only piece, if it is a text.
-fn only_text(line: &Line) -> Option<&[u8]> {
-    match line.pieces.as_slice() {
-        [Piece::Text(text)] => Some(text.as_slice()),
-        _ => None,
-    }
-}
-
-// The text of a script's only line, if it is one.
-fn last_text(script: &Script) -> Option<&[u8]> {
-    match script.lines.as_slice() {
-        [line] => only_text(line),
-        _ => None,
+        assert!(rt; is_script(rt.alloc(), text.as_bytes()), "at {text}");
     }
 }
 
@@ -106,10 +84,7 @@ fn shows(alloc: Global, text: &[u8], shown: &[u8]) -> bool {
     let Ok(script) = parse_script(alloc, text) else {
         return false;
     };
-    match last_text(&script) {
-        Some(found) => found == shown,
-        None => false,
-    }
+    script.lines.len() == 1 && ends_with(&script, &[Shown::Text(shown)])
 }
 
 // Texts of scripts of one line, and the text of it.
@@ -208,35 +183,25 @@ fn keys_have_ranges_and_a_text(rt: HostRuntime) {
     assert!(rt; sample_has_ranges(rt.alloc()));
 }
 
-// The pieces are three texts around two macros.
-fn are_maximal(pieces: &[Piece]) -> bool {
-    match pieces {
-        [
-            Piece::Text(yes),
-            Piece::Macro { name: format, .. },
-            Piece::Text(at),
-            Piece::Macro { name: lookup, .. },
-            Piece::Text(mark),
-        ] => {
-            yes.as_slice() == b"Yes ".as_slice()
-                && format.as_slice() == b"F".as_slice()
-                && at.as_slice() == b"@".as_slice()
-                && lookup.as_slice() == b"L".as_slice()
-                && mark.as_slice() == b"!".as_slice()
-        }
-        _ => false,
-    }
-}
+// Three texts around two macros.
+const MAXIMAL: &[Shown<'static>] = &[
+    Shown::Text(b"Yes "),
+    Shown::Macro(b"F"),
+    Shown::Text(b"@"),
+    Shown::Macro(b"L"),
+    Shown::Text(b"!"),
+];
 
 // The texts of the sample's two lines are as long as they can be.
 fn has_maximal_texts(script: &Script) -> bool {
-    match script.lines.as_slice() {
-        [tested, last] => {
-            tested.test.is_some()
-                && only_text(last) == Some(b"No".as_slice())
-                && are_maximal(tested.pieces.as_slice())
+    match script.lines.first() {
+        Some(tested) => {
+            script.lines.len() == 2
+                && tested.test.is_some()
+                && has_pieces(tested, MAXIMAL)
+                && ends_with(script, &[Shown::Text(b"No")])
         }
-        _ => false,
+        None => false,
     }
 }
 

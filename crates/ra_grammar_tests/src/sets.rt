@@ -1,17 +1,14 @@
 //! Set files by their lines, and the limits of a set.
 
+use crate::reading::{Reader, counts, is_refused, other_refusal, repeated};
 use ra_condition::TriggerText;
 use ra_operand::Operand;
 use ra_set::{Item, SetRefused, Which, conditions, parse_set};
+use ra_text::OutOfMemory;
 use ra_value_format::Format;
 use std::alloc::Global;
 use std::fmt::Write;
 use std::test::Fail;
-
-// The file is refused for this reason.
-fn is_refused(alloc: Global, text: &str, why: SetRefused) -> bool {
-    parse_set(alloc, text.as_bytes()).err() == Some(why)
-}
 
 // Texts that are no set file, and their first bad place.
 const NO_FILES: &[(&str, usize)] = &[
@@ -42,17 +39,12 @@ const NO_FILES: &[(&str, usize)] = &[
 
 #[test]
 fn files_are_refused_at_the_first_bad_place(rt: HostRuntime) {
-    for &(text, at) in NO_FILES {
-        assert!(rt;
-            is_refused(rt.alloc(), text, SetRefused::Syntax { at }),
-            "at {text}"
-        );
-    }
+    assert_eq!(rt; other_refusal(rt.alloc(), Reader::Set, NO_FILES), None);
 }
 
 #[test]
 fn a_bad_place_behind_a_repeat_is_told(rt: HostRuntime) {
-    let text = "A 1 0=1\nA 1 0=1\nA 01 ";
+    let text = b"A 1 0=1\nA 1 0=1\nA 01 ";
     assert!(rt; is_refused(rt.alloc(), text, SetRefused::Syntax { at: 19 }));
 }
 
@@ -76,7 +68,7 @@ const REPEATS: &[(&str, u32, u32)] = &[
 fn the_first_line_that_repeats_an_id_is_told(rt: HostRuntime) {
     for &(text, id, line) in REPEATS {
         let again = SetRefused::DuplicateId { id, line };
-        assert!(rt; is_refused(rt.alloc(), text, again), "at {text}");
+        assert!(rt; is_refused(rt.alloc(), text.as_bytes(), again), "at {text}");
     }
 }
 
@@ -194,15 +186,7 @@ fn a_digest_is_that_of_all_bytes(rt: HostRuntime) {
 
 // The file is refused since it passes this limit.
 fn passes(alloc: Global, text: &[u8], which: Which, found: u64) -> bool {
-    parse_set(alloc, text).err() == Some(SetRefused::Limit { which, found })
-}
-
-// The file is a set of so many items and conditions.
-fn counts(alloc: Global, text: &[u8], items: usize, count: u64) -> bool {
-    match parse_set(alloc, text) {
-        Ok(set) => set.items.len() == items && conditions(&set) == count,
-        Err(_) => false,
-    }
+    is_refused(alloc, text, SetRefused::Limit { which, found })
 }
 
 #[test]
@@ -246,7 +230,7 @@ fn are_repeated(alloc: Global, count: u32, id: u32, line: u32) -> Result<bool, F
     let mut text = achievements(alloc, count)?;
     write!(text, "A {id} ")?;
     let again = SetRefused::DuplicateId { id, line };
-    Ok(is_refused(alloc, &text, again))
+    Ok(is_refused(alloc, text.as_bytes(), again))
 }
 
 #[test]
@@ -255,32 +239,27 @@ fn a_repeated_id_is_told_before_too_many_items(rt: HostRuntime) -> Result<(), Fa
     Ok(())
 }
 
-// A file of an achievement of so many conditions.
-fn conditions_of_one(alloc: Global, count: u32) -> Result<String, Fail> {
-    let mut text = String::new(alloc);
-    text.push_str("A 1 0=1")?;
-    for _ in 1..count {
-        text.push_str("_0=1")?;
-    }
-    Ok(text)
+// A file of an achievement of so many conditions more than one, and what stands behind it.
+fn conditions_of_one(alloc: Global, more: u32, end: &[u8]) -> Result<Vec<u8>, OutOfMemory> {
+    repeated(alloc, b"A 1 0=1", b"_0=1", more, end)
 }
 
-// Whether an achievement of so many conditions is a set, and one condition more is too many.
-fn are_most_conditions(alloc: Global, count: u32) -> Result<bool, Fail> {
-    let mut text = conditions_of_one(alloc, count)?;
-    let most = counts(alloc, text.as_bytes(), 1, u64::from(count));
-    text.push_str("\nA 2 0=1")?;
-    let over = passes(
-        alloc,
-        text.as_bytes(),
-        Which::Conditions,
-        u64::from(count) + 1,
-    );
-    Ok(most && over)
+// Whether an achievement of so many conditions more than one is a set of so many.
+fn are_conditions(alloc: Global, more: u32, count: u64) -> Result<bool, OutOfMemory> {
+    let text = conditions_of_one(alloc, more, &[])?;
+    Ok(counts(alloc, &text, 1, count))
+}
+
+// Whether it is refused for so many with one condition more in the next line.
+fn are_too_many_conditions(alloc: Global, more: u32, found: u64) -> Result<bool, OutOfMemory> {
+    let text = conditions_of_one(alloc, more, b"\nA 2 0=1")?;
+    Ok(passes(alloc, &text, Which::Conditions, found))
 }
 
 #[test]
-fn a_set_has_at_most_so_many_conditions(rt: HostRuntime) -> Result<(), Fail> {
-    assert!(rt; are_most_conditions(rt.alloc(), 65_536)?);
+fn a_set_has_at_most_so_many_conditions(rt: HostRuntime) -> Result<(), OutOfMemory> {
+    let most = are_conditions(rt.alloc(), 65_535, 65_536)?;
+    let over = are_too_many_conditions(rt.alloc(), 65_535, 65_537)?;
+    assert!(rt; most && over);
     Ok(())
 }

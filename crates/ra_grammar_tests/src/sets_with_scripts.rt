@@ -1,14 +1,10 @@
 //! Set files with a presence script.
 
-use ra_richpresence::Piece;
+use crate::pieces::{Shown, ends_with};
+use crate::reading::{Reader, counts, is_refused, other_refusal, repeated};
 use ra_set::{Set, SetRefused, Which, conditions, parse_set};
+use ra_text::OutOfMemory;
 use std::alloc::Global;
-use std::test::Fail;
-
-// The file is refused for this reason.
-fn is_refused(alloc: Global, text: &str, why: SetRefused) -> bool {
-    parse_set(alloc, text.as_bytes()).err() == Some(why)
-}
 
 // Files whose script is none, and their first bad place.
 const BAD_SCRIPTS: &[(&str, usize)] = &[
@@ -35,41 +31,29 @@ const BAD_SCRIPTS: &[(&str, usize)] = &[
 
 #[test]
 fn scripts_are_refused_at_their_first_bad_place(rt: HostRuntime) {
-    for &(text, at) in BAD_SCRIPTS {
-        assert!(rt;
-            is_refused(rt.alloc(), text, SetRefused::Syntax { at }),
-            "at {text}"
-        );
-    }
+    assert_eq!(rt; other_refusal(rt.alloc(), Reader::Set, BAD_SCRIPTS), None);
 }
 
 #[test]
 fn an_id_that_is_repeated_before_a_script_is_told(rt: HostRuntime) {
-    let text = "A 1 0=1\n#\nA 1 0=1\nP\nDisplay:\nx";
+    let text = b"A 1 0=1\n#\nA 1 0=1\nP\nDisplay:\nx";
     let again = SetRefused::DuplicateId { id: 1, line: 3 };
     assert!(rt; is_refused(rt.alloc(), text, again));
 }
 
-// The bytes of the last line of a set's script, if it has no macro.
-fn last_text(set: &Set) -> Option<&[u8]> {
-    let script = set.script.as_ref()?;
-    match script.lines.as_slice() {
-        [.., line] => match line.pieces.as_slice() {
-            [Piece::Text(text)] => Some(text.as_slice()),
-            _ => None,
-        },
-        [] => None,
+// The last line of the set's script has these pieces.
+fn script_ends_with(set: &Set, pieces: &[Shown<'_>]) -> bool {
+    match &set.script {
+        Some(script) => ends_with(script, pieces),
+        None => false,
     }
 }
 
 // The file has so many items, and a script whose last line is this text.
 fn shows(alloc: Global, text: &[u8], items: usize, shown: &[u8]) -> bool {
-    let Ok(set) = parse_set(alloc, text) else {
-        return false;
-    };
-    match last_text(&set) {
-        Some(found) => found == shown && set.items.len() == items,
-        None => false,
+    match parse_set(alloc, text) {
+        Ok(set) => set.items.len() == items && script_ends_with(&set, &[Shown::Text(shown)]),
+        Err(_) => false,
     }
 }
 
@@ -132,32 +116,13 @@ fn items_script_and_digest_stand_in_a_set(rt: HostRuntime) {
     assert!(rt; is_whole(rt.alloc()));
 }
 
-// The only line of the set's script is a macro between an escaped at sign and an escaped backslash.
-fn has_escapes(set: &Set) -> bool {
-    let Some(script) = &set.script else {
-        return false;
-    };
-    let [line] = script.lines.as_slice() else {
-        return false;
-    };
-    match line.pieces.as_slice() {
-        [
-            Piece::Text(at),
-            Piece::Macro { name, .. },
-            Piece::Text(backslash),
-        ] => {
-            at.as_slice() == b"@".as_slice()
-                && name.as_slice() == b"Foo".as_slice()
-                && backslash.as_slice() == b"\\".as_slice()
-        }
-        _ => false,
-    }
-}
+// A macro between an escaped at sign and an escaped backslash.
+const ESCAPES: &[Shown<'static>] = &[Shown::Text(b"@"), Shown::Macro(b"Foo"), Shown::Text(b"\\")];
 
-// The file is a set whose line is that.
+// The file is a set whose only line is that.
 fn reads_escapes(alloc: Global) -> bool {
     match parse_set(alloc, b"P\nDisplay:\n\\@@Foo(5)\\\\\n") {
-        Ok(set) => has_escapes(&set),
+        Ok(set) => has_sections(&set, 0, 0, 1) && script_ends_with(&set, ESCAPES),
         Err(_) => false,
     }
 }
@@ -167,69 +132,48 @@ fn escapes_and_macros_stand_in_a_line(rt: HostRuntime) {
     assert!(rt; reads_escapes(rt.alloc()));
 }
 
-// These texts one behind the other, the middle one so many times.
-fn repeated(
-    alloc: Global,
-    front: &str,
-    middle: &str,
-    count: usize,
-    end: &str,
-) -> Result<String, Fail> {
-    let mut text = String::new(alloc);
-    text.push_str(front)?;
-    for _ in 0..count {
-        text.push_str(middle)?;
-    }
-    text.push_str(end)?;
-    Ok(text)
-}
-
-// The file is a set of so many conditions.
-fn counts(alloc: Global, text: &str, count: u64) -> bool {
-    match parse_set(alloc, text.as_bytes()) {
-        Ok(set) => conditions(&set) == count,
-        Err(_) => false,
-    }
-}
-
 // Whether a display line of so many macros is in a set of so many conditions.
-fn are_macros(alloc: Global, macros: usize, count: u64) -> Result<bool, Fail> {
-    let text = repeated(alloc, MACROS, "@N(1)", macros, "")?;
-    Ok(counts(alloc, &text, count))
+fn are_macros(alloc: Global, macros: u32, count: u64) -> Result<bool, OutOfMemory> {
+    let text = repeated(alloc, MACROS, b"@N(1)", macros, &[])?;
+    Ok(counts(alloc, &text, 0, count))
 }
 
 // Whether a display line of so many macros is refused for them.
-fn are_too_many_macros(alloc: Global, macros: usize) -> Result<bool, Fail> {
-    let text = repeated(alloc, MACROS, "@N(1)", macros, "")?;
+fn are_too_many_macros(alloc: Global, macros: u32) -> Result<bool, OutOfMemory> {
+    let text = repeated(alloc, MACROS, b"@N(1)", macros, &[])?;
     let limit = SetRefused::Limit {
         which: Which::Macros,
-        found: macros as u64,
+        found: u64::from(macros),
     };
     Ok(is_refused(alloc, &text, limit))
 }
 
 // A file up to the macros of its last line.
-const MACROS: &str = "P\nDisplay:\n?0=1?@N(1)\n";
+const MACROS: &[u8] = b"P\nDisplay:\n?0=1?@N(1)\n";
 
 #[test]
-fn a_display_line_has_at_most_so_many_macros(rt: HostRuntime) -> Result<(), Fail> {
+fn a_display_line_has_at_most_so_many_macros(rt: HostRuntime) -> Result<(), OutOfMemory> {
     assert!(rt; are_macros(rt.alloc(), 256, 258)? && are_too_many_macros(rt.alloc(), 257)?);
     Ok(())
 }
 
-// The file with a lookup text of so many bytes behind this front is a set, or is refused for this reason.
-fn judges(
-    alloc: Global,
-    front: &str,
-    count: usize,
-    refused: Option<SetRefused>,
-) -> Result<bool, Fail> {
-    let text = repeated(alloc, front, "x", count, "\nDisplay:\nx")?;
-    Ok(parse_set(alloc, text.as_bytes()).err() == refused)
+// The file is a set, or is refused for its lookup text where that is too long.
+fn is_judged(alloc: Global, text: &[u8], long: bool) -> bool {
+    if long {
+        let (which, found) = (Which::Lookup, 1_025);
+        return is_refused(alloc, text, SetRefused::Limit { which, found });
+    }
+    counts(alloc, text, 0, 0)
+}
+
+// The same of a file with a lookup text of so many bytes behind this front.
+fn judges(alloc: Global, front: &[u8], count: u32, long: bool) -> Result<bool, OutOfMemory> {
+    let text = repeated(alloc, front, b"x", count, b"\nDisplay:\nx")?;
+    Ok(is_judged(alloc, &text, long))
 }
 
 // Fronts of files, how many bytes their lookup text has, and whether it is too long.
-const LOOKUPS: &[(&str, usize, bool)] = &[
+const LOOKUPS: &[(&str, u32, bool)] = &[
     ("P\nLookup:L\n0=a\n*=", 1_024, false),
     ("P\nLookup:L\n0=a\n*=", 1_025, true),
     ("P\nLookup:L\n*=a\n*=", 1_025, false),
@@ -237,14 +181,9 @@ const LOOKUPS: &[(&str, usize, bool)] = &[
 ];
 
 // The place of the first file that is judged otherwise.
-fn other_lookup(alloc: Global, rows: &[(&str, usize, bool)]) -> Result<Option<usize>, Fail> {
-    let limit = SetRefused::Limit {
-        which: Which::Lookup,
-        found: 1_025,
-    };
+fn other_lookup(alloc: Global, rows: &[(&str, u32, bool)]) -> Result<Option<usize>, OutOfMemory> {
     for (place, (front, count, long)) in rows.iter().enumerate() {
-        let refused = if *long { Some(limit) } else { None };
-        if !judges(alloc, *front, *count, refused)? {
+        if !judges(alloc, front.as_bytes(), *count, *long)? {
             return Ok(Some(place));
         }
     }
@@ -252,24 +191,30 @@ fn other_lookup(alloc: Global, rows: &[(&str, usize, bool)]) -> Result<Option<us
 }
 
 #[test]
-fn a_kept_lookup_text_has_at_most_so_many_bytes(rt: HostRuntime) -> Result<(), Fail> {
+fn a_kept_lookup_text_has_at_most_so_many_bytes(rt: HostRuntime) -> Result<(), OutOfMemory> {
     assert_eq!(rt; other_lookup(rt.alloc(), LOOKUPS)?, None);
     Ok(())
 }
 
 // A file of so many conditions more than two, of which one is in its script.
-fn conditions_of_both(alloc: Global, more: usize) -> Result<String, Fail> {
-    repeated(alloc, "A 1 0=1", "_0=1", more, "\nP\nDisplay:\n@N(M:0=1)")
+fn conditions_of_both(alloc: Global, more: u32) -> Result<Vec<u8>, OutOfMemory> {
+    repeated(
+        alloc,
+        b"A 1 0=1",
+        b"_0=1",
+        more,
+        b"\nP\nDisplay:\n@N(M:0=1)",
+    )
 }
 
 // Whether it is a set of so many.
-fn are_conditions(alloc: Global, more: usize, count: u64) -> Result<bool, Fail> {
+fn are_conditions(alloc: Global, more: u32, count: u64) -> Result<bool, OutOfMemory> {
     let text = conditions_of_both(alloc, more)?;
-    Ok(counts(alloc, &text, count))
+    Ok(counts(alloc, &text, 1, count))
 }
 
 // Whether it is refused for so many.
-fn are_too_many_conditions(alloc: Global, more: usize, found: u64) -> Result<bool, Fail> {
+fn are_too_many_conditions(alloc: Global, more: u32, found: u64) -> Result<bool, OutOfMemory> {
     let text = conditions_of_both(alloc, more)?;
     let limit = SetRefused::Limit {
         which: Which::Conditions,
@@ -279,7 +224,7 @@ fn are_too_many_conditions(alloc: Global, more: usize, found: u64) -> Result<boo
 }
 
 #[test]
-fn conditions_of_items_and_script_are_counted_together(rt: HostRuntime) -> Result<(), Fail> {
+fn conditions_of_items_and_script_are_counted_together(rt: HostRuntime) -> Result<(), OutOfMemory> {
     let most = are_conditions(rt.alloc(), 65_534, 65_536)?;
     let over = are_too_many_conditions(rt.alloc(), 65_535, 65_537)?;
     assert!(rt; most && over);
