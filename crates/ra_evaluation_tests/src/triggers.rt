@@ -1,32 +1,18 @@
 //! Triggers stepped by hand, from the rules. The pass order of each group is written out.
 
 ghost use Rattle.std.specs.Prelude.{◌≡◌, ◌*◌, IfOk, [], ◌∷◌, length};
-ghost use Rattle.ra_operand.specs.declared.operand.Operand.TheVariants.{Const};
-ghost use Rattle.ra_operand.specs.declared.op.Op.TheVariants.{Eq};
 ghost use Rattle.ra_condition.specs.Contents.{trigger_contents, trigger_hits};
 ghost use Rattle.ra_trigger.specs.Kept.{orders_of, pauses_of};
 
 mod told;
 
+use crate::given::with;
 use crate::triggers::told::{Told, first_other, other_frame};
 use ra_condition::{Condition, Flag, Group, TriggerText};
-use ra_operand::{Op, Operand};
+use ra_operand::Op;
 use ra_text::OutOfMemory;
 use ra_trigger::{State, Trigger};
 use std::alloc::{AllocError, Global};
-
-// A condition of which only the flag and the target count.
-fn with(flag: Flag, target: u32) -> Condition
-    ensures { result ≡ record { flag = flag; left = Const 0; op = Eq; right = Const 0; target = target } }
-{
-    Condition {
-        flag,
-        left: Operand::Const(0),
-        op: Op::Eq,
-        right: Operand::Const(0),
-        target,
-    }
-}
 
 fn core_alone(alloc: Global, core: &[Condition]) -> Result<TriggerText, AllocError>
     ensures { IfOk result (λ text. trigger_contents text ≡ record { core = core.now; alts = [] }) }
@@ -99,7 +85,7 @@ const PAUSED_BY_HITS: &[(&'static [bool], Told<'static>)] = &[
 
 #[test]
 fn a_pause_stays_by_its_hits(rt: HostRuntime) -> Result<(), OutOfMemory> {
-    let core = [with(Flag::PauseIf, 2), with(Flag::Plain, 2)];
+    let core = [with(Flag::PauseIf, Op::Eq, 2), with(Flag::Plain, Op::Eq, 2)];
     let other = other_of_core(rt.alloc(), &core, &[0, 1], &[1], &[0, 0], PAUSED_BY_HITS)?;
     assert_eq!(rt; other, None);
     Ok(())
@@ -117,7 +103,10 @@ const RESET_BY_ALT: &[(&'static [bool], Told<'static>)] = &[
 
 #[test]
 fn an_alt_resets_the_core(rt: HostRuntime) -> Result<(), OutOfMemory> {
-    let (core, alt) = ([with(Flag::Plain, 3)], [with(Flag::ResetIf, 0)]);
+    let (core, alt) = (
+        [with(Flag::Plain, Op::Eq, 3)],
+        [with(Flag::ResetIf, Op::Eq, 0)],
+    );
     let other = other_with_alt(
         rt.alloc(),
         &core,
@@ -158,9 +147,9 @@ const MEASURED: &[(&'static [bool], Told<'static>)] = &[
 #[test]
 fn a_paused_trigger_keeps_its_number(rt: HostRuntime) -> Result<(), OutOfMemory> {
     let core = [
-        with(Flag::Measured, 4),
-        with(Flag::MeasuredIf, 0),
-        with(Flag::PauseIf, 0),
+        with(Flag::Measured, Op::Eq, 4),
+        with(Flag::MeasuredIf, Op::Eq, 0),
+        with(Flag::PauseIf, Op::Eq, 0),
     ];
     let other = other_of_core(rt.alloc(), &core, &[2, 0, 1], &[1], &[0, 0, 0], MEASURED)?;
     assert_eq!(rt; other, None);
@@ -179,7 +168,10 @@ const FOLLOWING: &[(&'static [bool], Told<'static>)] = &[
 
 #[test]
 fn states_follow_one_another(rt: HostRuntime) -> Result<(), OutOfMemory> {
-    let core = [with(Flag::TriggerIf, 0), with(Flag::Plain, 0)];
+    let core = [
+        with(Flag::TriggerIf, Op::Eq, 0),
+        with(Flag::Plain, Op::Eq, 0),
+    ];
     let other = other_of_core(rt.alloc(), &core, &[0, 1], &[0], &[0, 0], FOLLOWING)?;
     assert_eq!(rt; other, None);
     Ok(())
@@ -224,8 +216,8 @@ fn new_passes_target(alloc: Global, text: &TriggerText) -> Result<bool, OutOfMem
 
 #[test]
 fn kept_hits_may_pass_the_target(rt: HostRuntime) -> Result<(), OutOfMemory> {
-    let alt = [with(Flag::Plain, 0), with(Flag::Plain, 2)];
-    let text = with_alt(rt.alloc(), &[with(Flag::Plain, 0)], &alt)?;
+    let alt = [with(Flag::Plain, Op::Eq, 0), with(Flag::Plain, Op::Eq, 2)];
+    let text = with_alt(rt.alloc(), &[with(Flag::Plain, Op::Eq, 0)], &alt)?;
     let passes = new_passes_target(rt.alloc(), &text)?;
     drop(text);
     assert!(rt; passes);
@@ -242,7 +234,7 @@ const WITHOUT_STATES: &[(&'static [bool], Told<'static>)] = &[
 
 #[test]
 fn a_trigger_without_states_is_false_on_a_reset(rt: HostRuntime) -> Result<(), OutOfMemory> {
-    let core = [with(Flag::Plain, 2), with(Flag::ResetIf, 0)];
+    let core = [with(Flag::Plain, Op::Eq, 2), with(Flag::ResetIf, Op::Eq, 0)];
     let other = other_of_core(rt.alloc(), &core, &[0, 1], &[0], &[0, 0], WITHOUT_STATES)?;
     assert_eq!(rt; other, None);
     Ok(())

@@ -1,31 +1,18 @@
 //! Values stepped by hand, from the rules. The pass order of each part is written out.
 
 ghost use Rattle.std.specs.Prelude.{◌≡◌, IfOk, [], ◌∷◌, length};
-ghost use Rattle.ra_operand.specs.declared.operand.Operand.TheVariants.{Const};
 ghost use Rattle.ra_condition.specs.Contents.{value_contents, value_hits, Legacy, Grouped};
 ghost use Rattle.ra_value.specs.Kept.{orders_of, pauses_of};
 
 mod frame;
 
+use crate::given::with;
 use crate::values::frame::{Frame, first_other, other_frame};
 use ra_condition::{Condition, Flag, Group, Part, ValueText};
-use ra_operand::{Op, Operand};
+use ra_operand::Op;
 use ra_text::OutOfMemory;
 use ra_value::Value;
 use std::alloc::{AllocError, Global};
-
-// A condition of which only the flag, the operator and the target count.
-fn with(flag: Flag, op: Op, target: u32) -> Condition
-    ensures { result ≡ record { flag = flag; left = Const 0; op = op; right = Const 0; target = target } }
-{
-    Condition {
-        flag,
-        left: Operand::Const(0),
-        op,
-        right: Operand::Const(0),
-        target,
-    }
-}
 
 fn two_terms(alloc: Global) -> Result<ValueText, AllocError>
     ensures { IfOk result (λ text. value_contents text ≡ Legacy [] ∷ Legacy [] ∷ []) }
