@@ -6,19 +6,54 @@ use std::alloc::Global;
 use std::fmt::Write;
 use std::test::Fail;
 
-// The warnings on the set of a file, each with its item's number, its trigger, its group and condition, and its word.
-pub(crate) fn told(alloc: Global, file: &str) -> Result<String, Fail> {
-    let mut text = String::new(alloc);
-    for warning in &warnings_on(alloc, file)? {
-        let place = name_of(warning.place);
-        let word = text_of(warning.word);
-        write!(
-            text,
-            "{} {place} {}.{} {word}\n",
-            warning.item, warning.group, warning.condition
-        )?;
+/// Whether these are the warnings on the set of a file, each with its item's number, its trigger, its group and
+/// condition, and its word.
+pub(crate) fn tells(alloc: Global, file: &str, wanted: &str) -> Result<bool, Fail> {
+    let text = told(alloc, file)?;
+    Ok(text.as_str() == wanted)
+}
+
+fn tells_of_trigger(alloc: Global, trigger: &str, wanted: &str) -> Result<bool, Fail> {
+    let file = format!(in alloc; "A 1 {trigger}")?;
+    tells(alloc, &file, wanted)
+}
+
+/// A trigger of an achievement, and the warnings on the set of that alone.
+pub(crate) type Row = (&'static str, &'static str);
+
+/// The place of the first trigger that has other warnings.
+pub(crate) fn other_trigger(alloc: Global, rows: &[Row]) -> Result<Option<usize>, Fail> {
+    for (place, (trigger, wanted)) in rows.iter().enumerate() {
+        if !tells_of_trigger(alloc, *trigger, *wanted)? {
+            return Ok(Some(place));
+        }
     }
+    Ok(None)
+}
+
+fn told(alloc: Global, file: &str) -> Result<String, Fail> {
+    let warnings = warnings_on(alloc, file)?;
+    let mut text = String::new(alloc);
+    write_all(&mut text, &warnings)?;
     Ok(text)
+}
+
+fn write_all(text: &mut String, warnings: &[Warning]) -> Result<(), Fail> {
+    for warning in warnings {
+        write_one(text, warning)?;
+    }
+    Ok(())
+}
+
+fn write_one(text: &mut String, warning: &Warning) -> Result<(), Fail> {
+    let place = name_of(warning.place);
+    let word = text_of(warning.word);
+    write!(
+        text,
+        "{} {place} {}.{} {word}\n",
+        warning.item, warning.group, warning.condition
+    )?;
+    Ok(())
 }
 
 // The warnings on the set of a file.
