@@ -17,13 +17,13 @@ use Rattle.ra_trace.specs.Cutting.{Stop, Reached, RefusedAt, PastLimit}
 use Rattle.ra_trace.specs.Entries.{Entry, Written, Framed, Saved, Restored, Shown, Ended}
 use Rattle.ra_meaning.specs.Earned.{Earned, none_earned}
 use Rattle.ra_meaning.specs.Openings.{plain_opening}
-use Rattle.ra_meaning.specs.Play.{Moment, moved, first_moment, earned_next}
+use Rattle.ra_meaning.specs.Play.{Moment, moved, first_moment, pieces_from, earned_next}
 use Rattle.ra_explain.specs.Explains.{ExplanationContents}
 use Rattle.ra_explain.specs.Recorders.{RecorderSeen, unlocks_at, most_rows}
 use Rattle.ra_explain.specs.Unlocks.{IsExplanation}
 use Rattle.ra_jobs.specs.Words.{Job, Explain}
 use Rattle.ra_session.specs.Endings.{ending_of}
-use Rattle.ra_session.specs.Expected.{Expected, IsReadBehind, JobSays, ExplainSays, refuses_set, lacks, explains, TraceSays, ReasonSays, at_unlock, at_rows, at_end, at_stop, prints_behind, prints_line, prints_nothing, pieces_from, trace_in, decided_in}
+use Rattle.ra_session.specs.Expected.{Expected, IsReadBehind, JobSays, ExplainSays, refuses_set, lacks, explains, TraceSays, ReasonSays, at_unlock, at_rows, at_end, at_stop, prints_behind, prints_line, prints_nothing, trace_in, decided_in}
 use Rattle.ra_session.specs.Explaining.{Reason, AtUnlock, AtRows, AtEnd, AtStop, Decided, decided, behind_record, rows_with, decided_from, trigger_of, explanation_text, no_unlock_text}
 use Rattle.ra_session.specs.Closing.{EndsBefore}
 use Rattle.ra_session.specs.Failures.{ending_of_set}

@@ -1,6 +1,6 @@
 -- What a set tells and prints over the records of a trace: docs/DEFINITIONS.md, "Events", "Frames that lie behind" and "Printed lines".
 use Rattle.std.specs.Prelude.{ℕ, ◌&&◌, not, Bool, true, false, Option, None, Some, List, [], ◌∷◌, ◌++◌, length, map, replicate, zip, codes, decimal, slice_set, slice_index_or}
-use Rattle.std.specs.List.{flat_map}
+use Rattle.std.specs.List.{flat_map, concat}
 use Rattle.ra_set.specs.Contents.{ItemContents, Unlocks, Ranks, SetContents}
 use Rattle.ra_richpresence.specs.Contents.{ScriptContents}
 use Rattle.ra_memory.specs.Image.{History, written}
@@ -112,16 +112,16 @@ earned_after set o m earned [] = earned
 earned_after set o m earned (entry ∷ entries) =
     earned_after set o (moved entry m) (earned_next set o entry (moved entry m) earned) entries
 
--- the text of records, each with what it prints
-abbrev pub text_from : SetContents → Opening → Moment → Earned → List Entry → List ℕ
-text_from set o m earned [] = []
-text_from set o m earned (entry ∷ entries) =
+-- what each of these records prints, played one after the other from a moment on, at which this is earned
+abbrev pub pieces_from : SetContents → Opening → Moment → Earned → List Entry → List (List ℕ)
+pieces_from set o m earned [] = []
+pieces_from set o m earned (entry ∷ entries) =
     printed set o entry (moved entry m) earned
-    ++ text_from set o (moved entry m) (earned_next set o entry (moved entry m) earned) entries
+    ∷ pieces_from set o (moved entry m) (earned_next set o entry (moved entry m) earned) entries
 
 -- the text of a trace over a memory of this size, where an opening and some frames lie before it and this is earned
 abbrev pub text_of : SetContents → Opening → History → Earned → ℕ → List Entry → List ℕ
-text_of set o behind earned size entries = text_from set o (first_moment size behind) earned entries
+text_of set o behind earned size entries = concat (pieces_from set o (first_moment size behind) earned entries)
 
 -- the frames behind the end of a trace
 abbrev pub behind_end : History → ℕ → List Entry → History

@@ -1,6 +1,6 @@
 -- A set and its normal set print the same over every trace from their plain openings.
 use Rattle.std.proofs.Common.{◌≡◌, ◌∙◌, ℕ, zero, suc, Bool, true, false, if◌then◌else◌, List, [], ◌∷◌, ◌++◌, length, map, replicate, zip, refl, sym, ap, ap₂}
-use Rattle.std.specs.List.{AllByRecursion, flat_map}
+use Rattle.std.specs.List.{AllByRecursion, concat, flat_map}
 use Rattle.ra_memory.specs.Image.{History}
 use Rattle.ra_indirect.specs.Trees.{Cell, Tracked, same_cell, same_tracked}
 use Rattle.ra_memref.specs.Values.{Start}
@@ -13,7 +13,7 @@ use Rattle.ra_progress.specs.Contents.{plain_item}
 use Rattle.ra_meaning.specs.Lines.{event_lines}
 use Rattle.ra_meaning.specs.Order.{set_cells, set_tracked, item_shape, shape_of}
 use Rattle.ra_meaning.specs.Earned.{Earned, both_earned}
-use Rattle.ra_meaning.specs.Play.{item_events, unless_earned, lines, unlocks, earns, shown_by, shown, Moment, moved, printed, earned_next, first_moment, text_from, text_of}
+use Rattle.ra_meaning.specs.Play.{item_events, unless_earned, lines, unlocks, earns, shown_by, shown, Moment, moved, printed, earned_next, first_moment, pieces_from, text_of}
 use Rattle.ra_normal.specs.Contents.{normal_board, normal_item}
 use Rattle.ra_normal.proofs.AcceptedLemmas.{normal_set}
 use Rattle.ra_normal.proofs.BoardsAlike.{board_alike, same_events, plain_match}
@@ -113,13 +113,13 @@ module _ (set : SetContents) (text : List ℕ) (each : AllByRecursion IsItem set
   next_alike Shown m earned = refl
   next_alike Ended m earned = refl
 
-  from_alike : (m : Moment) (earned : Earned) (entries : List Entry) → text_from normal (plain_opening normal) m earned entries ≡ text_from set (plain_opening set) m earned entries
-  from_alike m earned [] = refl
-  from_alike m earned (entry ∷ entries) =
-      ap₂ (λ s t. s ++ t) (printed_alike entry (moved entry m) earned)
-      (ap (λ next. text_from normal (plain_opening normal) (moved entry m) next entries) (next_alike entry (moved entry m) earned)
-      ∙ from_alike (moved entry m) (earned_next set (plain_opening set) entry (moved entry m) earned) entries)
+  pieces_alike : (m : Moment) (earned : Earned) (entries : List Entry) → pieces_from normal (plain_opening normal) m earned entries ≡ pieces_from set (plain_opening set) m earned entries
+  pieces_alike m earned [] = refl
+  pieces_alike m earned (entry ∷ entries) =
+      ap₂ (λ piece pieces. piece ∷ pieces) (printed_alike entry (moved entry m) earned)
+      (ap (λ next. pieces_from normal (plain_opening normal) (moved entry m) next entries) (next_alike entry (moved entry m) earned)
+      ∙ pieces_alike (moved entry m) (earned_next set (plain_opening set) entry (moved entry m) earned) entries)
 
   -- the text over a trace, whatever frames lie before it and whatever is earned
   pub text_alike : (behind : History) (earned : Earned) (size : ℕ) (entries : List Entry) → text_of normal (plain_opening normal) behind earned size entries ≡ text_of set (plain_opening set) behind earned size entries
-  text_alike behind earned size entries = from_alike (first_moment size behind) earned entries
+  text_alike behind earned size entries = ap concat (pieces_alike (first_moment size behind) earned entries)

@@ -25,4 +25,3 @@ pub mod MadeScript
 pub mod MadeLimits
 pub mod MadeSet
 pub mod MakeLemmas
-pub mod TextLemmas

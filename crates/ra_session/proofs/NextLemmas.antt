@@ -16,10 +16,10 @@ use Rattle.ra_trace.specs.Cutting.{Pieces, RefusedAt, stop_within}
 use Rattle.ra_trace.specs.Reading.{ReaderSeen, Holds, Stands, IsBehindRecord, IsStop, next_stop}
 use Rattle.ra_meaning.specs.Runtime.{RuntimeSeen}
 use Rattle.ra_meaning.specs.Earned.{Earned}
-use Rattle.ra_meaning.specs.Play.{Moment, moved, printed, earned_next}
+use Rattle.ra_meaning.specs.Play.{Moment, moved, printed, pieces_from, earned_next}
 use Rattle.ra_session.specs.Endings.{ending_of}
 use Rattle.ra_session.specs.declared.ending.Ending.TheVariants.{BadTrace}
-use Rattle.ra_session.specs.Expected.{pieces_from, trace_limit}
+use Rattle.ra_session.specs.Expected.{trace_limit}
 use Rattle.ra_session.specs.Closing.{EndsBefore}
 use Rattle.ra_session.specs.Failures.{ending_of_trace, trace_failed, trace_unwritten}
 use Rattle.ra_io.specs.declared.sink.SinkFailed.{SinkFailed}

@@ -25,11 +25,11 @@ use Rattle.ra_trace.specs.Cutting.{Stop, RefusedAt, header_size, no_slots, trace
 use Rattle.ra_trace.specs.Reading.{IsStop, header_stop}
 use Rattle.ra_meaning.specs.Runtime.{RuntimeSeen}
 use Rattle.ra_meaning.specs.Earned.{Earned}
-use Rattle.ra_meaning.specs.Play.{first_moment, moment_after, earned_after, saved_end}
+use Rattle.ra_meaning.specs.Play.{first_moment, moment_after, earned_after, pieces_from, saved_end}
 use Rattle.ra_session.specs.Endings.{ending_of}
 use Rattle.ra_session.specs.declared.ending.Ending.{Ending}
 use Rattle.ra_session.specs.declared.ending.Ending.TheVariants.{Done, NoMemory, NoJob, BadSet, ReadFault, SinkFault, BadProgress, BadTrace, LongTrace, SaveFault, BadDocument, LongNormal, NoAchievement, ManyRows}
-use Rattle.ra_session.specs.Expected.{Expected, played, pieces_from, trace_limit}
+use Rattle.ra_session.specs.Expected.{Expected, played, trace_limit}
 use Rattle.ra_session.specs.Closing.{EndsBefore}
 use Rattle.ra_session.specs.Failures.{ending_at, ending_of_trace, trace_failed}
 use Rattle.ra_session.specs.declared.failures.TraceFailed.{TraceFailed}

@@ -13,11 +13,11 @@ use Rattle.ra_trace.specs.Cutting.{Pieces, Reached, stop_within}
 use Rattle.ra_trace.specs.Reading.{ReaderSeen}
 use Rattle.ra_meaning.specs.Runtime.{RuntimeSeen}
 use Rattle.ra_meaning.specs.Earned.{Earned}
-use Rattle.ra_meaning.specs.Play.{Moment, moved, moment_after, printed, earned_next, earned_after}
+use Rattle.ra_meaning.specs.Play.{Moment, moved, moment_after, printed, pieces_from, earned_next, earned_after}
 use Rattle.ra_session.specs.Endings.{ending_of}
 use Rattle.ra_session.specs.declared.ending.Ending.{Ending}
 use Rattle.ra_session.specs.declared.ending.Ending.TheVariants.{Done, NoMemory, ReadFault, SinkFault, SaveFault}
-use Rattle.ra_session.specs.Expected.{Expected, IsReadBehind, pieces_from, trace_limit}
+use Rattle.ra_session.specs.Expected.{Expected, IsReadBehind, trace_limit}
 use Rattle.ra_session.specs.Closing.{EndsBefore}
 use Rattle.ra_session.specs.Failures.{ending_at, ending_of_trace}
 use Rattle.ra_session.specs.Playing.{StandsAt, IsLeft, GoesOn, IsAtEnd, TakesNext, says_from}

@@ -11,13 +11,12 @@ use Rattle.ra_progress.specs.Spelling.{progress_bytes}
 use Rattle.ra_progress.specs.Reading.{refusal}
 use Rattle.ra_progress.specs.Saying.{says}
 use Rattle.ra_progress.specs.Refusals.{hex}
-use Rattle.ra_trace.specs.Entries.{Entry}
 use Rattle.ra_trace.specs.Cutting.{Trace, no_slots, trace_within}
 use Rattle.ra_trace.specs.Workload.{made_set, made_trace}
 use Rattle.ra_meaning.specs.Order.{set_cells, set_tracked, shape_of}
 use Rattle.ra_meaning.specs.Earned.{Earned, HoldTriggered, earned_in, none_earned, with_earned}
 use Rattle.ra_meaning.specs.Openings.{snapshot, plain_opening}
-use Rattle.ra_meaning.specs.Play.{Moment, moved, printed, earned_next, first_moment, saved_end}
+use Rattle.ra_meaning.specs.Play.{first_moment, pieces_from, saved_end}
 use Rattle.ra_progress.specs.declared.refused.ProgressRefused.{ProgressRefused}
 use Rattle.ra_set.specs.Accepted.{IsSet}
 use Rattle.ra_set.specs.Refusals.{Refuses}
@@ -81,13 +80,6 @@ set_limit = most_bytes
 -- the most bytes that are read of a progress file: a byte more than one may have
 abbrev pub progress_limit : ℕ
 progress_limit = 8388609
-
--- what each of these records prints, played one after the other from a moment on, at which this is earned
-abbrev pub pieces_from : SetContents → Opening → Moment → Earned → List Entry → List (List ℕ)
-pieces_from set o m earned [] = []
-pieces_from set o m earned (entry ∷ entries) =
-    printed set o entry (moved entry m) earned
-    ∷ pieces_from set o (moved entry m) (earned_next set o entry (moved entry m) earned) entries
 
 -- the trace that a run sees in a file
 abbrev pub trace_in : List ℕ → Trace

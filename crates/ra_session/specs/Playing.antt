@@ -19,9 +19,9 @@ use Rattle.ra_meaning.specs.Order.{shape_of}
 use Rattle.ra_meaning.specs.OpeningLaws.{HasDigests}
 use Rattle.ra_meaning.specs.Earned.{Earned, HoldTriggered, IsEarnedToo, with_earned}
 use Rattle.ra_meaning.specs.Openings.{snapshot}
-use Rattle.ra_meaning.specs.Play.{Moment, moved, printed, earned_next}
+use Rattle.ra_meaning.specs.Play.{Moment, moved, printed, pieces_from, earned_next}
 use Rattle.ra_session.specs.Endings.{ending_of}
-use Rattle.ra_session.specs.Expected.{Expected, pieces_from, trace_limit}
+use Rattle.ra_session.specs.Expected.{Expected, trace_limit}
 use Rattle.ra_session.specs.Closing.{EndsBefore}
 use Rattle.ra_session.specs.Failures.{ending_of_trace}
 use Rattle.ra_session.specs.declared.failures.TraceFailed.{TraceFailed}

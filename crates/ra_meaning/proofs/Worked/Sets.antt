@@ -1,5 +1,6 @@
 -- Worked examples of whole sets, computed from the definitions.
 use Rattle.std.proofs.Common.{◌≡◌, ℕ, false, List, [], ◌∷◌, ◌++◌, refl, codes, replicate, Option, Some, None, pos, negsuc}
+use Rattle.std.specs.List.{concat}
 use Rattle.std.specs.Fmt.{digits}
 use Rattle.ra_operand.specs.declared.operand.Operand.{Operand}
 use Rattle.ra_operand.specs.declared.operand.Operand.TheVariants.{Cell, Const, Recall}
@@ -24,7 +25,7 @@ use Rattle.ra_trace.specs.Entries.{Entry, Written, Framed, Shown, Ended}
 use Rattle.ra_progress.specs.Contents.{Opening, OfAchievement}
 use Rattle.ra_meaning.specs.Earned.{earned_in, none_earned}
 use Rattle.ra_meaning.specs.Openings.{plain_opening, snapshot}
-use Rattle.ra_meaning.specs.Play.{text_of, text_from, behind_end, earned_end, moment_after, first_moment}
+use Rattle.ra_meaning.specs.Play.{text_of, pieces_from, behind_end, earned_end, moment_after, first_moment}
 
 abbrev pub one : Flag → Operand → Op → Operand → ℕ → Condition
 one flag left op right target = record { flag = flag; left = left; op = op; right = right; target = target }
@@ -119,7 +120,7 @@ unfolding digits stages_first stages_second
 stages_prints = refl
 
 -- cut after the third frame, and gone on from the opening there over the same image
-stages_go_on : prints stages 256 stages_first ++ text_from stages (snapshot stages (plain_opening stages) (behind_end [] 256 stages_first)) (record { image = (moment_after (first_moment 256 []) stages_first).image; behind = []; slots = replicate 16 None }) (earned_end stages (plain_opening stages) [] (none_earned stages) 256 stages_first) stages_second ≡ prints stages 256 (stages_first ++ stages_second)
+stages_go_on : prints stages 256 stages_first ++ concat (pieces_from stages (snapshot stages (plain_opening stages) (behind_end [] 256 stages_first)) (record { image = (moment_after (first_moment 256 []) stages_first).image; behind = []; slots = replicate 16 None }) (earned_end stages (plain_opening stages) [] (none_earned stages) 256 stages_first) stages_second) ≡ prints stages 256 (stages_first ++ stages_second)
 unfolding digits stages_first stages_second
 stages_go_on = refl
 
