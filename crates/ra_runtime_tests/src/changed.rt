@@ -1,7 +1,7 @@
 //! Progress files of a set that was changed, and of the older versions.
 
 use crate::steps::Step::{At, Close, Keep, Put, Restore, Same, Show, Write};
-use crate::steps::tells;
+use crate::steps::{Row, other_row, tells};
 use std::alloc::Global;
 use std::test::Fail;
 
@@ -17,48 +17,7 @@ const WITH_ANOTHER: &str = "A 2 0xH0011=1\nA 1 0xH0010=5.3.\n";
 const WITH_ANOTHER_KEPT: &[u8] =
     b"RAPG\x03\x30\x36\x9c\x0b\x2b\x1a\x8a\x93\x8a\x3c\x14\x81\x08\xe2\xf7\x02\x03\0\0\0\0\0\0\0\x02\0\0\0\xa6\xcc\xac\x7d\x84\x86\xed\xe9\x78\x19\x79\x2e\x86\xc3\xa9\x3f\0\0\0\0\x59\x74\x9b\xd5\xca\x8a\xbe\x76\x8e\xb1\x37\x06\x1a\x4f\x30\xc6\x05\0\0\0\0\0\0\0\x02\0\0\0\xcb\x1f\xa8\x59\x35\x92\x04\xbe\x58\x80\x41\xfd\x0f\x32\x60\x64\x09\0\0\0\0\0\0\0\0\0\0\0\0\x79\x8a\x55\xfc\x59\x9d\x9d\x9b\x40\x6c\x25\xa6\x42\xfa\x8a\x9a\x09\0\0\0\x01\0\0\0\0\x02\0\0\0\x8c\x6a\x26\x38\x76\x69\x1f\xb5\x11\x8f\x79\x75\xee\x6e\x67\xcc";
 
-// Before the restore the new achievement is triggered and its cell is 1. It stays earned, and the hits go on behind it.
-#[test]
-fn what_a_file_does_not_name_begins_anew(rt: HostRuntime) -> Result<(), Fail> {
-    let steps = [
-        At(0),
-        Write(0x11, 1),
-        At(5),
-        Keep(TWO_OF_THREE),
-        Restore,
-        Keep(WITH_ANOTHER_KEPT),
-        Put(101, 8),
-        Close,
-        Same,
-        At(5),
-    ];
-    assert!(rt;
-        tells(
-            rt.alloc(),
-            WITH_ANOTHER,
-            &steps,
-            b"unlock 1 2\ntaken\nsame\nunlock 3 1\n".as_slice()
-        )?
-    );
-    Ok(())
-}
-
 const WITH_DISPLAY: &str = "A 1 0xH0010=5.3.\nP\nDisplay:\n?0xH0010=5?Five\nSix\n";
-
-// A file without an entry of the script shows the last line.
-#[test]
-fn a_script_that_a_file_does_not_name_shows_its_last_line(rt: HostRuntime) -> Result<(), Fail> {
-    let steps = [At(5), Show, Keep(TWO_OF_THREE), Restore, Show];
-    assert!(rt;
-        tells(
-            rt.alloc(),
-            WITH_DISPLAY,
-            &steps,
-            b"presence 1 Five\ntaken\npresence 3 Six\n".as_slice()
-        )?
-    );
-    Ok(())
-}
 
 // A file of another set with two entries of the name of the line: the first has a state that is none, the second has a
 // hit too many.
@@ -69,29 +28,6 @@ const BAD_ENTRY: &[u8] =
 const ONE_OF_THREE: &[u8] =
     b"RAPG\x03\x95\xc3\x20\x26\xa3\xa7\xb6\xfc\x1a\xa5\x3d\x35\x5d\x82\xba\x02\x02\0\0\0\0\0\0\0\x01\0\0\0\x59\x74\x9b\xd5\xca\x8a\xbe\x76\x8e\xb1\x37\x06\x1a\x4f\x30\xc6\x05\0\0\0\0\0\0\0\x01\0\0\0\x79\x8a\x55\xfc\x59\x9d\x9d\x9b\x40\x6c\x25\xa6\x42\xfa\x8a\x9a\x09\0\0\0\x01\0\0\0\0\x01\0\0\0\x45\xa6\xd4\xc7\x29\x97\x0d\xec\x98\x4f\xfb\x93\xc6\xac\x26\x54";
 
-#[test]
-fn a_bad_entry_changes_nothing(rt: HostRuntime) -> Result<(), Fail> {
-    let steps = [
-        At(0),
-        At(5),
-        Keep(BAD_ENTRY),
-        Restore,
-        Keep(ONE_OF_THREE),
-        Same,
-        At(5),
-        At(5),
-    ];
-    assert!(rt;
-        tells(
-            rt.alloc(),
-            THREE_HITS,
-            &steps,
-            b"entry 13 wanted 9 at 86\nsame\nunlock 3 1\n".as_slice()
-        )?
-    );
-    Ok(())
-}
-
 const ONE_BYTE: &str = "A 1 0xH0010=5\n";
 
 // Active and earned after 2 frames, and after one more.
@@ -100,20 +36,6 @@ const EARNED: &[u8] =
 
 const EARNED_LATER: &[u8] =
     b"RAPG\x03\xff\xb0\x8c\xcd\x70\x8b\xe6\x15\x77\xfd\xc9\xee\x47\x2d\x01\xda\x03\0\0\0\0\0\0\0\x01\0\0\0\x59\x74\x9b\xd5\xca\x8a\xbe\x76\x8e\xb1\x37\x06\x1a\x4f\x30\xc6\0\0\0\0\0\0\0\0\x01\0\0\0\x3e\xb6\xe8\xbb\x67\x59\x13\xb8\x2e\x29\x33\xb3\x8d\xb2\x11\x60\x09\0\0\0\x09\0\0\0\0\0\0\0\0\x8e\xbf\x06\x17\x3a\x52\xd4\x15\x2b\xba\xb4\x02\xdd\x03\x5e\x7a";
-
-#[test]
-fn an_earned_achievement_is_kept_as_earned(rt: HostRuntime) -> Result<(), Fail> {
-    let steps = [Keep(EARNED), Restore, Same, At(0), Keep(EARNED_LATER), Same];
-    assert!(rt;
-        tells(
-            rt.alloc(),
-            ONE_BYTE,
-            &steps,
-            b"taken\nsame\nsame\n".as_slice()
-        )?
-    );
-    Ok(())
-}
 
 // Triggered after 5 frames, in the three versions.
 const TRIGGERED_1: &[u8] =
@@ -138,5 +60,60 @@ fn each_version_is_read_and_the_third_is_written(rt: HostRuntime) -> Result<(), 
         is_third(rt.alloc(), TRIGGERED_2)?,
     );
     assert!(rt; first && second && is_third(rt.alloc(), TRIGGERED_3)?);
+    Ok(())
+}
+
+const ROWS: &[Row] = &[
+    // Before the restore the new achievement is triggered and its cell is 1. It stays earned, and the hits go on behind it.
+    (
+        "what_a_file_does_not_name_begins_anew",
+        WITH_ANOTHER,
+        &[
+            At(0),
+            Write(0x11, 1),
+            At(5),
+            Keep(TWO_OF_THREE),
+            Restore,
+            Keep(WITH_ANOTHER_KEPT),
+            Put(101, 8),
+            Close,
+            Same,
+            At(5),
+        ],
+        "unlock 1 2\ntaken\nsame\nunlock 3 1\n",
+    ),
+    // A file without an entry of the script shows the last line.
+    (
+        "a_script_that_a_file_does_not_name_shows_its_last_line",
+        WITH_DISPLAY,
+        &[At(5), Show, Keep(TWO_OF_THREE), Restore, Show],
+        "presence 1 Five\ntaken\npresence 3 Six\n",
+    ),
+    (
+        "a_bad_entry_changes_nothing",
+        THREE_HITS,
+        &[
+            At(0),
+            At(5),
+            Keep(BAD_ENTRY),
+            Restore,
+            Keep(ONE_OF_THREE),
+            Same,
+            At(5),
+            At(5),
+        ],
+        "entry 13 wanted 9 at 86\nsame\nunlock 3 1\n",
+    ),
+    (
+        "an_earned_achievement_is_kept_as_earned",
+        ONE_BYTE,
+        &[Keep(EARNED), Restore, Same, At(0), Keep(EARNED_LATER), Same],
+        "taken\nsame\nsame\n",
+    ),
+];
+
+#[test]
+fn files_of_a_changed_set_go_on_by_names(rt: HostRuntime) -> Result<(), Fail> {
+    assert_eq!(rt; other_row(rt.alloc(), "", ROWS)?, None);
     Ok(())
 }

@@ -1,8 +1,7 @@
 //! Events of worked sets, and where their items stand.
 
 use crate::steps::Step::{Advance, At, Item, Numbers, Restore, Save, Write};
-use crate::steps::{Step, tells};
-use std::alloc::Global;
+use crate::steps::{Row, other_row};
 use std::test::Fail;
 
 const PAUSED: &str = "A 1 M:0xH0001=1.4._Q:0xH0002=0_P:0xH0003=1\n";
@@ -14,39 +13,7 @@ const PAUSED_EVENTS: &str = "0 Measured { id: 1, number: 1 }
 4 Unlock { id: 1 }
 ";
 
-#[test]
-fn a_paused_group_keeps_its_measured_number(rt: HostRuntime) -> Result<(), Fail> {
-    let steps = [
-        Write(1, 1),
-        Advance,
-        Write(2, 1),
-        Advance,
-        Write(2, 0),
-        Advance,
-        Write(3, 1),
-        Advance,
-        Write(3, 0),
-        Advance,
-    ];
-    assert!(rt; tells(rt.alloc(), PAUSED, &steps, PAUSED_EVENTS.as_bytes())?);
-    Ok(())
-}
-
 const RECALLED: &str = "A 1 0xH0001={recall}_K:0xH0002_P:0xH0003=9\n";
-
-#[test]
-fn a_remembered_number_unlocks(rt: HostRuntime) -> Result<(), Fail> {
-    let steps = [Write(1, 4), Write(2, 3), Advance, Write(2, 4), Advance];
-    assert!(rt;
-        tells(
-            rt.alloc(),
-            RECALLED,
-            &steps,
-            b"1 Unlock { id: 1 }\n".as_slice()
-        )?
-    );
-    Ok(())
-}
 
 const ATTEMPTS: &str = "L 7 VALUE STA:0xH0001=1::CAN:0=1::SUB:0xH0002=1::VAL:0xH0003*2\n";
 
@@ -56,38 +23,6 @@ const ATTEMPTS_EVENTS: &str = "1 Submit { id: 7, number: 42, format: Value }
 5 Track { id: 7, number: 60, format: Value }
 6 Submit { id: 7, number: 60, format: Value }
 ";
-
-const ATTEMPTS_STEPS: [Step; 16] = [
-    Advance,
-    Write(1, 1),
-    Write(2, 1),
-    Write(3, 0x15),
-    Advance,
-    Advance,
-    Write(1, 0),
-    Advance,
-    Write(1, 1),
-    Write(2, 0),
-    Advance,
-    Write(3, 0x1e),
-    Advance,
-    Write(2, 1),
-    Advance,
-    Save,
-];
-
-#[test]
-fn an_attempt_tells_its_numbers(rt: HostRuntime) -> Result<(), Fail> {
-    assert!(rt;
-        tells(
-            rt.alloc(),
-            ATTEMPTS,
-            &ATTEMPTS_STEPS,
-            ATTEMPTS_EVENTS.as_bytes()
-        )?
-    );
-    Ok(())
-}
 
 const STANDING: &str = "A 1 0xH0010=5
 L 2 VALUE STA:0xH0010=5::CAN:0xH0010=9::SUB:0xH0010=7::VAL:0xH0010*2
@@ -109,20 +44,74 @@ taken
 Some(Leaderboard { state: Started, tracked: 10 })
 ";
 
+const ROWS: &[Row] = &[
+    (
+        "a_paused_group_keeps_its_measured_number",
+        PAUSED,
+        &[
+            Write(1, 1),
+            Advance,
+            Write(2, 1),
+            Advance,
+            Write(2, 0),
+            Advance,
+            Write(3, 1),
+            Advance,
+            Write(3, 0),
+            Advance,
+        ],
+        PAUSED_EVENTS,
+    ),
+    (
+        "a_remembered_number_unlocks",
+        RECALLED,
+        &[Write(1, 4), Write(2, 3), Advance, Write(2, 4), Advance],
+        "1 Unlock { id: 1 }\n",
+    ),
+    (
+        "an_attempt_tells_its_numbers",
+        ATTEMPTS,
+        &[
+            Advance,
+            Write(1, 1),
+            Write(2, 1),
+            Write(3, 0x15),
+            Advance,
+            Advance,
+            Write(1, 0),
+            Advance,
+            Write(1, 1),
+            Write(2, 0),
+            Advance,
+            Write(3, 0x1e),
+            Advance,
+            Write(2, 1),
+            Advance,
+            Save,
+        ],
+        ATTEMPTS_EVENTS,
+    ),
+    (
+        "items_stand_where_they_stopped",
+        STANDING,
+        &[
+            Numbers,
+            At(0),
+            At(5),
+            Numbers,
+            Item(0),
+            Item(1),
+            Item(2),
+            Save,
+            Restore,
+            Item(1),
+        ],
+        STANDS,
+    ),
+];
+
 #[test]
-fn items_stand_where_they_stopped(rt: HostRuntime) -> Result<(), Fail> {
-    let steps = [
-        Numbers,
-        At(0),
-        At(5),
-        Numbers,
-        Item(0),
-        Item(1),
-        Item(2),
-        Save,
-        Restore,
-        Item(1),
-    ];
-    assert!(rt; tells(rt.alloc(), STANDING, &steps, STANDS.as_bytes())?);
+fn events_and_items_are_told(rt: HostRuntime) -> Result<(), Fail> {
+    assert_eq!(rt; other_row(rt.alloc(), "", ROWS)?, None);
     Ok(())
 }

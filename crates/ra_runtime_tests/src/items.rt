@@ -2,7 +2,7 @@
 
 use crate::played::set_of;
 use crate::steps::Step::{At, Shape};
-use crate::steps::{put_shape, tells};
+use crate::steps::{Row, other_row, put_shape};
 use ra_runtime::shape_of;
 use std::alloc::Global;
 use std::test::Fail;
@@ -21,24 +21,11 @@ track 5 2 5
 cancel 6 2
 ";
 
-#[test]
-fn items_print_in_set_order(rt: HostRuntime) -> Result<(), Fail> {
-    let steps = [At(0), At(5), At(6), At(7), At(0), At(5), At(9)];
-    assert!(rt; tells(rt.alloc(), BOTH, &steps, BOTH_LINES.as_bytes())?);
-    Ok(())
-}
-
 const BOTH_SHAPE: &str = "cells 1 priors 0
 Achievement { hits: 1 }
 Leaderboard { hits: 3, parts: 1 }
 None
 ";
-
-#[test]
-fn a_byte_is_one_cell(rt: HostRuntime) -> Result<(), Fail> {
-    assert!(rt; tells(rt.alloc(), BOTH, &[Shape], BOTH_SHAPE.as_bytes())?);
-    Ok(())
-}
 
 fn has_shape(alloc: Global, file: &str, wanted: &[u8]) -> Result<bool, Fail> {
     let mut out = Vec::new(alloc);
@@ -56,5 +43,21 @@ fn put_shape_of(alloc: Global, file: &str, out: &mut Vec<u8>) -> Result<(), Fail
 #[test]
 fn a_set_has_its_shape_before_it_is_played(rt: HostRuntime) -> Result<(), Fail> {
     assert!(rt; has_shape(rt.alloc(), BOTH, BOTH_SHAPE.as_bytes())?);
+    Ok(())
+}
+
+const ROWS: &[Row] = &[
+    (
+        "items_print_in_set_order",
+        BOTH,
+        &[At(0), At(5), At(6), At(7), At(0), At(5), At(9)],
+        BOTH_LINES,
+    ),
+    ("a_byte_is_one_cell", BOTH, &[Shape], BOTH_SHAPE),
+];
+
+#[test]
+fn lines_and_shapes_stand_in_set_order(rt: HostRuntime) -> Result<(), Fail> {
+    assert_eq!(rt; other_row(rt.alloc(), "", ROWS)?, None);
     Ok(())
 }

@@ -74,6 +74,29 @@ pub(crate) fn tells(
     Ok(found.as_slice() == wanted)
 }
 
+/// What a row shows, the file of its set, its steps, and what they tell.
+pub(crate) type Row = (&'static str, &'static str, &'static [Step], &'static str);
+
+/// What the first row shows whose steps tell something else; each set stands after these lines.
+pub(crate) fn other_row(
+    alloc: Global,
+    before: &str,
+    rows: &'static [Row],
+) -> Result<Option<&'static str>, Fail> {
+    for row in rows {
+        if !tells_row(alloc, before, row)? {
+            return Ok(Some(row.0));
+        }
+    }
+    Ok(None)
+}
+
+fn tells_row(alloc: Global, before: &str, row: &Row) -> Result<bool, Fail> {
+    let (_, lines, steps, wanted) = *row;
+    let file = format!(in alloc; "{before}{lines}")?;
+    tells(alloc, &file, steps, wanted.as_bytes())
+}
+
 /// Whether these are the bytes of the save that the steps keep.
 pub(crate) fn saves(
     alloc: Global,
