@@ -1,7 +1,7 @@
 //! What a display keeps and shows, and that a save and a restore keep it.
 
 use crate::steps::Step::{At, Close, Frame, Lines, Put, Restore, Save, Show, Words, Write};
-use crate::steps::{Step, tells};
+use crate::steps::{Row, Step, other_row, tells};
 use ra_text::OutOfMemory;
 use std::alloc::Global;
 use std::test::Fail;
@@ -10,28 +10,6 @@ const TWICE: &str = "P\nDisplay:\n?0xH0010=5.2._R:0xH0010=9?Twice\nAt @Number(0x
 
 // The shown line, the hits of both conditions, and the number of the macro; the last line is shown before any frame.
 const TWICE_WORDS: &str = "1 0 0 0 \n1 0 0 0 \n1 1 0 5 \n0 2 0 5 \n0 2 0 7 \n1 0 0 9 \n1 1 0 5 \n";
-
-#[test]
-fn a_test_keeps_its_hits(rt: HostRuntime) -> Result<(), Fail> {
-    let words = Words(81, 4);
-    let steps = [
-        words,
-        At(0),
-        words,
-        At(5),
-        words,
-        At(5),
-        words,
-        At(7),
-        words,
-        At(9),
-        words,
-        At(5),
-        words,
-    ];
-    assert!(rt; tells(rt.alloc(), TWICE, &steps, TWICE_WORDS.as_bytes())?);
-    Ok(())
-}
 
 const THREE_LINES: &str = "P
 Display:
@@ -42,14 +20,6 @@ Three @Number(0xH0010*3)
 
 // The shown line, the hits of both tests, and the numbers of three macros.
 const THREE_WORDS: &str = "2 0 0 0 0 0 \n1 1 1 1 2 3 \n0 2 1 1 2 3 \n0 2 1 4 8 12 \n";
-
-#[test]
-fn the_first_line_that_holds_is_shown(rt: HostRuntime) -> Result<(), Fail> {
-    let words = Words(81, 6);
-    let steps = [At(0), words, At(1), words, At(1), words, At(4), words];
-    assert!(rt; tells(rt.alloc(), THREE_LINES, &steps, THREE_WORDS.as_bytes())?);
-    Ok(())
-}
 
 // A line of a display, how many cells stand before what it keeps, how many numbers that are, and these.
 type Kept = (&'static str, usize, usize, &'static str);
@@ -125,33 +95,6 @@ fn other_shown(alloc: Global, rows: &[Shown]) -> Result<Option<usize>, Fail> {
 #[test]
 fn values_are_shown_as_signed_numbers(rt: HostRuntime) -> Result<(), Fail> {
     assert_eq!(rt; other_shown(rt.alloc(), SHOWN)?, None);
-    Ok(())
-}
-
-#[test]
-fn a_name_that_no_format_has_is_told(rt: HostRuntime) -> Result<(), Fail> {
-    let file = "P\nDisplay:\n\\@@Foo(5)\\\\\n";
-    assert!(rt;
-        tells(
-            rt.alloc(),
-            file,
-            &[At(0), Show],
-            b"presence 1 @[Unknown macro]Foo\\\n".as_slice()
-        )?
-    );
-    Ok(())
-}
-
-#[test]
-fn a_set_without_a_script_shows_nothing(rt: HostRuntime) -> Result<(), Fail> {
-    assert!(rt;
-        tells(
-            rt.alloc(),
-            "A 1 0xH0010=5\n",
-            &[Show, At(5), Show],
-            b"".as_slice()
-        )?
-    );
     Ok(())
 }
 
@@ -293,25 +236,80 @@ taken
 presence 1 Twice
 ";
 
+const ROWS: &[Row] = &[
+    (
+        "a_test_keeps_its_hits",
+        TWICE,
+        &[
+            Words(81, 4),
+            At(0),
+            Words(81, 4),
+            At(5),
+            Words(81, 4),
+            At(5),
+            Words(81, 4),
+            At(7),
+            Words(81, 4),
+            At(9),
+            Words(81, 4),
+            At(5),
+            Words(81, 4),
+        ],
+        TWICE_WORDS,
+    ),
+    (
+        "the_first_line_that_holds_is_shown",
+        THREE_LINES,
+        &[
+            At(0),
+            Words(81, 6),
+            At(1),
+            Words(81, 6),
+            At(1),
+            Words(81, 6),
+            At(4),
+            Words(81, 6),
+        ],
+        THREE_WORDS,
+    ),
+    (
+        "a_name_that_no_format_has_is_told",
+        "P\nDisplay:\n\\@@Foo(5)\\\\\n",
+        &[At(0), Show],
+        "presence 1 @[Unknown macro]Foo\\\n",
+    ),
+    (
+        "a_set_without_a_script_shows_nothing",
+        "A 1 0xH0010=5\n",
+        &[Show, At(5), Show],
+        "",
+    ),
+    (
+        "a_line_that_is_not_there_is_refused",
+        TWICE,
+        &[
+            At(5),
+            Save,
+            At(5),
+            Put(81, 2),
+            Close,
+            Restore,
+            Show,
+            Put(81, 255),
+            Close,
+            Restore,
+            Show,
+            Put(81, 0),
+            Close,
+            Restore,
+            Show,
+        ],
+        ANOTHER_LINE,
+    ),
+];
+
 #[test]
-fn a_line_that_is_not_there_is_refused(rt: HostRuntime) -> Result<(), Fail> {
-    let steps = [
-        At(5),
-        Save,
-        At(5),
-        Put(81, 2),
-        Close,
-        Restore,
-        Show,
-        Put(81, 255),
-        Close,
-        Restore,
-        Show,
-        Put(81, 0),
-        Close,
-        Restore,
-        Show,
-    ];
-    assert!(rt; tells(rt.alloc(), TWICE, &steps, ANOTHER_LINE.as_bytes())?);
+fn displays_keep_and_show_their_lines(rt: HostRuntime) -> Result<(), Fail> {
+    assert_eq!(rt; other_row(rt.alloc(), "", ROWS)?, None);
     Ok(())
 }
