@@ -83,7 +83,7 @@ fi
 
 core=$(library libretro/nestopia_libretro.so)
 if [ -n "$core" ]; then
-    "$folder/frontend" "$core" game/lantern.nes lantern.txt "$folder/lantern.trace"
+    ./record.sh "$core" game/lantern.nes lantern.txt "$folder/lantern.trace"
     same "the trace, recorded again" "$folder/lantern.trace" lantern.trace
 else
     left_out "the game was not recorded again, libretro-nestopia is missing"
