@@ -15,6 +15,7 @@ check() {
     shift
     if "$@" >"$room/said" 2>&1; then
         echo "$name: passed"
+        grep "^left out" "$room/said"
     else
         failed=$((failed + 1))
         echo "$name: FAILED"
@@ -80,4 +81,5 @@ if has "C programs" cc; then
         echo "C programs: compiled, not run (no archive of these files: examples/c/check.sh makes it)"
     fi
 fi
+check "examples/libretro" examples/libretro/check.sh "$player"
 exit "$failed"
