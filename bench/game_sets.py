@@ -63,18 +63,30 @@ def conditions_of(text):
     return groups
 
 
-def triggers_of(lines):
-    """The triggers of a set, with A or L of their items, or P."""
-    for line in lines:
-        words = line.rstrip("\n").split(" ", 2)
+def values_of(text):
+    """The groups of a value: of a legacy part its terms, as conditions that compare nothing."""
+    for part in text.split("$"):
+        if re.match("[A-Z]:", part):
+            yield from conditions_of(part)
+        else:
+            yield [(None, term.split("*")[0], None, None, None) for term in part.split("_")]
+
+
+def groups_of(lines):
+    """The groups of a set, with A or L of their items, or P."""
+    for line in map(str.rstrip, lines):
+        words = line.split(" ", 2)
         if words[0] == "A":
-            yield "A", words[2]
+            yield from (("A", group) for group in conditions_of(words[2]))
         elif words[0] == "L":
             for field in words[2].split(" ", 1)[1].split("::"):
-                if field[:3] in ("STA", "CAN", "SUB"):
-                    yield "L", field[4:]
-        elif line.startswith("?"):
-            yield "P", line[1 : line.index("?", 1)]
+                cut = values_of if field[:3] in ("VAL", "PRO") else conditions_of
+                yield from (("L", group) for group in cut(field[4:]))
+        elif line.startswith("?") or "@" in line:
+            test = line[1 : line.index("?", 1)] if line.startswith("?") else ""
+            yield from (("P", group) for group in conditions_of(test))
+            for value in re.findall(r"@[^(]*\(([^)]*)\)", line):
+                yield from (("P", group) for group in values_of(value))
 
 
 class Table:
@@ -154,10 +166,9 @@ def holds(operator, left, right):
 def count(lines, trace):
     """Prints what a set has and what changes; answers how many comparisons come out otherwise a frame."""
     table, conditions = Table(), 0
-    for _, text in triggers_of(lines):
-        for group in conditions_of(text):
-            table.add(group)
-            conditions += len(group)
+    for _, group in groups_of(lines):
+        table.add(group)
+        conditions += len(group)
     changed = otherwise = frames = 0
     for image in frames_of(trace):
         cells, truths = table.step(image)
@@ -185,15 +196,14 @@ def taken(variables, trace):
 def shapes_of(lines):
     """Of each comparison of the achievements: flag, whether behind a pointer, kinds of left and right, operator, target."""
     shapes = []
-    for item, text in triggers_of(lines):
-        for group in conditions_of(text) if item == "A" else ():
-            behind = False
-            for flag, left, operator, right, target in group:
-                if operator and re.fullmatch(MEMORY, left):
-                    right_kind = right[0] if right[0] in "dp" else "" if re.fullmatch(MEMORY, right) else None
-                    kept = flag if flag in ("N", "O", "C", "Z", "R", "P", "T") else None
-                    shapes.append((kept, behind, left[0] if left[0] in "dp" else "", operator, right_kind, target))
-                behind = flag == "I"
+    for item, group in groups_of(lines):
+        behind = False
+        for flag, left, operator, right, target in group if item == "A" else ():
+            if operator and re.fullmatch(MEMORY, left):
+                right_kind = right[0] if right[0] in "dp" else "" if re.fullmatch(MEMORY, right) else None
+                kept = flag if flag in ("N", "O", "C", "Z", "R", "P", "T") else None
+                shapes.append((kept, behind, left[0] if left[0] in "dp" else "", operator, right_kind, target))
+            behind = flag == "I"
     return shapes
 
 
