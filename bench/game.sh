@@ -1,5 +1,5 @@
 #!/bin/sh
-# What a frame of a game costs: prints the first table of docs/ARCHITECTURE.md, "What it costs".
+# What a frame of a game costs: prints the figures of docs/ARCHITECTURE.md, "On a game".
 # usage: bench/game.sh [PLAYER], where PLAYER is the built program; where it is not named it is found, or built
 # The trace is the recording of examples/libretro. Instructions are counted by callgrind: those of a run, without those of a run over
 # a trace without frames, a frame. So the player's have its writes in them, the printed lines and the saves and restores of the
@@ -29,7 +29,7 @@ frames=$(python3 "$here/examples/trace.py" show "$game/lantern.trace" | grep -c 
 
 rc_trace=
 archive=$(ls /usr/lib/*/rcheevoslib.a 2>/dev/null | head -1)
-if [ -n "$archive" ] && command -v cc >/dev/null; then
+if [ -n "$archive" ] && [ -f /usr/include/rcheevos/rcheevos.h ] && command -v cc >/dev/null; then
     rc_trace=$folder/rc_trace
     cc -std=c99 -O2 -DWITH_RCHEEVOS "$game/rc_trace.c" -o "$rc_trace" "$archive"
 fi
@@ -49,7 +49,11 @@ echo "| Set | The player | 8 copies over 2 MiB | 64 copies | rcheevos |"
 echo "|---|---|---|---|---|"
 program=$player
 for set in none own calm busy; do
-    row="| $set"
+    case $set in
+    none) row="| no items" ;;
+    own) row="| the game's own" ;;
+    *) row="| $set: 100 achievements of 8" ;;
+    esac
     for trace in 1 8 64; do
         row="$row | $(a_frame $set $trace "$program" run)"
     done

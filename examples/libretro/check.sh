@@ -111,6 +111,14 @@ if [ -n "$rcheevos" ]; then
     python3 differences.py differences.set differences.out "$folder/rc.out" >"$folder/differences.txt"
     same "what rcheevos does otherwise, which is:" "$folder/differences.txt" differences.txt
     cat differences.txt
+    if [ -x "$player" ]; then
+        for kind in calm busy; do
+            python3 "$root/bench/game_sets.py" make $kind lantern.set lantern.trace "$folder/made.set" >/dev/null
+            "$player" run "$folder/made.set" lantern.trace | grep -v -E '^(measured|track) ' >"$folder/wanted"
+            "$folder/rc_trace" "$folder/made.set" lantern.trace >"$folder/rc.out"
+            same "rcheevos over the $kind set of bench/game.sh" "$folder/rc.out" "$folder/wanted"
+        done
+    fi
 else
     left_out "rcheevos, librcheevos-dev is missing"
 fi

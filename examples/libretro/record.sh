@@ -20,5 +20,6 @@ fi
 folder=$(mktemp -d)
 trap 'rm -rf "$folder"' EXIT
 rcheevos=$(ls /usr/lib/*/rcheevoslib.a 2>/dev/null | head -1)
+[ -f /usr/include/rcheevos/rcheevos.h ] || rcheevos=
 "${CC:-cc}" -std=c99 -O2 ${rcheevos:+-DWITH_RCHEEVOS} "$here/frontend.c" -o "$folder/frontend" $rcheevos -ldl
 "$folder/frontend" "$core" "$@"
