@@ -1,3 +1,4 @@
+pub mod CurrentLemmas
 pub mod FrameLemmas
 pub mod LaidShapes
 pub mod LineLemmas

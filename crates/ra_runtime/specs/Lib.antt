@@ -1,3 +1,4 @@
+pub mod Courses
 pub mod Laid
 pub mod Numbers
 pub mod Seen

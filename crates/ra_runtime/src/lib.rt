@@ -1,11 +1,13 @@
 //! A set over a memory: a runtime that is made, stepped, shown, saved and restored.
 #![tactic(auto)]
 
+mod course;
 mod numbers;
 mod runtime;
 mod shapes;
 mod written;
 
+pub use course::Course;
 pub use ra_changed::changed_sets_go_on;
 pub use ra_items::{Events, ItemState};
 pub use ra_meaning::{

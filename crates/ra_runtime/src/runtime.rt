@@ -12,16 +12,10 @@ ghost use Rattle.ra_meaning.specs.Order.{shape_of};
 ghost use Rattle.ra_meaning.specs.Saving.{IsSaved};
 ghost use Rattle.ra_set.specs.Spelled.{IsSpelled};
 
-use crate::numbers::take_numbers;
-use crate::shapes::{at_rest, shape_and_room};
-use crate::written::put_events;
-use ra_display::{
-    LineRests, PresenceRun, put_back_presence, put_display, shown_line, step_presence,
-};
-use ra_items::{Events, ItemRun, ItemState, Rests, put_back_runs, put_runs, state_in};
+use crate::course::Course;
+use ra_items::{Events, ItemState};
 use ra_memory::{Counted, Memory, Steps};
-use ra_memref::Table;
-use ra_progress::{ProgressRefused, Said, Shape, begin, check, close, frames_at};
+use ra_progress::{ProgressRefused, Shape};
 use ra_set::Set;
 use ra_text::OutOfMemory;
 use std::alloc::Global;
@@ -33,20 +27,8 @@ use std::sync::ledger::{Blank, Ledger};
 /// It is seen as its set, the image, the opening that it keeps, and the events and lines of the last frame.
 #[derive(Drop)]
 pub struct Runtime {
-    set: Set,
-    shape: Shape,
-    // room for what a progress file says, so that a restore takes no memory
-    said: Said,
     memory: Memory,
-    table: Table,
-    runs: Vec<ItemRun>,
-    rests: Rests,
-    presence: Option<PresenceRun>,
-    line_rests: LineRests,
-    // the count of frames, which stops at the last number
-    count: u64,
-    // the number of the last frame, where one came: the count before it
-    last: Option<u64>,
+    course: Course,
 }
 
 impl Model for Runtime {
@@ -77,21 +59,8 @@ impl Runtime {
         ensures { IfOk result (IsMade (set_contents set) size) }
     {
         let memory = Memory::new(alloc, size)?;
-        let (table, runs, rests, presence, line_rests, names) = at_rest(alloc, &set, size)?;
-        let (shape, said) = shape_and_room(alloc, &set, &runs, &presence, names)?;
-        Ok(Runtime {
-            set,
-            shape,
-            said,
-            memory,
-            table,
-            runs,
-            rests,
-            presence,
-            line_rests,
-            count: 0,
-            last: None,
-        })
+        let course = Course::new(alloc, set, size)?;
+        Ok(Runtime { memory, course })
     }
 
     /// The shape of the set: docs/DEFINITIONS.md, "Shape of a set".
@@ -99,7 +68,7 @@ impl Runtime {
         ensures shape { shape_contents result.now ≡ shape_of self.now.set }
         ensures usable { IsUsable result.now }
     {
-        &self.shape
+        self.course.shape()
     }
 
     /// Writes the bytes from the address `at` on, and tells the table.
@@ -110,7 +79,7 @@ impl Runtime {
         let _size = self.memory.size();
         let count = bytes.len() as u32;
         let _ = self.memory.write(at, bytes);
-        self.table.write(at, count);
+        self.course.tell(at, count);
     }
 
     /// The progress bytes of the present state: docs/DEFINITIONS.md, "Progress file".
@@ -118,25 +87,7 @@ impl Runtime {
         ensures bytes { IfOk result (λ bytes. bytes.items ≡ progress_bytes (shape_of self.now.set) self.now.kept) }
         ensures saved { IfOk result (λ bytes. IsSaved self.now.set bytes.items) }
     {
-        let cells = self.table.cells();
-        let priors = self.table.priors();
-        let mut bytes = begin(alloc, &self.shape, self.count, cells, priors)?;
-        put_runs(
-            alloc,
-            &mut bytes,
-            &self.shape.item_names,
-            &self.runs,
-            &self.rests,
-        )?;
-        put_display(
-            alloc,
-            &mut bytes,
-            &self.shape.presence_name,
-            &self.presence,
-            &self.line_rests,
-        )?;
-        close(&mut bytes)?;
-        Ok(bytes)
+        self.course.save(alloc)
     }
 
     /// Takes up what progress bytes say, of this set or of a changed one: docs/DEFINITIONS.md, "What a runtime keeps".
@@ -148,25 +99,7 @@ impl Runtime {
         ensures refused { IfErr result (λ why. refusal (shape_of self.old.set) bytes.now ≡ Some why) }
         ensures err { OnErr result (self.new ≡ self.old) }
     {
-        check(&self.shape, bytes)?;
-        self.take_up(bytes);
-        Ok(())
-    }
-
-    // Takes up what accepted bytes say.
-    fn take_up(&mut self, bytes: &[u8])
-        requires { IsAccepted (shape_of self.old.set) bytes.now }
-        ensures { TakesUp self.old self.new bytes.now }
-    {
-        self.said.read(&self.shape, bytes);
-        take_numbers(&mut self.table, &self.said.cells, &self.said.priors);
-        put_back_runs(&mut self.runs, bytes, &self.said.places);
-        self.rests.forget();
-        let display = self.said.place(self.runs.len());
-        put_back_presence(&mut self.presence, &self.shape.presence, bytes, display);
-        self.line_rests.forget();
-        self.count = frames_at(bytes);
-        self.last = None;
+        self.course.restore(bytes)
     }
 
     /// Takes one frame of every item: docs/DEFINITIONS.md, "What a runtime keeps". No memory is taken.
@@ -175,20 +108,10 @@ impl Runtime {
         ensures reads { ReadsFew self.old self.new (steps.new - steps.old) }
         ensures counts { steps.old ≤ steps.new }
     {
-        self.table.sample(&mut Counted {
+        self.course.frame(&mut Counted {
             memory: &self.memory,
             steps,
         });
-        self.rests
-            .step(&mut self.runs, &self.set.items, &self.table);
-        step_presence(
-            &mut self.presence,
-            &mut self.line_rests,
-            &self.set.script,
-            &self.table,
-        );
-        self.last = Some(self.count);
-        self.count = self.count.saturating_add(1);
     }
 
     /// Takes one frame, as `frame` does, where nobody counts what is read. No memory is taken.
@@ -216,10 +139,7 @@ impl Runtime {
     pub fn events(&self) -> Events<'_>
         ensures { result ≡ self.now.events }
     {
-        match self.last {
-            Some(_) => Events::new(&self.set.items, &self.runs, self.rests.stepped()),
-            None => Events::new(&[], &[], &[]),
-        }
+        self.course.events()
     }
 
     /// The lines of the events of the last frame: docs/DEFINITIONS.md, "Printed lines". None where no
@@ -229,7 +149,7 @@ impl Runtime {
         ensures of_events { IfOk result (λ text. IsTextOf text.items self.now.events) }
     {
         let mut out = Vec::new(alloc);
-        self.tell(&mut out)?;
+        self.course.tell_lines(&mut out)?;
         Ok(out)
     }
 
@@ -238,18 +158,7 @@ impl Runtime {
     pub fn put_lines(&self, text: &mut Vec<u8>) -> Result<(), OutOfMemory>
         ensures { OnOk result (text.new.items ≡ text.old.items ++ self.now.lines) }
     {
-        self.tell(text)
-    }
-
-    // Puts the lines of the events of the last frame, where one came, at the end of a text; they are the text of its events.
-    fn tell(&self, text: &mut Vec<u8>) -> Result<(), OutOfMemory>
-        ensures put { OnOk result (text.new.items ≡ text.old.items ++ self.now.lines) }
-        ensures of_events { IsTextOf self.now.lines self.now.events }
-    {
-        match self.last {
-            Some(frame) => put_events(text, frame, self.events()),
-            None => Ok(()),
-        }
+        self.course.tell_lines(text)
     }
 
     /// How many bytes the image has.
@@ -263,24 +172,21 @@ impl Runtime {
     pub fn frames(&self) -> u64
         ensures { result ≡ self.now.kept.frames }
     {
-        self.count
+        self.course.frames()
     }
 
     /// Where the item at a place of the set stands; none past the last one.
     pub fn item(&self, place: usize) -> Option<ItemState>
         ensures { result ≡ state_at self.now.set self.now.kept place }
     {
-        state_in(&self.runs, place)
+        self.course.item(place)
     }
 
     /// The index of the display line that is shown; none where the set has no script.
     pub fn shown(&self) -> Option<u32>
         ensures { result ≡ option_map (λ presence. presence.shown) self.now.kept.presence }
     {
-        match &self.presence {
-            Some(run) => Some(run.shown),
-            None => None,
-        }
+        self.course.shown()
     }
 
     /// The presence line after the last frame, with the count of frames: docs/DEFINITIONS.md, "Presence
@@ -288,6 +194,6 @@ impl Runtime {
     pub fn show(&self, alloc: Global) -> Result<Vec<u8>, OutOfMemory>
         ensures { IfOk result (λ text. ShowsKept self.now text.items) }
     {
-        shown_line(alloc, self.count, &self.set.script, &self.presence)
+        self.course.show(alloc)
     }
 }

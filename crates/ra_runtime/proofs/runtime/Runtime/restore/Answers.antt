@@ -1,19 +1,28 @@
-use Rattle.std.proofs.Common.{refl, ◌∙◌, ap, subst}
-use Rattle.ra_progress.specs.Contents.{ShapeContents}
-use Rattle.ra_progress.specs.Reading.{IsAccepted}
-use Rattle.ra_progress.proofs.Checks.{accepted_none}
-use Rattle.ra_meaning.specs.Order.{shape_of}
-use Rattle.ra_meaning.specs.Runtime.{RuntimeSeen}
+use Rattle.std.proofs.Common.{◌≡◌, ℕ, List, Ok, Err, Result, ◌∙◌, ap, sym, subst}
+use Rattle.std.specs.Result.{OnOk, OnErr}
+use Rattle.ra_meaning.specs.Runtime.{TakesUp}
+use Rattle.ra_runtime.specs.Courses.{CourseSeen, over, IsCurrent}
+use Rattle.ra_runtime.specs.Seen.{runtime_seen}
 use Rattle.ra_runtime.proofs.runtime.Runtime.restore.Goals as goal
 
-pub take_up-requires : goal.take_up-requires
-take_up-requires c =
-    let shown = ap (λ (r : RuntimeSeen). shape_of r.set) c.self.view_is in
-    subst (λ (s : ShapeContents). IsAccepted s c.args.bytes.now) (c.self.invariant.shape ∙ shown) (c.in_ok-check.ensures.ok.0 refl)
+on_ok : {T E A B : Type 0} (r : Result T E) → (A → B) → OnOk r A → OnOk r B
+on_ok (Ok x) f h = f h
+on_ok (Err e) f h = h
 
-pub returns-clause-accepted : goal.returns-clause-accepted
-returns-clause-accepted c =
-    let bytes = c.args.bytes.now in
-    let shown = ap (λ (r : RuntimeSeen). shape_of r.set) c.self.view_is in
-    let accepted : IsAccepted (shape_of c.args.self.now.set) bytes = subst (λ (s : ShapeContents). IsAccepted s bytes) (c.self.invariant.shape ∙ shown) (c.in_ok-check.ensures.ok.0 refl) in
-    accepted_none (shape_of c.args.self.now.set) bytes accepted
+either : {T E A B C : Type 0} (r : Result T E) → (A → C) → (B → C) → OnOk r A → OnErr r B → C
+either (Ok x) f g ok err = f ok
+either (Err e) f g ok err = g err
+
+pub invariant_of-self : goal.invariant_of-self
+invariant_of-self c =
+    let t = c.self.inside in
+    let is = c.restore.ensures in
+    record {
+      size = is.size ∙ c.self.invariant.size;
+      current = either c.restore.result (λ current. current t.memory) (λ same. subst (λ (s : CourseSeen). IsCurrent (over s t.memory)) (sym same) c.self.invariant.current) is.current is.err;
+    }
+
+pub returns-clause-ok : goal.returns-clause-ok
+returns-clause-ok c =
+    let t = c.self.inside in
+    rw (← c.self.view_is) (on_ok c.restore.result (λ takes. takes t.memory) c.restore.ensures.ok)

@@ -17,12 +17,13 @@ use Rattle.ra_display.specs.PresenceRuns.{IsOptionalPresence}
 use Rattle.ra_display.specs.PresenceBack.{HasDisplay}
 use Rattle.ra_runtime.specs.Numbers.{TakesNumbers}
 use Rattle.ra_items.specs.Restoring.{restored_items}
-use Rattle.ra_meaning.specs.Runtime.{RuntimeSeen}
+use Rattle.ra_runtime.specs.Courses.{CourseSeen}
 use Rattle.ra_items.specs.Shapes.{run_shape}
 use Rattle.ra_items.proofs.RestoredRuns.{items_have, display_has}
 use Rattle.ra_items.proofs.ShapeLemmas.{runs_shaped}
 use Rattle.ra_runtime.proofs.LaidShapes.{presence_shaped}
 use Rattle.ra_meaning.proofs.Openings.Snapshots.{script_has_lines}
+use Rattle.ra_runtime.proofs.CurrentLemmas.{current_agrees}
 use Rattle.ra_runtime.proofs.TakenUp.{over_restored, marked_restored, kept_restored}
 use Rattle.ra_items.specs.ItemRuns.{kept_run}
 use Rattle.ra_items.specs.Rests.{AreRests, seen_by}
@@ -30,7 +31,7 @@ use Rattle.ra_items.proofs.RunsLemmas.{length_runs}
 use Rattle.ra_display.specs.LineRests.{AreOptionalRests, optional_presence_seen}
 use Rattle.ra_display.proofs.SeenLines.{rests_forgotten}
 use Rattle.ra_items.proofs.SeenItems.{rests_earned}
-use Rattle.ra_runtime.proofs.runtime.Runtime.take_up.Goals as goal
+use Rattle.ra_runtime.proofs.course.Course.take_up.Goals as goal
 
 -- no frame came where there is no number of one
 none_came : false ≡ true → ⊥
@@ -38,7 +39,7 @@ none_came same = cc
 
 pub read-requires-clause-accepted : goal.read-requires-clause-accepted
 read-requires-clause-accepted c =
-    let seen = ap (λ (r : RuntimeSeen). shape_of r.set) c.self.view_is in
+    let seen = ap (λ (r : CourseSeen). shape_of r.set) c.self.view_is in
     subst (λ (s : ShapeContents). IsAccepted s c.args.bytes.now) (sym (c.self.invariant.shape ∙ seen)) c.requires
 
 pub put_back_runs-requires-clause-many : goal.put_back_runs-requires-clause-many
@@ -56,7 +57,7 @@ put_back_runs-requires-clause-blocks c =
     let shape = shape_contents t.shape in
     let inv = c.self.invariant in
     let bytes = c.args.bytes.now in
-    let seen = ap (λ (r : RuntimeSeen). shape_of r.set) c.self.view_is in
+    let seen = ap (λ (r : CourseSeen). shape_of r.set) c.self.view_is in
     let accepted : IsAccepted shape bytes = subst (λ (s : ShapeContents). IsAccepted s bytes) (sym (inv.shape ∙ seen)) c.requires in
     let shaped : map run_shape t.runs.items ≡ shape.items = runs_shaped t.table.nodes (set_contents t.set).items t.runs.items inv.runs ∙ ap (λ (s : ShapeContents). s.items) (sym inv.shape) in
     let same : map run_shape c.deref_mut.result.now ≡ shape.items = ap (map run_shape) c.deref_mut.ensures.value ∙ shaped in
@@ -77,7 +78,7 @@ put_back_presence-requires-clause-block c =
     let shape = shape_contents t.shape in
     let inv = c.self.invariant in
     let bytes = c.args.bytes.now in
-    let seen = ap (λ (r : RuntimeSeen). shape_of r.set) c.self.view_is in
+    let seen = ap (λ (r : CourseSeen). shape_of r.set) c.self.view_is in
     let accepted : IsAccepted shape bytes = subst (λ (s : ShapeContents). IsAccepted s bytes) (sym (inv.shape ∙ seen)) c.requires in
     let shaped = runs_shaped t.table.nodes set.items t.runs.items inv.runs in
     let many : c.len.result ≡ length shape.items = omega (arith, c.len.ensures, c.put_back_runs.auto.runs, c.deref_mut.ensures.len, length-map t.runs.items run_shape, ap length shaped, ap (λ (s : ShapeContents). length s.items) inv.shape) in
@@ -114,11 +115,11 @@ invariant_of-self c =
           (rests_forgotten t.table.nodes t.table.values table.values set.script t.presence c.put_back_presence.new.run t.line_rests c.forget-2.new.self inv.presence (c.put_back_presence.ensures.run t.table.nodes set.script inv.presence) inv.lines (record { each = c.forget-2.ensures.each; kept = c.forget-2.ensures.kept })).0;
       digits = inv.digits;
       size = takes.pool.1 ∙ inv.size;
-      agrees = Agrees-marked table t.memory _ takes.marked;
+      small = inv.small;
     }
 
-pub returns : goal.returns
-returns c =
+pub returns-clause-taken : goal.returns-clause-taken
+returns-clause-taken c =
     let t = c.self.inside in
     let set = set_contents t.set in
     let inv = c.self.invariant in
@@ -137,7 +138,7 @@ returns c =
     let seen : seen_by (with_items t.runs news).items c.forget.new.self ≡ restored_items bytes t.runs.items said.places.items = c.forget.ensures.kept (with_items t.runs news).items long ∙ ap (map kept_run) same ∙ kept in
     let place : c.place-display.result ≡ slice_index_or said.places.items (length t.runs.items) None = c.place-display.ensures ∙ ap (λ n. slice_index_or said.places.items n None) many in
     let shown_too = (rests_forgotten t.table.nodes t.table.values table.values set.script t.presence display t.line_rests c.forget-2.new.self inv.presence (c.put_back_presence.ensures.run t.table.nodes set.script inv.presence) inv.lines (record { each = c.forget-2.ensures.each; kept = c.forget-2.ensures.kept })).1 in
-    rw (← c.self.view_is) (record {
+    rw (← c.self.view_is) (λ image. record {
       set = refl;
       image = refl;
       kept = kept_restored set t.table table inv.over bytes said room takes says t.runs.items (seen_by t.runs.items t.rests) (seen_by (with_items t.runs news).items c.forget.new.self) t.presence display (optional_presence_seen display c.forget-2.new.self) inv.runs inv.presence (rests_earned t.table.nodes t.table.values set.items t.runs.items t.rests inv.runs inv.rests) seen c.place-display.result place c.put_back_presence.ensures shown_too c.frames_at-self-inside.result c.frames_at-self-inside.ensures;
@@ -146,3 +147,14 @@ returns c =
       marked = marked_restored set t.table table inv.over bytes said room takes;
       places = takes.places;
     })
+
+pub returns-clause-current : goal.returns-clause-current
+returns-clause-current c =
+    let t = c.self.inside in
+    let set = set_contents t.set in
+    let inv = c.self.invariant in
+    let table = c.take_numbers.new.table in
+    let said = c.read.new.self in
+    let room : IsRoom (shape_of set) said = subst (λ (s : ShapeContents). IsRoom s said) inv.shape c.read.ensures.room in
+    let takes : TakesNumbers t.table table said.cells.items said.priors.items = rw (c.deref.ensures.value, c.deref-2.ensures.value) at c.take_numbers.ensures in
+    λ image. current_agrees set table image (over_restored set t.table table inv.over c.args.bytes.now said room takes) (Agrees-marked table image _ takes.marked)

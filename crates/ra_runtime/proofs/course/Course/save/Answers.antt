@@ -16,7 +16,7 @@ use Rattle.ra_display.specs.LineRests.{optional_presence_seen}
 use Rattle.ra_display.proofs.SeenLines.{optional_fitting}
 use Rattle.ra_runtime.specs.Laid.{opening_by}
 use Rattle.ra_items.specs.Rests.{AreFitting, seen_by}
-use Rattle.ra_meaning.specs.Runtime.{RuntimeSeen}
+use Rattle.ra_runtime.specs.Courses.{CourseSeen}
 use Rattle.ra_items.specs.Shapes.{run_shape}
 use Rattle.ra_meaning.specs.Saving.{IsSaved}
 use Rattle.ra_items.proofs.ShapeLemmas.{runs_shaped}
@@ -25,7 +25,7 @@ use Rattle.ra_items.proofs.RunsLemmas.{length_runs}
 use Rattle.ra_runtime.proofs.SavedOpening.{opening_taken, short_parts}
 use Rattle.ra_items.proofs.SaveLemmas.{seen_many}
 use Rattle.ra_items.proofs.SeenItems.{rests_fit}
-use Rattle.ra_runtime.proofs.runtime.Runtime.save.Goals as goal
+use Rattle.ra_runtime.proofs.course.Course.save.Goals as goal
 
 pub begin-requires-clause-cells : goal.begin-requires-clause-cells
 begin-requires-clause-cells c =
@@ -95,7 +95,7 @@ returns-clause-bytes c =
     let written : c.put_runs.new.bytes.items ≡ c.in_ok-bytes.bytes.items ++ items = rw (c.deref.ensures.value, c.deref-2.ensures.value) at c.in_ok-put_runs.ensures.bytes in
     let body : c.put_display.new.bytes.items ≡ body_bytes shape o =
     c.in_ok-put_display.ensures.bytes ∙ ap (λ xs. xs ++ display) (written ∙ ap (λ xs. xs ++ items) front) ∙ body_in_parts shape o many in
-    subst (λ (r : RuntimeSeen). c.close.new.bytes.items ≡ progress_bytes (shape_of r.set) r.kept) c.self.view_is
+    subst (λ (r : CourseSeen). c.close.new.bytes.items ≡ progress_bytes (shape_of r.set) r.kept) c.self.view_is
     (c.in_ok-close.ensures ∙ ap (λ xs. xs ++ md5 xs) body ∙ ap (λ (s : ShapeContents). progress_bytes s o) inv.shape)
 
 pub returns-clause-saved : goal.returns-clause-saved
@@ -112,5 +112,5 @@ returns-clause-saved c =
     let kept = seen_by runs c.self.inside.rests in
     let fit = subst (λ (rs : List ItemRun). ItemsFit (map run_shape rs) (seen_by rs c.self.inside.rests)) c.deref-2.ensures.value c.in_ok-put_runs.ensures.fit in
     let opening = opening_taken set table runs kept c.self.inside.presence c.self.inside.line_rests inv.runs inv.presence inv.lines c.self.inside.count small cells priors fit c.in_ok-put_display.ensures.fits in
-    subst (λ (r : RuntimeSeen). c.close.new.bytes.items ≡ progress_bytes (shape_of r.set) r.kept → IsSaved r.set c.close.new.bytes.items) c.self.view_is
+    subst (λ (r : CourseSeen). c.close.new.bytes.items ≡ progress_bytes (shape_of r.set) r.kept → IsSaved r.set c.close.new.bytes.items) c.self.view_is
     (λ is. record { kept = opening_by c.self.inside.count table kept (optional_presence_seen c.self.inside.presence c.self.inside.line_rests); opening = opening; is = is }) (returns-clause-bytes c)

@@ -10,11 +10,13 @@ use Rattle.ra_runtime.specs.Laid.{opening_by}
 use Rattle.ra_display.specs.LineRests.{AreOptionalRests, optional_presence_seen}
 use Rattle.ra_meaning.specs.Lines.{event_lines}
 use Rattle.ra_items.specs.Rests.{AreRests, AreSteppedSeen, AreTold, WereRests, seen_by}
-use Rattle.ra_runtime.specs.Seen.{runtime_seen}
+use Rattle.ra_runtime.specs.Seen.{course_seen}
+use Rattle.ra_runtime.specs.Courses.{CourseSeen, over as whole, IsCurrent}
+use Rattle.ra_runtime.proofs.CurrentLemmas.{agrees_current, current_agrees}
 use Rattle.ra_runtime.proofs.FrameLemmas.{frame_kept, frame_earned, frame_events, frame_lines, over_after, some_frame, takes_frame, reads_few}
 use Rattle.ra_display.proofs.SeenLines.{were_rests}
 use Rattle.ra_items.proofs.SeenItems.{rests_seen}
-use Rattle.ra_runtime.proofs.runtime.Runtime.frame.Goals as goal
+use Rattle.ra_runtime.proofs.course.Course.frame.Goals as goal
 
 pub step-requires-clause-rests : goal.step-requires-clause-rests
 step-requires-clause-rests g c =
@@ -33,12 +35,12 @@ step-requires-clause-rests g c =
 pub step-requires-clause-frame : goal.step-requires-clause-frame
 step-requires-clause-frame g c =
     let t = c.self.inside in
-    some_frame (set_contents t.set) t.count t.table c.sample.new.self t.memory (seen_by t.runs.items t.rests) (optional_presence_seen t.presence t.line_rests) c.self.invariant.over c.sample.ensures.taken
+    some_frame (set_contents t.set) t.count t.table c.sample.new.self (g.I.Image.bytes c.args.image.now) (seen_by t.runs.items t.rests) (optional_presence_seen t.presence t.line_rests) c.self.invariant.over c.sample.ensures.taken
 
 pub step_presence-requires-clause-frame : goal.step_presence-requires-clause-frame
 step_presence-requires-clause-frame g c =
     let t = c.self.inside in
-    some_frame (set_contents t.set) t.count t.table c.sample.new.self t.memory (seen_by t.runs.items t.rests) (optional_presence_seen t.presence t.line_rests) c.self.invariant.over c.sample.ensures.taken
+    some_frame (set_contents t.set) t.count t.table c.sample.new.self (g.I.Image.bytes c.args.image.now) (seen_by t.runs.items t.rests) (optional_presence_seen t.presence t.line_rests) c.self.invariant.over c.sample.ensures.taken
 
 pub step_presence-requires-clause-rests : goal.step_presence-requires-clause-rests
 step_presence-requires-clause-rests g c =
@@ -67,7 +69,7 @@ invariant_of-self g c =
       shape = c.self.invariant.shape;
       usable = c.self.invariant.usable;
       room = c.self.invariant.room;
-      over = over_after set t.count t.table now t.memory (seen_by t.runs.items t.rests) (optional_presence_seen t.presence t.line_rests) c.self.invariant.over c.sample.ensures.taken;
+      over = over_after set t.count t.table now (g.I.Image.bytes c.args.image.now) (seen_by t.runs.items t.rests) (optional_presence_seen t.presence t.line_rests) c.self.invariant.over c.sample.ensures.taken;
       runs = subst (λ (rs : List ItemRun). AreItemRuns now.nodes set.items rs) (sym same) runs;
       rests = subst (λ (rs : List ItemRun). AreRests now.nodes now.values set.items rs c.step.new.self) (sym same) rests;
       told = λ came. subst (λ (rs : List ItemRun). AreTold set.items rs c.step.new.self) (sym same) told;
@@ -75,7 +77,7 @@ invariant_of-self g c =
       lines = c.step_presence.ensures.rests;
       digits = c.self.invariant.digits;
       size = c.sample.ensures.taken.pool.1 ∙ c.self.invariant.size;
-      agrees = c.sample.ensures.taken.agrees;
+      small = c.self.invariant.small;
     }
 
 pub returns-clause-taken : goal.returns-clause-taken
@@ -97,12 +99,25 @@ returns-clause-taken g c =
     let over = c.self.invariant.over in
     let taken = c.sample.ensures.taken in
     let steps = c.step_presence.ensures.steps in
-    rw (← c.self.view_is) (takes_frame (runtime_seen t) (runtime_seen (record { set = t.set; shape = t.shape; said = t.said; memory = t.memory; table = now; runs = with_items t.runs news; rests = rests; presence = shown; line_rests = line_rests; count = c.saturating_add-self-inside.result; last = Some count })) refl refl
-    ((λ i. opening_by (c.saturating_add-self-inside.ensures i) now (seen_by (same i) rests) is) ∙ frame_kept set count t.table now t.memory olds was over taken (seen_by news rests) news is stepped steps)
-    (frame_earned set count t.table now t.memory olds was over taken (seen_by news rests) news is stepped steps (rests_seen t.table.nodes t.table.values set.items t.runs.items t.rests c.self.invariant.runs c.self.invariant.rests))
-    (ap (all_events set.items) same ∙ frame_events set count t.table now t.memory olds was over taken (seen_by news rests) news is stepped steps)
-    (ap (λ rs. event_lines count (all_events set.items rs)) same ∙ frame_lines set count t.table now t.memory olds was over taken (seen_by news rests) news is stepped steps small))
+    rw (← c.self.view_is) (takes_frame (whole (course_seen t) (g.I.Image.bytes c.args.image.now)) (whole (course_seen (record { set = t.set; shape = t.shape; said = t.said; table = now; runs = with_items t.runs news; rests = rests; presence = shown; line_rests = line_rests; size = t.size; count = c.saturating_add-self-inside.result; last = Some count })) (g.I.Image.bytes c.args.image.now)) refl refl
+    ((λ i. opening_by (c.saturating_add-self-inside.ensures i) now (seen_by (same i) rests) is) ∙ frame_kept set count t.table now (g.I.Image.bytes c.args.image.now) olds was over taken (seen_by news rests) news is stepped steps)
+    (frame_earned set count t.table now (g.I.Image.bytes c.args.image.now) olds was over taken (seen_by news rests) news is stepped steps (rests_seen t.table.nodes t.table.values set.items t.runs.items t.rests c.self.invariant.runs c.self.invariant.rests))
+    (ap (all_events set.items) same ∙ frame_events set count t.table now (g.I.Image.bytes c.args.image.now) olds was over taken (seen_by news rests) news is stepped steps)
+    (ap (λ rs. event_lines count (all_events set.items rs)) same ∙ frame_lines set count t.table now (g.I.Image.bytes c.args.image.now) olds was over taken (seen_by news rests) news is stepped steps small))
 
 pub returns-clause-reads : goal.returns-clause-reads
 returns-clause-reads g c =
-    rw (← c.self.view_is) (reads_few (runtime_seen c.self.inside) _ c.self.inside.table c.sample.new.self _ c.self.invariant.over c.sample.ensures.taken (record { unmarked = c.sample.ensures.reads.unmarked; counted = search rules }) refl refl refl refl refl refl)
+    rw (← c.self.view_is) (reads_few (whole (course_seen c.self.inside) (g.I.Image.bytes c.args.image.now)) _ c.self.inside.table c.sample.new.self _ c.self.invariant.over c.sample.ensures.taken (record { unmarked = c.sample.ensures.reads.unmarked; counted = search rules }) refl refl refl refl refl refl)
+
+pub sample-requires-clause-agrees : goal.sample-requires-clause-agrees
+sample-requires-clause-agrees g c =
+    let image = g.I.Image.bytes c.args.image.now in
+    agrees_current (set_contents c.self.inside.set) c.self.inside.table image c.self.invariant.over
+    (subst (λ (s : CourseSeen). IsCurrent (whole s image)) (sym c.self.view_is) c.requires.current)
+
+pub returns-clause-current : goal.returns-clause-current
+returns-clause-current g c =
+    let t = c.self.inside in
+    let set = set_contents t.set in
+    let image = g.I.Image.bytes c.args.image.now in
+    current_agrees set c.sample.new.self image (over_after set t.count t.table c.sample.new.self image (seen_by t.runs.items t.rests) (optional_presence_seen t.presence t.line_rests) c.self.invariant.over c.sample.ensures.taken) c.sample.ensures.taken.agrees

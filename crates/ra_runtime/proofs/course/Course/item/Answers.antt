@@ -4,7 +4,7 @@ use Rattle.ra_set.specs.Contents.{set_contents}
 use Rattle.ra_items.specs.declared.item_run.ItemRun.{ItemRun}
 use Rattle.ra_items.specs.ItemStates.{run_state}
 use Rattle.ra_items.proofs.SeenItems.{rests_stand}
-use Rattle.ra_runtime.proofs.runtime.Runtime.item.Goals as goal
+use Rattle.ra_runtime.proofs.course.Course.item.Goals as goal
 
 pub returns : goal.returns
 returns c =

@@ -1,0 +1,259 @@
+ghost use Rattle.std.specs.Prelude.{◌≡◌, ◌++◌, ◌+◌, ◌-◌, ◌≤◌, ◌^◌, ℕ, List, None, Some, option_map, length, IfOk, IfErr, OnOk, OnErr};
+ghost use Rattle.ra_set.specs.Contents.{set_contents};
+ghost use Rattle.ra_set.specs.Limits.{IsWithinLimits};
+ghost use Rattle.ra_set.specs.Names.{IsNamed};
+ghost use Rattle.ra_progress.specs.Contents.{shape_contents};
+ghost use Rattle.ra_progress.specs.Names.{IsUsable};
+ghost use Rattle.ra_progress.specs.Reading.{IsAccepted, refusal};
+ghost use Rattle.ra_progress.specs.Spelling.{progress_bytes};
+ghost use Rattle.ra_items.specs.ItemStates.{state_at};
+ghost use Rattle.ra_meaning.specs.Order.{shape_of};
+ghost use Rattle.ra_meaning.specs.Saving.{IsSaved};
+ghost use Rattle.ra_set.specs.Spelled.{IsSpelled};
+
+use crate::numbers::take_numbers;
+use crate::shapes::{at_rest, shape_and_room};
+use crate::written::put_events;
+use ra_display::{
+    LineRests, PresenceRun, put_back_presence, put_display, shown_line, step_presence,
+};
+use ra_items::{Events, ItemRun, ItemState, Rests, put_back_runs, put_runs, state_in};
+use ra_memory::Image;
+use ra_memref::Table;
+use ra_progress::{ProgressRefused, Said, Shape, begin, check, close, frames_at};
+use ra_set::Set;
+use ra_text::OutOfMemory;
+use std::alloc::Global;
+use std::marker::Model;
+
+/// A set between frames, over images that its caller holds: docs/DEFINITIONS.md, "What a runtime keeps".
+///
+/// It is seen as a runtime is, but for the image: as its set, the size of the images, the opening that it
+/// keeps, and the events and lines of the last frame.
+#[derive(Drop)]
+pub struct Course {
+    set: Set,
+    shape: Shape,
+    // room for what a progress file says, so that a restore takes no memory
+    said: Said,
+    table: Table,
+    runs: Vec<ItemRun>,
+    rests: Rests,
+    presence: Option<PresenceRun>,
+    line_rests: LineRests,
+    // the size of the images
+    size: u32,
+    // the count of frames, which stops at the last number
+    count: u64,
+    // the number of the last frame, where one came: the count before it
+    last: Option<u64>,
+}
+
+impl Model for Course {
+    ghost use Rattle.ra_runtime.specs.Courses.{CourseSeen};
+
+    ghost Value = { CourseSeen };
+
+    ghost use Rattle.ra_runtime.specs.Seen.{course_seen, IsCourse};
+
+    ghost view = { course_seen };
+
+    ghost invariant = { IsCourse };
+}
+
+impl Course {
+    ghost use Rattle.ra_meaning.specs.Lines.{IsTextOf};
+    ghost use Rattle.ra_meaning.specs.Runtime.{ReadsFew, ShowsKept, TakesFrame, TakesUp};
+    ghost use Rattle.ra_runtime.specs.Courses.{over, IsBegun, IsCurrent, IsTold};
+
+    /// A set over images of `size` bytes, before the first frame: docs/DEFINITIONS.md, "What a runtime keeps".
+    ///
+    /// On want of memory the set is given up.
+    pub fn new(alloc: Global, set: Set, size: u32) -> Result<Course, OutOfMemory>
+        requires limits { IsWithinLimits (set_contents set) }
+        requires spelled { IsSpelled (set_contents set) }
+        requires named { IsNamed (set_contents set) }
+        requires size { size ≤ 2 ^ 27 }
+        ensures { IfOk result (IsBegun (set_contents set) size) }
+    {
+        let (table, runs, rests, presence, line_rests, names) = at_rest(alloc, &set, size)?;
+        let (shape, said) = shape_and_room(alloc, &set, &runs, &presence, names)?;
+        Ok(Course {
+            set,
+            shape,
+            said,
+            table,
+            runs,
+            rests,
+            presence,
+            line_rests,
+            size,
+            count: 0,
+            last: None,
+        })
+    }
+
+    /// The shape of the set: docs/DEFINITIONS.md, "Shape of a set".
+    pub fn shape(&self) -> &Shape
+        ensures shape { shape_contents result.now ≡ shape_of self.now.set }
+        ensures usable { IsUsable result.now }
+    {
+        &self.shape
+    }
+
+    /// Tells that `count` bytes from the address `at` on may have changed.
+    pub fn tell(&mut self, at: u32, count: u32)
+        requires { at + count ≤ self.old.size }
+        ensures { IsTold self.old self.new at count }
+    {
+        self.table.write(at, count);
+    }
+
+    /// The progress bytes of the present state: docs/DEFINITIONS.md, "Progress file".
+    pub fn save(&self, alloc: Global) -> Result<Vec<u8>, OutOfMemory>
+        ensures bytes { IfOk result (λ bytes. bytes.items ≡ progress_bytes (shape_of self.now.set) self.now.kept) }
+        ensures saved { IfOk result (λ bytes. IsSaved self.now.set bytes.items) }
+    {
+        let cells = self.table.cells();
+        let priors = self.table.priors();
+        let mut bytes = begin(alloc, &self.shape, self.count, cells, priors)?;
+        put_runs(
+            alloc,
+            &mut bytes,
+            &self.shape.item_names,
+            &self.runs,
+            &self.rests,
+        )?;
+        put_display(
+            alloc,
+            &mut bytes,
+            &self.shape.presence_name,
+            &self.presence,
+            &self.line_rests,
+        )?;
+        close(&mut bytes)?;
+        Ok(bytes)
+    }
+
+    /// Takes up what progress bytes say, of this set or of a changed one: docs/DEFINITIONS.md, "What a runtime keeps".
+    ///
+    /// What was earned before stays earned. Bytes that `check` refuses change nothing. No memory is taken.
+    pub fn restore(&mut self, bytes: &[u8]) -> Result<(), ProgressRefused>
+        ensures ok { OnOk result ((image : List ℕ) → TakesUp (over self.old image) (over self.new image) bytes.now) }
+        ensures current { OnOk result ((image : List ℕ) → IsCurrent (over self.new image)) }
+        ensures size { self.new.size ≡ self.old.size }
+        ensures accepted { OnOk result (refusal (shape_of self.old.set) bytes.now ≡ None) }
+        ensures refused { IfErr result (λ why. refusal (shape_of self.old.set) bytes.now ≡ Some why) }
+        ensures err { OnErr result (self.new ≡ self.old) }
+    {
+        check(&self.shape, bytes)?;
+        self.take_up(bytes);
+        Ok(())
+    }
+
+    // Takes up what accepted bytes say.
+    fn take_up(&mut self, bytes: &[u8])
+        requires { IsAccepted (shape_of self.old.set) bytes.now }
+        ensures taken { (image : List ℕ) → TakesUp (over self.old image) (over self.new image) bytes.now }
+        ensures current { (image : List ℕ) → IsCurrent (over self.new image) }
+        ensures size { self.new.size ≡ self.old.size }
+    {
+        self.said.read(&self.shape, bytes);
+        take_numbers(&mut self.table, &self.said.cells, &self.said.priors);
+        put_back_runs(&mut self.runs, bytes, &self.said.places);
+        self.rests.forget();
+        let display = self.said.place(self.runs.len());
+        put_back_presence(&mut self.presence, &self.shape.presence, bytes, display);
+        self.line_rests.forget();
+        self.count = frames_at(bytes);
+        self.last = None;
+    }
+
+    /// Takes one frame of every item from an image of which each change was told: docs/DEFINITIONS.md, "What a
+    /// runtime keeps". No memory is taken.
+    pub fn frame<I: Image>(&mut self, image: &mut I)
+        requires size { length (I.bytes image.old) ≡ self.old.size }
+        requires current { IsCurrent (over self.old (I.bytes image.old)) }
+        ensures taken { TakesFrame (over self.old (I.bytes image.old)) (over self.new (I.bytes image.old)) }
+        ensures reads { ReadsFew (over self.old (I.bytes image.old)) (over self.new (I.bytes image.old)) (I.reads image.new - I.reads image.old) }
+        ensures counts { I.reads image.old ≤ I.reads image.new }
+        ensures current { IsCurrent (over self.new (I.bytes image.old)) }
+        ensures size { self.new.size ≡ self.old.size }
+        ensures bytes { I.bytes image.new ≡ I.bytes image.old }
+        ensures counter { I.counter image.new ≡ I.counter image.old }
+    {
+        self.table.sample(image);
+        self.rests
+            .step(&mut self.runs, &self.set.items, &self.table);
+        step_presence(
+            &mut self.presence,
+            &mut self.line_rests,
+            &self.set.script,
+            &self.table,
+        );
+        self.last = Some(self.count);
+        self.count = self.count.saturating_add(1);
+    }
+
+    /// The events of the last frame, items in set order: docs/DEFINITIONS.md, "Events". None where no
+    /// frame came. No memory is taken.
+    pub fn events(&self) -> Events<'_>
+        ensures { result ≡ self.now.events }
+    {
+        match self.last {
+            Some(_) => Events::new(&self.set.items, &self.runs, self.rests.stepped()),
+            None => Events::new(&[], &[], &[]),
+        }
+    }
+
+    /// Puts the lines of the events of the last frame, where one came, at the end of a text; they are the text of
+    /// its events.
+    pub fn tell_lines(&self, text: &mut Vec<u8>) -> Result<(), OutOfMemory>
+        ensures put { OnOk result (text.new.items ≡ text.old.items ++ self.now.lines) }
+        ensures of_events { IsTextOf self.now.lines self.now.events }
+    {
+        match self.last {
+            Some(frame) => put_events(text, frame, self.events()),
+            None => Ok(()),
+        }
+    }
+
+    /// How many bytes the images have.
+    pub fn size(&self) -> u32
+        ensures { result ≡ self.now.size }
+    {
+        self.size
+    }
+
+    /// The count of frames, which stops at 18,446,744,073,709,551,615.
+    pub fn frames(&self) -> u64
+        ensures { result ≡ self.now.kept.frames }
+    {
+        self.count
+    }
+
+    /// Where the item at a place of the set stands; none past the last one.
+    pub fn item(&self, place: usize) -> Option<ItemState>
+        ensures { result ≡ state_at self.now.set self.now.kept place }
+    {
+        state_in(&self.runs, place)
+    }
+
+    /// The index of the display line that is shown; none where the set has no script.
+    pub fn shown(&self) -> Option<u32>
+        ensures { result ≡ option_map (λ presence. presence.shown) self.now.kept.presence }
+    {
+        match &self.presence {
+            Some(run) => Some(run.shown),
+            None => None,
+        }
+    }
+
+    /// The presence line after the last frame, with the count of frames: docs/DEFINITIONS.md, "Presence
+    /// over frames". Empty where the set has no script.
+    pub fn show(&self, alloc: Global) -> Result<Vec<u8>, OutOfMemory>
+        ensures { IfOk result (λ text. (image : List ℕ) → ShowsKept (over self.now image) text.items) }
+    {
+        shown_line(alloc, self.count, &self.set.script, &self.presence)
+    }
+}
