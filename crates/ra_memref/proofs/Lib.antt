@@ -11,6 +11,8 @@ pub mod Indexed
 pub mod LaidLemmas
 pub mod Latest
 pub mod LayoutLemmas
+pub mod LookedLemmas
+pub mod Looking
 pub mod MarkLemmas
 pub mod NameLemmas
 pub mod Pages

@@ -1,6 +1,7 @@
 -- Which cells a write marks, page by page: docs/DEFINITIONS.md, "Marked and moved cells".
-use Rattle.std.specs.Prelude.{ℕ, ◌/◌, ◌==◌, Bool, false, ◌&&◌, nat_le, nat_lt, Option, None, Some, List}
+use Rattle.std.specs.Prelude.{ℕ, ◌/◌, ◌==◌, Bool, false, not, ◌&&◌, nat_le, nat_lt, Option, None, Some, List}
 use Rattle.std.specs.List.{list_any}
+use Rattle.ra_memory.specs.Image.{raw}
 
 -- one of the two nodes of the cell stands in the row
 abbrev pub cell_on : ℕ → List ℕ → Bool
@@ -15,3 +16,7 @@ is_at (Some other) page = other == page
 abbrev pub is_between : ℕ → ℕ → Option ℕ → Bool
 is_between first last None = false
 is_between first last (Some page) = nat_le first page && nat_lt page last
+
+-- a cell of this width at this place has another number in the image than this one
+abbrev pub is_other : List ℕ → (width place number : ℕ) → Bool
+is_other image width place number = not (raw width image place == number)

@@ -2,6 +2,7 @@
 use Rattle.std.specs.Prelude.{ℕ, ◌+◌, ◌-◌, ◌/◌, ◌==◌, Bool, not, ◌&&◌, ◌||◌, if◌then◌else◌, nat_lt, nat_le, List, [], ◌∷◌}
 use Rattle.std.specs.List.{list_any, range_with_len}
 use Rattle.ra_indirect.specs.Trees.{Cell}
+use Rattle.ra_memref.specs.Marking.{is_other}
 
 -- the page of a byte
 abbrev pub page_of : ℕ → ℕ
@@ -22,6 +23,12 @@ abbrev pub marks_after : ℕ → List Cell → List ℕ → ℕ → ℕ → List
 marks_after size (c ∷ cells) (place ∷ places) at count (mark ∷ marks) =
     (mark || is_watched size place c.width at count) ∷ marks_after size cells places at count marks
 marks_after size _ places at count marks = []
+
+-- the marks of the cells after an image was looked at, by the places and the kept numbers
+abbrev pub marks_seen : List ℕ → List Cell → List ℕ → List ℕ → List Bool → List Bool
+marks_seen image (c ∷ cells) (place ∷ places) (number ∷ numbers) (mark ∷ marks) =
+    (mark || is_other image c.width place number) ∷ marks_seen image cells places numbers marks
+marks_seen image _ places numbers marks = []
 
 -- how often a frame reads a cell: once where it is marked or lies at another place than before, and else not
 abbrev pub read_of : Bool → ℕ → ℕ → ℕ

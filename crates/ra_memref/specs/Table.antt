@@ -1,11 +1,11 @@
 -- What a table is seen as, and what its calls do: docs/DEFINITIONS.md, "Values at a frame" and "Marked and moved cells".
-use Rattle.std.specs.Prelude.{◌≡◌, ◌≢◌, ℕ, ◌+◌, ◌<◌, ◌≤◌, Bool, true, false, List, ◌∷◌, length, map, replicate, take, drop, slice_index, slice_index_or}
+use Rattle.std.specs.Prelude.{◌≡◌, ◌≢◌, ℕ, ◌+◌, ◌<◌, ◌≤◌, Bool, true, false, not, count_by, List, ◌∷◌, length, map, replicate, take, drop, slice_index, slice_index_or}
 use Rattle.ra_memory.specs.Image.{History, raw}
 use Rattle.ra_indirect.specs.declared.node.Node.{Node}
 use Rattle.ra_indirect.specs.Trees.{Cell, constant}
 use Rattle.ra_indirect.specs.Pools.{Spelled, IsTree, IsCell, spelled_by, cells_of, tracked_of}
 use Rattle.ra_memref.specs.Values.{Start, value_of, cell_number, cell_place, tracked_number}
-use Rattle.ra_memref.specs.Marks.{marks_after, reads_of}
+use Rattle.ra_memref.specs.Marks.{marks_after, marks_seen, reads_of}
 
 -- what a caller sees of a table: its nodes, the size of the memory, and what it keeps
 pub record TableSeen : Type 0 where
@@ -72,6 +72,11 @@ pub record ReadsWanted (old new : TableSeen) (reads : ℕ) : Type 0 where
   pub unmarked : new.marked ≡ replicate (length (cells_of old.nodes)) false
   pub counted : reads ≡ reads_of old.marked old.places new.places
 
+-- each cell that was not marked was read, and then each one that was marked, has another number in the image, or has moved; no cell is marked any more
+pub record ReadsLooked (old new : TableSeen) (image : List ℕ) (reads : ℕ) : Type 0 where
+  pub unmarked : new.marked ≡ replicate (length (cells_of old.nodes)) false
+  pub counted : reads ≡ count_by not old.marked + reads_of (marks_seen image (cells_of old.nodes) old.places old.cells old.marked) old.places new.places
+
 -- a number stands in a list
 pub record IsListed (n : ℕ) (numbers : List ℕ) : Type 0 where
   pub place : ℕ
@@ -96,6 +101,12 @@ pub record IsTold (old new : TableSeen) (at count : ℕ) : Type 0 where
   pub rest : new ≡ record old { marked = new.marked }
   pub marked : new.marked ≡ marks_after old.size (cells_of old.nodes) old.places at count old.marked
   pub agrees : (image image' : List ℕ) → length image ≡ old.size → DifferWithin at count image image' → Agrees old image → Agrees new image'
+
+-- an image is looked at: it marks the cells that have another number in it than the kept one, and changes nothing else
+pub record IsLooked (old new : TableSeen) (image : List ℕ) : Type 0 where
+  pub rest : new ≡ record old { marked = new.marked }
+  pub marked : new.marked ≡ marks_seen image (cells_of old.nodes) old.places old.cells old.marked
+  pub agrees : Agrees new image
 
 -- kept numbers are put back: each cell is marked, and a sample is due before values count again; all else stays
 pub record IsPutBack (old new : TableSeen) (cells priors : List ℕ) : Type 0 where

@@ -3,6 +3,7 @@ use Rattle.std.specs.Prelude.{◌≡◌, ℕ, ◌+◌, ◌-◌, ◌*◌, ◌/◌
 use Rattle.ra_memory.specs.Image.{IsReadWidth}
 use Rattle.ra_links.specs.Rows.{Rows, holder_of}
 use Rattle.ra_memref.specs.Marks.{page_of, is_watched}
+use Rattle.ra_memref.specs.Marking.{is_other}
 
 -- the watches of cells: the size of the image, and for each cell its width, its place and its mark
 pub record WatchesSeen : Type 0 where
@@ -50,3 +51,9 @@ pub record MarksWatchers (old new : WatchesSeen) (at count : ℕ) : Type 0 where
   pub rest : new ≡ record old { marked = new.marked }
   pub long : length new.marked ≡ length old.marked
   pub marked : (k : ℕ) → k < length old.places → slice_index_or new.marked k true ≡ (slice_index_or old.marked k true || is_watched old.size (slice_index old.places k) (slice_index old.widths k) at count)
+
+-- the image is looked at: the cells that have another number in it are marked, and nothing else changes
+pub record MarksOthers (old new : WatchesSeen) (image numbers : List ℕ) : Type 0 where
+  pub rest : new ≡ record old { marked = new.marked }
+  pub long : length new.marked ≡ length old.marked
+  pub marked : (k : ℕ) → k < length old.places → slice_index_or new.marked k true ≡ (slice_index_or old.marked k true || is_other image (slice_index old.widths k) (slice_index old.places k) (slice_index numbers k))

@@ -1,4 +1,4 @@
-ghost use Rattle.std.specs.Prelude.{◌≡◌, ◌+◌, ◌*◌, ◌<◌, ◌≤◌, ◌^◌, ◌==◌, ◌||◌, not, ℕ, true, false, length, replicate, slice_index, slice_index_or, slice_set, IfOk, IfSome, None};
+ghost use Rattle.std.specs.Prelude.{◌≡◌, ◌+◌, ◌*◌, ◌<◌, ◌≤◌, ◌^◌, ◌==◌, ◌||◌, not, ℕ, true, false, length, replicate, slice_index, slice_index_or, slice_set, IfOk, IfSome, None, count_by};
 ghost use Rattle.ra_memory.specs.Image.{raw, IsReadWidth};
 ghost use Rattle.ra_operand.specs.Views.{mask_of};
 ghost use Rattle.ra_indirect.specs.declared.node.Node.TheVariants.{View};
@@ -10,7 +10,7 @@ ghost use Rattle.ra_memref.specs.Pass.{prior_after, looked_in, priors_after, aft
 ghost use Rattle.ra_memref.specs.Flags.{NoneSet, IsFirstSet};
 ghost use Rattle.ra_memref.specs.Changes.{AreNoted};
 ghost use Rattle.ra_memref.specs.Due.{earlier_by, AreDependents, AreIdle, IsQuiet, IsUnmarked};
-ghost use Rattle.ra_memref.specs.Watches.{MarksWatchers};
+ghost use Rattle.ra_memref.specs.Watches.{MarksWatchers, MarksOthers};
 ghost use Rattle.ra_words.specs.Words.{words_at};
 
 use crate::changes::Changes;
@@ -119,6 +119,19 @@ impl Numbers {
         ensures rest { self.new ≡ record self.old { watches = self.new.watches } }
     {
         self.watches.tell(at, count);
+    }
+
+    /// Marks each cell that is not marked and has another number in the image, at its place, than it has.
+    ///
+    /// It reads each cell that is not marked, once, and no other.
+    pub fn look<I: Image>(&mut self, image: &mut I)
+        ensures marks { MarksOthers self.old.watches self.new.watches (I.bytes image.old) self.old.cells }
+        ensures rest { self.new ≡ record self.old { watches = self.new.watches } }
+        ensures reads { I.reads image.new ≡ I.reads image.old + count_by not self.old.watches.marked }
+        ensures bytes { I.bytes image.new ≡ I.bytes image.old }
+        ensures counter { I.counter image.new ≡ I.counter image.old }
+    {
+        self.watches.look(image, &self.cells);
     }
 
     /// Takes the numbers of the cells and then the priors from little-endian words, and marks all cells.

@@ -1,4 +1,4 @@
-ghost use Rattle.std.specs.Prelude.{◌≡◌, ◌+◌, ◌-◌, ◌*◌, ◌<◌, ◌≤◌, ◌^◌, length, slice_index, true, IfOk};
+ghost use Rattle.std.specs.Prelude.{◌≡◌, ◌+◌, ◌-◌, ◌*◌, ◌<◌, ◌≤◌, ◌^◌, length, slice_index, true, not, IfOk, count_by};
 ghost use Rattle.ra_indirect.specs.Interned.{IsPool};
 
 use crate::agenda::{Agenda, gather};
@@ -40,7 +40,7 @@ impl Model for Table {
 
 impl Table {
     ghost use Rattle.ra_indirect.specs.Pools.{IsValued, node_at};
-    ghost use Rattle.ra_memref.specs.Table.{IsFresh, IsTold, IsPutBack, Samples, ReadsWanted, ListsChanged, Agrees};
+    ghost use Rattle.ra_memref.specs.Table.{IsFresh, IsTold, IsLooked, IsPutBack, Samples, ReadsWanted, ReadsLooked, ListsChanged, Agrees};
     ghost use Rattle.ra_memref.specs.Putting.{IsCellPut, IsPriorPut};
     ghost use Rattle.ra_words.specs.Words.{words_at};
 
@@ -83,6 +83,21 @@ impl Table {
         self.numbers.tell(at, count);
     }
 
+    /// Looks at the image for what no write told: docs/DEFINITIONS.md, "Marked and moved cells".
+    ///
+    /// It reads each cell that is not marked, once, at the place where it lay, and no other, and marks those
+    /// that have another number there than the kept one. No kept number changes. A sample of this image may
+    /// follow, whatever was written since the last one.
+    pub fn look<I: Image>(&mut self, image: &mut I)
+        ensures looked { IsLooked self.old self.new (I.bytes image.old) }
+        ensures reads { I.reads image.new ≡ I.reads image.old + count_by not self.old.marked }
+
+        ensures bytes { I.bytes image.new ≡ I.bytes image.old }
+        ensures counter { I.counter image.new ≡ I.counter image.old }
+    {
+        self.numbers.look(image);
+    }
+
     /// Takes up one frame of the image: docs/DEFINITIONS.md, "Values at a frame".
     ///
     /// The image has the table's size, and each cell that is not marked has its kept number there, as
@@ -122,6 +137,22 @@ impl Table {
                 .numbers
                 .note_cells(&mut self.agenda.due, &self.agenda.cell_nodes);
         self.sampled = true;
+    }
+
+    /// Takes up one frame of an image of the size, of which nothing was told: a look, and then a sample.
+    pub fn follow<I: Image>(&mut self, image: &mut I)
+        requires size { length (I.bytes image.old) ≡ self.old.size }
+
+        ensures taken { Samples self.old self.new (I.bytes image.old) }
+        ensures reads { ReadsLooked self.old self.new (I.bytes image.old) (I.reads image.new - I.reads image.old) }
+        ensures counts { I.reads image.old ≤ I.reads image.new }
+        ensures changed { ListsChanged self.old self.new }
+
+        ensures bytes { I.bytes image.new ≡ I.bytes image.old }
+        ensures counter { I.counter image.new ≡ I.counter image.old }
+    {
+        self.look(image);
+        self.sample(image);
     }
 
     /// The value of a node's tree at the frame of the last sample.

@@ -1,13 +1,14 @@
-ghost use Rattle.std.specs.Prelude.{◌≡◌, ◌≢◌, ◌+◌, ◌-◌, ◌*◌, ◌<◌, ◌≤◌, ◌^◌, ◌==◌, ◌||◌, not, ℕ, true, false, length, replicate, slice_index, slice_index_or, slice_set, IfOk, IfSome, None};
+ghost use Rattle.std.specs.Prelude.{◌≡◌, ◌≢◌, ◌+◌, ◌-◌, ◌*◌, ◌<◌, ◌≤◌, ◌^◌, ◌==◌, ◌||◌, not, ℕ, true, false, length, replicate, slice_index, slice_index_or, slice_set, IfOk, IfSome, None, count_by};
 ghost use Rattle.ra_memref.specs.Flags.{NoneSet, IsFirstSet};
 ghost use Rattle.ra_memory.specs.Image.{IsReadWidth};
 ghost use Rattle.ra_links.specs.Rows.{holder_of, row_at};
-ghost use Rattle.ra_memref.specs.Watches.{StandsAt, MarksWatchers, marked_by, pages_of, first_page, second_page};
+ghost use Rattle.ra_memref.specs.Watches.{StandsAt, MarksWatchers, MarksOthers, marked_by, pages_of, first_page, second_page};
 ghost use Rattle.ra_memref.specs.Marks.{page_of};
-ghost use Rattle.ra_memref.specs.Marking.{is_at};
+ghost use Rattle.ra_memref.specs.Marking.{is_at, is_other};
 
 use crate::flags::Flags;
 use ra_links::Links;
+use ra_memory::Image;
 use ra_text::OutOfMemory;
 use std::alloc::Global;
 use std::marker::Model;
@@ -150,7 +151,24 @@ impl Watches {
         }
     }
 
-    /// More than half of the cells were marked by writes since this was asked last.
+    /// Marks each cell that is not marked and has another number in the image, at its place, than this one.
+    ///
+    /// It reads each cell that is not marked, once, and no other.
+    pub fn look<I: Image>(&mut self, image: &mut I, numbers: &[u32])
+        requires numbers { length numbers.now ≡ length self.old.places }
+        ensures marks { MarksOthers self.old self.new (I.bytes image.old) numbers.now }
+        ensures reads { I.reads image.new ≡ I.reads image.old + count_by not self.old.marked }
+        ensures bytes { I.bytes image.new ≡ I.bytes image.old }
+        ensures counter { I.counter image.new ≡ I.counter image.old }
+    {
+        if self.all {
+            return;
+        }
+        let anew = mark_others(image, &mut self.marks, &self.places, &self.widths, numbers);
+        self.told = self.told.saturating_add(anew);
+    }
+
+    /// More than half of the cells were marked by writes or looks since this was asked last.
     ///
     /// It chooses between two ways to the same numbers, so no clause says what it answers.
     pub fn told_many(&mut self) -> bool
@@ -192,6 +210,38 @@ pub fn mark_listed(lists: &Links, marks: &mut Flags, list: u32) -> usize
             anew = anew.wrapping_add(1);
         }
         next = lists.next(node);
+    }
+    anew
+}
+
+// Marks what is not marked and has another number in the image than this one, and counts it. No clause
+// speaks of the count.
+fn mark_others<I: Image>(
+    image: &mut I,
+    marks: &mut Flags,
+    places: &[u32],
+    widths: &[u8],
+    numbers: &[u32],
+) -> usize
+    requires places { length places.now ≡ length marks.old }
+    requires widths { length widths.now ≡ length marks.old }
+    requires numbers { length numbers.now ≡ length marks.old }
+    requires wide { (k : ℕ) → k < length marks.old → IsReadWidth (slice_index widths.now k) }
+    ensures long { length marks.new ≡ length marks.old }
+    ensures marked { (k : ℕ) → k < length marks.old → slice_index_or marks.new k true
+        ≡ (slice_index_or marks.old k true
+        || is_other (I.bytes image.old) (slice_index widths.now k) (slice_index places.now k) (slice_index numbers.now k)) }
+    ensures reads { I.reads image.new ≡ I.reads image.old + count_by not marks.old }
+    ensures bytes { I.bytes image.new ≡ I.bytes image.old }
+    ensures counter { I.counter image.new ≡ I.counter image.old }
+{
+    let mut anew: usize = 0;
+    for cell in 0..numbers.len() {
+        if !marks.is_set(cell) {
+            let other = image.read(places[cell], widths[cell]) != numbers[cell];
+            marks.put(cell, other);
+            anew = anew.wrapping_add(usize::from(other));
+        }
     }
     anew
 }
