@@ -1,32 +1,30 @@
--- An image is looked at cell by cell.
+-- Marks that are set cell by cell, where a test says so.
 use Rattle.std.proofs.Common.{◌≡◌, ℕ, ◌+◌, ◌<◌, ◌≤◌, inl, inr, Bool, true, ◌||◌, List, length, get_or, set, refl, ap, sym, ◌∙◌, arith}
 use Rattle.std.proofs.lemmas.List.{get_or-set_same, get_or-set_other, length-set}
 use Rattle.std.proofs.lemmas.Bool.{cases_eq}
-use Rattle.ra_memref.specs.Marking.{is_other}
 
--- the marks of the cells before this one are those after a look, and the others are what they were
-pub record AreLooked (old now : List Bool) (image widths places numbers : List ℕ) (cell : ℕ) : Type 0 where
+-- the marks of the cells before this one are set where the test says so too, and the others are what they were
+pub record AreLooked (old now : List Bool) (test : ℕ → Bool) (cell : ℕ) : Type 0 where
   pub long : length now ≡ length old
-  pub before : (k : ℕ) → k < cell → get_or now k true ≡ (get_or old k true || is_other image (get_or widths k 0) (get_or places k 0) (get_or numbers k 0))
+  pub before : (k : ℕ) → k < cell → get_or now k true ≡ (get_or old k true || test k)
   pub behind : (k : ℕ) → cell ≤ k → get_or now k true ≡ get_or old k true
 
-pub looked_none : (old : List Bool) (image widths places numbers : List ℕ) → AreLooked old old image widths places numbers 0
-looked_none old image widths places numbers = record {
+pub looked_none : (old : List Bool) (test : ℕ → Bool) → AreLooked old old test 0
+looked_none old test = record {
   long = refl;
   before = λ k low. absurd (omega (arith, low));
   behind = λ k high. refl;
 }
 
--- one cell more is looked at
-pub looked_more : (old now next : List Bool) (image widths places numbers : List ℕ) (cell : ℕ) → AreLooked old now image widths places numbers cell → cell < length old
-    → next ≡ set now cell (get_or old cell true || is_other image (get_or widths cell 0) (get_or places cell 0) (get_or numbers cell 0))
-    → AreLooked old next image widths places numbers (cell + 1)
-looked_more old now next image widths places numbers cell looked below is = record {
+-- one cell more is tested
+pub looked_more : (old now next : List Bool) (test : ℕ → Bool) (cell : ℕ) → AreLooked old now test cell → cell < length old
+    → next ≡ set now cell (get_or old cell true || test cell) → AreLooked old next test (cell + 1)
+looked_more old now next test cell looked below is = record {
   long = ap length is ∙ length-set now cell _ ∙ looked.long;
   before = λ k low. ap (λ ms. get_or ms k true) is ∙ elim (cases_eq k cell) [
-    | inl here ↦ ap (λ i. get_or (set now cell (get_or old cell true || is_other image (get_or widths cell 0) (get_or places cell 0) (get_or numbers cell 0))) i true) here
+    | inl here ↦ ap (λ i. get_or (set now cell (get_or old cell true || test cell)) i true) here
         ∙ get_or-set_same now cell _ true (omega (arith, below, looked.long))
-        ∙ ap (λ i. get_or old i true || is_other image (get_or widths i 0) (get_or places i 0) (get_or numbers i 0)) (sym here)
+        ∙ ap (λ i. get_or old i true || test i) (sym here)
     | inr apart ↦ get_or-set_other now cell k _ true apart ∙ looked.before k (omega (arith, low, apart))
   ];
   behind = λ k high. ap (λ ms. get_or ms k true) is ∙ get_or-set_other now cell k _ true (λ same. absurd (omega (arith, same, high))) ∙ looked.behind k (omega (arith, high));

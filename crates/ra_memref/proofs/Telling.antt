@@ -5,7 +5,7 @@ use Rattle.ra_links.specs.Rows.{holder_of}
 use Rattle.ra_memref.specs.declared.watches.Watches.TheInside.{Inside}
 use Rattle.ra_memref.specs.Marks.{is_watched}
 use Rattle.ra_memref.specs.Marking.{is_at, is_between}
-use Rattle.ra_memref.specs.Watches.{WatchesSeen, IsIndexed, MarksWatchers, marked_by, first_page, second_page}
+use Rattle.ra_memref.specs.Watches.{WatchesSeen, IsIndexed, MarksWatchers, StandsAt, marked_by, first_page, second_page, watches_between}
 use Rattle.std.proofs.lemmas.List.{length-replicate}
 use Rattle.ra_memref.specs.contracts.watches.Watches.{the_view}
 use Rattle.ra_memref.proofs.Pages.{between_more, between_none, watched_is, watched_none}
@@ -26,14 +26,17 @@ told_by_flag : (all : Bool) (old now : List Bool) (k : ℕ) (watched : Bool) →
 told_by_flag true old now k watched is = get_or-marked_by now k ∙ ap (λ b. b || watched) (sym (get_or-marked_by old k))
 told_by_flag false old now k watched is = is
 
+-- the watches with other marks
+abbrev pub with_marks : Inside → List Bool → Inside
+with_marks t marks = record { size = t.size; listed = t.listed; widths = t.widths; places = t.places; marks = marks; all = t.all; pages = t.pages; seen = t.seen }
+
 -- a cell watches one of the pages before this one
 abbrev pub is_told : Inside → ℕ → ℕ → ℕ → Bool
-is_told t first page k =
-    is_between first page (first_page t.size (slice_index t.places.items k)) || is_between first page (second_page t.size (slice_index t.places.items k) (slice_index t.widths.items k))
+is_told t first page k = watches_between t.size first page (slice_index t.places.items k) (slice_index t.widths.items k)
 
 -- the pages from the first on, before this one, are told
 pub record IsTelling (old now : Inside) (first page : ℕ) : Type 0 where
-  pub same : now ≡ record old { marks = now.marks; told = now.told }
+  pub same : now ≡ record old { marks = now.marks }
   pub long : length now.marks ≡ length old.marks
   pub marked : (k : ℕ) → k < length old.places.items → get_or now.marks k true ≡ (get_or old.marks k true || is_told old first page k)
 
@@ -56,16 +59,16 @@ joined false false true false y' = refl
 joined false false false x' y' = refl
 
 -- one page more is told
-module _ (old now : Inside) (first page : ℕ) (marks : List Bool) (told : ℕ) (telling : IsTelling old now first page) (is : IsIndexed old.size old.widths.items old.places.items old.marks old.pages) (above : first ≤ page) (long : length marks ≡ length now.marks) where
+module _ (old now : Inside) (first page : ℕ) (marks : List Bool) (telling : IsTelling old now first page) (whole : old.listed ≡ old.size) (is : IsIndexed old.listed old.widths.items old.places.items old.marks old.pages) (above : first ≤ page) (long : length marks ≡ length now.marks) where
   abbrev after : Inside
-  after = record { size = now.size; widths = now.widths; places = now.places; marks = marks; all = now.all; pages = now.pages; told = told }
+  after = with_marks now marks
 
   marks_after_page : marks ≡ marks
   marks_after_page = refl
 
   one_more : ((k : ℕ) → k < length now.marks → get_or marks k true ≡ (get_or now.marks k true || (is_at (holder_of now.pages.lists (2 * k)) page || is_at (holder_of now.pages.lists (2 * k + 1)) page))) → (k : ℕ) → k < length old.places.items → get_or marks k true ≡ (get_or old.marks k true || is_told old first (page + 1) k)
   one_more marked k below =
-      let stands = is.stands k below in
+      let stands = subst (λ n. StandsAt old.pages.lists n k (slice_index old.places.items k) (slice_index old.widths.items k)) whole (is.stands k below) in
       let lists : now.pages.lists ≡ old.pages.lists = ap (λ t. t.pages.lists) telling.same in
       let first_at : is_at (holder_of now.pages.lists (2 * k)) page ≡ is_at (first_page old.size (slice_index old.places.items k)) page = ap (λ o. is_at o page) (ap (λ ls. holder_of ls (2 * k)) lists ∙ stands.first) in
       let second_at : is_at (holder_of now.pages.lists (2 * k + 1)) page ≡ is_at (second_page old.size (slice_index old.places.items k) (slice_index old.widths.items k)) page = ap (λ o. is_at o page) (ap (λ ls. holder_of ls (2 * k + 1)) lists ∙ stands.second) in
@@ -78,8 +81,8 @@ module _ (old now : Inside) (first page : ℕ) (marks : List Bool) (told : ℕ) 
       ∙ ap (λ b. get_or old.marks k true || (b || (is_between first page (second_page old.size (slice_index old.places.items k) (slice_index old.widths.items k)) || is_at (second_page old.size (slice_index old.places.items k) (slice_index old.widths.items k)) page))) (sym (between_more first page (first_page old.size (slice_index old.places.items k)) above))
       ∙ ap (λ b. get_or old.marks k true || (is_between first (page + 1) (first_page old.size (slice_index old.places.items k)) || b)) (sym (between_more first page (second_page old.size (slice_index old.places.items k) (slice_index old.widths.items k)) above))
 
-  same_after : after ≡ record old { marks = after.marks; told = after.told }
-  same_after = ap {A = Inside} (λ t. record { size = t.size; widths = t.widths; places = t.places; marks = marks; all = t.all; pages = t.pages; told = told }) telling.same
+  same_after : after ≡ record old { marks = after.marks }
+  same_after = ap {A = Inside} (λ t. with_marks t marks) telling.same
 
   pub telling_more : ((k : ℕ) → k < length now.marks → get_or marks k true ≡ (get_or now.marks k true || (is_at (holder_of now.pages.lists (2 * k)) page || is_at (holder_of now.pages.lists (2 * k + 1)) page))) → IsTelling old after first (page + 1)
   telling_more marked = record {
@@ -94,7 +97,7 @@ at_most_four width (inr (inl e)) = (omega (arith, e), omega (arith, e))
 at_most_four width (inr (inr e)) = (omega (arith, e), omega (arith, e))
 
 -- all pages are told
-pub told_all : (old now : Inside) (seen : WatchesSeen) (at count : ℕ) → the_view old ≡ seen → IsIndexed old.size old.widths.items old.places.items old.marks old.pages → 0 < count → IsTelling old now (at / 16) ((at + count - 1) / 16 + 1) → MarksWatchers seen (the_view now) at count
+pub told_all : (old now : Inside) (seen : WatchesSeen) (at count : ℕ) → the_view old ≡ seen → IsIndexed old.listed old.widths.items old.places.items old.marks old.pages → 0 < count → IsTelling old now (at / 16) ((at + count - 1) / 16 + 1) → MarksWatchers seen (the_view now) at count
 told_all old now seen at count view_is is some telling =
     subst (λ w. MarksWatchers w (the_view now) at count) view_is (record {
       rest = ap the_view telling.same ∙ ap (λ b. record (the_view old) { marked = marked_by b now.marks }) (sym flag);

@@ -3,7 +3,7 @@ use Rattle.std.specs.Prelude.{◌≡◌, ℕ, ◌+◌, ◌-◌, ◌*◌, ◌/◌
 use Rattle.ra_memory.specs.Image.{IsReadWidth}
 use Rattle.ra_links.specs.Rows.{Rows, holder_of}
 use Rattle.ra_memref.specs.Marks.{page_of, is_watched}
-use Rattle.ra_memref.specs.Marking.{is_other}
+use Rattle.ra_memref.specs.Marking.{is_between, is_other}
 
 -- the watches of cells: the size of the image, and for each cell its width, its place and its mark
 pub record WatchesSeen : Type 0 where
@@ -29,6 +29,11 @@ first_page size place = if nat_lt place size then Some (page_of place) else None
 abbrev pub second_page : ℕ → ℕ → ℕ → Option ℕ
 second_page size place width =
     if not (page_of (place + width - 1) == page_of place) && nat_lt (page_of (place + width - 1)) (pages_of size) then Some (page_of (place + width - 1)) else None
+
+-- a cell of this width at this place watches one of the pages from the first one on and before the end
+abbrev pub watches_between : ℕ → (first end place width : ℕ) → Bool
+watches_between size first end place width =
+    is_between first end (first_page size place) || is_between first end (second_page size place width)
 
 -- the two nodes of a cell stand on the lists of these pages, and on no other
 pub record StandsAt (lists : List (List ℕ)) (size cell place width : ℕ) : Type 0 where

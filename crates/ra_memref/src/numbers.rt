@@ -173,12 +173,12 @@ impl Numbers {
         self.watches.mark_all();
     }
 
-    /// More than half of the cells were marked by writes since this was asked last. No clause says what
-    /// it answers.
-    pub fn told_many(&mut self) -> bool
+    /// More than half of the cells were marked by looks since this was asked last. No clause says what it
+    /// answers.
+    pub fn saw_many(&mut self) -> bool
         ensures { self.new ≡ self.old }
     {
-        self.watches.told_many()
+        self.watches.saw_many()
     }
 
     /// The first marked cell from one on. None exactly where none is.
@@ -191,8 +191,9 @@ impl Numbers {
     }
 
     /// Takes up one frame. The nodes that are due are taken one by one, lowest first: a cell that is marked
-    /// or moved is read, what names a node that changed is made due, and the node is listed. Where more
-    /// than a sixteenth of all are due, or all may be, the others are taken in order, and all are listed.
+    /// or moved is read, what names a node that changed is made due, and the node is listed. Once a
+    /// sixteenth of all have changed, or where all may be due, the others are taken in order, and all are
+    /// listed.
     ///
     /// It tells whether it took nodes in order. Then a node that is not due may be a cell that is to be due
     /// at the next frame.
@@ -245,7 +246,7 @@ impl Numbers {
             let changed = self.take_due(image, nodes, slots, due, dependents, number);
             changes.note(number as u32, changed);
             at = number + 1;
-            left -= 1;
+            left -= usize::from(changed);
         }
         changes.list_all();
         for number in at..nodes.len() {

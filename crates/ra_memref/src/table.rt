@@ -49,15 +49,38 @@ impl Table {
     ///
     /// At most 134,217,728 bytes, and fewer than 2^30 nodes. Memory is the only refusal, and then the
     /// pool is given up. No later call takes memory.
+    ///
+    /// It is made to be told of writes: it has a list for each page of the image.
     pub fn new(alloc: Global, pool: Pool, size: u32) -> Result<Table, OutOfMemory>
         requires size { size ≤ 2 ^ 27 }
+        requires few { length pool < 2 ^ 30 }
+        ensures { IfOk result (IsFresh pool size) }
+    {
+        Table::with_lists(alloc, pool, size, size)
+    }
+
+    /// The same table, made to look at images: what it takes of memory does not grow with their size.
+    ///
+    /// It has no lists, so a write that it is told goes over all cells.
+    pub fn for_looks(alloc: Global, pool: Pool, size: u32) -> Result<Table, OutOfMemory>
+        requires size { size ≤ 2 ^ 27 }
+        requires few { length pool < 2 ^ 30 }
+        ensures { IfOk result (IsFresh pool size) }
+    {
+        Table::with_lists(alloc, pool, size, 0)
+    }
+
+    // A table with lists of the pages of an image of `listed` bytes.
+    fn with_lists(alloc: Global, pool: Pool, size: u32, listed: u32) -> Result<Table, OutOfMemory>
+        requires size { size ≤ 2 ^ 27 }
+        requires listed { listed ≤ 2 ^ 27 }
         requires few { length pool < 2 ^ 30 }
         ensures { IfOk result (IsFresh pool size) }
     {
         let nodes = taken_from(alloc, pool)?;
         let layout = lay_out(alloc, &nodes)?;
         let widths = widths_of(alloc, &nodes)?;
-        let watches = Watches::new(alloc, size, layout.places, widths)?;
+        let watches = Watches::new(alloc, size, listed, layout.places, widths)?;
         let numbers = Numbers::new(alloc, watches, layout.masks.len(), nodes.len())?;
         let agenda = Agenda::new(alloc, &nodes)?;
         let changes = Changes::new(alloc, nodes.len())?;
@@ -75,7 +98,7 @@ impl Table {
     /// docs/DEFINITIONS.md, "Marked and moved cells".
     ///
     /// The bytes lie within the size. The cells that watch a page of one of them are marked, and no kept
-    /// number changes. It looks at the lists of these pages alone.
+    /// number changes. A table that is made to be told looks at the lists of these pages alone.
     pub fn write(&mut self, at: u32, count: u32)
         requires { at + count ≤ self.old.size }
         ensures { IsTold self.old self.new at count }
@@ -102,8 +125,9 @@ impl Table {
     ///
     /// The image has the table's size, and each cell that is not marked has its kept number there, as
     /// after a sample of an image that differs from this one only in bytes that were told. It reads each
-    /// cell that is marked or has moved, once, and no other, and leaves none marked. It lists each node
-    /// that it gives another number, and every node where more than a sixteenth of them were due.
+    /// cell that is marked or has moved, once, and no other, and leaves none marked. A marked cell that has
+    /// its kept number makes nothing due. It lists each node that it gives another number, and every node
+    /// once a sixteenth of them have another one.
     pub fn sample<I: Image>(&mut self, image: &mut I)
         requires size { length (I.bytes image.old) ≡ self.old.size }
         requires agrees { Agrees self.old (I.bytes image.old) }
@@ -116,7 +140,7 @@ impl Table {
         ensures bytes { I.bytes image.new ≡ I.bytes image.old }
         ensures counter { I.counter image.new ≡ I.counter image.old }
     {
-        let all = self.numbers.told_many() || self.agenda.all;
+        let all = self.numbers.saw_many() || self.agenda.all;
         gather(
             &mut self.agenda.due,
             &self.agenda.cell_nodes,

@@ -2,8 +2,9 @@ ghost use Rattle.std.specs.Prelude.{◌≡◌, ◌≢◌, ◌+◌, ◌-◌, ◌*
 ghost use Rattle.ra_memref.specs.Flags.{NoneSet, IsFirstSet};
 ghost use Rattle.ra_memory.specs.Image.{IsReadWidth};
 ghost use Rattle.ra_links.specs.Rows.{holder_of, row_at};
-ghost use Rattle.ra_memref.specs.Watches.{StandsAt, MarksWatchers, MarksOthers, marked_by, pages_of, first_page, second_page};
+ghost use Rattle.ra_memref.specs.Watches.{StandsAt, MarksWatchers, MarksOthers, marked_by, pages_of, first_page, second_page, watches_between};
 ghost use Rattle.ra_memref.specs.Marks.{page_of};
+ghost use Rattle.ra_memref.specs.Marking as spec;
 ghost use Rattle.ra_memref.specs.Marking.{is_at, is_other};
 
 use crate::flags::Flags;
@@ -19,18 +20,20 @@ const PAGE: u32 = 16;
 /// Where the cells lie, which are marked, and by lists which of them watch each page:
 /// docs/DEFINITIONS.md, "Marked and moved cells".
 ///
-/// A cell has two nodes: one for the page of its first byte, one for that of its last. Where the flag
-/// `all` stands each cell is marked, and else each by its own mark. How many marks were told anew is
-/// counted, and seen by none. Only `new` takes memory.
+/// A cell has two nodes: one for the page of its first byte, one for that of its last. The lists are those
+/// of an image of `listed` bytes: of the whole one, or of none. Where the flag `all` stands each cell is
+/// marked, and else each by its own mark. How many cells a look marked is counted, and seen by none. Only
+/// `new` takes memory.
 #[derive(Drop)]
 pub struct Watches {
     size: u32,
+    listed: u32,
     widths: Vec<u8>,
     places: Vec<u32>,
     marks: Flags,
     all: bool,
     pages: Links,
-    told: usize,
+    seen: usize,
 }
 
 impl Model for Watches {
@@ -40,39 +43,41 @@ impl Model for Watches {
 
     ghost view = { λ w. record { size = w.size; widths = w.widths.items; places = w.places.items; marked = marked_by w.all w.marks } };
 
-    ghost invariant = { λ w. IsIndexed w.size w.widths.items w.places.items w.marks w.pages };
+    ghost invariant = { λ w. IsIndexed w.listed w.widths.items w.places.items w.marks w.pages };
 }
 
 impl Watches {
     ghost use Rattle.ra_memref.specs.Watches.{WatchesSeen};
 
-    /// Cells of these widths at these places, all marked, over an image of `size` bytes. Memory is the only
-    /// refusal.
+    /// Cells of these widths at these places, all marked, over an image of `size` bytes, with the lists of
+    /// the pages of one of `listed` bytes. Memory is the only refusal.
     pub fn new(
         alloc: Global,
         size: u32,
+        listed: u32,
         places: Vec<u32>,
         widths: Vec<u8>,
     ) -> Result<Watches, OutOfMemory>
-        requires size { size ≤ 2 ^ 27 }
+        requires listed { listed ≤ 2 ^ 27 }
         requires few { length places.items < 2 ^ 30 }
         requires widths { length widths.items ≡ length places.items }
         requires wide { (k : ℕ) → k < length places.items → IsReadWidth (slice_index widths.items k) }
         ensures { IfOk result (λ w. w ≡ record { size = size; widths = widths.items; places = places.items; marked = replicate (length places.items) true }) }
     {
         let marks = Flags::new(alloc, places.len())?;
-        let mut pages = Links::new(alloc, size.div_ceil(PAGE), 2 * places.len() as u32)?;
+        let mut pages = Links::new(alloc, listed.div_ceil(PAGE), 2 * places.len() as u32)?;
         for cell in 0..places.len() {
-            stand(&mut pages, size, cell as u32, places[cell], widths[cell]);
+            stand(&mut pages, listed, cell as u32, places[cell], widths[cell]);
         }
         Ok(Watches {
             size,
+            listed,
             widths,
             places,
             marks,
             all: true,
             pages,
-            told: 0,
+            seen: 0,
         })
     }
 
@@ -124,7 +129,7 @@ impl Watches {
         self.all = false;
         if self.places[cell] != place {
             let width = self.widths[cell];
-            stand(&mut self.pages, self.size, cell as u32, place, width);
+            stand(&mut self.pages, self.listed, cell as u32, place, width);
             self.places[cell] = place;
         }
     }
@@ -136,7 +141,8 @@ impl Watches {
         self.all = true;
     }
 
-    /// Marks the cells that watch a page of one of `count` bytes from the address `at` on.
+    /// Marks the cells that watch a page of one of `count` bytes from the address `at` on: by the lists of
+    /// these pages, and where there are none, cell by cell.
     pub fn tell(&mut self, at: u32, count: u32)
         requires within { at + count ≤ self.old.size }
         requires small { self.old.size ≤ 2 ^ 27 }
@@ -145,9 +151,15 @@ impl Watches {
         if count == 0 {
             return;
         }
-        for page in at / PAGE..(at + count - 1) / PAGE + 1 {
-            let anew = mark_listed(&self.pages, &mut self.marks, page);
-            self.told = self.told.saturating_add(anew);
+        let first = at / PAGE;
+        let end = (at + count - 1) / PAGE + 1;
+        if self.listed != self.size {
+            let (places, widths) = (&self.places, &self.widths);
+            mark_watchers(&mut self.marks, places, widths, self.size, first, end);
+            return;
+        }
+        for page in first..end {
+            mark_listed(&self.pages, &mut self.marks, page);
         }
     }
 
@@ -165,18 +177,19 @@ impl Watches {
             return;
         }
         let anew = mark_others(image, &mut self.marks, &self.places, &self.widths, numbers);
-        self.told = self.told.saturating_add(anew);
+        self.seen = self.seen.saturating_add(anew);
     }
 
-    /// More than half of the cells were marked by writes or looks since this was asked last.
+    /// More than half of the cells were marked by looks since this was asked last: these have another
+    /// number, and a write marks cells that may have the kept one.
     ///
     /// It chooses between two ways to the same numbers, so no clause says what it answers.
-    pub fn told_many(&mut self) -> bool
+    pub fn saw_many(&mut self) -> bool
         ensures { self.new ≡ self.old }
     {
-        let told = self.told;
-        self.told = 0;
-        told > self.places.len() / 2
+        let seen = self.seen;
+        self.seen = 0;
+        seen > self.places.len() / 2
     }
 }
 
@@ -191,9 +204,8 @@ fn unmark(all: bool, marks: &mut Flags, cell: usize)
     marks.put(cell, false);
 }
 
-/// Marks what stands on a list by one of its two nodes, and counts what was not marked before. No
-/// clause speaks of the count.
-pub fn mark_listed(lists: &Links, marks: &mut Flags, list: u32) -> usize
+/// Marks what stands on a list by one of its two nodes.
+pub fn mark_listed(lists: &Links, marks: &mut Flags, list: u32)
     requires list { list < length lists.now.lists }
     requires nodes { lists.now.nodes ≤ 2 * length marks.old }
     ensures long { length marks.new ≡ length marks.old }
@@ -201,17 +213,55 @@ pub fn mark_listed(lists: &Links, marks: &mut Flags, list: u32) -> usize
         ≡ (slice_index_or marks.old k true
         || (is_at (holder_of lists.now.lists (2 * k)) list || is_at (holder_of lists.now.lists (2 * k + 1)) list)) }
 {
-    let mut anew: usize = 0;
     let mut next = lists.first(list);
     while let Some(node) = next {
-        let place = (node / 2) as usize;
-        if !marks.is_set(place) {
-            marks.put(place, true);
-            anew = anew.wrapping_add(1);
-        }
+        marks.put((node / 2) as usize, true);
         next = lists.next(node);
     }
-    anew
+}
+
+// Marks the cells that watch one of the pages from the first one on and before the end.
+fn mark_watchers(marks: &mut Flags, places: &[u32], widths: &[u8], size: u32, first: u32, end: u32)
+    requires places { length places.now ≡ length marks.old }
+    requires widths { length widths.now ≡ length marks.old }
+    requires wide { (k : ℕ) → k < length marks.old → IsReadWidth (slice_index widths.now k) }
+    ensures long { length marks.new ≡ length marks.old }
+    ensures marked { (k : ℕ) → k < length marks.old → slice_index_or marks.new k true
+        ≡ (slice_index_or marks.old k true
+        || watches_between size first end (slice_index places.now k) (slice_index widths.now k)) }
+{
+    for cell in 0..places.len() {
+        let watched = is_watcher(size, first, end, places[cell], widths[cell]);
+        mark(marks, cell, watched);
+    }
+}
+
+// Marks a cell where it is to be marked.
+fn mark(marks: &mut Flags, cell: usize, watched: bool)
+    requires { cell < length marks.old }
+    ensures { marks.new ≡ slice_set marks.old cell (slice_index_or marks.old cell true || watched) }
+{
+    let marked = marks.is_set(cell) || watched;
+    marks.put(cell, marked);
+}
+
+// A cell of this width at this place watches one of the pages from the first one on and before the end.
+fn is_watcher(size: u32, first: u32, end: u32, place: u32, width: u8) -> bool
+    requires wide { IsReadWidth width }
+    ensures { result ≡ watches_between size first end place width }
+{
+    is_between(first, end, page_of_first(size, place))
+        || is_between(first, end, page_of_last(size, place, width))
+}
+
+// A page is one from the first on and before the end.
+fn is_between(first: u32, end: u32, page: Option<u32>) -> bool
+    ensures { result ≡ spec.is_between first end page }
+{
+    match page {
+        Some(page) => first <= page && page < end,
+        None => false,
+    }
 }
 
 // Marks what is not marked and has another number in the image than this one, and counts it. No clause

@@ -1,11 +1,9 @@
 use Rattle.std.proofs.lemmas.List.{length-set}
-use Rattle.std.proofs.Common.{◌≡◌, ℕ, refl, ◌/◌, ◌∙◌, ◌<◌, ap, sym, subst, length, get_or, set, true, ◌||◌, arith}
+use Rattle.std.proofs.Common.{ℕ, refl, ◌/◌, ◌∙◌, ◌<◌, ap, sym, subst, length, get_or, true, ◌||◌, arith}
 use Rattle.ra_links.specs.Rows.{row_at}
-use Rattle.ra_memref.proofs.FlagLemmas.{set_already}
 use Rattle.ra_memref.proofs.Pages.{on_list}
 use Rattle.ra_memref.proofs.Walks.{IsWalking, rest_of, walking_none, walking_more, shorter, node_there, walked}
 use Rattle.ra_memref.proofs.watches.mark_listed.Goals as goal
-use Rattle.ra_memref.proofs.watches.mark_listed.Goals.{then-not-is_set, else-not-is_set}
 
 pub loop-next-init : goal.loop-next-init
 loop-next-init c = record {
@@ -13,14 +11,6 @@ loop-next-init c = record {
       c.first-next.ensures.first;
   long = refl;
 }
-
-pub is_set-requires : goal.is_set-requires
-is_set-requires c =
-    let there : c.in-Some.node < c.args.lists.now.nodes = node_there c.args.lists.now c.args.list c.args.marks.now
-    c.loop-next.marks c.in-Some.node (subst
-    (IsWalking c.args.lists.now c.args.list c.args.marks.now c.loop-next.marks) c.in-Some.is
-    c.loop-next.invariant.walking) in
-    omega (arith, there, c.requires.nodes, c.loop-next.invariant.long)
 
 pub put-requires : goal.put-requires
 put-requires c =
@@ -47,11 +37,7 @@ loop-next-smaller c =
 pub loop-next-preserved : goal.loop-next-preserved
 loop-next-preserved c =
     let place : ℕ = c.in-Some.node / 2 in
-    let marks : c.if-not-is_set.marks ≡ set c.loop-next.marks (c.in-Some.node / 2) true = elim c.if-not-is_set.branch [
-      | then-not-is_set w ↦ w.marks-is ∙ w.put.ensures
-      | else-not-is_set w ↦ w.marks-is
-          ∙ sym (set_already c.loop-next.marks place (sym c.is_set.ensures ∙ w.if-not-is_set.false))
-    ] in
+    let marks = c.put.ensures in
     record {
       walking = rw marks
           (walking_more c.args.lists.now c.args.list c.args.marks.now c.loop-next.marks c.in-Some.node c.next-next.result

@@ -6,13 +6,13 @@ use Rattle.ra_indirect.specs.Pools.{cells_of}
 use Rattle.ra_memref.specs.Table.{TableSeen, Agrees, no_cell}
 use Rattle.ra_memref.proofs.AgendaLemmas.{count_all, gathered_idle, settled_idle}
 use Rattle.ra_memref.proofs.TableLemmas.{few_cells}
-use Rattle.ra_memref.proofs.table.Table.sample.Goals.{then-told_many, else-told_many, then-in_order, else-in_order}
+use Rattle.ra_memref.proofs.table.Table.sample.Goals.{then-saw_many, else-saw_many, then-in_order, else-in_order}
 use Rattle.ra_memref.proofs.table.Table.sample.Goals as goal
 
 pub gather-requires-clause-cells : goal.gather-requires-clause-cells
 gather-requires-clause-cells g c =
     let is = c.self.invariant in
-    rw (c.deref.ensures.value, c.told_many.ensures) (count_all c.self.inside.nodes.items is.pool c.self.inside.slots.items is.laid c.self.inside.numbers is.sized
+    rw (c.deref.ensures.value, c.saw_many.ensures) (count_all c.self.inside.nodes.items is.pool c.self.inside.slots.items is.laid c.self.inside.numbers is.sized
     c.self.inside.agenda.cell_nodes.items is.agenda.cells c.self.inside.agenda.due c.self.inside.agenda.due
     ∙ sym is.sized.marked)
 
@@ -33,7 +33,7 @@ take_frame-in_order-requires-clause-agreed g c =
     let is = c.self.invariant in
     let agrees = subst (λ (t : TableSeen). Agrees t (g.I.Image.bytes c.args.image.now)) (sym c.self.view_is)
     c.requires.agrees in
-    rw (c.gather.ensures.same, c.told_many.ensures) (λ k below unmarked.
+    rw (c.gather.ensures.same, c.saw_many.ensures) (λ k below unmarked.
     let width = ap (λ ws. get_or ws k 0) is.sized.widths
     ∙ get_or-map (λ d. d.width) (cells_of c.self.inside.nodes.items) k no_cell 0 (omega (arith, below, is.sized.cells)) in
     agrees k below unmarked
@@ -42,14 +42,14 @@ take_frame-in_order-requires-clause-agreed g c =
 pub take_frame-in_order-requires-clause-idle : goal.take_frame-in_order-requires-clause-idle
 take_frame-in_order-requires-clause-idle g c = λ some.
     let is = c.self.invariant in
-    let before : c.self.inside.agenda.all ≡ false = elim c.if-told_many.branch [
-      | then-told_many w ↦ absurd (false≢true (sym some ∙ w.all-is ∙ w.if-told_many.true))
-      | else-told_many w ↦ sym w.all-is ∙ some
+    let before : c.self.inside.agenda.all ≡ false = elim c.if-saw_many.branch [
+      | then-saw_many w ↦ absurd (false≢true (sym some ∙ w.all-is ∙ w.if-saw_many.true))
+      | else-saw_many w ↦ sym w.all-is ∙ some
     ] in
-    rw (c.deref-2.ensures.value, c.deref-3.ensures.value, c.gather.ensures.same, c.told_many.ensures)
+    rw (c.deref-2.ensures.value, c.deref-3.ensures.value, c.gather.ensures.same, c.saw_many.ensures)
     (gathered_idle c.self.inside.nodes.items is.pool c.self.inside.slots.items is.laid c.self.inside.numbers is.sized
     c.self.inside.agenda.cell_nodes.items is.agenda.cells c.self.inside.agenda.due c.gather.new.due (is.quiet before)
-    (rw (c.deref.ensures.value, c.told_many.ensures) at c.gather.ensures.gathered some))
+    (rw (c.deref.ensures.value, c.saw_many.ensures) at c.gather.ensures.gathered some))
 
 pub note_cells-self-inside-requires-clause-cells : goal.note_cells-self-inside-requires-clause-cells
 note_cells-self-inside-requires-clause-cells g c =
@@ -62,7 +62,7 @@ note_cells-self-inside-requires-clause-cells g c =
 pub invariant_of-self : goal.invariant_of-self
 invariant_of-self g c =
     let is = c.self.invariant in
-    let e = rw (c.deref-2.ensures.value, c.deref-3.ensures.value, c.gather.ensures.same, c.told_many.ensures) at c.take_frame-in_order.ensures in
+    let e = rw (c.deref-2.ensures.value, c.deref-3.ensures.value, c.gather.ensures.same, c.saw_many.ensures) at c.take_frame-in_order.ensures in
     let small : c.take_frame-in_order.new.self.watches.size ≤ 2 ^ 27 = omega (arith, e.taken.size, is.small) in
     elim c.if-in_order.branch [
       | then-in_order w ↦

@@ -10,7 +10,7 @@ use Rattle.ra_memref.specs.Numbers.{NumbersSeen}
 use Rattle.ra_memref.specs.Changes.{ChangesSeen}
 use Rattle.ra_memref.proofs.LayoutLemmas.{as_many_masks}
 use Rattle.ra_memref.proofs.TableLemmas.{few_cells, made_sized, made_fresh}
-use Rattle.ra_memref.proofs.table.Table.new.Goals as goal
+use Rattle.ra_memref.proofs.table.Table.with_lists.Goals as goal
 
 pub new-requires-clause-few : goal.new-requires-clause-few
 new-requires-clause-few c = omega (arith, ap length c.in_ok-layout.ensures.places, length-map (cells_of c.deref.result.now) (λ d. d.address), few_cells c.deref.result.now, ap length c.deref.ensures.value, ap length c.in_ok-nodes.ensures.nodes, c.requires.few)
