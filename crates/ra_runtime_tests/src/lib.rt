@@ -6,6 +6,8 @@
 #[cfg(test)]
 mod changed;
 #[cfg(test)]
+mod courses;
+#[cfg(test)]
 mod damaged;
 #[cfg(test)]
 mod displays;
