@@ -1,6 +1,6 @@
 ghost use Rattle.std.specs.Prelude.{◌≡◌, ◌+◌, ◌*◌, ◌<◌, ◌≤◌, ◌^◌, None, length, slice_index, IfSome};
 ghost use Rattle.ra_memory.specs.Image.{raw, IsReadWidth};
-ghost use Rattle.ra_banks.specs.Banks.{bytes_of};
+ghost use Rattle.ra_banks.specs.Banks.{bytes_of, IsPart};
 
 /// The most bytes that an image has.
 const MOST: usize = 134217728;
@@ -30,27 +30,8 @@ pub fn size_of(banks: &[Bank<'_>]) -> Option<u32>
     Some(size as u32)
 }
 
-/// The little-endian number of `width` bytes, 1, 2 or 4, from the address `at` on, across the borders of
-/// banks, with 0 for a byte past the end.
-pub fn number_at(banks: &[Bank<'_>], at: u32, width: u8) -> u32
-    requires { IsReadWidth width }
-    ensures { result ≡ raw width (bytes_of banks.now) at }
-{
-    let mut left = at as usize;
-    for bank in banks {
-        if left < bank.bytes.len() {
-            if usize::from(width) <= bank.bytes.len() - left {
-                return number_in(bank.bytes, left, width);
-            }
-            return number_across(banks, at as usize, width);
-        }
-        left -= bank.bytes.len();
-    }
-    0
-}
-
 // The number of bytes that stand in one bank.
-fn number_in(bytes: &[u8], at: usize, width: u8) -> u32
+pub(crate) fn number_in(bytes: &[u8], at: usize, width: u8) -> u32
     requires width { IsReadWidth width }
     requires within { at + width ≤ length bytes.now }
     ensures { result ≡ raw width bytes.now at }
@@ -66,25 +47,8 @@ fn number_in(bytes: &[u8], at: usize, width: u8) -> u32
     }
 }
 
-// The number of bytes that stand across a border, byte by byte.
-fn number_across(banks: &[Bank<'_>], at: usize, width: u8) -> u32
-    requires width { IsReadWidth width }
-    requires few { at < 2 ^ 32 }
-    ensures { result ≡ raw width (bytes_of banks.now) at }
-{
-    match width {
-        1 => byte_at(banks, at),
-        2 => byte_at(banks, at) + 256 * byte_at(banks, at + 1),
-        _ => {
-            let low = byte_at(banks, at) + 256 * byte_at(banks, at + 1);
-            let high = byte_at(banks, at + 2) + 256 * byte_at(banks, at + 3);
-            low + 65536 * high
-        }
-    }
-}
-
 // The byte at an address, 0 past the end.
-fn byte_at(banks: &[Bank<'_>], at: usize) -> u32
+pub(crate) fn byte_at(banks: &[Bank<'_>], at: usize) -> u32
     ensures byte { result ≡ slice_index (bytes_of banks.now) at }
     ensures small { result < 256 }
 {
@@ -96,4 +60,18 @@ fn byte_at(banks: &[Bank<'_>], at: usize) -> u32
         left -= bank.bytes.len();
     }
     0
+}
+
+// The bytes of the bank in which an address lies, and the address of the first of them. None past the end.
+pub(crate) fn bank_of<'a>(banks: &[Bank<'a>], at: usize) -> Option<(&'a [u8], usize)>
+    ensures { IfSome result (λ found. IsPart (bytes_of banks.now) found.0.now found.1) }
+{
+    let mut left = at;
+    for bank in banks {
+        if left < bank.bytes.len() {
+            return Some((bank.bytes, at - left));
+        }
+        left -= bank.bytes.len();
+    }
+    None
 }

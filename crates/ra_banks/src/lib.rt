@@ -3,6 +3,8 @@
 
 mod bank;
 mod banks;
+mod row;
 
 pub use bank::{Bank, size_of};
 pub use banks::Banks;
+pub use row::Row;
