@@ -10,3 +10,4 @@ pub mod SetFiles
 pub mod Spelled
 pub mod Words
 pub mod Worked
+pub mod Changed

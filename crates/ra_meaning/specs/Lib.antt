@@ -14,3 +14,4 @@ pub mod Play
 pub mod PresenceLaws
 pub mod Runtime
 pub mod Saving
+pub mod Changed

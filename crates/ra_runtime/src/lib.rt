@@ -8,7 +8,7 @@ mod shapes;
 mod written;
 
 pub use course::Course;
-pub use ra_changed::changed_sets_go_on;
+pub use ra_meaning::changed_sets_go_on;
 pub use ra_items::{Events, ItemState};
 pub use ra_meaning::{
     Event, calls_succeed, earned_achievements_stay_earned, histories_are_folds,

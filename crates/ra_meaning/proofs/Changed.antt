@@ -1,3 +1,4 @@
+-- The law of a changed set.
 pub mod ChangedSets
 pub mod ItemByItem
 pub mod NamedNumbers

@@ -3,9 +3,9 @@ use Rattle.std.proofs.Common.{◌≡◌, ℕ, List, [], ◌∷◌, ◌++◌, map
 use Rattle.std.specs.List.{flat_map}
 use Rattle.ra_set.specs.Contents.{SetContents}
 use Rattle.ra_member.proofs.Listed.{In, In_front, In_behind, In_split}
-use Rattle.ra_changed.specs.Changed.{NamesTell, texts_in, NamesApart, Thing, OfText, OfTree, OfCell, OfMask, thing_name, subtrees, things_in, AllNamesApart}
+use Rattle.ra_meaning.specs.Changed.{NamesTell, texts_in, NamesApart, Thing, OfText, OfTree, OfCell, OfMask, thing_name, subtrees, things_in, AllNamesApart}
 use Rattle.ra_meaning.specs.Order.{trees_in_set, set_cells, set_tracked}
-use Rattle.ra_changed.proofs.SharedOwns.{contains_in, in_contained}
+use Rattle.ra_meaning.proofs.Changed.SharedOwns.{contains_in, in_contained}
 
 in_map : {A B : Type 0} (f : A → B) (x : A) (xs : List A) → In x xs → In (f x) (map f xs)
 in_map f x [] h = absurd h

@@ -12,11 +12,11 @@ use Rattle.ra_set.specs.Texts.{item_texts, script_text}
 use Rattle.ra_set.proofs.ItemTexts.{texts-spelled}
 use Rattle.ra_progress.specs.Contents.{Own, OfItem, OfPresence, own_items, own_presence, own_entries}
 use Rattle.ra_member.proofs.Listed.{In, In_front, In_behind}
-use Rattle.ra_changed.specs.Changed.{NamesTell, texts_in}
+use Rattle.ra_meaning.specs.Changed.{NamesTell, texts_in}
 use Rattle.ra_meaning.specs.Order.{item_shape, presence_shape, shape_of}
-use Rattle.ra_changed.proofs.ReadByNames.{OneShape}
-use Rattle.ra_changed.proofs.ReadByOther.{IsSharedOwn, index_at}
-use Rattle.ra_changed.proofs.SetTexts.{one_item, one_script, no_script_item}
+use Rattle.ra_meaning.proofs.Changed.ReadByNames.{OneShape}
+use Rattle.ra_meaning.proofs.Changed.ReadByOther.{IsSharedOwn, index_at}
+use Rattle.ra_meaning.proofs.Changed.SetTexts.{one_item, one_script, no_script_item}
 
 -- ---- elements and places
 

@@ -13,7 +13,7 @@ use Rattle.ra_progress.specs.Saying.{last_number, last_block, own_places, said_o
 use Rattle.ra_progress.proofs.OwnNames.{own_names}
 use Rattle.ra_progress.proofs.Passes.{both_true}
 use Rattle.ra_progress.proofs.Placed.{sizes_of_this_set}
-use Rattle.ra_changed.proofs.ReadByNames.{StandFor, stand_for, EntryAt, entry_at_place, OneShape, entries_good, states_good, related, last_is, said_at}
+use Rattle.ra_meaning.proofs.Changed.ReadByNames.{StandFor, stand_for, EntryAt, entry_at_place, OneShape, entries_good, states_good, related, last_is, said_at}
 
 pub map_at : {A B : Type 0} (f : A → B) (xs : List A) (k : ℕ) (x : A) → slice_get xs k ≡ Some x → slice_get (map f xs) k ≡ Some (f x)
 map_at f [] k x at = absurd (cc at)

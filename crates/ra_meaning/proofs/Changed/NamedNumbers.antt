@@ -12,12 +12,12 @@ use Rattle.ra_progress.specs.Contents.{Name}
 use Rattle.ra_progress.specs.Layout.{Numbered}
 use Rattle.ra_progress.specs.Saying.{last_number}
 use Rattle.ra_member.proofs.Listed.{In, In_front, In_flat, In_one, InOne, In_firsts}
-use Rattle.ra_changed.specs.Changed.{NamesTell}
+use Rattle.ra_meaning.specs.Changed.{NamesTell}
 use Rattle.ra_meaning.specs.Openings.{number_beside, prior_beside}
 use Rattle.ra_meaning.specs.Order.{trees_in_set, set_cells, set_tracked}
 use Rattle.ra_meaning.proofs.Openings.Beside.{apart_firsts, numbers_beside, priors_beside}
 use Rattle.ra_meaning.proofs.Openings.Covered.{found_number, found_prior}
-use Rattle.ra_changed.proofs.SharedOwns.{contains_in}
+use Rattle.ra_meaning.proofs.Changed.SharedOwns.{contains_in}
 
 -- the last number of a name is that of its thing, where the name tells the thing
 module _ {A : Type 0} (name : A → Name) (f : A → ℕ) (c : A) where

@@ -15,13 +15,13 @@ use Rattle.ra_progress.specs.Reading.{IsAccepted}
 use Rattle.ra_progress.specs.Spelling.{progress_bytes}
 use Rattle.ra_progress.proofs.ComesBack.{comes_back, own}
 use Rattle.ra_member.proofs.Listed.{In_front, In_behind, In_flat}
-use Rattle.ra_changed.specs.Changed.{NamesApart, HaveOneStart, taken_up}
+use Rattle.ra_meaning.specs.Changed.{NamesApart, HaveOneStart, taken_up}
 use Rattle.ra_meaning.specs.Openings.{start_of}
 use Rattle.ra_meaning.specs.Order.{item_shape, presence_shape, trees_in_item, trees_in_line, lines_in, set_cells, set_tracked, shape_of}
-use Rattle.ra_changed.proofs.NamedNumbers.{TreesOf, cell_listed, tracked_listed, one_number, one_prior}
-use Rattle.ra_changed.proofs.ReadByOther.{Wrote, IsSharedOwn, map_at, accepted_by, said_frames, said_cells, said_priors, wrote_cells, wrote_priors, said_item_is, said_script_is}
+use Rattle.ra_meaning.proofs.Changed.NamedNumbers.{TreesOf, cell_listed, tracked_listed, one_number, one_prior}
+use Rattle.ra_meaning.proofs.Changed.ReadByOther.{Wrote, IsSharedOwn, map_at, accepted_by, said_frames, said_cells, said_priors, wrote_cells, wrote_priors, said_item_is, said_script_is}
 use Rattle.ra_meaning.proofs.SetFiles.{set_shape}
-use Rattle.ra_changed.proofs.SharedOwns.{in_contained, in_at, one_place, HasItem, HasBoth, one_shape}
+use Rattle.ra_meaning.proofs.Changed.SharedOwns.{in_contained, in_at, one_place, HasItem, HasBoth, one_shape}
 
 -- what both sets have: the number of frames, and the numbers of the cells and tracked masks of some trees
 pub record Taken (set changed : SetContents) (kept : Opening) (trees : List Tree) : Type 0 where

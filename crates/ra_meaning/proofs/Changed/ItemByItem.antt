@@ -5,7 +5,7 @@ use Rattle.std.proofs.lemmas.List.Concat.{flat_map-append}
 use Rattle.ra_memory.specs.Image.{History}
 use Rattle.ra_set.specs.Contents.{SetContents}
 use Rattle.ra_progress.specs.Contents.{Opening}
-use Rattle.ra_changed.specs.Changed.{told_at, events_at, lines_at, IsItemByItem}
+use Rattle.ra_meaning.specs.Changed.{told_at, events_at, lines_at, IsItemByItem}
 use Rattle.ra_meaning.specs.declared.event.Event.{Event}
 use Rattle.ra_meaning.specs.Earned.{Earned}
 use Rattle.ra_meaning.specs.Lines.{event_line, event_lines}

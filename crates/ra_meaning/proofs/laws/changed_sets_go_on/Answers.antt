@@ -1,7 +1,7 @@
-use Rattle.ra_changed.proofs.ChangedSets.{sets_go_on}
-use Rattle.ra_changed.proofs.ItemByItem.{item_by_item}
-use Rattle.ra_changed.proofs.NamedThings.{apart_within}
-use Rattle.ra_changed.proofs.laws.changed_sets_go_on.Goals as goal
+use Rattle.ra_meaning.proofs.Changed.ChangedSets.{sets_go_on}
+use Rattle.ra_meaning.proofs.Changed.ItemByItem.{item_by_item}
+use Rattle.ra_meaning.proofs.Changed.NamedThings.{apart_within}
+use Rattle.ra_meaning.proofs.laws.changed_sets_go_on.Goals as goal
 
 pub returns-clause-goes_on : goal.returns-clause-goes_on
 returns-clause-goes_on c = sets_go_on

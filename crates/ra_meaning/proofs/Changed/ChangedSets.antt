@@ -13,7 +13,7 @@ use Rattle.ra_progress.specs.Reading.{IsAccepted}
 use Rattle.ra_progress.specs.Spelling.{progress_bytes}
 use Rattle.ra_member.proofs.GoingOn.{GoesOn, goes_on}
 use Rattle.ra_member.proofs.Listed.{In_flat}
-use Rattle.ra_changed.specs.Changed.{NamesApart, HaveOneStart, kept_behind, taken_up, told_at, events_at, lines_at, ItemGoesOn, ScriptGoesOn, SetsGoOn}
+use Rattle.ra_meaning.specs.Changed.{NamesApart, HaveOneStart, kept_behind, taken_up, told_at, events_at, lines_at, ItemGoesOn, ScriptGoesOn, SetsGoOn}
 use Rattle.ra_meaning.specs.declared.event.Event.{Event}
 use Rattle.ra_meaning.specs.Earned.{Earned, is_earned, item_with, earned_in, items_with, HoldTriggered}
 use Rattle.ra_meaning.specs.Lines.{event_lines}
@@ -25,12 +25,12 @@ use Rattle.ra_meaning.proofs.Openings.Covered.{tree_alike}
 use Rattle.ra_meaning.proofs.Earned.Frames.{item_with_tells}
 use Rattle.ra_meaning.proofs.Earned.Items.{items_same, opening_with}
 use Rattle.ra_meaning.proofs.Cuts.Law.{events_of_item, shown_goes_on, counts_go_on}
-use Rattle.ra_changed.proofs.NamedNumbers.{TreesOf}
-use Rattle.ra_changed.proofs.ReadByOther.{map_at}
+use Rattle.ra_meaning.proofs.Changed.NamedNumbers.{TreesOf}
+use Rattle.ra_meaning.proofs.Changed.ReadByOther.{map_at}
 use Rattle.ra_meaning.proofs.SetFiles.{set_spelled}
-use Rattle.ra_changed.proofs.SharedOwns.{contains_in, HasItem, shared_item, HasBoth, shared_script}
+use Rattle.ra_meaning.proofs.Changed.SharedOwns.{contains_in, HasItem, shared_item, HasBoth, shared_script}
 use Rattle.ra_meaning.proofs.Openings.Snapshots.{snapshot_fits}
-use Rattle.ra_changed.proofs.TakenOver.{TakenItem, TakenScript, item_trees, script_trees, item_taken, script_taken}
+use Rattle.ra_meaning.proofs.Changed.TakenOver.{TakenItem, TakenScript, item_trees, script_trees, item_taken, script_taken}
 
 -- ---- what stands at a place
 

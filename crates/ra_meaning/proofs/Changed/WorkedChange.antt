@@ -25,15 +25,15 @@ use Rattle.ra_set.proofs.FrontLemmas.{file-of_lines}
 use Rattle.ra_member.proofs.Listed.{In}
 use Rattle.ra_memory.specs.Image.{History, AreBytes, AreImages}
 use Rattle.ra_progress.specs.Contents.{IsOpening}
-use Rattle.ra_changed.specs.Changed.{NamesTell, Thing, OfText, OfTree, OfCell, thing_name, things_in, AllNamesApart, GoesOnIn, kept_behind, taken_up, lines_at}
+use Rattle.ra_meaning.specs.Changed.{NamesTell, Thing, OfText, OfTree, OfCell, thing_name, things_in, AllNamesApart, GoesOnIn, kept_behind, taken_up, lines_at}
 use Rattle.ra_meaning.specs.Earned.{earned_in, HoldTriggered}
 use Rattle.ra_meaning.specs.Openings.{plain_opening, snapshot}
 use Rattle.ra_meaning.specs.Order.{shape_of}
-use Rattle.ra_changed.proofs.ChangedSets.{sets_go_on}
+use Rattle.ra_meaning.proofs.Changed.ChangedSets.{sets_go_on}
 use Rattle.ra_meaning.proofs.Each.{each_replicate, each_set}
-use Rattle.ra_changed.proofs.NamedThings.{apart_within}
+use Rattle.ra_meaning.proofs.Changed.NamedThings.{apart_within}
 use Rattle.ra_meaning.proofs.SetFiles.{set_spelled}
-use Rattle.ra_changed.proofs.SharedOwns.{in_contained}
+use Rattle.ra_meaning.proofs.Changed.SharedOwns.{in_contained}
 use Rattle.ra_meaning.proofs.Openings.Snapshots.{plain_is_opening}
 
 -- an achievement, and a file in which another one stands before it
