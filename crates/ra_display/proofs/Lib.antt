@@ -6,7 +6,6 @@ pub mod LineSteps
 pub mod LinesRest
 pub mod NewLines
 pub mod NewRests
-pub mod PresenceCuts
 pub mod RestoredPresence
 pub mod SavedLines
 pub mod SeenLines

@@ -17,8 +17,8 @@ use Rattle.ra_resting.specs.Waking.{IsMemberTold, IsSomeFrame}
 use Rattle.ra_resting.proofs.Turns.{AreTaken, element, taken_begins, taken_ends, taken_on}
 use Rattle.ra_display.specs.declared.line_rests.LineRest.{LineRest}
 use Rattle.ra_display.specs.declared.line_rests.LineRests.{LineRests}
-use Rattle.ra_display.specs.LineMembers.{line_member, tests_in}
-use Rattle.ra_display.specs.Presence.{line_holds}
+use Rattle.ra_meaning.specs.LineMembers.{line_member, tests_in}
+use Rattle.ra_meaning.specs.Presence.{line_holds}
 use Rattle.ra_display.specs.LineRests.{AreLineRests, AreLinesSeen, HasLinePlace, HasLineRoom, IsLineAtRest, IsLinePlace, IsLineSteppedAt, LineKeeps, StepsLineSeen, StepsNoted, line_since, seen_line, seen_lines}
 use Rattle.ra_display.specs.PresenceRuns.{AreLineRuns, IsLineRun}
 use Rattle.ra_display.proofs.LinesRest.{line_rests_on, line_starts, skipped, still_on}

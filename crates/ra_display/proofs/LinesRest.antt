@@ -15,9 +15,9 @@ use Rattle.ra_resting.specs.Owing.{AreHitsSmall, owed_member}
 use Rattle.ra_resting.specs.Waking.{AreValuesAt, IsMemberTold, IsSomeFrame, first_frame}
 use Rattle.ra_resting.proofs.GoesOn.{tests_go_on, tests_say_on, values_go_on, tests_owe_nothing, values_owe_nothing}
 use Rattle.ra_resting.proofs.Woken.{member_through}
-use Rattle.ra_display.specs.LineMembers.{line_member}
+use Rattle.ra_meaning.specs.LineMembers.{line_member}
 use Rattle.ra_display.specs.LineRests.{HasLineRoom, LineGoesOn, LineKeeps, StepsLineSeen, StepsNoted}
-use Rattle.ra_display.specs.Presence.{line_holds}
+use Rattle.ra_meaning.specs.Presence.{line_holds}
 
 module _ (table : TableSeen) (line : LineContents) (seen : MemberKept) (due : Bool) (quiet : due ≡ false) (b : Before) (new : Member) (holds : Bool) (room : HasLineRoom line b)
     (steps : StepsNoted table line seen due b new holds) (keeps : LineKeeps line (kept_before b) (kept_by new))

@@ -1,16 +1,13 @@
 -- Lines of a display that were never stepped, one after the other over a pool that grows.
-use Rattle.std.proofs.Common.{◌≡◌, ◌+◌, ◌-◌, Option, None, Some, List, [], ◌∷◌, ◌++◌, length, map, get_or, sum_by, All, IfSome, refl, sym, ◌∙◌, ap, ap₂, subst, arith, length-append}
+use Rattle.std.proofs.Common.{◌≡◌, ◌+◌, ◌-◌, Some, List, [], ◌∷◌, ◌++◌, length, map, sum_by, refl, sym, ◌∙◌, ap, ap₂, arith, length-append}
 use Rattle.std.specs.List.{filter_map}
 use Rattle.std.proofs.lemmas.List.{map-append}
-use Rattle.std.proofs.lemmas.List.Elements.{All-append, All-cons, All-nil}
 use Rattle.std.proofs.lemmas.List.Sums.{sum_by-cons}
-use Rattle.ra_condition.specs.Contents.{TriggerContents, trigger_hits}
-use Rattle.ra_condition.specs.Spelled.{IsTrigger}
 use Rattle.ra_indirect.specs.declared.node.Node.{Node}
 use Rattle.ra_indirect.specs.Growing.{IsFront}
 use Rattle.ra_richpresence.specs.Contents.{PieceContents, Bytes, Shows, LineContents, ScriptContents, value_in}
-use Rattle.ra_richpresence.specs.Spelled.{IsTested, IsUntested, IsDisplay}
-use Rattle.ra_set.specs.Limits.{optional_trigger, optional_value, value_conditions, line_conditions}
+use Rattle.ra_richpresence.specs.Spelled.{IsDisplay}
+use Rattle.ra_set.specs.Limits.{optional_value, value_conditions, line_conditions}
 use Rattle.ra_member.specs.declared.member.Member.{Member}
 use Rattle.ra_member.specs.Members.{no_member, member_conditions}
 use Rattle.ra_member.specs.MemberRuns.{IsNewMember, kept_by}
@@ -19,11 +16,12 @@ use Rattle.ra_member.proofs.Opened.{nones_saved}
 use Rattle.ra_member.proofs.GrowthLemmas.{grows_more}
 use Rattle.ra_member.proofs.PlanLemmas.{within_as}
 use Rattle.ra_member.proofs.SideBySide.{beside_more, beside_weaker}
+use Rattle.ra_meaning.proofs.Spelled.Lines.{test_conditions}
 use Rattle.ra_display.specs.declared.presence_run.PresenceRun.{PresenceRun}
-use Rattle.ra_display.specs.LineMembers.{tests_in, line_member, script_members, trees_in_line}
-use Rattle.ra_display.specs.Presence.{kept_display}
+use Rattle.ra_meaning.specs.LineMembers.{line_member, script_members, trees_in_line}
+use Rattle.ra_meaning.specs.Presence.{kept_display}
 use Rattle.ra_display.specs.PresenceRuns.{IsLineRun, AreLineRuns}
-use Rattle.ra_display.specs.NewPresence.{IsShownLine, IsNewLine, AreNewLines, IsNewPresence}
+use Rattle.ra_display.specs.NewPresence.{IsNewLine, AreNewLines, IsNewPresence}
 
 -- lines stay ones where the pool grows
 module _ (old new : List Node) (front : IsFront old new) where
@@ -38,11 +36,6 @@ macro_conditions (Bytes text ∷ pieces) =
     omega (arith, macro_conditions pieces, sum_by-cons (λ p. optional_value (value_in p)) (Bytes text) pieces)
 macro_conditions (Shows name parts ∷ pieces) =
     omega (arith, macro_conditions pieces, sum_by-cons value_conditions parts (filter_map value_in pieces), sum_by-cons (λ p. optional_value (value_in p)) (Shows name parts) pieces)
-
--- a line's test has as many conditions as its member
-pub test_conditions : (test : Option TriggerContents) → sum_by trigger_hits (tests_in test) ≡ optional_trigger test
-test_conditions None = refl
-test_conditions (Some t) = omega arith
 
 -- a line of a test and of values
 pub line_made : (a b : List Node) (line : LineContents) (run : Member) → IsNewMember a b (line_member line) run → IsNewLine a b line run
@@ -73,16 +66,3 @@ presence_made a b script run are display shown =
       run_too = record { lines = are.runs_too; shown = omega (arith, shown, some) };
       plain = (λ i. Some (kept_display (record { shown = shown i; lines = are.plain i }))) ∙ (λ i. Some (record { shown = length script.lines - 1; hits = none.0 i; numbers = none.1 i }));
     }
-
--- the lines of a display are ones that some text spells
-tested_shown : (line : LineContents) → IsTested line → IsShownLine line
-tested_shown line is = record { test = subst (λ t. IfSome t IsTrigger) (sym is.tested) is.spelled; pieces = is.pieces }
-
-untested_shown : (line : LineContents) → IsUntested line → IsShownLine line
-untested_shown line is = record { test = subst (λ t. IfSome t IsTrigger) (sym is.untested) tt; pieces = is.pieces }
-
-pub shown_lines : (lines : List LineContents) → IsDisplay lines → All IsShownLine lines
-shown_lines lines is =
-    let front : All IsShownLine is.front = λ k d within. tested_shown (get_or is.front k d) (is.tested k d within) in
-    let last : All IsShownLine (is.last ∷ []) = All-cons IsShownLine is.last [] (untested_shown is.last is.untested) (All-nil IsShownLine) in
-    subst (All IsShownLine) (sym is.parts) (All-append IsShownLine is.front (is.last ∷ []) front last)

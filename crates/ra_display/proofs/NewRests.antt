@@ -17,7 +17,7 @@ use Rattle.ra_resting.proofs.SeesSame.{member_sees}
 use Rattle.ra_resting.proofs.Turns.{element}
 use Rattle.ra_display.specs.declared.line_rests.LineRest.{LineRest}
 use Rattle.ra_display.specs.declared.line_rests.LineRests.{LineRests}
-use Rattle.ra_display.specs.LineMembers.{line_member}
+use Rattle.ra_meaning.specs.LineMembers.{line_member}
 use Rattle.ra_display.specs.LineRests.{AreLineRests, AreLinesForgotten, HasLineRoom, line_since, seen_lines}
 use Rattle.ra_display.specs.PresenceRuns.{AreLineRuns}
 use Rattle.ra_display.proofs.LineSteps.{length_runs, run_at, told_by_rows}

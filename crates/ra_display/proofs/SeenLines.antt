@@ -21,12 +21,12 @@ use Rattle.ra_resting.proofs.OwedRows.{one_shape_of}
 use Rattle.ra_display.specs.declared.line_rests.LineRest.{LineRest}
 use Rattle.ra_display.specs.declared.line_rests.LineRests.{LineRests}
 use Rattle.ra_display.specs.declared.presence_run.PresenceRun.{PresenceRun}
-use Rattle.ra_display.specs.LineMembers.{line_member}
+use Rattle.ra_meaning.specs.LineMembers.{line_member}
 use Rattle.ra_display.specs.LineRests.{AreLineRests, AreLinesFitting, AreLinesSeen, AreOptionalFitting, AreOptionalRests, HasLineRoom, WereOptionalRests, display_seen, line_since, optional_presence_seen, presence_seen, seen_lines}
-use Rattle.ra_display.specs.Presence.{DisplayKept, display_next, display_text, first_true, kept_display, line_numbers}
+use Rattle.ra_meaning.specs.Presence.{DisplayKept, display_next, display_text, first_true, kept_display, line_numbers}
 use Rattle.ra_display.specs.PresenceRuns.{AreLineRuns, IsLineRun, IsOptionalPresence, IsPresenceRun, StepsPresence, display_kept, optional_presence_kept}
 use Rattle.ra_display.proofs.LineSteps.{length_runs}
-use Rattle.ra_display.proofs.PresenceCuts.{display_again}
+use Rattle.ra_meaning.proofs.Cuts.Presence.{display_again}
 use Rattle.ra_display.proofs.ShownLines.{lines_next}
 
 -- what a line is seen to keep has the counts of its text

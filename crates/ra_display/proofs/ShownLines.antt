@@ -14,8 +14,8 @@ use Rattle.ra_member.specs.MemberRuns.{StepsTestAt, kept_by, StepsValues}
 use Rattle.ra_member.specs.Runs.{IsTriggerRun}
 use Rattle.ra_member.proofs.Shaped.{member_shape}
 use Rattle.ra_member.proofs.Stepping.{hits_of, AreTestsStepped, AreTestsAfter, tests_begin, test_on, tests_end}
-use Rattle.ra_display.specs.LineMembers.{tests_in, line_member}
-use Rattle.ra_display.specs.Presence.{line_holds, lines_hold, first_true}
+use Rattle.ra_meaning.specs.LineMembers.{tests_in, line_member}
+use Rattle.ra_meaning.specs.Presence.{line_holds, lines_hold, first_true}
 use Rattle.ra_memref.specs.Flags.{IsFirstSet, NoneSet}
 use Rattle.ra_memref.specs.Values.{Start}
 use Rattle.ra_member.specs.Runs.{HasValues}

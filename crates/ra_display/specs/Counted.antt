@@ -8,7 +8,7 @@ use Rattle.ra_set.specs.Limits.{line_conditions, optional_trigger, script_condit
 use Rattle.ra_member.specs.declared.places.Places.{Places}
 use Rattle.ra_member.specs.Members.{member_hits, member_numbers}
 use Rattle.ra_member.specs.Plans.{GrowsWithin}
-use Rattle.ra_display.specs.LineMembers.{line_member, trees_in_line, lines_in, presence_shape}
+use Rattle.ra_meaning.specs.LineMembers.{line_member, trees_in_line, lines_in, presence_shape}
 
 -- a line has no conditions and no macros
 pub record IsBare (line : LineContents) : Type 0 where

@@ -1,9 +1,6 @@
 pub mod Counted
-pub mod LineMembers
-pub mod LineOf
 pub mod LineRests
 pub mod NewPresence
-pub mod Presence
 pub mod PresenceBack
 pub mod PresenceRuns
 pub mod PresenceShapes

@@ -19,8 +19,8 @@ use Rattle.ra_resting.specs.Waking.{AreChanged, AreValuesAt, IsMemberTold, first
 use Rattle.ra_display.specs.declared.line_rests.LineRest.{LineRest}
 use Rattle.ra_display.specs.declared.line_rests.LineRests.{LineRests}
 use Rattle.ra_display.specs.declared.presence_run.PresenceRun.{PresenceRun}
-use Rattle.ra_display.specs.LineMembers.{tests_in, line_member}
-use Rattle.ra_display.specs.Presence.{DisplayKept, line_holds, kept_display}
+use Rattle.ra_meaning.specs.LineMembers.{tests_in, line_member}
+use Rattle.ra_meaning.specs.Presence.{DisplayKept, line_holds, kept_display}
 use Rattle.ra_display.specs.PresenceRuns.{IsLineRun, StepsLine}
 
 -- what a line is seen to keep at a count of frames, where it rests since one of them or not at all

@@ -1,24 +1,17 @@
 -- What a new display leaves in a pool, and what it keeps before the first frame: docs/DEFINITIONS.md, "Openings and snapshots".
-use Rattle.std.specs.Prelude.{◌≡◌, Option, option_map, List, map, sum_by, All, IfSome}
+use Rattle.std.specs.Prelude.{◌≡◌, Option, option_map, List, map, sum_by}
 use Rattle.std.specs.List.{flat_map}
-use Rattle.ra_condition.specs.Spelled.{IsTrigger}
 use Rattle.ra_indirect.specs.declared.node.Node.{Node}
 use Rattle.ra_richpresence.specs.Contents.{LineContents, ScriptContents}
-use Rattle.ra_richpresence.specs.Spelled.{IsPiece}
 use Rattle.ra_set.specs.Limits.{line_conditions, script_conditions}
 use Rattle.ra_member.specs.declared.member.Member.{Member}
 use Rattle.ra_member.specs.Members.{no_member}
 use Rattle.ra_member.specs.MemberRuns.{kept_by}
 use Rattle.ra_member.specs.Plans.{GrowsWithin}
 use Rattle.ra_display.specs.declared.presence_run.PresenceRun.{PresenceRun}
-use Rattle.ra_display.specs.LineMembers.{line_member, trees_in_line, lines_in, presence_shape}
+use Rattle.ra_meaning.specs.LineMembers.{line_member, trees_in_line, lines_in, presence_shape}
 use Rattle.ra_progress.specs.Contents.{plain_presence}
 use Rattle.ra_display.specs.PresenceRuns.{IsLineRun, AreLineRuns, IsOptionalPresence, optional_presence_kept}
-
--- a line of a display that some text spells
-pub record IsShownLine (line : LineContents) : Type 0 where
-  pub test : IfSome line.test IsTrigger
-  pub pieces : All IsPiece line.pieces
 
 -- a line has its plans over the pool, and keeps nothing yet
 pub record IsNewLine (old new : List Node) (line : LineContents) (run : Member) : Type 0 where

@@ -12,8 +12,8 @@ use Rattle.ra_member.specs.Members.{tests_hold, member_next}
 use Rattle.ra_member.specs.MemberRuns.{IsMember, kept_by}
 use Rattle.ra_member.specs.Runs.{HasValues}
 use Rattle.ra_display.specs.declared.presence_run.PresenceRun.{PresenceRun}
-use Rattle.ra_display.specs.LineMembers.{tests_in, line_member}
-use Rattle.ra_display.specs.Presence.{DisplayKept, line_holds, kept_display, presence_after}
+use Rattle.ra_meaning.specs.LineMembers.{tests_in, line_member}
+use Rattle.ra_meaning.specs.Presence.{DisplayKept, line_holds, kept_display, presence_after}
 
 -- a line of a display with its plans
 abbrev pub IsLineRun : List Node → LineContents → Member → Type 0

@@ -3,8 +3,8 @@ use Rattle.std.specs.Prelude.{ℕ, ◌<◌, Option, Some, List, [], ◌∷◌, l
 use Rattle.ra_richpresence.specs.Contents.{ScriptContents}
 use Rattle.ra_value_format.specs.Formats.{HasDigits}
 use Rattle.ra_display.specs.declared.presence_run.PresenceRun.{PresenceRun}
-use Rattle.ra_display.specs.LineOf.{line_of}
-use Rattle.ra_display.specs.Presence.{display_text}
+use Rattle.ra_meaning.specs.LineOf.{line_of}
+use Rattle.ra_meaning.specs.Presence.{display_text}
 use Rattle.ra_display.specs.PresenceRuns.{display_kept}
 
 -- the line that a display shows, with the count of frames

@@ -6,7 +6,7 @@ ghost use Rattle.ra_condition.specs.Contents.{group_contents, trigger_contents};
 ghost use Rattle.ra_richpresence.specs.Contents.{line_contents, piece_contents, script_contents, value_in};
 ghost use Rattle.ra_set.specs.Limits.{line_conditions, optional_trigger, script_conditions};
 ghost use Rattle.ra_set.specs.Spelled.{OptionalScript};
-ghost use Rattle.ra_display.specs.NewPresence.{IsShownLine};
+ghost use Rattle.ra_meaning.specs.ShownLines.{IsShownLine};
 ghost use Rattle.ra_display.specs.Counted.{IsBare, CountsLine, CountsLines, CountsPresence};
 
 use crate::line_run::new_line;

@@ -7,7 +7,7 @@ ghost use Rattle.ra_member.specs.Members.{HasShape};
 ghost use Rattle.ra_member.specs.MemberRuns.{kept_by};
 ghost use Rattle.ra_resting.specs.Before.{kept_before};
 ghost use Rattle.ra_resting.specs.Owing.{TestsKeep, ValuesKeep};
-ghost use Rattle.ra_display.specs.LineMembers.{line_member, tests_in};
+ghost use Rattle.ra_meaning.specs.LineMembers.{line_member, tests_in};
 ghost use Rattle.ra_display.specs.LineRests.{AreValuesShaped, HasLineRoom, LineKeeps};
 
 use ra_member::Member;

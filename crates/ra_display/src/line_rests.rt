@@ -6,7 +6,7 @@ ghost use Rattle.ra_richpresence.specs.Contents.{LineContents, line_contents};
 ghost use Rattle.ra_member.specs.MemberRuns.{StaysMember, kept_by};
 ghost use Rattle.ra_resting.specs.Before.{HaveOneShape, kept_before};
 ghost use Rattle.ra_resting.specs.Waking.{IsSomeFrame};
-ghost use Rattle.ra_display.specs.Presence.{first_true};
+ghost use Rattle.ra_meaning.specs.Presence.{first_true};
 ghost use Rattle.ra_display.specs.PresenceRuns.{AreLineRuns, IsLineRun};
 ghost use Rattle.ra_display.specs.LineRests.{AreLineRests, AreLinesSeen, HasLinePlace, HasLineRoom, IsLineSteppedAt, LineKeeps, StepsNoted, WereLineRests, AreLinesForgotten, line_since, seen_line, seen_lines};
 

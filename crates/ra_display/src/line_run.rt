@@ -13,8 +13,9 @@ ghost use Rattle.ra_member.specs.Beside.{AreBeside};
 ghost use Rattle.ra_member.specs.Members.{MemberContents};
 ghost use Rattle.ra_member.specs.MemberRuns.{IsNewMember, StepsValues};
 ghost use Rattle.ra_member.specs.Runs.{IsValueRun};
-ghost use Rattle.ra_display.specs.LineMembers.{tests_in};
-ghost use Rattle.ra_display.specs.NewPresence.{IsShownLine, IsNewLine};
+ghost use Rattle.ra_meaning.specs.LineMembers.{tests_in};
+ghost use Rattle.ra_display.specs.NewPresence.{IsNewLine};
+ghost use Rattle.ra_meaning.specs.ShownLines.{IsShownLine};
 ghost use Rattle.ra_display.specs.PresenceRuns.{IsLineRun, StepsLine};
 
 use ra_condition::TriggerText;

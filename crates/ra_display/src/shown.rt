@@ -6,7 +6,7 @@ ghost use Rattle.std.specs.Result.{OnOk};
 ghost use Rattle.ra_richpresence.specs.Contents.{script_contents};
 ghost use Rattle.ra_value_format.specs.Formats.{HasDigits};
 ghost use Rattle.ra_member.specs.MemberRuns.{kept_by};
-ghost use Rattle.ra_display.specs.Presence.{line_numbers};
+ghost use Rattle.ra_meaning.specs.Presence.{line_numbers};
 ghost use Rattle.ra_display.specs.Showing as spec;
 ghost use Rattle.ra_display.specs.Showing.{MayShow, optional_text};
 

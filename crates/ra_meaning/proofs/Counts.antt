@@ -5,3 +5,4 @@ pub mod Items
 pub mod Masks
 pub mod SmallShape
 pub mod Trees
+pub mod Lines

@@ -1,3 +1,4 @@
 -- The law of cuts.
 pub mod Items
 pub mod Law
+pub mod Presence

@@ -2,3 +2,4 @@
 pub mod Scripts
 pub mod Sets
 pub mod Trees
+pub mod Lines

@@ -14,7 +14,7 @@ use Rattle.ra_meaning.specs.BoardLaws.{IsByFields}
 use Rattle.ra_meaning.specs.Boards.{BoardKept}
 use Rattle.ra_meaning.specs.Histories.{achievement_after, test_hits, value_after}
 use Rattle.ra_meaning.specs.Order.{line_member}
-use Rattle.ra_display.specs.Presence.{DisplayKept}
+use Rattle.ra_meaning.specs.Presence.{DisplayKept}
 use Rattle.ra_meaning.specs.PresenceLaws.{kept_line, line_after, IsByLines}
 
 -- achievements, triggers without states, values and display lines after a history are what their steps keep, one frame after the other, and so are boards, field by field, and displays, line by line

@@ -15,3 +15,7 @@ pub mod PresenceLaws
 pub mod Runtime
 pub mod Saving
 pub mod Changed
+pub mod LineMembers
+pub mod LineOf
+pub mod Presence
+pub mod ShownLines

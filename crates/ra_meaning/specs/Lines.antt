@@ -5,7 +5,7 @@ use Rattle.std.specs.List.{flat_map}
 use Rattle.ra_value_format.specs.Formats.{formatted, HasDigits}
 use Rattle.ra_meaning.specs.declared.event.Event.{Event}
 use Rattle.ra_meaning.specs.declared.event.Event.TheVariants.{Measured, Primed, Unprimed, Unlock, Start, Track, Cancel, Submit}
-pub use Rattle.ra_display.specs.LineOf.{line_of}
+pub use Rattle.ra_meaning.specs.LineOf.{line_of}
 
 -- the line of an event at the frame of this number
 abbrev pub event_line : (frame : ℕ) → Event → List ℕ

@@ -12,7 +12,7 @@ use Rattle.ra_meaning.specs.Earned.{is_earned}
 use Rattle.ra_meaning.specs.Order.{set_cells, set_tracked, shape_of}
 use Rattle.ra_meaning.specs.Histories.{achievement_after}
 use Rattle.ra_meaning.specs.Boards.{board_after, opened_board, kept_board}
-use Rattle.ra_display.specs.Presence.{presence_after}
+use Rattle.ra_meaning.specs.Presence.{presence_after}
 
 -- the number beside a cell, of cells and numbers in the same order; 0 for a cell that is not among them
 abbrev pub number_beside : List Cell → List ℕ → Cell → ℕ

@@ -11,7 +11,7 @@ use Rattle.ra_progress.specs.declared.shape.ItemShape.TheVariants as shapes
 use Rattle.ra_memref.specs.Names.{cell_name, tracked_name}
 use Rattle.ra_progress.specs.Contents.{ShapeContents}
 use Rattle.ra_member.specs.Members.{MemberContents, trees_in_member, member_hits, member_numbers}
-pub use Rattle.ra_display.specs.LineMembers.{tests_in, line_member, script_members, trees_in_line, lines_in, presence_shape}
+pub use Rattle.ra_meaning.specs.LineMembers.{tests_in, line_member, script_members, trees_in_line, lines_in, presence_shape}
 
 -- the progress of a board, which is one value or none
 abbrev pub progress_in : Option (List PartContents) → List (List PartContents)

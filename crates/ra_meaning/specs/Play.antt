@@ -11,7 +11,7 @@ use Rattle.ra_trigger.specs.States.{is_triggered}
 use Rattle.ra_meaning.specs.Earned.{Earned, both_earned, with_earned}
 use Rattle.ra_meaning.specs.Histories.{achievement_after}
 use Rattle.ra_meaning.specs.Boards.{board_after, opened_board}
-use Rattle.ra_display.specs.Presence.{presence_text}
+use Rattle.ra_meaning.specs.Presence.{presence_text}
 use Rattle.ra_meaning.specs.declared.event.Event.{Event}
 use Rattle.ra_meaning.specs.Events.{achievement_events, board_events}
 use Rattle.ra_meaning.specs.Lines.{line_of, event_lines}

@@ -9,7 +9,7 @@ use Rattle.ra_value.specs.Steps.{ValueKept}
 use Rattle.ra_member.specs.Members.{MemberKept, HaveShapes}
 use Rattle.ra_meaning.specs.Order.{script_members}
 use Rattle.ra_meaning.specs.Histories.{test_hits, test_truth, value_after}
-use Rattle.ra_display.specs.Presence.{DisplayKept, first_true, display_after}
+use Rattle.ra_meaning.specs.Presence.{DisplayKept, first_true, display_after}
 
 -- what is kept of a line between frames: the hits of its test, and its macros' values
 pub record LineKept : Type 0 where

@@ -16,7 +16,7 @@ use Rattle.ra_items.specs.Shapes.{run_shape, IsSmall}
 use Rattle.ra_display.specs.PresenceShapes.{optional_run_shape, IsSmallPresence}
 use Rattle.ra_runtime.specs.Laid.{IsLaidOut}
 use Rattle.ra_set.specs.Spelled.{OptionalScript, IsSpelled}
-use Rattle.ra_display.proofs.NewLines.{shown_lines}
+use Rattle.ra_meaning.proofs.Spelled.Lines.{shown_lines}
 use Rattle.ra_display.proofs.ShownLines.{lines_fit_runs}
 use Rattle.ra_meaning.proofs.Counts.Items.{lines_within}
 use Rattle.ra_items.proofs.ShapeLemmas.{runs_shaped, items_small}

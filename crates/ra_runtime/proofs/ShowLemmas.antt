@@ -11,13 +11,13 @@ use Rattle.ra_meaning.specs.Lines.{line_of}
 use Rattle.ra_meaning.specs.Order.{presence_shape}
 use Rattle.ra_meaning.specs.Openings.{optional_presence}
 use Rattle.ra_meaning.specs.Play.{shown_by}
-use Rattle.ra_display.specs.Presence.{DisplayKept, display_after, opened_display, display_text, presence_after}
+use Rattle.ra_meaning.specs.Presence.{DisplayKept, display_after, opened_display, display_text, presence_after}
 use Rattle.ra_display.specs.declared.line_rests.LineRests.{LineRests}
 use Rattle.ra_display.specs.LineRests.{AreLineRests, AreOptionalRests, display_seen, optional_presence_seen, presence_seen}
 use Rattle.ra_display.specs.PresenceRuns.{IsPresenceRun, IsOptionalPresence}
 use Rattle.ra_display.specs.Showing.{MayShow, shown_text, optional_text}
 use Rattle.ra_meaning.proofs.Openings.Fits.{script_fits}
-use Rattle.ra_display.proofs.PresenceCuts.{DisplayFits, display_again, display_fits}
+use Rattle.ra_meaning.proofs.Cuts.Presence.{DisplayFits, display_again, display_fits}
 use Rattle.ra_display.proofs.SeenLines.{lines_fitting, lines_shaped, text_seen}
 
 -- a display of a script that some text spells shows one of its lines

@@ -16,7 +16,7 @@ use Rattle.ra_member.specs.Members.{MemberContents, trees_in_member, member_cond
 use Rattle.ra_member.proofs.Listed.{In, In_of_firsts}
 use Rattle.ra_meaning.specs.Order.{board_member, line_member, trees_in_item, trees_in_line, lines_in, trees_in_set, set_cells, set_tracked}
 use Rattle.ra_meaning.proofs.Openings.Beside.{AreApart, apart_firsts}
-use Rattle.ra_display.proofs.NewLines.{test_conditions}
+use Rattle.ra_meaning.proofs.Spelled.Lines.{test_conditions}
 use Rattle.ra_meaning.proofs.Counts.Trees.{Counts, Covered, covered_more, covered_both, covered_flat, group_covered, terms_covered}
 use Rattle.ra_meaning.proofs.Counts.Items.{board_conditions}
 

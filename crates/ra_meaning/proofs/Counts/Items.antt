@@ -11,8 +11,8 @@ use Rattle.ra_meaning.specs.Order.{board_member, progress_in, line_member}
 use Rattle.ra_condition.specs.Spelled.{IsValue}
 use Rattle.ra_leaderboard.specs.Spelled.{IsBoard}
 use Rattle.ra_richpresence.specs.Contents.{LineContents}
-use Rattle.ra_display.specs.NewPresence.{IsShownLine}
-use Rattle.ra_display.proofs.Counts.{hits_within, parts_within, line_few}
+use Rattle.ra_meaning.specs.ShownLines.{IsShownLine}
+use Rattle.ra_meaning.proofs.Counts.Lines.{hits_within, parts_within, line_few}
 
 -- a progress has the conditions that its parts have
 pub progress_conditions : (progress : Option (List PartContents)) → sum_by value_conditions (progress_in progress) ≡ optional_value progress

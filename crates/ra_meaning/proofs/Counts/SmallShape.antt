@@ -12,7 +12,7 @@ use Rattle.ra_set.specs.Limits.{item_conditions, script_conditions, IsWithinLimi
 use Rattle.ra_set.specs.Spelled.{IsItem, OptionalScript, IsSpelled}
 use Rattle.ra_memref.specs.Names.{cell_name, tracked_name}
 use Rattle.ra_meaning.specs.Order.{set_cells, set_tracked, item_shape, presence_shape, shape_of}
-use Rattle.ra_display.proofs.NewLines.{shown_lines}
+use Rattle.ra_meaning.proofs.Spelled.Lines.{shown_lines}
 use Rattle.ra_meaning.proofs.Counts.Items.{board_within, lines_within}
 
 -- an own entry for each item at most, and one for the script

@@ -16,7 +16,7 @@ use Rattle.ra_member.specs.Members.{trees_in_member}
 use Rattle.ra_meaning.specs.Order.{board_member, trees_in_item, trees_in_line, lines_in, item_shape, presence_shape, shape_of}
 use Rattle.ra_meaning.specs.Histories.{achievement_after}
 use Rattle.ra_meaning.specs.Boards.{BoardKept, board_after, opened_board, kept_board}
-use Rattle.ra_display.specs.Presence.{opened_display, kept_display, display_text}
+use Rattle.ra_meaning.specs.Presence.{opened_display, kept_display, display_text}
 use Rattle.ra_meaning.specs.Events.{achievement_events, board_events}
 use Rattle.ra_meaning.specs.Lines.{line_of, event_lines}
 use Rattle.ra_meaning.specs.Earned.{Earned, both_earned, is_earned}
@@ -29,7 +29,7 @@ use Rattle.ra_meaning.proofs.Cuts.Items.{goes_front, goes_behind, achievement_cu
 use Rattle.ra_meaning.proofs.Counts.Fitting.{BoardFits, board_fits}
 use Rattle.ra_meaning.proofs.Openings.Again.{achievement_again, board_again}
 use Rattle.ra_meaning.proofs.Openings.Fits.{opened_fits, script_fits}
-use Rattle.ra_display.proofs.PresenceCuts.{display_goes_on}
+use Rattle.ra_meaning.proofs.Cuts.Presence.{display_goes_on}
 use Rattle.ra_meaning.proofs.Openings.Covered.{tree_alike, cells_cut, priors_cut}
 
 -- what is triggered stays so

@@ -15,7 +15,7 @@ use Rattle.ra_member.proofs.SideBySide.{beside_length, zip_by}
 use Rattle.ra_meaning.specs.Order.{tests_in, line_member, script_members}
 use Rattle.ra_meaning.specs.FoldLaws.{AreFolds}
 use Rattle.ra_meaning.specs.Histories.{achievement_after, test_hits, value_after}
-use Rattle.ra_display.specs.Presence.{DisplayKept, line_holds, first_true, display_next, display_after}
+use Rattle.ra_meaning.specs.Presence.{DisplayKept, line_holds, first_true, display_next, display_after}
 use Rattle.ra_meaning.specs.PresenceLaws.{kept_line, line_after, line_test_hits, line_truth, shown_line}
 use Rattle.ra_meaning.proofs.Folded.Boards.{by_fields}
 

@@ -8,9 +8,9 @@ use Rattle.ra_progress.specs.Contents.{KeptItem, OfAchievement, OfBoard, KeptPre
 use Rattle.ra_member.proofs.Opened.{member_opened, members_opened}
 use Rattle.ra_meaning.specs.Order.{board_member, script_members, item_shape, presence_shape}
 use Rattle.ra_meaning.specs.Boards.{opened_board}
-use Rattle.ra_display.specs.Presence.{opened_display}
+use Rattle.ra_meaning.specs.Presence.{opened_display}
 use Rattle.ra_meaning.proofs.Counts.Fitting.{BoardFits}
-use Rattle.ra_display.proofs.PresenceCuts.{DisplayFits}
+use Rattle.ra_meaning.proofs.Cuts.Presence.{DisplayFits}
 
 pub opened_fits : (b : BoardContents) (id : ℕ) (format : Format) (kept : KeptItem) → ItemFits (item_shape (Ranks id format b)) kept → BoardFits b (opened_board b kept)
 opened_fits b id format (OfAchievement state measured hits earned) fits = absurd fits

@@ -8,10 +8,10 @@ use Rattle.ra_progress.specs.Contents.{KeptPresence, PresenceFits}
 use Rattle.ra_member.specs.Members.{MemberContents, MemberKept, HaveShapes, tests_hold, members_next, saved_hits, saved_numbers, opened_members, member_hits, member_numbers}
 use Rattle.ra_member.proofs.Opened.{members_long}
 use Rattle.ra_meaning.specs.Order.{line_member, script_members, presence_shape}
-use Rattle.ra_display.specs.Presence.{DisplayKept, line_holds, lines_hold, first_true, display_after, opened_display}
+use Rattle.ra_meaning.specs.Presence.{DisplayKept, line_holds, lines_hold, first_true, display_after, opened_display}
 use Rattle.ra_meaning.specs.Openings.{optional_presence}
 use Rattle.ra_meaning.proofs.Openings.Fits.{script_fits}
-use Rattle.ra_display.proofs.PresenceCuts.{DisplayFits, display_fits}
+use Rattle.ra_meaning.proofs.Cuts.Presence.{DisplayFits, display_fits}
 use Rattle.ra_meaning.proofs.Each.{each_append, each_take, each_drop, each_map_of}
 use Rattle.ra_meaning.proofs.Words.Trees.{IsWord, AreStartWords}
 use Rattle.ra_meaning.proofs.Words.Groups.{AreAllWords}

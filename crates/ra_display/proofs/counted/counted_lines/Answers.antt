@@ -1,7 +1,7 @@
 use Rattle.std.proofs.Common.{◌≡◌, ◌+◌, ◌++◌, ◌∷◌, [], map, take, arith}
 use Rattle.ra_richpresence.specs.Contents.{line_contents}
 use Rattle.ra_set.specs.Limits.{line_conditions}
-use Rattle.ra_display.specs.NewPresence.{IsShownLine}
+use Rattle.ra_meaning.specs.ShownLines.{IsShownLine}
 use Rattle.ra_member.proofs.GrowthLemmas.{taken_next, holds_at, weight_at}
 use Rattle.ra_display.proofs.Counts.{counts_more, no_lines}
 use Rattle.ra_display.proofs.counted.counted_lines.Goals as goal

@@ -8,8 +8,9 @@ use Rattle.ra_richpresence.specs.Spelled.{IsPiece}
 use Rattle.ra_set.specs.Limits.{optional_value}
 use Rattle.ra_member.specs.MemberRuns.{IsNewMember}
 use Rattle.ra_member.proofs.GrowthLemmas.{taken_next, holds_at, weight_at}
-use Rattle.ra_display.specs.LineMembers.{tests_in}
-use Rattle.ra_display.proofs.NewLines.{line_made, macro_conditions, test_conditions}
+use Rattle.ra_meaning.specs.LineMembers.{tests_in}
+use Rattle.ra_display.proofs.NewLines.{line_made, macro_conditions}
+use Rattle.ra_meaning.proofs.Spelled.Lines.{test_conditions}
 use Rattle.ra_display.proofs.line_run.new_line.Goals as goal
 
 pub put_piece-requires-clause-spelled : goal.put_piece-requires-clause-spelled

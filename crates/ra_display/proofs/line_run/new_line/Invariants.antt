@@ -3,7 +3,7 @@ use Rattle.std.specs.List.{filter_map}
 use Rattle.ra_condition.specs.Contents.{trigger_contents}
 use Rattle.ra_richpresence.specs.Contents.{piece_contents, value_in}
 use Rattle.ra_member.specs.MemberRuns.{IsNewMember}
-use Rattle.ra_display.specs.LineMembers.{tests_in}
+use Rattle.ra_meaning.specs.LineMembers.{tests_in}
 use Rattle.ra_display.proofs.line_run.new_line.Given as goal
 
 abbrev pub invariant-loop-piece : goal.invariant-loop-piece

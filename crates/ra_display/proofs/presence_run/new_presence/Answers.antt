@@ -3,8 +3,10 @@ use Rattle.std.proofs.lemmas.List.{length-map}
 use Rattle.ra_richpresence.specs.declared.line.Line.{Line}
 use Rattle.ra_richpresence.specs.Contents.{line_contents, script_contents}
 use Rattle.ra_display.specs.declared.presence_run.PresenceRun.{PresenceRun}
-use Rattle.ra_display.specs.NewPresence.{IsShownLine, AreNewLines}
-use Rattle.ra_display.proofs.NewLines.{shown_lines, presence_made}
+use Rattle.ra_display.specs.NewPresence.{AreNewLines}
+use Rattle.ra_meaning.specs.ShownLines.{IsShownLine}
+use Rattle.ra_display.proofs.NewLines.{presence_made}
+use Rattle.ra_meaning.proofs.Spelled.Lines.{shown_lines}
 use Rattle.ra_display.proofs.presence_run.new_presence.Goals as goal
 
 pub new_lines-requires-clause-spelled : goal.new_lines-requires-clause-spelled

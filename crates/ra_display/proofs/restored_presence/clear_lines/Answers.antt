@@ -5,7 +5,7 @@ use Rattle.ra_member.specs.MemberRuns.{kept_by}
 use Rattle.ra_member.proofs.PutBackLemmas.{mapped_next, rest_next}
 use Rattle.ra_member.proofs.SideBySide.{beside_set}
 use Rattle.ra_display.specs.PresenceRuns.{IsLineRun}
-use Rattle.ra_display.specs.LineMembers.{line_member}
+use Rattle.ra_meaning.specs.LineMembers.{line_member}
 use Rattle.ra_display.proofs.restored_presence.clear_lines.Goals as goal
 
 pub loop-place-preserved : goal.loop-place-preserved

@@ -5,7 +5,7 @@ use Rattle.ra_member.specs.MemberRuns.{kept_by}
 use Rattle.ra_member.proofs.PutBackLemmas.{within_bytes, row_next, row_ends, rest_next}
 use Rattle.ra_member.proofs.SideBySide.{beside_set}
 use Rattle.ra_display.specs.PresenceRuns.{IsLineRun}
-use Rattle.ra_display.specs.LineMembers.{line_member}
+use Rattle.ra_meaning.specs.LineMembers.{line_member}
 use Rattle.ra_display.proofs.restored_presence.put_back_lines.Goals as goal
 
 pub put_back-at-requires-clause-hits : goal.put_back-at-requires-clause-hits

@@ -4,7 +4,7 @@ use Rattle.std.proofs.lemmas.List.{take_all}
 use Rattle.std.proofs.lemmas.List.Folds.{flat_map-map}
 use Rattle.ra_member.specs.declared.member.Member.{Member}
 use Rattle.ra_member.specs.MemberRuns.{kept_by}
-use Rattle.ra_display.specs.Presence.{line_numbers}
+use Rattle.ra_meaning.specs.Presence.{line_numbers}
 use Rattle.ra_display.proofs.shown.numbers_of.Goals as goal
 
 pub returns : goal.returns

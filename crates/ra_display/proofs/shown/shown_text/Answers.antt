@@ -1,7 +1,7 @@
 use Rattle.std.proofs.Common.{◌∷◌, [], ◌++◌, ◌∙◌, ap, codes, decimal}
 use Rattle.ra_richpresence.specs.Contents.{script_contents}
 use Rattle.ra_richpresence.specs.Lines.{line_text}
-use Rattle.ra_display.specs.Presence.{display_text}
+use Rattle.ra_meaning.specs.Presence.{display_text}
 use Rattle.ra_display.specs.PresenceRuns.{display_kept}
 use Rattle.ra_display.proofs.ShownWords.{shown_words}
 use Rattle.ra_display.proofs.shown.shown_text.Goals as goal

@@ -5,7 +5,7 @@ use Rattle.ra_member.specs.declared.member.Member.{Member}
 use Rattle.ra_resting.proofs.Below.{member_below}
 use Rattle.ra_resting.proofs.Turns.{element}
 use Rattle.ra_display.specs.declared.line_rests.LineRest.{LineRest}
-use Rattle.ra_display.specs.LineMembers.{line_member}
+use Rattle.ra_meaning.specs.LineMembers.{line_member}
 use Rattle.ra_display.specs.PresenceRuns.{IsLineRun}
 use Rattle.ra_display.proofs.LineSteps.{length_runs, run_at}
 use Rattle.ra_display.proofs.NewRests.{AreLinesMade, all_made, awake_kept, made_next}

@@ -13,8 +13,8 @@ use Rattle.ra_member.proofs.Folds.{after_keeps}
 use Rattle.ra_member.proofs.GoingOn.{GoesOn, fold_goes_on}
 use Rattle.ra_member.proofs.Opened.{members_again}
 use Rattle.ra_member.proofs.Shaped.{members_fit}
-use Rattle.ra_display.specs.LineMembers.{line_member, script_members, trees_in_line}
-use Rattle.ra_display.specs.Presence.{DisplayKept, line_holds, lines_hold, first_true, display_next, display_after, opened_display, kept_display}
+use Rattle.ra_meaning.specs.LineMembers.{line_member, script_members, trees_in_line}
+use Rattle.ra_meaning.specs.Presence.{DisplayKept, line_holds, lines_hold, first_true, display_next, display_after, opened_display, kept_display}
 
 -- what is kept of a display has the counts of its script
 abbrev pub DisplayFits : ScriptContents → DisplayKept → Type 0

@@ -9,7 +9,7 @@ use Rattle.ra_value.specs.Steps.{signed_greatest}
 use Rattle.ra_progress.specs.Contents.{KeptPresence}
 use Rattle.ra_member.specs.Folds.{after}
 use Rattle.ra_member.specs.Members.{MemberContents, MemberKept, tests_hold, members_next, saved_hits, saved_numbers, opened_members}
-use Rattle.ra_display.specs.LineMembers.{script_members}
+use Rattle.ra_meaning.specs.LineMembers.{script_members}
 
 -- what is kept of a display between frames: the shown line, and what the tests and values of each line keep
 pub record DisplayKept : Type 0 where
