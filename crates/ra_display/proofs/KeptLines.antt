@@ -9,10 +9,10 @@ use Rattle.ra_richpresence.specs.declared.piece.Piece.{Piece}
 use Rattle.ra_richpresence.specs.Contents.{piece_contents, value_in}
 use Rattle.ra_member.specs.declared.value_run.ValueRun.{ValueRun}
 use Rattle.ra_member.proofs.GrowthLemmas.{taken_next, dropped_next}
-use Rattle.ra_resting.specs.declared.before.ValueBefore.{ValueBefore}
-use Rattle.ra_resting.specs.Before.{value_before}
-use Rattle.ra_resting.specs.Owing.{ValueKeeps, ValuesKeep}
-use Rattle.ra_resting.proofs.GoesOn.{heads, tails}
+use Rattle.ra_schedule.specs.declared.before.ValueBefore.{ValueBefore}
+use Rattle.ra_schedule.specs.Before.{value_before}
+use Rattle.ra_schedule.specs.Owing.{ValueKeeps, ValuesKeep}
+use Rattle.ra_schedule.proofs.MembersRest.GoesOn.{heads, tails}
 use Rattle.ra_display.specs.LineRests.{AreValuesShaped}
 use Rattle.ra_display.proofs.SteppedLines.{macros_in}
 

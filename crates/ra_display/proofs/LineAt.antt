@@ -7,7 +7,7 @@ use Rattle.ra_richpresence.specs.declared.line.Line.{Line}
 use Rattle.ra_richpresence.specs.Contents.{LineContents, line_contents}
 use Rattle.ra_member.specs.declared.member.Member.{Member}
 use Rattle.ra_member.specs.MemberRuns.{kept_by}
-use Rattle.ra_resting.specs.Before.{kept_before}
+use Rattle.ra_schedule.specs.Before.{kept_before}
 use Rattle.ra_display.specs.declared.line_rests.LineRest.{LineRest}
 use Rattle.ra_display.specs.declared.line_rests.LineRests.{LineRests}
 use Rattle.ra_display.specs.LineRests.{HasLineRoom, IsLineSteppedAt, LineKeeps, StepsNoted, seen_line}

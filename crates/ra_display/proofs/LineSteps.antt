@@ -5,16 +5,16 @@ use Rattle.std.proofs.lemmas.List.{get_or-set_same, get_or-set_other, length-set
 use Rattle.ra_indirect.specs.declared.node.Node.{Node}
 use Rattle.ra_memref.specs.Flags.{NoneSet, IsFirstSet}
 use Rattle.ra_memref.specs.Table.{TableSeen, IsListed}
-use Rattle.ra_readers.specs.Readers.{ReadersSeen, Reads}
+use Rattle.ra_schedule.specs.Readers.{ReadersSeen, Reads}
 use Rattle.ra_richpresence.specs.Contents.{LineContents}
 use Rattle.ra_member.specs.declared.member.Member.{Member}
 use Rattle.ra_member.specs.Members.{MemberContents, MemberKept, member_next, tests_hold}
 use Rattle.ra_member.specs.MemberRuns.{kept_by}
 use Rattle.ra_member.proofs.SideBySide.{beside_length}
-use Rattle.ra_resting.specs.Before.{kept_before}
-use Rattle.ra_resting.specs.Owing.{owed_member}
-use Rattle.ra_resting.specs.Waking.{IsMemberTold, IsSomeFrame}
-use Rattle.ra_resting.proofs.Turns.{AreTaken, element, taken_begins, taken_ends, taken_on}
+use Rattle.ra_schedule.specs.Before.{kept_before}
+use Rattle.ra_schedule.specs.Owing.{owed_member}
+use Rattle.ra_schedule.specs.Waking.{IsMemberTold, IsSomeFrame}
+use Rattle.ra_schedule.proofs.MembersRest.Turns.{AreTaken, element, taken_begins, taken_ends, taken_on}
 use Rattle.ra_display.specs.declared.line_rests.LineRest.{LineRest}
 use Rattle.ra_display.specs.declared.line_rests.LineRests.{LineRests}
 use Rattle.ra_meaning.specs.LineMembers.{line_member, tests_in}

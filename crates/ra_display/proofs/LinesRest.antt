@@ -3,18 +3,18 @@ use Rattle.std.proofs.Common.{false, ◌≡◌, ℕ, ◌+◌, ◌-◌, ◌≤◌
 use Rattle.ra_memory.specs.Image.{History}
 use Rattle.ra_memref.specs.Table.{TableSeen}
 use Rattle.ra_memref.specs.Values.{Start}
-use Rattle.ra_readers.specs.Readers.{ReadersSeen, Reads}
+use Rattle.ra_schedule.specs.Readers.{ReadersSeen, Reads}
 use Rattle.ra_richpresence.specs.Contents.{LineContents}
 use Rattle.ra_member.specs.declared.member.Member.{Member}
 use Rattle.ra_member.specs.Members.{MemberContents, MemberKept, member_next, tests_hold, tests_next, values_next}
 use Rattle.ra_member.specs.MemberRuns.{kept_by}
-use Rattle.ra_resting.specs.declared.before.Before.{Before}
-use Rattle.ra_resting.specs.Before.{kept_before}
-use Rattle.ra_resting.specs.Inputs.{MemberSeesSame}
-use Rattle.ra_resting.specs.Owing.{AreHitsSmall, owed_member}
-use Rattle.ra_resting.specs.Waking.{AreValuesAt, IsMemberTold, IsSomeFrame, first_frame}
-use Rattle.ra_resting.proofs.GoesOn.{tests_go_on, tests_say_on, values_go_on, tests_owe_nothing, values_owe_nothing}
-use Rattle.ra_resting.proofs.Woken.{member_through}
+use Rattle.ra_schedule.specs.declared.before.Before.{Before}
+use Rattle.ra_schedule.specs.Before.{kept_before}
+use Rattle.ra_schedule.specs.Inputs.{MemberSeesSame}
+use Rattle.ra_schedule.specs.Owing.{AreHitsSmall, owed_member}
+use Rattle.ra_schedule.specs.Waking.{AreValuesAt, IsMemberTold, IsSomeFrame, first_frame}
+use Rattle.ra_schedule.proofs.MembersRest.GoesOn.{tests_go_on, tests_say_on, values_go_on, tests_owe_nothing, values_owe_nothing}
+use Rattle.ra_schedule.proofs.MembersRest.Woken.{member_through}
 use Rattle.ra_meaning.specs.LineMembers.{line_member}
 use Rattle.ra_display.specs.LineRests.{HasLineRoom, LineGoesOn, LineKeeps, StepsLineSeen, StepsNoted}
 use Rattle.ra_meaning.specs.Presence.{line_holds}

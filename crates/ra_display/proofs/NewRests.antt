@@ -5,16 +5,16 @@ use Rattle.std.proofs.lemmas.Bool.{cases_lt}
 use Rattle.std.proofs.lemmas.List.{get_or_append_left, get_or_default, get_or-replicate, get_or-set_same, get_or-set_other, length-replicate, length-set}
 use Rattle.std.proofs.Math.Seq.{get_or-append_seam}
 use Rattle.ra_indirect.specs.declared.node.Node.{Node}
-use Rattle.ra_readers.specs.Readers.{ReadersSeen, Reads}
+use Rattle.ra_schedule.specs.Readers.{ReadersSeen, Reads}
 use Rattle.ra_richpresence.specs.Contents.{LineContents}
 use Rattle.ra_member.specs.declared.member.Member.{Member}
 use Rattle.ra_member.specs.Members.{HasShape}
 use Rattle.ra_member.specs.MemberRuns.{kept_by}
 use Rattle.ra_member.proofs.Shaped.{member_shape}
-use Rattle.ra_resting.specs.Before.{kept_before}
-use Rattle.ra_resting.specs.Reads.{IsAllRead, reads_of_member}
-use Rattle.ra_resting.proofs.SeesSame.{member_sees}
-use Rattle.ra_resting.proofs.Turns.{element}
+use Rattle.ra_schedule.specs.Before.{kept_before}
+use Rattle.ra_schedule.specs.Reads.{IsAllRead, reads_of_member}
+use Rattle.ra_schedule.proofs.MembersRest.SeesSame.{member_sees}
+use Rattle.ra_schedule.proofs.MembersRest.Turns.{element}
 use Rattle.ra_display.specs.declared.line_rests.LineRest.{LineRest}
 use Rattle.ra_display.specs.declared.line_rests.LineRests.{LineRests}
 use Rattle.ra_meaning.specs.LineMembers.{line_member}

@@ -6,14 +6,14 @@ use Rattle.std.proofs.lemmas.List.Concat.{concat_is, flat_map-append}
 use Rattle.std.proofs.lemmas.List.Folds.{flat_map-map}
 use Rattle.ra_progress.specs.Contents.{Name}
 use Rattle.ra_progress.specs.Spelling.{named_blocks}
-use Rattle.ra_rest.proofs.Owed.{length-paid}
+use Rattle.ra_schedule.proofs.Resting.Owed.{length-paid}
 use Rattle.ra_member.specs.declared.member.Member.{Member}
 use Rattle.ra_member.specs.Members.{MemberKept, saved_hits, saved_numbers}
 use Rattle.ra_member.specs.MemberRuns.{FitWords, PutsBehind, kept_by}
 use Rattle.ra_member.proofs.SavedRows.{behind_both}
-use Rattle.ra_resting.specs.declared.before.Before.{Before}
-use Rattle.ra_resting.specs.Before.{HaveOneShape, kept_before}
-use Rattle.ra_resting.proofs.OwedRows.{saved_owed, saved_stay}
+use Rattle.ra_schedule.specs.declared.before.Before.{Before}
+use Rattle.ra_schedule.specs.Before.{HaveOneShape, kept_before}
+use Rattle.ra_schedule.proofs.MembersRest.OwedRows.{saved_owed, saved_stay}
 use Rattle.ra_display.specs.declared.line_rests.LineRest.{LineRest}
 use Rattle.ra_display.specs.LineRests.{AreLinesFitting, line_since, seen_lines}
 

@@ -12,12 +12,12 @@ use Rattle.ra_member.specs.declared.member.Member.{Member}
 use Rattle.ra_member.specs.Members.{HasShape, HaveShapes}
 use Rattle.ra_member.specs.MemberRuns.{kept_by}
 use Rattle.ra_member.proofs.Shaped.{member_shape}
-use Rattle.ra_resting.specs.declared.before.Before.{Before}
-use Rattle.ra_resting.specs.Before.{HaveOneShape, kept_before}
-use Rattle.ra_resting.specs.Owing.{owed_values}
-use Rattle.ra_resting.specs.Waking.{AreChanged}
-use Rattle.ra_resting.proofs.GoesOn.{as_many, numbers_long, owed_fits}
-use Rattle.ra_resting.proofs.OwedRows.{one_shape_of}
+use Rattle.ra_schedule.specs.declared.before.Before.{Before}
+use Rattle.ra_schedule.specs.Before.{HaveOneShape, kept_before}
+use Rattle.ra_schedule.specs.Owing.{owed_values}
+use Rattle.ra_schedule.specs.Waking.{AreChanged}
+use Rattle.ra_schedule.proofs.MembersRest.GoesOn.{as_many, numbers_long, owed_fits}
+use Rattle.ra_schedule.proofs.MembersRest.OwedRows.{one_shape_of}
 use Rattle.ra_display.specs.declared.line_rests.LineRest.{LineRest}
 use Rattle.ra_display.specs.declared.line_rests.LineRests.{LineRests}
 use Rattle.ra_display.specs.declared.presence_run.PresenceRun.{PresenceRun}

@@ -11,11 +11,11 @@ use Rattle.ra_member.specs.declared.member.Member.{Member}
 use Rattle.ra_member.specs.Members.{MemberKept, HasShape, member_next, tests_hold}
 use Rattle.ra_member.specs.MemberRuns.{kept_by}
 use Rattle.ra_member.specs.Runs.{HasValues}
-use Rattle.ra_resting.specs.declared.before.Before.{Before}
-use Rattle.ra_resting.specs.Before.{HaveOneShape, kept_before}
-use Rattle.ra_resting.specs.Inputs.{Instant, MemberSeesSame}
-use Rattle.ra_resting.specs.Owing.{AreHitsSmall, TestsKeep, ValuesKeep, owed_member}
-use Rattle.ra_resting.specs.Waking.{AreChanged, AreValuesAt, IsMemberTold, first_frame}
+use Rattle.ra_schedule.specs.declared.before.Before.{Before}
+use Rattle.ra_schedule.specs.Before.{HaveOneShape, kept_before}
+use Rattle.ra_schedule.specs.Inputs.{Instant, MemberSeesSame}
+use Rattle.ra_schedule.specs.Owing.{AreHitsSmall, TestsKeep, ValuesKeep, owed_member}
+use Rattle.ra_schedule.specs.Waking.{AreChanged, AreValuesAt, IsMemberTold, first_frame}
 use Rattle.ra_display.specs.declared.line_rests.LineRest.{LineRest}
 use Rattle.ra_display.specs.declared.line_rests.LineRests.{LineRests}
 use Rattle.ra_display.specs.declared.presence_run.PresenceRun.{PresenceRun}

@@ -5,14 +5,14 @@ ghost use Rattle.std.specs.List.{filter_map};
 ghost use Rattle.ra_richpresence.specs.Contents.{line_contents, piece_contents, value_in};
 ghost use Rattle.ra_member.specs.Members.{HasShape};
 ghost use Rattle.ra_member.specs.MemberRuns.{kept_by};
-ghost use Rattle.ra_resting.specs.Before.{kept_before};
-ghost use Rattle.ra_resting.specs.Owing.{TestsKeep, ValuesKeep};
+ghost use Rattle.ra_schedule.specs.Before.{kept_before};
+ghost use Rattle.ra_schedule.specs.Owing.{TestsKeep, ValuesKeep};
 ghost use Rattle.ra_meaning.specs.LineMembers.{line_member, tests_in};
 ghost use Rattle.ra_display.specs.LineRests.{AreValuesShaped, HasLineRoom, LineKeeps};
 
 use ra_member::Member;
-use ra_resting::{Before, test_keeps, value_keeps};
 use ra_richpresence::{Line, Piece};
+use ra_schedule::{Before, test_keeps, value_keeps};
 
 // Whether a line kept all but free hits at its last frame.
 #[inline(never)]

@@ -4,8 +4,8 @@ ghost use Rattle.std.specs.Prelude.{◌≡◌, ◌≤◌, ◌<◌, ◌^◌, ℕ,
 ghost use Rattle.ra_indirect.specs.declared.node.Node.{Node};
 ghost use Rattle.ra_richpresence.specs.Contents.{LineContents, line_contents};
 ghost use Rattle.ra_member.specs.MemberRuns.{StaysMember, kept_by};
-ghost use Rattle.ra_resting.specs.Before.{HaveOneShape, kept_before};
-ghost use Rattle.ra_resting.specs.Waking.{IsSomeFrame};
+ghost use Rattle.ra_schedule.specs.Before.{HaveOneShape, kept_before};
+ghost use Rattle.ra_schedule.specs.Waking.{IsSomeFrame};
 ghost use Rattle.ra_meaning.specs.Presence.{first_true};
 ghost use Rattle.ra_display.specs.PresenceRuns.{AreLineRuns, IsLineRun};
 ghost use Rattle.ra_display.specs.LineRests.{AreLineRests, AreLinesSeen, HasLinePlace, HasLineRoom, IsLineSteppedAt, LineKeeps, StepsNoted, WereLineRests, AreLinesForgotten, line_since, seen_line, seen_lines};
@@ -14,9 +14,10 @@ use crate::line_keeps::line_keeps;
 use crate::line_run::step_line;
 use ra_member::Member;
 use ra_memref::{Flags, Table};
-use ra_readers::Readers;
-use ra_resting::{Before, is_looked_at, looks, many_changed, note_member, owed, pay_member, wake};
 use ra_richpresence::Line;
+use ra_schedule::{
+    Before, Readers, is_looked_at, looks, many_changed, note_member, owed, pay_member, wake,
+};
 use ra_text::OutOfMemory;
 use std::alloc::Global;
 

@@ -4,7 +4,7 @@ ghost use Rattle.ra_set.specs.Limits.{line_conditions, script_conditions};
 ghost use Rattle.ra_set.specs.Spelled.{OptionalScript};
 ghost use Rattle.ra_display.specs.NewPresence.{AreNewLines, IsNewPresence};
 ghost use Rattle.ra_meaning.specs.ShownLines.{IsShownLine};
-ghost use Rattle.ra_resting.specs.Waking.{IsSomeFrame};
+ghost use Rattle.ra_schedule.specs.Waking.{IsSomeFrame};
 ghost use Rattle.ra_display.specs.PresenceRuns.{IsOptionalPresence, IsPresenceRun, StepsOptional, StepsPresence, optional_presence_kept};
 ghost use Rattle.ra_display.specs.LineRests.{AreLineRests, AreOptionalRests, WereLineRests, WereOptionalRests, optional_presence_seen, presence_seen};
 

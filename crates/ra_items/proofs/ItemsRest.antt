@@ -15,15 +15,15 @@ use Rattle.ra_trigger.specs.Steps.{TriggerKept, step as achievement_step}
 use Rattle.ra_value.specs.Steps.{ValueKept, no_value, signed_greatest}
 use Rattle.ra_value_format.specs.declared.format.Format.{Format}
 use Rattle.ra_set.specs.Contents.{ItemContents, Unlocks, Ranks}
-use Rattle.ra_rest.specs.Triggers.{owed_trigger}
+use Rattle.ra_schedule.specs.Triggers.{owed_trigger}
 use Rattle.ra_progress.specs.Contents.{KeptItem, OfAchievement}
 use Rattle.ra_member.specs.Frames.{truths_at, lefts_at}
 use Rattle.ra_member.specs.Members.{MemberContents, MemberKept, HasShape, tests_next, tests_hold, values_next, no_values}
 use Rattle.ra_member.proofs.Shaped.{member_shape}
-use Rattle.ra_resting.specs.Inputs.{SeeSame, MemberSeesSame}
-use Rattle.ra_resting.specs.Owing.{ValuesKeep, owed_values}
-use Rattle.ra_resting.proofs.GoesOn.{tests_go_on, tests_say_on, values_go_on, tests_owe_nothing, values_owe_nothing, values_stay, numbers_long, owed_fits, as_many}
-use Rattle.ra_resting.proofs.OneOn.{achievement_goes_on, achievement_owes_nothing}
+use Rattle.ra_schedule.specs.Inputs.{SeeSame, MemberSeesSame}
+use Rattle.ra_schedule.specs.Owing.{ValuesKeep, owed_values}
+use Rattle.ra_schedule.proofs.MembersRest.GoesOn.{tests_go_on, tests_say_on, values_go_on, tests_owe_nothing, values_owe_nothing, values_stay, numbers_long, owed_fits, as_many}
+use Rattle.ra_schedule.proofs.MembersRest.OneOn.{achievement_goes_on, achievement_owes_nothing}
 use Rattle.ra_items.specs.declared.achievement_run.AchievementRun.{AchievementRun}
 use Rattle.ra_items.specs.declared.board_run.BoardRun.{BoardRun}
 use Rattle.ra_meaning.specs.declared.event.Event.{Event}

@@ -7,12 +7,12 @@ use Rattle.std.proofs.Math.Seq.{get_or-append_seam}
 use Rattle.ra_condition.specs.Contents.{groups_of}
 use Rattle.ra_indirect.specs.declared.node.Node.{Node}
 use Rattle.ra_memref.specs.Table.{TableSeen}
-use Rattle.ra_readers.specs.Readers.{ReadersSeen, Reads}
+use Rattle.ra_schedule.specs.Readers.{ReadersSeen, Reads}
 use Rattle.ra_set.specs.Contents.{ItemContents, Unlocks, Ranks}
-use Rattle.ra_resting.specs.Reads.{IsAllRead, reads_of_laid}
-use Rattle.ra_resting.proofs.Below.{Below, laid_below, member_below}
-use Rattle.ra_resting.proofs.Reading.{AreAll}
-use Rattle.ra_resting.proofs.SeesSame.{laid_sees, member_sees}
+use Rattle.ra_schedule.specs.Reads.{IsAllRead, reads_of_laid}
+use Rattle.ra_schedule.proofs.MembersRest.Below.{Below, laid_below, member_below}
+use Rattle.ra_schedule.proofs.MembersRest.Reading.{AreAll}
+use Rattle.ra_schedule.proofs.MembersRest.SeesSame.{laid_sees, member_sees}
 use Rattle.ra_items.specs.declared.item_run.ItemRun.{ItemRun}
 use Rattle.ra_items.specs.declared.item_run.ItemRun.TheVariants.{Achievement, Leaderboard}
 use Rattle.ra_items.specs.declared.rest.Rest.{Rest}
@@ -22,7 +22,7 @@ use Rattle.ra_items.specs.ItemRuns.{IsItemRun, kept_run}
 use Rattle.ra_meaning.specs.Order.{board_member}
 use Rattle.ra_items.specs.Resting.{FitsRun, HasRoom, IsToldOf, reads_of_run, seen_runs, seen_since}
 use Rattle.ra_items.specs.Rests.{AreForgotten, AreRests}
-use Rattle.ra_resting.proofs.Turns.{element}
+use Rattle.ra_schedule.proofs.MembersRest.Turns.{element}
 use Rattle.ra_items.proofs.RestSteps.{told_by_rows}
 use Rattle.ra_items.proofs.RunsLemmas.{length_runs, run_at}
 use Rattle.ra_items.proofs.SeenItems.{room_again}

@@ -4,13 +4,13 @@ use Rattle.ra_condition.specs.Contents.{TriggerContents, groups_of, PartContents
 use Rattle.ra_group.specs.declared.form.Form.TheVariants.{InTrigger}
 use Rattle.ra_indirect.specs.declared.node.Node.{Node}
 use Rattle.ra_set.specs.Contents.{ItemContents, Unlocks, Ranks}
-use Rattle.ra_rest.specs.Groups.{groups_keep}
+use Rattle.ra_schedule.specs.Groups.{groups_keep}
 use Rattle.ra_member.specs.declared.trigger_run.TriggerRun.{TriggerRun}
 use Rattle.ra_member.specs.declared.value_run.ValueRun.{ValueRun}
 use Rattle.ra_member.specs.MemberRuns.{StaysMember, kept_by}
-use Rattle.ra_resting.specs.declared.before.ValueBefore.{ValueBefore}
-use Rattle.ra_resting.specs.Before.{kept_before, value_before}
-use Rattle.ra_resting.specs.Owing.{TestsKeep, ValueKeeps, ValuesKeep}
+use Rattle.ra_schedule.specs.declared.before.ValueBefore.{ValueBefore}
+use Rattle.ra_schedule.specs.Before.{kept_before, value_before}
+use Rattle.ra_schedule.specs.Owing.{TestsKeep, ValueKeeps, ValuesKeep}
 use Rattle.ra_items.specs.declared.achievement_run.AchievementRun.{AchievementRun}
 use Rattle.ra_items.specs.declared.board_run.BoardRun.{BoardRun}
 use Rattle.ra_items.specs.declared.item_run.ItemRun.{ItemRun}
@@ -23,7 +23,7 @@ use Rattle.ra_meaning.specs.Openings.{kept_achievement}
 use Rattle.ra_meaning.specs.Order.{board_member}
 use Rattle.ra_items.specs.declared.rest.TriggerBefore.{TriggerBefore}
 use Rattle.ra_items.specs.Resting.{FitsRun, owed_run}
-use Rattle.ra_resting.proofs.AtMost.{member_at_most, paid_at_most}
+use Rattle.ra_schedule.proofs.MembersRest.AtMost.{member_at_most, paid_at_most}
 
 -- an achievement with other hits, as many of them
 pub achievement_stays : (old new : AchievementRun) → new.run.laid ≡ old.run.laid → length new.run.trigger.hits ≡ length old.run.trigger.hits

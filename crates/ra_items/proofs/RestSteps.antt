@@ -7,7 +7,7 @@ use Rattle.std.proofs.lemmas.List.Concat.{flat_map-append}
 use Rattle.ra_indirect.specs.declared.node.Node.{Node}
 use Rattle.ra_memref.specs.Flags.{NoneSet, IsFirstSet}
 use Rattle.ra_memref.specs.Table.{TableSeen, IsListed}
-use Rattle.ra_readers.specs.Readers.{ReadersSeen, Reads}
+use Rattle.ra_schedule.specs.Readers.{ReadersSeen, Reads}
 use Rattle.ra_set.specs.Contents.{ItemContents}
 use Rattle.ra_progress.specs.Contents.{KeptItem}
 use Rattle.ra_items.specs.declared.item_run.ItemRun.{ItemRun}
@@ -23,7 +23,7 @@ use Rattle.ra_meaning.specs.Openings.{item_after}
 use Rattle.ra_meaning.specs.Play.{item_events, unless_earned}
 use Rattle.ra_items.proofs.ItemsRest.{item_rests}
 use Rattle.ra_items.proofs.RunsLemmas.{length_runs}
-use Rattle.ra_resting.proofs.Turns.{element}
+use Rattle.ra_schedule.proofs.MembersRest.Turns.{element}
 use Rattle.ra_items.proofs.SkippedItems.{still_on, skipped}
 
 -- an item is told of the same where the rows of its readers are the same

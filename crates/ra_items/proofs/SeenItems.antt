@@ -2,10 +2,10 @@
 use Rattle.std.proofs.Common.{◌≡◌, ℕ, zero, suc, ◌-◌, ◌<◌, ◌≤◌, Option, None, Some, IfSome, List, [], ◌∷◌, length, map, zip, get_or, option_map, slice_get, refl, sym, ◌∙◌, ap, ap₂, arith}
 use Rattle.ra_indirect.specs.declared.node.Node.{Node}
 use Rattle.ra_set.specs.Contents.{ItemContents, Unlocks, Ranks}
-use Rattle.ra_rest.specs.Triggers.{owed_trigger}
+use Rattle.ra_schedule.specs.Triggers.{owed_trigger}
 use Rattle.ra_trigger.specs.Steps.{TriggerKept}
 use Rattle.ra_member.proofs.Shaped.{member_shape}
-use Rattle.ra_resting.proofs.GoesOn.{numbers_long, owed_fits}
+use Rattle.ra_schedule.proofs.MembersRest.GoesOn.{numbers_long, owed_fits}
 use Rattle.ra_items.specs.declared.item_run.ItemRun.{ItemRun}
 use Rattle.ra_items.specs.declared.item_run.ItemRun.TheVariants.{Achievement, Leaderboard}
 use Rattle.ra_items.specs.declared.item_state.ItemState.TheVariants as states

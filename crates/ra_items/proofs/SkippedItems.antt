@@ -2,10 +2,10 @@
 use Rattle.std.proofs.Common.{◌≡◌, ℕ, ◌+◌, ◌-◌, ◌≤◌, Bool, true, false, List, [], slice_index, refl, sym, ◌∙◌, ap, arith}
 use Rattle.ra_memref.specs.Table.{TableSeen}
 use Rattle.ra_memref.specs.Values.{Start}
-use Rattle.ra_readers.specs.Readers.{ReadersSeen, Reads}
+use Rattle.ra_schedule.specs.Readers.{ReadersSeen, Reads}
 use Rattle.ra_set.specs.Contents.{ItemContents, Unlocks, Ranks}
-use Rattle.ra_resting.proofs.Woken.{member_through, through}
-use Rattle.ra_resting.specs.Inputs.{Instant}
+use Rattle.ra_schedule.proofs.MembersRest.Woken.{member_through, through}
+use Rattle.ra_schedule.specs.Inputs.{Instant}
 use Rattle.ra_items.specs.declared.item_run.ItemRun.{ItemRun}
 use Rattle.ra_items.specs.declared.rest.ItemBefore.{ItemBefore}
 use Rattle.ra_meaning.specs.Earned.{is_earned}

@@ -9,17 +9,17 @@ use Rattle.ra_leaderboard.specs.Contents.{BoardContents}
 use Rattle.ra_leaderboard.specs.States.{is_running}
 use Rattle.ra_set.specs.Contents.{ItemContents, Unlocks, Ranks}
 use Rattle.ra_trigger.specs.Steps.{TriggerKept}
-use Rattle.ra_rest.specs.Groups.{groups_keep}
-use Rattle.ra_rest.specs.Triggers.{owed_trigger}
+use Rattle.ra_schedule.specs.Groups.{groups_keep}
+use Rattle.ra_schedule.specs.Triggers.{owed_trigger}
 use Rattle.ra_progress.specs.Contents.{KeptItem}
 use Rattle.ra_member.specs.Members.{HasShape}
 use Rattle.ra_member.specs.Runs.{HasValues}
 use Rattle.ra_member.specs.MemberRuns.{kept_by}
-use Rattle.ra_resting.specs.Before.{HaveOneShape, kept_before}
-use Rattle.ra_resting.specs.Inputs.{Instant, SeeSame, MemberSeesSame}
-use Rattle.ra_resting.specs.Reads.{reads_of_laid, reads_of_member}
-use Rattle.ra_resting.specs.Owing.{AreHitsSmall, AreSmall, TestsKeep, ValuesKeep, owed_member}
-use Rattle.ra_readers.specs.Readers.{ReadersSeen, Reads}
+use Rattle.ra_schedule.specs.Before.{HaveOneShape, kept_before}
+use Rattle.ra_schedule.specs.Inputs.{Instant, SeeSame, MemberSeesSame}
+use Rattle.ra_schedule.specs.Reads.{reads_of_laid, reads_of_member}
+use Rattle.ra_schedule.specs.Owing.{AreHitsSmall, AreSmall, TestsKeep, ValuesKeep, owed_member}
+use Rattle.ra_schedule.specs.Readers.{ReadersSeen, Reads}
 use Rattle.ra_meaning.specs.declared.event.Event.{Event}
 use Rattle.ra_items.specs.declared.item_run.ItemRun.{ItemRun}
 use Rattle.ra_items.specs.declared.item_run.ItemRun.TheVariants.{Achievement, Leaderboard}
@@ -36,7 +36,7 @@ use Rattle.ra_meaning.specs.Order.{board_member}
 use Rattle.ra_meaning.specs.Earned.{is_earned}
 use Rattle.ra_meaning.specs.Play.{item_events, unless_earned}
 use Rattle.ra_items.specs.RunEvents.{run_events}
-pub use Rattle.ra_resting.specs.Waking.{AreValuesAt, first_frame}
+pub use Rattle.ra_schedule.specs.Waking.{AreValuesAt, first_frame}
 
 -- what an achievement kept before a frame
 abbrev pub trigger_before : TriggerBefore → TriggerKept

@@ -13,7 +13,7 @@ use Rattle.ra_items.specs.AllRuns.{all_events}
 use Rattle.ra_items.specs.ItemRuns.{IsItemRun}
 use Rattle.ra_items.specs.Resting.{FitsRun, GoesOn, HasRoom, IsToldOf, ItemRests, StepsRest, StepsSeen, seen_run, seen_runs}
 use Rattle.ra_items.specs.RunEvents.{run_events}
-pub use Rattle.ra_resting.specs.Waking.{IsSomeFrame, IsWoken}
+pub use Rattle.ra_schedule.specs.Waking.{IsSomeFrame, IsWoken}
 
 -- the events of an item that may be missing
 abbrev pub maybe_events : Option ItemContents → Option ItemRun → List Event

@@ -2,18 +2,18 @@
 
 ghost use Rattle.std.specs.Prelude.{◌≡◌, ◌≤◌, ◌<◌, ℕ, true, not, None, Some, if◌then◌else◌, length, slice_index, IfOk, IfSome};
 ghost use Rattle.std.specs.Result.{OnOk};
-ghost use Rattle.ra_resting.specs.Reads.{IsAllRead};
+ghost use Rattle.ra_schedule.specs.Reads.{IsAllRead};
 ghost use Rattle.ra_condition.specs.Contents.{trigger_contents, trigger_hits};
 ghost use Rattle.ra_set.specs.Contents.{item_contents};
 ghost use Rattle.ra_leaderboard.specs.Contents.{board_contents};
 ghost use Rattle.ra_member.specs.Members.{HasShape};
 ghost use Rattle.ra_member.specs.MemberRuns.{kept_by};
-ghost use Rattle.ra_resting.specs.Before.{HaveOneShape, kept_before};
+ghost use Rattle.ra_schedule.specs.Before.{HaveOneShape, kept_before};
 ghost use Rattle.ra_meaning.specs.Order.{board_member};
 ghost use Rattle.ra_items.specs.BoardRuns.{board_kept};
 ghost use Rattle.ra_items.specs.ItemRuns.{IsItemRun, kept_run};
 ghost use Rattle.ra_items.specs.Resting.{BoardRests, FitsRun, HasRoom, IsNoted, ItemRests, StaysItem, StepsRest, TriggerRests, board_before, owed_run, reads_of_run, seen_run, trigger_before};
-ghost use Rattle.ra_resting.specs.Owing.{AreHitsSmall, AreSmall, TestsKeep, ValuesKeep};
+ghost use Rattle.ra_schedule.specs.Owing.{AreHitsSmall, AreSmall, TestsKeep, ValuesKeep};
 ghost use Rattle.ra_items.specs.declared.item_run.ItemRun.TheVariants.{Achievement, Leaderboard};
 
 use crate::achievement_run::AchievementRun;
@@ -23,10 +23,9 @@ use ra_condition::TriggerText;
 use ra_leaderboard::{BoardState, BoardText};
 use ra_member::Member;
 use ra_memref::Table;
-use ra_readers::Readers;
-use ra_rest::pay;
-use ra_resting::{
-    Before, note_laid, note_member, note_row, owed, pay_member, row_of, test_keeps, value_keeps,
+use ra_schedule::{
+    Before, Readers, note_laid, note_member, note_row, owed, pay, pay_member, row_of, test_keeps,
+    value_keeps,
 };
 use ra_set::Item;
 use ra_text::OutOfMemory;

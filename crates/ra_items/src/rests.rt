@@ -10,8 +10,7 @@ ghost use Rattle.ra_items.specs.Rests.{AreForgotten, AreRests, AreTold, AreStepp
 use crate::item_run::ItemRun;
 use crate::rest::{ItemBefore, Rest, note_reads, step_rest};
 use ra_memref::Table;
-use ra_readers::Readers;
-use ra_resting::{is_looked_at, looks, many_changed, wake};
+use ra_schedule::{Readers, is_looked_at, looks, many_changed, wake};
 use ra_set::Item;
 use ra_text::OutOfMemory;
 use std::alloc::Global;

@@ -24,8 +24,7 @@ use crate::rest::{ItemBefore, Rest};
 use crate::rests::Rests;
 use ra_member::Member;
 use ra_progress::{put_achievement, put_board, put_presence, state_byte};
-use ra_rest::pay;
-use ra_resting::{hits_before, owed, row_of};
+use ra_schedule::{hits_before, owed, pay, row_of};
 use ra_text::OutOfMemory;
 use std::alloc::Global;
 

@@ -8,10 +8,9 @@ mod shapes;
 mod written;
 
 pub use course::Course;
-pub use ra_meaning::changed_sets_go_on;
 pub use ra_items::{Events, ItemState};
 pub use ra_meaning::{
-    Event, calls_succeed, earned_achievements_stay_earned, histories_are_folds,
+    Event, calls_succeed, changed_sets_go_on, earned_achievements_stay_earned, histories_are_folds,
     histories_may_be_cut, openings_stand,
 };
 pub use runtime::Runtime;

@@ -2,7 +2,7 @@
 
 ghost use Rattle.std.specs.Prelude.{◌≡◌, length, IfOk};
 
-use ra_readers::Readers;
+use ra_schedule::Readers;
 use ra_text::OutOfMemory;
 use std::alloc::Global;
 

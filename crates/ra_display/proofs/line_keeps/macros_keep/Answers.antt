@@ -8,9 +8,9 @@ use Rattle.ra_richpresence.specs.declared.piece.Piece.{Piece}
 use Rattle.ra_richpresence.specs.declared.piece.Piece.TheVariants.{Macro}
 use Rattle.ra_richpresence.specs.Contents.{piece_contents, value_in}
 use Rattle.ra_member.specs.declared.value_run.ValueRun.{ValueRun}
-use Rattle.ra_resting.specs.declared.before.ValueBefore.{ValueBefore}
-use Rattle.ra_resting.specs.Before.{value_before}
-use Rattle.ra_resting.specs.Owing.{ValuesKeep}
+use Rattle.ra_schedule.specs.declared.before.ValueBefore.{ValueBefore}
+use Rattle.ra_schedule.specs.Before.{value_before}
+use Rattle.ra_schedule.specs.Owing.{ValuesKeep}
 use Rattle.ra_display.specs.LineRests.{AreValuesShaped}
 use Rattle.ra_display.proofs.KeptLines.{keep_on, macros_before, macros_behind, macros_split, shaped_here}
 use Rattle.ra_display.proofs.SteppedLines.{macros_in}

@@ -1,7 +1,7 @@
 use Rattle.std.proofs.Common.{◌≡◌, length, map, take}
 use Rattle.ra_member.specs.declared.value_run.ValueRun.{ValueRun}
-use Rattle.ra_resting.specs.Before.{value_before}
-use Rattle.ra_resting.specs.Owing.{ValuesKeep}
+use Rattle.ra_schedule.specs.Before.{value_before}
+use Rattle.ra_schedule.specs.Owing.{ValuesKeep}
 use Rattle.ra_display.proofs.SteppedLines.{macros_in}
 use Rattle.ra_display.proofs.line_keeps.macros_keep.Given as goal
 

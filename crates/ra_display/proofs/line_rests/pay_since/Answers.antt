@@ -1,8 +1,8 @@
 use Rattle.std.proofs.Common.{◌-◌, sym, ◌∙◌, ap}
 use Rattle.ra_member.specs.MemberRuns.{kept_by}
-use Rattle.ra_resting.specs.Before.{kept_before}
-use Rattle.ra_resting.specs.Owing.{owed_member}
-use Rattle.ra_resting.proofs.AtMost.{member_at_most}
+use Rattle.ra_schedule.specs.Before.{kept_before}
+use Rattle.ra_schedule.specs.Owing.{owed_member}
+use Rattle.ra_schedule.proofs.MembersRest.AtMost.{member_at_most}
 use Rattle.ra_display.specs.LineRests.{line_since}
 use Rattle.ra_display.proofs.line_rests.pay_since.Goals as goal
 

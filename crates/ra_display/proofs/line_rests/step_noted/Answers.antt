@@ -4,9 +4,9 @@ use Rattle.std.specs.Option.{is_some}
 use Rattle.ra_richpresence.specs.Contents.{line_contents}
 use Rattle.ra_member.specs.MemberRuns.{kept_by}
 use Rattle.ra_member.proofs.Shaped.{member_shape}
-use Rattle.ra_resting.specs.Before.{kept_before}
-use Rattle.ra_resting.specs.Owing.{AreHitsSmall}
-use Rattle.ra_resting.proofs.OwedRows.{one_shape_of}
+use Rattle.ra_schedule.specs.Before.{kept_before}
+use Rattle.ra_schedule.specs.Owing.{AreHitsSmall}
+use Rattle.ra_schedule.proofs.MembersRest.OwedRows.{one_shape_of}
 use Rattle.ra_meaning.specs.LineMembers.{line_member}
 use Rattle.ra_display.proofs.line_rests.step_noted.Goals.{then-noting, else-noting}
 use Rattle.ra_display.proofs.line_rests.step_noted.Goals as goal

@@ -4,7 +4,7 @@ use Rattle.std.proofs.lemmas.List.{take_all}
 use Rattle.ra_member.specs.declared.member.Member.{Member}
 use Rattle.ra_member.specs.Members.{saved_hits, saved_numbers}
 use Rattle.ra_member.specs.MemberRuns.{PutsBehind, kept_by}
-use Rattle.ra_resting.specs.Before.{HaveOneShape, kept_before}
+use Rattle.ra_schedule.specs.Before.{HaveOneShape, kept_before}
 use Rattle.ra_display.specs.declared.line_rests.LineRest.{LineRest}
 use Rattle.ra_display.specs.LineRests.{seen_line, seen_lines}
 use Rattle.ra_display.proofs.LineSteps.{seen_at, seen_many}

@@ -1,11 +1,11 @@
 use Rattle.std.proofs.Common.{◌≡◌, ◌++◌, length, drop, arith, sym, ◌∙◌, ap, ap₂, subst}
 use Rattle.std.proofs.lemmas.List.{take-append-le, take_all}
-use Rattle.ra_rest.specs.Groups.{paid}
+use Rattle.ra_schedule.specs.Groups.{paid}
 use Rattle.ra_member.specs.MemberRuns.{FitWords, kept_by}
 use Rattle.ra_member.specs.Members.{saved_hits}
-use Rattle.ra_resting.specs.Before.{kept_before}
-use Rattle.ra_resting.specs.Owing.{owed_member}
-use Rattle.ra_resting.proofs.OwedRows.{saved_many, saved_owed, saved_stay}
+use Rattle.ra_schedule.specs.Before.{kept_before}
+use Rattle.ra_schedule.specs.Owing.{owed_member}
+use Rattle.ra_schedule.proofs.MembersRest.OwedRows.{saved_many, saved_owed, saved_stay}
 use Rattle.ra_display.proofs.SavedLines.{fit_behind, words_of}
 use Rattle.ra_display.proofs.saved_presence.put_owed.Goals as goal
 

@@ -1,6 +1,6 @@
 use Rattle.ra_member.specs.MemberRuns.{kept_by}
-use Rattle.ra_resting.specs.Before.{kept_before}
-use Rattle.ra_resting.proofs.OwedRows.{owed_shape}
+use Rattle.ra_schedule.specs.Before.{kept_before}
+use Rattle.ra_schedule.proofs.MembersRest.OwedRows.{owed_shape}
 use Rattle.ra_items.proofs.RestRuns.{board_stays}
 use Rattle.ra_items.proofs.rest.pay_board.Goals as goal
 

@@ -1,7 +1,7 @@
 use Rattle.std.proofs.Common.{◌≡◌, length, map, sym, ◌∙◌, ap, arith}
 use Rattle.std.proofs.lemmas.List.{length-map}
 use Rattle.ra_condition.specs.Contents.{trigger_contents}
-use Rattle.ra_resting.proofs.Kept.{test_kept}
+use Rattle.ra_schedule.proofs.MembersRest.Kept.{test_kept}
 use Rattle.ra_items.proofs.RestRuns.{three_keep}
 use Rattle.ra_items.proofs.rest.tests_rest.Goals as goal
 

@@ -2,10 +2,10 @@ use Rattle.std.proofs.Common.{◌≡◌, suc, ◌∷◌, length, map, option_map
 use Rattle.std.proofs.lemmas.List.{length-map}
 use Rattle.ra_condition.specs.Contents.{value_contents, value_hits}
 use Rattle.ra_value.specs.Steps.{ValueKept}
-use Rattle.ra_resting.specs.Before.{value_before}
-use Rattle.ra_resting.specs.Owing.{ValuesKeep}
+use Rattle.ra_schedule.specs.Before.{value_before}
+use Rattle.ra_schedule.specs.Owing.{ValuesKeep}
 use Rattle.ra_meaning.specs.Order.{progress_in}
-use Rattle.ra_resting.proofs.Kept.{value_kept}
+use Rattle.ra_schedule.proofs.MembersRest.Kept.{value_kept}
 use Rattle.ra_items.proofs.RestRuns.{two_keep}
 use Rattle.ra_items.proofs.rest.values_rest.Goals as goal
 

@@ -4,16 +4,16 @@ use Rattle.ra_leaderboard.specs.States.{board_byte}
 use Rattle.ra_progress.specs.Contents.{KeptItem, ItemFits, OfBoard}
 use Rattle.ra_progress.specs.Spelling.{item_bytes}
 use Rattle.ra_progress.specs.Writing.{named_block}
-use Rattle.ra_rest.specs.Groups.{paid}
+use Rattle.ra_schedule.specs.Groups.{paid}
 use Rattle.ra_member.specs.MemberRuns.{kept_by}
 use Rattle.ra_member.specs.Members.{saved_hits, saved_numbers}
-use Rattle.ra_resting.specs.Before.{HaveOneShape, kept_before}
-use Rattle.ra_resting.specs.Owing.{owed_member}
+use Rattle.ra_schedule.specs.Before.{HaveOneShape, kept_before}
+use Rattle.ra_schedule.specs.Owing.{owed_member}
 use Rattle.ra_items.specs.declared.item_run.ItemRun.{ItemRun}
 use Rattle.ra_items.specs.declared.item_run.ItemRun.TheVariants.{Leaderboard}
 use Rattle.ra_items.specs.Resting.{owed_run}
 use Rattle.ra_items.specs.Shapes.{run_shape}
-use Rattle.ra_resting.proofs.OwedRows.{saved_many, saved_owed, saved_stay}
+use Rattle.ra_schedule.proofs.MembersRest.OwedRows.{saved_many, saved_owed, saved_stay}
 use Rattle.ra_items.proofs.saved.put_owed.Goals as goal
 
 pub pay-requires-in-Leaderboard-Leaderboard : goal.pay-requires-in-Leaderboard-Leaderboard

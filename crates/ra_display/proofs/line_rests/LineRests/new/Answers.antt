@@ -2,8 +2,8 @@ use Rattle.std.proofs.Common.{◌≡◌, ◌+◌, ◌<◌, true, None, List, len
 use Rattle.std.proofs.lemmas.List.{length-map, length-replicate}
 use Rattle.ra_richpresence.specs.Contents.{line_contents}
 use Rattle.ra_member.specs.declared.member.Member.{Member}
-use Rattle.ra_resting.proofs.Below.{member_below}
-use Rattle.ra_resting.proofs.Turns.{element}
+use Rattle.ra_schedule.proofs.MembersRest.Below.{member_below}
+use Rattle.ra_schedule.proofs.MembersRest.Turns.{element}
 use Rattle.ra_display.specs.declared.line_rests.LineRest.{LineRest}
 use Rattle.ra_meaning.specs.LineMembers.{line_member}
 use Rattle.ra_display.specs.PresenceRuns.{IsLineRun}

@@ -1,9 +1,9 @@
 use Rattle.std.proofs.Common.{length, map, refl, sym, ◌∙◌, subst, arith}
 use Rattle.std.proofs.lemmas.List.{length-map}
 use Rattle.ra_memref.specs.Flags.{NoneSet, IsFirstSet}
-use Rattle.ra_readers.specs.Readers.{ReadersSeen}
+use Rattle.ra_schedule.specs.Readers.{ReadersSeen}
 use Rattle.ra_richpresence.specs.Contents.{line_contents}
-use Rattle.ra_resting.proofs.Woken.{quiet_same}
+use Rattle.ra_schedule.proofs.MembersRest.Woken.{quiet_same}
 use Rattle.ra_display.specs.declared.line_rests.LineRests.{LineRests}
 use Rattle.ra_display.specs.LineRests.{HasLinePlace}
 use Rattle.ra_display.proofs.LineSteps.{AreLinesFar, has_place, line_here, lines_begin, lines_on, rests_after, seen_after, woken_rests}

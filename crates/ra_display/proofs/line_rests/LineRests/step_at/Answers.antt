@@ -3,7 +3,7 @@ use Rattle.std.proofs.lemmas.Bool.{true≢false}
 use Rattle.std.proofs.lemmas.List.{length-map}
 use Rattle.ra_richpresence.specs.Contents.{LineContents, line_contents}
 use Rattle.ra_member.specs.declared.member.Member.{Member}
-use Rattle.ra_resting.proofs.Woken.{still_due}
+use Rattle.ra_schedule.proofs.MembersRest.Woken.{still_due}
 use Rattle.ra_display.specs.declared.line_rests.LineRest.{LineRest}
 use Rattle.ra_display.specs.LineRests.{HasLineRoom, StepsNoted, seen_line}
 use Rattle.ra_display.specs.PresenceRuns.{IsLineRun}

@@ -5,7 +5,7 @@ use Rattle.ra_items.specs.declared.item_run.ItemRun.{ItemRun}
 use Rattle.ra_items.specs.declared.rest.Rest.{Rest}
 use Rattle.ra_items.specs.ItemRuns.{IsItemRun}
 use Rattle.ra_items.proofs.MadeRests.{AreMade, all_made, awake_kept, item_below, made_next}
-use Rattle.ra_resting.proofs.Turns.{element}
+use Rattle.ra_schedule.proofs.MembersRest.Turns.{element}
 use Rattle.ra_items.proofs.RunsLemmas.{length_runs, run_at}
 use Rattle.ra_items.proofs.rests.Rests.new.Goals as goal
 

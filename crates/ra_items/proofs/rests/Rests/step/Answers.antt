@@ -1,11 +1,11 @@
 use Rattle.std.proofs.Common.{map, refl, sym, subst, arith}
 use Rattle.std.proofs.lemmas.List.{length-map}
 use Rattle.ra_memref.specs.Flags.{IsFirstSet}
-use Rattle.ra_readers.specs.Readers.{ReadersSeen}
+use Rattle.ra_schedule.specs.Readers.{ReadersSeen}
 use Rattle.ra_set.specs.Contents.{item_contents}
 use Rattle.ra_items.specs.declared.rests.Rests.{Rests}
 use Rattle.ra_items.specs.Rests.{HasPlace}
-use Rattle.ra_resting.proofs.Woken.{quiet_same}
+use Rattle.ra_schedule.proofs.MembersRest.Woken.{quiet_same}
 use Rattle.ra_items.proofs.RestSteps.{IsFar, far_on, here, place_here, rests_after, seen_after, told_after}
 use Rattle.ra_items.proofs.rests.Rests.step.Goals as goal
 

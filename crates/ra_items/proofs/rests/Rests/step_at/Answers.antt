@@ -6,7 +6,7 @@ use Rattle.ra_items.specs.declared.rest.Rest.{Rest}
 use Rattle.ra_items.specs.ItemRuns.{IsItemRun}
 use Rattle.ra_items.specs.declared.item_run.ItemRun.{ItemRun}
 use Rattle.ra_items.specs.Resting.{HasRoom, StepsRest, seen_run}
-use Rattle.ra_resting.proofs.Woken.{still_due}
+use Rattle.ra_schedule.proofs.MembersRest.Woken.{still_due}
 use Rattle.ra_items.proofs.RunsLemmas.{length_runs, run_at}
 use Rattle.ra_items.proofs.StepAt.{contents_at, stepped_at}
 use Rattle.ra_items.proofs.rests.Rests.step_at.Goals as goal

@@ -1,3 +1,0 @@
-pub mod NoteLemmas
-pub mod Rows
-pub mod WakeLemmas

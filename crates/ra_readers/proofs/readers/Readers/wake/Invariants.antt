@@ -1,8 +1,0 @@
-use Rattle.std.proofs.Common.{take}
-use Rattle.ra_readers.specs.Readers.{Wakes, seen_of}
-use Rattle.ra_readers.proofs.readers.Readers.wake.Given as goal
-
-abbrev pub invariant-loop-node : goal.invariant-loop-node
-invariant-loop-node l = Wakes (take l.node-index l.nodes)
-    (seen_of l.initial.self-inside.rows.items l.initial.self-inside.due)
-    (seen_of l.self-inside.rows.items l.self-inside.due)

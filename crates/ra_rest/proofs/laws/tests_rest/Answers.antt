@@ -1,5 +1,0 @@
-use Rattle.ra_rest.proofs.TriggerRest.{test-rested, truth-rested}
-use Rattle.ra_rest.proofs.laws.tests_rest.Goals as goal
-
-pub returns : goal.returns
-returns c = record { hits = test-rested; truth = truth-rested }

@@ -1,0 +1,3 @@
+pub mod MembersRest
+pub mod Resting
+pub mod WhoReads

@@ -1,0 +1,9 @@
+pub mod Before
+pub mod Groups
+pub mod Inputs
+pub mod Owing
+pub mod Readers
+pub mod Reads
+pub mod Triggers
+pub mod Values
+pub mod Waking

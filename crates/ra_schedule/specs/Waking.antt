@@ -1,0 +1,41 @@
+-- When readers are woken at a frame, and what they see of its values: docs/DEFINITIONS.md, "Members at rest".
+use Rattle.std.specs.Prelude.{◌≡◌, ◌≢◌, ℕ, ◌<◌, true, false, List, [], ◌∷◌, length, map, slice_index, slice_index_or}
+use Rattle.ra_indirect.specs.declared.node.Node.{Node}
+use Rattle.ra_indirect.specs.Pools.{spelled_by}
+use Rattle.ra_memref.specs.Table.{TableSeen, IsListed, spelled_value}
+use Rattle.ra_memref.specs.Values.{Start}
+use Rattle.ra_schedule.specs.Readers.{ReadersSeen, Reads}
+use Rattle.ra_member.specs.Members.{MemberContents}
+use Rattle.ra_schedule.specs.Inputs.{Instant, MemberSeesSame}
+
+-- the first frame behind a start
+abbrev pub first_frame : Start → (image : List ℕ) → Instant
+first_frame start image = record { start = start; history = image ∷ [] }
+
+-- these are the values of the nodes at an instant
+abbrev pub AreValuesAt : List Node → List ℕ → Instant → Type 0
+AreValuesAt nodes values now = values ≡ map (spelled_value now.start now.history) (spelled_by nodes)
+
+-- the values of a table are those of some frame
+pub record IsSomeFrame (table : TableSeen) : Type 0 where
+  pub start : Start
+  pub image : List ℕ
+  pub has : AreValuesAt table.nodes table.values (first_frame start image)
+
+-- each node that has another value than it had is listed, and nodes alone
+pub record AreChanged (table : TableSeen) (values : List ℕ) : Type 0 where
+  pub each : (n : ℕ) → n < length table.nodes → slice_index values n ≢ slice_index table.values n → IsListed n table.changed
+  pub nodes : (k : ℕ) → k < length table.changed → slice_index table.changed k < length table.nodes
+
+-- what is still not due was not, the count of frames is not at its end, and none of these nodes is read
+pub record IsWoken (clock : ℕ) (nodes : List ℕ) (old new : ReadersSeen) : Type 0 where
+  pub rows : new.rows ≡ old.rows
+  pub long : length new.due ≡ length old.due
+  pub kept : (r : ℕ) → slice_index_or new.due r true ≡ false → (slice_index_or old.due r true ≡ false) × (clock < 18446744073709551615)
+  pub woken : (r n : ℕ) → slice_index_or new.due r true ≡ false → IsListed n nodes → Reads old n r → ⊥
+
+-- a reader is told of all that a member sees: where the nodes that it reads keep their values, the member sees the same
+abbrev pub IsMemberTold : List Node → ReadersSeen → MemberContents → (reader : ℕ) → Type 0
+IsMemberTold nodes readers m reader =
+    (values values' : List ℕ) (now later : Instant) → AreValuesAt nodes values now → AreValuesAt nodes values' later
+    → ((n : ℕ) → Reads readers n reader → slice_index values' n ≡ slice_index values n) → MemberSeesSame now later m

@@ -1,0 +1,26 @@
+//! Who is due at a frame, and what those at rest owe.
+//!
+//! Who reads a node is due where that node changed. What changes nothing but hits at which nothing looks rests, and owes one
+//! hit more of these for each frame: as groups, triggers and values, and as the members that are made of them.
+#![tactic(auto)]
+
+mod before;
+mod keeping;
+mod laws;
+mod paying;
+mod readers;
+mod reads;
+mod seen;
+mod waking;
+
+pub use before::{Before, ValueBefore, hits_before, note_row, row_of};
+pub use keeping::{test_keeps, value_keeps};
+pub use laws::{
+    achievements_rest, groups_rest, hits_are_owed, rest_goes_on, rest_is_seen, tests_rest,
+    values_rest,
+};
+pub use paying::{owed, pay_member};
+pub use readers::Readers;
+pub use reads::{note_laid, note_member};
+pub use seen::{is_free, pay};
+pub use waking::{is_looked_at, looks, many_changed, wake};
