@@ -42,6 +42,7 @@ leaves_job words old mid text faults job ending sink status is_job leaves done f
         is_job = is_job;
         behind = put.behind;
         cut = cut_by ending mid.text text sink status finishes put.cut;
+        done = put.done;
         saved = put.saved;
       })))
     ]

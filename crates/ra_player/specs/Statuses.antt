@@ -99,12 +99,13 @@ module _ (words : List (List ℕ)) (old new : Outside) where
     pub cause : Cause ending
     pub printed : PlaysWords deciding status
 
-  -- The line behind the put was not written whole: the file has what the job says.
+  -- The line behind the put was not written whole: the job would be done, and the file has what it says.
   pub record PutsBeforeLine (status : ℕ) : Type 0 where
     pub job : Job
     pub is_job : job_of words ≡ Some job
     pub behind : PrintsBehindPut job
     pub cut : (status ≡ 1) ⊎ (status ≡ 5)
+    pub done : (e : Expected) → JobSays old.content job e → e.ending ≡ Done
     pub saved : IsSaved job old new
 
   -- What a call that answers this status leaves of the files: no name changes but the one that the words put, and that

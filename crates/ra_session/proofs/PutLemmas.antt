@@ -82,6 +82,9 @@ module _ (job : Job) (name : List ℕ) (puts : puts_of job ≡ name ∷ []) (beh
         subst (AllByRecursion (HasBytes e.saved old.content new.content)) (sym puts)
         (subst (λ (x : Expected). AllByRecursion (HasBytes x.saved old.content new.content) (name ∷ [])) (sym (says e is)) (has, tt))
 
+    says_done : (e : Expected) → JobSays old.content job e → e.ending ≡ Done
+    says_done e is = ap (λ (x : Expected). x.ending) (says e is)
+
     -- what a job leaves that put its file: the line behind the put was written, or a front of it
     pub leaves_put : (ending : Ending) → EndsBefore (prints_line line) ⊥ ⊥ (SinkRose old new) ending old.text new.text → HasBytes text old.content new.content name
         → ((other : List ℕ) → other ≢ name → new.content other ≡ old.content other) → Leaves job old new ending
@@ -93,8 +96,8 @@ module _ (job : Job) (name : List ℕ) (puts : puts_of job ≡ name ∷ []) (beh
       where
         only_then : (ending : Ending) → EndsBefore (prints_line line) ⊥ ⊥ (SinkRose old new) ending old.text new.text → OnlyThen job old new ending
         only_then Done before = inl refl
-        only_then NoMemory before = inr (inr (inr (record { behind = behind; cut = inl refl; saved = has_text has })))
-        only_then SinkFault before = inr (inr (inr (record { behind = behind; cut = inr refl; saved = has_text has })))
+        only_then NoMemory before = inr (inr (inr (record { behind = behind; cut = inl refl; done = says_done; saved = has_text has })))
+        only_then SinkFault before = inr (inr (inr (record { behind = behind; cut = inr refl; done = says_done; saved = has_text has })))
         only_then ReadFault before = absurd before.0
         only_then SaveFault before = absurd before.0
         only_then _ before = absurd (let bad = before.0 in cc)

@@ -65,10 +65,11 @@ module _ (job : Job) (old new : Outside) where
   abbrev pub IsSaved : Type 0
   IsSaved = (e : Expected) → JobSays old.content job e → HasSaved job e old.content new.content
 
-  -- The line behind the put was not written whole: the file has what the job says.
+  -- The line behind the put was not written whole: the job would be done, and the file has what it says.
   pub record PutBeforeLine (ending : Ending) : Type 0 where
     pub behind : PrintsBehindPut job
     pub cut : (ending ≡ NoMemory) ⊎ (ending ≡ SinkFault)
+    pub done : (e : Expected) → JobSays old.content job e → e.ending ≡ Done
     pub saved : IsSaved
 
   -- where a job that ended so may have changed the file that it puts: it is done, a put of it failed, or the line behind

@@ -117,11 +117,18 @@ fn an_import_puts_the_set_of_its_document(rt: HostRuntime) -> Result<(), OutOfMe
     Ok(())
 }
 
-// What fails, and the status, the text, and what the name holds then.
-type FaultRow = (Faults<'static>, u8, &'static [u8], &'static [u8]);
+// A document, what fails, and the status, the text, and what the name holds then.
+type FaultRow = (
+    &'static [u8],
+    Faults<'static>,
+    u8,
+    &'static [u8],
+    &'static [u8],
+);
 
-const FAULTS: [FaultRow; 5] = [
+const FAULTS: [FaultRow; 6] = [
     (
+        DOCUMENT,
         Faults {
             reads: &[2],
             puts: &[],
@@ -132,6 +139,7 @@ const FAULTS: [FaultRow; 5] = [
         BEFORE,
     ),
     (
+        DOCUMENT,
         Faults {
             reads: &[],
             puts: &[1],
@@ -142,6 +150,7 @@ const FAULTS: [FaultRow; 5] = [
         BEFORE,
     ),
     (
+        DOCUMENT,
         Faults {
             reads: &[],
             puts: &[],
@@ -152,6 +161,7 @@ const FAULTS: [FaultRow; 5] = [
         SET,
     ),
     (
+        DOCUMENT,
         Faults {
             reads: &[],
             puts: &[],
@@ -162,9 +172,21 @@ const FAULTS: [FaultRow; 5] = [
         SET,
     ),
     (
+        DOCUMENT,
         Faults {
             reads: &[],
             puts: &[1],
+            writes: &[1],
+        },
+        5,
+        b"",
+        BEFORE,
+    ),
+    (
+        b"{",
+        Faults {
+            reads: &[],
+            puts: &[],
             writes: &[1],
         },
         5,
@@ -175,8 +197,8 @@ const FAULTS: [FaultRow; 5] = [
 
 // The place of the first import that does not end so.
 fn other_fault(alloc: Global, rows: &[FaultRow]) -> Result<Option<usize>, OutOfMemory> {
-    for (place, (faults, status, text, left)) in rows.iter().enumerate() {
-        if !imports_so(alloc, DOCUMENT, faults, *status, *text, *left)? {
+    for (place, (document, faults, status, text, left)) in rows.iter().enumerate() {
+        if !imports_so(alloc, *document, faults, *status, *text, *left)? {
             return Ok(Some(place));
         }
     }
@@ -184,7 +206,7 @@ fn other_fault(alloc: Global, rows: &[FaultRow]) -> Result<Option<usize>, OutOfM
 }
 
 // The put comes before the line, so of a put and a write that fail the status is that of the put, and behind a put a write
-// that fails leaves the set.
+// that fails leaves the set. A refused document puts nothing, whatever becomes of its line.
 #[test]
 fn a_fault_ends_an_import(rt: HostRuntime) -> Result<(), OutOfMemory> {
     assert_eq!(rt; other_fault(rt.alloc(), &FAULTS)?, None);
