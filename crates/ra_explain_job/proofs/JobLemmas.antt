@@ -1,5 +1,5 @@
 -- The job `explain`: it has no set, no achievement of the id, a trace that is watched no further, or a text that is printed.
-use Rattle.std.proofs.Common.{arith, ◌≡◌, ℕ, zero, suc, ◌+◌, take, length, replicate, nat_lt, if◌then◌else◌, Bool, true, false, Option, Some, None, List, [], ◌∷◌, ◌++◌, refl, sym, ap, subst, ◌∙◌}
+use Rattle.std.proofs.Common.{arith, ◌≡◌, ℕ, zero, suc, ◌+◌, take, length, replicate, nat_lt, if◌then◌else◌, Bool, true, false, Option, Some, None, List, [], ◌∷◌, ◌++◌, refl, sym, ap, subst, ◌∙◌, inl, inr}
 use Rattle.std.specs.List.{concat}
 use Rattle.std.proofs.lemmas.List.{length-append, length-replicate}
 use Rattle.std.proofs.lemmas.Option.{none-some}
@@ -25,7 +25,7 @@ use Rattle.ra_jobs.specs.Words.{Job, Explain}
 use Rattle.ra_session.specs.Endings.{ending_of}
 use Rattle.ra_session.specs.Expected.{Expected, IsReadBehind, JobSays, ExplainSays, refuses_set, lacks, explains, TraceSays, ReasonSays, at_unlock, at_rows, at_end, at_stop, prints_behind, prints_line, prints_nothing, trace_in, decided_in}
 use Rattle.ra_session.specs.Explaining.{Reason, AtUnlock, AtRows, AtEnd, AtStop, Decided, decided, behind_record, rows_with, decided_from, trigger_of, explanation_text, no_unlock_text}
-use Rattle.ra_session.specs.Closing.{EndsBefore}
+use Rattle.ra_session.specs.Closing.{EndsBefore, EndsJob}
 use Rattle.ra_session.specs.Failures.{ending_of_set}
 use Rattle.ra_session.specs.Loading.{HasNoSet, IsTaken}
 use Rattle.ra_session.specs.Outside.{Outside, ReadsRose, SinkRose, AreTold}
@@ -151,12 +151,13 @@ never_fault PastLimit is = cc
 -- ---- a text that is all that is printed
 
 -- it is printed behind records that print nothing
-shifted : (records : ℕ) (text : List ℕ) (reads puts sink : Type 0) (ending : Ending) (old new : Option (List ℕ)) → EndsBefore (prints_line text) ⊥ ⊥ sink ending old new → EndsBefore (prints_behind records (text ∷ []) Done) reads puts sink ending old new
-shifted records text reads puts sink ReadFault old new before = absurd before.0
-shifted records text reads puts sink SaveFault old new before = absurd before.0
-shifted records text reads puts sink NoMemory old new before = subst (GrewByPart old new) (sym (concat_behind records (text ∷ []))) before
-shifted records text reads puts sink SinkFault old new before = (before.0, subst (GrewByPart old new) (sym (concat_behind records (text ∷ []))) before.1)
-shifted records text reads puts sink _ old new before = (before.0, before.1 ∙ ap (grown old) (sym (concat_behind records (text ∷ []))))
+shifted : (records : ℕ) (text : List ℕ) (reads trace puts sink : Type 0) (ending : Ending) (old new : Option (List ℕ)) → EndsBefore (prints_line text) ⊥ ⊥ sink ending old new
+    → EndsJob (prints_behind records (text ∷ []) Done) reads trace puts sink ending old new
+shifted records text reads trace puts sink ReadFault old new before = absurd before.0
+shifted records text reads trace puts sink SaveFault old new before = absurd before.0
+shifted records text reads trace puts sink NoMemory old new before = subst (GrewByPart old new) (sym (concat_behind records (text ∷ []))) before
+shifted records text reads trace puts sink SinkFault old new before = (before.0, subst (GrewByPart old new) (sym (concat_behind records (text ∷ []))) before.1)
+shifted records text reads trace puts sink _ old new before = (before.0, before.1 ∙ ap (grown old) (sym (concat_behind records (text ∷ []))))
 
 -- a told ending of it is that it is done
 line_done : (text : List ℕ) (sink : Type 0) (ending : Ending) (old new : Option (List ℕ)) → IsTold ending → EndsBefore (prints_line text) ⊥ ⊥ sink ending old new → ending ≡ Done
@@ -190,7 +191,7 @@ module _ (set trace : List ℕ) (id : ℕ) (old new : Outside) where
   -- the job has no set
   no_set_prints : (e : Expected) (failed : SetFailed) → HasNoSet (old.content set) (Rose (old.read_faults set) (new.read_faults set)) failed → ExplainSays old.content set trace id e → new.text ≡ old.text → PrintsSoFar job old new (ending_of_set failed) e
   no_set_prints e set_failed.Memory none says same = part_none old.text new.text (concat e.pieces) same
-  no_set_prints e set_failed.Read none says same = (set_decides e.ending none, (0, says_read e says, same ∙ sym (grown-nil old.text)))
+  no_set_prints e set_failed.Read none says same = (set_decides e.ending none, inl (says_read e says, same))
   no_set_prints e (set_failed.Refused why) none (refuses_set file found told refuses) same = (ap BadSet (one-refusal (take 4194305 file) found why refuses (none file told)), same ∙ sym (grown-nil old.text))
   no_set_prints e (set_failed.Refused why) none (lacks file s told is lack) same = absurd (never_set file s why is (none file told))
   no_set_prints e (set_failed.Refused why) none (explains file bytes s t e' told told_trace is some says) same = absurd (never_set file s why is (none file told))
@@ -277,7 +278,7 @@ module _ (set trace : List ℕ) (id : ℕ) (old new : Outside) where
           (ap (λ (k : Expected). k.ending) is, nothing_printed (decided_in t over.bytes).records (ManyRows found) same ∙ ap (λ (k : Expected). grown old.text (concat k.pieces)) (sym is))
       failed_prints e (watch.Trace errors.Read) over why rose same = (
         subst (λ names. ReadsRose names old new) (sym (trace_decides over.bytes e over.says)) (any_later _ set (trace ∷ []) (any_first _ trace [] (rose refl))),
-        (0, trace_read c id t over.bytes e over.says, same ∙ sym (grown-nil old.text)),
+        inr (any_first _ trace [] (rose refl), (0, trace_read c id t over.bytes e over.says, same ∙ sym (grown-nil old.text))),
       )
       failed_prints e (watch.Trace (errors.Refused at w)) over why rose same = stopped_prints over.bytes e (BadTrace at w) over.says (why over.bytes over.told) same
       failed_prints e (watch.Trace errors.TooLong) over why rose same = stopped_prints over.bytes e LongTrace over.says (why over.bytes over.told) same
@@ -318,7 +319,7 @@ module _ (set trace : List ℕ) (id : ℕ) (old new : Outside) where
       text_prints : (bytes : List ℕ) (e : Expected) (text : List ℕ) (ending : Ending) → TraceSays id t bytes e → e ≡ prints_behind (decided_in t bytes).records (text ∷ []) Done
           → EndsBefore (prints_line text) ⊥ ⊥ (SinkRose old new) ending old.text new.text → PrintsSoFar job old new ending e
       text_prints bytes e text ending says is before =
-          subst (PrintsSoFar job old new ending) (sym is) (shifted (decided_in t bytes).records text _ _ (SinkRose old new) ending old.text new.text before)
+          subst (PrintsSoFar job old new ending) (sym is) (shifted (decided_in t bytes).records text _ _ _ (SinkRose old new) ending old.text new.text before)
 
       module _ (r : RecorderSeen) (trigger : r.trigger ≡ t) (ending : Ending) where
         unlock_prints : (e : Expected) → SaysOver e → ((bytes : List ℕ) → old.content trace ≡ Some bytes → StandsAtIt r (decided_in t bytes).reason) → PrintsUnlock id r (SinkRose old new) ending old.text new.text → PrintsSoFar job old new ending e

@@ -6,9 +6,9 @@ use Rattle.ra_jobs.specs.Words.{Job, puts_of}
 use Rattle.ra_jobs.specs.JobWords.{job_of}
 use Rattle.ra_session.specs.Endings.{status_of, last_line}
 use Rattle.ra_session.specs.Expected.{Expected, JobSays}
-use Rattle.ra_session.specs.Closing.{Finishes, EndsBefore}
+use Rattle.ra_session.specs.Closing.{Finishes, EndsJob}
 use Rattle.ra_session.specs.Outside.{Outside, ReadsRose, PutsRose, SinkRose}
-use Rattle.ra_session.specs.Running.{Ran, IsTold, deciding}
+use Rattle.ra_session.specs.Running.{Ran, IsTold, deciding, trace_of}
 use Rattle.ra_session.specs.declared.ending.Ending.{Ending}
 use Rattle.ra_session.specs.declared.ending.Ending.TheVariants.{Done, NoMemory, NoJob, BadSet, ReadFault, SinkFault, BadProgress, BadTrace, LongTrace, SaveFault, BadDocument, LongNormal, NoAchievement, ManyRows}
 use Rattle.ra_session.proofs.Pieces.{grown-grown, grown-nil}
@@ -98,9 +98,9 @@ module _ (words : List (List ℕ)) (old mid : Outside) (text : Option (List ℕ)
   own_cause (ManyRows found) ran line = said (ManyRows found) tt ran.printed ran line
 
   -- with the faults of the sink up to the last line
-  ends_later : (e : Expected) (reads puts : Type 0) (ending : Ending) → EndsBefore e reads puts (SinkRose old mid) ending old.text mid.text → EndsBefore e reads puts (SinkRose old new) ending old.text mid.text
-  ends_later e reads puts SinkFault before = (let rose = before.0 in omega (arith, rose, later), before.1)
-  ends_later e reads puts _ before = before
+  ends_later : (e : Expected) (reads trace puts : Type 0) (ending : Ending) → EndsJob e reads trace puts (SinkRose old mid) ending old.text mid.text → EndsJob e reads trace puts (SinkRose old new) ending old.text mid.text
+  ends_later e reads trace puts SinkFault before = (let rose = before.0 in omega (arith, rose, later), before.1)
+  ends_later e reads trace puts _ before = before
 
   -- the answer to a job
   pub answers_job : (ending : Ending) (status : ℕ) → Ran job old mid ending → Finishes ending mid.text text (SinkRose old new) status → Answers words old new status
@@ -108,8 +108,9 @@ module _ (words : List (List ℕ)) (old mid : Outside) (text : Option (List ℕ)
       let last = ending_behind ending mid.text text (SinkRose old new) status finishes (Cause words old new) (own_cause ending ran) tt (λ rose. rose) in
       let ends : (e : Expected) → JobSays old.content job e → PlaysAs deciding job e old new status = λ e says.
       let reads = ReadsRose (deciding e.ending job) old new in
+      let trace = ReadsRose (trace_of job) old new in
       let puts = PutsRose (puts_of job) old new in
-      let grew = ends_with_line e reads puts (SinkRose old new) old.text mid.text text status ending (ends_later e reads puts ending (ran.printed e says)) finishes in
+      let grew = ends_with_line e reads trace puts (SinkRose old new) old.text mid.text text status ending (ends_later e reads trace puts ending (ran.printed e says)) finishes in
       (grew.more, grew.grew, grew.ends) in
       record {
         ending = last.0;

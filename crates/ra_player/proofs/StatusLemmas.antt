@@ -9,7 +9,7 @@ use Rattle.ra_session.specs.Outside.{Outside, ReadsRose, SinkRose}
 use Rattle.ra_session.specs.Running.{deciding}
 use Rattle.ra_session.specs.declared.ending.Ending.{Ending}
 use Rattle.ra_session.specs.declared.ending.Ending.TheVariants.{Done, NoJob, BadSet, ReadFault, SinkFault, BadProgress, BadTrace, LongTrace, SaveFault, BadDocument, LongNormal, NoAchievement, ManyRows}
-use Rattle.ra_player.specs.Headline.{Decides, as_expected, save_failed, read_failed, Ends, whole, sink_failed, no_memory}
+use Rattle.ra_player.specs.Headline.{Decides, as_expected, save_failed, read_failed, trace_failed, Ends, whole, sink_failed, no_memory}
 use Rattle.ra_player.specs.Statuses.{IsStatus, IsBadSet, IsBadProgress, IsBadTrace, IsBadDocument, IsLongNormal, IsNoAchievement, IsManyRows, IsNoJob, MeetsReadFault, MeetsSaveFault, EndsAsSaid, Cause, PlaysWords, IsWhole, Answers, SaysEachStatus}
 
 -- which ending has a status
@@ -63,13 +63,14 @@ by_explain P p q (ManyRows found) is = q found
 by_explain P p q _ is = absurd (omega (arith, is))
 
 -- one ending is left where no fault decides, and memory that was wanting
-module _ (e : Expected) (reads puts sink : Type 0) (no_read : reads → ⊥) (no_put : e.ending ≡ Done → puts → ⊥) (no_write : sink → ⊥) where
-  decided : (ending : Ending) (text : List ℕ) → Decides e reads puts ending text → (status_of ending ≡ status_of e.ending) × (text ≡ concat e.pieces ++ last_line e.ending)
+module _ (e : Expected) (reads trace puts sink : Type 0) (no_read : reads → ⊥) (no_put : e.ending ≡ Done → puts → ⊥) (no_write : sink → ⊥) where
+  decided : (ending : Ending) (text : List ℕ) → Decides e reads trace puts ending text → (status_of ending ≡ status_of e.ending) × (text ≡ concat e.pieces ++ last_line e.ending)
   decided ending text as_expected = (refl, refl)
   decided ending text (save_failed put is) = absurd (no_put is put)
-  decided ending text (read_failed read records behind) = absurd (no_read read)
+  decided ending text (read_failed read behind) = absurd (no_read read)
+  decided ending text (trace_failed read trace records behind) = absurd (no_read read)
 
-  ended : (status : ℕ) (more : List ℕ) → Ends e reads puts sink status more → (status ≡ 1) ⊎ ((status ≡ status_of e.ending) × (more ≡ concat e.pieces ++ last_line e.ending))
+  ended : (status : ℕ) (more : List ℕ) → Ends e reads trace puts sink status more → (status ≡ 1) ⊎ ((status ≡ status_of e.ending) × (more ≡ concat e.pieces ++ last_line e.ending))
   ended status more (whole {ending} {text} decides) = inr (decided ending text decides)
   ended status more (sink_failed rose ending all decides front) = absurd (no_write rose)
   ended status more (no_memory ending all decides front) = inl refl
@@ -78,7 +79,7 @@ module _ (e : Expected) (reads puts sink : Type 0) (no_read : reads → ⊥) (no
 pub whole_of : (words : List (List ℕ)) (old new : Outside) (deciding : Ending → Job → List (List ℕ)) (status : ℕ) → PlaysWords words old new deciding status → IsWhole words old new deciding status
 whole_of words old new deciding status plays job e is says met =
     let played = plays.job job e is says in
-    elim (ended e _ _ _ met.read met.put met.write status played.0 played.2) [
+    elim (ended e _ _ _ _ met.read met.put met.write status played.0 played.2) [
       | inl memory ↦ inl memory
       | inr done ↦ inr (done.0, played.1 ∙ ap (grown old.text) done.1)
     ]
@@ -116,13 +117,14 @@ decides_of_job old new (NoAchievement n) (Normal set out) rose = rose
 decides_of_job old new (NoAchievement n) (Explain set trace id) rose = any_first _ set (trace ∷ []) rose
 decides_of_job old new _ job rose = rose
 
-module _ (e : Expected) (reads all puts sink : Type 0) (f : reads → all) where
-  decides_in : (ending : Ending) (text : List ℕ) → Decides e reads puts ending text → Decides e all puts ending text
+module _ (e : Expected) (reads all trace puts sink : Type 0) (f : reads → all) where
+  decides_in : (ending : Ending) (text : List ℕ) → Decides e reads trace puts ending text → Decides e all trace puts ending text
   decides_in ending text as_expected = as_expected
   decides_in ending text (save_failed put is) = save_failed put is
-  decides_in ending text (read_failed read records behind) = read_failed (f read) records behind
+  decides_in ending text (read_failed read behind) = read_failed (f read) behind
+  decides_in ending text (trace_failed read trace records behind) = trace_failed (f read) trace records behind
 
-  ends_in : (status : ℕ) (more : List ℕ) → Ends e reads puts sink status more → Ends e all puts sink status more
+  ends_in : (status : ℕ) (more : List ℕ) → Ends e reads trace puts sink status more → Ends e all trace puts sink status more
   ends_in status more (whole {ending} {text} decides) = whole (decides_in ending text decides)
   ends_in status more (sink_failed rose ending all decides front) = sink_failed rose ending all (decides_in ending all decides) front
   ends_in status more (no_memory ending all decides front) = no_memory ending all (decides_in ending all decides) front
@@ -133,7 +135,7 @@ plays_in words old new status plays = record {
   no_job = plays.no_job;
   job = λ job e is says.
       let played = plays.job job e is says in
-      (played.0, played.1, ends_in e _ _ _ _ (decides_of_job old new e.ending job) status played.0 played.2);
+      (played.0, played.1, ends_in e _ _ _ _ _ (decides_of_job old new e.ending job) status played.0 played.2);
 }
 
 module _ (words : List (List ℕ)) (old new : Outside) where

@@ -1,5 +1,5 @@
 -- A job that prints one text: a line, or a text of a set.
-use Rattle.std.proofs.Common.{◌≡◌, ap, sym, subst, refl, ◌∙◌, ℕ, take, List, [], ◌∷◌, Option}
+use Rattle.std.proofs.Common.{◌≡◌, ap, sym, subst, refl, ◌∙◌, ℕ, take, List, [], ◌∷◌, Option, inl}
 use Rattle.std.specs.List.{concat}
 use Rattle.ra_set.proofs.AnswerLemmas.{one-refusal, set-not_refused, same-set}
 use Rattle.ra_set.specs.Contents.{SetContents}
@@ -93,7 +93,7 @@ module _ (job : Job) (text : SetContents → List ℕ) (set : List ℕ) (tells_s
   no_set_prints : (e : Expected) (failed : SetFailed) → HasNoSet (old.content set) (Rose (old.read_faults set) (new.read_faults set)) failed → SetSays text old.content set e → new.text ≡ old.text → PrintsSoFar job old new (ending_of_set failed) e
   no_set_prints e set_failed.Memory lacks says same = part_none old.text new.text (concat e.pieces) same
   no_set_prints e set_failed.Read lacks says same =
-      (subst (λ names. ReadsRose names old new) (sym (tells_set.decides e.ending)) (rose_here lacks), (0, set_told text old.content set e says, same ∙ sym (grown-nil old.text)))
+      (subst (λ names. ReadsRose names old new) (sym (tells_set.decides e.ending)) (rose_here lacks), inl (set_told text old.content set e says, same))
   no_set_prints e (set_failed.Refused why) lacks (refuses_set file found told refuses) same = (ap BadSet (one-refusal (take 4194305 file) found why refuses (lacks file told)), same ∙ sym (grown-nil old.text))
   no_set_prints e (set_failed.Refused why) lacks (tells file c told is) same = absurd (set-not_refused (take 4194305 file) c why (set_read_of (take 4194305 file) file c refl is) (lacks file told))
 

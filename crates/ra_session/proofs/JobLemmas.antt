@@ -14,11 +14,11 @@ use Rattle.ra_progress.specs.Contents.{Opening}
 use Rattle.ra_jobs.specs.Words.{Job, Run, file_in, puts_of, reads_of}
 use Rattle.ra_meaning.specs.Earned.{Earned}
 use Rattle.ra_session.specs.Expected.{Expected, RunSays, played}
-use Rattle.ra_session.specs.Closing.{EndsBefore}
+use Rattle.ra_session.specs.Closing.{EndsBefore, EndsJob}
 use Rattle.ra_session.specs.Failures.{ending_at, ending_of_load, ending_of_put, ending_of_trace}
 use Rattle.ra_session.specs.Loading.{BeginsAt, IsLoaded}
 use Rattle.ra_session.specs.Outside.{Outside, ReadsRose, PutsRose, SinkRose, AreTold}
-use Rattle.ra_session.specs.Running.{Ran, Leaves, HasBytes, IsTold, IsCounted, PrintsSoFar, deciding}
+use Rattle.ra_session.specs.Running.{Ran, Leaves, HasBytes, IsTold, IsCounted, PrintsSoFar, deciding, trace_of}
 use Rattle.ra_session.specs.declared.ending.Ending.{Ending}
 use Rattle.ra_session.specs.declared.ending.Ending.TheVariants.{Done}
 use Rattle.ra_session.specs.declared.failures.LoadFailed.{LoadFailed}
@@ -59,11 +59,11 @@ trace_not_done failed.Memory is = absurd (cc)
 trace_not_done _ is = absurd (cc)
 
 -- with the causes that a run counts
-with_causes : {T : Type 0} (e : Expected) (reads puts sink : Type 0) (old new : Option (List ℕ)) (r : Result T TraceFailed) → (IsErrOf r failed.Read → reads) → (IsErrOf r failed.Write → sink) → EndsBefore e ⊤ ⊤ ⊤ (ending_at r) old new
-    → EndsBefore e reads puts sink (ending_at r) old new
-with_causes e reads puts sink old new (Err failed.Read) read wrote before = (read refl, before.1)
-with_causes e reads puts sink old new (Err failed.Write) read wrote before = (wrote refl, before.1)
-with_causes e reads puts sink old new _ read wrote before = before
+with_causes : {T : Type 0} (e : Expected) (reads trace puts sink : Type 0) (old new : Option (List ℕ)) (r : Result T TraceFailed) → (IsErrOf r failed.Read → reads × trace) → (IsErrOf r failed.Write → sink) → EndsBefore e ⊤ ⊤ ⊤ (ending_at r) old new
+    → EndsJob e reads trace puts sink (ending_at r) old new
+with_causes e reads trace puts sink old new (Err failed.Read) read wrote before = let rose = read refl in (rose.0, inr (rose.1, before.1))
+with_causes e reads trace puts sink old new (Err failed.Write) read wrote before = (wrote refl, before.1)
+with_causes e reads trace puts sink old new _ read wrote before = before
 
 module _ (set trace : List ℕ) (restore save : Option (List ℕ)) (old new : Outside) where
   abbrev job : Job
@@ -92,7 +92,8 @@ module _ (set trace : List ℕ) (restore save : Option (List ℕ)) (old new : Ou
     played_prints e says =
         let from = from_there e says in
         let decides : deciding e.ending job ≡ reads_of job = ap (λ (e : Expected). deciding e.ending job) from.is ∙ stop_decides _ job in
-        with_causes e (ReadsRose (deciding e.ending job) old new) (PutsRose (puts_of job) old new) (SinkRose old new) old.text new.text r (λ is. subst (λ names. ReadsRose names old new) (sym decides) (trace_rose (p.read is))) p.wrote
+        with_causes e (ReadsRose (deciding e.ending job) old new) (ReadsRose (trace_of job) old new) (PutsRose (puts_of job) old new) (SinkRose old new) old.text new.text r
+        (λ is. (subst (λ names. ReadsRose names old new) (sym decides) (trace_rose (p.read is)), any_first _ trace [] (p.read is))) p.wrote
         (subst (λ (e : Expected). EndsBefore e ⊤ ⊤ ⊤ (ending_at r) old.text new.text) (sym from.is) (p.printed from.file from.opening from.behind from.earned from.told from.at))
 
     played_said : AreTold old.content (reads_of job) → (e : Expected) × RunSays old.content set trace restore e

@@ -1,5 +1,5 @@
 -- What a run begins with, and what its files then say.
-use Rattle.std.proofs.Common.{◌≡◌, ap, sym, subst, refl, ◌∙◌, ℕ, ◌+◌, take, List, [], ◌∷◌, Option, Some, None}
+use Rattle.std.proofs.Common.{◌≡◌, ap, sym, subst, refl, ◌∙◌, ℕ, ◌+◌, take, List, [], ◌∷◌, Option, Some, None, inl}
 use Rattle.std.specs.List.{concat}
 use Rattle.std.proofs.lemmas.Option.{none-some}
 use Rattle.ra_io.specs.Causes.{Rose}
@@ -127,11 +127,11 @@ module _ (set trace : List ℕ) (save : Option (List ℕ)) (old new : Outside) w
   -- what a run has printed that did not begin
   not_begun : (restore : Option (List ℕ)) (e : Expected) (failed : LoadFailed) → Lacks restore failed → RunSays old.content set trace restore e → new.text ≡ old.text → PrintsSoFar (job restore) old new (ending_of_load failed) e
   not_begun restore e (load.Set no_set.Memory) lacks says same = part_none old.text new.text (concat e.pieces) same
-  not_begun restore e (load.Set no_set.Read) lacks says same = (set_decides restore e.ending lacks, (0, run_read old.content set trace restore e says, same ∙ sym (grown-nil old.text)))
+  not_begun restore e (load.Set no_set.Read) lacks says same = (set_decides restore e.ending lacks, inl (run_read old.content set trace restore e says, same))
   not_begun restore e (load.Set (no_set.Refused why)) lacks says same = no_set_prints restore e why lacks says same
   not_begun restore e (load.Progress no_file.Memory) lacks says same = part_none old.text new.text (concat e.pieces) same
   not_begun restore e (load.Progress no_file.Read) lacks says same =
-      (file_decides lacks.0 restore e (says_of old.content set trace restore lacks.0 e lacks.1 says) lacks.2, (0, run_read old.content set trace restore e says, same ∙ sym (grown-nil old.text)))
+      (file_decides lacks.0 restore e (says_of old.content set trace restore lacks.0 e lacks.1 says) lacks.2, inl (run_read old.content set trace restore e says, same))
   not_begun restore e (load.Progress (no_file.Refused why)) lacks says same =
       refused_so lacks.0 restore e why lacks.1 (says_of old.content set trace restore lacks.0 e lacks.1 says) lacks.2 same
 

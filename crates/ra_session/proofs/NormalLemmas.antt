@@ -1,5 +1,5 @@
 -- A normal text: its set gives none, it is not put, or its line is printed behind the put.
-use Rattle.std.proofs.Common.{◌≡◌, ◌≢◌, ◌∙◌, ap, sym, subst, refl, ℕ, length, take, List, [], ◌∷◌, Option, Some, Err, string_bytes}
+use Rattle.std.proofs.Common.{◌≡◌, ◌≢◌, ◌∙◌, ap, sym, subst, refl, ℕ, length, take, List, [], ◌∷◌, Option, Some, Err, string_bytes, inl}
 use Rattle.std.specs.List.{concat}
 use Rattle.std.specs.Result.{IsErrOf}
 use Rattle.ra_io.specs.Causes.{Rose}
@@ -72,7 +72,7 @@ module _ (set out : List ℕ) (old new : Outside) where
   no_normal_prints : (e : Expected) (failed : NormalFailed) → HasNoNormal (old.content set) (Rose (old.read_faults set) (new.read_faults set)) failed → NormalSays old.content set e
       → new.text ≡ old.text → PrintsSoFar job old new (ending_of_normal failed) e
   no_normal_prints e (no_normal.Set no_set.Memory) lacks says same = part_none old.text new.text (concat e.pieces) same
-  no_normal_prints e (no_normal.Set no_set.Read) lacks says same = (rose_here e lacks, (0, normal_read old.content set e says, same ∙ sym (grown-nil old.text)))
+  no_normal_prints e (no_normal.Set no_set.Read) lacks says same = (rose_here e lacks, inl (normal_read old.content set e says, same))
   no_normal_prints e (no_normal.Set (no_set.Refused why)) lacks says same = refused_prints e why lacks says same
   no_normal_prints e (no_normal.Refused normal.Memory) lacks says same = part_none old.text new.text (concat e.pieces) same
   no_normal_prints e (no_normal.Refused (normal.Limit which found)) lacks says same = limit_prints e which found lacks says same

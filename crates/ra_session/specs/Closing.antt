@@ -25,3 +25,14 @@ EndsBefore e reads puts sink SinkFault old new = sink × GrewByPart old new (con
 EndsBefore e reads puts sink ReadFault old new = reads × ((records : ℕ) × IsReadBehind e records × (new ≡ grown old (concat (take records e.pieces))))
 EndsBefore e reads puts sink SaveFault old new = puts × (e.ending ≡ Done) × (new ≡ grown old (concat (before_put e)))
 EndsBefore e reads puts sink ending old new = (e.ending ≡ ending) × (new ≡ grown old (concat e.pieces))
+
+-- where a read failed: one of a file that decides before anything was printed, or also one of the trace behind some
+-- records
+abbrev pub EndsAtRead : Expected → (reads trace : Type 0) → (old new : Option (List ℕ)) → Type 0
+EndsAtRead e reads trace old new =
+    reads × ((IsReadBehind e 0 × (new ≡ old)) ⊎ (trace × ((records : ℕ) × IsReadBehind e records × (new ≡ grown old (concat (take records e.pieces))))))
+
+-- the same of a job, whose trace is told apart from the other files that decide
+abbrev pub EndsJob : Expected → (reads trace puts sink : Type 0) → Ending → (old new : Option (List ℕ)) → Type 0
+EndsJob e reads trace puts sink ReadFault old new = EndsAtRead e reads trace old new
+EndsJob e reads trace puts sink ending old new = EndsBefore e reads puts sink ending old new

@@ -1,10 +1,10 @@
 -- What a job has done before its last line: docs/DEFINITIONS.md, "What each status says".
-use Rattle.std.specs.Prelude.{◌≡◌, ◌≢◌, ◌⊎◌, ⊤, ℕ, Option, Some, List, is_some, true}
+use Rattle.std.specs.Prelude.{◌≡◌, ◌≢◌, ◌⊎◌, ⊤, ℕ, Option, Some, List, [], ◌∷◌, is_some, true}
 use Rattle.std.specs.List.{AllByRecursion}
 use Rattle.ra_io.specs.Files.{SameContent}
-use Rattle.ra_jobs.specs.Words.{Job, Import, Normal, reads_of, puts_of, set_read, first_reads}
+use Rattle.ra_jobs.specs.Words.{Job, Run, Explain, Import, Normal, reads_of, puts_of, set_read, first_reads}
 use Rattle.ra_session.specs.Expected.{Expected, JobSays}
-use Rattle.ra_session.specs.Closing.{EndsBefore}
+use Rattle.ra_session.specs.Closing.{EndsJob}
 use Rattle.ra_session.specs.Outside.{Outside, ReadsRose, PutsRose, SinkRose, AreTold}
 use Rattle.ra_session.specs.declared.ending.Ending.{Ending}
 use Rattle.ra_session.specs.declared.ending.Ending.TheVariants.{Done, NoMemory, NoJob, BadSet, ReadFault, SinkFault, BadProgress, SaveFault, NoAchievement}
@@ -25,6 +25,12 @@ deciding (BadProgress why) job = first_reads job
 deciding (NoAchievement id) job = set_read job
 deciding _ job = reads_of job
 
+-- the trace that a job reads record by record
+abbrev pub trace_of : Job → List (List ℕ)
+trace_of (Run set trace restore save) = trace ∷ []
+trace_of (Explain set trace id) = trace ∷ []
+trace_of _ = []
+
 module _ (job : Job) (old new : Outside) where
   -- what was counted where a fault ended the job; no job ends as words that are none do
   abbrev pub IsCounted : Ending → Type 0
@@ -37,7 +43,8 @@ module _ (job : Job) (old new : Outside) where
   -- what is printed up to the last line of a job that ended so and is expected to say this
   abbrev pub PrintsSoFar : Ending → Expected → Type 0
   PrintsSoFar ending e =
-      EndsBefore e (ReadsRose (deciding e.ending job) old new) (PutsRose (puts_of job) old new) (SinkRose old new) ending old.text new.text
+      EndsJob e (ReadsRose (deciding e.ending job) old new) (ReadsRose (trace_of job) old new) (PutsRose (puts_of job) old new) (SinkRose old new)
+      ending old.text new.text
 
   -- A job ended so: what was printed is what the told files say, and a fault that ended it was counted.
   pub record Ran (ending : Ending) : Type 0 where
