@@ -29,6 +29,6 @@ module _ (set : SetContents) (size : ℕ) (is_shape : IsShape (shape_of set)) wh
   all_succeed runtime (Restore bytes ∷ calls) is long may =
       (subst (λ (s : SetContents). refusal (shape_of s) bytes ≡ None) (sym is) (saved_accepted bytes may.0), λ new left. all_succeed new calls (left.set ∙ is) (ap length left.image ∙ long) may.1)
 
-pub calls_succeed : (set : SetContents) → CallsSucceed set
-calls_succeed set size runtime calls is_shape made may =
+pub calls_succeed : (set : SetContents) → IsShape (shape_of set) → CallsSucceed set
+calls_succeed set is_shape size runtime calls made may =
     all_succeed set size is_shape runtime calls made.set_too (ap length made.image ∙ length-replicate size 0) may

@@ -16,7 +16,7 @@ use Rattle.ra_set.proofs.ScriptLines.{parts-lines}
 use Rattle.ra_set.proofs.SetStructure.{contents-items}
 use Rattle.ra_progress.specs.Laws.{IsShape}
 use Rattle.ra_progress.specs.Names.{IsName}
-use Rattle.ra_meaning.specs.OpeningLaws.{HasDigests}
+use Rattle.ra_meaning.specs.OpeningLaws.{HasDigests, IsComplete}
 use Rattle.ra_meaning.specs.Order.{shape_of}
 use Rattle.ra_meaning.proofs.Digests.{md5_bytes}
 use Rattle.ra_meaning.proofs.Each.{each_map}
@@ -56,8 +56,18 @@ set_digests file set s = record {
   script = subst (λ name. IfSome name IsName) (sym s.script_name) (script_digest (script_text file));
 }
 
+pub set_complete : (file : List ℕ) (set : SetContents) → IsSet file set → IsComplete set
+set_complete file set s = record {
+  limits = s.limits;
+  spelled = set_spelled file set s;
+  named = set-named file set s;
+  digests = set_digests file set s;
+}
+
+pub complete_shape : (set : SetContents) → IsComplete set → IsShape (shape_of set)
+complete_shape set is =
+    is_shape set is.limits is.spelled is.named is.digests
+    (small_shape set is.limits is.spelled (few_cells set is.limits) (few_tracked set is.limits))
+
 pub set_shape : (file : List ℕ) (set : SetContents) → IsSet file set → IsShape (shape_of set)
-set_shape file set s =
-    let spelled = set_spelled file set s in
-    is_shape set s.limits spelled (set-named file set s) (set_digests file set s)
-    (small_shape set s.limits spelled (few_cells set s.limits) (few_tracked set s.limits))
+set_shape file set s = complete_shape set (set_complete file set s)

@@ -2,7 +2,6 @@
 use Rattle.std.specs.Prelude.{◌≡◌, ℕ, ◌+◌, ◌≤◌, None, List, [], ◌∷◌, length}
 use Rattle.std.specs.List.{AllByRecursion}
 use Rattle.ra_set.specs.Contents.{SetContents}
-use Rattle.ra_progress.specs.Laws.{IsShape}
 use Rattle.ra_progress.specs.Reading.{refusal}
 use Rattle.ra_meaning.specs.Order.{shape_of}
 use Rattle.ra_meaning.specs.Runtime.{RuntimeSeen, IsMade, IsWritten, TakesFrame, TakesUp}
@@ -41,4 +40,4 @@ AllSucceed runtime (call ∷ calls) =
 -- over a runtime that was made, every list of calls that may come succeeds
 abbrev pub CallsSucceed : SetContents → Type 0
 CallsSucceed set =
-    (size : ℕ) (runtime : RuntimeSeen) (calls : List Call) → IsShape (shape_of set) → IsMade set size runtime → AllByRecursion (MayCome set size) calls → AllSucceed runtime calls
+    (size : ℕ) (runtime : RuntimeSeen) (calls : List Call) → IsMade set size runtime → AllByRecursion (MayCome set size) calls → AllSucceed runtime calls

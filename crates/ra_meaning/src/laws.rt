@@ -4,10 +4,12 @@ ghost use Rattle.ra_meaning.specs.Changed.{AllNamesApart, IsItemByItem, NamesApa
 ghost use Rattle.std.specs.Prelude.{ℕ, List};
 ghost use Rattle.ra_set.specs.Contents.{SetContents};
 ghost use Rattle.ra_memref.specs.Values.{Start};
+ghost use Rattle.ra_progress.specs.Laws.{IsShape};
 ghost use Rattle.ra_meaning.specs.Calls.{CallsSucceed};
 ghost use Rattle.ra_meaning.specs.EarnedLaws.{StayEarned};
 ghost use Rattle.ra_meaning.specs.FoldLaws.{AreFolds};
-ghost use Rattle.ra_meaning.specs.OpeningLaws.{HasOpenings};
+ghost use Rattle.ra_meaning.specs.OpeningLaws.{HasOpenings, IsComplete};
+ghost use Rattle.ra_meaning.specs.Order.{shape_of};
 ghost use Rattle.ra_meaning.specs.Runtime.{CutsAnywhere};
 
 /// A history may be cut at any frame: docs/DEFINITIONS.md, "The law of cuts".
@@ -28,14 +30,17 @@ pub fn earned_achievements_stay_earned()
 /// Writes that fit, frames and restores of saved bytes succeed over a made runtime, in any number and
 /// order: docs/DEFINITIONS.md, "Calls that take no memory".
 ///
-/// A law: it does nothing.
+/// A law: it does nothing. It holds for every set that a file gives, and for every one whose own bytes are no longer than a
+/// progress file may be.
 pub fn calls_succeed()
-    ensures { (set : SetContents) → CallsSucceed set }
+    ensures complete { (set : SetContents) → IsComplete set → CallsSucceed set }
+    ensures shaped { (set : SetContents) → IsShape (shape_of set) → CallsSucceed set }
 {}
 
 /// The plain opening of a set is an opening of it, and so is the snapshot after each history, which after none is the
-/// opening before it. What accepted bytes say is an opening, and its bytes are they: docs/DEFINITIONS.md, "Openings and
-/// snapshots" and "Progress file".
+/// opening before it. What accepted bytes say is an opening, and its bytes are they. The own bytes of a set that a file
+/// gives are no longer than a progress file may be, and what an opening keeps for its boards and its display has their
+/// shapes: docs/DEFINITIONS.md, "Openings and snapshots" and "Progress file".
 ///
 /// A law: it does nothing. It holds for every set; of the first two for every one that some file spells.
 pub fn openings_stand()
