@@ -44,3 +44,13 @@ module _ (nodes : List Node) (values : List ℕ) (start : Start) (count : ℕ) (
   shows (Some script) (Some run) rests None is are fits same = absurd fits
   shows (Some script) (Some run) rests (Some opened) is are fits same =
       shows_script script run rests opened is are fits (let e : presence_seen run rests ≡ presence_after start script opened history = cc in e)
+
+-- a display shows what the definitions say of what it is seen to keep itself
+pub shows_now : (nodes : List Node) (values : List ℕ) (start : Start) (count : ℕ) (script : Option ScriptContents) (run : Option PresenceRun) (rests : LineRests) → IsOptionalPresence nodes script run → AreOptionalRests nodes values script run rests → optional_text count script run ≡ shown_by start count [] script (optional_presence_seen run rests)
+shows_now nodes values start count None None rests is are = refl
+shows_now nodes values start count None (Some run) rests is are = absurd is
+shows_now nodes values start count (Some script) None rests is are = absurd is
+shows_now nodes values start count (Some script) (Some run) rests is are =
+    let again = display_again script (display_seen run rests) (lines_shaped nodes values script.lines run.lines.items rests is.lines are) in
+    ap (λ t. line_of (codes "presence" ∷ decimal count ∷ t ∷ []))
+    (text_seen script run rests (lines_fitting nodes values script.lines run.lines.items rests is.lines are) ∙ ap (display_text script) (sym again))

@@ -2,3 +2,4 @@ pub mod Courses
 pub mod Laid
 pub mod Numbers
 pub mod Seen
+pub mod Told

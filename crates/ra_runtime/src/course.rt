@@ -1,13 +1,14 @@
-ghost use Rattle.std.specs.Prelude.{◌≡◌, ◌++◌, ◌+◌, ◌-◌, ◌≤◌, ◌^◌, ℕ, List, None, Some, option_map, length, IfOk, IfErr, OnOk, OnErr};
+ghost use Rattle.std.specs.Prelude.{◌≡◌, ◌++◌, ◌+◌, ◌-◌, ◌≤◌, ◌^◌, ℕ, List, [], None, Some, option_map, length, IfOk, IfErr, OnOk, OnErr};
 ghost use Rattle.ra_set.specs.Contents.{set_contents};
 ghost use Rattle.ra_set.specs.Limits.{IsWithinLimits};
 ghost use Rattle.ra_set.specs.Names.{IsNamed};
-ghost use Rattle.ra_progress.specs.Contents.{shape_contents};
+ghost use Rattle.ra_progress.specs.Contents.{IsOpening, shape_contents};
 ghost use Rattle.ra_progress.specs.Names.{IsUsable};
 ghost use Rattle.ra_progress.specs.Reading.{IsAccepted, refusal};
 ghost use Rattle.ra_progress.specs.Spelling.{progress_bytes};
 ghost use Rattle.ra_items.specs.ItemStates.{state_at};
 ghost use Rattle.ra_meaning.specs.Order.{shape_of};
+ghost use Rattle.ra_meaning.specs.Play.{shown};
 ghost use Rattle.ra_meaning.specs.Saving.{IsSaved};
 ghost use Rattle.ra_set.specs.Spelled.{IsSpelled};
 
@@ -65,6 +66,7 @@ impl Course {
     ghost use Rattle.ra_meaning.specs.Lines.{IsTextOf};
     ghost use Rattle.ra_meaning.specs.Runtime.{ReadsFew, ShowsKept, TakesFrame, TakesUp};
     ghost use Rattle.ra_runtime.specs.Courses.{over, IsBegun, IsCurrent, IsTold};
+    ghost use Rattle.ra_runtime.specs.Told.{GrewByFront};
 
     /// A set over images of `size` bytes, before the first frame: docs/DEFINITIONS.md, "What a runtime keeps".
     ///
@@ -113,6 +115,7 @@ impl Course {
     pub fn save(&self, alloc: Global) -> Result<Vec<u8>, OutOfMemory>
         ensures bytes { IfOk result (λ bytes. bytes.items ≡ progress_bytes (shape_of self.now.set) self.now.kept) }
         ensures saved { IfOk result (λ bytes. IsSaved self.now.set bytes.items) }
+        ensures opening { OnOk result (IsOpening (shape_of self.now.set) self.now.kept) }
     {
         let cells = self.table.cells();
         let priors = self.table.priors();
@@ -207,9 +210,10 @@ impl Course {
     }
 
     /// Puts the lines of the events of the last frame, where one came, at the end of a text; they are the text of
-    /// its events.
+    /// its events. On want of memory the text grew by a front of them.
     pub fn tell_lines(&self, text: &mut Vec<u8>) -> Result<(), OutOfMemory>
         ensures put { OnOk result (text.new.items ≡ text.old.items ++ self.now.lines) }
+        ensures front { OnErr result (GrewByFront text.old.items text.new.items self.now.lines) }
         ensures of_events { IsTextOf self.now.lines self.now.events }
     {
         match self.last {
@@ -252,7 +256,8 @@ impl Course {
     /// The presence line after the last frame, with the count of frames: docs/DEFINITIONS.md, "Presence
     /// over frames". Empty where the set has no script.
     pub fn show(&self, alloc: Global) -> Result<Vec<u8>, OutOfMemory>
-        ensures { IfOk result (λ text. (image : List ℕ) → ShowsKept (over self.now image) text.items) }
+        ensures shows { IfOk result (λ text. (image : List ℕ) → ShowsKept (over self.now image) text.items) }
+        ensures now { IfOk result (λ text. text.items ≡ shown self.now.set self.now.kept []) }
     {
         shown_line(alloc, self.count, &self.set.script, &self.presence)
     }

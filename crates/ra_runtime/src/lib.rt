@@ -5,6 +5,7 @@ mod course;
 mod numbers;
 mod runtime;
 mod shapes;
+mod tallied;
 mod written;
 
 pub use course::Course;

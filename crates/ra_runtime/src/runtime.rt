@@ -1,18 +1,20 @@
-ghost use Rattle.std.specs.Prelude.{◌≡◌, ◌++◌, ◌+◌, ◌-◌, ◌<◌, ◌≤◌, ◌^◌, None, Some, option_map, length, IfOk, IfErr, OnOk, OnErr};
+ghost use Rattle.std.specs.Prelude.{◌≡◌, ◌++◌, ◌+◌, ◌-◌, ◌<◌, ◌≤◌, ◌^◌, [], None, Some, option_map, length, IfOk, IfErr, OnOk, OnErr};
 ghost use Rattle.ra_set.specs.Contents.{set_contents};
 ghost use Rattle.ra_set.specs.Limits.{IsWithinLimits};
 ghost use Rattle.ra_set.specs.Names.{IsNamed};
-ghost use Rattle.ra_progress.specs.Contents.{shape_contents};
+ghost use Rattle.ra_progress.specs.Contents.{IsOpening, shape_contents};
 ghost use Rattle.ra_progress.specs.Names.{IsUsable};
 ghost use Rattle.ra_progress.specs.Reading.{IsAccepted, refusal};
 ghost use Rattle.ra_progress.specs.Spelling.{progress_bytes};
 ghost use Rattle.ra_memref.specs.Marks.{reads_of};
 ghost use Rattle.ra_items.specs.ItemStates.{state_at};
 ghost use Rattle.ra_meaning.specs.Order.{shape_of};
+ghost use Rattle.ra_meaning.specs.Play.{shown};
 ghost use Rattle.ra_meaning.specs.Saving.{IsSaved};
 ghost use Rattle.ra_set.specs.Spelled.{IsSpelled};
 
 use crate::course::Course;
+use crate::tallied::Tallied;
 use ra_items::{Events, ItemState};
 use ra_memory::{Counted, Memory, Steps};
 use ra_progress::{ProgressRefused, Shape};
@@ -46,6 +48,7 @@ impl Model for Runtime {
 impl Runtime {
     ghost use Rattle.ra_meaning.specs.Lines.{IsTextOf};
     ghost use Rattle.ra_meaning.specs.Runtime.{IsMade, IsWritten, ReadsFew, ShowsKept, TakesFrame, TakesUp};
+    ghost use Rattle.ra_runtime.specs.Told.{CountsReads, GrewByFront};
 
     /// A set over a memory of `size` bytes, all 0, before the first frame: docs/DEFINITIONS.md, "What a
     /// runtime keeps".
@@ -86,6 +89,7 @@ impl Runtime {
     pub fn save(&self, alloc: Global) -> Result<Vec<u8>, OutOfMemory>
         ensures bytes { IfOk result (λ bytes. bytes.items ≡ progress_bytes (shape_of self.now.set) self.now.kept) }
         ensures saved { IfOk result (λ bytes. IsSaved self.now.set bytes.items) }
+        ensures opening { OnOk result (IsOpening (shape_of self.now.set) self.now.kept) }
     {
         self.course.save(alloc)
     }
@@ -114,24 +118,33 @@ impl Runtime {
         });
     }
 
-    /// Takes one frame, as `frame` does, where nobody counts what is read. No memory is taken.
-    pub fn advance(&mut self)
+    /// Takes one frame, as `frame` does with a counter of its own, and answers how many reads it took, at most
+    /// 18,446,744,073,709,551,615. No memory is taken.
+    pub fn advance(&mut self) -> u64
         ensures taken { TakesFrame self.old self.new }
         ensures reads { ReadsFew self.old self.new (reads_of self.old.marked self.old.places self.new.places) }
+        ensures counted { CountsReads self.old self.new result }
     {
-        self.take_frame::<Brand>(Blank::new(1));
+        self.take_frame::<Brand>(Blank::new(1))
     }
 
-    // Takes one frame, and counts what is read by this blank.
-    fn take_frame<L: Ledger>(&mut self, blank: Blank)
+    // Takes one frame, and counts what is read by this blank and by number.
+    fn take_frame<L: Ledger>(&mut self, blank: Blank) -> u64
         requires name { blank.name ≡ L.name }
         requires parts { blank.parts ≡ L.parts }
         requires held { 0 < blank.parts }
         ensures taken { TakesFrame self.old self.new }
         ensures reads { ReadsFew self.old self.new (reads_of self.old.marked self.old.places self.new.places) }
+        ensures counted { CountsReads self.old self.new result }
     {
         let mut steps = Steps::<L>::open(blank);
-        self.frame(&mut steps);
+        let mut image = Tallied {
+            memory: &self.memory,
+            steps: &mut steps,
+            count: 0,
+        };
+        self.course.frame(&mut image);
+        image.count
     }
 
     /// The events of the last frame, items in set order: docs/DEFINITIONS.md, "Events". None where no
@@ -154,9 +167,10 @@ impl Runtime {
     }
 
     /// Puts the lines of the events of the last frame at the end of a text, in the room that it has:
-    /// docs/DEFINITIONS.md, "Printed lines". None where no frame came. For want of memory some may stand there.
+    /// docs/DEFINITIONS.md, "Printed lines". None where no frame came. On want of memory the text grew by a front of them.
     pub fn put_lines(&self, text: &mut Vec<u8>) -> Result<(), OutOfMemory>
-        ensures { OnOk result (text.new.items ≡ text.old.items ++ self.now.lines) }
+        ensures put { OnOk result (text.new.items ≡ text.old.items ++ self.now.lines) }
+        ensures front { OnErr result (GrewByFront text.old.items text.new.items self.now.lines) }
     {
         self.course.tell_lines(text)
     }
@@ -192,7 +206,8 @@ impl Runtime {
     /// The presence line after the last frame, with the count of frames: docs/DEFINITIONS.md, "Presence
     /// over frames". Empty where the set has no script.
     pub fn show(&self, alloc: Global) -> Result<Vec<u8>, OutOfMemory>
-        ensures { IfOk result (λ text. ShowsKept self.now text.items) }
+        ensures shows { IfOk result (λ text. ShowsKept self.now text.items) }
+        ensures now { IfOk result (λ text. text.items ≡ shown self.now.set self.now.kept []) }
     {
         self.course.show(alloc)
     }

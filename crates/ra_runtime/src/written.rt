@@ -1,11 +1,12 @@
 //! The lines of events.
 
 ghost use Rattle.std.specs.Prelude.{◌≡◌, ◌∷◌, [], ◌++◌, codes, decimal};
-ghost use Rattle.std.specs.Result.{OnOk};
+ghost use Rattle.std.specs.Result.{OnErr, OnOk};
 ghost use Rattle.std.specs.List.{AllByRecursion};
 ghost use Rattle.std.specs.Fmt.{signed_decimal};
 ghost use Rattle.ra_value_format.specs.Formats.{HasDigits, formatted};
 ghost use Rattle.ra_meaning.specs.Lines.{HasEventDigits, event_line, event_lines, line_of};
+ghost use Rattle.ra_runtime.specs.Told.{GrewByFront};
 
 use ra_items::Events;
 use ra_meaning::Event;
@@ -22,17 +23,21 @@ pub(crate) struct Subject {
     pub id: u32,
 }
 
-// Puts the lines of events at the end of a text.
+// Puts the lines of events at the end of a text, one after the other as each is whole.
 pub(crate) fn put_events(
     out: &mut Vec<u8>,
     frame: u64,
     events: Events<'_>,
 ) -> Result<(), OutOfMemory>
     requires { AllByRecursion HasEventDigits events }
-    ensures { OnOk result (out.new.items ≡ out.old.items ++ event_lines frame events.entry) }
+    ensures put { OnOk result (out.new.items ≡ out.old.items ++ event_lines frame events.entry) }
+    ensures front { OnErr result (GrewByFront out.old.items out.new.items (event_lines frame events.entry)) }
 {
+    let mut line = Vec::new(*out.allocator());
     for event in events {
-        put_event(out, frame, event)?;
+        line.clear();
+        put_event(&mut line, frame, event)?;
+        out.extend_from_slice(line.as_slice())?;
     }
     Ok(())
 }

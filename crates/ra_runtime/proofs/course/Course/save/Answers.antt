@@ -5,7 +5,7 @@ use Rattle.ra_memref.specs.Names.{cell_name, tracked_name}
 use Rattle.ra_set.specs.Contents.{set_contents}
 use Rattle.ra_words.specs.Words.{AreWords}
 use Rattle.ra_progress.specs.declared.shape.ItemShape.{ItemShape}
-use Rattle.ra_progress.specs.Contents.{ShapeContents, shape_contents, ItemsFit}
+use Rattle.ra_progress.specs.Contents.{ShapeContents, shape_contents, IsOpening, ItemsFit}
 use Rattle.ra_progress.specs.Layout.{item_length}
 use Rattle.ra_progress.specs.Spelling.{progress_bytes, body_bytes, item_bytes, presence_block, named_blocks}
 use Rattle.ra_progress.specs.Writing.{front_bytes}
@@ -18,7 +18,6 @@ use Rattle.ra_runtime.specs.Laid.{opening_by}
 use Rattle.ra_items.specs.Rests.{AreFitting, seen_by}
 use Rattle.ra_runtime.specs.Courses.{CourseSeen}
 use Rattle.ra_items.specs.Shapes.{run_shape}
-use Rattle.ra_meaning.specs.Saving.{IsSaved}
 use Rattle.ra_items.proofs.ShapeLemmas.{runs_shaped}
 use Rattle.ra_runtime.proofs.LaidShapes.{presence_shaped}
 use Rattle.ra_items.proofs.RunsLemmas.{length_runs}
@@ -98,8 +97,8 @@ returns-clause-bytes c =
     subst (λ (r : CourseSeen). c.close.new.bytes.items ≡ progress_bytes (shape_of r.set) r.kept) c.self.view_is
     (c.in_ok-close.ensures ∙ ap (λ xs. xs ++ md5 xs) body ∙ ap (λ (s : ShapeContents). progress_bytes s o) inv.shape)
 
-pub returns-clause-saved : goal.returns-clause-saved
-returns-clause-saved c =
+pub returns-clause-opening : goal.returns-clause-opening
+returns-clause-opening c =
     let inv = c.self.invariant in
     let set = set_contents c.self.inside.set in
     let table = c.self.inside.table in
@@ -111,6 +110,9 @@ returns-clause-saved c =
     subst (λ (s : ShapeContents). AreWords (length s.priors) table.priors) inv.shape (rw c.priors-priors.ensures at c.in_ok-bytes.ensures.priors) in
     let kept = seen_by runs c.self.inside.rests in
     let fit = subst (λ (rs : List ItemRun). ItemsFit (map run_shape rs) (seen_by rs c.self.inside.rests)) c.deref-2.ensures.value c.in_ok-put_runs.ensures.fit in
-    let opening = opening_taken set table runs kept c.self.inside.presence c.self.inside.line_rests inv.runs inv.presence inv.lines c.self.inside.count small cells priors fit c.in_ok-put_display.ensures.fits in
-    subst (λ (r : CourseSeen). c.close.new.bytes.items ≡ progress_bytes (shape_of r.set) r.kept → IsSaved r.set c.close.new.bytes.items) c.self.view_is
-    (λ is. record { kept = opening_by c.self.inside.count table kept (optional_presence_seen c.self.inside.presence c.self.inside.line_rests); opening = opening; is = is }) (returns-clause-bytes c)
+    subst (λ (r : CourseSeen). IsOpening (shape_of r.set) r.kept) c.self.view_is
+    (opening_taken set table runs kept c.self.inside.presence c.self.inside.line_rests inv.runs inv.presence inv.lines c.self.inside.count small cells priors fit c.in_ok-put_display.ensures.fits)
+
+pub returns-clause-saved : goal.returns-clause-saved
+returns-clause-saved c =
+    record { kept = _; opening = returns-clause-opening c; is = returns-clause-bytes c }

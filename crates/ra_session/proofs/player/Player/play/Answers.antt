@@ -10,11 +10,11 @@ returns-in_ok-put_lines-in-Frame-clause-played c = λ set o m earned stands.
     let text = c.put_lines.new.text.items in
     let slots = slots_of c.args.self.now.slots.items in
     subst (λ (r : Record). Plays set o (entry_of r) m earned c.take_frame.new.runtime slots text) (sym c.in-Frame.is)
-    (plays_frame set o m earned c.args.self.now.runtime c.take_frame.new.runtime slots text c.take_frame.ensures (rw c.clear.ensures.items at c.in_ok-put_lines-in-Frame.ensures) stands)
+    (plays_frame set o m earned c.args.self.now.runtime c.take_frame.new.runtime slots text c.take_frame.ensures (rw c.clear.ensures.items at c.in_ok-put_lines-in-Frame.ensures.put) stands)
 
 pub returns-in_ok-text-in-Show-clause-played : goal.returns-in_ok-text-in-Show-clause-played
 returns-in_ok-text-in-Show-clause-played c = λ set o m earned stands.
     let text = c.in_ok-text-in-Show.field-0.items in
     let slots = slots_of c.args.self.now.slots.items in
     subst (λ (r : Record). Plays set o (entry_of r) m earned c.args.self.now.runtime slots text) (sym c.in-Show.is)
-    (plays_show set o m earned c.args.self.now.runtime slots text c.in_ok-text-in-Show.ensures stands)
+    (plays_show set o m earned c.args.self.now.runtime slots text c.in_ok-text-in-Show.ensures.shows stands)
