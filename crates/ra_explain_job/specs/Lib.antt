@@ -1,3 +1,4 @@
 pub mod Failures
 pub mod Printing
+pub mod Told
 pub mod Watching

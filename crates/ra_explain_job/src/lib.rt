@@ -4,9 +4,11 @@
 mod choosing;
 mod explaining;
 mod failed;
+mod laws;
 mod printing;
 mod taking;
 mod watch;
 mod watching;
 
 pub use explaining::explain_job;
+pub use laws::unlocks_are_told;
