@@ -27,7 +27,7 @@ static uint32_t make(ra_runtime *game, const char *text, uint32_t size, ra_refus
 int main(void) {
     ra_runtime game = {0}, other = {0};
     ra_refusal why = {0};
-    ra_event events[1];
+    ra_event events[1] = {{0}};
     ra_unlock unlock = {0};
     ra_hits hits[1] = {{0}};
     uint8_t bytes[128] = {0};

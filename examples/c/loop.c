@@ -43,9 +43,12 @@ static int tell_all(ra_runtime *game, unsigned frame) {
     size_t count = 0;
     uint32_t code = ra_events(game, events ? events : &(ra_event){0}, room, &count);
     if (code == RA_ROOM) {
-        ra_event *more = realloc(events, count * sizeof *more);
-        if (!more) return 0;
-        events = more;
+        free(events);
+        events = calloc(count, sizeof *events); /* initialised, as all that a call is given */
+        if (!events) {
+            room = 0;
+            return 0;
+        }
         room = count;
         code = ra_events(game, events, room, &count);
     }
@@ -62,7 +65,7 @@ static int tell_all(ra_runtime *game, unsigned frame) {
 int main(void) {
     ra_runtime game = {0};
     ra_refusal why = {0};
-    uint8_t state[256], line[128];
+    uint8_t state[256] = {0}, line[128] = {0};
     size_t saved = 0, count = 0;
     if (ra_new((const uint8_t *)set, strlen(set), RAM_SIZE, &game, &why) != RA_DONE) {
         fprintf(stderr, "refused: kind %u at %llu\n", (unsigned)why.kind, (unsigned long long)why.at);

@@ -38,9 +38,9 @@ typedef uint32_t telling(ra_runtime *, uint8_t *, size_t, size_t *);
 /* All bytes that a call tells: it is asked twice. */
 static text told(telling *call, ra_runtime *game) {
     text all = {NULL, 0};
-    uint8_t none[1];
+    uint8_t none[1] = {0};
     uint32_t code = call(game, none, 0, &all.length);
-    all.bytes = malloc(all.length + 1);
+    all.bytes = calloc(all.length + 1, 1);
     if (!all.bytes || (code != RA_DONE && code != RA_ROOM)) exit(5);
     if (call(game, all.bytes, all.length, &all.length) != RA_DONE) exit(5);
     return all;

@@ -9,9 +9,9 @@ int main(void) {
     static const uint8_t bytes[] = {0, 5, 5, 0, 5};
     ra_runtime game = {0};
     ra_refusal why = {0};
-    ra_hits hits[8];
+    ra_hits hits[8] = {{0}};
     ra_unlock unlock = {0};
-    uint8_t out[64];
+    uint8_t out[64] = {0};
     size_t count = 0;
     if (ra_new((const uint8_t *)set, strlen(set), 32, &game, &why) != RA_DONE) return 1;
     if (ra_record(&game, 1) != RA_DONE) return 1;

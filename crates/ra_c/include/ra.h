@@ -5,7 +5,9 @@
  * happened:
  *
  *     ra_runtime game = {0};
- *     ra_refusal why;
+ *     ra_refusal why = {0};
+ *     ra_event events[64] = {{0}};
+ *     size_t count = 0;
  *     if (ra_new(text, length, 2097152, &game, &why) != RA_DONE) ...
  *     each frame:  ra_see(&game, 0, ram, 2097152);
  *                  ra_frame(&game);
@@ -17,11 +19,13 @@
  * What is proved of each call stands beside its name in docs/PROVED.md. The proofs take for granted what nothing in C
  * checks, and the caller owes:
  *
- *   - A pointer is not null, also where its length is 0, and points to so many initialised elements. What a call reads
- *     does not change during the call. out, count, why and the handle do not overlap each other or what is read.
+ *   - A pointer is not null, also where its length is 0, is aligned for its type, and points to so many initialised
+ *     elements, those that a call writes among them. What a call reads does not change during the call, and nobody else
+ *     reads or writes out, count, why, unlock or the handle then. These do not overlap each other or what is read.
  *   - A ra_runtime is all zero before the first ra_new, and is changed by these calls alone. It is not copied: a copy
  *     that is used after the runtime was freed through the other one is a use after free, which no call can see.
- *   - One call at a time on one runtime, and always on the thread that made it. Two runtimes share nothing.
+ *   - One call at a time on one runtime, and always on the thread that made it. Two runtimes share nothing. No call in the
+ *     child of a process that had several threads when it was forked.
  *   - malloc, realloc and free belong together, and align as the C library does. No call from a signal handler.
  *   - There is enough stack. The proofs are of a machine without one.
  */
