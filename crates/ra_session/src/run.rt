@@ -114,7 +114,10 @@ fn put_progress<F: Files>(
     ensures reads { NoneFell (F.read_faults files.old) (F.read_faults files.new) }
     ensures puts { NoneFell (F.put_faults files.old) (F.put_faults files.new) }
 {
-    put_kept(alloc, &player, save, files)
+    let put = put_kept(alloc, &player, save, files);
+    // One drop by a call: an implicit one costs the proof ten times as much.
+    drop(player);
+    put
 }
 
 /// Runs a set and a trace, up to the last line: docs/DEFINITIONS.md, "A run".
