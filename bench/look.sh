@@ -71,26 +71,57 @@ fn number(words: &[String], place: usize) -> Option<u32> {
     words.get(place)?.as_str().parse::<u32>().ok()
 }
 
+// What the words say.
+#[derive(Clone, Copy)]
+struct Run {
+    cells: u32,
+    banks: u32,
+    size: u32,
+    looks: u32,
+    seed: u32,
+    told: bool,
+}
+
+fn run_of(words: &[String]) -> Option<Run> {
+    Some(Run {
+        cells: number(words, 0)?,
+        banks: number(words, 1)?,
+        size: number(words, 2)?,
+        looks: number(words, 3)?,
+        seed: number(words, 4)?,
+        told: number(words, 5)? == 1,
+    })
+}
+
 fn measured(alloc: Global, words: &[String]) -> Option<()> {
-    let cells = number(words, 0)?;
-    let banks = number(words, 1)?;
-    let size = number(words, 2)?;
-    let looks = number(words, 3)?;
+    let run = run_of(words)?;
     let mut dice = Dice {
-        seed: u64::from(number(words, 4)?),
+        seed: u64::from(run.seed),
     };
-    let told = number(words, 5)? == 1;
-    let pool = pool_of(alloc, cells, size, &mut dice)?;
-    let mut table = table_over(alloc, pool, size, told)?;
-    if looks == 0 {
+    let mut table = table_of(alloc, run, &mut dice)?;
+    look_over(alloc, &mut table, run, &mut dice)
+}
+
+// A table over cells at random addresses.
+fn table_of(alloc: Global, run: Run, dice: &mut Dice) -> Option<Table>
+    ensures { IfSome result (λ table. table.size ≡ run.size) }
+{
+    let pool = pool_of(alloc, run.cells, run.size, dice)?;
+    table_over(alloc, pool, run.size, run.told)
+}
+
+// Looks at random bytes in random banks.
+fn look_over(alloc: Global, table: &mut Table, run: Run, dice: &mut Dice) -> Option<()>
+    requires { table.old.size ≡ run.size }
+{
+    if run.looks == 0 {
         return Some(());
     }
-    let bytes = memory_of(alloc, size, &mut dice)?;
-    let parts = cut(alloc, bytes.as_slice(), banks, &mut dice)?;
-    if size_of(parts.as_slice()) != Some(size) {
-        return None;
+    let bytes = memory_of(alloc, run.size, dice)?;
+    let parts = cut(alloc, bytes.as_slice(), run.banks, dice)?;
+    if size_of(parts.as_slice()) == Some(run.size) {
+        look_often::<Brand>(table, parts.as_slice(), run.looks, Blank::new(1));
     }
-    look_often::<Brand>(&mut table, parts.as_slice(), looks, Blank::new(1));
     Some(())
 }
 
@@ -156,21 +187,16 @@ fn memory_of(alloc: Global, size: u32, dice: &mut Dice) -> Option<Vec<u8>> {
     for _ in 0..1000 {
         let at = dice.below(size) as usize;
         if let Some(byte) = bytes.get_mut(at) {
-            *byte = dice.below(256) as u8;
+            *byte = u8::try_from(dice.below(256)).unwrap_or(0);
         }
     }
     Some(bytes)
 }
 
 // The bytes, cut into so many banks at random places.
-fn cut<'a>(
-    alloc: Global,
-    bytes: &'a [u8],
-    banks: u32,
-    dice: &mut Dice,
-) -> Option<Vec<Bank<'a>>> {
+fn cut<'a>(alloc: Global, bytes: &'a [u8], banks: u32, dice: &mut Dice) -> Option<Vec<Bank<'a>>> {
     let mut borders = Vec::new(alloc);
-    let size = bytes.len() as u32;
+    let size = u32::try_from(bytes.len()).ok()?;
     for _ in 1..banks {
         borders.push(dice.below(size)).ok()?;
     }
@@ -209,6 +235,13 @@ fn look_often<L: Ledger>(table: &mut Table, parts: &[Bank<'_>], looks: u32, blan
     }
 }
 PROGRAM
+mkdir -p "$folder/crates/look/proofs/look_over"
+cat >"$folder/crates/look/proofs/look_over/Invariants.antt" <<'PROOF'
+use Rattle.look.proofs.look_over.Given as goal
+
+abbrev pub ghosts-look_often : goal.ghosts-look_often
+ghosts-look_often a = record { name = a.blank.name; parts = a.blank.parts }
+PROOF
 (cd "$folder/crates/look" && rt run -- 1 1 16 1 1 0) >&2
 look=$folder/crates/look/out/look
 

@@ -3,6 +3,7 @@ pub mod FrameLemmas
 pub mod LaidShapes
 pub mod LineLemmas
 pub mod MadeLemmas
+pub mod MarkedLemmas
 pub mod SavedOpening
 pub mod ShowLemmas
 pub mod TakenNumbers

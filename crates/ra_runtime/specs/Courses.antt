@@ -1,14 +1,15 @@
--- What a course is seen as, a set whose images its caller holds, and what its calls do: docs/DEFINITIONS.md, "What a runtime keeps" and "Marked and moved cells".
-use Rattle.std.specs.Prelude.{◌≡◌, ℕ, ◌+◌, ◌<◌, Bool, true, false, List, [], length, map, replicate, slice_index, slice_index_or}
+-- What a course is seen as, a set whose images its caller holds, and what its calls do: docs/DEFINITIONS.md, "A frame that looks".
+use Rattle.std.specs.Prelude.{◌≡◌, ℕ, ◌+◌, ◌<◌, Bool, true, false, not, List, [], ◌∷◌, length, map, replicate, count_by, slice_index, slice_index_or}
 use Rattle.ra_set.specs.Contents.{SetContents}
-use Rattle.ra_memory.specs.Image.{raw}
-use Rattle.ra_memref.specs.Marks.{marks_after}
+use Rattle.ra_memory.specs.Image.{History, raw}
+use Rattle.ra_memref.specs.Values.{cell_place}
+use Rattle.ra_memref.specs.Marks.{marks_after, marks_seen, reads_of}
 use Rattle.ra_memref.specs.Table.{DifferWithin, no_cell}
-use Rattle.ra_progress.specs.Contents.{Opening}
-use Rattle.ra_meaning.specs.Order.{set_cells}
-use Rattle.ra_meaning.specs.Openings.{plain_opening}
+use Rattle.ra_progress.specs.Contents.{Opening, IsOpening}
+use Rattle.ra_meaning.specs.Order.{set_cells, shape_of}
+use Rattle.ra_meaning.specs.Openings.{start_of, plain_opening}
 use Rattle.ra_meaning.specs.declared.event.Event.{Event}
-use Rattle.ra_meaning.specs.Runtime.{RuntimeSeen}
+use Rattle.ra_meaning.specs.Runtime.{RuntimeSeen, StandsAfter}
 
 -- what a caller sees of a course: a runtime but for its image, and the size of the images
 pub record CourseSeen : Type 0 where
@@ -54,3 +55,15 @@ pub record IsTold (old new : CourseSeen) (at count : ℕ) : Type 0 where
   pub rest : new ≡ record old { marked = new.marked }
   pub marked : new.marked ≡ marks_after old.size (set_cells old.set) old.places at count old.marked
   pub current : (image image' : List ℕ) → length image ≡ old.size → DifferWithin at count image image' → IsCurrent (over old image) → IsCurrent (over new image')
+
+-- An image is looked at: the cells that have another number in it than the kept one are marked, and nothing else changes.
+pub record LooksAt (old new : CourseSeen) (image : List ℕ) : Type 0 where
+  pub rest : new ≡ record old { marked = new.marked }
+  pub marked : new.marked ≡ marks_seen image (set_cells old.set) old.places old.kept.cells old.marked
+  pub current : IsCurrent (over new image)
+
+-- A frame that looks reads each cell that is not marked, and then each one that is marked by then or has moved; it leaves none marked.
+pub record ReadsLooked (old new : RuntimeSeen) (reads : ℕ) : Type 0 where
+  pub unmarked : new.marked ≡ replicate (length (set_cells old.set)) false
+  pub places : (o : Opening) (history : History) → IsOpening (shape_of old.set) o → StandsAfter old o history → new.places ≡ map (λ c. cell_place (start_of old.set o) c (old.image ∷ history)) (set_cells old.set)
+  pub counted : reads ≡ count_by not old.marked + reads_of (marks_seen old.image (set_cells old.set) old.places old.kept.cells old.marked) old.places new.places

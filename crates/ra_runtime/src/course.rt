@@ -1,4 +1,4 @@
-ghost use Rattle.std.specs.Prelude.{◌≡◌, ◌++◌, ◌+◌, ◌-◌, ◌≤◌, ◌^◌, ℕ, List, [], None, Some, option_map, length, IfOk, IfErr, OnOk, OnErr};
+ghost use Rattle.std.specs.Prelude.{◌≡◌, ◌++◌, ◌+◌, ◌-◌, ◌≤◌, ◌^◌, ℕ, List, [], None, Some, option_map, not, count_by, length, IfOk, IfErr, OnOk, OnErr};
 ghost use Rattle.ra_set.specs.Contents.{set_contents};
 ghost use Rattle.ra_set.specs.Limits.{IsWithinLimits};
 ghost use Rattle.ra_set.specs.Names.{IsNamed};
@@ -27,10 +27,10 @@ use ra_text::OutOfMemory;
 use std::alloc::Global;
 use std::marker::Model;
 
-/// A set between frames, over images that its caller holds: docs/DEFINITIONS.md, "What a runtime keeps".
+/// A set between frames, over images that its caller holds: docs/DEFINITIONS.md, "A frame that looks".
 ///
-/// It is seen as a runtime is, but for the image: as its set, the size of the images, the opening that it
-/// keeps, and the events and lines of the last frame.
+/// It is seen as a runtime is, but with the size of the images in place of one: as its set, the opening that
+/// it keeps, the events and lines of the last frame, the marked cells, and where each cell lies.
 #[derive(Drop)]
 pub struct Course {
     set: Set,
@@ -65,12 +65,13 @@ impl Model for Course {
 impl Course {
     ghost use Rattle.ra_meaning.specs.Lines.{IsTextOf};
     ghost use Rattle.ra_meaning.specs.Runtime.{ReadsFew, ShowsKept, TakesFrame, TakesUp};
-    ghost use Rattle.ra_runtime.specs.Courses.{over, IsBegun, IsCurrent, IsTold};
+    ghost use Rattle.ra_runtime.specs.Courses.{over, IsBegun, IsCurrent, IsTold, LooksAt, ReadsLooked};
     ghost use Rattle.ra_runtime.specs.Told.{GrewByFront};
 
     /// A set over images of `size` bytes, before the first frame: docs/DEFINITIONS.md, "What a runtime keeps".
     ///
-    /// On want of memory the set is given up.
+    /// It is made to be told of writes: it has a list for each page of the image. On want of memory the set is
+    /// given up.
     pub fn new(alloc: Global, set: Set, size: u32) -> Result<Course, OutOfMemory>
         requires limits { IsWithinLimits (set_contents set) }
         requires spelled { IsSpelled (set_contents set) }
@@ -78,7 +79,31 @@ impl Course {
         requires size { size ≤ 2 ^ 27 }
         ensures { IfOk result (IsBegun (set_contents set) size) }
     {
-        let (table, runs, rests, presence, line_rests, names) = at_rest(alloc, &set, size)?;
+        Course::begun(alloc, set, size, false)
+    }
+
+    /// The same course, made to look at images: what it takes of memory does not grow with their size.
+    ///
+    /// It has no lists, so a write that it is told goes over all cells.
+    pub fn for_looks(alloc: Global, set: Set, size: u32) -> Result<Course, OutOfMemory>
+        requires limits { IsWithinLimits (set_contents set) }
+        requires spelled { IsSpelled (set_contents set) }
+        requires named { IsNamed (set_contents set) }
+        requires size { size ≤ 2 ^ 27 }
+        ensures { IfOk result (IsBegun (set_contents set) size) }
+    {
+        Course::begun(alloc, set, size, true)
+    }
+
+    // A course before the first frame, made to look at images or to be told of writes.
+    fn begun(alloc: Global, set: Set, size: u32, looks: bool) -> Result<Course, OutOfMemory>
+        requires limits { IsWithinLimits (set_contents set) }
+        requires spelled { IsSpelled (set_contents set) }
+        requires named { IsNamed (set_contents set) }
+        requires size { size ≤ 2 ^ 27 }
+        ensures { IfOk result (IsBegun (set_contents set) size) }
+    {
+        let (table, runs, rests, presence, line_rests, names) = at_rest(alloc, &set, size, looks)?;
         let (shape, said) = shape_and_room(alloc, &set, &runs, &presence, names)?;
         Ok(Course {
             set,
@@ -109,6 +134,20 @@ impl Course {
         ensures { IsTold self.old self.new at count }
     {
         self.table.write(at, count);
+    }
+
+    /// Looks at the image for what was not told: docs/DEFINITIONS.md, "A frame that looks".
+    ///
+    /// It reads each cell that is not marked, once, where it lay at the last frame, and marks those that have
+    /// another number there. A frame of this image may follow, whatever was told or shown before.
+    pub fn look<I: Image>(&mut self, image: &mut I)
+        ensures looked { LooksAt self.old self.new (I.bytes image.old) }
+        ensures reads { I.reads image.new ≡ I.reads image.old + count_by not self.old.marked }
+
+        ensures bytes { I.bytes image.new ≡ I.bytes image.old }
+        ensures counter { I.counter image.new ≡ I.counter image.old }
+    {
+        self.table.look(image);
     }
 
     /// The progress bytes of the present state: docs/DEFINITIONS.md, "Progress file".
@@ -172,8 +211,8 @@ impl Course {
         self.last = None;
     }
 
-    /// Takes one frame of every item from an image of which each change was told: docs/DEFINITIONS.md, "What a
-    /// runtime keeps". No memory is taken.
+    /// Takes one frame of every item from an image of which each change was told or looked for:
+    /// docs/DEFINITIONS.md, "A frame that looks". No memory is taken.
     pub fn frame<I: Image>(&mut self, image: &mut I)
         requires size { length (I.bytes image.old) ≡ self.old.size }
         requires current { IsCurrent (over self.old (I.bytes image.old)) }
@@ -196,6 +235,25 @@ impl Course {
         );
         self.last = Some(self.count);
         self.count = self.count.saturating_add(1);
+    }
+
+    /// Takes one frame of every item from any image of the size, whatever was told or shown before: a look, and
+    /// then a frame. No memory is taken.
+    ///
+    /// It reads each cell that is not marked, and then each one that is marked by then or has moved.
+    pub fn follow<I: Image>(&mut self, image: &mut I)
+        requires size { length (I.bytes image.old) ≡ self.old.size }
+        ensures taken { TakesFrame (over self.old (I.bytes image.old)) (over self.new (I.bytes image.old)) }
+        ensures reads { ReadsLooked (over self.old (I.bytes image.old)) (over self.new (I.bytes image.old)) (I.reads image.new - I.reads image.old) }
+        ensures counts { I.reads image.old ≤ I.reads image.new }
+        ensures current { IsCurrent (over self.new (I.bytes image.old)) }
+        ensures size { self.new.size ≡ self.old.size }
+
+        ensures bytes { I.bytes image.new ≡ I.bytes image.old }
+        ensures counter { I.counter image.new ≡ I.counter image.old }
+    {
+        self.look(image);
+        self.frame(image);
     }
 
     /// The events of the last frame, items in set order: docs/DEFINITIONS.md, "Events". None where no

@@ -11,6 +11,7 @@ ghost use Rattle.ra_progress.specs.Room.{IsRoom};
 ghost use Rattle.ra_set.specs.Spelled.{OptionalScript, IsSpelled};
 ghost use Rattle.ra_display.specs.LineRests.{AreOptionalRests, optional_presence_seen};
 ghost use Rattle.ra_display.specs.PresenceRuns.{IsOptionalPresence, optional_presence_kept};
+ghost use Rattle.ra_memref.specs.Table.{IsFresh};
 ghost use Rattle.ra_items.specs.AllRuns.{AreItemRuns};
 ghost use Rattle.ra_items.specs.ItemRuns.{kept_run};
 ghost use Rattle.ra_items.specs.Rests.{AreRests, seen_by};
@@ -45,12 +46,13 @@ pub fn shape_of(alloc: Global, set: &Set) -> Result<Shape, OutOfMemory>
     shape_beside(alloc, set, &runs, presence, names)
 }
 
-// A table over the trees of a set, a run for each item, one for the display, the names of cells and masks, and the
-// count of the table's nodes.
+// A table over the trees of a set, made to look at images or to be told of writes, a run for each item, one for the
+// display, the names of cells and masks, and the count of the table's nodes.
 pub(crate) fn laid_out(
     alloc: Global,
     set: &Set,
     size: u32,
+    looks: bool,
 ) -> Result<(Table, Vec<ItemRun>, Option<PresenceRun>, Names, usize), OutOfMemory>
     requires limits { IsWithinLimits (set_contents set.now) }
     requires spelled { IsSpelled (set_contents set.now) }
@@ -64,8 +66,21 @@ pub(crate) fn laid_out(
     let presence = new_presence(alloc, &set.script, &mut pool)?;
     let names = names_of(alloc, &pool)?;
     let nodes = pool.len() as usize;
-    let table = Table::new(alloc, pool, size)?;
+    let table = table_over(alloc, pool, size, looks)?;
     Ok((table, runs, presence, names, nodes))
+}
+
+// A table over a pool, made to look at images or to be told of writes.
+fn table_over(alloc: Global, pool: Pool, size: u32, looks: bool) -> Result<Table, OutOfMemory>
+    requires size { size ≤ 2 ^ 27 }
+    requires few { length pool < 2 ^ 30 }
+    ensures { IfOk result (IsFresh pool size) }
+{
+    if looks {
+        Table::for_looks(alloc, pool, size)
+    } else {
+        Table::new(alloc, pool, size)
+    }
 }
 
 // The same with a rest beside each run and each line, of which none rests, in place of the count of nodes.
@@ -73,6 +88,7 @@ pub(crate) fn at_rest(
     alloc: Global,
     set: &Set,
     size: u32,
+    looks: bool,
 ) -> Result<
     (
         Table,
@@ -94,7 +110,7 @@ pub(crate) fn at_rest(
     ensures rests { IfOk result (λ laid. AreRests laid.0.nodes laid.0.values (set_contents set.now).items laid.1.items laid.2) }
     ensures kept { IfOk result (λ laid. seen_by laid.1.items laid.2 ≡ map plain_item (map spec.item_shape (set_contents set.now).items)) }
 {
-    let (table, runs, presence, names, nodes) = laid_out(alloc, set, size)?;
+    let (table, runs, presence, names, nodes) = laid_out(alloc, set, size, looks)?;
     let (rests, line_rests) = rests_beside(alloc, set, &runs, &presence, &table, nodes)?;
     Ok((table, runs, rests, presence, line_rests, names))
 }

@@ -11,7 +11,7 @@ use Rattle.ra_runtime.proofs.CurrentLemmas.{current_agrees}
 use Rattle.ra_runtime.proofs.LaidShapes.{laid_shapes, laid_small, laid_presence, laid_small_presence}
 use Rattle.ra_items.proofs.ShapeLemmas.{have_digits}
 use Rattle.ra_meaning.proofs.Counts.SmallShape.{small_shape}
-use Rattle.ra_runtime.proofs.course.Course.new.Goals as goal
+use Rattle.ra_runtime.proofs.course.Course.begun.Goals as goal
 
 -- no frame came where there is no number of one
 none_came : false ≡ true → ⊥
