@@ -19,9 +19,11 @@ pub enum PutFailed {
 
 /// Files by name: docs/DEFINITIONS.md, "Files and sinks".
 ///
-/// A name that the content does not have counts as an empty file.
+/// Who tells content tells it of every name: a name that is not there reads as an empty file, and its
+/// content is `Some []`. Of a name whose content is `None` nothing is promised of what a read gives and
+/// what a put leaves.
 pub trait Files {
-    /// The bytes under a name, where the files tell them.
+    /// The bytes under a name; none where the files do not tell them.
     ghost content: { Self → List ℕ → Option (List ℕ) };
 
     /// How often reads of a name have failed.
