@@ -1,8 +1,6 @@
-use Rattle.std.proofs.Common.{◌≡◌, ℕ, List, Ok, Err, Result, ◌∙◌, ap, sym, subst}
+use Rattle.std.proofs.Common.{Ok, Err, Result, ◌∙◌, sym, subst}
 use Rattle.std.specs.Result.{OnOk, OnErr}
-use Rattle.ra_meaning.specs.Runtime.{TakesUp}
 use Rattle.ra_runtime.specs.Courses.{CourseSeen, over, IsCurrent}
-use Rattle.ra_runtime.specs.Seen.{runtime_seen}
 use Rattle.ra_runtime.proofs.runtime.Runtime.restore.Goals as goal
 
 on_ok : {T E A B : Type 0} (r : Result T E) → (A → B) → OnOk r A → OnOk r B
