@@ -1,4 +1,4 @@
-use Rattle.std.proofs.Common.{◌+◌, ◌≤◌, length, sym, subst, ◌∙◌, inl, inr}
+use Rattle.std.proofs.Common.{◌+◌, ◌≤◌, length, sym, subst, inl, inr}
 use Rattle.std.proofs.lemmas.Bool.{cases_lt, false≢true}
 use Rattle.ra_memref.specs.Table.{DifferWithin}
 use Rattle.ra_memref.proofs.AgreeLemmas.{DifferWithin-written}
