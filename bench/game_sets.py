@@ -233,7 +233,7 @@ def made(kind, lines, trace, seed):
 
 
 def copies(trace, places):
-    """The trace over 2 MiB, with each write at so many places."""
+    """The trace over 2 MiB, with each write at this many places."""
     step, size = GREAT // places, int.from_bytes(trace[5:9], "little")
     if size > step:
         sys.exit(f"{places} copies of {size} bytes pass {GREAT}")

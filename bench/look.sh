@@ -193,7 +193,7 @@ fn memory_of(alloc: Global, size: u32, dice: &mut Dice) -> Option<Vec<u8>> {
     Some(bytes)
 }
 
-// The bytes, cut into so many banks at random places.
+// The bytes, cut into this many banks at random places.
 fn cut<'a>(alloc: Global, bytes: &'a [u8], banks: u32, dice: &mut Dice) -> Option<Vec<Bank<'a>>> {
     let mut borders = Vec::new(alloc);
     let size = u32::try_from(bytes.len()).ok()?;

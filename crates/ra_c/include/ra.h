@@ -19,7 +19,7 @@
  * What is proved of each call stands beside its name in docs/PROVED.md. The proofs take for granted what nothing in C
  * checks, and the caller owes:
  *
- *   - A pointer is not null, also where its length is 0, is aligned for its type, and points to so many initialised
+ *   - A pointer is not null, also where its length is 0, is aligned for its type, and points to that many initialised
  *     elements, those that a call writes among them. What a call reads does not change during the call, and nobody else
  *     reads or writes out, count, why, unlock or the handle then. These do not overlap each other or what is read.
  *   - A ra_runtime is all zero before the first ra_new, and is changed by these calls alone. It is not copied: a copy
