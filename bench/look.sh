@@ -10,7 +10,7 @@ need valgrind
 here=$(cd "$(dirname "$0")/.." && pwd)
 folder=$(mktemp -d)
 trap 'rm -rf "$folder"' EXIT
-crates="ra_text ra_words ra_operand ra_memory ra_indirect ra_links ra_banks ra_memref"
+crates="ra_text ra_operand ra_memory ra_indirect ra_links ra_banks ra_memref"
 mkdir -p "$folder/crates/look/src"
 for crate in $crates; do
     cp -r "$here/crates/$crate" "$folder/crates/$crate"

@@ -1,11 +1,11 @@
 //! An achievement is recorded, and its unlock explained.
 ghost use Rattle.std.specs.Prelude.{◌≡◌, ◌≢◌, ◌⊎◌};
-ghost use Rattle.ra_game.specs.Answers.{Calls};
-ghost use Rattle.ra_game.specs.Codes.{done, no_room};
-ghost use Rattle.ra_game.specs.Handles.{held_in, recorded_in};
-ghost use Rattle.ra_game.specs.Recordings.{AnswersExplain, AnswersRecord};
+ghost use Rattle.ra_calls.specs.Answers.{Calls};
+ghost use Rattle.ra_calls.specs.Codes.{done, no_room};
+ghost use Rattle.ra_calls.specs.Handles.{held_in, recorded_in};
+ghost use Rattle.ra_calls.specs.Recordings.{AnswersExplain, AnswersRecord};
 
-use ra_game::{Handle, ToldHits, ToldUnlock};
+use ra_calls::{Handle, ToldHits, ToldUnlock};
 use std::alloc::Global;
 
 /// Records the achievement of this id from now on, before the first frame: docs/DEFINITIONS.md, "Calls from C".
@@ -17,7 +17,7 @@ pub extern "C" fn ra_record(alloc: Global, handle: &mut Handle, id: u32) -> u32
     ensures stays { Calls (λ old new. new ≡ old) result (held_in handle.old) (held_in handle.new) }
     ensures recorded { Calls (λ old _. AnswersRecord id old result (recorded_in handle.old) (recorded_in handle.new)) result (held_in handle.old) (held_in handle.new) }
 {
-    ra_game::record(alloc, handle, id)
+    ra_calls::record(alloc, handle, id)
 }
 
 /// Why the recorded achievement unlocked at the last frame: docs/DEFINITIONS.md, "Calls from C" and "Explanations".
@@ -39,5 +39,5 @@ pub extern "C" fn ra_explain(
     ensures unheaded { result ≢ done → unlock.new ≡ unlock.old }
     ensures uncounted { result ≢ done → result ≢ no_room → count.new ≡ count.old }
 {
-    ra_game::explain(alloc, handle, out, count, unlock)
+    ra_calls::explain(alloc, handle, out, count, unlock)
 }

@@ -1,9 +1,9 @@
 ghost use Rattle.std.specs.Prelude.{◌≡◌, ◌≢◌, ◌⊎◌, None};
-ghost use Rattle.ra_game.specs.Answers.{AnswersReset, AnswersRestore, AnswersTold, Calls, IsSaveOf};
-ghost use Rattle.ra_game.specs.Codes.{done, memory, no_progress, empty};
-ghost use Rattle.ra_game.specs.Handles.{held_in, recorded_in};
+ghost use Rattle.ra_calls.specs.Answers.{AnswersReset, AnswersRestore, AnswersTold, Calls, IsSaveOf};
+ghost use Rattle.ra_calls.specs.Codes.{done, memory, no_progress, empty};
+ghost use Rattle.ra_calls.specs.Handles.{held_in, recorded_in};
 
-use ra_game::{Handle, Refusal};
+use ra_calls::{Handle, Refusal};
 use std::alloc::Global;
 
 /// The progress bytes of the present state: docs/DEFINITIONS.md, "Calls from C" and "Progress file".
@@ -21,7 +21,7 @@ pub extern "C" fn ra_save(
     ensures unwritten { result ≢ done → out.new ≡ out.old }
     ensures uncounted { (result ≡ memory) ⊎ (result ≡ empty) → count.new ≡ count.old }
 {
-    ra_game::save(alloc, handle, out, count)
+    ra_calls::save(alloc, handle, out, count)
 }
 
 /// Takes up what progress bytes say, of this set or of a changed one: docs/DEFINITIONS.md, "Calls from C".
@@ -40,7 +40,7 @@ pub extern "C" fn ra_restore(
     ensures recording { result ≢ done → recorded_in handle.new ≡ recorded_in handle.old }
     ensures unsaid { result ≢ no_progress → why.new ≡ why.old }
 {
-    ra_game::restore(alloc, handle, bytes, why)
+    ra_calls::restore(alloc, handle, bytes, why)
 }
 
 /// Begins anew over the present memory, as when the emulated machine is reset: docs/DEFINITIONS.md, "Calls from C".
@@ -52,5 +52,5 @@ pub extern "C" fn ra_reset(alloc: Global, handle: &mut Handle) -> u32
     ensures begun { Calls (AnswersReset result) result (held_in handle.old) (held_in handle.new) }
     ensures unrecorded { recorded_in handle.new ≡ None }
 {
-    ra_game::reset(alloc, handle)
+    ra_calls::reset(alloc, handle)
 }

@@ -1,9 +1,9 @@
 ghost use Rattle.std.specs.Prelude.{◌≡◌, ◌≢◌, ◌⊎◌, ◌↔◌, ◌<◌, ◌^◌, None, IsSomeAnd};
-ghost use Rattle.ra_game.specs.Answers.{IsLoaded, IsRefusedText};
-ghost use Rattle.ra_game.specs.Codes.{done, memory, no_set, out_of_range, empty, full};
-ghost use Rattle.ra_game.specs.Handles.{held_in, recorded_in};
+ghost use Rattle.ra_calls.specs.Answers.{IsLoaded, IsRefusedText};
+ghost use Rattle.ra_calls.specs.Codes.{done, memory, no_set, out_of_range, empty, full};
+ghost use Rattle.ra_calls.specs.Handles.{held_in, recorded_in};
 
-use ra_game::{Handle, Refusal};
+use ra_calls::{Handle, Refusal};
 use std::alloc::Global;
 
 /// Makes a runtime of a set's text over a memory of `size` bytes, all 0: docs/DEFINITIONS.md, "Calls from C".
@@ -28,7 +28,7 @@ pub extern "C" fn ra_new(
     ensures unsaid { result ≢ no_set → why.new ≡ why.old }
     ensures other { (result ≡ done) ⊎ ((result ≡ memory) ⊎ ((result ≡ no_set) ⊎ ((result ≡ out_of_range) ⊎ (result ≡ full)))) }
 {
-    ra_game::make(alloc, text, size, handle, why)
+    ra_calls::make(alloc, text, size, handle, why)
 }
 
 /// Frees the runtime that the handle holds, which then holds nothing: docs/DEFINITIONS.md, "Calls from C".
@@ -40,7 +40,7 @@ pub extern "C" fn ra_free(alloc: Global, handle: &mut Handle) -> u32
     ensures none { result ≡ empty ↔ held_in handle.old ≡ None }
     ensures freed { result ≡ done ↔ held_in handle.old ≢ None }
 {
-    ra_game::free(alloc, handle)
+    ra_calls::free(alloc, handle)
 }
 
 /// The version of this interface, which a later one that differs counts up.

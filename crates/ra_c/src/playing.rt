@@ -1,9 +1,9 @@
 ghost use Rattle.std.specs.Prelude.{◌≡◌};
-ghost use Rattle.ra_game.specs.Answers.{AnswersFrame, AnswersSee, AnswersWrite, Calls};
-ghost use Rattle.ra_game.specs.Handles.{held_in, recorded_in};
-ghost use Rattle.ra_game.specs.Recordings.{RecordsFrame, RecordsWrite};
+ghost use Rattle.ra_calls.specs.Answers.{AnswersFrame, AnswersSee, AnswersWrite, Calls};
+ghost use Rattle.ra_calls.specs.Handles.{held_in, recorded_in};
+ghost use Rattle.ra_calls.specs.Recordings.{RecordsFrame, RecordsWrite};
 
-use ra_game::Handle;
+use ra_calls::Handle;
 use std::alloc::Global;
 
 /// Writes the bytes from the address `at` on: docs/DEFINITIONS.md, "Calls from C".
@@ -14,7 +14,7 @@ pub extern "C" fn ra_write(alloc: Global, handle: &mut Handle, at: u32, bytes: &
     ensures played { Calls (AnswersWrite at bytes.now result) result (held_in handle.old) (held_in handle.new) }
     ensures recorded { RecordsWrite at bytes.now result (recorded_in handle.old) (recorded_in handle.new) }
 {
-    ra_game::write(alloc, handle, at, bytes)
+    ra_calls::write(alloc, handle, at, bytes)
 }
 
 /// Takes the bytes from the address `at` on as they now are, of which most are as they were: docs/DEFINITIONS.md, "Calls
@@ -26,7 +26,7 @@ pub extern "C" fn ra_see(alloc: Global, handle: &mut Handle, at: u32, bytes: &[u
     ensures played { Calls (AnswersSee at bytes.now result) result (held_in handle.old) (held_in handle.new) }
     ensures recorded { RecordsWrite at bytes.now result (recorded_in handle.old) (recorded_in handle.new) }
 {
-    ra_game::see(alloc, handle, at, bytes)
+    ra_calls::see(alloc, handle, at, bytes)
 }
 
 /// Takes one frame: docs/DEFINITIONS.md, "Calls from C".
@@ -37,5 +37,5 @@ pub extern "C" fn ra_frame(alloc: Global, handle: &mut Handle) -> u32
     ensures played { Calls (AnswersFrame result) result (held_in handle.old) (held_in handle.new) }
     ensures recorded { RecordsFrame (recorded_in handle.old) (recorded_in handle.new) }
 {
-    ra_game::frame(alloc, handle)
+    ra_calls::frame(alloc, handle)
 }

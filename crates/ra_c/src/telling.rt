@@ -1,9 +1,9 @@
 ghost use Rattle.std.specs.Prelude.{◌≡◌, ◌≢◌, ◌⊎◌};
-ghost use Rattle.ra_game.specs.Answers.{AnswersTold, AreEventsOf, AreLinesOf, Calls, IsShownBy};
-ghost use Rattle.ra_game.specs.Codes.{done, memory, empty};
-ghost use Rattle.ra_game.specs.Handles.{held_in, recorded_in};
+ghost use Rattle.ra_calls.specs.Answers.{AnswersTold, AreEventsOf, AreLinesOf, Calls, IsShownBy};
+ghost use Rattle.ra_calls.specs.Codes.{done, memory, empty};
+ghost use Rattle.ra_calls.specs.Handles.{held_in, recorded_in};
 
-use ra_game::{Handle, ToldEvent};
+use ra_calls::{Handle, ToldEvent};
 use std::alloc::Global;
 
 /// The events of the last frame, items in set order: docs/DEFINITIONS.md, "Calls from C" and "Events".
@@ -22,7 +22,7 @@ pub extern "C" fn ra_events(
     ensures unwritten { result ≢ done → out.new ≡ out.old }
     ensures uncounted { (result ≡ memory) ⊎ (result ≡ empty) → count.new ≡ count.old }
 {
-    ra_game::events(alloc, handle, out, count)
+    ra_calls::events(alloc, handle, out, count)
 }
 
 /// The lines of the events of the last frame: docs/DEFINITIONS.md, "Calls from C" and "Printed lines".
@@ -40,7 +40,7 @@ pub extern "C" fn ra_lines(
     ensures unwritten { result ≢ done → out.new ≡ out.old }
     ensures uncounted { (result ≡ memory) ⊎ (result ≡ empty) → count.new ≡ count.old }
 {
-    ra_game::lines(alloc, handle, out, count)
+    ra_calls::lines(alloc, handle, out, count)
 }
 
 /// The presence line after the last frame: docs/DEFINITIONS.md, "Calls from C" and "Presence over frames".
@@ -59,5 +59,5 @@ pub extern "C" fn ra_show(
     ensures unwritten { result ≢ done → out.new ≡ out.old }
     ensures uncounted { (result ≡ memory) ⊎ (result ≡ empty) → count.new ≡ count.old }
 {
-    ra_game::show(alloc, handle, out, count)
+    ra_calls::show(alloc, handle, out, count)
 }

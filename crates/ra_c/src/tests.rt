@@ -4,7 +4,7 @@ use crate::{
     Handle, Refusal, ToldEvent, ToldHits, ToldUnlock, ra_events, ra_explain, ra_frame, ra_free,
     ra_lines, ra_new, ra_record, ra_reset, ra_restore, ra_save, ra_see, ra_write,
 };
-use ra_game::codes::{DONE, EMPTY, HELD, NOTHING, PROGRESS, RANGE, ROOM, SET};
+use ra_calls::codes::{DONE, EMPTY, HELD, NOTHING, PROGRESS, RANGE, ROOM, SET};
 use std::alloc::Global;
 
 const ROW: &[u8] = b"A 1 0xH0010=5.3.\n";

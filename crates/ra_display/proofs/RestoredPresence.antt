@@ -6,7 +6,7 @@ use Rattle.ra_member.proofs.Cleared.{all_cleared}
 use Rattle.ra_member.specs.MemberRuns.{kept_by}
 use Rattle.ra_indirect.specs.declared.node.Node.{Node}
 use Rattle.ra_richpresence.specs.Contents.{ScriptContents}
-use Rattle.ra_words.specs.Words.{word_at, words_at}
+use Rattle.ra_text.specs.Words.{word_at, words_at}
 use Rattle.ra_member.proofs.SideBySide.{beside_length}
 use Rattle.ra_display.specs.declared.presence_run.PresenceRun.{PresenceRun}
 use Rattle.ra_display.specs.PresenceRuns.{IsLineRun, IsPresenceRun, IsOptionalPresence}

@@ -1,7 +1,7 @@
 //! What a display keeps, put back from the bytes of a progress file.
 
 ghost use Rattle.std.specs.Prelude.{◌≡◌, ◌+◌, ◌*◌, ◌≤◌, length, map, IfSome};
-ghost use Rattle.ra_words.specs.Words.{words_at};
+ghost use Rattle.ra_text.specs.Words.{words_at};
 ghost use Rattle.ra_member.specs.Members.{cleared_member};
 ghost use Rattle.ra_member.specs.MemberRuns.{kept_by};
 ghost use Rattle.ra_display.specs.PresenceShapes.{presence_run_shape, optional_run_shape};

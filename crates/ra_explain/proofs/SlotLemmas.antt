@@ -8,8 +8,8 @@ use Rattle.std.proofs.lemmas.List.{map-set, append-nil}
 use Rattle.ra_condition.specs.Contents.{TriggerContents, trigger_hits}
 use Rattle.ra_memref.specs.Table.{TableSeen, IsPutBack}
 use Rattle.ra_trigger.specs.Steps.{TriggerKept}
-use Rattle.ra_words.specs.Words.{words, words_at}
-use Rattle.ra_words.proofs.Pieces.{Stands, stands_first, stands_next, stands_words, length_words}
+use Rattle.ra_text.specs.Words.{words, words_at}
+use Rattle.ra_text.proofs.Pieces.{Stands, stands_first, stands_next, stands_words, length_words}
 use Rattle.ra_member.specs.MemberRuns.{FitWords}
 use Rattle.ra_explain.specs.declared.slot.Slot.{Slot}
 use Rattle.ra_explain.specs.Recorders.{KeptRows, StandsFor, RecorderSeen, KeepsHistories, KeepsSlots, KeepsOtherSlots, IsRestored, TakesUpSlot, trigger_cells, trigger_tracked}

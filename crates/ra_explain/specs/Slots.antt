@@ -2,7 +2,7 @@
 use Rattle.std.specs.Prelude.{◌≡◌, ℕ, ◌+◌, ◌*◌, ◌<◌, Bool, Option, None, Some, List, length}
 use Rattle.ra_condition.specs.Contents.{TriggerContents, trigger_hits}
 use Rattle.ra_memory.specs.Image.{History}
-use Rattle.ra_words.specs.Words.{words_at}
+use Rattle.ra_text.specs.Words.{words_at}
 use Rattle.ra_memref.specs.Table.{TableSeen}
 use Rattle.ra_trigger.specs.Steps.{TriggerKept}
 use Rattle.ra_explain.specs.declared.slot.Slot.{Slot}

@@ -2,15 +2,14 @@
 
 ghost use Rattle.std.specs.Prelude.{◌≡◌, ◌++◌, IfOk};
 ghost use Rattle.std.specs.Result.{OnOk};
-ghost use Rattle.ra_words.specs.Words.{words};
+ghost use Rattle.ra_text.specs.Words.{words};
 ghost use Rattle.ra_member.specs.MemberRuns.{FitWords};
 ghost use Rattle.ra_explain.specs.Slots.{IsSlotOf};
 
 use ra_member::TriggerRun;
 use ra_memref::Table;
-use ra_text::OutOfMemory;
+use ra_text::{OutOfMemory, write_words};
 use ra_trigger::State;
-use ra_words::write_words;
 use std::alloc::Global;
 
 /// What is kept of one history: docs/DEFINITIONS.md, "Recorders".

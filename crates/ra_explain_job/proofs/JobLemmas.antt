@@ -21,7 +21,7 @@ use Rattle.ra_meaning.specs.Play.{Moment, moved, first_moment, pieces_from, earn
 use Rattle.ra_explain.specs.Explains.{ExplanationContents}
 use Rattle.ra_explain.specs.Recorders.{RecorderSeen, unlocks_at, most_rows}
 use Rattle.ra_explain.specs.Unlocks.{IsExplanation}
-use Rattle.ra_jobs.specs.Words.{Job, Explain}
+use Rattle.ra_args.specs.Words.{Job, Explain}
 use Rattle.ra_session.specs.Endings.{ending_of}
 use Rattle.ra_session.specs.Expected.{Expected, IsReadBehind, JobSays, ExplainSays, refuses_set, lacks, explains, TraceSays, ReasonSays, at_unlock, at_rows, at_end, at_stop, prints_behind, prints_line, prints_nothing, trace_in, decided_in}
 use Rattle.ra_session.specs.Explaining.{Reason, AtUnlock, AtRows, AtEnd, AtStop, Decided, decided, behind_record, rows_with, decided_from, trigger_of, explanation_text, no_unlock_text}

@@ -16,7 +16,7 @@ use Rattle.ra_progress.specs.Reading.{is_state}
 use Rattle.ra_progress.specs.Saying.{is_earned, state_said, said_or, said_item}
 use Rattle.ra_progress.specs.declared.shape.ItemShape.TheVariants as shapes
 use Rattle.ra_progress.proofs.SaysOpening.{state_said_fits}
-use Rattle.ra_words.specs.Words.{word_at, words_at}
+use Rattle.ra_text.specs.Words.{word_at, words_at}
 use Rattle.ra_member.specs.Members.{cleared_member, saved_hits, saved_numbers}
 use Rattle.ra_member.specs.MemberRuns.{StaysMember, kept_by}
 use Rattle.ra_member.proofs.Cleared.{cleared_saved}
@@ -33,7 +33,7 @@ use Rattle.ra_meaning.specs.Order.{board_member}
 use Rattle.ra_items.specs.ItemRuns.{IsItemRun}
 use Rattle.ra_items.specs.Restoring.{PutsBackBoard, PutsBackItem}
 use Rattle.ra_meaning.proofs.Openings.Unplayed.{byte_again, board_byte_again, earned_again}
-use Rattle.ra_words.proofs.Rows.{length-words_at}
+use Rattle.ra_text.proofs.Rows.{length-words_at}
 
 -- an achievement of which only the kept numbers change, and not how many there are
 achievement_stays : (old new : AchievementRun) → new.run.laid ≡ old.run.laid → length new.run.trigger.hits ≡ length old.run.trigger.hits → (nodes : List Node) (item : ItemContents) → IsItemRun nodes item (Achievement old) → IsItemRun nodes item (Achievement new)

@@ -4,7 +4,7 @@ use Rattle.std.proofs.lemmas.List.{take_more}
 use Rattle.ra_progress.specs.declared.shape.ItemShape.{ItemShape}
 use Rattle.ra_progress.specs.declared.shape.ItemShape.TheVariants as shapes
 use Rattle.ra_trigger.specs.Steps.{TriggerKept}
-use Rattle.ra_words.specs.Words.{AreWords}
+use Rattle.ra_text.specs.Words.{AreWords}
 use Rattle.ra_progress.specs.Contents.{KeptItem, OfBoard, ItemFits, ItemsFit}
 use Rattle.ra_items.specs.declared.board_run.BoardRun.{BoardRun}
 use Rattle.ra_items.specs.declared.item_run.ItemRun.{ItemRun}

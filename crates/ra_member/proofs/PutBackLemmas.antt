@@ -4,9 +4,9 @@ use Rattle.std.specs.List.{flat_map}
 use Rattle.std.proofs.Math.Seq.{drop-cons}
 use Rattle.std.proofs.lemmas.List.{map-append, take_more, take_more_set, take_all, get_or-drop, get_or_default, drop-set-lt}
 use Rattle.std.proofs.lemmas.List.Concat.{flat_map-append}
-use Rattle.ra_words.specs.Words.{words_at}
+use Rattle.ra_text.specs.Words.{words_at}
 use Rattle.ra_member.proofs.PlanLemmas.{one_more}
-use Rattle.ra_words.proofs.Rows.{words_row}
+use Rattle.ra_text.proofs.Rows.{words_row}
 
 -- the elements before a place keep the words from one place on, up to another
 pub record IsRowBack {A : Type 0} (numbers : A → List ℕ) (bytes : List ℕ) (from at k : ℕ) (olds runs : List A) : Type 0 where

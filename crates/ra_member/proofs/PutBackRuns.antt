@@ -11,7 +11,7 @@ use Rattle.ra_member.specs.declared.value_run.ValueRun.{ValueRun}
 use Rattle.ra_member.specs.MemberRuns.{PutsBackTest, PutsBackValue}
 use Rattle.ra_member.specs.Plans.{AreSums}
 use Rattle.ra_member.specs.Runs.{IsLaid, IsTriggerRun, IsValueRun}
-use Rattle.ra_words.proofs.Rows.{length-words_at}
+use Rattle.ra_text.proofs.Rows.{length-words_at}
 
 pub test_stays : (bytes : List ℕ) (at : ℕ) (old new : TriggerRun) → PutsBackTest bytes at old new → (nodes : List Node) (t : TriggerContents) → IsTriggerRun nodes t old → IsTriggerRun nodes t new
 test_stays bytes at old new back nodes t is = record {

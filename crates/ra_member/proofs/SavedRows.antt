@@ -1,11 +1,11 @@
 -- Rows of a member that are put behind others, and put back.
 use Rattle.std.proofs.Common.{◌≡◌, ℕ, ◌+◌, ◌*◌, List, [], ◌∷◌, ◌++◌, length, sym, ◌∙◌, ap, ap₂, append_assoc}
-use Rattle.ra_words.specs.Words.{words_at}
+use Rattle.ra_text.specs.Words.{words_at}
 use Rattle.ra_member.specs.declared.member.Member.{Member}
 use Rattle.ra_member.specs.Members.{saved_hits, saved_numbers}
 use Rattle.ra_member.specs.MemberRuns.{FitWords, PutsBehind, kept_by}
 use Rattle.ra_member.proofs.Lengths.{hits_of_tests, hits_of_values, numbers_of_values, hits_row, numbers_row, length_hits, length_numbers}
-use Rattle.ra_words.proofs.Rows.{words_row}
+use Rattle.ra_text.proofs.Rows.{words_row}
 
 fit_both : (xs ys : List ℕ) → FitWords xs → FitWords ys → FitWords (xs ++ ys)
 fit_both [] ys front behind = behind

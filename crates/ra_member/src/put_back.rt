@@ -2,7 +2,7 @@
 
 ghost use Rattle.std.specs.Prelude.{◌≡◌, ◌+◌, ◌*◌, ◌≤◌, length};
 ghost use Rattle.std.specs.List.{flat_map};
-ghost use Rattle.ra_words.specs.Words.{words_at};
+ghost use Rattle.ra_text.specs.Words.{words_at};
 ghost use Rattle.ra_member.specs.MemberRuns.{StaysMember, StayTests, StayValues, kept_by, PutsBackTest, PutsBackValue};
 ghost use Rattle.ra_member.specs.Members.{saved_hits, saved_numbers};
 

@@ -11,8 +11,8 @@ use Rattle.ra_memref.specs.Table.{IsPutBack}
 use Rattle.ra_memref.specs.Putting.{IsCellPut, IsPriorPut}
 use Rattle.ra_memref.specs.Seen.{table_seen, IsTable}
 use Rattle.ra_memref.proofs.AgreeLemmas.{Agrees-marked}
-use Rattle.ra_words.specs.Words.{words_at}
-use Rattle.ra_words.proofs.Rows.{length-words_at}
+use Rattle.ra_text.specs.Words.{words_at}
+use Rattle.ra_text.proofs.Rows.{length-words_at}
 
 -- the numbers with other kept ones, and with each cell marked
 abbrev pub with_kept : NumbersSeen → (cells priors : List ℕ) → NumbersSeen

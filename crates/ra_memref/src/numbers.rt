@@ -11,7 +11,7 @@ ghost use Rattle.ra_memref.specs.Flags.{NoneSet, IsFirstSet};
 ghost use Rattle.ra_memref.specs.Changes.{AreNoted};
 ghost use Rattle.ra_memref.specs.Due.{earlier_by, AreDependents, AreIdle, IsQuiet, IsUnmarked};
 ghost use Rattle.ra_memref.specs.Watches.{MarksWatchers, MarksOthers};
-ghost use Rattle.ra_words.specs.Words.{words_at};
+ghost use Rattle.ra_text.specs.Words.{words_at};
 
 use crate::changes::Changes;
 use crate::flags::Flags;
@@ -20,8 +20,7 @@ use ra_indirect::Node;
 use ra_links::Links;
 use ra_memory::Image;
 use ra_operand::{Kind, Size, compute, mask, transform, view};
-use ra_text::OutOfMemory;
-use ra_words::read_words;
+use ra_text::{OutOfMemory, read_words};
 use std::alloc::Global;
 use std::marker::Model;
 

@@ -42,7 +42,7 @@ impl Table {
     ghost use Rattle.ra_indirect.specs.Pools.{IsValued, node_at};
     ghost use Rattle.ra_memref.specs.Table.{IsFresh, IsTold, IsLooked, IsPutBack, Samples, ReadsWanted, ReadsLooked, ListsChanged, Agrees};
     ghost use Rattle.ra_memref.specs.Putting.{IsCellPut, IsPriorPut};
-    ghost use Rattle.ra_words.specs.Words.{words_at};
+    ghost use Rattle.ra_text.specs.Words.{words_at};
 
     /// A table over a pool and an image of `size` bytes: all numbers are 0, each cell is marked and lies
     /// at its address, and no sample came.

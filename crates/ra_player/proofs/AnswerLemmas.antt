@@ -2,8 +2,8 @@
 use Rattle.std.proofs.Common.{arith, ◌≡◌, ◌≤◌, inl, inr, ap, sym, subst, refl, ◌∙◌, ℕ, List, [], ◌++◌, Option, Some, None}
 use Rattle.std.specs.List.{concat}
 use Rattle.ra_io.specs.Sink.{grown}
-use Rattle.ra_jobs.specs.Words.{Job, puts_of}
-use Rattle.ra_jobs.specs.JobWords.{job_of}
+use Rattle.ra_args.specs.Words.{Job, puts_of}
+use Rattle.ra_args.specs.JobWords.{job_of}
 use Rattle.ra_session.specs.Endings.{status_of, last_line}
 use Rattle.ra_session.specs.Expected.{Expected, JobSays}
 use Rattle.ra_session.specs.Closing.{Finishes, EndsJob}

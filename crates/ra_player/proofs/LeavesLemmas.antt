@@ -1,8 +1,8 @@
 -- What a call leaves of the files, by its status.
 use Rattle.std.proofs.Common.{arith, ◌≡◌, ◌≢◌, ◌⊎◌, ap, inl, inr, sym, subst, refl, ◌∙◌, ℕ, List, Option, Some}
 use Rattle.std.specs.List.{AllByRecursion}
-use Rattle.ra_jobs.specs.Words.{Job, puts_in}
-use Rattle.ra_jobs.specs.JobWords.{job_of}
+use Rattle.ra_args.specs.Words.{Job, puts_in}
+use Rattle.ra_args.specs.JobWords.{job_of}
 use Rattle.ra_session.specs.Endings.{status_of}
 use Rattle.ra_session.specs.Expected.{JobSays}
 use Rattle.ra_session.specs.Closing.{Finishes}

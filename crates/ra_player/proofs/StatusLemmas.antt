@@ -2,7 +2,7 @@
 use Rattle.std.proofs.Common.{arith, ◌≡◌, ◌⊎◌, inl, inr, ap, refl, sym, subst, ◌∙◌, ℕ, zero, suc, List, [], ◌∷◌, ◌++◌, Any}
 use Rattle.std.specs.List.{concat}
 use Rattle.ra_io.specs.Sink.{grown}
-use Rattle.ra_jobs.specs.Words.{Job, Run, Check, Make, Import, Lint, Normal, Explain, file_in, reads_of, set_read, first_reads}
+use Rattle.ra_args.specs.Words.{Job, Run, Check, Make, Import, Lint, Normal, Explain, file_in, reads_of, set_read, first_reads}
 use Rattle.ra_session.specs.Endings.{status_of, last_line}
 use Rattle.ra_session.specs.Expected.{Expected}
 use Rattle.ra_session.specs.Outside.{Outside, ReadsRose, SinkRose}

@@ -1,7 +1,7 @@
 -- What a call of `play` leaves, by its status: docs/DEFINITIONS.md, "What each status says".
 use Rattle.std.specs.Prelude.{◌≡◌, ℕ, List, ◌++◌, take}
 use Rattle.std.specs.List.{concat}
-use Rattle.ra_jobs.specs.Words.{Job, puts_of}
+use Rattle.ra_args.specs.Words.{Job, puts_of}
 use Rattle.ra_session.specs.Endings.{status_of, last_line}
 use Rattle.ra_session.specs.Expected.{Expected, IsReadBehind, before_put, prints_nothing}
 use Rattle.ra_session.specs.Running.{trace_of}

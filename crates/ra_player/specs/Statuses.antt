@@ -2,8 +2,8 @@
 use Rattle.std.specs.Prelude.{◌≡◌, ◌≢◌, ◌⊎◌, ◌≤◌, ℕ, None, Some, List, ◌++◌}
 use Rattle.std.specs.List.{concat, AllByRecursion}
 use Rattle.ra_io.specs.Files.{SameContent}
-use Rattle.ra_jobs.specs.Words.{Job, reads_of, puts_of, puts_in, set_read, first_reads}
-use Rattle.ra_jobs.specs.JobWords.{job_of}
+use Rattle.ra_args.specs.Words.{Job, reads_of, puts_of, puts_in, set_read, first_reads}
+use Rattle.ra_args.specs.JobWords.{job_of}
 use Rattle.ra_session.specs.Endings.{status_of, last_line}
 use Rattle.ra_session.specs.Expected.{Expected, JobSays}
 use Rattle.ra_session.specs.Outside.{Outside, GrewBy, ReadsRose, PutsRose, SinkRose, AreTold}

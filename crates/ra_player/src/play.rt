@@ -1,14 +1,14 @@
 //! The top call: does what the words say, over any files and any output.
 
 ghost use Rattle.std.specs.Prelude.{◌≤◌, map, string_bytes};
-ghost use Rattle.ra_jobs.specs.JobWords.{job_contents};
+ghost use Rattle.ra_args.specs.JobWords.{job_contents};
 ghost use Rattle.ra_session.specs.Outside.{outside_of};
 ghost use Rattle.ra_session.specs.Running.{Leaves, Ran};
 ghost use Rattle.ra_player.specs.Statuses.{Answers, LeavesFiles};
 
 use ra_explain_job::explain_job;
 use ra_io::{Files, Sink};
-use ra_jobs::{Job, read_job};
+use ra_args::{Job, read_job};
 use ra_session::{
     Ending, RunFiles, check_job, finish, import_job, lint_job, make_job, normal_job, run_job,
 };

@@ -11,7 +11,7 @@ use Rattle.ra_progress.specs.declared.shape.ItemShape.{ItemShape}
 use Rattle.ra_progress.specs.declared.shape.ItemShape.TheVariants.{Achievement, Leaderboard}
 use Rattle.ra_progress.specs.declared.shape.PresenceShape.{PresenceShape}
 use Rattle.ra_progress.specs.Contents.{Name, ShapeContents, OfPresence, Own, own_items, own_presence, own_entries, plain_presence}
-use Rattle.ra_words.specs.Words.{word_at, words_at, words}
+use Rattle.ra_text.specs.Words.{word_at, words_at, words}
 use Rattle.ra_progress.specs.Layout.{Entry, name_at, version_in, digest_in, frames_at, item_length, block_length, cell_count, prior_count, entry_count, first_entry, entry_after, entries_from, entries_in, cells_in, priors_in}
 use Rattle.ra_progress.specs.Names.{entry_names}
 use Rattle.ra_progress.specs.Spelling.{state_byte, item_bytes, presence_bytes, presence_block, blocks_of, named_words, named_blocks, mark, body_bytes, progress_bytes}
@@ -24,7 +24,7 @@ use Rattle.ra_progress.proofs.ByName.{numbered_from}
 use Rattle.ra_progress.proofs.Passes.{both_true, this_set_count}
 use Rattle.ra_progress.proofs.Placed.{whole_layout, sizes_of_this_set}
 use Rattle.ra_progress.proofs.OwnFile.{place_of_block}
-use Rattle.ra_words.proofs.Pieces.{piece, joined, length_piece, piece_below, words_again}
+use Rattle.ra_text.proofs.Pieces.{piece, joined, length_piece, piece_below, words_again}
 
 -- the state byte of an achievement is that of the state and flag that it says
 byte_again : (byte : ℕ) → state_byte (state_said 3 byte) (is_earned 3 byte) ≡ byte

@@ -7,8 +7,8 @@ use Rattle.ra_progress.specs.declared.shape.PresenceShape.{PresenceShape}
 use Rattle.ra_progress.specs.declared.snapshot.ItemKept.{ItemKept}
 use Rattle.ra_progress.specs.Contents.{kept_item, Name, KeptItem, OfAchievement, OfBoard, KeptPresence, ItemFits, ItemsFit, PresenceFits}
 use Rattle.ra_progress.specs.Layout.{item_length, script_length}
-use Rattle.ra_words.specs.Words.{words}
-use Rattle.ra_words.proofs.Pieces.{length_words}
+use Rattle.ra_text.specs.Words.{words}
+use Rattle.ra_text.proofs.Pieces.{length_words}
 use Rattle.ra_progress.specs.Spelling.{item_bytes, presence_bytes, named_words, named_blocks}
 
 -- an item's block is as long as its shape says

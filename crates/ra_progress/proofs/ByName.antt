@@ -8,7 +8,7 @@ use Rattle.std.proofs.lemmas.List.Sorted.{Contains-permutation}
 use Rattle.std.proofs.lemmas.List.FromFn.{length-range_with_len, get_or-range_with_len}
 use Rattle.std.proofs.lemmas.Slice.Eq.{bytes_eq-Decides}
 use Rattle.ra_progress.specs.Contents.{Name, ShapeContents, shape_contents}
-use Rattle.ra_words.specs.Words.{word_at, words_at}
+use Rattle.ra_text.specs.Words.{word_at, words_at}
 use Rattle.ra_progress.specs.Layout.{Numbered, version_in, name_at, numbered_at, entry_after, entries_from}
 use Rattle.ra_progress.specs.Names.{IsOrder, IsRange, IsUsable, names_of, order_in, named_by}
 use Rattle.ra_progress.specs.declared.named.Named.{Named}

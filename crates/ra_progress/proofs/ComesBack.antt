@@ -11,7 +11,7 @@ use Rattle.std.proofs.Math.Seq.{drop-append_seam, take-append_seam}
 use Rattle.md5.specs.Md5.{md5}
 use Rattle.md5.proofs.StandardFacts.{length-md5}
 use Rattle.ra_progress.specs.Contents.{ShapeContents, Own, own_entries, own_presence, Opening, IsOpening}
-use Rattle.ra_words.specs.Words.{word_at}
+use Rattle.ra_text.specs.Words.{word_at}
 use Rattle.ra_progress.specs.Layout.{version_in, digest_in, frames_at, summed_in, own_length, cell_count, prior_count, entry_count, first_entry, cells_in, priors_in, entries_in, entries_from, need_of, need_from, up_to, length_of, numbered_at}
 use Rattle.ra_progress.specs.Names.{IsName, entry_names}
 use Rattle.ra_progress.specs.Spelling.{presence_block, blocks_of, named_words, named_blocks, body_bytes, progress_bytes}
@@ -19,7 +19,7 @@ use Rattle.ra_progress.specs.Reading.{of_this_set, IsAccepted}
 use Rattle.ra_progress.specs.Saying.{says}
 use Rattle.ra_progress.specs.Laws.{IsShape, ComesBack, IsOwn}
 use Rattle.ra_progress.proofs.OwnNames.{own_names}
-use Rattle.ra_words.proofs.Pieces.{Stands, stands_first, stands_next, stands_take, stands_word}
+use Rattle.ra_text.proofs.Pieces.{Stands, stands_first, stands_next, stands_take, stands_word}
 use Rattle.ra_progress.proofs.OwnFile.{IsHeld, Fitting, StandBeside, fitting, fitting_script, entries_stand, need_stand, sizes_stand, states_stand, names_stand, numbered_stand, length_named_words, length_named_blocks, SaidItems, said_items_are, said_script_is}
 
 -- own entries whose names are names and whose blocks are small together can be held

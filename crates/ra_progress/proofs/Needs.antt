@@ -1,7 +1,7 @@
 -- The need as it grows, entry by entry.
 use Rattle.std.proofs.Common.{◌≡◌, ℕ, zero, suc, ◌+◌, ◌-◌, ◌<◌, ◌≤◌, List, refl, arith, ◌∙◌, length, nat_lt, false}
 use Rattle.std.proofs.lemmas.Bool.{le-ltb}
-use Rattle.ra_words.specs.Words.{word_at}
+use Rattle.ra_text.specs.Words.{word_at}
 use Rattle.ra_progress.specs.Layout.{need_from, up_to, entry_after}
 
 -- the next entry's length is read

@@ -8,7 +8,7 @@ use Rattle.ra_progress.specs.declared.shape.ItemShape.{ItemShape}
 use Rattle.ra_progress.specs.declared.shape.ItemShape.TheVariants.{Achievement, Leaderboard}
 use Rattle.ra_progress.specs.declared.shape.PresenceShape.{PresenceShape}
 use Rattle.ra_progress.specs.Contents.{Name, OfItem, OfPresence, Own, own_items, own_presence, KeptItem, OfAchievement, OfBoard, KeptPresence, ItemFits, ItemsFit, PresenceFits, plain_presence}
-use Rattle.ra_words.specs.Words.{word_at, words_at, words}
+use Rattle.ra_text.specs.Words.{word_at, words_at, words}
 use Rattle.ra_progress.specs.Layout.{Entry, name_at, version_in, own_length, entry_after, entries_from, need_from}
 use Rattle.ra_progress.specs.Names.{IsName}
 use Rattle.ra_progress.specs.Spelling.{state_byte, item_bytes, presence_bytes, presence_block, named_words, named_blocks}
@@ -17,7 +17,7 @@ use Rattle.ra_progress.specs.Saying.{is_earned, state_said, said_item, said_item
 use Rattle.ra_progress.proofs.Blocks.{length_item, length_presence}
 use Rattle.ra_progress.proofs.ByName.{numbered_from}
 use Rattle.ra_progress.proofs.OwnOrder.{read_as}
-use Rattle.ra_words.proofs.Pieces.{length_words, Stands, stands_first, stands_next, stands_take, stands_byte, stands_word, stands_words}
+use Rattle.ra_text.proofs.Pieces.{length_words, Stands, stands_first, stands_next, stands_take, stands_byte, stands_word, stands_words}
 
 -- names with their numbers take twenty bytes each
 pub length_named_words : (names : List Name) (numbers : List ℕ) → AllByRecursion IsName names

@@ -6,7 +6,7 @@ use Rattle.std.proofs.lemmas.List.{drop_all}
 use Rattle.std.proofs.lemmas.List.Sums.{sum_by-cons}
 use Rattle.ra_progress.specs.declared.refused.ProgressRefused.{ProgressRefused}
 use Rattle.ra_progress.specs.Contents.{Own, own_at}
-use Rattle.ra_words.specs.Words.{word_at}
+use Rattle.ra_text.specs.Words.{word_at}
 use Rattle.ra_progress.specs.Layout.{Entry, own_length, entry_at, entry_after, entries_from, entries_in, entry_count, first_entry}
 use Rattle.ra_progress.specs.Reading.{HasLayout, or_later, bad_entry, bad_entries, Block, bad_state, bad_states, blocks_from, blocks_beside, blocks_of_entry, blocks_named, have_sizes}
 use Rattle.ra_progress.proofs.Checks.{holds}

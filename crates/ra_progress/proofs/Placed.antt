@@ -8,7 +8,7 @@ use Rattle.std.proofs.lemmas.Slice.Eq.{bytes_eq-Decides}
 use Rattle.ra_progress.specs.Contents.{Name, ShapeContents, Own, own_entries, own_at, plain_item}
 use Rattle.std.specs.Prelude.{IfSome}
 use Rattle.ra_progress.specs.declared.shape.ItemShape.{ItemShape}
-use Rattle.ra_words.specs.Words.{word_at}
+use Rattle.ra_text.specs.Words.{word_at}
 use Rattle.ra_progress.specs.Layout.{Entry, block_length, own_length, entry_at, entry_after, entries_from, entries_in, entry_count, first_entry, version_in, blocks_at_1, length_1_of, cell_count, prior_count, digest_in}
 use Rattle.ra_progress.specs.Reading.{HasLayout, IsWhole, IsAccepted, have_sizes, of_this_set, is_version, owns_named, bad_entry, Block, blocks_from, blocks_beside, blocks_of_entry, blocks_named, blocks_in}
 use Rattle.ra_progress.specs.Saying.{last_block, own_places, said_or, said_item, said_items}

@@ -8,7 +8,7 @@ use Rattle.ra_progress.specs.declared.shape.ItemShape.{ItemShape}
 use Rattle.ra_progress.specs.declared.shape.ItemShape.TheVariants.{Achievement, Leaderboard}
 use Rattle.ra_progress.specs.declared.shape.PresenceShape.{PresenceShape}
 use Rattle.ra_progress.specs.declared.refused.ProgressRefused.{ProgressRefused}
-use Rattle.ra_words.specs.Words.{word_at, words_at, AreWords}
+use Rattle.ra_text.specs.Words.{word_at, words_at, AreWords}
 use Rattle.ra_progress.specs.Contents.{Name, ShapeContents, OfItem, OfPresence, own_entries, ItemFits, ItemsFit, PresenceFits, IsOpening, plain_item, plain_presence}
 use Rattle.ra_progress.specs.Layout.{Numbered, name_at, version_in, digest_in, frames_at, cell_count, prior_count, numbered_at}
 use Rattle.ra_progress.specs.Names.{IsPaired}
@@ -19,7 +19,7 @@ use Rattle.ra_progress.proofs.Owns.{own_count, own_item, own_script, script_coun
 use Rattle.ra_progress.proofs.ByName.{numbered_from}
 use Rattle.ra_progress.proofs.Passes.{both_true}
 use Rattle.ra_progress.proofs.Placed.{placed, places_count}
-use Rattle.ra_words.proofs.Pieces.{piece_below}
+use Rattle.ra_text.proofs.Pieces.{piece_below}
 
 -- a test that refuses where it fails, and did not
 pub passes : (b : Bool) (why : ProgressRefused) → (if b then None else Some why) ≡ None → b ≡ true

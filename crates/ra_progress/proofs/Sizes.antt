@@ -2,7 +2,7 @@
 use Rattle.std.proofs.Common.{◌≡◌, ℕ, zero, suc, ◌+◌, ◌-◌, ◌<◌, ◌≤◌, ◌==◌, ◌&&◌, true, false, List, [], ◌∷◌, length, drop, refl, arith, drop-cons}
 use Rattle.std.proofs.lemmas.List.{drop_all}
 use Rattle.ra_progress.specs.Contents.{Own, own_at}
-use Rattle.ra_words.specs.Words.{word_at}
+use Rattle.ra_text.specs.Words.{word_at}
 use Rattle.ra_progress.specs.Layout.{Entry, own_length, entry_after, entry_at, entries_from}
 use Rattle.ra_progress.specs.Reading.{have_sizes}
 

@@ -10,7 +10,7 @@ use Rattle.ra_progress.specs.declared.snapshot.ItemKept.{ItemKept}
 use Rattle.ra_progress.specs.declared.snapshot.ItemKept.TheVariants as kept
 use Rattle.ra_progress.specs.declared.snapshot.PresenceKept.{PresenceKept}
 use Rattle.ra_progress.specs.declared.snapshot.Snapshot.{Snapshot}
-use Rattle.ra_words.specs.Words.{AreWords}
+use Rattle.ra_text.specs.Words.{AreWords}
 
 -- a name: sixteen bytes
 abbrev pub Name : Type 0

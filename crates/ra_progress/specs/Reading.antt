@@ -7,7 +7,7 @@ use Rattle.ra_progress.specs.declared.shape.ItemShape.TheVariants as shapes
 use Rattle.ra_progress.specs.declared.refused.ProgressRefused.{ProgressRefused}
 use Rattle.ra_progress.specs.declared.refused.ProgressRefused.TheVariants.{WrongLength, WrongMark, WrongVersion, WrongSum, OtherSet, BadEntry, BadState}
 use Rattle.ra_progress.specs.Contents.{Name, ShapeContents, EntryShape, OfItem, OfPresence, Own, own_entries}
-use Rattle.ra_words.specs.Words.{word_at}
+use Rattle.ra_text.specs.Words.{word_at}
 use Rattle.ra_progress.specs.Layout.{Entry, version_in, digest_in, sum_in, summed_in, own_length, blocks_at_1, length_1_of, cell_count, prior_count, need_of, entries_in}
 use Rattle.ra_progress.specs.Spelling.{mark}
 

@@ -4,7 +4,7 @@ use Rattle.ra_progress.specs.declared.shape.ItemShape.{ItemShape}
 use Rattle.ra_progress.specs.declared.shape.ItemShape.TheVariants as shapes
 use Rattle.ra_progress.specs.declared.shape.PresenceShape.{PresenceShape}
 use Rattle.ra_progress.specs.Contents.{Name, ShapeContents, own_entries, KeptItem, OfAchievement, OfBoard, KeptPresence, Opening, plain_item, plain_presence}
-use Rattle.ra_words.specs.Words.{word_at, words_at}
+use Rattle.ra_text.specs.Words.{word_at, words_at}
 use Rattle.ra_progress.specs.Layout.{Numbered, Entry, version_in, frames_at, cells_in, priors_in, entries_in, blocks_at_1}
 use Rattle.ra_progress.specs.Reading.{of_this_set, blocks_from}
 

@@ -3,7 +3,7 @@ use Rattle.std.specs.Prelude.{ℕ, ◌+◌, Bool, if◌then◌else◌, Option, N
 use Rattle.std.specs.Int.{w32, w64, to_le_bytes}
 use Rattle.md5.specs.Md5.{md5}
 use Rattle.ra_progress.specs.Contents.{Name, ShapeContents, KeptItem, OfAchievement, OfBoard, KeptPresence, Opening}
-use Rattle.ra_words.specs.Words.{words}
+use Rattle.ra_text.specs.Words.{words}
 use Rattle.ra_progress.specs.Names.{entry_names}
 
 -- the state byte of an achievement: its state, and 8 more where it is earned

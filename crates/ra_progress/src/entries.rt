@@ -14,7 +14,7 @@ use crate::own::{OwnShape, block_length, own_shape};
 use crate::range::matches;
 use crate::refused::ProgressRefused;
 use crate::shape::Shape;
-use ra_words::word_at;
+use ra_text::word_at;
 
 /// The range of places in the order of own entries that have this name.
 pub(crate) fn own_range(shape: &Shape, name: &[u8; 16]) -> (u32, u32)

@@ -3,10 +3,10 @@
 ghost use Rattle.std.specs.Prelude.{◌≡◌, ◌+◌, ◌*◌, ◌<◌, ◌≤◌, length, slice_index};
 ghost use Rattle.ra_progress.specs.Layout.{version_in};
 ghost use Rattle.ra_progress.specs.Saying as spec;
-ghost use Rattle.ra_words.specs.Words as words;
+ghost use Rattle.ra_text.specs.Words as words;
 
 use crate::reading::{is_earned, state_said};
-use ra_words::word_at;
+use ra_text::word_at;
 
 /// What the block of an achievement says before its hits, and the place of these, in bytes from the start of the file.
 #[derive(Clone, Copy)]

@@ -4,7 +4,7 @@ ghost use Rattle.std.specs.Prelude.{◌≡◌, ◌+◌, ◌*◌, ◌≤◌, ◌<
 ghost use Rattle.ra_progress.specs.Layout as spec;
 ghost use Rattle.ra_progress.specs.Reading.{HasLayout};
 
-use ra_words::word_at;
+use ra_text::word_at;
 
 /// How many cells the bytes have numbers of.
 pub fn cell_count(bytes: &[u8]) -> u32

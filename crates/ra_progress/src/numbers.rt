@@ -13,7 +13,7 @@ use crate::names::name_at;
 use crate::range::{fill_all, matches, order_of_names, put_all};
 use crate::relation::of_this_set;
 use crate::shape::Shape;
-use ra_words::{read_words, word_at};
+use ra_text::{read_words, word_at};
 
 /// Takes up the number that the bytes say of each cell.
 pub(crate) fn read_cells(numbers: &mut Vec<u32>, shape: &Shape, bytes: &[u8])

@@ -12,8 +12,7 @@ use crate::places::frames_at;
 use crate::said::Said;
 use crate::shape::{ItemShape, PresenceShape, Shape};
 use crate::snapshot::{ItemKept, PresenceKept, Snapshot};
-use ra_text::OutOfMemory;
-use ra_words::words_at;
+use ra_text::{OutOfMemory, words_at};
 use std::alloc::Global;
 
 /// The snapshot that bytes say which `check` accepts: docs/DEFINITIONS.md, "Progress file".

@@ -10,7 +10,7 @@ use crate::layout::{cell_count, entry_after, entry_count, first_entry, prior_cou
 use crate::names::name_at;
 use crate::own::{block_length, own_count, own_shape};
 use crate::shape::Shape;
-use ra_words::word_at;
+use ra_text::word_at;
 
 /// Whether a file is of this set, so that its fields are read by their places:
 /// docs/DEFINITIONS.md, "Progress file".

@@ -13,7 +13,7 @@ use crate::own::{OwnShape, block_length, own_count, own_shape};
 use crate::places::blocks_at_1;
 use crate::refused::ProgressRefused;
 use crate::shape::{ItemShape, Shape};
-use ra_words::word_at;
+use ra_text::word_at;
 
 /// The refusal of a block whose state byte or shown index is not in its table.
 pub(crate) fn bad_state(bytes: &[u8], own: OwnShape, at: u64) -> Option<ProgressRefused>

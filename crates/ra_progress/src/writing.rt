@@ -5,7 +5,7 @@ ghost use Rattle.std.specs.Int.{w32, to_le_bytes};
 ghost use Rattle.md5.specs.Md5.{md5};
 ghost use Rattle.ra_progress.specs.Contents.{shape_contents, snapshot_contents, kept_item, kept_presence, IsOpening};
 ghost use Rattle.ra_progress.specs.Names.{IsUsable};
-ghost use Rattle.ra_words.specs.Words.{AreWords, words};
+ghost use Rattle.ra_text.specs.Words.{AreWords, words};
 ghost use Rattle.ra_progress.specs.Spelling as spec;
 ghost use Rattle.ra_progress.specs.Spelling.{item_bytes, presence_block, named_words, named_blocks, progress_bytes};
 ghost use Rattle.ra_progress.specs.Writing.{FitsShort, PresenceShort, front_bytes, named_block};
@@ -15,8 +15,7 @@ use crate::places::length;
 use crate::shape::Shape;
 use crate::snapshot::{ItemKept, PresenceKept, Snapshot};
 use md5::{Digest, Md5};
-use ra_text::OutOfMemory;
-use ra_words::write_words;
+use ra_text::{OutOfMemory, write_words};
 use std::alloc::Global;
 
 /// The bytes of a snapshot of the shape in version 3, with their closing sum:

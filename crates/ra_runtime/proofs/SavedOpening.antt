@@ -5,7 +5,7 @@ use Rattle.ra_richpresence.specs.Contents.{ScriptContents}
 use Rattle.ra_memref.specs.Table.{TableSeen}
 use Rattle.ra_set.specs.Contents.{SetContents}
 use Rattle.ra_progress.specs.declared.shape.ItemShape.{ItemShape}
-use Rattle.ra_words.specs.Words.{AreWords}
+use Rattle.ra_text.specs.Words.{AreWords}
 use Rattle.ra_progress.specs.Contents.{KeptItem, ItemsFit, PresenceFits, ShapeContents, IsOpening}
 use Rattle.ra_progress.specs.Layout.{item_length, script_length, length_of}
 use Rattle.ra_progress.specs.Names.{IsPaired}

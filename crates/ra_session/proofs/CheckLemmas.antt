@@ -3,7 +3,7 @@ use Rattle.std.proofs.Common.{◌≡◌, ap, sym, subst, refl, ◌∙◌, ℕ, t
 use Rattle.std.specs.List.{concat}
 use Rattle.ra_set.proofs.AnswerLemmas.{one-refusal, set-not_refused, same-set}
 use Rattle.ra_set.specs.Contents.{SetContents}
-use Rattle.ra_jobs.specs.Words.{Job, Check, Lint, reads_of}
+use Rattle.ra_args.specs.Words.{Job, Check, Lint, reads_of}
 use Rattle.ra_session.specs.Expected.{Expected, JobSays, SetSays, refuses_set, tells, check_line, prints_line, prints_nothing}
 use Rattle.ra_session.specs.Linting.{lint_text}
 use Rattle.ra_session.specs.Closing.{EndsBefore}

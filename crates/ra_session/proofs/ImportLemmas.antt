@@ -12,7 +12,7 @@ use Rattle.ra_patch.specs.Answers.{document_limit, Imports, RefusesDocument}
 use Rattle.ra_patch.specs.declared.refused.PatchRefused.{PatchRefused}
 use Rattle.ra_patch.specs.declared.refused.PatchRefused.TheVariants as patch
 use Rattle.ra_patch.proofs.AnswerLemmas.{same-text, one-document_refusal, imported-not_refused}
-use Rattle.ra_jobs.specs.Words.{Job, Import}
+use Rattle.ra_args.specs.Words.{Job, Import}
 use Rattle.ra_session.specs.Expected.{Expected, ImportSays, IsOfDocument, refuses_document, refuses_set, imports, import_line, prints_line, prints_nothing, puts_then_prints}
 use Rattle.ra_session.specs.Closing.{EndsBefore}
 use Rattle.ra_session.specs.Failures.{document_refused, ending_of_document, ending_of_put, ending_of_refused}

@@ -11,7 +11,7 @@ use Rattle.ra_io.specs.declared.files.PutFailed.TheVariants as put
 use Rattle.ra_memory.specs.Image.{History}
 use Rattle.ra_set.specs.Contents.{SetContents}
 use Rattle.ra_progress.specs.Contents.{Opening}
-use Rattle.ra_jobs.specs.Words.{Job, Run, file_in, puts_of, reads_of}
+use Rattle.ra_args.specs.Words.{Job, Run, file_in, puts_of, reads_of}
 use Rattle.ra_meaning.specs.Earned.{Earned}
 use Rattle.ra_session.specs.Expected.{Expected, RunSays, played}
 use Rattle.ra_session.specs.Closing.{EndsBefore, EndsJob}

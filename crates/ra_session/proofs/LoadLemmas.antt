@@ -20,7 +20,7 @@ use Rattle.ra_trace.specs.Cutting.{Stop, Reached, RefusedAt, PastLimit}
 use Rattle.ra_meaning.specs.Order.{shape_of}
 use Rattle.ra_meaning.specs.Earned.{Earned, HoldTriggered, earned_in, none_earned, with_earned}
 use Rattle.ra_meaning.specs.Openings.{snapshot, plain_opening}
-use Rattle.ra_jobs.specs.Words.{Job, Run, file_in, reads_of}
+use Rattle.ra_args.specs.Words.{Job, Run, file_in, reads_of}
 use Rattle.ra_session.specs.Endings.{ending_of}
 use Rattle.ra_session.specs.Expected.{Expected, RunSays, refuses_set, refuses_file, begins, goes_on, takes_up, played, prints_nothing, progress_limit, set_limit}
 use Rattle.ra_session.specs.Failures.{ending_of_load}

@@ -13,7 +13,7 @@ use Rattle.ra_trace.specs.Cutting.{Trace, no_slots, trace_with, stop_within}
 use Rattle.ra_trace.specs.Workload.{made_set, made_trace}
 use Rattle.ra_trace.proofs.MadeTrace.{made_cut, made_short}
 use Rattle.ra_meaning.specs.Openings.{plain_opening}
-use Rattle.ra_jobs.specs.Words.{Make}
+use Rattle.ra_args.specs.Words.{Make}
 use Rattle.ra_meaning.specs.Earned.{none_earned}
 use Rattle.ra_session.specs.Endings.{ending_of}
 use Rattle.ra_session.specs.Expected.{Expected, MakeSays, made, make_line, played, prints_line, trace_limit}

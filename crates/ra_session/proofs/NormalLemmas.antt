@@ -15,7 +15,7 @@ use Rattle.ra_normal.specs.Text.{IsNormal, IsPastLimit}
 use Rattle.ra_normal.specs.declared.refused.NormalRefused.{NormalRefused}
 use Rattle.ra_normal.specs.declared.refused.NormalRefused.TheVariants as normal
 use Rattle.ra_normal.proofs.LimitLemmas.{one_limit, one_normal, normal_within}
-use Rattle.ra_jobs.specs.Words.{Job, Normal}
+use Rattle.ra_args.specs.Words.{Job, Normal}
 use Rattle.ra_session.specs.Expected.{Expected, NormalSays, refuses_set, passes_limit, puts_text, normal_line, prints_line, puts_then_prints}
 use Rattle.ra_session.specs.Closing.{EndsBefore}
 use Rattle.ra_session.specs.Failures.{ending_of_normal, ending_of_put}

@@ -6,7 +6,7 @@ use Rattle.ra_io.specs.Causes.{Rose}
 use Rattle.ra_io.specs.Files.{SameContent}
 use Rattle.ra_io.specs.declared.files.PutFailed.{PutFailed}
 use Rattle.ra_io.specs.declared.files.PutFailed.TheVariants as put
-use Rattle.ra_jobs.specs.Words.{Job, puts_of}
+use Rattle.ra_args.specs.Words.{Job, puts_of}
 use Rattle.ra_session.specs.Expected.{Expected, JobSays, prints_line, puts_then_prints}
 use Rattle.ra_session.specs.Closing.{EndsBefore}
 use Rattle.ra_session.specs.Failures.{ending_of_put}

@@ -27,7 +27,7 @@ use Rattle.ra_patch.specs.Answers.{document_limit, Imports, RefusesDocument}
 use Rattle.ra_normal.specs.Text.{IsNormal, IsPastLimit, normal_conditions}
 use Rattle.ra_normal.specs.declared.refused.NormalRefused.TheVariants as normal
 use Rattle.ra_set.specs.declared.refused.Which.{Which}
-use Rattle.ra_jobs.specs.Words.{Job, Run, Check, Make, Import, Lint, Normal, Explain}
+use Rattle.ra_args.specs.Words.{Job, Run, Check, Make, Import, Lint, Normal, Explain}
 use Rattle.ra_condition.specs.Contents.{TriggerContents}
 use Rattle.ra_explain.specs.Explains.{ExplanationContents}
 use Rattle.ra_explain.specs.Unlocks.{IsExplanation}

@@ -1,6 +1,6 @@
 -- The files of a run: docs/DEFINITIONS.md, "Jobs".
 use Rattle.std.specs.Prelude.{option_map}
-use Rattle.ra_jobs.specs.Words.{Job, Run}
+use Rattle.ra_args.specs.Words.{Job, Run}
 use Rattle.ra_session.specs.declared.run_files.RunFiles.{RunFiles}
 
 -- the run of these files

@@ -2,7 +2,7 @@
 use Rattle.std.specs.Prelude.{◌≡◌, ◌≢◌, ◌⊎◌, ⊤, ℕ, Option, Some, List, [], ◌∷◌, is_some, true}
 use Rattle.std.specs.List.{AllByRecursion}
 use Rattle.ra_io.specs.Files.{SameContent}
-use Rattle.ra_jobs.specs.Words.{Job, Run, Explain, Import, Normal, reads_of, puts_of, set_read, first_reads}
+use Rattle.ra_args.specs.Words.{Job, Run, Explain, Import, Normal, reads_of, puts_of, set_read, first_reads}
 use Rattle.ra_session.specs.Expected.{Expected, JobSays}
 use Rattle.ra_session.specs.Closing.{EndsJob}
 use Rattle.ra_session.specs.Outside.{Outside, ReadsRose, PutsRose, SinkRose, AreTold}

@@ -3,7 +3,7 @@
 ghost use Rattle.std.specs.Prelude.{◌≡◌, ◌≤◌, IfOk, IfErr, option_map, string_bytes};
 ghost use Rattle.ra_io.specs.Causes.{Rose};
 ghost use Rattle.ra_io.specs.Files.{OnlyRead};
-ghost use Rattle.ra_jobs.specs.Words.{Import};
+ghost use Rattle.ra_args.specs.Words.{Import};
 ghost use Rattle.ra_richpresence.specs.Contents.{script_contents};
 ghost use Rattle.ra_set.specs.Contents.{set_contents};
 ghost use Rattle.ra_session.specs.Expected as spec;

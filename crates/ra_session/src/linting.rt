@@ -3,7 +3,7 @@
 ghost use Rattle.std.specs.Prelude.{◌≡◌, ◌≤◌, ◌++◌, IfOk, OnOk, map, string_bytes};
 ghost use Rattle.std.specs.List.{flat_map};
 ghost use Rattle.ra_io.specs.Files.{SameContent};
-ghost use Rattle.ra_jobs.specs.Words.{Lint};
+ghost use Rattle.ra_args.specs.Words.{Lint};
 ghost use Rattle.ra_set.specs.Contents.{item_contents, set_contents};
 ghost use Rattle.ra_session.specs.Linting as spec;
 ghost use Rattle.ra_session.specs.Linting.{is_on_item, item_line, item_text, place_text, warning_line, warning_word, where_text};

@@ -13,7 +13,7 @@ ghost use Rattle.ra_session.specs.Expected.{progress_limit};
 ghost use Rattle.ra_session.specs.Loading.{AreAccepted, AreOfFile, HasNoProgress, HasNoSet, IsLoaded, IsNotLoaded, IsTaken, progress_in};
 ghost use Rattle.ra_session.specs.Outside.{AnyRose};
 ghost use Rattle.ra_session.specs.Playing.{IsPlayable};
-ghost use Rattle.ra_jobs.specs.Words.{file_in};
+ghost use Rattle.ra_args.specs.Words.{file_in};
 
 use crate::beginning::Beginning;
 use crate::failures::{LoadFailed, ProgressFailed, SetFailed};

@@ -7,7 +7,7 @@ ghost use Rattle.ra_session.specs.Expected.{make_line};
 ghost use Rattle.ra_session.specs.Making.{IsMadeText, set_name, trace_name};
 ghost use Rattle.ra_session.specs.Outside.{outside_of};
 ghost use Rattle.ra_session.specs.Running.{Ran};
-ghost use Rattle.ra_jobs.specs.Words.{Make};
+ghost use Rattle.ra_args.specs.Words.{Make};
 
 use crate::beginning::Beginning;
 use crate::counts::{lines_in, unlocks_in};

@@ -3,7 +3,7 @@
 ghost use Rattle.std.specs.Prelude.{◌≡◌, ◌≤◌, ◌<◌, ◌^◌, IfOk, IfErr, length, string_bytes};
 ghost use Rattle.ra_io.specs.Causes.{Rose};
 ghost use Rattle.ra_io.specs.Files.{OnlyRead};
-ghost use Rattle.ra_jobs.specs.Words.{Normal};
+ghost use Rattle.ra_args.specs.Words.{Normal};
 ghost use Rattle.ra_set.specs.Accepted.{IsSet};
 ghost use Rattle.ra_set.specs.Contents.{set_contents};
 ghost use Rattle.ra_normal.specs.Text as text;

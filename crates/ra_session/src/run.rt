@@ -16,7 +16,7 @@ ghost use Rattle.ra_session.specs.Outside.{AnyRose, outside_of};
 ghost use Rattle.ra_session.specs.Playing.{IsPlayable, kept_bytes};
 ghost use Rattle.ra_session.specs.RunFiles.{run_of};
 ghost use Rattle.ra_session.specs.Running.{HasBytes, Leaves, Ran};
-ghost use Rattle.ra_jobs.specs.Words.{Check, file_in};
+ghost use Rattle.ra_args.specs.Words.{Check, file_in};
 
 use crate::beginning::Beginning;
 use crate::check_line::check_line;

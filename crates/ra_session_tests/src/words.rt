@@ -1,6 +1,6 @@
 //! The words of the command line: the job of each shape, and words that are none.
 
-use ra_jobs::{Job, read_job};
+use ra_args::{Job, read_job};
 use ra_text::OutOfMemory;
 use std::alloc::Global;
 

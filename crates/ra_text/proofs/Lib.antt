@@ -12,3 +12,5 @@ pub mod Numerals
 pub mod Loops
 pub mod Items
 pub mod Bytes
+pub mod Pieces
+pub mod Rows

@@ -6,3 +6,4 @@ pub mod Reading
 pub mod Number
 pub mod ReadingNumbers
 pub mod Moves
+pub mod Words

@@ -2,8 +2,7 @@ use crate::change::Change;
 use crate::state::State;
 use crate::together::step_groups;
 use ra_condition::TriggerText;
-use ra_text::OutOfMemory;
-use ra_words::read_words;
+use ra_text::{OutOfMemory, read_words};
 use std::alloc::Global;
 use std::marker::Model;
 
@@ -28,7 +27,7 @@ impl Trigger {
     ghost use Rattle.std.specs.Prelude.{◌≡◌, ◌*◌, length, IfOk};
     ghost use Rattle.std.specs.Borrow.{sem};
     ghost use Rattle.ra_condition.specs.Contents.{trigger_contents, trigger_hits};
-    ghost use Rattle.ra_words.specs.Words.{words_at};
+    ghost use Rattle.ra_text.specs.Words.{words_at};
     ghost use Rattle.ra_trigger.specs.Kept.{no_trigger, orders_of, pauses_of, change_between};
     ghost use Rattle.ra_trigger.specs.Lends.{LendsHits};
     ghost use Rattle.ra_trigger.specs.Steps.{cleared, step, truth, hits_after_truth};

@@ -1,8 +1,7 @@
 use crate::greatest::greatest_of;
 use crate::parts::step_value;
 use ra_condition::{Part, ValueText};
-use ra_text::OutOfMemory;
-use ra_words::read_words;
+use ra_text::{OutOfMemory, read_words};
 use std::alloc::Global;
 use std::marker::Model;
 
@@ -26,7 +25,7 @@ impl Value {
     ghost use Rattle.std.specs.Prelude.{◌≡◌, ◌*◌, length, IfOk};
     ghost use Rattle.std.specs.Borrow.{sem};
     ghost use Rattle.ra_condition.specs.Contents.{value_contents, value_hits};
-    ghost use Rattle.ra_words.specs.Words.{words_at};
+    ghost use Rattle.ra_text.specs.Words.{words_at};
     ghost use Rattle.ra_value.specs.Kept.{orders_of, pauses_of, cleared};
     ghost use Rattle.ra_value.specs.Lends.{LendsHits};
     ghost use Rattle.ra_value.specs.Steps.{no_value, signed_greatest, step};

@@ -6,7 +6,7 @@ use Rattle.ra_set.specs.Contents.{SetContents}
 use Rattle.ra_progress.specs.declared.shape.ItemShape.{ItemShape}
 use Rattle.ra_progress.specs.declared.shape.ItemShape.TheVariants.{Achievement, Leaderboard}
 use Rattle.ra_progress.specs.declared.shape.PresenceShape.{PresenceShape}
-use Rattle.ra_words.specs.Words.{AreWords}
+use Rattle.ra_text.specs.Words.{AreWords}
 use Rattle.ra_progress.specs.Contents.{ItemFits, ItemsFit, PresenceFits, IsOpening, plain_item, plain_presence}
 use Rattle.ra_meaning.specs.Order.{presence_shape, shape_of}
 use Rattle.ra_meaning.specs.Openings.{plain_opening}

@@ -9,7 +9,7 @@ use Rattle.ra_memory.specs.Image.{History, AreImages}
 use Rattle.ra_indirect.specs.Trees.{Tree, constant, join, view, Cell, cell_of, Tracked, same_cell, same_tracked, cells_in, tracked_by, tracked_in}
 use Rattle.ra_memref.specs.Values.{cell_number, tracked_number}
 use Rattle.ra_set.specs.Contents.{SetContents}
-use Rattle.ra_words.specs.Words.{AreWords}
+use Rattle.ra_text.specs.Words.{AreWords}
 use Rattle.ra_progress.specs.Contents.{Opening, IsOpening}
 use Rattle.ra_meaning.specs.Order.{trees_in_set, set_cells, set_tracked, shape_of}
 use Rattle.ra_memref.specs.Names.{cell_name, tracked_name}

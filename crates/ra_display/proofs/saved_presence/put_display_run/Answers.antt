@@ -1,6 +1,6 @@
 use Rattle.std.proofs.Common.{◌≡◌, ◌++◌, [], ◌∷◌, OnOk, List, length, option_to_list, ◌∙◌, sym, ap, ap₂, subst, arith}
 use Rattle.std.proofs.lemmas.Result.{on_ok_weaker}
-use Rattle.ra_words.specs.Words.{words}
+use Rattle.ra_text.specs.Words.{words}
 use Rattle.ra_progress.specs.Spelling.{named_blocks, presence_bytes}
 use Rattle.ra_progress.specs.Writing.{named_block}
 use Rattle.ra_progress.proofs.Blocks.{one_block}

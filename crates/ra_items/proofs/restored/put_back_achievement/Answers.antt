@@ -1,6 +1,6 @@
 use Rattle.std.proofs.Common.{◌+◌, ◌-◌, ◌*◌, ◌||◌, Option, ℕ, Some, length, refl, sym, ◌∙◌, ap, ap₂, subst, arith}
 use Rattle.ra_trigger.specs.States.{state_of}
-use Rattle.ra_words.proofs.Rows.{words_piece}
+use Rattle.ra_text.proofs.Rows.{words_piece}
 use Rattle.ra_items.specs.declared.achievement_run.AchievementRun.{AchievementRun}
 use Rattle.ra_items.specs.declared.item_run.ItemRun.TheVariants.{Achievement}
 use Rattle.ra_items.specs.Restoring.{HasItem, PutsBackItem}

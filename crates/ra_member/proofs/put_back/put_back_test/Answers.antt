@@ -1,6 +1,6 @@
 use Rattle.std.proofs.Common.{◌+◌, ◌-◌, ◌*◌, length, refl, ◌∙◌, ap, arith}
 use Rattle.ra_trigger.specs.Steps.{TriggerKept}
-use Rattle.ra_words.proofs.Rows.{words_piece}
+use Rattle.ra_text.proofs.Rows.{words_piece}
 use Rattle.ra_member.proofs.put_back.put_back_test.Goals as goal
 
 pub returns-clause-test : goal.returns-clause-test

@@ -1,6 +1,6 @@
 use Rattle.std.proofs.Common.{◌+◌, ◌-◌, ◌*◌, length, refl, ◌∙◌, ap, arith}
 use Rattle.ra_value.specs.Steps.{ValueKept}
-use Rattle.ra_words.proofs.Rows.{words_piece}
+use Rattle.ra_text.proofs.Rows.{words_piece}
 use Rattle.ra_member.proofs.put_back.put_back_value.Goals as goal
 
 pub returns-clause-value : goal.returns-clause-value

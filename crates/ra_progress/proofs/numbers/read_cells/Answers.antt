@@ -2,7 +2,7 @@ use Rattle.std.proofs.Common.{◌≡◌, ◌∙◌, map, length, sym, ap, arith}
 use Rattle.std.proofs.lemmas.Bool.{ne_eqb}
 use Rattle.ra_progress.specs.Contents.{shape_contents}
 use Rattle.ra_progress.specs.Layout.{Numbered, version_in, numbered_at, cell_count, cells_in}
-use Rattle.ra_words.specs.Words.{words_at}
+use Rattle.ra_text.specs.Words.{words_at}
 use Rattle.ra_progress.specs.Saying.{last_number}
 use Rattle.ra_progress.proofs.ByName.{put_over, said_by_name, said_by_place, said_in_1}
 use Rattle.ra_progress.proofs.Placed.{counts_of_this_set, numbers_in_1, numbers_named, whole_layout}

@@ -1,7 +1,7 @@
 use Rattle.std.proofs.Common.{◌≡◌, ℕ, ◌+◌, ◌*◌, ◌-◌, ◌<◌, [], ◌∙◌, if◌then◌else◌, bytes_eq, sym, ap, ap₂, length, slice_index, subst, replicate, arith}
 use Rattle.std.proofs.lemmas.List.{get_or-replicate, length-replicate}
 use Rattle.ra_progress.specs.Contents.{Name, shape_contents}
-use Rattle.ra_words.specs.Words.{word_at}
+use Rattle.ra_text.specs.Words.{word_at}
 use Rattle.ra_progress.specs.Layout.{numbered_at, name_at}
 use Rattle.ra_progress.specs.Names.{IsOrder, IsRange, names_of, order_in, named_by}
 use Rattle.ra_progress.specs.Saying.{last_number}

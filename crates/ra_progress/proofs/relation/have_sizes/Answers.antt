@@ -1,7 +1,7 @@
 use Rattle.std.proofs.Common.{◌≡◌, ◌+◌, ◌-◌, ◌==◌, ◌<◌, ◌≤◌, ◌∙◌, refl, sym, ap, length, false, arith}
 use Rattle.std.proofs.lemmas.Bool.{eq-eqb, ne_eqb}
 use Rattle.ra_progress.specs.Contents.{shape_contents, own_entries, own_at}
-use Rattle.ra_words.specs.Words.{word_at}
+use Rattle.ra_text.specs.Words.{word_at}
 use Rattle.ra_progress.specs.Layout.{block_length, own_length, entries_in, entry_count, first_entry}
 use Rattle.ra_progress.proofs.Walks.{walk_next}
 use Rattle.ra_progress.proofs.Sizes.{entries_count, sizes_count, sizes_step, sizes_end}

@@ -1,6 +1,6 @@
 use Rattle.std.proofs.Common.{◌≡◌, ◌+◌, ◌==◌, ◌∙◌, sym, ap, not, map, find, slice_index, arith}
 use Rattle.ra_progress.specs.Contents.{shape_contents, own_entries, own_at, entry_shape, EntryShape}
-use Rattle.ra_words.specs.Words.{word_at}
+use Rattle.ra_text.specs.Words.{word_at}
 use Rattle.ra_progress.specs.Layout.{block_length, own_length, entry_at}
 use Rattle.ra_progress.specs.Reading.{bad_state, bad_states, owns_named}
 use Rattle.ra_progress.proofs.OwnOrder.{read_as, none_before}

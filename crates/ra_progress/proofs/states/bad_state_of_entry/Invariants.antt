@@ -1,6 +1,6 @@
 use Rattle.std.proofs.Common.{◌≡◌, ◌+◌, ◌-◌, ◌==◌, not, None, map, take, drop, find}
 use Rattle.ra_progress.specs.Contents.{shape_contents, own_entries, own_at}
-use Rattle.ra_words.specs.Words.{word_at}
+use Rattle.ra_text.specs.Words.{word_at}
 use Rattle.ra_progress.specs.Layout.{own_length, entry_at}
 use Rattle.ra_progress.specs.Reading.{bad_states, blocks_of_entry}
 use Rattle.ra_progress.proofs.OwnOrder.{read_as}

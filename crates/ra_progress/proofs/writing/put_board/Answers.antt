@@ -1,7 +1,7 @@
 use Rattle.std.proofs.Common.{◌≡◌, ◌+◌, ◌*◌, ◌++◌, ◌∙◌, [], ◌∷◌, ap, length, length-append, arith}
 use Rattle.std.specs.Int.{w32, to_le_bytes}
-use Rattle.ra_words.specs.Words.{words}
-use Rattle.ra_words.proofs.Pieces.{length_words}
+use Rattle.ra_text.specs.Words.{words}
+use Rattle.ra_text.proofs.Pieces.{length_words}
 use Rattle.ra_progress.proofs.Blocks.{steps_3}
 use Rattle.ra_progress.proofs.Written.{block_behind}
 use Rattle.ra_progress.proofs.writing.put_board.Goals as goal

@@ -1,6 +1,6 @@
 use Rattle.std.proofs.Common.{arith, ◌∙◌, List, ℕ, refl, subst, sym}
 use Rattle.ra_io.specs.Causes.{Rose}
-use Rattle.ra_jobs.specs.Words.{Import}
+use Rattle.ra_args.specs.Words.{Import}
 use Rattle.ra_session.specs.Closing.{EndsBefore}
 use Rattle.ra_session.specs.Expected.{prints_line}
 use Rattle.ra_session.specs.Running.{HasBytes}

@@ -2,7 +2,7 @@ use Rattle.std.proofs.Common.{◌∙◌, List, ℕ, refl, subst}
 use Rattle.ra_io.specs.Causes.{Rose}
 use Rattle.ra_set.specs.Contents.{set_contents}
 use Rattle.ra_session.specs.Closing.{EndsBefore}
-use Rattle.ra_jobs.specs.Words.{Lint}
+use Rattle.ra_args.specs.Words.{Lint}
 use Rattle.ra_session.specs.Expected.{prints_line}
 use Rattle.ra_session.specs.Linting.{lint_text}
 use Rattle.ra_session.proofs.CheckLemmas.{lint_tells, told_no_set, told_set}

@@ -1,6 +1,6 @@
 use Rattle.std.proofs.Common.{option_map}
 use Rattle.ra_set.specs.Contents.{set_contents}
-use Rattle.ra_jobs.specs.Words.{file_in}
+use Rattle.ra_args.specs.Words.{file_in}
 use Rattle.ra_session.specs.declared.failures.LoadFailed.TheVariants as load
 use Rattle.ra_session.proofs.LoadLemmas.{not_progress_since, of_file_since}
 use Rattle.ra_session.proofs.RunLemmas.{err_by, rose_before}

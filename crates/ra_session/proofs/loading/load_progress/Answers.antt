@@ -1,6 +1,6 @@
 use Rattle.std.proofs.Common.{sym, subst, [], Bor, List, ℕ, Option, option_map, refl}
 use Rattle.ra_set.specs.Contents.{set_contents}
-use Rattle.ra_jobs.specs.Words.{file_in}
+use Rattle.ra_args.specs.Words.{file_in}
 use Rattle.ra_session.specs.Loading.{HasNoProgress}
 use Rattle.ra_session.specs.Outside.{AnyRose}
 use Rattle.ra_session.proofs.LoadLemmas.{not_progress_since}

@@ -3,7 +3,7 @@ use Rattle.ra_session.specs.declared.player.Player.{Player}
 use Rattle.ra_set.specs.Contents.{set_contents}
 use Rattle.ra_session.specs.Loading.{progress_in}
 use Rattle.ra_session.specs.Playing.{kept_bytes}
-use Rattle.ra_jobs.specs.Words.{file_in}
+use Rattle.ra_args.specs.Words.{file_in}
 use Rattle.ra_session.specs.RunFiles.{run_of}
 use Rattle.ra_session.proofs.JobLemmas.{leaves_same, load_not_done, trace_not_done, ran_on, ran_not_put, leaves_put, leaves_not_put, others_since, bytes_since}
 use Rattle.ra_session.proofs.LoadLemmas.{ran_not_begun}

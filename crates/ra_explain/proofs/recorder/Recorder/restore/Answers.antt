@@ -3,7 +3,7 @@ use Rattle.std.proofs.lemmas.Bool.{false≢true}
 use Rattle.ra_condition.specs.Contents.{trigger_contents, groups_of}
 use Rattle.ra_indirect.specs.declared.node.Node.{Node}
 use Rattle.ra_indirect.specs.Pools.{cells_of, tracked_of}
-use Rattle.ra_words.proofs.Rows.{length-words_at}
+use Rattle.ra_text.proofs.Rows.{length-words_at}
 use Rattle.ra_memref.proofs.AgreeLemmas.{Agrees-marked}
 use Rattle.ra_trigger.specs.Steps.{TriggerKept}
 use Rattle.ra_member.specs.Runs.{IsLaid}

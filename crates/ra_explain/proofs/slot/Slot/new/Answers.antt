@@ -1,5 +1,5 @@
 use Rattle.std.proofs.Common.{◌≡◌, ap₂, ◌∙◌, ◌++◌, subst}
-use Rattle.ra_words.specs.Words.{words}
+use Rattle.ra_text.specs.Words.{words}
 use Rattle.ra_member.specs.MemberRuns.{FitWords}
 use Rattle.ra_explain.proofs.SlotLemmas.{slot_of}
 use Rattle.ra_explain.proofs.slot.Slot.new.Goals as goal

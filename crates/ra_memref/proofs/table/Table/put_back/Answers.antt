@@ -1,7 +1,7 @@
 use Rattle.std.proofs.Common.{◌*◌, length, subst}
 use Rattle.ra_memref.specs.Table.{TableSeen, IsPutBack}
 use Rattle.ra_memref.specs.Seen.{table_seen}
-use Rattle.ra_words.specs.Words.{words_at}
+use Rattle.ra_text.specs.Words.{words_at}
 use Rattle.ra_memref.proofs.PuttingLemmas.{put, back_is_table, put_back_by}
 use Rattle.ra_memref.proofs.table.Table.put_back.Goals as goal
 

@@ -3,7 +3,7 @@ use Rattle.std.proofs.lemmas.List.{length-map}
 use Rattle.md5.specs.Md5.{md5}
 use Rattle.ra_memref.specs.Names.{cell_name, tracked_name}
 use Rattle.ra_set.specs.Contents.{set_contents}
-use Rattle.ra_words.specs.Words.{AreWords}
+use Rattle.ra_text.specs.Words.{AreWords}
 use Rattle.ra_progress.specs.declared.shape.ItemShape.{ItemShape}
 use Rattle.ra_progress.specs.Contents.{ShapeContents, shape_contents, IsOpening, ItemsFit}
 use Rattle.ra_progress.specs.Layout.{item_length}

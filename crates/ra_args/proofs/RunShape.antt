@@ -1,0 +1,16 @@
+-- What clap reads of `run SET TRACE`.
+use Rattle.std.proofs.Common.{ℕ, ◌≡◌, List, [], ◌∷◌, codes, Some, None, true, false, refl, ◌==◌}
+use Rattle.clap.specs.Words.{takes}
+use Rattle.clap.proofs.OnLiterals.{clap_on_literals}
+use Rattle.ra_args.specs.Words.{Run}
+use Rattle.ra_args.specs.JobCommand.{player_app, job_read}
+
+-- no file begins with `-`
+module _ (c d : ℕ) (cs ds : List ℕ) (hc : (c == 45) ≡ false) (hd : (d == 45) ≡ false) where
+  pub taken : takes player_app (codes "run" ∷ (c ∷ cs) ∷ (d ∷ ds) ∷ []) ≡ true
+  unfolding clap_on_literals
+  taken = rw (hc, hc, hd, hd) refl
+
+  pub read : job_read (codes "run" ∷ (c ∷ cs) ∷ (d ∷ ds) ∷ []) ≡ Some (Run (c ∷ cs) (d ∷ ds) None None)
+  unfolding clap_on_literals
+  read = rw (hc, hc, hd, hd) refl

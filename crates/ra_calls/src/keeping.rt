@@ -1,0 +1,73 @@
+ghost use Rattle.std.specs.Prelude.{◌≡◌, ◌≢◌, ◌⊎◌, None};
+ghost use Rattle.ra_calls.specs.Answers.{AnswersReset, AnswersRestore, AnswersTold, Calls, IsSaveOf};
+ghost use Rattle.ra_calls.specs.Codes.{done, memory, no_progress, empty};
+ghost use Rattle.ra_calls.specs.Handles.{held_in, recorded_in};
+
+use crate::codes::{DONE, EMPTY, PROGRESS};
+use crate::given::give;
+use crate::handle::Handle;
+use crate::refusal::{Refusal, of_progress};
+use std::alloc::Global;
+
+/// The progress bytes of the present state: docs/DEFINITIONS.md, "Calls from C" and "Progress file".
+///
+/// `ROOM` where there is too little room; the count is that of the whole. `MEMORY` for want of memory.
+pub fn save(alloc: Global, handle: &mut Handle, out: &mut [u8], count: &mut usize) -> u32
+    ensures told { Calls (AnswersTold IsSaveOf out.old out.new count.new result) result (held_in handle.old) (held_in handle.new) }
+    ensures recording { recorded_in handle.new ≡ recorded_in handle.old }
+    ensures unwritten { result ≢ done → out.new ≡ out.old }
+    ensures uncounted { (result ≡ memory) ⊎ (result ≡ empty) → count.new ≡ count.old }
+{
+    match handle.take(alloc) {
+        Some(game) => {
+            let code = give(game.save(alloc), out, count);
+            handle.put(game);
+            code
+        }
+        None => EMPTY,
+    }
+}
+
+/// Takes up what progress bytes say, of this set or of a changed one: docs/DEFINITIONS.md, "Calls from C".
+///
+/// Then nothing is recorded. `PROGRESS` where the bytes are refused, with the reason, and then nothing changes. No memory is
+/// taken.
+pub fn restore(alloc: Global, handle: &mut Handle, bytes: &[u8], why: &mut Refusal) -> u32
+    ensures taken { Calls (AnswersRestore bytes.now why.new result) result (held_in handle.old) (held_in handle.new) }
+    ensures unrecorded { result ≡ done → recorded_in handle.new ≡ None }
+    ensures recording { result ≢ done → recorded_in handle.new ≡ recorded_in handle.old }
+    ensures unsaid { result ≢ no_progress → why.new ≡ why.old }
+{
+    match handle.take(alloc) {
+        Some(mut game) => {
+            let restored = game.restore(bytes);
+            handle.put(game);
+            match restored {
+                Ok(()) => DONE,
+                Err(reason) => {
+                    *why = of_progress(reason);
+                    PROGRESS
+                }
+            }
+        }
+        None => EMPTY,
+    }
+}
+
+/// Begins anew over the present memory, as when the emulated machine is reset: docs/DEFINITIONS.md, "Calls from C".
+///
+/// It is a restore of what a save gives before the first frame, which is never refused. Nothing is
+/// recorded then. No memory is taken.
+pub fn reset(alloc: Global, handle: &mut Handle) -> u32
+    ensures begun { Calls (AnswersReset result) result (held_in handle.old) (held_in handle.new) }
+    ensures unrecorded { recorded_in handle.new ≡ None }
+{
+    match handle.take(alloc) {
+        Some(mut game) => {
+            game.reset();
+            handle.put(game);
+            DONE
+        }
+        None => EMPTY,
+    }
+}

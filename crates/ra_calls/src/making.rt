@@ -1,0 +1,59 @@
+ghost use Rattle.std.specs.Prelude.{◌≡◌, ◌≢◌, ◌⊎◌, ◌↔◌, ◌<◌, ◌^◌, None, IsSomeAnd};
+ghost use Rattle.ra_calls.specs.Answers.{IsLoaded, IsRefusedText};
+ghost use Rattle.ra_calls.specs.Codes.{done, memory, no_set, out_of_range, empty, full};
+ghost use Rattle.ra_calls.specs.Handles.{held_in, recorded_in};
+
+use crate::codes::{DONE, EMPTY, HELD, MEMORY, RANGE, SET};
+use crate::game::Game;
+use crate::handle::Handle;
+use crate::refusal::{Refusal, of_set};
+use ra_set::SetRefused;
+use std::alloc::Global;
+
+/// Makes a runtime of a set's text over a memory of `size` bytes, all 0: docs/DEFINITIONS.md, "Calls from C".
+///
+/// `HELD` where the handle holds one already, `RANGE` where the size is above 134,217,728, `SET` where the text is
+/// no set, with the reason, and `MEMORY` for want of memory. Then nothing else changes.
+pub fn make(alloc: Global, text: &[u8], size: u32, handle: &mut Handle, why: &mut Refusal) -> u32
+    ensures held { result ≡ full ↔ held_in handle.old ≢ None }
+    ensures range { result ≡ out_of_range ↔ ((held_in handle.old ≡ None) × (2 ^ 27 < size)) }
+    ensures made { result ≡ done → IsSomeAnd (held_in handle.new) (IsLoaded text.now size) }
+    ensures unrecorded { result ≡ done → recorded_in handle.new ≡ None }
+    ensures refused { result ≡ no_set → IsRefusedText text.now why.new }
+    ensures kept { result ≢ done → held_in handle.new ≡ held_in handle.old }
+    ensures recording { result ≢ done → recorded_in handle.new ≡ recorded_in handle.old }
+    ensures unsaid { result ≢ no_set → why.new ≡ why.old }
+    ensures other { (result ≡ done) ⊎ ((result ≡ memory) ⊎ ((result ≡ no_set) ⊎ ((result ≡ out_of_range) ⊎ (result ≡ full)))) }
+{
+    if !handle.is_empty() {
+        return HELD;
+    }
+    if size > 134_217_728 {
+        return RANGE;
+    }
+    match Game::boxed(alloc, text, size) {
+        Ok(game) => {
+            handle.put(game);
+            DONE
+        }
+        Err(SetRefused::Memory) => MEMORY,
+        Err(reason) => {
+            *why = of_set(reason);
+            SET
+        }
+    }
+}
+
+/// Frees the runtime that the handle holds, which then holds nothing: docs/DEFINITIONS.md, "Calls from C".
+///
+/// `EMPTY` where it holds nothing.
+pub fn free(alloc: Global, handle: &mut Handle) -> u32
+    ensures emptied { held_in handle.new ≡ None }
+    ensures none { result ≡ empty ↔ held_in handle.old ≡ None }
+    ensures freed { result ≡ done ↔ held_in handle.old ≢ None }
+{
+    match handle.take(alloc) {
+        Some(_) => DONE,
+        None => EMPTY,
+    }
+}

@@ -1,6 +1,0 @@
-use Rattle.std.proofs.Common.{◌≡◌, ◌++◌, take}
-use Rattle.ra_words.specs.Words.{words}
-use Rattle.ra_words.proofs.words.write_words.Given as goal
-
-abbrev pub invariant-loop-number : goal.invariant-loop-number
-invariant-loop-number l = l.bytes.items ≡ l.initial.bytes.items ++ words (take l.number-index l.numbers)
