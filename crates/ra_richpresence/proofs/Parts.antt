@@ -213,6 +213,9 @@ reader-test = reader-then (One (only (codes "?"))) (λ opening. Then trigger (λ
 pub closed-test : Closed test test_at
 closed-test = closed-reader test test_at reader-test
 
+pub reads-test : (text : List ℕ) → Reads test text (test_at text)
+reads-test = reads-of test test_at (λ c. ⊥) reader-test
+
 -- the macro behind its name
 macro_value : List ℕ → Form ℕ PieceContents
 macro_value macro_name = Then (One (only (codes "("))) (λ opening. Then value (λ shown. Then (One (only (codes ")"))) (λ closing. Spell (Shows macro_name shown))))

@@ -141,7 +141,7 @@ text-next = all-next (character []) 92 character_at reads-character refl cuts-ch
 
 -- ---- pieces
 
-reads-piece : (front rest : List ℕ) (v : PieceContents) → (shown_character or macro) front v → piece_at (front ++ rest) ≡ Ok (v, rest)
+pub reads-piece : (front rest : List ℕ) (v : PieceContents) → (shown_character or macro) front v → piece_at (front ++ rest) ≡ Ok (v, rest)
 reads-piece front rest v (inl h) =
     let all : front ≡ h.front = h.parts ∙ ap (λ t. h.front ++ t) h.of_next.empty ∙ append-nil h.front in
     let p : Character true (front ++ rest) rest h.v = character-read true front rest h.v (subst (λ t. character (codes "@") t h.v) (sym all) h.of_first) in
@@ -163,7 +163,7 @@ smaller-macro c t v rest e = cut (closed-macro.cuts (c ∷ t) v rest e) where
   cut ([], parts, h) = absurd (begins-macro.not_empty v h)
   cut (d ∷ front, parts, h) = longer c d t front rest parts
 
-cuts-piece : (text : List ℕ) (v : PieceContents) (rest : List ℕ) → (text ≡ 92 ∷ [] → ⊥) → piece_at text ≡ Ok (v, rest) → (front : List ℕ) × (text ≡ front ++ rest) × (shown_character or macro) front v
+pub cuts-piece : (text : List ℕ) (v : PieceContents) (rest : List ℕ) → (text ≡ 92 ∷ [] → ⊥) → piece_at text ≡ Ok (v, rest) → (front : List ℕ) × (text ≡ front ++ rest) × (shown_character or macro) front v
 cuts-piece [] v rest not_lone e = absurd (cc e)
 cuts-piece (c ∷ t) v rest not_lone e = cases (c == 64) refl e where
   cases : (at : Bool) → (c == 64) ≡ at → (if at then macro_at (c ∷ t) else Ok (shown_character_of c t)) ≡ Ok (v, rest) → (front : List ℕ) × (c ∷ t ≡ front ++ rest) × (shown_character or macro) front v

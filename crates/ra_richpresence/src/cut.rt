@@ -27,8 +27,8 @@ pub fn cut_lines<'a>(alloc: Global, text: &'a [u8]) -> Result<Vec<ScriptLine<'a>
     Ok(lines)
 }
 
-// The first line without its end, and what stands behind it.
-fn split_line<'a>(text: &'a [u8]) -> (&'a [u8], &'a [u8])
+/// The first line of a text without its end, and what stands after it.
+pub fn split_line<'a>(text: &'a [u8]) -> (&'a [u8], &'a [u8])
     ensures { SplitsLine text.now result.0.now result.1.now }
 {
     let end = feed_at(text);
@@ -60,8 +60,8 @@ fn without_return(line: &[u8]) -> &[u8]
     }
 }
 
-// What is left of a line: cut before its first `//`, and then without the blanks at its end.
-fn left_of(line: &[u8]) -> &[u8]
+/// What is left of a line: it is cut before its first `//`, and then loses the blanks at its end.
+pub fn left_of(line: &[u8]) -> &[u8]
     ensures { result.now ≡ left_of line.now }
 {
     trimmed(uncommented(line))

@@ -45,9 +45,9 @@ pub fn read_last_line(alloc: Global, line: &[u8]) -> Result<Line, Fault>
     Ok(Line { test: None, pieces })
 }
 
-// "?" trigger "?"
+/// Reads a test: `?`, a trigger and `?`.
 #[tactic(auto, unfolding(crate::specs::Reading::test_at))]
-fn take_test(alloc: Global, cursor: &mut Cursor<'_>) -> Result<TriggerText, Fault>
+pub fn take_test(alloc: Global, cursor: &mut Cursor<'_>) -> Result<TriggerText, Fault>
     ensures { GivesUnlessFull trigger_contents result cursor.new.rest.now (test_at cursor.old.rest.now) }
 {
     cursor.byte(b'?')?;

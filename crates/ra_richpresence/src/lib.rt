@@ -33,12 +33,16 @@ mod spans;
 mod text;
 mod walk;
 
+pub use cut::{left_of, split_line};
+pub use display_lines::take_test;
 pub use laws::one_script;
 pub use line::Line;
 pub use lookup::{Keys, Lookup};
 pub use meaning::Meaning;
 pub use parse::{parse_script, read_script};
 pub use piece::Piece;
+pub use pieces::take_macro;
 pub use read::ReadScript;
 pub use script::Script;
 pub use span::Span;
+pub use text::take_character;

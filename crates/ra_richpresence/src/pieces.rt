@@ -33,9 +33,9 @@ pub fn read_pieces(alloc: Global, cursor: &mut Cursor<'_>) -> Result<Vec<Piece>,
     Ok(pieces)
 }
 
-// "@" name "(" value ")"
+/// Reads a macro: `@`, a name, `(`, a value and `)`.
 #[tactic(auto, unfolding(crate::specs::Reading::macro_at))]
-fn take_macro(alloc: Global, cursor: &mut Cursor<'_>) -> Result<Piece, Fault>
+pub fn take_macro(alloc: Global, cursor: &mut Cursor<'_>) -> Result<Piece, Fault>
     ensures { GivesUnlessFull piece_contents result cursor.new.rest.now (macro_at cursor.old.rest.now) }
 {
     cursor.byte(b'@')?;
