@@ -51,19 +51,19 @@ turns (suc m) (suc n) text a b = cases (is_script text) (row-same (front_from m)
   cases false e = e
 
 -- a line that is no line "P" is next
-front-row : (text : List ℕ) → is_script text ≡ false → front_at text ≡ row_and_others_at front_at text
+pub front-row : (text : List ℕ) → is_script text ≡ false → front_at text ≡ row_and_others_at front_at text
 unfolding front_at
 front-row text e = ap (λ script. if script then letter_at text else row_and_others_at (front_from (length text)) text) e
     ∙ row-same (front_from (length text)) (λ s. front_from (suc (length s)) s) text (λ s less. turns (length text) (suc (length s)) s less (omega arith))
 
 -- a line "P" is next
-front-script : (text : List ℕ) → is_script text ≡ true → front_at text ≡ letter_at text
+pub front-script : (text : List ℕ) → is_script text ≡ true → front_at text ≡ letter_at text
 unfolding front_at
 front-script text e = ap (λ script. if script then letter_at text else row_and_others_at (front_from (length text)) text) e
 
 -- ---- lines before others
 
-no-lines : (o : Outcome ℕ (List Line × Tail)) → o ≡ with_lines [] o
+pub no-lines : (o : Outcome ℕ (List Line × Tail)) → o ≡ with_lines [] o
 no-lines (Ok x) = refl
 no-lines (Err rest) = refl
 
@@ -86,7 +86,7 @@ pub row-fits : (text rest : List ℕ) (l : Line) (wants : Bool) → row_at text 
 row-fits text rest l wants e = subst (λ o. length (rest_of o) ≤ length text) e (row-shorter text)
 
 -- a row was read
-front-read : (text rest : List ℕ) (l : Line) (wants : Bool) → is_script text ≡ false → row_at text ≡ Ok ((l, wants), rest) → front_at text ≡ behind_row_at front_at l wants rest
+pub front-read : (text rest : List ℕ) (l : Line) (wants : Bool) → is_script text ≡ false → row_at text ≡ Ok ((l, wants), rest) → front_at text ≡ behind_row_at front_at l wants rest
 front-read text rest l wants other e = front-row text other ∙ ap (λ o. o >>= λ row. behind_row_at front_at row.0.0 row.0.1 row.1) e
 
 -- a row and an LF were read
@@ -109,19 +109,19 @@ lines-fault Stop kept before rest text other e l = ap lines_in (l.is ∙ ap (wit
 lines-fault Memory kept before rest text other e l = tt
 
 -- a row was read behind which no LF stands
-front-last : (l : Line) (wants : Bool) (rest : List ℕ) → is_feed rest ≡ false → behind_row_at front_at l wants rest ≡ last_at l wants rest
+pub front-last : (l : Line) (wants : Bool) (rest : List ℕ) → is_feed rest ≡ false → behind_row_at front_at l wants rest ≡ last_at l wants rest
 front-last l wants [] none = refl
 front-last l wants (byte ∷ rest) none = cases (byte == 10) refl where
   cases : (feed : Bool) → (byte == 10) ≡ feed → ◌≡◌ {A = Outcome ℕ (List Line × Tail)} (if feed then with_lines (l ∷ []) (front_at rest) else last_at l wants (byte ∷ rest)) (last_at l wants (byte ∷ rest))
   cases true e = absurd (let is : byte ≡ 10 = eqb-true byte 10 e in let no : is_feed (10 ∷ rest) ≡ false = subst (λ b. is_feed (b ∷ rest) ≡ false) is none in cc no)
   cases false e = refl
 
-last-told : (so_far : List Line) (l : Line) (wants : Bool) (rest new : List ℕ) → end_at wants rest ≡ Ok (tt, new) → lines_in (with_lines so_far (last_at l wants rest)) ≡ Ok ((so_far ++ l ∷ [], false), new)
+pub last-told : (so_far : List Line) (l : Line) (wants : Bool) (rest new : List ℕ) → end_at wants rest ≡ Ok (tt, new) → lines_in (with_lines so_far (last_at l wants rest)) ≡ Ok ((so_far ++ l ∷ [], false), new)
 last-told so_far l true rest new e = absurd (cc e)
 last-told so_far l false [] new e = let none : [] ≡ new = ap rest_of e in ap (λ ls. Ok ((ls ++ l ∷ [], false), [])) (append-nil so_far) ∙ ap (λ t. Ok ((so_far ++ l ∷ [], false), t)) none
 last-told so_far l false (byte ∷ rest) new e = absurd (cc e)
 
-last-stops : (so_far : List Line) (l : Line) (wants : Bool) (rest new : List ℕ) → end_at wants rest ≡ Err new → lines_in (with_lines so_far (last_at l wants rest)) ≡ Err new
+pub last-stops : (so_far : List Line) (l : Line) (wants : Bool) (rest new : List ℕ) → end_at wants rest ≡ Err new → lines_in (with_lines so_far (last_at l wants rest)) ≡ Err new
 last-stops so_far l true rest new e = cc e
 last-stops so_far l false [] new e = absurd (cc e)
 last-stops so_far l false (byte ∷ rest) new e = cc e
@@ -142,7 +142,7 @@ module _ (old kept : KeptLines) (before behind text : List ℕ) (line : Option I
 -- ---- a line "P"
 
 -- what the lines are, where a line "P" was read
-abbrev told : List Line → Outcome ℕ (Unit {0}) → Outcome ℕ (List Line × Bool)
+abbrev pub told : List Line → Outcome ℕ (Unit {0}) → Outcome ℕ (List Line × Bool)
 told so_far end = end >>= λ end. Ok ((so_far, true), end.1)
 
 -- the lines before what a line "P" says
@@ -183,7 +183,7 @@ letter-told so_far (byte ∷ rest) = decided (byte == 10) (byte == 13) refl refl
   decided false false e f = sym (ap (told so_far) (end-by_byte byte rest (lookup (bytes_for (codes "\r") true) byte)
       ∙ ap (λ b. by_byte byte rest (if b then Some true else None) (only (codes "\n") byte)) f ∙ ap (λ b. by_byte byte rest None (if b then Some tt else None)) e))
 
-script-told : (so_far : List Line) (text : List ℕ) → is_script text ≡ true → lines_in (with_lines so_far (letter_at text)) ≡ told so_far (script_line_at text)
+pub script-told : (so_far : List Line) (text : List ℕ) → is_script text ≡ true → lines_in (with_lines so_far (letter_at text)) ≡ told so_far (script_line_at text)
 script-told so_far [] e = absurd (cc e)
 script-told so_far (byte ∷ rest) e = let is : byte ≡ 80 = only-byte 80 byte e in
     letter-told so_far rest ∙ sym (ap (λ b. told so_far (script_line_at (b ∷ rest))) is)

@@ -1,4 +1,5 @@
 pub mod Accepted
+pub mod Alone
 pub mod Contents
 pub mod Counting
 pub mod Grammar

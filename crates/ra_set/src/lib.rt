@@ -1,6 +1,7 @@
 //! The set file: achievements, leaderboards and a presence script.
 #![tactic(auto)]
 
+mod alone;
 mod counting;
 mod exact_id;
 mod file;
@@ -19,9 +20,11 @@ mod row;
 mod runs;
 mod set;
 
+pub use alone::read_line;
 pub use counting::conditions;
 pub use item::Item;
 pub use laws::{item_lines, one_answer, one_file, spelled_sets};
+pub use limits::check_limits;
 pub use parse::parse_set;
 pub use refused::{SetRefused, Which};
 pub use set::Set;

@@ -38,7 +38,7 @@ pub fn take_lines(alloc: Global, cursor: &mut Cursor<'_>) -> Result<FileLines, F
 }
 
 // The end of the file, behind a row that wants no LF.
-fn take_end(cursor: &Cursor<'_>, wants_end: bool) -> Result<(), Stop>
+pub fn take_end(cursor: &Cursor<'_>, wants_end: bool) -> Result<(), Stop>
     ensures { Moves result cursor.now.rest.now (end_at wants_end cursor.now.rest.now) }
 {
     if wants_end || !cursor.rest.is_empty() {
@@ -49,7 +49,7 @@ fn take_end(cursor: &Cursor<'_>, wants_end: bool) -> Result<(), Stop>
 }
 
 // A line `P` with its end, or at the end of the file.
-fn take_script_line(cursor: &mut Cursor<'_>) -> Result<(), Stop>
+pub fn take_script_line(cursor: &mut Cursor<'_>) -> Result<(), Stop>
     ensures { Moves result cursor.new.rest.now (script_line_at cursor.old.rest.now) }
 {
     cursor.byte(b'P')?;
