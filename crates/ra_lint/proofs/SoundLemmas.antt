@@ -17,16 +17,16 @@ use Rattle.ra_lint.proofs.TriggerLemmas.{AllMayHave}
 use Rattle.ra_lint.proofs.HistoryLemmas.{SmallSides, AllSmall, all_may_be, achievement_may, test_may, never_triggered, never_starts}
 use Rattle.ra_lint.proofs.ReachLemmas.{unreached_along}
 
-group_small : (cs : List Condition) → IsTriggerGroup cs → SmallSides cs
+pub group_small : (cs : List Condition) → IsTriggerGroup cs → SmallSides cs
 group_small cs all = sides_small cs (all_fit InTrigger cs all)
 
-groups_small : (groups : List (List Condition)) → ((k : ℕ) → IsTriggerGroup (slice_index_or groups k []))
+pub groups_small : (groups : List (List Condition)) → ((k : ℕ) → IsTriggerGroup (slice_index_or groups k []))
     → AllSmall groups
 groups_small [] all = tt
 groups_small (cs ∷ groups) all = (group_small cs (all 0), groups_small groups (λ k. all (suc k)))
 
 -- each group of a trigger, and the empty one past the last
-group_spelled : (t : TriggerContents) → IsTrigger t → (k : ℕ) → IsTriggerGroup (group_at t k)
+pub group_spelled : (t : TriggerContents) → IsTrigger t → (k : ℕ) → IsTriggerGroup (group_at t k)
 group_spelled t is zero = is.core
 group_spelled t is (suc k) = alt_spelled t.alts is.alts k
   where

@@ -1,15 +1,15 @@
 //! The verdict on each comparison of a group, by the ranges of its trees.
 
-ghost use Rattle.std.specs.Prelude.{◌≡◌, ◌≤◌, length, map, IfOk};
+ghost use Rattle.std.specs.Prelude.{◌≡◌, ◌+◌, ◌*◌, ◌^◌, ◌≤◌, length, map, IfOk};
 ghost use Rattle.ra_condition.specs.Chains.{places};
 ghost use Rattle.ra_condition.specs.Contents.{group_contents};
 ghost use Rattle.ra_condition.specs.Spelled.{IsTriggerGroup};
 ghost use Rattle.ra_chain.specs.Elaborates.{SpellsEach};
 ghost use Rattle.ra_chain.specs.Elaboration.{left_of, right_of};
 ghost use Rattle.ra_indirect.specs.Interned.{IsPool};
-ghost use Rattle.ra_set.specs.Limits.{most_conditions};
 ghost use Rattle.ra_lint.specs.Judging.{AreBelow, JoinsBelow, node_range, ranges_in, verdict_at, verdict_by_node};
 ghost use Rattle.ra_lint.specs.Ordered.{AreOrdered, IsOrdered};
+ghost use Rattle.ra_lint.specs.Warnings.{always_at};
 
 use crate::range::Range;
 use crate::verdict::Verdict;
@@ -19,10 +19,36 @@ use ra_indirect::{Node, Pool};
 use ra_text::OutOfMemory;
 use std::alloc::Global;
 
+/// Whether the comparison of each condition of a group always holds, in text order:
+/// docs/DEFINITIONS.md, "Comparisons that never or always hold".
+///
+/// Twelve nodes for each condition and two are together at most 2^31.
+pub fn always_hold(alloc: Global, group: &Group) -> Result<Vec<bool>, OutOfMemory>
+    requires spelled { IsTriggerGroup (group_contents group.now) }
+    requires few { 12 * length (group_contents group.now) + 2 ≤ 2 ^ 31 }
+    ensures { IfOk result (λ always.
+        always.items ≡ map (always_at (group_contents group.now)) (places (group_contents group.now))) }
+{
+    let verdicts = judge_group(alloc, group)?;
+    let always = always_of(alloc, &verdicts)?;
+    Ok(always)
+}
+
+// Which of the verdicts say that the comparison always holds.
+fn always_of(alloc: Global, verdicts: &[Verdict]) -> Result<Vec<bool>, OutOfMemory>
+    ensures { IfOk result (λ always. always.items ≡ map (λ verdict. verdict.always) verdicts.now) }
+{
+    let mut always = Vec::with_capacity(alloc, verdicts.len())?;
+    for verdict in verdicts {
+        always.push(verdict.always)?;
+    }
+    Ok(always)
+}
+
 /// What is known of each comparison of a group, in text order.
 pub(crate) fn judge_group(alloc: Global, group: &Group) -> Result<Vec<Verdict>, OutOfMemory>
     requires spelled { IsTriggerGroup (group_contents group.now) }
-    requires few { length (group_contents group.now) ≤ most_conditions }
+    requires few { 12 * length (group_contents group.now) + 2 ≤ 2 ^ 31 }
     ensures { IfOk result (λ verdicts.
         verdicts.items ≡ map (verdict_at (group_contents group.now)) (places (group_contents group.now))) }
 {

@@ -13,6 +13,7 @@ mod rows;
 mod verdict;
 mod warning;
 
+pub use judging::always_hold;
 pub use laws::{accepted_sets_have_few_alts, ranges_hold, verdicts_hold, warnings_hold};
 pub use on_set::lint;
 pub use warning::{Place, Warning, Word};
