@@ -1,9 +1,12 @@
-ghost use Rattle.std.specs.Prelude.{◌≡◌, ◌+◌, ◌*◌, ◌<◌, ◌≤◌, ◌^◌, None, length, slice_index, IfSome};
+ghost use Rattle.std.specs.Prelude.{◌≡◌, ◌+◌, ◌*◌, ◌<◌, ◌≤◌, ◌^◌, None, length, drop, slice_index, IfSome};
 ghost use Rattle.ra_memory.specs.Image.{raw, IsReadWidth};
 ghost use Rattle.ra_banks.specs.Banks.{bytes_of, IsPart};
 
 /// The most bytes that an image has.
 const MOST: usize = 134217728;
+
+/// The bits of the first bytes of a number, by how many they are.
+const MASKS: [u32; 5] = [0, 255, 65535, 16777215, 4294967295];
 
 /// A part of the memory of the machine, as it lies: a pointer and a length to a caller in C.
 #[repr(C)]
@@ -47,6 +50,17 @@ pub(crate) fn number_in(bytes: &[u8], at: usize, width: u8) -> u32
     }
 }
 
+// The number of bytes that stand in one bank, with three more of it past the first: one load and one mask.
+#[inline(always)]
+pub(crate) fn number_within(bytes: &[u8], at: usize, width: u8) -> u32
+    requires width { IsReadWidth width }
+    requires within { at + 4 ≤ length bytes.now }
+    ensures { result ≡ raw width bytes.now at }
+{
+    let four = [bytes[at], bytes[at + 1], bytes[at + 2], bytes[at + 3]];
+    u32::from_le_bytes(four) & MASKS[usize::from(width)]
+}
+
 // The byte at an address, 0 past the end.
 pub(crate) fn byte_at(banks: &[Bank<'_>], at: usize) -> u32
     ensures byte { result ≡ slice_index (bytes_of banks.now) at }
@@ -62,16 +76,26 @@ pub(crate) fn byte_at(banks: &[Bank<'_>], at: usize) -> u32
     0
 }
 
-// The bytes of the bank in which an address lies, and the address of the first of them. None past the end.
-pub(crate) fn bank_of<'a>(banks: &[Bank<'a>], at: usize) -> Option<(&'a [u8], usize)>
-    ensures { IfSome result (λ found. IsPart (bytes_of banks.now) found.0.now found.1) }
+// Among the banks from this one on: the bytes of the bank in which an address lies, counted from the first
+// of theirs, the address of the first of its bytes, and the number of the bank after it. None past the end.
+pub(crate) fn bank_of<'a>(
+    banks: &[Bank<'a>],
+    first: usize,
+    at: usize,
+) -> Option<(&'a [u8], usize, usize)>
+    requires { first ≤ length banks.now }
+    ensures found { IfSome result (λ found.
+        IsPart (bytes_of (drop first banks.now)) found.0.now (bytes_of (drop found.2 banks.now)) found.1) }
+    ensures before { IfSome result (λ found. found.1 ≤ at) }
+    ensures next { IfSome result (λ found. found.2 ≤ length banks.now) }
 {
     let mut left = at;
-    for bank in banks {
-        if left < bank.bytes.len() {
-            return Some((bank.bytes, at - left));
+    for number in first..banks.len() {
+        let bytes = banks[number].bytes;
+        if left < bytes.len() {
+            return Some((bytes, at - left, number + 1));
         }
-        left -= bank.bytes.len();
+        left -= bytes.len();
     }
     None
 }

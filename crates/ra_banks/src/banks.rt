@@ -18,6 +18,7 @@ impl<'a, L: Ledger> Image for Banks<'a, L> {
 
     ghost counter = { λ b. b.steps.ghost_name };
 
+    #[inline(always)]
     fn read(&mut self, at: u32, width: u8) -> u32 {
         self.steps.tick();
         self.row.number_at(at, width)
