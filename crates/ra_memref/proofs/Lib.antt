@@ -15,6 +15,7 @@ pub mod LookedLemmas
 pub mod Looking
 pub mod MarkLemmas
 pub mod NameLemmas
+pub mod Orders
 pub mod Pages
 pub mod PassEnds
 pub mod PassLemmas

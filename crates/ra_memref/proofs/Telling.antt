@@ -28,7 +28,7 @@ told_by_flag false old now k watched is = is
 
 -- the watches with other marks
 abbrev pub with_marks : Inside → List Bool → Inside
-with_marks t marks = record { size = t.size; listed = t.listed; widths = t.widths; places = t.places; marks = marks; all = t.all; pages = t.pages; seen = t.seen }
+with_marks t marks = record t { marks = marks }
 
 -- a cell watches one of the pages before this one
 abbrev pub is_told : Inside → ℕ → ℕ → ℕ → Bool

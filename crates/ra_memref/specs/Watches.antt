@@ -1,5 +1,7 @@
 -- Which cells watch which pages, by lists of nodes: docs/DEFINITIONS.md, "Marked and moved cells".
 use Rattle.std.specs.Prelude.{◌≡◌, ℕ, ◌+◌, ◌-◌, ◌*◌, ◌/◌, ◌<◌, ◌≤◌, ◌^◌, ◌==◌, Bool, not, ◌&&◌, ◌||◌, if◌then◌else◌, nat_lt, Option, None, Some, List, length, replicate, true, false, slice_index, slice_index_or}
+use Rattle.std.specs.List.{range_with_len}
+use Rattle.std.specs.List.Sorted.{IsPermutation}
 use Rattle.ra_memory.specs.Image.{IsReadWidth}
 use Rattle.ra_links.specs.Rows.{Rows, holder_of}
 use Rattle.ra_memref.specs.Marks.{page_of, is_watched}
@@ -50,6 +52,19 @@ pub record IsIndexed (size : ℕ) (widths places : List ℕ) (marks : List Bool)
   pub lists : length pages.lists ≡ pages_of size
   pub nodes : pages.nodes ≡ 2 * length places
   pub stands : (k : ℕ) → k < length places → StandsAt pages.lists size k (slice_index places k) (slice_index widths k)
+
+-- each of so many cells stands in a row once
+abbrev pub IsOrder : ℕ → List ℕ → Type 0
+IsOrder count order = IsPermutation (range_with_len 0 count) order
+
+-- 1 for a cell that is not marked, and 0 for a marked one
+abbrev pub one_unmarked : List Bool → ℕ → ℕ
+one_unmarked marks cell = if slice_index_or marks cell true then 0 else 1
+
+-- each cell stands on the lists of the pages that it watches, and once in the order of looks
+pub record AreWatched (size : ℕ) (widths places : List ℕ) (marks : List Bool) (pages : Rows) (order : List ℕ) : Type 0 where
+  pub indexed : IsIndexed size widths places marks pages
+  pub ordered : IsOrder (length places) order
 
 -- a write is told: the cells that watch one of its pages are marked, and nothing else changes
 pub record MarksWatchers (old new : WatchesSeen) (at count : ℕ) : Type 0 where

@@ -2,7 +2,7 @@ ghost use Rattle.std.specs.Prelude.{◌≡◌, ◌≢◌, ◌+◌, ◌-◌, ◌*
 ghost use Rattle.ra_memref.specs.Flags.{NoneSet, IsFirstSet};
 ghost use Rattle.ra_memory.specs.Image.{IsReadWidth};
 ghost use Rattle.ra_links.specs.Rows.{holder_of, row_at};
-ghost use Rattle.ra_memref.specs.Watches.{StandsAt, MarksWatchers, MarksOthers, marked_by, pages_of, first_page, second_page, watches_between};
+ghost use Rattle.ra_memref.specs.Watches.{IsOrder, one_unmarked, StandsAt, MarksWatchers, MarksOthers, marked_by, pages_of, first_page, second_page, watches_between};
 ghost use Rattle.ra_memref.specs.Marks.{page_of};
 ghost use Rattle.ra_memref.specs.Marking as spec;
 ghost use Rattle.ra_memref.specs.Marking.{is_at, is_other};
@@ -22,8 +22,9 @@ const PAGE: u32 = 16;
 ///
 /// A cell has two nodes: one for the page of its first byte, one for that of its last. The lists are those
 /// of an image of `listed` bytes: of the whole one, or of none. Where the flag `all` stands each cell is
-/// marked, and else each by its own mark. How many cells a look marked is counted, and seen by none. Only
-/// `new` takes memory.
+/// marked, and else each by its own mark. A look goes through the cells in an order in which each stands
+/// once: where there are lists in theirs, else by their first places, so that neighbours are read one after
+/// another. How many cells a look marked is counted, and seen by none. Only `new` takes memory.
 #[derive(Drop)]
 pub struct Watches {
     size: u32,
@@ -33,17 +34,18 @@ pub struct Watches {
     marks: Flags,
     all: bool,
     pages: Links,
+    order: Vec<u32>,
     seen: usize,
 }
 
 impl Model for Watches {
-    ghost use Rattle.ra_memref.specs.Watches.{WatchesSeen, IsIndexed, marked_by};
+    ghost use Rattle.ra_memref.specs.Watches.{WatchesSeen, AreWatched, marked_by};
 
     ghost Value = { WatchesSeen };
 
     ghost view = { λ w. record { size = w.size; widths = w.widths.items; places = w.places.items; marked = marked_by w.all w.marks } };
 
-    ghost invariant = { λ w. IsIndexed w.listed w.widths.items w.places.items w.marks w.pages };
+    ghost invariant = { λ w. AreWatched w.listed w.widths.items w.places.items w.marks w.pages w.order.items };
 }
 
 impl Watches {
@@ -65,6 +67,7 @@ impl Watches {
         ensures { IfOk result (λ w. w ≡ record { size = size; widths = widths.items; places = places.items; marked = replicate (length places.items) true }) }
     {
         let marks = Flags::new(alloc, places.len())?;
+        let order = order_of(alloc, &places, listed != size)?;
         let mut pages = Links::new(alloc, listed.div_ceil(PAGE), 2 * places.len() as u32)?;
         for cell in 0..places.len() {
             stand(&mut pages, listed, cell as u32, places[cell], widths[cell]);
@@ -77,6 +80,7 @@ impl Watches {
             marks,
             all: true,
             pages,
+            order,
             seen: 0,
         })
     }
@@ -176,7 +180,25 @@ impl Watches {
         if self.all {
             return;
         }
-        let anew = mark_others(image, &mut self.marks, &self.places, &self.widths, numbers);
+        let (places, widths) = (&self.places, &self.widths);
+        let anew = match self.marks.next_from(0) {
+            Some(_) => mark_others::<I, true>(
+                image,
+                &mut self.marks,
+                &self.order,
+                places,
+                widths,
+                numbers,
+            ),
+            None => mark_others::<I, false>(
+                image,
+                &mut self.marks,
+                &self.order,
+                places,
+                widths,
+                numbers,
+            ),
+        };
         self.seen = self.seen.saturating_add(anew);
     }
 
@@ -264,15 +286,41 @@ fn is_between(first: u32, end: u32, page: Option<u32>) -> bool
     }
 }
 
-// Marks what is not marked and has another number in the image than this one, and counts it. No clause
-// speaks of the count.
-fn mark_others<I: Image>(
+// Each cell once: in their order, or by their places.
+fn order_of(alloc: Global, places: &[u32], by_place: bool) -> Result<Vec<u32>, OutOfMemory>
+    requires few { length places.now < 2 ^ 30 }
+    ensures { IfOk result (λ order. IsOrder (length places.now) order.items) }
+{
+    let mut order = Vec::with_capacity(alloc, places.len())?;
+    for cell in 0..places.len() {
+        order.push(cell as u32)?;
+    }
+    if by_place {
+        order.sort_unstable_by_key(|cell| place_of(places, *cell));
+    }
+    Ok(order)
+}
+
+// Where a cell lies, or 0.
+fn place_of(places: &[u32], cell: u32) -> u32 {
+    match places.get(cell as usize) {
+        Some(place) => *place,
+        None => 0,
+    }
+}
+
+// Marks what is not marked and has another number in the image than this one, cell by cell in this order,
+// and counts it: where some are marked, or where none is. No clause speaks of the count.
+fn mark_others<I: Image, const SOME: bool>(
     image: &mut I,
     marks: &mut Flags,
+    order: &[u32],
     places: &[u32],
     widths: &[u8],
     numbers: &[u32],
 ) -> usize
+    requires some { SOME ≡ false → NoneSet marks.old 0 (length marks.old) }
+    requires order { IsOrder (length marks.old) order.now }
     requires places { length places.now ≡ length marks.old }
     requires widths { length widths.now ≡ length marks.old }
     requires numbers { length numbers.now ≡ length marks.old }
@@ -286,14 +334,46 @@ fn mark_others<I: Image>(
     ensures counter { I.counter image.new ≡ I.counter image.old }
 {
     let mut anew: usize = 0;
-    for cell in 0..numbers.len() {
-        if !marks.is_set(cell) {
-            let other = image.read(places[cell], widths[cell]) != numbers[cell];
-            marks.put(cell, other);
-            anew = anew.wrapping_add(usize::from(other));
+    for next in order {
+        let cell = *next as usize;
+        let (place, width, number) = (places[cell], widths[cell], numbers[cell]);
+        if mark_other::<I, SOME>(image, marks, cell, place, width, number) {
+            anew = anew.wrapping_add(1);
         }
     }
     anew
+}
+
+// Marks a cell where it is not marked, which is asked where it may be, and has another number in the image
+// than this one, and tells whether it did. No clause speaks of what it tells.
+#[inline(always)]
+fn mark_other<I: Image, const MAY_BE: bool>(
+    image: &mut I,
+    marks: &mut Flags,
+    cell: usize,
+    place: u32,
+    width: u8,
+    number: u32,
+) -> bool
+    requires may_be { MAY_BE ≡ false → slice_index_or marks.old cell true ≡ false }
+    requires cell { cell < length marks.old }
+    requires wide { IsReadWidth width }
+    ensures long { length marks.new ≡ length marks.old }
+    ensures here { slice_index_or marks.new cell true
+        ≡ (slice_index_or marks.old cell true || is_other (I.bytes image.old) width place number) }
+    ensures others { (k : ℕ) → k ≢ cell → slice_index_or marks.new k true ≡ slice_index_or marks.old k true }
+    ensures reads { I.reads image.new ≡ I.reads image.old + one_unmarked marks.old cell }
+    ensures bytes { I.bytes image.new ≡ I.bytes image.old }
+    ensures counter { I.counter image.new ≡ I.counter image.old }
+{
+    if MAY_BE && marks.is_set(cell) {
+        return false;
+    }
+    let other = image.read(place, width) != number;
+    if other {
+        marks.put(cell, true);
+    }
+    other
 }
 
 // Puts the two nodes of a cell on the lists of the pages that it watches.

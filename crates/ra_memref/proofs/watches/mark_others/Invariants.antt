@@ -1,13 +1,14 @@
-use Rattle.std.proofs.Common.{◌≡◌, ◌+◌, not, drop, slice_index}
+use Rattle.std.proofs.Common.{◌≡◌, ◌+◌, take, drop, slice_index}
+use Rattle.std.specs.List.{sum_by}
+use Rattle.ra_memref.specs.Watches.{one_unmarked}
 use Rattle.ra_memref.specs.Marking.{is_other}
-use Rattle.std.specs.List.{count_by}
-use Rattle.ra_memref.proofs.Looking.{AreLooked}
+use Rattle.ra_memref.proofs.Orders.{AreVisited}
 use Rattle.ra_memref.proofs.watches.mark_others.Given as goal
 
-abbrev pub invariant-loop-cell : goal.invariant-loop-cell
-invariant-loop-cell g l = record {
-  looked : AreLooked l.initial.marks l.marks (λ k. is_other (g.I.Image.bytes l.initial.image) (slice_index l.widths k) (slice_index l.places k) (slice_index l.numbers k)) l.cell;
-  reads : g.I.Image.reads l.image + count_by not (drop l.cell l.initial.marks) ≡ g.I.Image.reads l.initial.image + count_by not l.initial.marks;
+abbrev pub invariant-loop-next : goal.invariant-loop-next
+invariant-loop-next g l = record {
+  visited : AreVisited l.initial.marks l.marks (λ k. is_other (g.I.Image.bytes l.initial.image) (slice_index l.widths k) (slice_index l.places k) (slice_index l.numbers k)) (take l.next-index l.order);
+  reads : g.I.Image.reads l.image + sum_by (one_unmarked l.initial.marks) (drop l.next-index l.order) ≡ g.I.Image.reads l.initial.image + sum_by (one_unmarked l.initial.marks) l.order;
   bytes : g.I.Image.bytes l.image ≡ g.I.Image.bytes l.initial.image;
   counter : g.I.Image.counter l.image ≡ g.I.Image.counter l.initial.image;
 }

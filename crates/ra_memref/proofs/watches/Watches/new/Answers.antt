@@ -1,6 +1,6 @@
-use Rattle.std.proofs.Common.{◌≡◌, ◌∙◌, ◌*◌, [], ap, length, replicate, true, arith}
+use Rattle.std.proofs.Common.{subst, ◌≡◌, ◌∙◌, ◌*◌, [], ap, length, replicate, true, arith}
 use Rattle.std.proofs.lemmas.List.{length-replicate}
-use Rattle.ra_memref.specs.Watches.{pages_of}
+use Rattle.ra_memref.specs.Watches.{IsOrder, pages_of}
 use Rattle.ra_memref.proofs.Indexed.{standing_more, standing_none, puts_of, read_at}
 use Rattle.ra_memref.proofs.watches.Watches.new.Goals as goal
 
@@ -20,12 +20,15 @@ invariant_of-result c =
     let end : c.loop-cell.cell ≡ length c.args.places.items = omega arith in
     let standing = c.loop-cell.invariant in
     record {
-      small = c.requires.listed;
-      few = c.requires.few;
-      widths_too = c.requires.widths;
-      marks_too = ap length c.in_ok-marks.ensures ∙ length-replicate c.len.result true ∙ c.len.ensures ∙ c.args.places.ok.0;
-      wide = c.requires.wide;
-      lists = standing.lists;
-      nodes = standing.nodes;
-      stands = λ k below. standing.stands k (omega (arith, below, end));
+      indexed = record {
+        small = c.requires.listed;
+        few = c.requires.few;
+        widths_too = c.requires.widths;
+        marks_too = ap length c.in_ok-marks.ensures ∙ length-replicate c.len.result true ∙ c.len.ensures ∙ c.args.places.ok.0;
+        wide = c.requires.wide;
+        lists = standing.lists;
+        nodes = standing.nodes;
+        stands = λ k below. standing.stands k (omega (arith, below, end));
+      };
+      ordered = subst (λ xs. IsOrder (length xs) c.in_ok-order.order.items) c.deref.ensures.value c.in_ok-order.ensures;
     }
