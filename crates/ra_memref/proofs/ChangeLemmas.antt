@@ -1,10 +1,10 @@
 -- Which nodes a pass lists: each whose number is another than at its start.
-use Rattle.std.proofs.Common.{◌≡◌, ◌≢◌, ℕ, ◌+◌, ◌<◌, ◌≤◌, ◌==◌, inl, inr, Bool, true, false, not, List, [], ◌∷◌, ◌++◌, length, get_or, set, refl, ap, sym, ◌∙◌, arith, length-append}
-use Rattle.std.proofs.lemmas.List.{get_or_append_left, get_or_past, get_or-set_same, get_or-set_other, length-set}
+use Rattle.std.proofs.Common.{◌≡◌, ◌≢◌, ℕ, ◌+◌, ◌<◌, ◌≤◌, ◌==◌, inl, inr, Bool, true, false, not, List, [], ◌∷◌, ◌++◌, length, get_or, refl, ap, sym, ◌∙◌, arith, length-append}
+use Rattle.std.proofs.lemmas.List.{get_or_append_left}
 use Rattle.std.proofs.Math.Seq.{get_or-append_seam}
 use Rattle.std.proofs.lemmas.Bool.{cases_eq, cases_lt}
 use Rattle.ra_memref.specs.Table.{IsListed}
-use Rattle.ra_memref.specs.Changes.{AreNoted, IsWhole, noted}
+use Rattle.ra_memref.specs.Changes.{AreNoted, noted}
 use Rattle.ra_memref.proofs.DueLemmas.{same_number}
 
 -- no node is listed where each number is what it was
@@ -64,40 +64,3 @@ module _ (count at : ℕ) (old now new listed : List ℕ) (n : ℕ) (are : AreNo
     nodes = are.nodes;
     few = omega (arith, are.few, from);
   }
-
--- the first numbers of a list of so many are those below one, in order
-pub record IsWholeBelow (numbers : List ℕ) (count below : ℕ) : Type 0 where
-  pub long : length numbers ≡ count
-  pub each : (k : ℕ) → k < below → get_or numbers k 0 ≡ k
-
-pub whole_none : (numbers : List ℕ) (count : ℕ) → length numbers ≡ count → IsWholeBelow numbers count 0
-whole_none numbers count long = record { long = long; each = λ k below. absurd (omega (arith, below)) }
-
-pub whole_more : (numbers : List ℕ) (count below : ℕ) → below < count → IsWholeBelow numbers count below
-    → IsWholeBelow (set numbers below below) count (below + 1)
-whole_more numbers count below within is = record {
-  long = length-set numbers below below ∙ is.long;
-  each = λ k less. elim (cases_eq k below) [
-    | inl here ↦
-        ap (λ i. get_or (set numbers below below) i 0) here
-        ∙ get_or-set_same numbers below below 0 (omega (arith, within, is.long)) ∙ sym here
-    | inr apart ↦ get_or-set_other numbers below k below 0 apart ∙ is.each k (omega (arith, less, apart))
-  ];
-}
-
--- every node is listed, whatever its number was
-pub whole_lists : (listed : List ℕ) (count n : ℕ) → IsWhole listed count → n < count → IsListed n listed
-whole_lists listed count n is below = record { place = n; within = omega (arith, below, is.long); here = is.each n below }
-
--- so what another number came to is listed, and only nodes are
-pub noted_whole : (listed : List ℕ) (count : ℕ) → IsWhole listed count → (old new : List ℕ) → length old ≡ count
-    → length new ≡ count → AreNoted count count old new listed
-noted_whole listed count is old new long long' = record {
-  each = λ n other. elim (cases_lt n count) [
-    | inl below ↦ whole_lists listed count n is below
-    | inr past ↦ absurd (other (get_or_past old n 0 (omega (arith, past, long))
-        ∙ sym (get_or_past new n 0 (omega (arith, past, long')))))
-  ];
-  nodes = λ k below. omega (arith, is.each k (omega (arith, below, is.long)), below, is.long);
-  few = omega (arith, is.long);
-}

@@ -1,44 +1,35 @@
-ghost use Rattle.std.specs.Prelude.{◌≡◌, ◌<◌, ◌^◌, [], length, IfOk};
-ghost use Rattle.ra_memref.specs.Changes.{noted, IsWhole};
+ghost use Rattle.std.specs.Prelude.{◌≡◌, ◌<◌, [], length, IfOk};
+ghost use Rattle.ra_memref.specs.Changes.{noted};
 
 use ra_text::OutOfMemory;
 use std::alloc::Global;
 use std::marker::Model;
 
-/// The nodes that a frame gave another number, in a row with room for all. Where the flag `all` stands
-/// every node is listed. Only `new` takes memory.
+/// The nodes that a frame gave another number, in a row with room for all. Only `new` takes memory.
 #[derive(Drop)]
 pub struct Changes {
     nodes: Vec<u32>,
     count: usize,
-    every: Vec<u32>,
-    all: bool,
 }
 
 impl Model for Changes {
-    ghost use Rattle.ra_memref.specs.Changes.{ChangesSeen, changes_seen, IsRoomFor};
+    ghost use Rattle.std.specs.Prelude.{◌≤◌, length, take};
+    ghost use Rattle.ra_memref.specs.Changes.{ChangesSeen};
 
     ghost Value = { ChangesSeen };
 
-    ghost view = { λ c. changes_seen c.nodes.items c.count c.every.items c.all };
+    ghost view = { λ c. record { listed = take c.count c.nodes.items; room = length c.nodes.items } };
 
-    ghost invariant = { λ c. IsRoomFor c.nodes.items c.count c.every.items };
+    ghost invariant = { λ c. c.count ≤ length c.nodes.items };
 }
 
 impl Changes {
     /// Room for so many nodes, of which none is listed. Memory is the only refusal.
     pub fn new(alloc: Global, room: usize) -> Result<Changes, OutOfMemory>
-        requires { room < 2 ^ 30 }
         ensures { IfOk result (λ c. c ≡ record { listed = []; room = room }) }
     {
         let nodes = vec![in alloc; 0; room]?;
-        let every = numbers_below(alloc, room)?;
-        Ok(Changes {
-            nodes,
-            count: 0,
-            every,
-            all: false,
-        })
+        Ok(Changes { nodes, count: 0 })
     }
 
     /// Takes all nodes off the list.
@@ -46,15 +37,6 @@ impl Changes {
         ensures { self.new ≡ record self.old { listed = [] } }
     {
         self.count = 0;
-        self.all = false;
-    }
-
-    /// Lists every node, in constant time.
-    pub fn list_all(&mut self)
-        ensures listed { IsWhole self.new.listed self.old.room }
-        ensures room { self.new.room ≡ self.old.room }
-    {
-        self.all = true;
     }
 
     /// Lists a node behind the others where it changed.
@@ -72,22 +54,6 @@ impl Changes {
     pub fn listed(&self) -> &[u32]
         ensures { result.now ≡ self.now.listed }
     {
-        if self.all {
-            &self.every
-        } else {
-            &self.nodes[..self.count]
-        }
+        &self.nodes[..self.count]
     }
-}
-
-// The numbers below one, in order.
-fn numbers_below(alloc: Global, count: usize) -> Result<Vec<u32>, OutOfMemory>
-    requires { count < 2 ^ 30 }
-    ensures { IfOk result (λ numbers. IsWhole numbers.items count) }
-{
-    let mut numbers = vec![in alloc; 0; count]?;
-    for number in 0..count {
-        numbers[number] = number as u32;
-    }
-    Ok(numbers)
 }

@@ -25,7 +25,7 @@ use std::alloc::Global;
 use std::marker::Model;
 
 /// Which share of the nodes, and of the cells that change, a frame takes up one by one.
-const SHARE: usize = 16;
+const SHARE: usize = 2;
 
 /// What a node that was taken asks of the pass, and whether its number is another than before.
 #[derive(Clone, Copy)]
@@ -190,8 +190,8 @@ impl Numbers {
     }
 
     /// Takes up one frame. The nodes that are due are taken one by one, lowest first: a cell that is marked
-    /// or moved is read, what names a node that changed is made due, and the node is listed. Once a
-    /// sixteenth of all have changed, or where all may be due, the others are taken in order, and all are
+    /// or moved is read, what names a node that changed is made due, and the node is listed. Once half of
+    /// all have changed, or where all may be due, the others are taken in order, and those that changed are
     /// listed.
     ///
     /// It tells whether it took nodes in order. Then a node that is not due may be a cell that is to be due
@@ -247,15 +247,16 @@ impl Numbers {
             at = number + 1;
             left -= usize::from(changed);
         }
-        changes.list_all();
         for number in at..nodes.len() {
+            let before = self.values[number];
             self.take_node::<I, true>(image, nodes[number], slots, number);
+            changes.note(number as u32, before != self.values[number]);
         }
         true
     }
 
-    /// Makes the cells due whose number is not the one of the frame before, unless these are more than a
-    /// sixteenth of all, which it tells.
+    /// Makes the cells due whose number is not the one of the frame before, unless these are more than
+    /// half of all, which it tells.
     pub fn note_cells(&self, due: &mut Flags, cell_nodes: &[u32]) -> bool
         requires cells { length cell_nodes.now ≡ length self.now.cells }
         requires values { length self.now.values ≡ length due.old }

@@ -126,8 +126,7 @@ impl Table {
     /// The image has the table's size, and each cell that is not marked has its kept number there, as
     /// after a sample of an image that differs from this one only in bytes that were told. It reads each
     /// cell that is marked or has moved, once, and no other, and leaves none marked. A marked cell that has
-    /// its kept number makes nothing due. It lists each node that it gives another number, and every node
-    /// once a sixteenth of them have another one.
+    /// its kept number makes nothing due. It lists each node that it gives another number.
     pub fn sample<I: Image>(&mut self, image: &mut I)
         requires size { length (I.bytes image.old) ≡ self.old.size }
         requires agrees { Agrees self.old (I.bytes image.old) }

@@ -369,11 +369,11 @@ fn mark_other<I: Image, const MAY_BE: bool>(
     if MAY_BE && marks.is_set(cell) {
         return false;
     }
-    let other = image.read(place, width) != number;
-    if other {
-        marks.put(cell, true);
+    if image.read(place, width) == number {
+        return false;
     }
-    other
+    marks.put(cell, true);
+    true
 }
 
 // Puts the two nodes of a cell on the lists of the pages that it watches.

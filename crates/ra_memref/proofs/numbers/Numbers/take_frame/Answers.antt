@@ -1,13 +1,15 @@
-use Rattle.std.proofs.Common.{◌≡◌, ℕ, true, false, ◌-◌, ◌<◌, ap, subst, sym, ◌∙◌, refl, arith, length, get_or}
-use Rattle.std.proofs.lemmas.List.{get_or-set_other}
+use Rattle.std.proofs.Common.{◌≡◌, ℕ, true, false, not, ◌==◌, ◌-◌, ◌<◌, ap, ap₂, subst, sym, ◌∙◌, refl, arith, length, get_or}
+use Rattle.std.proofs.lemmas.List.{get_or-set_other, length-set}
 use Rattle.std.proofs.lemmas.Bool.{false≢true}
 use Rattle.ra_indirect.specs.Pools.{node_at}
 use Rattle.ra_memref.specs.Pass.{IsAgreedAt}
+use Rattle.ra_memref.specs.Numbers.{NumbersSeen}
+use Rattle.ra_memref.proofs.Indexed.{read_at}
 use Rattle.ra_memref.proofs.Passed.{takes_node}
 use Rattle.ra_memref.proofs.PassLemmas.{node_within}
 use Rattle.ra_memref.proofs.TakenLemmas.{IsTaken, taken_none, taken_by, agreed_node, taken_to, takes_frame, counted}
 use Rattle.ra_memref.proofs.DueLemmas.{settled_to, settled_next}
-use Rattle.ra_memref.proofs.ChangeLemmas.{noted_none, noted_more, noted_whole}
+use Rattle.ra_memref.proofs.ChangeLemmas.{noted_none, noted_more}
 use Rattle.ra_memref.proofs.numbers.Numbers.take_frame.Goals.{else-loop-due-test, then-loop-due-test+in-Some+then-left-eq0}
 use Rattle.ra_memref.proofs.numbers.Numbers.take_frame.Goals as goal
 
@@ -127,6 +129,8 @@ loop-number-init g c =
       | else-loop-due-test w ↦ record {
         taken = rw w.at-is done.taken;
         settled = λ n below still same. absurd (omega (arith, below, w.at-is, done.start w.loop-due-test.false));
+        noted = rw w.at-is done.noted;
+        room = done.room;
         most = omega (arith, w.at-is, done.most);
         dues = ap length w.due-is ∙ done.dues;
         risen = done.risen;
@@ -148,6 +152,8 @@ loop-number-init g c =
                 (ap (λ ds. get_or ds n true) (sym w.next_from.ensures.same) ∙ sym (w.clear_from.ensures.before n low)
                 ∙ ap (λ ds. get_or ds n true) (sym w.due-is) ∙ still)
                 same;
+            noted = (record { each = done.noted.each; nodes = done.noted.nodes; few = omega (arith, done.noted.few, w.at-is, first.after) });
+            room = done.room;
             most = omega (arith, w.at-is, here);
             dues = ap length w.due-is ∙ w.clear_from.ensures.long ∙ ap length w.next_from.ensures.same ∙ done.dues;
             risen = done.risen;
@@ -184,10 +190,24 @@ loop-number-preserved g c =
     let bytes = g.I.Image.bytes c.loop-number.image in
     let takes = takes_node (node_at c.args.nodes.now number) c.args.slots.now bytes number c.loop-number.self
     c.take_node.new.self e.taken in
+    let many : length c.loop-number.self.values ≡ length c.args.nodes.now = done.taken.sized.values in
+    let many_now : length c.take_node.new.self.values ≡ length c.loop-number.self.values =
+    ap length takes.values ∙ length-set c.loop-number.self.values number _ in
+    let was_is : c.index-before.result.now ≡ get_or c.loop-number.self.values number 0 =
+    read_at c.self.inside.values.items number _ (omega (arith, here, many, ap (λ (s : NumbersSeen). length s.values) c.self.view_is)) c.index-before.ensures
+    ∙ ap (λ (s : NumbersSeen). get_or s.values number 0) c.self.view_is in
+    let now_is : c.index.result.now ≡ get_or c.take_node.new.self.values number 0 =
+    read_at c.self-in-loop-number.inside.values.items number _ (omega (arith, here, many, many_now, ap (λ (s : NumbersSeen). length s.values) c.self-in-loop-number.view_is)) c.index.ensures
+    ∙ ap (λ (s : NumbersSeen). get_or s.values number 0) c.self-in-loop-number.view_is in
     record {
       taken = taken_by c.args.nodes.now c.requires.pool c.args.slots.now c.requires.laid image c.args.self.now
           c.requires.sized number here c.loop-number.self (was - begun) done.taken bytes done.bytes
           c.take_node.new.self e.taken begun was (g.I.Image.reads c.take_node.new.image) done.risen refl e.reads;
+      noted = rw c.note-in-loop-number.ensures (noted_more (length c.args.nodes.now) number c.args.self.now.values
+          c.loop-number.self.values c.take_node.new.self.values c.loop-number.changes.listed number
+          done.noted (omega arith) here (λ i apart. ap (λ xs. get_or xs i 0) takes.values
+          ∙ get_or-set_other c.loop-number.self.values number i _ 0 apart) _ (ap₂ (λ x y. not (x == y)) was_is now_is));
+      room = rw c.note-in-loop-number.ensures done.room;
       settled = settled_next c.args.nodes.now c.requires.pool c.args.slots.now c.requires.laid bytes number here
           c.loop-number.self c.take_node.new.self done.taken.sized takes c.loop-due-test.due done.settled;
       most = omega (arith, here);
@@ -212,9 +232,8 @@ returns-clause-taken g c =
 
 pub returns-clause-changed : goal.returns-clause-changed
 returns-clause-changed g c =
-    noted_whole c.list_all.new.self.listed (length c.args.nodes.now)
-    (rw c.loop-due.invariant.room at c.list_all.ensures.listed) c.args.self.now.values c.loop-number.self.values
-    c.requires.sized.values c.loop-number.invariant.taken.sized.values
+    let done = c.loop-number.invariant in
+    record { each = done.noted.each; nodes = done.noted.nodes; few = omega (arith, done.noted.few, done.most) }
 
 pub returns-clause-settled : goal.returns-clause-settled
 returns-clause-settled g c = λ whole n below.

@@ -26,6 +26,8 @@ abbrev pub invariant-loop-number : goal.invariant-loop-number
 invariant-loop-number g l = record {
   taken : IsTaken l.nodes (g.I.Image.bytes l.fn.image) l.fn.self l.self l.number (g.I.Image.reads l.image - g.I.Image.reads l.fn.image);
   settled : AreSettledTo l.nodes l.due l.self l.slots l.number;
+  noted : AreNoted (length l.nodes) l.number l.fn.self.values l.self.values l.changes.listed;
+  room : l.changes.room ≡ length l.nodes;
   most : l.number ≤ length l.nodes;
   dues : length l.due ≡ length l.nodes;
   risen : g.I.Image.reads l.fn.image ≤ g.I.Image.reads l.image;
