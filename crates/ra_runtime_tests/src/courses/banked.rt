@@ -3,7 +3,7 @@
 ghost use Rattle.std.specs.Prelude.{◌≡◌, ◌<◌, length};
 ghost use Rattle.ra_banks.specs.Banks.{bytes_of};
 
-use crate::played::set_of;
+use crate::courses::watched::course_of;
 use ra_banks::{Bank, Banks, Row, size_of};
 use ra_memory::Steps;
 use ra_runtime::Course;
@@ -18,11 +18,23 @@ pub(crate) fn lines_over(alloc: Global, file: &str, banks: &[Bank<'_>]) -> Resul
     let Some(size) = size_of(banks) else {
         return Err(Fail::from("too many bytes"));
     };
+    let mut course = course_of(alloc, file, size, true)?;
+    let lines = lines_of(alloc, &mut course, banks);
+    drop(course);
+    Ok(lines?)
+}
+
+// The lines of two frames.
+fn lines_of(
+    alloc: Global,
+    course: &mut Course,
+    banks: &[Bank<'_>],
+) -> Result<Vec<u8>, OutOfMemory>
+    requires { length (bytes_of banks.now) ≡ course.old.size }
+{
     let mut lines = Vec::new(alloc);
-    let set = set_of(alloc, file)?;
-    let mut course = Course::for_looks(alloc, set, size)?;
-    put_frame::<Brand>(&mut course, banks, Blank::new(1), &mut lines)?;
-    put_frame::<Brand>(&mut course, banks, Blank::new(1), &mut lines)?;
+    put_frame::<Brand>(course, banks, Blank::new(1), &mut lines)?;
+    put_frame::<Brand>(course, banks, Blank::new(1), &mut lines)?;
     Ok(lines)
 }
 

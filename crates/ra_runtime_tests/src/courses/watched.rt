@@ -1,6 +1,6 @@
 //! A course, and the memory that it is shown.
 
-ghost use Rattle.std.specs.Prelude.{◌≡◌, ◌<◌, ◌≤◌, ◌^◌, length};
+ghost use Rattle.std.specs.Prelude.{◌≡◌, ◌<◌, ◌≤◌, ◌^◌, ℕ, List, length, IfOk};
 ghost use Rattle.ra_runtime.specs.Courses.{IsCurrent, over};
 
 use crate::played::set_of;
@@ -58,12 +58,7 @@ impl Watched {
         requires { size ≤ 2 ^ 27 }
     {
         let memory = Memory::new(alloc, size)?;
-        let set = set_of(alloc, file)?;
-        let course = if looks {
-            Course::for_looks(alloc, set, size)?
-        } else {
-            Course::new(alloc, set, size)?
-        };
+        let course = course_of(alloc, file, size, looks)?;
         Ok(Watched { course, memory })
     }
 
@@ -114,6 +109,21 @@ impl Watched {
     }
 }
 
+/// A set of this file as a course that is made for looks or to be told, before its first frame.
+pub(crate) fn course_of(alloc: Global, file: &str, size: u32, looks: bool) -> Result<Course, Fail>
+    requires { size ≤ 2 ^ 27 }
+    ensures size { IfOk result (λ course. course.size ≡ size) }
+    ensures current { IfOk result (λ course. (image : List ℕ) → IsCurrent (over course image)) }
+{
+    let set = set_of(alloc, file)?;
+    let course = if looks {
+        Course::for_looks(alloc, set, size)
+    } else {
+        Course::new(alloc, set, size)
+    };
+    Ok(course?)
+}
+
 /// The place of the first row that goes otherwise over a memory of so many bytes: the step that it does, how often
 /// its frame reads, and the lines of the frame.
 pub(crate) fn other_step(
@@ -126,8 +136,9 @@ pub(crate) fn other_step(
     requires { size ≤ 2 ^ 27 }
 {
     let mut watched = Watched::new(alloc, file, size, looks)?;
-    let other = other_row(alloc, &mut watched, rows)?;
-    Ok(other)
+    let other = other_row(alloc, &mut watched, rows);
+    drop(watched);
+    Ok(other?)
 }
 
 fn other_row(
