@@ -2,11 +2,12 @@
 # Counts the instructions of a look, for each cell, and the bytes that a table takes: random cells over random banks.
 # usage: bench/look.sh
 # A program of its own is made in a copy of the crates below it, proved and built there. Instructions are the difference of a run
-# of 41 looks and one of 1, by 40 and by the cells; nothing changes between looks, so each reads every cell once. Bytes are all
+# of 41 looks and one of 1, by 40 and by the cells, of which equal ones are one; nothing changes between looks, so each reads every
+# cell once. Bytes are all
 # that a run without an image takes from the system, for a table made for looks and for one that is told of writes.
 set -eu
 . "$(dirname "$0")/player.sh"
-need valgrind
+need valgrind python3
 here=$(cd "$(dirname "$0")/.." && pwd)
 folder=$(mktemp -d)
 trap 'rm -rf "$folder"' EXIT
@@ -250,6 +251,24 @@ counted() {
     valgrind --tool=callgrind --callgrind-out-file=/dev/null "$look" "$1" "$2" "$3" "$4" "$5" 0 2>&1 | awk '/Collected/ { print $NF }'
 }
 
+# distinct CELLS BYTES SEED: how many cells there are, as the program above draws them
+distinct() {
+    python3 - "$1" "$2" "$3" <<'CELLS'
+import sys
+
+cells, size, seed = map(int, sys.argv[1:])
+
+
+def below(most):
+    global seed
+    seed = (seed * 6364136223846793005 + 1442695040888963407) % 2**64
+    return (seed >> 33) % 2**32 % most
+
+
+print(len({(below(size), below(3)) for _ in range(cells)}))
+CELLS
+}
+
 # taken CELLS BYTES TOLD: the bytes that a run without an image takes
 taken() {
     valgrind "$look" "$1" 1 "$2" 0 1 "$3" 2>&1 | awk '/total heap usage/ { gsub(",", ""); print $(NF - 2) }'
@@ -264,7 +283,7 @@ for cells in 100 1000 10000; do
             for seed in 1 2 3; do
                 more=$(counted $cells $banks $bytes 41 $seed)
                 less=$(counted $cells $banks $bytes 1 $seed)
-                row="$row $(awk -v d=$((more - less)) -v c=$cells 'BEGIN { printf "%.1f", d / 40 / c }')"
+                row="$row $(awk -v d=$((more - less)) -v c="$(distinct $cells $bytes $seed)" 'BEGIN { printf "%.1f", d / 40 / c }')"
             done
             echo "| $cells | $banks | $bytes |$row |"
         done
