@@ -34,6 +34,7 @@ pub fn size_of(banks: &[Bank<'_>]) -> Option<u32>
 }
 
 // The number of bytes that stand in one bank.
+#[inline(always)]
 pub(crate) fn number_in(bytes: &[u8], at: usize, width: u8) -> u32
     requires width { IsReadWidth width }
     requires within { at + width ≤ length bytes.now }
@@ -78,6 +79,7 @@ pub(crate) fn byte_at(banks: &[Bank<'_>], at: usize) -> u32
 
 // Among the banks from this one on: the bytes of the bank in which an address lies, counted from the first
 // of theirs, the address of the first of its bytes, and the number of the bank after it. None past the end.
+#[inline(always)]
 pub(crate) fn bank_of<'a>(
     banks: &[Bank<'a>],
     first: usize,

@@ -77,6 +77,7 @@ impl<'a> Row<'a> {
 
     // Goes to the bank of an address, where there is one: from the bank that was right last on where the
     // address is past it, else from the first one.
+    #[inline(always)]
     fn find(&mut self, at: usize)
         requires { at < 2 ^ 32 }
         ensures { self.new ≡ self.old }
@@ -112,6 +113,7 @@ impl<'a> Row<'a> {
 }
 
 // How far an address lies past so many bytes from another address on.
+#[inline(always)]
 fn past(start: usize, length: usize, at: usize) -> Option<usize>
     ensures { IfSome result (λ left. start + length + left ≡ at) }
 {

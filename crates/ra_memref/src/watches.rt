@@ -338,7 +338,7 @@ fn mark_others<I: Image, const SOME: bool>(
         let cell = *next as usize;
         let (place, width, number) = (places[cell], widths[cell], numbers[cell]);
         if mark_other::<I, SOME>(image, marks, cell, place, width, number) {
-            anew = anew.wrapping_add(1);
+            anew = anew.saturating_add(1);
         }
     }
     anew
