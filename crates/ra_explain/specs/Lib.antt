@@ -2,6 +2,7 @@ pub mod Beginnings
 pub mod Explains
 pub mod Making
 pub mod Recorders
+pub mod Recordings
 pub mod Replays
 pub mod RowLists
 pub mod RowsInside
