@@ -8,7 +8,7 @@ use Rattle.ra_operand.specs.declared.op.Op.{Op}
 use Rattle.ra_indirect.specs.declared.node.Node.{Node}
 use Rattle.ra_indirect.specs.Pools.{cells_of, tracked_of, spelled_by}
 use Rattle.ra_memory.specs.Image.{History}
-use Rattle.ra_memref.specs.Values.{cell_number, tracked_number}
+use Rattle.ra_memref.specs.Values.{cell_number, cell_place, tracked_number}
 use Rattle.ra_memref.specs.Table.{TableSeen, AreKept, Samples, spelled_value}
 use Rattle.ra_trigger.specs.declared.change.Change.{Change}
 use Rattle.ra_trigger.specs.States.{is_triggered}
@@ -71,6 +71,10 @@ module _ (t : TriggerContents) (old new : TableSeen) (image : List ℕ) (before 
   has_values : HasValues new plain_start (image ∷ history)
   has_values =
       samples.values plain_start history are_kept ∙ ap (λ ns. map (spelled_value plain_start (image ∷ history)) (spelled_by ns)) (sym samples.pool.0)
+
+  -- where each cell lies after the frame
+  pub frame_places : new.places ≡ map (λ c. cell_place plain_start c (image ∷ history)) (trigger_cells t)
+  frame_places = samples.places plain_start history are_kept ∙ ap (map (λ c. cell_place plain_start c (image ∷ history))) over.cells
 
   stepped : after.trigger ≡ kept_after t (image ∷ history)
   stepped =

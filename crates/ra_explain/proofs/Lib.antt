@@ -1,6 +1,7 @@
 pub mod AlikeLemmas
 pub mod BeginningLemmas
 pub mod ColumnLemmas
+pub mod CurrentLemmas
 pub mod ExplainedLemmas
 pub mod FollowLemmas
 pub mod FrameLemmas

@@ -12,7 +12,7 @@ use Rattle.ra_text.specs.Words.{words, words_at}
 use Rattle.ra_text.proofs.Pieces.{Stands, stands_first, stands_next, stands_words, length_words}
 use Rattle.ra_member.specs.MemberRuns.{FitWords}
 use Rattle.ra_explain.specs.declared.slot.Slot.{Slot}
-use Rattle.ra_explain.specs.Recorders.{KeptRows, StandsFor, RecorderSeen, KeepsHistories, KeepsSlots, KeepsOtherSlots, IsRestored, TakesUpSlot, trigger_cells, trigger_tracked}
+use Rattle.ra_explain.specs.Recorders.{KeptRows, StandsFor, RecorderSeen, KeepsHistories, KeepsSlots, KeepsOtherSlots, trigger_cells, trigger_tracked}
 use Rattle.ra_explain.specs.RowLists.{rows_from, with_row}
 use Rattle.ra_explain.specs.Slots.{HaveCounts, counts_of, kept_by, slot_kept, StandsSomewhere, FitsSlot, FitsOptional, IsSlotOf}
 use Rattle.ra_explain.proofs.RowLemmas.{length_with, rows_stay}
@@ -170,8 +170,3 @@ keeps_others old new named kept trigger slots slot history other at = record {
     apart (x ∷ ks) zero (suc j) k ne = refl
     apart (x ∷ ks) (suc i) zero k ne = refl
     apart (x ∷ ks) (suc i) (suc j) k ne = apart ks i j k (λ e. ne (ap suc e))
-
--- where a slot is taken up, the recorder stands for its histories
-pub takes_up : (old new : RecorderSeen) (slot : ℕ) → IsRestored old new slot → TakesUpSlot old new slot
-takes_up old new slot restored history at =
-    subst (λ (r : RecorderSeen). StandsFor r.trigger r.kept history) (sym (restored at.kept at.holds)) at.stands

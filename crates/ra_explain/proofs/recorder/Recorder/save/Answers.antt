@@ -1,52 +1,17 @@
-use Rattle.std.proofs.Common.{Option, Some, List, slice_set, refl, ap, subst, ◌∙◌}
-use Rattle.std.proofs.lemmas.List.{length-set}
-use Rattle.ra_condition.specs.Contents.{trigger_contents}
-use Rattle.ra_explain.specs.Recorders.{RecorderSeen, KeptRows, IsSaved, KeepsOtherSlots}
-use Rattle.ra_explain.specs.RowLists.{rows_from}
-use Rattle.ra_explain.specs.Seen.{recorder_seen}
-use Rattle.ra_explain.specs.Slots.{HaveCounts, counts_of, kept_by}
-use Rattle.ra_explain.proofs.FrameLemmas.{counts_kept}
-use Rattle.ra_explain.proofs.SlotLemmas.{slots_kept, slot_set, slots_fit_set, new_slot_fits, keeps_others}
+use Rattle.std.proofs.Common.{ap, Result, Ok, Err, sym, subst, ◌∙◌}
+use Rattle.std.specs.Result.{OnOk, OnErr}
+use Rattle.ra_explain.specs.Recordings.{RecordingSeen, IsCurrent}
 use Rattle.ra_explain.proofs.recorder.Recorder.save.Goals as goal
+
+either : {T E A B C : Type 0} (r : Result T E) → (A → C) → (B → C) → OnOk r A → OnErr r B → C
+either (Ok x) f g ok err = f ok
+either (Err e) f g ok err = g err
 
 pub invariant_of-self : goal.invariant_of-self
 invariant_of-self c =
-    let r = c.self.inside in
-    let t = trigger_contents r.text in
     let inv = c.self.invariant in
-    let counts : HaveCounts (counts_of t) r.table r.run.trigger = counts_kept t r.table r.run.trigger (rows_from r.rows.behind r.latest) inv.run_too.hits inv.somewhere in
+    let image = c.self.inside.memory in
     record {
-      few = inv.few;
-      over = inv.over;
-      run_too = inv.run_too;
-      size = inv.size;
-      agrees = inv.agrees;
-      width = inv.width;
-      rows_few = inv.rows_few;
-      latest = inv.latest;
-      somewhere = inv.somewhere;
-      unlock = inv.unlock;
-      sixteen = length-set r.slots.items c.from.result (Some c.in_ok-kept.kept) ∙ inv.sixteen;
-      slots_fit = slots_fit_set t r.rows.behind r.slots.items c.from.result c.in_ok-kept.kept inv.slots_fit (new_slot_fits t r.table r.run.trigger r.rows.behind r.latest c.in_ok-kept.kept counts inv.latest inv.somewhere c.in_ok-kept.ensures);
+      size = either c.save.result (λ saved. ap (λ (s : RecordingSeen). s.size) saved) (λ same. ap (λ (s : RecordingSeen). s.size) same) c.save.ensures.saved c.save.ensures.err ∙ inv.size;
+      current = either c.save.result (λ saved. subst (λ (s : RecordingSeen). IsCurrent s image) (sym saved) inv.current) (λ same. subst (λ (s : RecordingSeen). IsCurrent s image) (sym same) inv.current) c.save.ensures.saved c.save.ensures.err;
     }
-
-pub returns-clause-saved : goal.returns-clause-saved
-returns-clause-saved c =
-    let r = c.self.inside in
-    let t = trigger_contents r.text in
-    let inv = c.self.invariant in
-    let counts : HaveCounts (counts_of t) r.table r.run.trigger = counts_kept t r.table r.run.trigger (rows_from r.rows.behind r.latest) inv.run_too.hits inv.somewhere in
-    let slots = slot_set t r.table r.run.trigger r.rows.behind r.latest r.slots.items c.from.result c.args.slot c.in_ok-kept.kept counts c.in_ok-kept.ensures c.from.ensures in
-    subst (λ (old : RecorderSeen). IsSaved old (record (recorder_seen r) { slots = slots_kept t r.rows.behind (slice_set r.slots.items c.from.result (Some c.in_ok-kept.kept)) }) c.args.slot) c.self.view_is
-    (ap (λ (ks : List (Option KeptRows)). record (recorder_seen r) { slots = ks }) slots)
-
-pub returns-clause-slots : goal.returns-clause-slots
-returns-clause-slots c =
-    let r = c.self.inside in
-    let t = trigger_contents r.text in
-    let inv = c.self.invariant in
-    let counts : HaveCounts (counts_of t) r.table r.run.trigger = counts_kept t r.table r.run.trigger (rows_from r.rows.behind r.latest) inv.run_too.hits inv.somewhere in
-    let slots = slot_set t r.table r.run.trigger r.rows.behind r.latest r.slots.items c.from.result c.args.slot c.in_ok-kept.kept counts c.in_ok-kept.ensures c.from.ensures in
-    let new : RecorderSeen = record (recorder_seen r) { slots = slots_kept t r.rows.behind (slice_set r.slots.items c.from.result (Some c.in_ok-kept.kept)) } in
-    subst (λ (old : RecorderSeen). KeepsOtherSlots old new c.args.slot) c.self.view_is
-    (keeps_others (recorder_seen r) new c.args.slot (Some (kept_by r.table r.run.trigger (rows_from r.rows.behind r.latest))) refl slots)

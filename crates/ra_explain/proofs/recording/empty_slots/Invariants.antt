@@ -1,5 +1,5 @@
 use Rattle.std.proofs.Common.{◌≡◌, ◌≤◌, ◌-◌, None, length, replicate}
-use Rattle.ra_explain.proofs.recorder.emptied.Given as goal
+use Rattle.ra_explain.proofs.recording.empty_slots.Given as goal
 
 abbrev pub invariant-loop-slots : goal.invariant-loop-slots
 invariant-loop-slots l = record {

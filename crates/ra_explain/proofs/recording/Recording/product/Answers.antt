@@ -1,7 +1,7 @@
 use Rattle.std.proofs.Common.{◌<◌, ◌^◌, ◌+◌, ◌*◌, ◌-◌, ap, length, arith}
 use Rattle.ra_condition.specs.Contents.{trigger_contents, trigger_hits}
 use Rattle.ra_explain.proofs.TakenLemmas.{product_fits, rows_fit}
-use Rattle.ra_explain.proofs.recorder.Recorder.product.Goals as goal
+use Rattle.ra_explain.proofs.recording.Recording.product.Goals as goal
 
 pub overflow_add-result : goal.overflow_add-result
 overflow_add-result c =
