@@ -7,6 +7,10 @@
 #[cfg(test)]
 mod explanations;
 #[cfg(test)]
+mod looks;
+#[cfg(test)]
 mod recorded;
 #[cfg(test)]
 mod recorders;
+#[cfg(test)]
+mod watched;
