@@ -90,7 +90,7 @@ fn check_items(check: Check, items: &[Value]) -> Result<(), PatchRefused>
 }
 
 // The item at this index.
-fn check_item(check: Check, index: u32, item: &Value) -> Result<(), PatchRefused>
+pub fn check_item(check: Check, index: u32, item: &Value) -> Result<(), PatchRefused>
     ensures ok { OnOk result (faults_by check index (view item.now) ≡ []) }
     ensures err { IfErr result (IsFirst (faults_by check index (view item.now))) }
 {

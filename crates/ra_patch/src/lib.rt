@@ -5,15 +5,22 @@
 
 mod check;
 mod document;
+mod document_refused;
 mod fields;
 mod imported;
+mod item_kind;
 mod laws;
+mod left_out;
+mod patches;
 mod read;
 mod refused;
 mod root;
 mod text;
+mod verdict;
 
 pub use document::{import, set_of};
+pub use document_refused::{DocumentRefused, RootField};
 pub use imported::Imported;
 pub use laws::one_document_answer;
+pub use left_out::{LeftCause, LeftList, LeftOut};
 pub use refused::{PatchField, PatchList, PatchRefused};

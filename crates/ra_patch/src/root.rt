@@ -27,7 +27,7 @@ fn patch_field<'v>(document: &'v Value, name: &str) -> Option<&'v Value>
 }
 
 // The items of a value, where it is an array.
-fn list_in(field: &Value) -> Option<&[Value]>
+pub fn list_in(field: &Value) -> Option<&[Value]>
     ensures { option_map (λ items. map view items.now) result ≡ spec.list_in (view field.now) }
 {
     match field.as_array() {
@@ -54,7 +54,7 @@ pub fn boards_of(document: &Value) -> Option<&[Value]>
 }
 
 // The text of a value, empty where it is null, where it is a string.
-fn nullable_text(field: &Value) -> Option<&str>
+pub fn nullable_text(field: &Value) -> Option<&str>
     ensures { option_map (λ text. text.now) result ≡ spec.optional_text (Some (view field.now)) }
 {
     if field.is_null() {
