@@ -1,5 +1,6 @@
 -- A document has no more items in an array than bytes, and one more.
-use Rattle.std.proofs.Common.{◌≡◌, ℕ, ◌+◌, ◌≤◌, suc, max, List, [], ◌∷◌, length, Option, Some, None, option_map, option_and_then, unwrap_or, codes, Ordering, Less, Equal, Greater, refl, ap, sym, map, subst, arith}
+use Rattle.std.proofs.Common.{◌≡◌, ℕ, ◌+◌, ◌*◌, ◌^◌, ◌<◌, ◌≤◌, suc, max, Bool, true, false, if◌then◌else◌, List, [], ◌∷◌, length, Option, Some, None, option_map, option_and_then, unwrap_or, codes, Ordering, Less, Equal, Greater, refl, ap, sym, map, subst, arith, length-append, lit≤}
+use Rattle.std.proofs.Math.Nat.{mul-le-mul_right, suc-mul}
 use Rattle.std.proofs.lemmas.List.{length-map}
 use Rattle.serde_json.specs.View.{view}
 use Rattle.serde_json.specs.declared.value.Value.{Value}
@@ -15,6 +16,9 @@ use Rattle.serde_json.specs.Read.{number_of, of_json, of_items, of_members, max_
 use Rattle.ra_patch.specs.Answers.{IsDocument}
 use Rattle.ra_patch.specs.Faults.{achievements_or_none, boards_or_none}
 use Rattle.ra_patch.specs.Fields.{listed, list_in, optional_list, patch_field}
+use Rattle.ra_patch.specs.Patches.{are_objects, holders_by, holders_in, items_of, only_objects, own_items, patch_by, patch_in}
+use Rattle.ra_patch.specs.declared.item_kind.ItemKind.{ItemKind}
+use Rattle.ra_patch.specs.declared.item_kind.ItemKind.TheVariants.{Achievement, Leaderboard}
 use Rattle.ra_patch.proofs.TokenBreadth.{json_count, json_breadth, json_items_breadth, json_members_breadth, Bounded, few-tokens, within-value}
 
 -- how many items stand in an array
@@ -198,3 +202,94 @@ module _ (d : Data) (document : (bytes : List ℕ) × IsDocument bytes d) (vs : 
   pub few-board_values : map view vs ≡ boards_or_none d → length vs ≤ 16777217
   few-board_values same =
       omega (arith, sym (length-map vs view), ap (λ ds. length ds) same, few-boards document.0 d document.1)
+
+-- ---- the lists of a patch
+
+-- each of these has at most so many items of a kind
+abbrev AllWithin : ℕ → List Data → Type 0
+AllWithin n [] = ⊤
+AllWithin n (d ∷ ds) = (breadth d ≤ n) × AllWithin n ds
+
+AllWithin-listed : (ds : Items) (n : ℕ) → items_breadth ds ≤ n → AllWithin n (listed ds)
+AllWithin-listed no_items n h = tt
+AllWithin-listed (item d ds) n h = (omega arith, AllWithin-listed ds n (omega arith))
+
+-- as many objects as this, each of this breadth at most
+abbrev Holders : ℕ → Option (List Data) → Type 0
+Holders n None = ⊤
+Holders n (Some ds) = (length ds ≤ n) × AllWithin n ds
+
+holders-list_in : (d : Data) (n : ℕ) → breadth d ≤ n → Holders n (list_in d)
+holders-list_in null n h = tt
+holders-list_in (boolean b) n h = tt
+holders-list_in (number x) n h = tt
+holders-list_in (string s) n h = tt
+holders-list_in (array ds) n h = (omega (arith, length-listed ds), AllWithin-listed ds n (omega arith))
+holders-list_in (object ms) n h = tt
+
+holders-only : (o : Option (List Data)) (n : ℕ) → Holders n o → Holders n (only_objects o)
+holders-only None n h = tt
+holders-only (Some ds) n h = cases (are_objects ds) where
+  cases : (b : Bool) → Holders n (if b then Some ds else None)
+  cases true = h
+  cases false = tt
+
+holders-by : (patch : Data) (achievements sets : Option Data) (n : ℕ) → 1 ≤ n → breadth patch ≤ n
+    → AtMost breadth n sets
+    → Holders n (holders_by patch achievements sets)
+holders-by patch (Some own) sets n one h k = (one, (h, tt))
+holders-by patch None (Some sets) n one h k = holders-only (list_in sets) n (holders-list_in sets n k)
+holders-by patch None None n one h k = (one, (h, tt))
+
+holders-in : (patch : Data) (n : ℕ) → 1 ≤ n → breadth patch ≤ n → Holders n (holders_in patch)
+holders-in patch n one h =
+    holders-by patch (get (codes "Achievements") patch) (get (codes "Sets") patch) n one h
+    (breadth-get (codes "Sets") patch n h)
+
+chosen : (b : Bool) (d : Data) (n : ℕ) → breadth d ≤ n → AtMost breadth n (if b then Some d else None)
+chosen true d n h = h
+chosen false d n h = tt
+
+breadth-patch_by : (root : Data) (field : Option Data) (n : ℕ) → breadth root ≤ n → AtMost breadth n field
+    → AtMost breadth n (patch_by root field)
+breadth-patch_by root None n h k = chosen _ root n h
+breadth-patch_by root (Some field) n h k = chosen _ field n k
+
+breadth-patch : (d : Data) (n : ℕ) → breadth d ≤ n → AtMost breadth n (patch_in d)
+breadth-patch d n h = breadth-patch_by d (get (codes "PatchData") d) n h (breadth-get (codes "PatchData") d n h)
+
+own-items : (kind : ItemKind) (d : Data) (n : ℕ) → breadth d ≤ n → length (own_items kind d) ≤ n
+own-items Achievement d n h =
+    length-or_none _ n
+    (AtMost-and_then breadth (λ ds. length ds) n n list_in (λ e x. length-list_in e n x) _
+    (breadth-get (codes "Achievements") d n h))
+own-items Leaderboard d n h = length-or_none _ n (length-optional_list _ n (breadth-get (codes "Leaderboards") d n h))
+
+all-items : (kind : ItemKind) (ds : List Data) (n : ℕ) → AllWithin n ds → length (items_of kind ds) ≤ length ds * n
+all-items kind [] n h = omega arith
+all-items kind (d ∷ ds) n h =
+    let first = own-items kind d n h.0 in
+    let others = all-items kind ds n h.1 in
+    let sum : length (items_of kind (d ∷ ds)) ≡ length (own_items kind d) + length (items_of kind ds) =
+    length-append (own_items kind d) (items_of kind ds) in
+    let product : suc (length ds) * n ≡ length ds * n + n = suc-mul (length ds) n in
+    omega (arith, sum, product)
+
+few-holders : (o : Option (List Data)) → Holders 16777217 o → (kind : ItemKind) (ds : List Data) → o ≡ Some ds
+    → length (items_of kind ds) < 2 ^ 64
+few-holders None h kind ds e = absurd (cc e)
+few-holders (Some es) h kind ds e =
+    let same : es ≡ ds = cc e in subst (λ x. length (items_of kind x) < 2 ^ 64) same
+    (bound (all-items kind es 16777217 h.1)) where
+      bound : length (items_of kind es) ≤ length es * 16777217 → length (items_of kind es) < 2 ^ 64
+      bound le = omega (arith, mul-le-mul_right 16777217 h.0)
+
+-- the objects that have the lists of a document have fewer items together than a word can count
+pub few-items : (d : Data) → (bytes : List ℕ) × IsDocument bytes d
+    → (kind : ItemKind) (patch : Data) (holders : List Data)
+    → patch_in d ≡ Some patch → holders_in patch ≡ Some holders → length (items_of kind holders) < 2 ^ 64
+few-items d document kind patch holders is of_patch =
+    let broad : breadth d ≤ 16777217 = omega (arith, breadth-read document.0 d document.1.reads.1, document.1.few) in
+    let within : AtMost breadth 16777217 (Some patch) =
+    subst (AtMost breadth 16777217) is (breadth-patch d 16777217 broad) in
+    few-holders (holders_in patch) (holders-in patch 16777217 (lit≤ tt) within) kind holders of_patch

@@ -2,4 +2,5 @@ pub mod AnswerLemmas
 pub mod Breadth
 pub mod FaultLemmas
 pub mod FieldLemmas
+pub mod SiftLemmas
 pub mod TokenBreadth

@@ -5,4 +5,5 @@ pub mod Fields
 pub mod Leaving
 pub mod Lines
 pub mod Patches
+pub mod Sifting
 pub mod Words

@@ -34,7 +34,7 @@ fn write_achievements(text: &mut String, items: &[Value]) -> Result<(), AllocErr
 }
 
 // The line of an achievement, at the end of a text.
-fn write_achievement(text: &mut String, item: &Value) -> Result<(), AllocError>
+pub fn write_achievement(text: &mut String, item: &Value) -> Result<(), AllocError>
     ensures { OnOk result
         (string_bytes text.new ≡ string_bytes text.old ++ achievement_line (view item.now)) }
 {
@@ -55,7 +55,7 @@ fn write_boards(text: &mut String, items: &[Value]) -> Result<(), AllocError>
 }
 
 // The line of a leaderboard, at the end of a text.
-fn write_board(text: &mut String, item: &Value) -> Result<(), AllocError>
+pub fn write_board(text: &mut String, item: &Value) -> Result<(), AllocError>
     ensures { OnOk result
         (string_bytes text.new ≡ string_bytes text.old ++ board_line (view item.now)) }
 {
@@ -66,7 +66,7 @@ fn write_board(text: &mut String, item: &Value) -> Result<(), AllocError>
 }
 
 // The presence script behind a line `P`, at the end of a text, and nothing for the empty one.
-fn write_presence(text: &mut String, script: &str) -> Result<(), AllocError>
+pub fn write_presence(text: &mut String, script: &str) -> Result<(), AllocError>
     ensures { OnOk result
         (string_bytes text.new ≡ string_bytes text.old ++ presence_lines script.now) }
 {
