@@ -52,7 +52,7 @@ given-not_refused d text why given r = elim (value-cause d why r) [
 
 -- ---- documents
 
-same-read : (bytes : List ℕ) (d e : Data) → Reads bytes d → Reads bytes e → d ≡ e
+pub same-read : (bytes : List ℕ) (d e : Data) → Reads bytes d → Reads bytes e → d ≡ e
 same-read bytes d e x y = let same : ◌≡◌ {A = Option Data} (Some d) (Some e) = sym x.1 ∙ y.1 in cc same
 
 -- a document is refused for its length, as no JSON, or as its value is

@@ -3,6 +3,7 @@ pub mod Checks
 pub mod Faults
 pub mod Fields
 pub mod Leaving
+pub mod LeftAnswers
 pub mod Lines
 pub mod Patches
 pub mod Sifting

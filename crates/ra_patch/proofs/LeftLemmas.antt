@@ -1,0 +1,99 @@
+-- A document has one answer where something is left of it.
+use Rattle.std.proofs.Common.{◌≡◌, ◌∙◌, ℕ, ◌<◌, ◌≤◌, ◌⊎◌, inl, inr, List, [], length, Option, Some, None, Result, Ok, Err, IfOk, IfErr, MatchResult, IsErrAnd, refl, sym, ap, subst, arith}
+use Rattle.serde_json.specs.Data.{Data}
+use Rattle.ra_patch.specs.declared.document_refused.DocumentRefused.{DocumentRefused}
+use Rattle.ra_patch.specs.declared.document_refused.DocumentRefused.TheVariants.{Bytes, NotJson, Root, Memory}
+use Rattle.ra_patch.specs.declared.document_refused.RootField.{RootField}
+use Rattle.ra_patch.specs.declared.left_out.LeftOut.{LeftOut}
+use Rattle.ra_patch.specs.Answers.{IsDocument}
+use Rattle.ra_patch.specs.Fields.{Reads}
+use Rattle.ra_patch.specs.LeftAnswers.{LeavesDocument, LeavesNothing, LeavesValue}
+use Rattle.ra_patch.specs.Patches.{wrong_field}
+use Rattle.ra_patch.proofs.AnswerLemmas.{same-read}
+use Rattle.ra_patch.proofs.LeavingLemmas.{one-lists}
+
+-- why nothing is left: its length, no JSON, or no patch
+data Cause (bytes : List ℕ) (why : DocumentRefused) : Type 0 where
+  too_long : 16777216 < length bytes → why ≡ Bytes (length bytes) → Cause bytes why
+  no_json : length bytes ≤ 16777216 → ((d : Data) → Reads bytes d → ⊥) → why ≡ NotJson → Cause bytes why
+  no_patch : (field : RootField) (d : Data) → IsDocument bytes d → wrong_field d ≡ Some field → why ≡ Root field
+      → Cause bytes why
+
+cause : (bytes : List ℕ) (why : DocumentRefused) → LeavesNothing bytes why → Cause bytes why
+cause bytes (Bytes found) r = too_long r.0 (ap (λ n. Bytes n) r.1)
+cause bytes NotJson r = no_json r.0 r.1 refl
+cause bytes (Root field) r = no_patch field r.0 r.1 r.2 refl
+cause bytes Memory r = absurd r
+
+same-cause : (bytes : List ℕ) (a b : DocumentRefused) → Cause bytes a → Cause bytes b → a ≡ b
+same-cause bytes a b (too_long l e) (too_long l' e') = e ∙ sym e'
+same-cause bytes a b (too_long l e) (no_json le none e') = absurd (omega arith)
+same-cause bytes a b (too_long l e) (no_patch field d document w e') = absurd (let few = document.few in omega arith)
+same-cause bytes a b (no_json le none e) (too_long l e') = absurd (omega arith)
+same-cause bytes a b (no_json le none e) (no_json le' none' e') = e ∙ sym e'
+same-cause bytes a b (no_json le none e) (no_patch field d document w e') = absurd (none d document.reads)
+same-cause bytes a b (no_patch field d document w e) (too_long l e') = absurd (let few = document.few in omega arith)
+same-cause bytes a b (no_patch field d document w e) (no_json le none e') = absurd (none d document.reads)
+same-cause bytes a b (no_patch field d document w e) (no_patch field' d' document' w' e') =
+    let read = same-read bytes d d' document.reads document'.reads in
+    let one : ◌≡◌ {A = Option RootField} (Some field) (Some field') = sym w ∙ ap wrong_field read ∙ w' in
+    let same : field ≡ field' = cc one in e ∙ ap (λ f. Root f) same ∙ sym e'
+
+-- nothing is left for one reason
+pub one-refusal : (bytes : List ℕ) (a b : DocumentRefused) → LeavesNothing bytes a → LeavesNothing bytes b → a ≡ b
+one-refusal bytes a b x y = same-cause bytes a b (cause bytes a x) (cause bytes b y)
+
+-- one set file is left, and the same is left out
+pub one-left : (bytes text text' : List ℕ) (out out' : List LeftOut) → LeavesDocument bytes text out
+    → LeavesDocument bytes text' out'
+    → (text ≡ text') × (out ≡ out')
+one-left bytes text text' out out' x y =
+    let read = same-read bytes y.value x.value y.document.reads x.document.reads in
+    let there : LeavesValue x.value text' out' = subst (λ d. LeavesValue d text' out') read y.leaves in
+    one-lists _ _ _ text text' out out' x.leaves.lists there.lists
+
+-- and where something is left nothing is refused
+pub left-not_refused : (bytes text : List ℕ) (out : List LeftOut) (why : DocumentRefused)
+    → LeavesDocument bytes text out
+    → LeavesNothing bytes why → ⊥
+left-not_refused bytes text out why x r = elim (cause bytes why r) [
+  | too_long l e ↦ let few = x.document.few in omega arith
+  | no_json le none e ↦ none x.value x.document.reads
+  | no_patch field d document w e ↦
+      let read = same-read bytes d x.value document.reads x.document.reads in
+      let none : wrong_field d ≡ None = ap wrong_field read ∙ x.leaves.whole in cc (w, none)
+]
+
+-- ---- answers
+
+module _ {V : Type 0} (items : V → List ℕ) (rows : V → List LeftOut) (bytes : List ℕ) where
+  -- what is said of a value, said of its document
+  pub left-read : (d : Data) (r : Result V DocumentRefused) → IsDocument bytes d
+      → IfOk r (λ v. LeavesValue d (items v) (rows v))
+      → IfOk r (λ v. LeavesDocument bytes (items v) (rows v))
+  left-read d (Ok v) document leaves = record { value = d; document = document; leaves = leaves }
+  left-read d (Err why) document leaves = tt
+
+  pub refused-read : (d : Data) (r : Result V DocumentRefused) → IsDocument bytes d
+      → IfErr r (λ why. why ≡ Memory ⊎ ((field : RootField) × (why ≡ Root field) × (wrong_field d ≡ Some field)))
+      → IfErr r (λ why. why ≡ Memory ⊎ LeavesNothing bytes why)
+  refused-read d (Ok v) document refuses = tt
+  refused-read d (Err why) document (inl memory) = inl memory
+  refused-read d (Err why) document (inr r) = inr (subst (LeavesNothing bytes) (sym r.1) (d, document, r.2))
+
+  -- what an answer says of a document of which this is left
+  pub answer-left : (r : Result V DocumentRefused) → IfOk r (λ v. LeavesDocument bytes (items v) (rows v))
+      → IfErr r (λ why. why ≡ Memory ⊎ LeavesNothing bytes why) → (text : List ℕ) (out : List LeftOut)
+      → LeavesDocument bytes text out
+      → MatchResult r (λ v. (items v ≡ text) × (rows v ≡ out)) (λ why. why ≡ Memory)
+  answer-left (Ok v) ok err text out x = one-left bytes (items v) text (rows v) out ok x
+  answer-left (Err why) ok (inl memory) text out x = memory
+  answer-left (Err why) ok (inr refuses) text out x = absurd (left-not_refused bytes text out why x refuses)
+
+  -- and of one of which nothing is left
+  pub answer-refused : (r : Result V DocumentRefused) → IfOk r (λ v. LeavesDocument bytes (items v) (rows v))
+      → IfErr r (λ why. why ≡ Memory ⊎ LeavesNothing bytes why) → (why : DocumentRefused) → LeavesNothing bytes why
+      → IsErrAnd r (λ e. e ≡ Memory ⊎ e ≡ why)
+  answer-refused (Ok v) ok err why r = absurd (left-not_refused bytes (items v) (rows v) why ok r)
+  answer-refused (Err e) ok (inl memory) why r = inl memory
+  answer-refused (Err e) ok (inr refuses) why r = inr (one-refusal bytes e why refuses r)

@@ -1,0 +1,15 @@
+use Rattle.serde_json.specs.View.{view}
+use Rattle.ra_patch.specs.Answers.{IsDocument}
+use Rattle.ra_patch.proofs.LeftLemmas.{answer-left, left-read, refused-read}
+use Rattle.ra_patch.proofs.leave.left_of.Goals as goal
+
+pub returns-in-Ok-clause-left : goal.returns-in-Ok-clause-left
+returns-in-Ok-clause-left c =
+    let bytes = c.args.bytes.now in
+    let d = view c.in-Ok.document in
+    let document : IsDocument bytes d = record { few = c.if-bytes-gt-MOST_BYTES.false; reads = c.in-Ok.ensures.ok } in
+    answer-left (λ v. v.text.items) (λ v. v.left_out.items) bytes c.left_of_value.result
+    (left-read (λ v. v.text.items) (λ v. v.left_out.items) bytes d c.left_of_value.result document
+    c.left_of_value.ensures.ok)
+    (refused-read (λ v. v.text.items) (λ v. v.left_out.items) bytes d c.left_of_value.result document
+    c.left_of_value.ensures.err)

@@ -1,0 +1,48 @@
+-- What is left of a document, and when nothing is: docs/DEFINITIONS.md, "What is left of a document".
+use Rattle.std.specs.Prelude.{◌≡◌, ℕ, ◌<◌, ◌≤◌, Option, None, Some, List, ◌++◌, length}
+use Rattle.std.specs.List.{flat_map}
+use Rattle.serde_json.specs.Data.{Data}
+use Rattle.ra_patch.specs.declared.document_refused.DocumentRefused.{DocumentRefused}
+use Rattle.ra_patch.specs.declared.document_refused.DocumentRefused.TheVariants.{Bytes, NotJson, Root}
+use Rattle.ra_patch.specs.declared.item_kind.ItemKind.TheVariants.{Achievement, Leaderboard}
+use Rattle.ra_patch.specs.declared.left_out.LeftCause.{LeftCause}
+use Rattle.ra_patch.specs.declared.left_out.LeftOut.{LeftOut}
+use Rattle.ra_patch.specs.Answers.{IsDocument, document_limit}
+use Rattle.ra_patch.specs.Fields.{Reads}
+use Rattle.ra_patch.specs.Leaving.{Leaves, IsScriptVerdict, kept_script, line_of, script_row}
+use Rattle.ra_patch.specs.Lines.{presence_lines}
+use Rattle.ra_patch.specs.Patches.{items_in, script_of, wrong_field}
+
+-- what is left of two lists and a presence string: the set file of what stays, and what is left out, list by list
+pub record LeavesLists (achievements boards : List Data) (script : Option (List ℕ)) (text : List ℕ)
+    (left_out : List LeftOut) : Type 0 where
+  pub achievements_kept : List Data
+  pub achievement_rows : List LeftOut
+  pub of_achievements : Leaves Achievement achievements achievements_kept achievement_rows
+  pub boards_kept : List Data
+  pub board_rows : List LeftOut
+  pub of_boards : Leaves Leaderboard boards boards_kept board_rows
+  pub cause : Option LeftCause
+  pub of_script : IsScriptVerdict script cause
+  pub is : text ≡
+      flat_map (line_of Achievement) achievements_kept ++ flat_map (line_of Leaderboard) boards_kept
+      ++ presence_lines (kept_script script cause)
+  pub rows : left_out ≡ achievement_rows ++ board_rows ++ script_row cause
+
+-- the value has a patch with its lists, and this is left of them
+pub record LeavesValue (d : Data) (text : List ℕ) (left_out : List LeftOut) : Type 0 where
+  pub whole : wrong_field d ≡ None
+  pub lists : LeavesLists (items_in Achievement d) (items_in Leaderboard d) (script_of d) text left_out
+
+-- this set file is left of the document, and this is left out
+pub record LeavesDocument (bytes text : List ℕ) (left_out : List LeftOut) : Type 0 where
+  pub value : Data
+  pub document : IsDocument bytes value
+  pub leaves : LeavesValue value text left_out
+
+-- when nothing is left of a document, by the first of these that comes; running out of memory is no such reason
+abbrev pub LeavesNothing : List ℕ → DocumentRefused → Type 0
+LeavesNothing bytes (Bytes found) = (document_limit < length bytes) × (found ≡ length bytes)
+LeavesNothing bytes NotJson = (length bytes ≤ document_limit) × ((d : Data) → Reads bytes d → ⊥)
+LeavesNothing bytes (Root field) = (d : Data) × IsDocument bytes d × (wrong_field d ≡ Some field)
+LeavesNothing bytes _ = ⊥
