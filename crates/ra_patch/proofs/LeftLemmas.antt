@@ -7,9 +7,10 @@ use Rattle.ra_patch.specs.declared.document_refused.RootField.{RootField}
 use Rattle.ra_patch.specs.declared.left_out.LeftOut.{LeftOut}
 use Rattle.ra_patch.specs.Answers.{IsDocument}
 use Rattle.ra_patch.specs.Fields.{Reads}
-use Rattle.ra_patch.specs.LeftAnswers.{LeavesDocument, LeavesNothing, LeavesValue}
+use Rattle.ra_patch.specs.LeftAnswers.{KeepsGrammar, LeavesDocument, LeavesNothing, LeavesValue}
 use Rattle.ra_patch.specs.Patches.{wrong_field}
 use Rattle.ra_patch.proofs.AnswerLemmas.{same-read}
+use Rattle.ra_patch.proofs.KeptLemmas.{kept-grammar}
 use Rattle.ra_patch.proofs.LeavingLemmas.{one-lists}
 
 -- why nothing is left: its length, no JSON, or no patch
@@ -97,3 +98,9 @@ module _ {V : Type 0} (items : V → List ℕ) (rows : V → List LeftOut) (byte
   answer-refused (Ok v) ok err why r = absurd (left-not_refused bytes (items v) (rows v) why ok r)
   answer-refused (Err e) ok (inl memory) why r = inl memory
   answer-refused (Err e) ok (inr refuses) why r = inr (one-refusal bytes e why refuses r)
+
+  -- what is left is refused for nothing but a limit
+  pub answer-accepted : (d : Data) (r : Result V DocumentRefused) → IfOk r (λ v. LeavesValue d (items v) (rows v))
+      → IfOk r (λ v. KeepsGrammar (items v))
+  answer-accepted d (Ok v) leaves = kept-grammar _ _ _ (items v) (rows v) leaves.lists
+  answer-accepted d (Err why) leaves = tt

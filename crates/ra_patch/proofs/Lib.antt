@@ -2,7 +2,9 @@ pub mod AnswerLemmas
 pub mod Breadth
 pub mod FaultLemmas
 pub mod FieldLemmas
+pub mod KeptLemmas
 pub mod LeavingLemmas
 pub mod LeftLemmas
+pub mod LineLemmas
 pub mod SiftLemmas
 pub mod TokenBreadth

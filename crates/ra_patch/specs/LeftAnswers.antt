@@ -2,6 +2,9 @@
 use Rattle.std.specs.Prelude.{◌≡◌, ℕ, ◌<◌, ◌≤◌, Option, None, Some, List, ◌++◌, length}
 use Rattle.std.specs.List.{flat_map}
 use Rattle.serde_json.specs.Data.{Data}
+use Rattle.ra_set.specs.Refusals.{Refuses}
+use Rattle.ra_set.specs.declared.refused.SetRefused.{SetRefused}
+use Rattle.ra_set.specs.declared.refused.SetRefused.TheVariants.{Limit}
 use Rattle.ra_patch.specs.declared.document_refused.DocumentRefused.{DocumentRefused}
 use Rattle.ra_patch.specs.declared.document_refused.DocumentRefused.TheVariants.{Bytes, NotJson, Root}
 use Rattle.ra_patch.specs.declared.item_kind.ItemKind.TheVariants.{Achievement, Leaderboard}
@@ -46,3 +49,12 @@ LeavesNothing bytes (Bytes found) = (document_limit < length bytes) × (found �
 LeavesNothing bytes NotJson = (length bytes ≤ document_limit) × ((d : Data) → Reads bytes d → ⊥)
 LeavesNothing bytes (Root field) = (d : Data) × IsDocument bytes d × (wrong_field d ≡ Some field)
 LeavesNothing bytes _ = ⊥
+
+-- the refusal is of a limit
+abbrev pub IsLimit : SetRefused → Type 0
+IsLimit (Limit which found) = Unit {0}
+IsLimit _ = ⊥
+
+-- a set file is refused for nothing but a limit
+abbrev pub KeepsGrammar : List ℕ → Type 0
+KeepsGrammar file = (why : SetRefused) → Refuses file why → IsLimit why

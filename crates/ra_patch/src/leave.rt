@@ -3,7 +3,7 @@
 ghost use Rattle.std.specs.Prelude.{◌≡◌, ◌⊎◌, ◌<◌, ◌^◌, ℕ, List, IfErr, IfOk, IsErrAnd, MatchResult, Some, length, map};
 ghost use Rattle.serde_json.specs.View.{view};
 ghost use Rattle.ra_patch.specs.Answers.{IsDocument};
-ghost use Rattle.ra_patch.specs.LeftAnswers.{LeavesDocument, LeavesLists, LeavesNothing, LeavesValue};
+ghost use Rattle.ra_patch.specs.LeftAnswers.{KeepsGrammar, LeavesDocument, LeavesLists, LeavesNothing, LeavesValue};
 ghost use Rattle.ra_patch.specs.Patches as spec;
 ghost use Rattle.ra_patch.specs.declared.left_out.LeftOut.{LeftOut};
 
@@ -22,6 +22,8 @@ use std::alloc::Global;
 /// would be refused for are left out, and what is left out: docs/DEFINITIONS.md, "What is left of a
 /// document".
 ///
+/// `parse_set` accepts the set file unless it passes a limit.
+///
 /// Of several reasons why nothing is left the first is told, in this order: the bytes pass their
 /// limit; they are no JSON; the root has no patch. `Memory` comes for running out of memory alone.
 pub fn left_of(alloc: Global, bytes: &[u8]) -> Result<Left, DocumentRefused>
@@ -36,6 +38,9 @@ pub fn left_of(alloc: Global, bytes: &[u8]) -> Result<Left, DocumentRefused>
         (λ why. why ≡ DocumentRefused.Memory) }
     ensures refused { (why : DocumentRefused) → LeavesNothing bytes.now why
         → IsErrAnd result (λ e. e ≡ DocumentRefused.Memory ⊎ e ≡ why) }
+
+    // What parse_set says of it.
+    ensures accepted { IfOk result (λ left. KeepsGrammar left.text.items) }
 {
     if bytes.len() > MOST_BYTES {
         return Err(DocumentRefused::Bytes {

@@ -1,6 +1,6 @@
 use Rattle.serde_json.specs.View.{view}
 use Rattle.ra_patch.specs.Answers.{IsDocument}
-use Rattle.ra_patch.proofs.LeftLemmas.{answer-left, left-read, refused-read}
+use Rattle.ra_patch.proofs.LeftLemmas.{answer-accepted, answer-left, left-read, refused-read}
 use Rattle.ra_patch.proofs.leave.left_of.Goals as goal
 
 pub returns-in-Ok-clause-left : goal.returns-in-Ok-clause-left
@@ -13,3 +13,8 @@ returns-in-Ok-clause-left c =
     c.left_of_value.ensures.ok)
     (refused-read (λ v. v.text.items) (λ v. v.left_out.items) bytes d c.left_of_value.result document
     c.left_of_value.ensures.err)
+
+pub returns-in-Ok-clause-accepted : goal.returns-in-Ok-clause-accepted
+returns-in-Ok-clause-accepted c =
+    answer-accepted (λ v. v.text.items) (λ v. v.left_out.items) c.args.bytes.now (view c.in-Ok.document)
+    c.left_of_value.result c.left_of_value.ensures.ok
