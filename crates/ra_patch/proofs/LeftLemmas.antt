@@ -5,13 +5,16 @@ use Rattle.ra_patch.specs.declared.document_refused.DocumentRefused.{DocumentRef
 use Rattle.ra_patch.specs.declared.document_refused.DocumentRefused.TheVariants.{Bytes, NotJson, Root, Memory}
 use Rattle.ra_patch.specs.declared.document_refused.RootField.{RootField}
 use Rattle.ra_patch.specs.declared.left_out.LeftOut.{LeftOut}
-use Rattle.ra_patch.specs.Answers.{IsDocument}
+use Rattle.ra_patch.specs.Answers.{Imports, IsDocument}
 use Rattle.ra_patch.specs.Fields.{Reads}
-use Rattle.ra_patch.specs.LeftAnswers.{KeepsGrammar, LeavesDocument, LeavesNothing, LeavesValue}
+use Rattle.ra_patch.specs.LeftAnswers.{HasOwnLists, KeepsGrammar, LeavesDocument, LeavesNothing, LeavesValue}
 use Rattle.ra_patch.specs.Patches.{wrong_field}
 use Rattle.ra_patch.proofs.AnswerLemmas.{same-read}
 use Rattle.ra_patch.proofs.KeptLemmas.{kept-grammar}
 use Rattle.ra_patch.proofs.LeavingLemmas.{one-lists}
+use Rattle.ra_patch.proofs.WholeLemmas.{left-imported}
+use Rattle.ra_set.specs.Accepted.{IsSet}
+use Rattle.ra_set.specs.Contents.{SetContents}
 
 -- why nothing is left: its length, no JSON, or no patch
 data Cause (bytes : List ℕ) (why : DocumentRefused) : Type 0 where
@@ -104,3 +107,10 @@ module _ {V : Type 0} (items : V → List ℕ) (rows : V → List LeftOut) (byte
       → IfOk r (λ v. KeepsGrammar (items v))
   answer-accepted d (Ok v) leaves = kept-grammar _ _ _ (items v) (rows v) leaves.lists
   answer-accepted d (Err why) leaves = tt
+
+  -- where nothing is left out the document gives the set file
+  pub answer-whole : (r : Result V DocumentRefused) → IfOk r (λ v. LeavesDocument bytes (items v) (rows v))
+      → IfOk r (λ v. rows v ≡ [] → HasOwnLists bytes → (set : SetContents) → IsSet (items v) set
+      → Imports bytes (items v))
+  answer-whole (Ok v) leaves = left-imported bytes (items v) (rows v) leaves
+  answer-whole (Err why) leaves = tt

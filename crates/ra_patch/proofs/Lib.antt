@@ -1,10 +1,13 @@
 pub mod AnswerLemmas
 pub mod Breadth
+pub mod CutLemmas
 pub mod FaultLemmas
 pub mod FieldLemmas
+pub mod ImportedLemmas
 pub mod KeptLemmas
 pub mod LeavingLemmas
 pub mod LeftLemmas
 pub mod LineLemmas
 pub mod SiftLemmas
 pub mod TokenBreadth
+pub mod WholeLemmas

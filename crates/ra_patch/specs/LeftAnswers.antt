@@ -1,5 +1,5 @@
 -- What is left of a document, and when nothing is: docs/DEFINITIONS.md, "What is left of a document".
-use Rattle.std.specs.Prelude.{◌≡◌, ℕ, ◌<◌, ◌≤◌, Option, None, Some, List, ◌++◌, length}
+use Rattle.std.specs.Prelude.{◌≡◌, ℕ, ◌<◌, ◌≤◌, true, is_some, Option, None, Some, List, ◌++◌, length}
 use Rattle.std.specs.List.{flat_map}
 use Rattle.serde_json.specs.Data.{Data}
 use Rattle.ra_set.specs.Refusals.{Refuses}
@@ -11,7 +11,7 @@ use Rattle.ra_patch.specs.declared.item_kind.ItemKind.TheVariants.{Achievement, 
 use Rattle.ra_patch.specs.declared.left_out.LeftCause.{LeftCause}
 use Rattle.ra_patch.specs.declared.left_out.LeftOut.{LeftOut}
 use Rattle.ra_patch.specs.Answers.{IsDocument, document_limit}
-use Rattle.ra_patch.specs.Fields.{Reads}
+use Rattle.ra_patch.specs.Fields.{Reads, achievements_in, has_patch}
 use Rattle.ra_patch.specs.Leaving.{Leaves, IsScriptVerdict, kept_script, line_of, script_row}
 use Rattle.ra_patch.specs.Lines.{presence_lines}
 use Rattle.ra_patch.specs.Patches.{items_in, script_of, wrong_field}
@@ -42,6 +42,13 @@ pub record LeavesDocument (bytes text : List ℕ) (left_out : List LeftOut) : Ty
   pub value : Data
   pub document : IsDocument bytes value
   pub leaves : LeavesValue value text left_out
+
+-- the document has an object "PatchData" with an array of achievements of its own
+pub record HasOwnLists (bytes : List ℕ) : Type 0 where
+  pub value : Data
+  pub document : IsDocument bytes value
+  pub patch : has_patch value ≡ true
+  pub listed : is_some (achievements_in value) ≡ true
 
 -- when nothing is left of a document, by the first of these that comes; running out of memory is no such reason
 abbrev pub LeavesNothing : List ℕ → DocumentRefused → Type 0

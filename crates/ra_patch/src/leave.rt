@@ -1,9 +1,11 @@
 //! What is left of documents: docs/DEFINITIONS.md, "What is left of a document".
 
-ghost use Rattle.std.specs.Prelude.{◌≡◌, ◌⊎◌, ◌<◌, ◌^◌, ℕ, List, IfErr, IfOk, IsErrAnd, MatchResult, Some, length, map};
+ghost use Rattle.std.specs.Prelude.{◌≡◌, ◌⊎◌, ◌<◌, ◌^◌, ℕ, List, [], IfErr, IfOk, IsErrAnd, MatchResult, Some, length, map};
 ghost use Rattle.serde_json.specs.View.{view};
-ghost use Rattle.ra_patch.specs.Answers.{IsDocument};
-ghost use Rattle.ra_patch.specs.LeftAnswers.{KeepsGrammar, LeavesDocument, LeavesLists, LeavesNothing, LeavesValue};
+ghost use Rattle.ra_set.specs.Accepted.{IsSet};
+ghost use Rattle.ra_set.specs.Contents.{SetContents};
+ghost use Rattle.ra_patch.specs.Answers.{Imports, IsDocument};
+ghost use Rattle.ra_patch.specs.LeftAnswers.{HasOwnLists, KeepsGrammar, LeavesDocument, LeavesLists, LeavesNothing, LeavesValue};
 ghost use Rattle.ra_patch.specs.Patches as spec;
 ghost use Rattle.ra_patch.specs.declared.left_out.LeftOut.{LeftOut};
 
@@ -22,7 +24,9 @@ use std::alloc::Global;
 /// would be refused for are left out, and what is left out: docs/DEFINITIONS.md, "What is left of a
 /// document".
 ///
-/// `parse_set` accepts the set file unless it passes a limit.
+/// `parse_set` accepts the set file unless it passes a limit. Where `set_of` gives a set file,
+/// nothing is left out and it is that one; where nothing is left out of a document whose `PatchData`
+/// has lists of its own, and the set file passes no limit, `set_of` gives it.
 ///
 /// Of several reasons why nothing is left the first is told, in this order: the bytes pass their
 /// limit; they are no JSON; the root has no patch. `Memory` comes for running out of memory alone.
@@ -39,8 +43,13 @@ pub fn left_of(alloc: Global, bytes: &[u8]) -> Result<Left, DocumentRefused>
     ensures refused { (why : DocumentRefused) → LeavesNothing bytes.now why
         → IsErrAnd result (λ e. e ≡ DocumentRefused.Memory ⊎ e ≡ why) }
 
-    // What parse_set says of it.
+    // What parse_set and set_of say of it.
     ensures accepted { IfOk result (λ left. KeepsGrammar left.text.items) }
+    ensures imported { (text : List ℕ) → Imports bytes.now text
+        → MatchResult result (λ left. (left.text.items ≡ text) × (left.left_out.items ≡ []))
+        (λ why. why ≡ DocumentRefused.Memory) }
+    ensures whole { IfOk result (λ left. left.left_out.items ≡ [] → HasOwnLists bytes.now
+        → (set : SetContents) → IsSet left.text.items set → Imports bytes.now left.text.items) }
 {
     if bytes.len() > MOST_BYTES {
         return Err(DocumentRefused::Bytes {
