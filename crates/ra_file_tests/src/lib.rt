@@ -8,6 +8,8 @@ mod documents;
 #[cfg(test)]
 mod files;
 #[cfg(test)]
+mod left;
+#[cfg(test)]
 mod progress;
 #[cfg(test)]
 mod traces;
