@@ -35,11 +35,11 @@ use Rattle.ra_patch.specs.Lines.{presence_lines}
 -- ---- words
 
 -- no space
-abbrev NotSpace : ℕ → Type 0
+abbrev pub NotSpace : ℕ → Type 0
 NotSpace c = c ≡ 32 → ⊥
 
 -- two words before a space are one
-word-once : (a b x y : List ℕ) → OfEach NotSpace a → OfEach NotSpace b → a ++ 32 ∷ x ≡ b ++ 32 ∷ y → (a ≡ b) × (x ≡ y)
+pub word-once : (a b x y : List ℕ) → OfEach NotSpace a → OfEach NotSpace b → a ++ 32 ∷ x ≡ b ++ 32 ∷ y → (a ≡ b) × (x ≡ y)
 word-once [] [] x y p q e = (refl, cc e)
 word-once [] (c ∷ b) x y p q e = absurd (q.0 (cc e))
 word-once (c ∷ a) [] x y p q e = absurd (p.0 (cc e))
@@ -76,7 +76,7 @@ run-word text (v ∷ vs) h = subst (OfEach NotSpace) (sym h.parts) (
 )
 
 -- the name of a format is a word
-format-word : (text : List ℕ) (format : Format) → format_name text format → OfEach NotSpace text
+pub format-word : (text : List ℕ) (format : Format) → format_name text format → OfEach NotSpace text
 format-word text format h = subst (OfEach NotSpace) (sym h.parts)
     (each-append NotSpace h.front h.behind
     (subst (OfEach NotSpace) (sym h.of_first.alone)
@@ -110,7 +110,7 @@ id-once : (text : List ℕ) (n m : ℕ) → ExactId text n → ExactId text m �
 id-once = spelled-once ExactId id_at (reads-of ExactId id_at (In (keys_of digits)) reader-id)
 
 -- a text that begins with the digits of an id has this id, and the rest stands behind
-head-once : (letter id : ℕ) (rest front behind : List ℕ) (n : ℕ) → id < 2 ^ 32
+pub head-once : (letter id : ℕ) (rest front behind : List ℕ) (n : ℕ) → id < 2 ^ 32
     → head_text letter id ++ rest ≡ front ++ behind
     → head letter front n → (n ≡ id) × (behind ≡ rest)
 head-once letter id rest front behind n small e h =

@@ -1,4 +1,5 @@
 pub mod AnswerLemmas
+pub mod BadLineLemmas
 pub mod Breadth
 pub mod CutLemmas
 pub mod FaultLemmas

@@ -21,7 +21,7 @@ use Rattle.ra_patch.specs.declared.refused.PatchRefused.{PatchRefused}
 use Rattle.ra_patch.specs.declared.refused.PatchRefused.TheVariants.{Field}
 use Rattle.ra_patch.specs.Faults.{achievement_faults, board_faults, achievement_breaks, board_breaks, text_or_empty}
 use Rattle.ra_patch.specs.Fields.{id_in}
-use Rattle.ra_patch.specs.Lines.{achievement_line, board_line}
+use Rattle.ra_patch.specs.Lines.{achievement_line, board_line, id_text}
 
 -- ---- an item
 
@@ -95,6 +95,12 @@ pub data Leaves (kind : ItemKind) : (items stays : List Data) → (left_out : Li
   of_more : (items stays : List Data) (left_out : List LeftOut) (d : Data) (cause : Option LeftCause)
       → Leaves kind items stays left_out → IsVerdict kind (has_id stays (id_of d)) d cause
       → Leaves kind (items ++ d ∷ []) (stays ++ kept_item cause d) (left_out ++ item_row kind (length items) d cause)
+
+-- what stands before the text of an item on its line
+abbrev pub before_text : ItemKind → Data → List ℕ
+before_text Achievement d = codes "A " ++ id_text d ++ codes " "
+before_text Leaderboard d =
+    codes "L " ++ id_text d ++ codes " " ++ text_or_empty (codes "Format") d ++ codes " "
 
 -- the line of an item of a kind
 abbrev pub line_of : ItemKind → Data → List ℕ

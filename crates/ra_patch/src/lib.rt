@@ -25,7 +25,7 @@ mod verdict;
 pub use document::{import, set_of};
 pub use document_refused::{DocumentRefused, RootField};
 pub use imported::Imported;
-pub use laws::one_document_answer;
+pub use laws::{bad_texts, one_document_answer};
 pub use leave::left_of;
 pub use left::Left;
 pub use left_out::{LeftCause, LeftList, LeftOut};
