@@ -68,37 +68,23 @@ impl<'a> Row<'a> {
         ensures number { result ≡ raw width self.old at }
         ensures same { self.new ≡ self.old }
     {
-        if let Some(number) = self.number_here(at, width) {
-            return number;
-        }
         self.find(at);
-        match self.number_here(at, width) {
-            Some(number) => number,
-            None => self.number_across(at, width),
+        if at >= self.start && at - self.start + usize::from(width) <= self.here.len() {
+            return number_in(self.here, at - self.start, width);
         }
+        self.number_across(at, width)
     }
 
-    // The number of bytes that stand in the bank that was right last, where they do.
-    #[inline(always)]
-    fn number_here(&self, at: usize, width: u8) -> Option<u32>
-        requires width { IsReadWidth width }
-        requires few { at < 2 ^ 32 }
-        ensures { IfSome result (λ number. number ≡ raw width self.now at) }
-    {
-        let left = at.checked_sub(self.start)?;
-        if left + usize::from(width) <= self.here.len() {
-            return Some(number_in(self.here, left, width));
-        }
-        None
-    }
-
-    // Goes to the bank of an address, where there is one: from the bank that was right last on where the
-    // address is past it, else from the first one.
+    // Goes to the bank of an address, where there is one and it is another: from the bank that was right last
+    // on where the address is past it, else from the first one.
     #[inline(always)]
     fn find(&mut self, at: usize)
         requires { at < 2 ^ 32 }
         ensures { self.new ≡ self.old }
     {
+        if at >= self.start && at - self.start < self.here.len() {
+            return;
+        }
         let (first, left) = match past(self.start, self.here.len(), at) {
             Some(left) => (self.next, left),
             None => (0, at),
