@@ -6,9 +6,9 @@ ghost use Rattle.ra_session.specs.Outside.{outside_of};
 ghost use Rattle.ra_session.specs.Running.{Leaves, Ran};
 ghost use Rattle.ra_player.specs.Statuses.{Answers, LeavesFiles};
 
+use ra_args::{Job, read_job};
 use ra_explain_job::explain_job;
 use ra_io::{Files, Sink};
-use ra_args::{Job, read_job};
 use ra_session::{
     Ending, RunFiles, check_job, finish, import_job, lint_job, make_job, normal_job, run_job,
 };

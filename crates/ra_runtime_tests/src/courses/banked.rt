@@ -25,11 +25,7 @@ pub(crate) fn lines_over(alloc: Global, file: &str, banks: &[Bank<'_>]) -> Resul
 }
 
 // The lines of two frames.
-fn lines_of(
-    alloc: Global,
-    course: &mut Course,
-    banks: &[Bank<'_>],
-) -> Result<Vec<u8>, OutOfMemory>
+fn lines_of(alloc: Global, course: &mut Course, banks: &[Bank<'_>]) -> Result<Vec<u8>, OutOfMemory>
     requires { length (bytes_of banks.now) ≡ course.old.size }
 {
     let mut lines = Vec::new(alloc);
