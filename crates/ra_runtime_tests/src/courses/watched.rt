@@ -116,12 +116,11 @@ pub(crate) fn course_of(alloc: Global, file: &str, size: u32, looks: bool) -> Re
     ensures current { IfOk result (λ course. (image : List ℕ) → IsCurrent (over course image)) }
 {
     let set = set_of(alloc, file)?;
-    let course = if looks {
-        Course::for_looks(alloc, set, size)
+    if looks {
+        Ok(Course::for_looks(alloc, set, size)?)
     } else {
-        Course::new(alloc, set, size)
-    };
-    Ok(course?)
+        Ok(Course::new(alloc, set, size)?)
+    }
 }
 
 /// The place of the first row that goes otherwise over a memory of so many bytes: the step that it does, how often
