@@ -1,0 +1,10 @@
+//! The distinct comparisons of a set, each once, with one truth: those that flipped at a frame are listed.
+//!
+//! A node whose value changed has its comparisons computed anew, and no other.
+#![tactic(auto)]
+
+mod comparison;
+mod comparisons;
+
+pub use comparison::Comparison;
+pub use comparisons::Comparisons;
