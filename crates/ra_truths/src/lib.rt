@@ -5,6 +5,7 @@
 
 mod comparison;
 mod comparisons;
+mod flat_rows;
 
 pub use comparison::Comparison;
 pub use comparisons::Comparisons;
