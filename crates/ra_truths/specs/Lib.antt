@@ -1,3 +1,7 @@
 pub mod Comparisons
 pub mod FlatRows
+pub mod Kept
 pub mod Lists
+pub mod Seen
+pub mod Settling
+pub mod Truths

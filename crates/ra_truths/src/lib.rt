@@ -6,6 +6,11 @@
 mod comparison;
 mod comparisons;
 mod flat_rows;
+mod kept;
+mod laws;
+mod truths;
 
 pub use comparison::Comparison;
 pub use comparisons::Comparisons;
+pub use laws::unflipped_truths_stay;
+pub use truths::Truths;

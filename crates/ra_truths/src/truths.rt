@@ -1,0 +1,178 @@
+ghost use Rattle.std.specs.Prelude.{◌≡◌, ◌≢◌, ◌<◌, ◌≤◌, ◌^◌, ◌+◌, [], true, false, length, replicate, slice_index, slice_index_or, IfOk};
+ghost use Rattle.ra_truths.specs.Comparisons.{AreOver, AreWithin, IsOver, comparison_at, holds_by, truths_by};
+ghost use Rattle.ra_truths.specs.FlatRows.{AreUses};
+ghost use Rattle.ra_truths.specs.Kept.{put_in};
+ghost use Rattle.ra_truths.specs.Settling.{Settles};
+ghost use Rattle.ra_truths.specs.Truths.{IsTold, Takes, AreChanged};
+
+use crate::comparison::Comparison;
+use crate::comparisons::Comparisons;
+use crate::flat_rows::FlatRows;
+use crate::kept::Kept;
+use ra_memref::Table;
+use ra_operand::compare;
+use ra_text::OutOfMemory;
+use std::alloc::Global;
+use std::marker::Model;
+
+/// Above one in this many nodes that changed, all comparisons are computed.
+const SHARE: usize = 2;
+
+/// The truths of distinct comparisons by the values of a table: docs/DEFINITIONS.md, "Truths of comparisons".
+///
+/// Before the first frame is taken each truth is false and counts for nothing. Only `new` takes memory.
+#[derive(Drop)]
+pub struct Truths {
+    comparisons: Vec<Comparison>,
+    nodes: u32,
+    rows: FlatRows,
+    kept: Kept,
+    known: bool,
+}
+
+impl Model for Truths {
+    ghost use Rattle.ra_truths.specs.Truths.{TruthsSeen};
+
+    ghost Value = { TruthsSeen };
+
+    ghost use Rattle.ra_truths.specs.Seen.{truths_seen, AreTruths};
+
+    ghost view = { truths_seen };
+
+    ghost invariant = { AreTruths };
+}
+
+impl Truths {
+    /// Truths of comparisons over so many nodes. No frame was taken. Memory is the only refusal.
+    pub fn new(alloc: Global, comparisons: &Comparisons, nodes: u32) -> Result<Truths, OutOfMemory>
+        requires nodes { nodes ≤ 2 ^ 31 }
+        requires within { AreWithin nodes comparisons.now }
+        ensures { IfOk result (λ truths. truths ≡ record {
+          comparisons = comparisons.now;
+          nodes = nodes;
+          truths = replicate (length comparisons.now) false;
+          flipped = [];
+          known = false;
+        }) }
+    {
+        let comparisons = listed(alloc, comparisons)?;
+        let rows = FlatRows::of_nodes(alloc, &comparisons, nodes)?;
+        let kept = Kept::new(alloc, comparisons.len())?;
+        Ok(Truths {
+            comparisons,
+            nodes,
+            rows,
+            kept,
+            known: false,
+        })
+    }
+
+    /// How many comparisons there are.
+    pub fn len(&self) -> u32
+        ensures { result ≡ length self.now.comparisons }
+    {
+        self.comparisons.len() as u32
+    }
+
+    /// Takes up one frame: docs/DEFINITIONS.md, "Truths of comparisons".
+    ///
+    /// The table was sampled, and has the nodes of the comparisons. From the second frame on it lists each
+    /// node whose value is another than at the last frame that was taken. Each truth is then that of its
+    /// comparison by the values of the table, and exactly those that flipped are listed.
+    pub fn take(&mut self, table: &Table)
+        requires nodes { length table.now.nodes ≡ self.old.nodes }
+        requires over { AreOver table.now.nodes self.old.comparisons }
+        requires sampled { table.now.sampled ≡ true }
+        requires told { self.old.known ≡ true → IsTold self.old.comparisons self.old.truths table.now }
+        ensures { Takes self.old self.new table.now }
+    {
+        self.kept.clear();
+        if self.known && table.changed().len() <= self.nodes as usize / SHARE {
+            settle_changed(&mut self.kept, &self.comparisons, &self.rows, table);
+        } else {
+            settle_all(&mut self.kept, &self.comparisons, table);
+        }
+        self.known = true;
+    }
+
+    /// Whether the comparison of a number holds, by the values of the frame that was taken last.
+    pub fn truth(&self, number: u32) -> bool
+        requires number { number < length self.now.comparisons }
+        requires known { self.now.known ≡ true }
+        ensures { result ≡ slice_index_or self.now.truths number false }
+    {
+        self.kept.truth(number)
+    }
+
+    /// The numbers of the comparisons that flipped at the frame that was taken last.
+    ///
+    /// At the first frame these are those that hold.
+    pub fn flipped(&self) -> &[u32]
+        ensures numbers { result.now ≡ self.now.flipped }
+        ensures few { length result.now ≤ length self.now.comparisons }
+    {
+        self.kept.flipped()
+    }
+}
+
+// The comparisons in the order of their numbers.
+fn listed(alloc: Global, comparisons: &Comparisons) -> Result<Vec<Comparison>, OutOfMemory>
+    ensures comparisons { IfOk result (λ list. list.items ≡ comparisons.now) }
+    ensures most { length comparisons.now ≤ 2 ^ 30 }
+{
+    let mut list = Vec::new(alloc);
+    for number in 0..comparisons.len() {
+        list.push(comparisons.comparison(number))?;
+    }
+    Ok(list)
+}
+
+// Computes the truths of all comparisons.
+fn settle_all(kept: &mut Kept, comparisons: &[Comparison], table: &Table)
+    requires few { length comparisons.now ≤ 2 ^ 30 }
+    requires over { AreOver table.now.nodes comparisons.now }
+    requires sampled { table.now.sampled ≡ true }
+    requires long { length kept.old.truths ≡ length comparisons.now }
+    requires none { kept.old.flipped ≡ [] }
+    ensures settled { kept.new.truths ≡ truths_by table.now.values comparisons.now }
+    ensures settles { Settles (truths_by table.now.values comparisons.now) kept.old kept.new }
+{
+    for number in 0..comparisons.len() {
+        settle(kept, comparisons, table, number as u32);
+    }
+}
+
+// Computes the truths of the comparisons that have a node which changed.
+fn settle_changed(kept: &mut Kept, comparisons: &[Comparison], rows: &FlatRows, table: &Table)
+    requires over { AreOver table.now.nodes comparisons.now }
+    requires sampled { table.now.sampled ≡ true }
+    requires uses { AreUses comparisons.now (length table.now.nodes) rows.now }
+    requires long { length kept.old.truths ≡ length comparisons.now }
+    requires none { kept.old.flipped ≡ [] }
+    requires told { IsTold comparisons.now kept.old.truths table.now }
+    ensures settled { kept.new.truths ≡ truths_by table.now.values comparisons.now }
+    ensures settles { Settles (truths_by table.now.values comparisons.now) kept.old kept.new }
+{
+    for node in table.changed() {
+        for number in rows.row(*node as usize) {
+            settle(kept, comparisons, table, *number);
+        }
+    }
+}
+
+// Computes the truth of a comparison, which is listed where it flipped.
+fn settle(kept: &mut Kept, comparisons: &[Comparison], table: &Table, number: u32)
+    requires number { number < length comparisons.now }
+    requires over { IsOver table.now.nodes (comparison_at comparisons.now number) }
+    requires sampled { table.now.sampled ≡ true }
+    requires long { length kept.old.truths ≡ length comparisons.now }
+    requires room { slice_index_or kept.old.truths number false
+        ≢ holds_by table.now.values (comparison_at comparisons.now number)
+        → length kept.old.flipped < length kept.old.truths }
+    ensures { kept.new ≡ put_in kept.old number (holds_by table.now.values (comparison_at comparisons.now number)) }
+{
+    let comparison = comparisons[number as usize];
+    let left = table.value(comparison.left);
+    let right = table.value(comparison.right);
+    kept.put(number, compare(comparison.op, left, right));
+}
