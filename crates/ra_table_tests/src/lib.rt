@@ -1,4 +1,4 @@
-//! Tests of what stands below a frame: images, lists, pools, reference tables, and who reads their nodes.
+//! Tests of what stands below a frame: images, lists, pools, reference tables, truths of comparisons, and who reads nodes.
 //!
 //! They stand apart so that the crates that they show are not proved once more with them.
 #![tactic(auto)]
@@ -11,5 +11,7 @@ mod lists;
 mod pools;
 #[cfg(test)]
 mod tables;
+#[cfg(test)]
+mod truths;
 #[cfg(test)]
 mod wakings;

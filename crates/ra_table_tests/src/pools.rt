@@ -9,7 +9,8 @@ use ra_text::OutOfMemory;
 use std::alloc::Global;
 use std::test::Fail;
 
-fn is_valued(pool: &Pool, number: u32) -> bool
+/// Whether a node is there, and has a value.
+pub(crate) fn is_valued(pool: &Pool, number: u32) -> bool
     ensures within { IsTrue result → number < length pool.now }
     ensures valued { IsTrue result → IsValued (node_at pool.now number) }
 {
