@@ -1,0 +1,14 @@
+use Rattle.std.proofs.Common.{arith}
+use Rattle.std.proofs.lemmas.List.{get_or_default}
+use Rattle.ra_condition.specs.Contents.{no_condition}
+use Rattle.ra_notices.proofs.KeyLemmas.{noted_more}
+use Rattle.ra_notices.proofs.twice.twice_in.Goals as goal
+
+pub loop-condition-preserved : goal.loop-condition-preserved
+loop-condition-preserved c =
+    let cs = c.args.conditions.now in
+    let place = c.loop-condition.condition-index in
+    let condition = get_or_default cs place _ no_condition (omega arith) in
+    noted_more cs place _ c.loop-condition.twice.items c.push.new.self.items c.loop-condition.seen c.note.new.seen
+    c.loop-condition.chained c.combines-chained.result c.is_lone.result c.in_ok-again.again condition c.loop-condition.invariant c.is_lone.ensures
+    c.in_ok-again.ensures.again c.in_ok-again.ensures.noted c.in_ok-push.ensures.items c.combines-chained.ensures
