@@ -1,0 +1,17 @@
+//! Reviews of sets: what is refused, line by line, and what is accepted but looks like a slip.
+#![tactic(auto)]
+
+mod display;
+mod entries;
+mod firsts;
+mod formats;
+mod front;
+mod macros;
+mod report;
+mod reviewed;
+mod script;
+mod shown;
+mod whole;
+
+pub use reviewed::Reviewed;
+pub use whole::review;
