@@ -4,7 +4,8 @@
 # A program of its own is made in a copy of the crates below it, proved and built there. Instructions are the difference of a run
 # of 41 looks and one of 1, by 40 and by the cells, of which equal ones are one; nothing changes between looks, so each reads every
 # cell once. Bytes are all
-# that a run without an image takes from the system, for a table made for looks and for one that is told of writes.
+# that a run without an image takes from the system, for a table made for looks and for one that is told of writes; and all that
+# the test of a course for looks over 128 MiB takes, where the gate or `rt test` left the tests of ra_runtime_tests built.
 set -eu
 . "$(dirname "$0")/player.sh"
 need valgrind python3
@@ -295,3 +296,9 @@ echo "|---|---|---|"
 for bytes in 2048 65536 134217728; do
     echo "| $bytes | $(taken 1000 $bytes 0) | $(taken 1000 $bytes 1) |"
 done
+tests=$here/crates/ra_runtime_tests/out/ra_runtime_tests_tests
+if [ -x "$tests" ]; then
+    echo
+    bytes=$(valgrind "$tests" courses::banks_have_the_greatest_size 2>&1 | awk '/total heap usage/ { print $(NF - 2) }')
+    echo "a course for looks over 128 MiB in 2,048 banks, which take 98,304 bytes, with them: $bytes bytes"
+fi
