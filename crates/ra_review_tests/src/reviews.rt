@@ -42,7 +42,7 @@ fn reviews_as_worked(rt: HostRuntime) {
 }
 
 // The ends of lines, and places in them.
-const ENDS: [(&[u8], &[u8]); 7] = [
+const ENDS: [(&[u8], &[u8]); 8] = [
     (b"", b"reviewed lines 0 refused 0 notices 0\n"),
     (b"A 1 0=2\r\n#\r", b"reviewed lines 2 refused 0 notices 0\n"),
     (
@@ -62,6 +62,10 @@ const ENDS: [(&[u8], &[u8]); 7] = [
         b"line 1 column 7 refused\nL 5 A\n     ^\nreviewed lines 1 refused 1 notices 0\n",
     ),
     (
+        b"A 1\t0=1\n",
+        b"line 1 column 4 refused\nA 1.0=1\n   ^\nreviewed lines 1 refused 1 notices 0\n",
+    ),
+    (
         b"\xff\n",
         b"line 1 column 1 refused\n.\n^\nreviewed lines 1 refused 1 notices 0\n",
     ),
@@ -70,6 +74,33 @@ const ENDS: [(&[u8], &[u8]); 7] = [
 #[test]
 fn tells_places_at_ends(rt: HostRuntime) {
     for (file, text) in ENDS {
+        assert!(rt; prints(&rt, file, text), "a file of {}", file.len());
+    }
+}
+
+// Notices on the triggers of a leaderboard, and what lies next to a notice without being one.
+const EDGES: [(&[u8], &[u8]); 4] = [
+    (
+        b"L 6 VALUE STA:0=1::CAN:R:1=1::SUB:0xH0010=0x05_0xH0010=0x05_A:1::VAL:0\n",
+        b"notice L 6 CAN 0.0 resets-always\nnotice L 6 SUB 0.0 memory-right\nnotice L 6 SUB 0.1 twice\nnotice L 6 SUB 0.1 memory-right\nnotice L 6 SUB 0.2 open-chain\nreviewed lines 1 refused 0 notices 5\n",
+    ),
+    (
+        b"A 1 0xH0010=0x100\nA 2 0x05=0x05\nA 3 0=0xff\nA 4 d0x05=0x05\n",
+        b"notice A 3 0.0 memory-right\nreviewed lines 4 refused 0 notices 1\n",
+    ),
+    (
+        b"A 1 0=0SR:1=1_P:0xH0001=1S0=0\n",
+        b"notice A 1 1.0 resets-always\nreviewed lines 1 refused 0 notices 1\n",
+    ),
+    (
+        b"A 2 0=0SR:1=1S0=0\n",
+        b"notice A 2 1.0 resets-always\nnotice A 2 no-unlock\nreviewed lines 1 refused 0 notices 2\n",
+    ),
+];
+
+#[test]
+fn gives_notices_at_their_edges(rt: HostRuntime) {
+    for (file, text) in EDGES {
         assert!(rt; prints(&rt, file, text), "a file of {}", file.len());
     }
 }
