@@ -1,15 +1,15 @@
 -- How far a line goes as one of the display.
-use Rattle.std.proofs.Common.{◌≡◌, ◌∙◌, ◌⊎◌, inl, inr, ℕ, suc, ◌+◌, ◌-◌, ◌<◌, ◌≤◌, ◌==◌, Bool, true, false, if◌then◌else◌, List, [], ◌∷◌, ◌++◌, length, take, drop, Option, Some, None, option_map, Result, Ok, Err, refl, sym, ap, subst, arith, codes, append-nil, append_assoc, length-append, eqb-true, take_at, take-append-drop, length-take}
+use Rattle.std.proofs.Common.{◌≡◌, ◌∙◌, ◌⊎◌, inl, inr, ℕ, ◌-◌, ◌<◌, ◌≤◌, ◌==◌, Bool, true, false, if◌then◌else◌, List, [], ◌∷◌, ◌++◌, length, take, drop, Option, Some, None, option_map, Result, Ok, Err, refl, sym, ap, subst, arith, codes, append-nil, append_assoc, length-append, eqb-true, take_at, take-append-drop, length-take}
 use Rattle.ra_condition.specs.declared.fault.Fault.{Fault}
 use Rattle.ra_condition.specs.declared.fault.Fault.TheVariants.{Stop, Memory}
 use Rattle.ra_condition.specs.Contents.{TriggerContents, trigger_contents}
 use Rattle.ra_richpresence.specs.Contents.{PieceContents, Bytes, LineContents}
-use Rattle.ra_richpresence.specs.Grammar.{many, shown_character, macro, to_line_end, pieces, joined_texts, test, tested_line, untested_line, last_line}
+use Rattle.ra_richpresence.specs.Grammar.{many, shown_character, macro, to_line_end, pieces, joined_texts, test}
 use Rattle.ra_richpresence.specs.Reading.{all_at, character_at, character_of, piece_at, macro_at, shown_character_of, test_at, pieces_of, last_line_of, untested_with}
 use Rattle.ra_richpresence.proofs.Exact.{Closed, exact-all}
 use Rattle.ra_richpresence.proofs.LineForms.{exact-last_line}
 use Rattle.ra_richpresence.proofs.Parts.{closed-macro, closed-test, reads-macro, reads-test}
-use Rattle.ra_richpresence.proofs.Texts.{cuts-piece, exact-pieces, piece-next, reads-piece, smaller-piece}
+use Rattle.ra_richpresence.proofs.Texts.{cuts-piece, piece-next, reads-piece, smaller-piece}
 use Rattle.ra_condition.specs.declared.trigger_text.TriggerText.{TriggerText}
 use Rattle.ra_condition.specs.Fault.{GivesUnlessFull}
 use Rattle.ra_set.proofs.FileLemmas.{fronts-along}

@@ -1,5 +1,5 @@
 -- Format names in lines, and which are known.
-use Rattle.std.proofs.Common.{◌≡◌, ◌∙◌, ℕ, suc, ◌-◌, ◌<◌, ◌≤◌, ◌==◌, Bool, true, false, not, cond, if◌then◌else◌, List, [], ◌∷◌, length, take, drop, Option, None, Some, is_some, bytes_eq, refl, sym, ap, arith, le_refl, take_all}
+use Rattle.std.proofs.Common.{◌≡◌, ◌∙◌, ℕ, suc, ◌-◌, ◌<◌, ◌≤◌, ◌==◌, Bool, true, false, not, if◌then◌else◌, List, [], ◌∷◌, length, take, drop, Some, is_some, bytes_eq, refl, sym, ap, arith, le_refl, take_all}
 use Rattle.ra_value_format.specs.declared.format.Format.{Format}
 use Rattle.ra_value_format.specs.Formats.{entry_of, named_format, format_names, format_of_name}
 use Rattle.ra_review.specs.Lines.{before_space, behind_space}

@@ -1,11 +1,11 @@
 -- The lines of a file before its script, judged one after the other.
-use Rattle.std.proofs.Common.{◌≡◌, ◌∙◌, ℕ, suc, ◌+◌, ◌-◌, ◌==◌, Bool, true, false, if◌then◌else◌, List, [], ◌∷◌, ◌++◌, length, take, Option, None, Some, option_map, refl, sym, ap, subst, arith, append-nil, append_assoc, length-append, take_at, eqb-true}
+use Rattle.std.proofs.Common.{◌≡◌, ◌∙◌, ℕ, suc, ◌+◌, ◌-◌, ◌==◌, Bool, true, false, if◌then◌else◌, List, [], ◌∷◌, ◌++◌, length, take, None, Some, refl, sym, ap, subst, arith, append_assoc, length-append, take_at, eqb-true}
 use Rattle.ra_richpresence.specs.Cut.{begun, content_of, lines_of}
 use Rattle.ra_richpresence.specs.Placed.{SplitsLine}
 use Rattle.ra_set.specs.Alone.{IsOneLine}
 use Rattle.ra_set.specs.Grammar.{Line}
 use Rattle.ra_review.specs.declared.report.Report.{Report}
-use Rattle.ra_review.specs.Lines.{Verdict, opens_script, front_lines, script_lines, row_of, Findings, nothing, then_more, line_findings, FindsIn}
+use Rattle.ra_review.specs.Lines.{opens_script, front_lines, script_lines, row_of, Findings, nothing, then_more, line_findings, FindsIn}
 use Rattle.ra_review.specs.Reporting.{Reports, AddsLine, ReportsFront}
 use Rattle.ra_review.proofs.ReportLemmas.{then_nothing}
 

@@ -1,8 +1,11 @@
+pub mod AcceptedFiles
 pub mod DisplayLemmas
 pub mod FormatLemmas
 pub mod FrontLemmas
+pub mod LineAlone
 pub mod MacroLemmas
 pub mod ReportLemmas
 pub mod ReviewLemmas
+pub mod ReviewedSets
 pub mod TextLemmas
 pub mod WalkLemmas

@@ -1,5 +1,5 @@
 -- Notices on the macros of a display, line by line.
-use Rattle.std.proofs.Common.{◌≡◌, ◌∙◌, ℕ, zero, suc, ◌+◌, ◌<◌, ◌≤◌, ◌==◌, Bool, true, false, not, ◌||◌, if◌then◌else◌, List, [], ◌∷◌, ◌++◌, length, map, take, drop, get_or, refl, sym, ap, subst, arith, codes, bytes_eq, append-nil, append_assoc, eqb-true}
+use Rattle.std.proofs.Common.{◌≡◌, ◌∙◌, ℕ, suc, ◌+◌, ◌<◌, ◌≤◌, ◌==◌, Bool, true, false, not, if◌then◌else◌, List, [], ◌∷◌, ◌++◌, length, map, take, drop, get_or, refl, sym, ap, subst, arith, codes, bytes_eq, append-nil, append_assoc, eqb-true}
 use Rattle.std.specs.List.{flat_map}
 use Rattle.std.proofs.Math.ListN.{drop_of_length-le}
 use Rattle.std.proofs.lemmas.List.{drop_more, get_or-map}
@@ -7,7 +7,7 @@ use Rattle.ra_richpresence.specs.declared.line.Line.{Line}
 use Rattle.ra_richpresence.specs.declared.piece.Piece.{Piece}
 use Rattle.ra_richpresence.specs.declared.script.Script.{Script}
 use Rattle.ra_richpresence.specs.Contents.{LineContents, line_contents, piece_contents, PieceContents, ScriptContents, script_contents}
-use Rattle.ra_richpresence.specs.Cut.{content_of, contents_of, is_nothing, left_of, lines_of}
+use Rattle.ra_richpresence.specs.Cut.{content_of, contents_of, is_nothing, left_of}
 use Rattle.ra_richpresence.specs.Lines.{no_line}
 use Rattle.ra_richpresence.specs.Placed.{SplitsLine}
 use Rattle.ra_member.proofs.GrowthLemmas.{taken_next}

@@ -1,6 +1,5 @@
 -- What a review keeps of the lines so far, and of one more.
 use Rattle.std.proofs.Common.{◌≡◌, ◌∙◌, ℕ, suc, ◌+◌, ◌≤◌, ◌==◌, sum_by, Bool, true, false, if◌then◌else◌, List, [], ◌∷◌, ◌++◌, length, map, Option, None, Some, refl, sym, ap, subst, arith, append-nil, length-append, eqb-true, Result, Ok, Err, OnOk}
-use Rattle.std.proofs.lemmas.List.{map-append}
 use Rattle.std.proofs.lemmas.List.Sums.{sum_by_push}
 use Rattle.ra_text.specs.declared.refusals.OutOfMemory.{OutOfMemory}
 use Rattle.ra_richpresence.specs.Cut.{content_of}

@@ -1,25 +1,24 @@
 -- A review of a whole file.
-use Rattle.std.proofs.Common.{◌≡◌, ◌∙◌, ℕ, zero, suc, ◌+◌, ◌*◌, ◌<◌, ◌≤◌, ◌==◌, Bool, true, false, if◌then◌else◌, List, [], ◌∷◌, ◌++◌, length, map, sum_by, Option, None, Some, option_map, refl, sym, ap, ap₂, subst, arith, append-nil, append_assoc, length-append}
+use Rattle.std.proofs.Common.{◌≡◌, ◌∙◌, ℕ, zero, suc, ◌+◌, ◌*◌, ◌<◌, ◌≤◌, ◌==◌, Bool, true, false, if◌then◌else◌, List, [], ◌∷◌, ◌++◌, length, map, sum_by, Option, None, Some, refl, sym, ap, subst, arith, append-nil, length-append}
 use Rattle.std.specs.List.{flat_map}
 use Rattle.ra_richpresence.specs.Cut.{begun, content_of, lines_of}
-use Rattle.ra_richpresence.specs.Grammar.{ScriptParts, script_of, script_parts}
+use Rattle.ra_richpresence.specs.Grammar.{ScriptParts, script_parts}
 use Rattle.ra_richpresence.specs.Contents.{script_contents}
 use Rattle.ra_richpresence.specs.Texts.{IsRead}
 use Rattle.ra_richpresence.specs.declared.read.ReadScript.{ReadScript}
 use Rattle.ra_richpresence.proofs.Fronts.{lines-whole}
 use Rattle.ra_set.specs.Contents.{ItemContents, item_contents}
-use Rattle.ra_set.specs.Limits.{item_conditions, script_conditions}
-use Rattle.ra_set.specs.ScriptLimits.{IsReadOf, read_conditions}
-use Rattle.ra_set.specs.declared.refused.SetRefused.{SetRefused}
+use Rattle.ra_set.specs.Limits.{item_conditions}
+use Rattle.ra_set.specs.ScriptLimits.{IsReadOf}
 use Rattle.ra_set.proofs.ScriptCounts.{script-conditions}
 use Rattle.ra_review.specs.declared.entries.Entries.{Entries}
 use Rattle.ra_review.specs.declared.report.Report.{Report}
 use Rattle.ra_review.specs.declared.reviewed.Reviewed.{Reviewed}
 use Rattle.ra_review.specs.Judging.{RefusesScript}
-use Rattle.ra_review.specs.Lines.{Findings, FindsIn, front_lines, opens_script, script_lines}
-use Rattle.ra_review.specs.Reporting.{AreEntries, Judges, Reports, ReportsFront, ReviewsScript, said_by}
+use Rattle.ra_review.specs.Lines.{front_lines, opens_script, script_lines}
+use Rattle.ra_review.specs.Reporting.{AreEntries, Judges, ReportsFront, ReviewsScript, said_by}
 use Rattle.ra_review.specs.Reviews.{IsLimit, IsReviewOf, limit_text}
-use Rattle.ra_review.specs.Scripts.{ScriptVerdict, Missing, Whole, BadAt, IsBadLine, IsScriptVerdict, display_numbers, macro_notices, script_refusals, script_notices, parts_in}
+use Rattle.ra_review.specs.Scripts.{Missing, Whole, BadAt, IsBadLine, IsScriptVerdict, display_numbers, macro_notices, script_refusals, script_notices, parts_in}
 use Rattle.ra_review.specs.Shown.{last_line}
 
 -- ---- a script

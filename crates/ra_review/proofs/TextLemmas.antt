@@ -1,9 +1,8 @@
 -- Words and numbers, put at the end of a text.
-use Rattle.std.proofs.Common.{◌≡◌, ◌∙◌, ℕ, ◌-◌, min, Bool, ◌||◌, List, [], ◌∷◌, ◌++◌, length, map, take, drop, replicate, ap, ap₂, refl, sym, arith, append_assoc, length-take}
+use Rattle.std.proofs.Common.{◌≡◌, ◌∙◌, ℕ, ◌-◌, min, List, ◌++◌, length, map, take, drop, replicate, ap, arith, append_assoc, length-take}
 use Rattle.std.proofs.Math.Seq.{take-length}
-use Rattle.std.specs.List.{list_any}
-use Rattle.std.proofs.lemmas.List.{drop_min, length-map, take_min}
-use Rattle.ra_review.specs.Shown.{shown, shown_at, shown_byte, blanks_at}
+use Rattle.std.proofs.lemmas.List.{length-map, take_min}
+use Rattle.ra_review.specs.Shown.{shown, shown_byte, blanks_at}
 
 -- three words with a number each, and an end
 pub three_numbers : (out w a x b y c last : List ℕ) → (((((((out ++ w) ++ a) ++ x) ++ b) ++ y) ++ c) ++ last) ≡ out ++ ((((((w ++ a) ++ x) ++ b) ++ y) ++ c) ++ last)

@@ -1,5 +1,5 @@
 -- Lines of a script that are gone over, and where its first bad line stands.
-use Rattle.std.proofs.Common.{◌≡◌, ◌∙◌, ℕ, zero, suc, ◌+◌, ◌-◌, ◌<◌, ◌≤◌, ◌==◌, Bool, true, false, ◌&&◌, if◌then◌else◌, List, [], ◌∷◌, ◌++◌, length, map, take, drop, get_or, refl, sym, ap, ap₂, subst, arith, codes, bytes_eq, append-nil, append_assoc, length-append, length-take, eqb-true}
+use Rattle.std.proofs.Common.{◌≡◌, ◌∙◌, ℕ, zero, suc, ◌+◌, ◌≤◌, ◌==◌, Bool, true, false, ◌&&◌, if◌then◌else◌, List, [], ◌∷◌, ◌++◌, length, map, take, drop, get_or, refl, sym, ap, subst, arith, codes, bytes_eq, append-nil, length-append, length-take, eqb-true}
 use Rattle.std.specs.List.{flat_map}
 use Rattle.std.proofs.lemmas.List.{take-map}
 use Rattle.ra_text.specs.Reading.{begins}
@@ -63,11 +63,11 @@ walk_ends text rest walked none h = record {
 -- ---- where a line starts
 
 -- a text begins with its first line, behind which others stand as they do
-record FirstOf (text l : List ℕ) (ls : List (List ℕ)) : Type 0 where
-  behind : List ℕ
-  parts : text ≡ l ++ behind
-  others : lines_of behind ≡ ls
-  again : (t : List ℕ) → (ls ≡ [] → ⊥) → lines_of (l ++ t) ≡ l ∷ lines_of t
+pub record FirstOf (text l : List ℕ) (ls : List (List ℕ)) : Type 0 where
+  pub behind : List ℕ
+  pub parts : text ≡ l ++ behind
+  pub others : lines_of behind ≡ ls
+  pub again : (t : List ℕ) → (ls ≡ [] → ⊥) → lines_of (l ++ t) ≡ l ∷ lines_of t
 
 some_lines : (c : ℕ) (text : List ℕ) → lines_of (c ∷ text) ≡ [] → ⊥
 some_lines c text e = by_feed (c == 10) (lines_of text) e
@@ -77,11 +77,11 @@ some_lines c text e = by_feed (c == 10) (lines_of text) e
     by_feed false [] e = cc e
     by_feed false (m ∷ ms) e = cc e
 
-no_lines : (text : List ℕ) → lines_of text ≡ [] → text ≡ []
+pub no_lines : (text : List ℕ) → lines_of text ≡ [] → text ≡ []
 no_lines [] e = refl
 no_lines (c ∷ text) e = absurd (some_lines c text e)
 
-first_of : (text l : List ℕ) (ls : List (List ℕ)) → lines_of text ≡ l ∷ ls → FirstOf text l ls
+pub first_of : (text l : List ℕ) (ls : List (List ℕ)) → lines_of text ≡ l ∷ ls → FirstOf text l ls
 first_of [] l ls e = absurd (cc e)
 first_of (c ∷ text) l ls e = by_feed (c == 10) refl e (lines_of text) refl (first_of text)
   where

@@ -1,5 +1,5 @@
 -- The review of a file: docs/DEFINITIONS.md, "Review of a set".
-use Rattle.std.specs.Prelude.{◌≡◌, ℕ, zero, suc, ◌+◌, ◌<◌, ◌≤◌, List, [], ◌∷◌, ◌++◌, length, Option, None, Some, codes}
+use Rattle.std.specs.Prelude.{◌≡◌, ℕ, zero, suc, ◌<◌, ◌≤◌, List, [], ◌++◌, length, Option, None, Some, codes}
 use Rattle.std.specs.List.{flat_map}
 use Rattle.ra_richpresence.specs.Cut.{lines_of}
 use Rattle.ra_richpresence.specs.Grammar.{ScriptParts}
@@ -52,7 +52,7 @@ pub record IsReviewOf (file : List ℕ) (said : Said) : Type 0 where
       ≡ flat_map (λ line. line) refusals ++ flat_map (λ line. line) notices ++ limit_text said.limit
       ++ last_line (length (lines_of file)) (length refusals) (length notices)
 
--- what a review says of a file of so many bytes, which are too many
+-- what a review says of a file of this many bytes, which are too many
 pub record SaysTooLong (bytes : ℕ) (said : Said) : Type 0 where
   pub refused : said.refused ≡ 0
   pub limit : said.limit ≡ Some (Limit Bytes bytes)

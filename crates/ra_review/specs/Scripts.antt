@@ -1,5 +1,5 @@
 -- The script of a file as a review judges it: docs/DEFINITIONS.md, "Review of a set".
-use Rattle.std.specs.Prelude.{◌≡◌, ◌⊎◌, ℕ, suc, ◌+◌, ◌<◌, ◌==◌, ◌&&◌, ◌||◌, not, Bool, true, false, if◌then◌else◌, List, [], ◌∷◌, ◌++◌, length, take, map, Option, None, Some, codes, bytes_eq, slice_index_or}
+use Rattle.std.specs.Prelude.{◌≡◌, ◌⊎◌, ℕ, suc, ◌+◌, ◌&&◌, Bool, true, false, if◌then◌else◌, List, [], ◌∷◌, ◌++◌, take, map, Option, None, Some, codes, bytes_eq, slice_index_or}
 use Rattle.std.specs.List.{flat_map}
 use Rattle.ra_text.specs.Form.{Form}
 use Rattle.ra_text.specs.Place.{IsBadPlace}
@@ -7,12 +7,11 @@ use Rattle.ra_text.specs.Reading.{begins}
 use Rattle.ra_text.specs.Table.{is_in, only}
 use Rattle.ra_richpresence.specs.declared.meaning.Meaning.{Meaning}
 use Rattle.ra_richpresence.specs.declared.meaning.Meaning.TheVariants as shows
-use Rattle.ra_richpresence.specs.Contents.{LineContents, LookupContents, PieceContents, Bytes, Shows, ScriptContents}
-use Rattle.ra_richpresence.specs.Cut.{content_of, contents_of, is_nothing, left_of, lines_of}
+use Rattle.ra_richpresence.specs.Contents.{LineContents, PieceContents, Bytes, Shows, ScriptContents}
+use Rattle.ra_richpresence.specs.Cut.{content_of, contents_of, is_nothing, left_of}
 use Rattle.ra_richpresence.specs.Grammar.{ScriptParts, script_parts, script_of, tested_line, last_line}
 use Rattle.ra_richpresence.specs.Meanings.{meaning_of}
 use Rattle.ra_richpresence.specs.Places.{IsOutside}
-use Rattle.ra_value_format.specs.declared.format.Format.{Format}
 use Rattle.ra_review.specs.Shown.{refusal, macro_line}
 
 -- ---- where a script is refused

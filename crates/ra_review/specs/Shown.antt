@@ -1,5 +1,5 @@
 -- The lines of a review: docs/DEFINITIONS.md, "Review of a set".
-use Rattle.std.specs.Prelude.{ℕ, suc, ◌-◌, ◌&&◌, nat_le, Bool, true, false, if◌then◌else◌, List, [], ◌∷◌, ◌++◌, length, take, drop, map, replicate, codes, decimal}
+use Rattle.std.specs.Prelude.{ℕ, suc, ◌-◌, ◌&&◌, nat_le, Bool, true, false, if◌then◌else◌, List, [], ◌++◌, length, take, drop, map, replicate, codes, decimal}
 use Rattle.ra_lint.specs.declared.warning.Place.{Place}
 use Rattle.ra_lint.specs.declared.warning.Place.TheVariants.{Trigger, Start, Cancel, Submit}
 use Rattle.ra_set.specs.Contents.{ItemContents, Unlocks, Ranks}

@@ -6,6 +6,7 @@ mod entries;
 mod firsts;
 mod formats;
 mod front;
+mod laws;
 mod macros;
 mod report;
 mod reviewed;
@@ -13,5 +14,6 @@ mod script;
 mod shown;
 mod whole;
 
+pub use laws::sets_are_not_refused;
 pub use reviewed::Reviewed;
 pub use whole::review;

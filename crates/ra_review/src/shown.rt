@@ -47,7 +47,7 @@ fn put_place(out: &mut Vec<u8>, place: usize, line: &[u8]) -> Result<(), OutOfMe
     Ok(())
 }
 
-// Puts so many blanks.
+// Puts as many blanks.
 fn put_blanks(out: &mut Vec<u8>, count: usize) -> Result<(), OutOfMemory>
     requires { count ≤ 120 }
     ensures { OnOk result (out.new.items ≡ out.old.items ++ replicate count 32) }

@@ -125,7 +125,7 @@ fn review_script(
     }
 }
 
-// Ends a review, where the script has so many lines.
+// Ends a review, where the script has this many lines.
 fn finish(
     alloc: Global,
     report: &Report,

@@ -7,11 +7,11 @@ use Rattle.ra_richpresence.proofs.Cuts.{no_feed-cons, cons-no_feed, left-is_left
 
 -- ---- the first line
 
-lines-feed : (line text : List ℕ) → has_no_feed line ≡ true → lines_of (line ++ 10 ∷ text) ≡ (line ++ 10 ∷ []) ∷ lines_of text
+pub lines-feed : (line text : List ℕ) → has_no_feed line ≡ true → lines_of (line ++ 10 ∷ text) ≡ (line ++ 10 ∷ []) ∷ lines_of text
 lines-feed [] text clear = refl
 lines-feed (c ∷ line) text clear = rw (no_feed-cons c line clear).0 (ap (begun c) (lines-feed line text (no_feed-cons c line clear).1))
 
-lines-alone : (c : ℕ) (line : List ℕ) → has_no_feed (c ∷ line) ≡ true → lines_of (c ∷ line) ≡ (c ∷ line) ∷ []
+pub lines-alone : (c : ℕ) (line : List ℕ) → has_no_feed (c ∷ line) ≡ true → lines_of (c ∷ line) ≡ (c ∷ line) ∷ []
 lines-alone c [] clear = rw (no_feed-cons c [] clear).0 refl
 lines-alone c (d ∷ line) clear = rw (no_feed-cons c (d ∷ line) clear).0 (ap (begun c) (lines-alone d line (no_feed-cons c (d ∷ line) clear).1))
 

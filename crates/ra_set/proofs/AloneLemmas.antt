@@ -45,7 +45,7 @@ begun-one c (l ∷ ls) text some e =
     cc (same, none)
 
 -- nothing stands behind the LF of one line
-feed-last : (front rest : List ℕ) → lines_of (front ++ 10 ∷ rest) ≡ (front ++ 10 ∷ rest) ∷ [] → rest ≡ []
+pub feed-last : (front rest : List ℕ) → lines_of (front ++ 10 ∷ rest) ≡ (front ++ 10 ∷ rest) ∷ [] → rest ≡ []
 feed-last [] rest e =
     let one : 10 ∷ [] ≡ 10 ∷ rest = cc e in
     let none : [] ≡ rest = cc one in

@@ -1,6 +1,6 @@
 use Rattle.std.proofs.Common.{◌∙◌, ◌∷◌, ◌++◌, [], ap, ap₂, codes, drop, min, replicate}
 use Rattle.std.proofs.lemmas.List.{drop_min}
-use Rattle.ra_review.specs.Shown.{shown, shown_at, blanks_at}
+use Rattle.ra_review.specs.Shown.{shown}
 use Rattle.ra_review.proofs.TextLemmas.{blanks_before}
 use Rattle.ra_review.proofs.shown.put_place.Goals as goal
 
