@@ -2,13 +2,13 @@
 use Rattle.std.proofs.Common.{◌≡◌, ℕ, suc, zero, ◌+◌, ◌<◌, ◌≤◌, ◌^◌, false, true, is_some, Option, None, Some, List, [], ◌∷◌, ◌++◌, length, map, sum, sum_by, refl, sym, ◌∙◌, ap, ap₂, arith}
 use Rattle.std.specs.List.{filter_map, flat_map}
 use Rattle.std.proofs.lemmas.List.Elements.{filter_map-append}
-use Rattle.std.proofs.lemmas.List.Sums.{sum_by-cons, sum_by-append, sum_by-le-sum_by, sum-map, sum_by_push}
+use Rattle.std.proofs.lemmas.List.Sums.{sum_by-cons, sum_by_push}
 use Rattle.ra_condition.specs.declared.condition.Condition.{Condition}
 use Rattle.ra_condition.specs.Contents.{TriggerContents, groups_of}
 use Rattle.ra_indirect.specs.declared.node.Node.{Node}
 use Rattle.ra_indirect.specs.Interned.{IsPool}
 use Rattle.ra_chain.specs.Occurrence.{trees_in_group, trees_in_trigger, trees_in_value}
-use Rattle.ra_richpresence.specs.Contents.{PieceContents, Bytes, Shows, LineContents, value_in, values_in_line}
+use Rattle.ra_richpresence.specs.Contents.{PieceContents, Bytes, Shows, LineContents, value_in}
 use Rattle.ra_set.specs.Limits.{value_conditions, optional_trigger, line_conditions}
 use Rattle.ra_member.specs.declared.member.Member.{Member}
 use Rattle.ra_member.specs.declared.places.Places.{Places}

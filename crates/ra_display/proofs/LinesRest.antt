@@ -1,5 +1,5 @@
 -- A line that rested at a frame goes on to rest while it sees the same.
-use Rattle.std.proofs.Common.{false, ◌≡◌, ℕ, ◌+◌, ◌-◌, ◌≤◌, Bool, List, [], ◌∷◌, slice_index, sym, ◌∙◌, ap, subst, arith}
+use Rattle.std.proofs.Common.{true, ◌≡◌, ℕ, ◌+◌, Bool, Option, None, Some, List, [], ◌∷◌, slice_index, refl, sym, ◌∙◌, ap, subst}
 use Rattle.ra_memory.specs.Image.{History}
 use Rattle.ra_memref.specs.Table.{TableSeen}
 use Rattle.ra_memref.specs.Values.{Start}
@@ -13,14 +13,21 @@ use Rattle.ra_schedule.specs.Before.{kept_before}
 use Rattle.ra_schedule.specs.Inputs.{MemberSeesSame}
 use Rattle.ra_schedule.specs.Owing.{AreHitsSmall, owed_member}
 use Rattle.ra_schedule.specs.Waking.{AreValuesAt, IsMemberTold, IsSomeFrame, first_frame}
+use Rattle.ra_schedule.specs.Schedules.{as_hits_tell}
+use Rattle.ra_schedule.proofs.MembersRest.AtMost.{member_at_most}
 use Rattle.ra_schedule.proofs.MembersRest.GoesOn.{tests_go_on, tests_say_on, values_go_on, tests_owe_nothing, values_owe_nothing}
 use Rattle.ra_schedule.proofs.MembersRest.Woken.{member_through}
 use Rattle.ra_meaning.specs.LineMembers.{line_member}
-use Rattle.ra_display.specs.LineRests.{HasLineRoom, LineGoesOn, LineKeeps, StepsLineSeen, StepsNoted}
+use Rattle.ra_display.specs.LineRests.{HasLineRoom, LineGoesOn, LineKeeps, StepsLineSeen, StepsNoted, seen_line}
 use Rattle.ra_meaning.specs.Presence.{line_holds}
 
-module _ (table : TableSeen) (line : LineContents) (seen : MemberKept) (due : Bool) (quiet : due ≡ false) (b : Before) (new : Member) (holds : Bool) (room : HasLineRoom line b)
-    (steps : StepsNoted table line seen due b new holds) (keeps : LineKeeps line (kept_before b) (kept_by new))
+-- hits tell no more than the most frames that they can count
+pub seen_as_told : (run : Member) (b : Before) (owed : Option ℕ) → seen_line run b (as_hits_tell owed) ≡ seen_line run b owed
+seen_as_told run b None = refl
+seen_as_told run b (Some n) = member_at_most n (kept_before b) (kept_by run)
+
+module _ (table : TableSeen) (line : LineContents) (seen : MemberKept) (rests : Bool) (quiet : rests ≡ true) (b : Before) (new : Member) (holds : Bool) (room : HasLineRoom line b)
+    (steps : StepsNoted table line seen rests b new holds) (keeps : LineKeeps line (kept_before b) (kept_by new))
     (start : Start) (image : List ℕ) (has : AreValuesAt table.nodes table.values (first_frame start image)) where
   abbrev m : MemberContents
   m = line_member line
@@ -96,11 +103,8 @@ module _ (table : TableSeen) (values : List ℕ) (line : LineContents) (b : Befo
         truth = λ start image seen n. on.truth start image (member_through on.now next (first_frame start image) (line_member line) first seen) n;
       }
 
-  pub skipped : (clock since : ℕ) → since ≤ clock → StepsLineSeen table line (owed_member (clock - since) (kept_before b) (kept_by run)) (owed_member (clock + 1 - since) (kept_before b) (kept_by run)) holds
-  skipped clock since early =
-      let more : clock + 1 - since ≡ (clock - since) + 1 = omega (arith, early) in
-      record {
-        kept = λ start image has.
-            ap (λ n. owed_member n (kept_before b) (kept_by run)) more ∙ sym (on.kept start image (sees start image has) (clock - since));
-        truth = λ start image has. sym (on.truth start image (sees start image has) (clock - since));
-      }
+  pub skipped : (n : ℕ) → StepsLineSeen table line (owed_member n (kept_before b) (kept_by run)) (owed_member (n + 1) (kept_before b) (kept_by run)) holds
+  skipped n = record {
+    kept = λ start image has. sym (on.kept start image (sees start image has) n);
+    truth = λ start image has. sym (on.truth start image (sees start image has) n);
+  }

@@ -1,5 +1,5 @@
 -- What a display is seen to keep, in rows that fit a progress file.
-use Rattle.std.proofs.Common.{◌≡◌, ℕ, zero, suc, ◌+◌, ◌-◌, ◌<◌, ◌≤◌, Option, None, Some, IfSome, List, [], ◌∷◌, ◌++◌, length, map, take, get_or, refl, sym, ◌∙◌, ap, ap₂, subst, arith, append-nil, length-append}
+use Rattle.std.proofs.Common.{◌≡◌, ℕ, zero, suc, ◌+◌, ◌<◌, Option, None, Some, List, [], ◌∷◌, ◌++◌, length, map, take, get_or, refl, sym, ◌∙◌, ap, ap₂, subst, arith, append-nil, length-append}
 use Rattle.std.specs.List.{concat, flat_map}
 use Rattle.std.proofs.lemmas.List.{take_more}
 use Rattle.std.proofs.lemmas.List.Concat.{concat_is, flat_map-append}
@@ -14,8 +14,9 @@ use Rattle.ra_member.proofs.SavedRows.{behind_both}
 use Rattle.ra_schedule.specs.declared.before.Before.{Before}
 use Rattle.ra_schedule.specs.Before.{HaveOneShape, kept_before}
 use Rattle.ra_schedule.proofs.MembersRest.OwedRows.{saved_owed, saved_stay}
-use Rattle.ra_display.specs.declared.line_rests.LineRest.{LineRest}
-use Rattle.ra_display.specs.LineRests.{AreLinesFitting, line_since, seen_lines}
+use Rattle.ra_schedule.specs.Schedules.{owed_at, seen_all}
+use Rattle.ra_display.specs.declared.line_rests.LineRests.{LineRests}
+use Rattle.ra_display.specs.LineRests.{AreLinesFitting, seen_line, seen_lines}
 
 -- no block is written without one
 pub no_blocks : (names : List Name) → named_blocks names [] ≡ []
@@ -39,65 +40,66 @@ pub row_of : (f : MemberKept → List ℕ) (old new : List ℕ) (kepts : List Me
 row_of f old new kepts empty put = put.all ∙ ap (λ xs. xs ++ flat_map f kepts) empty ∙ sym (rows_of f kepts)
 
 -- what a line owes changes no count
-hits_long : (clock : ℕ) (run : Member) (b : Before) (since : Option ℕ) → HaveOneShape (kept_before b) (kept_by run) → length (saved_hits (line_since clock run b since)) ≡ length (saved_hits (kept_by run))
-hits_long clock run b None shape = refl
-hits_long clock run b (Some since) shape =
-    sym (ap length (saved_owed (clock - since) (kept_before b) (kept_by run) shape)) ∙ length-paid (clock - since) (saved_hits (kept_before b)) (saved_hits (kept_by run))
+hits_long : (run : Member) (b : Before) (owed : Option ℕ) → HaveOneShape (kept_before b) (kept_by run) → length (saved_hits (seen_line run b owed)) ≡ length (saved_hits (kept_by run))
+hits_long run b None shape = refl
+hits_long run b (Some n) shape =
+    sym (ap length (saved_owed n (kept_before b) (kept_by run) shape)) ∙ length-paid n (saved_hits (kept_before b)) (saved_hits (kept_by run))
 
-numbers_same : (clock : ℕ) (run : Member) (b : Before) (since : Option ℕ) → HaveOneShape (kept_before b) (kept_by run) → saved_numbers (line_since clock run b since) ≡ saved_numbers (kept_by run)
-numbers_same clock run b None shape = refl
-numbers_same clock run b (Some since) shape = saved_stay (clock - since) (kept_before b) (kept_by run) shape
+numbers_same : (run : Member) (b : Before) (owed : Option ℕ) → HaveOneShape (kept_before b) (kept_by run) → saved_numbers (seen_line run b owed) ≡ saved_numbers (kept_by run)
+numbers_same run b None shape = refl
+numbers_same run b (Some n) shape = saved_stay n (kept_before b) (kept_by run) shape
 
 -- what lines owe changes no count
-seen_hits_long : (clock : ℕ) (runs : List Member) (rests : List LineRest) → AreLinesFitting runs rests clock → length (flat_map saved_hits (seen_lines clock runs rests)) ≡ length (flat_map saved_hits (map kept_by runs))
-seen_hits_long clock [] [] fit = refl
-seen_hits_long clock [] (rest ∷ rests) fit = absurd fit
-seen_hits_long clock (run ∷ runs) [] fit = absurd fit
-seen_hits_long clock (run ∷ runs) (rest ∷ rests) fit =
-    let one = hits_long clock run rest.before rest.since fit.0.0 in
-    let others = seen_hits_long clock runs rests fit.1 in
-    length-append (saved_hits (line_since clock run rest.before rest.since)) (flat_map saved_hits (seen_lines clock runs rests))
+seen_hits_long : (owed : ℕ → Option ℕ) (runs : List Member) (befores : List Before) → AreLinesFitting runs befores → length (flat_map saved_hits (seen_all seen_line owed runs befores)) ≡ length (flat_map saved_hits (map kept_by runs))
+seen_hits_long owed [] [] fit = refl
+seen_hits_long owed [] (b ∷ befores) fit = absurd fit
+seen_hits_long owed (run ∷ runs) [] fit = absurd fit
+seen_hits_long owed (run ∷ runs) (b ∷ befores) fit =
+    let one = hits_long run b (owed 0) fit.0 in
+    let others = seen_hits_long (λ k. owed (suc k)) runs befores fit.1 in
+    length-append (saved_hits (seen_line run b (owed 0))) (flat_map saved_hits (seen_all seen_line (λ k. owed (suc k)) runs befores))
     ∙ ap₂ (λ x y. x + y) one others
     ∙ sym (length-append (saved_hits (kept_by run)) (flat_map saved_hits (map kept_by runs)))
 
-seen_numbers_same : (clock : ℕ) (runs : List Member) (rests : List LineRest) → AreLinesFitting runs rests clock → flat_map saved_numbers (seen_lines clock runs rests) ≡ flat_map saved_numbers (map kept_by runs)
-seen_numbers_same clock [] [] fit = refl
-seen_numbers_same clock [] (rest ∷ rests) fit = absurd fit
-seen_numbers_same clock (run ∷ runs) [] fit = absurd fit
-seen_numbers_same clock (run ∷ runs) (rest ∷ rests) fit =
-    ap₂ (λ xs ys. xs ++ ys) (numbers_same clock run rest.before rest.since fit.0.0) (seen_numbers_same clock runs rests fit.1)
+seen_numbers_same : (owed : ℕ → Option ℕ) (runs : List Member) (befores : List Before) → AreLinesFitting runs befores → flat_map saved_numbers (seen_all seen_line owed runs befores) ≡ flat_map saved_numbers (map kept_by runs)
+seen_numbers_same owed [] [] fit = refl
+seen_numbers_same owed [] (b ∷ befores) fit = absurd fit
+seen_numbers_same owed (run ∷ runs) [] fit = absurd fit
+seen_numbers_same owed (run ∷ runs) (b ∷ befores) fit =
+    ap₂ (λ xs ys. xs ++ ys) (numbers_same run b (owed 0) fit.0) (seen_numbers_same (λ k. owed (suc k)) runs befores fit.1)
 
 -- the same of the rows of a display
-pub rows_long : (clock : ℕ) (runs : List Member) (rests : List LineRest) → AreLinesFitting runs rests clock
-    → (length (concat (map saved_hits (seen_lines clock runs rests))) ≡ length (concat (map saved_hits (map kept_by runs))))
-    × (length (concat (map saved_numbers (seen_lines clock runs rests))) ≡ length (concat (map saved_numbers (map kept_by runs))))
-rows_long clock runs rests fit =
-    let hits = ap length (rows_of saved_hits (seen_lines clock runs rests)) ∙ seen_hits_long clock runs rests fit ∙ sym (ap length (rows_of saved_hits (map kept_by runs))) in
-    let numbers = ap length (rows_of saved_numbers (seen_lines clock runs rests) ∙ seen_numbers_same clock runs rests fit ∙ sym (rows_of saved_numbers (map kept_by runs))) in
+pub rows_long : (runs : List Member) (rests : LineRests) → AreLinesFitting runs rests.each.items
+    → (length (concat (map saved_hits (seen_lines runs rests))) ≡ length (concat (map saved_hits (map kept_by runs))))
+    × (length (concat (map saved_numbers (seen_lines runs rests))) ≡ length (concat (map saved_numbers (map kept_by runs))))
+rows_long runs rests fit =
+    let owed = owed_at rests.schedule in
+    let hits = ap length (rows_of saved_hits (seen_lines runs rests)) ∙ seen_hits_long owed runs rests.each.items fit ∙ sym (ap length (rows_of saved_hits (map kept_by runs))) in
+    let numbers = ap length (rows_of saved_numbers (seen_lines runs rests) ∙ seen_numbers_same owed runs rests.each.items fit ∙ sym (rows_of saved_numbers (map kept_by runs))) in
     (hits, numbers)
 
 -- what stands beside a line fits it
-pub fitting_at : (clock k : ℕ) (runs : List Member) (rests : List LineRest) (run : Member) (rest : LineRest) → k < length runs → AreLinesFitting runs rests clock
-    → HaveOneShape (kept_before (get_or rests k rest).before) (kept_by (get_or runs k run)) × IfSome (get_or rests k rest).since (λ since. since ≤ clock)
-fitting_at clock k [] rests run rest within fit = absurd (omega (arith, within))
-fitting_at clock k (r ∷ runs) [] run rest within fit = absurd fit
-fitting_at clock zero (r ∷ runs) (e ∷ rests) run rest within fit = fit.0
-fitting_at clock (suc k) (r ∷ runs) (e ∷ rests) run rest within fit = fitting_at clock k runs rests run rest (omega (arith, within)) fit.1
+pub fitting_at : (k : ℕ) (runs : List Member) (befores : List Before) (run : Member) (b : Before) → k < length runs → AreLinesFitting runs befores
+    → HaveOneShape (kept_before (get_or befores k b)) (kept_by (get_or runs k run))
+fitting_at k [] befores run b within fit = absurd (omega (arith, within))
+fitting_at k (r ∷ runs) [] run b within fit = absurd fit
+fitting_at zero (r ∷ runs) (e ∷ befores) run b within fit = fit.0
+fitting_at (suc k) (r ∷ runs) (e ∷ befores) run b within fit = fitting_at k runs befores run b (omega (arith, within)) fit.1
 
-pub fitting_many : (clock : ℕ) (runs : List Member) (rests : List LineRest) → AreLinesFitting runs rests clock → length rests ≡ length runs
-fitting_many clock [] [] fit = refl
-fitting_many clock [] (rest ∷ rests) fit = absurd fit
-fitting_many clock (run ∷ runs) [] fit = absurd fit
-fitting_many clock (run ∷ runs) (rest ∷ rests) fit = ap suc (fitting_many clock runs rests fit.1)
+pub fitting_many : (runs : List Member) (befores : List Before) → AreLinesFitting runs befores → length befores ≡ length runs
+fitting_many [] [] fit = refl
+fitting_many [] (b ∷ befores) fit = absurd fit
+fitting_many (run ∷ runs) [] fit = absurd fit
+fitting_many (run ∷ runs) (b ∷ befores) fit = ap suc (fitting_many runs befores fit.1)
 
 -- a row of what given lines are seen to keep, put behind nothing
-pub row_seen : (f : MemberKept → List ℕ) (clock : ℕ) (given lines : List Member) (each : List LineRest) (old new : List ℕ) → old ≡ [] → given ≡ lines → PutsBehind old new (flat_map f (seen_lines clock given each)) → new ≡ concat (map f (seen_lines clock lines each))
-row_seen f clock given lines each old new empty same put =
-    row_of f old new (seen_lines clock given each) empty put ∙ ap (λ ls. concat (map f (seen_lines clock ls each))) same
+pub row_seen : (f : MemberKept → List ℕ) (rests : LineRests) (given lines : List Member) (old new : List ℕ) → old ≡ [] → given ≡ lines → PutsBehind old new (flat_map f (seen_lines given rests)) → new ≡ concat (map f (seen_lines lines rests))
+row_seen f rests given lines old new empty same put =
+    row_of f old new (seen_lines given rests) empty put ∙ ap (λ ls. concat (map f (seen_lines ls rests))) same
 
-pub row_fits : (f : MemberKept → List ℕ) (clock : ℕ) (given lines : List Member) (each : List LineRest) (old new : List ℕ) → given ≡ lines → PutsBehind old new (flat_map f (seen_lines clock given each)) → FitWords (concat (map f (seen_lines clock lines each)))
-row_fits f clock given lines each old new same put =
-    subst (λ (ls : List Member). FitWords (concat (map f (seen_lines clock ls each)))) same (subst FitWords (sym (rows_of f (seen_lines clock given each))) put.fit)
+pub row_fits : (f : MemberKept → List ℕ) (rests : LineRests) (given lines : List Member) (old new : List ℕ) → given ≡ lines → PutsBehind old new (flat_map f (seen_lines given rests)) → FitWords (concat (map f (seen_lines lines rests)))
+row_fits f rests given lines old new same put =
+    subst (λ (ls : List Member). FitWords (concat (map f (seen_lines ls rests)))) same (subst FitWords (sym (rows_of f (seen_lines given rests))) put.fit)
 
 -- numbers of 32 bits, and those behind others among them
 pub words_of : (xs : List ℕ) → ((i d : ℕ) → i < length xs → get_or xs i d < 4294967296) → FitWords xs

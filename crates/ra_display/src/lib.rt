@@ -12,7 +12,7 @@ mod shape;
 mod shown;
 
 pub use counted::counted_presence;
-pub use line_rests::{LineRest, LineRests};
+pub use line_rests::LineRests;
 pub use presence_run::{PresenceRun, new_presence, rest_lines, step_presence};
 pub use restored_presence::put_back_presence;
 pub use saved_presence::put_display;

@@ -1,6 +1,6 @@
 //! What a display keeps, written as a progress file keeps it.
 
-ghost use Rattle.std.specs.Prelude.{◌≡◌, ◌++◌, ◌∷◌, [], ◌≤◌, option_to_list, IfSome, OnOk};
+ghost use Rattle.std.specs.Prelude.{◌≡◌, ◌++◌, ◌∷◌, [], ◌≤◌, option_to_list, OnOk};
 ghost use Rattle.std.specs.List.{flat_map};
 ghost use Rattle.ra_progress.specs.Contents.{OfPresence};
 ghost use Rattle.ra_progress.specs.Layout.{block_length, script_length};
@@ -13,11 +13,11 @@ ghost use Rattle.ra_display.specs.LineRests.{AreLinesFitting, AreOptionalFitting
 ghost use Rattle.ra_display.specs.PresenceShapes.{optional_run_shape, presence_run_shape};
 ghost use Rattle.ra_display.specs.SavedPresence.{FitOptional, FitPresence};
 
-use crate::line_rests::{LineRest, LineRests};
+use crate::line_rests::LineRests;
 use crate::presence_run::PresenceRun;
 use ra_member::Member;
 use ra_progress::put_presence;
-use ra_schedule::{Before, hits_before, owed, pay};
+use ra_schedule::{Before, hits_before, pay};
 use ra_text::OutOfMemory;
 use std::alloc::Global;
 
@@ -50,7 +50,7 @@ fn put_display_run(
     run: &PresenceRun,
     rests: &LineRests,
 ) -> Result<(), OutOfMemory>
-    requires fit { AreLinesFitting run.now.lines.items rests.now.each.items rests.now.clock }
+    requires fit { AreLinesFitting run.now.lines.items rests.now.each.items }
     requires short { block_length (OfPresence (presence_run_shape run.now)) ≤ 8388608 }
     ensures bytes { OnOk result (bytes.new.items
         ≡ bytes.old.items ++ named_blocks (option_to_list name.now) (presence_bytes (presence_seen run.now rests.now) ∷ [])) }
@@ -73,41 +73,39 @@ fn put_lines(
     lines: &[Member],
     rests: &LineRests,
 ) -> Result<(), OutOfMemory>
-    requires fit { AreLinesFitting lines.now rests.now.each.items rests.now.clock }
-    ensures hits { OnOk result (PutsBehind hits.old.items hits.new.items (flat_map saved_hits (seen_lines rests.now.clock lines.now rests.now.each.items))) }
-    ensures numbers { OnOk result
-        (PutsBehind numbers.old.items numbers.new.items (flat_map saved_numbers (seen_lines rests.now.clock lines.now rests.now.each.items))) }
+    requires fit { AreLinesFitting lines.now rests.now.each.items }
+    ensures hits { OnOk result (PutsBehind hits.old.items hits.new.items (flat_map saved_hits (seen_lines lines.now rests.now))) }
+    ensures numbers { OnOk result (PutsBehind numbers.old.items numbers.new.items (flat_map saved_numbers (seen_lines lines.now rests.now))) }
 {
     for place in 0..lines.len() {
+        let owed = rests.schedule.owed(place);
         put_line(
             alloc,
             hits,
             numbers,
             &lines[place],
             &rests.each[place],
-            rests.clock,
+            owed,
         )?;
     }
     Ok(())
 }
 
-// Puts what is kept of a line behind other hits and other numbers, and what it owes at a count of frames with it.
+// Puts what is kept of a line behind other hits and other numbers, and what it owes with it.
 fn put_line(
     alloc: Global,
     hits: &mut Vec<u32>,
     numbers: &mut Vec<u32>,
     line: &Member,
-    rest: &LineRest,
-    clock: u64,
+    before: &Before,
+    owed: Option<u32>,
 ) -> Result<(), OutOfMemory>
-    requires fits { HaveOneShape (kept_before rest.now.before) (kept_by line.now) }
-    requires since { IfSome rest.now.since (λ since. since ≤ clock) }
-    ensures hits { OnOk result (PutsBehind hits.old.items hits.new.items (saved_hits (seen_line clock line.now rest.now))) }
-    ensures numbers { OnOk result
-        (PutsBehind numbers.old.items numbers.new.items (saved_numbers (seen_line clock line.now rest.now))) }
+    requires { HaveOneShape (kept_before before.now) (kept_by line.now) }
+    ensures hits { OnOk result (PutsBehind hits.old.items hits.new.items (saved_hits (seen_line line.now before.now owed))) }
+    ensures numbers { OnOk result (PutsBehind numbers.old.items numbers.new.items (saved_numbers (seen_line line.now before.now owed))) }
 {
-    match rest.since {
-        Some(since) => put_owed(alloc, hits, numbers, line, &rest.before, owed(since, clock)),
+    match owed {
+        Some(frames) => put_owed(alloc, hits, numbers, line, before, frames),
         None => line.save(hits, numbers),
     }
 }

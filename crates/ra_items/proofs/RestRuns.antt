@@ -1,5 +1,5 @@
 -- What an item keeps before a frame, paid and compared.
-use Rattle.std.proofs.Common.{◌≡◌, ℕ, min, true, List, [], ◌∷◌, length, map, get_or, refl, sym, ◌∙◌, arith, Vec, Global}
+use Rattle.std.proofs.Common.{◌≡◌, ℕ, min, true, Option, None, Some, List, [], ◌∷◌, length, map, get_or, refl, sym, ◌∙◌, arith, Vec, Global}
 use Rattle.ra_condition.specs.Contents.{TriggerContents, groups_of, PartContents}
 use Rattle.ra_group.specs.declared.form.Form.TheVariants.{InTrigger}
 use Rattle.ra_indirect.specs.declared.node.Node.{Node}
@@ -22,7 +22,8 @@ use Rattle.ra_meaning.specs.Boards.{kept_board}
 use Rattle.ra_meaning.specs.Openings.{kept_achievement}
 use Rattle.ra_meaning.specs.Order.{board_member}
 use Rattle.ra_items.specs.declared.rest.TriggerBefore.{TriggerBefore}
-use Rattle.ra_items.specs.Resting.{FitsRun, owed_run}
+use Rattle.ra_schedule.specs.Schedules.{as_hits_tell}
+use Rattle.ra_items.specs.Resting.{FitsRun, owed_run, seen_run}
 use Rattle.ra_schedule.proofs.MembersRest.AtMost.{member_at_most, paid_at_most}
 
 -- an achievement with other hits, as many of them
@@ -85,3 +86,8 @@ run_at_most n (before.Leaderboard b) (Leaderboard run) =
     (λ i. kept_board (record { state = run.board; member = member_at_most n (kept_before b.member) (kept_by run.member) i }))
 run_at_most n (before.Achievement b) (Leaderboard run) = refl
 run_at_most n (before.Leaderboard b) (Achievement run) = refl
+
+-- hits tell no more than the most frames that they can count
+pub seen_as_told : (run : ItemRun) (b : ItemBefore) (owed : Option ℕ) → seen_run run b (as_hits_tell owed) ≡ seen_run run b owed
+seen_as_told run b None = refl
+seen_as_told run b (Some n) = run_at_most n b run

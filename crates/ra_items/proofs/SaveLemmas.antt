@@ -1,5 +1,5 @@
 -- What runs keep is an opening of their set.
-use Rattle.std.proofs.Common.{◌≡◌, ℕ, zero, suc, ◌+◌, ◌<◌, ◌≤◌, ◌^◌, Bool, IfSome, List, [], ◌∷◌, ◌++◌, length, map, take, get_or, refl, sym, ◌∙◌, ap, subst, arith}
+use Rattle.std.proofs.Common.{◌≡◌, ℕ, ◌+◌, ◌<◌, ◌^◌, Bool, List, [], ◌∷◌, ◌++◌, length, map, take, get_or, sym, ◌∙◌, ap, subst}
 use Rattle.std.proofs.lemmas.List.{take_more}
 use Rattle.ra_progress.specs.declared.shape.ItemShape.{ItemShape}
 use Rattle.ra_progress.specs.declared.shape.ItemShape.TheVariants as shapes
@@ -8,9 +8,6 @@ use Rattle.ra_text.specs.Words.{AreWords}
 use Rattle.ra_progress.specs.Contents.{KeptItem, OfBoard, ItemFits, ItemsFit}
 use Rattle.ra_items.specs.declared.board_run.BoardRun.{BoardRun}
 use Rattle.ra_items.specs.declared.item_run.ItemRun.{ItemRun}
-use Rattle.ra_items.specs.declared.rest.Rest.{Rest}
-use Rattle.ra_items.specs.Resting.{FitsRun, seen_run, seen_runs}
-use Rattle.ra_items.specs.Rests.{AreFitting}
 use Rattle.ra_leaderboard.specs.States.{board_byte}
 use Rattle.ra_meaning.specs.Openings.{kept_achievement}
 use Rattle.ra_items.specs.Shapes.{board_run_shape, run_shape}
@@ -33,28 +30,6 @@ seen_fit_more runs kept k run item within among is here fit one =
     subst (λ (ss : List ItemShape). ItemsFit ss (take (k + 1) kept)) (sym (taken_next run_shape runs k run within is))
     (subst (ItemsFit (map run_shape (take k runs) ++ run_shape run ∷ [])) (sym more)
     (fit_more (map run_shape (take k runs)) (take k kept) (run_shape run) item fit one))
-
--- as much is seen as there are runs
-pub seen_many : (clock : ℕ) (runs : List ItemRun) (rests : List Rest) → length rests ≡ length runs → length (seen_runs clock runs rests) ≡ length runs
-seen_many clock [] rests many = refl
-seen_many clock (run ∷ runs) [] many = absurd (omega (arith, many))
-seen_many clock (run ∷ runs) (rest ∷ rests) many = ap suc (seen_many clock runs rests (omega (arith, many)))
-
--- what is seen at a place
-pub seen_at : (clock k : ℕ) (runs : List ItemRun) (rests : List Rest) (run : ItemRun) (rest : Rest) (kept : KeptItem) → k < length runs → length rests ≡ length runs
-    → get_or (seen_runs clock runs rests) k kept ≡ seen_run clock (get_or runs k run) (get_or rests k rest)
-seen_at clock k [] rests run rest kept within many = absurd (omega (arith, within))
-seen_at clock k (r ∷ runs) [] run rest kept within many = absurd (omega (arith, many))
-seen_at clock zero (r ∷ runs) (e ∷ rests) run rest kept within many = refl
-seen_at clock (suc k) (r ∷ runs) (e ∷ rests) run rest kept within many = seen_at clock k runs rests run rest kept (omega (arith, within)) (omega (arith, many))
-
--- and the rest there fits its run
-pub fitting_at : (clock k : ℕ) (runs : List ItemRun) (rests : List Rest) (run : ItemRun) (rest : Rest) → k < length runs → AreFitting runs rests clock
-    → FitsRun (get_or rests k rest).before (get_or runs k run) × IfSome (get_or rests k rest).since (λ since. since ≤ clock)
-fitting_at clock k [] rests run rest within fit = absurd (omega (arith, within))
-fitting_at clock k (r ∷ runs) [] run rest within fit = absurd fit
-fitting_at clock zero (r ∷ runs) (e ∷ rests) run rest within fit = fit.0
-fitting_at clock (suc k) (r ∷ runs) (e ∷ rests) run rest within fit = fitting_at clock k runs rests run rest (omega (arith, within)) fit.1
 
 -- what is kept of an achievement has the count of its hits
 pub achievement_kept_fits : (earned : Bool) (kept : TriggerKept) → kept.measured < 2 ^ 32 → AreWords (length kept.hits) kept.hits → ItemFits (shapes.Achievement (length kept.hits)) (kept_achievement earned kept)

@@ -1,5 +1,5 @@
 -- What items are seen to keep, by what they keep and owe.
-use Rattle.std.proofs.Common.{◌≡◌, ℕ, zero, suc, ◌-◌, ◌<◌, ◌≤◌, Option, None, Some, IfSome, List, [], ◌∷◌, length, map, zip, get_or, option_map, slice_get, refl, sym, ◌∙◌, ap, ap₂, arith}
+use Rattle.std.proofs.Common.{◌≡◌, ℕ, zero, suc, ◌<◌, Option, None, Some, List, [], ◌∷◌, length, map, zip, get_or, option_map, slice_get, refl, sym, ◌∙◌, ap, ap₂, arith}
 use Rattle.ra_indirect.specs.declared.node.Node.{Node}
 use Rattle.ra_set.specs.Contents.{ItemContents, Unlocks, Ranks}
 use Rattle.ra_schedule.specs.Triggers.{owed_trigger}
@@ -11,7 +11,9 @@ use Rattle.ra_items.specs.declared.item_run.ItemRun.TheVariants.{Achievement, Le
 use Rattle.ra_items.specs.declared.item_state.ItemState.TheVariants as states
 use Rattle.ra_items.specs.declared.rest.ItemBefore.{ItemBefore}
 use Rattle.ra_items.specs.declared.rest.ItemBefore.TheVariants as before
-use Rattle.ra_items.specs.declared.rest.Rest.{Rest}
+use Rattle.ra_progress.specs.Contents.{KeptItem}
+use Rattle.ra_schedule.specs.Schedules.{owed_at, seen_all}
+use Rattle.ra_schedule.proofs.MembersRest.SeenAll.{seen_many}
 use Rattle.ra_items.specs.declared.rests.Rests.{Rests}
 use Rattle.ra_items.specs.AllRuns.{AreItemRuns}
 use Rattle.ra_meaning.specs.Boards.{tracked_number}
@@ -20,11 +22,15 @@ use Rattle.ra_meaning.specs.Earned.{is_earned}
 use Rattle.ra_items.specs.ItemRuns.{IsItemRun, kept_run}
 use Rattle.ra_items.specs.ItemStates.{item_state, run_state}
 use Rattle.ra_meaning.specs.Order.{board_member}
-use Rattle.ra_items.specs.Resting.{FitsRun, HasRoom, board_before, owed_board, seen_runs, seen_since}
+use Rattle.ra_items.specs.Resting.{FitsRun, HasRoom, board_before, owed_board, seen_run}
 use Rattle.ra_items.specs.Rests.{AreFitting, AreRests, seen_by}
 use Rattle.ra_meaning.proofs.Openings.Again.{achievement_again, board_again}
 use Rattle.ra_meaning.proofs.Earned.Frames.{AreSeen, IsSeen}
 use Rattle.ra_items.proofs.ItemsRest.{rows_many, tracked_by}
+
+-- as much is seen as there are runs
+pub seen_long : (runs : List ItemRun) (rests : Rests) → length rests.each.items ≡ length runs → length (seen_by runs rests) ≡ length runs
+seen_long runs rests many = seen_many ItemRun ItemBefore KeptItem seen_run (owed_at rests.schedule) runs rests.each.items many
 
 -- what there is room for is what a run keeps
 pub one_shape : (nodes : List Node) (item : ItemContents) (b : ItemBefore) (run : ItemRun) → IsItemRun nodes item run → HasRoom item b → FitsRun b run
@@ -48,105 +54,99 @@ room_again nodes (Ranks id format b) (before.Leaderboard room_of) (Leaderboard r
     let shape = member_shape nodes (board_member b) run.member is in
     record { tests = fits.tests ∙ shape.tests; hits = fits.hits ∙ shape.hits; numbers = fits.numbers ∙ shape.numbers }
 
-module _ (nodes : List Node) (clock : ℕ) where
-  seen_one : (item : ItemContents) (run : ItemRun) (b : ItemBefore) (since : Option ℕ) → IsItemRun nodes item run → HasRoom item b → IsSeen item (seen_since clock run b since)
+module _ (nodes : List Node) where
+  seen_one : (item : ItemContents) (run : ItemRun) (b : ItemBefore) (owed : Option ℕ) → IsItemRun nodes item run → HasRoom item b → IsSeen item (seen_run run b owed)
   seen_one (Unlocks id t) (Achievement run) b None is room = record { earned = run.earned; trigger = run.run.trigger; is = refl }
-  seen_one (Unlocks id t) (Achievement run) (before.Achievement b) (Some since) is room = record { earned = run.earned; trigger = owed_trigger (clock - since) b.hits.items run.run.trigger; is = refl }
-  seen_one (Unlocks id t) (Achievement run) (before.Leaderboard b) (Some since) is room = absurd room
-  seen_one (Unlocks id t) (Leaderboard run) b since is room = absurd is
-  seen_one (Ranks id format b) (Achievement run) room_of since is room = absurd is
+  seen_one (Unlocks id t) (Achievement run) (before.Achievement b) (Some n) is room = record { earned = run.earned; trigger = owed_trigger n b.hits.items run.run.trigger; is = refl }
+  seen_one (Unlocks id t) (Achievement run) (before.Leaderboard b) (Some n) is room = absurd room
+  seen_one (Unlocks id t) (Leaderboard run) b owed is room = absurd is
+  seen_one (Ranks id format b) (Achievement run) room_of owed is room = absurd is
   seen_one (Ranks id format b) (Leaderboard run) room_of None is room = refl
-  seen_one (Ranks id format b) (Leaderboard run) (before.Leaderboard room_of) (Some since) is room = refl
-  seen_one (Ranks id format b) (Leaderboard run) (before.Achievement room_of) (Some since) is room = absurd room
+  seen_one (Ranks id format b) (Leaderboard run) (before.Leaderboard room_of) (Some n) is room = refl
+  seen_one (Ranks id format b) (Leaderboard run) (before.Achievement room_of) (Some n) is room = absurd room
 
   -- what is owed earns nothing
-  earned_one : (item : ItemContents) (run : ItemRun) (b : ItemBefore) (since : Option ℕ) → IsItemRun nodes item run → HasRoom item b → is_earned (seen_since clock run b since) ≡ is_earned (kept_run run)
+  earned_one : (item : ItemContents) (run : ItemRun) (b : ItemBefore) (owed : Option ℕ) → IsItemRun nodes item run → HasRoom item b → is_earned (seen_run run b owed) ≡ is_earned (kept_run run)
   earned_one item run b None is room = refl
-  earned_one (Unlocks id t) (Achievement run) (before.Achievement b) (Some since) is room = refl
-  earned_one (Unlocks id t) (Achievement run) (before.Leaderboard b) (Some since) is room = absurd room
-  earned_one (Unlocks id t) (Leaderboard run) b (Some since) is room = absurd is
-  earned_one (Ranks id format b) (Achievement run) room_of (Some since) is room = absurd is
-  earned_one (Ranks id format b) (Leaderboard run) (before.Leaderboard room_of) (Some since) is room = refl
-  earned_one (Ranks id format b) (Leaderboard run) (before.Achievement room_of) (Some since) is room = absurd room
+  earned_one (Unlocks id t) (Achievement run) (before.Achievement b) (Some n) is room = refl
+  earned_one (Unlocks id t) (Achievement run) (before.Leaderboard b) (Some n) is room = absurd room
+  earned_one (Unlocks id t) (Leaderboard run) b (Some n) is room = absurd is
+  earned_one (Ranks id format b) (Achievement run) room_of (Some n) is room = absurd is
+  earned_one (Ranks id format b) (Leaderboard run) (before.Leaderboard room_of) (Some n) is room = refl
+  earned_one (Ranks id format b) (Leaderboard run) (before.Achievement room_of) (Some n) is room = absurd room
 
   -- and an item stands where it stood
-  stands_one : (item : ItemContents) (run : ItemRun) (b : ItemBefore) (since : Option ℕ) → IsItemRun nodes item run → HasRoom item b → run_state run ≡ item_state (item, seen_since clock run b since)
+  stands_one : (item : ItemContents) (run : ItemRun) (b : ItemBefore) (owed : Option ℕ) → IsItemRun nodes item run → HasRoom item b → run_state run ≡ item_state (item, seen_run run b owed)
   stands_one (Unlocks id t) (Achievement run) b None is room =
       ap (λ (k : TriggerKept). states.Achievement k.state k.measured) (sym (achievement_again run.earned run.run.trigger))
-  stands_one (Unlocks id t) (Achievement run) (before.Achievement b) (Some since) is room =
-      ap (λ (k : TriggerKept). states.Achievement k.state k.measured) (sym (achievement_again run.earned (owed_trigger (clock - since) b.hits.items run.run.trigger)))
-  stands_one (Unlocks id t) (Achievement run) (before.Leaderboard b) (Some since) is room = absurd room
-  stands_one (Unlocks id t) (Leaderboard run) b since is room = absurd is
-  stands_one (Ranks id format b) (Achievement run) room_of since is room = absurd is
+  stands_one (Unlocks id t) (Achievement run) (before.Achievement b) (Some n) is room =
+      ap (λ (k : TriggerKept). states.Achievement k.state k.measured) (sym (achievement_again run.earned (owed_trigger n b.hits.items run.run.trigger)))
+  stands_one (Unlocks id t) (Achievement run) (before.Leaderboard b) (Some n) is room = absurd room
+  stands_one (Unlocks id t) (Leaderboard run) b owed is room = absurd is
+  stands_one (Ranks id format b) (Achievement run) room_of owed is room = absurd is
   stands_one (Ranks id format b) (Leaderboard run) room_of None is room =
       ap (λ k. states.Leaderboard k.state (tracked_number k)) (sym (board_again b (board_kept run) (member_shape nodes (board_member b) run.member is)))
-  stands_one (Ranks id format b) (Leaderboard run) (before.Leaderboard room_of) (Some since) is room =
+  stands_one (Ranks id format b) (Leaderboard run) (before.Leaderboard room_of) (Some n) is room =
       let old = board_before room_of in
       let now = board_kept run in
       let m = board_member b in
       let shape = member_shape nodes m run.member is in
-      let owes = owed_board (clock - since) old now in
+      let owes = owed_board n old now in
       let many = rows_many m old.member room ∙ sym (rows_many m now.member shape) in
-      ap (states.Leaderboard run.board) (sym (tracked_by owes.member.values now.member.values (numbers_long (clock - since) old.member.values now.member.values many)))
-      ∙ ap (λ k. states.Leaderboard k.state (tracked_number k)) (sym (board_again b owes (owed_fits (clock - since) m old.member now.member room shape)))
-  stands_one (Ranks id format b) (Leaderboard run) (before.Achievement room_of) (Some since) is room = absurd room
+      ap (states.Leaderboard run.board) (sym (tracked_by owes.member.values now.member.values (numbers_long n old.member.values now.member.values many)))
+      ∙ ap (λ k. states.Leaderboard k.state (tracked_number k)) (sym (board_again b owes (owed_fits n m old.member now.member room shape)))
+  stands_one (Ranks id format b) (Leaderboard run) (before.Achievement room_of) (Some n) is room = absurd room
 
   -- item by item
-  pub all_seen_kept : (items : List ItemContents) (runs : List ItemRun) (rests : List Rest) → AreItemRuns nodes items runs → length rests ≡ length items
-      → ((k : ℕ) → k < length items → (item : ItemContents) (rest : Rest) → HasRoom (get_or items k item) (get_or rests k rest).before) → AreSeen items (seen_runs clock runs rests)
-  all_seen_kept [] [] rests are long each = tt
-  all_seen_kept [] (run ∷ runs) rests are long each = absurd are
-  all_seen_kept (item ∷ items) [] rests are long each = absurd are
-  all_seen_kept (item ∷ items) (run ∷ runs) [] are long each = absurd (omega (arith, long))
-  all_seen_kept (item ∷ items) (run ∷ runs) (rest ∷ rests) are long each =
-      (seen_one item run rest.before rest.since are.0 (each 0 (omega arith) item rest), all_seen_kept items runs rests are.1 (omega (arith, long)) (λ k within. each (suc k) (omega (arith, within))))
+  pub all_seen_kept : (owed : ℕ → Option ℕ) (items : List ItemContents) (runs : List ItemRun) (befores : List ItemBefore) → AreItemRuns nodes items runs → length befores ≡ length items
+      → ((k : ℕ) → k < length items → (item : ItemContents) (b : ItemBefore) → HasRoom (get_or items k item) (get_or befores k b)) → AreSeen items (seen_all seen_run owed runs befores)
+  all_seen_kept owed [] [] befores are long each = tt
+  all_seen_kept owed [] (run ∷ runs) befores are long each = absurd are
+  all_seen_kept owed (item ∷ items) [] befores are long each = absurd are
+  all_seen_kept owed (item ∷ items) (run ∷ runs) [] are long each = absurd (omega (arith, long))
+  all_seen_kept owed (item ∷ items) (run ∷ runs) (b ∷ befores) are long each =
+      (seen_one item run b (owed 0) are.0 (each 0 (omega arith) item b), all_seen_kept (λ k. owed (suc k)) items runs befores are.1 (omega (arith, long)) (λ k within. each (suc k) (omega (arith, within))))
 
-  pub all_earned_kept : (items : List ItemContents) (runs : List ItemRun) (rests : List Rest) → AreItemRuns nodes items runs → length rests ≡ length items
-      → ((k : ℕ) → k < length items → (item : ItemContents) (rest : Rest) → HasRoom (get_or items k item) (get_or rests k rest).before) → map is_earned (seen_runs clock runs rests) ≡ map is_earned (map kept_run runs)
-  all_earned_kept [] [] rests are long each = refl
-  all_earned_kept [] (run ∷ runs) rests are long each = absurd are
-  all_earned_kept (item ∷ items) [] rests are long each = absurd are
-  all_earned_kept (item ∷ items) (run ∷ runs) [] are long each = absurd (omega (arith, long))
-  all_earned_kept (item ∷ items) (run ∷ runs) (rest ∷ rests) are long each =
-      ap₂ (λ x xs. x ∷ xs) (earned_one item run rest.before rest.since are.0 (each 0 (omega arith) item rest)) (all_earned_kept items runs rests are.1 (omega (arith, long)) (λ k within. each (suc k) (omega (arith, within))))
+  pub all_earned_kept : (owed : ℕ → Option ℕ) (items : List ItemContents) (runs : List ItemRun) (befores : List ItemBefore) → AreItemRuns nodes items runs → length befores ≡ length items
+      → ((k : ℕ) → k < length items → (item : ItemContents) (b : ItemBefore) → HasRoom (get_or items k item) (get_or befores k b)) → map is_earned (seen_all seen_run owed runs befores) ≡ map is_earned (map kept_run runs)
+  all_earned_kept owed [] [] befores are long each = refl
+  all_earned_kept owed [] (run ∷ runs) befores are long each = absurd are
+  all_earned_kept owed (item ∷ items) [] befores are long each = absurd are
+  all_earned_kept owed (item ∷ items) (run ∷ runs) [] are long each = absurd (omega (arith, long))
+  all_earned_kept owed (item ∷ items) (run ∷ runs) (b ∷ befores) are long each =
+      ap₂ (λ x xs. x ∷ xs) (earned_one item run b (owed 0) are.0 (each 0 (omega arith) item b)) (all_earned_kept (λ k. owed (suc k)) items runs befores are.1 (omega (arith, long)) (λ k within. each (suc k) (omega (arith, within))))
 
-  pub all_stand : (items : List ItemContents) (runs : List ItemRun) (rests : List Rest) → AreItemRuns nodes items runs → length rests ≡ length items
-      → ((k : ℕ) → k < length items → (item : ItemContents) (rest : Rest) → HasRoom (get_or items k item) (get_or rests k rest).before) → (place : ℕ)
-      → option_map run_state (slice_get runs place) ≡ option_map item_state (slice_get (zip items (seen_runs clock runs rests)) place)
-  all_stand [] [] rests are long each place = refl
-  all_stand [] (run ∷ runs) rests are long each place = absurd are
-  all_stand (item ∷ items) [] rests are long each place = absurd are
-  all_stand (item ∷ items) (run ∷ runs) [] are long each place = absurd (omega (arith, long))
-  all_stand (item ∷ items) (run ∷ runs) (rest ∷ rests) are long each zero = ap Some (stands_one item run rest.before rest.since are.0 (each 0 (omega arith) item rest))
-  all_stand (item ∷ items) (run ∷ runs) (rest ∷ rests) are long each (suc place) = all_stand items runs rests are.1 (omega (arith, long)) (λ k within. each (suc k) (omega (arith, within))) place
+  pub all_stand : (owed : ℕ → Option ℕ) (items : List ItemContents) (runs : List ItemRun) (befores : List ItemBefore) → AreItemRuns nodes items runs → length befores ≡ length items
+      → ((k : ℕ) → k < length items → (item : ItemContents) (b : ItemBefore) → HasRoom (get_or items k item) (get_or befores k b)) → (place : ℕ)
+      → option_map run_state (slice_get runs place) ≡ option_map item_state (slice_get (zip items (seen_all seen_run owed runs befores)) place)
+  all_stand owed [] [] befores are long each place = refl
+  all_stand owed [] (run ∷ runs) befores are long each place = absurd are
+  all_stand owed (item ∷ items) [] befores are long each place = absurd are
+  all_stand owed (item ∷ items) (run ∷ runs) [] are long each place = absurd (omega (arith, long))
+  all_stand owed (item ∷ items) (run ∷ runs) (b ∷ befores) are long each zero = ap Some (stands_one item run b (owed 0) are.0 (each 0 (omega arith) item b))
+  all_stand owed (item ∷ items) (run ∷ runs) (b ∷ befores) are long each (suc place) = all_stand (λ k. owed (suc k)) items runs befores are.1 (omega (arith, long)) (λ k within. each (suc k) (omega (arith, within))) place
 
 -- the rests of all items fit their runs
-fitting : (nodes : List Node) (clock : ℕ) (items : List ItemContents) (runs : List ItemRun) (rests : List Rest) → AreItemRuns nodes items runs → length rests ≡ length items
-    → ((k : ℕ) → k < length items → (item : ItemContents) (rest : Rest) → HasRoom (get_or items k item) (get_or rests k rest).before)
-    → ((k : ℕ) → k < length items → (rest : Rest) → IfSome (get_or rests k rest).since (λ since. since ≤ clock)) → AreFitting runs rests clock
-fitting nodes clock [] [] [] are long each since = tt
-fitting nodes clock [] [] (rest ∷ rests) are long each since = absurd (omega (arith, long))
-fitting nodes clock [] (run ∷ runs) rests are long each since = absurd are
-fitting nodes clock (item ∷ items) [] rests are long each since = absurd are
-fitting nodes clock (item ∷ items) (run ∷ runs) [] are long each since = absurd (omega (arith, long))
-fitting nodes clock (item ∷ items) (run ∷ runs) (rest ∷ rests) are long each since = (
-  (one_shape nodes item rest.before run are.0 (each 0 (omega arith) item rest), since 0 (omega arith) rest),
-  fitting nodes clock items runs rests are.1 (omega (arith, long)) (λ k within. each (suc k) (omega (arith, within))) (λ k within. since (suc k) (omega (arith, within))),
-)
+fitting : (nodes : List Node) (items : List ItemContents) (runs : List ItemRun) (befores : List ItemBefore) → AreItemRuns nodes items runs → length befores ≡ length items
+    → ((k : ℕ) → k < length items → (item : ItemContents) (b : ItemBefore) → HasRoom (get_or items k item) (get_or befores k b)) → AreFitting runs befores
+fitting nodes [] [] [] are long each = tt
+fitting nodes [] [] (b ∷ befores) are long each = absurd (omega (arith, long))
+fitting nodes [] (run ∷ runs) befores are long each = absurd are
+fitting nodes (item ∷ items) [] befores are long each = absurd are
+fitting nodes (item ∷ items) (run ∷ runs) [] are long each = absurd (omega (arith, long))
+fitting nodes (item ∷ items) (run ∷ runs) (b ∷ befores) are long each =
+    (one_shape nodes item b run are.0 (each 0 (omega arith) item b), fitting nodes items runs befores are.1 (omega (arith, long)) (λ k within. each (suc k) (omega (arith, within))))
 
 -- all of it, of the rests of a set
 module _ (nodes : List Node) (values : List ℕ) (items : List ItemContents) (runs : List ItemRun) (rests : Rests) (are : AreItemRuns nodes items runs) (they : AreRests nodes values items runs rests) where
-  rooms : (k : ℕ) → k < length items → (item : ItemContents) (rest : Rest) → HasRoom (get_or items k item) (get_or rests.each.items k rest).before
-  rooms k within item rest = (they.each k within).room item rest
-
   pub rests_seen : AreSeen items (seen_by runs rests)
-  rests_seen = all_seen_kept nodes rests.clock items runs rests.each.items are they.many rooms
+  rests_seen = all_seen_kept nodes (owed_at rests.schedule) items runs rests.each.items are they.many they.rooms
 
   pub rests_earned : map is_earned (seen_by runs rests) ≡ map is_earned (map kept_run runs)
-  rests_earned = all_earned_kept nodes rests.clock items runs rests.each.items are they.many rooms
+  rests_earned = all_earned_kept nodes (owed_at rests.schedule) items runs rests.each.items are they.many they.rooms
 
   pub rests_stand : (place : ℕ) → option_map run_state (slice_get runs place) ≡ option_map item_state (slice_get (zip items (seen_by runs rests)) place)
-  rests_stand place = all_stand nodes rests.clock items runs rests.each.items are they.many rooms place
+  rests_stand place = all_stand nodes (owed_at rests.schedule) items runs rests.each.items are they.many they.rooms place
 
-  pub rests_fit : AreFitting runs rests.each.items rests.clock
-  rests_fit = fitting nodes rests.clock items runs rests.each.items are they.many rooms (λ k within rest. (they.each k within).since rest)
+  pub rests_fit : AreFitting runs rests.each.items
+  rests_fit = fitting nodes items runs rests.each.items are they.many they.rooms

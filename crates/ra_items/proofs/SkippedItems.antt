@@ -1,5 +1,5 @@
 -- An item that is not due keeps what it owes, and is seen to take the frame.
-use Rattle.std.proofs.Common.{◌≡◌, ℕ, ◌+◌, ◌-◌, ◌≤◌, Bool, true, false, List, [], slice_index, refl, sym, ◌∙◌, ap, arith}
+use Rattle.std.proofs.Common.{◌≡◌, ℕ, ◌+◌, Bool, true, false, List, [], slice_index, refl, sym, ◌∙◌}
 use Rattle.ra_memref.specs.Table.{TableSeen}
 use Rattle.ra_memref.specs.Values.{Start}
 use Rattle.ra_schedule.specs.Readers.{ReadersSeen, Reads}
@@ -46,12 +46,8 @@ module _ (table : TableSeen) (values : List ℕ) (item : ItemContents) (b : Item
   nothing true start image n seen = refl
   nothing false start image n seen = sym (on.silent start image seen n)
 
-  pub skipped : (clock since : ℕ) → since ≤ clock → StepsSeen table item (owed_run (clock - since) b run) (owed_run (clock + 1 - since) b run) (run_events item run)
-  skipped clock since early =
-      let more : clock + 1 - since ≡ (clock - since) + 1 = omega (arith, early) in
-      record {
-        kept = λ start image has.
-            ap (λ n. owed_run n b run) more ∙ sym (on.kept start image (sees start image has) (clock - since));
-        events = λ start image has.
-            on.told ∙ nothing (is_earned (owed_run (clock - since) b run)) start image (clock - since) (sees start image has);
-      }
+  pub skipped : (n : ℕ) → StepsSeen table item (owed_run n b run) (owed_run (n + 1) b run) (run_events item run)
+  skipped n = record {
+    kept = λ start image has. sym (on.kept start image (sees start image has) n);
+    events = λ start image has. on.told ∙ nothing (is_earned (owed_run n b run)) start image n (sees start image has);
+  }

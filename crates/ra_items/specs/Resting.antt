@@ -1,5 +1,5 @@
 -- What items kept before a frame, what they owe while they rest, and when they do: docs/DEFINITIONS.md, "Items at rest".
-use Rattle.std.specs.Prelude.{◌≡◌, ℕ, ◌+◌, ◌-◌, Bool, true, false, Option, None, Some, List, [], ◌∷◌, length, slice_index}
+use Rattle.std.specs.Prelude.{◌≡◌, ℕ, ◌+◌, Bool, true, Option, None, Some, List, [], ◌∷◌, length, get_or}
 use Rattle.ra_condition.specs.Contents.{TriggerContents, groups_of, trigger_hits}
 use Rattle.ra_group.specs.declared.form.Form.TheVariants.{InTrigger}
 use Rattle.ra_indirect.specs.declared.node.Node.{Node}
@@ -19,14 +19,14 @@ use Rattle.ra_schedule.specs.Before.{HaveOneShape, kept_before}
 use Rattle.ra_schedule.specs.Inputs.{Instant, SeeSame, MemberSeesSame}
 use Rattle.ra_schedule.specs.Reads.{reads_of_laid, reads_of_member}
 use Rattle.ra_schedule.specs.Owing.{AreHitsSmall, AreSmall, TestsKeep, ValuesKeep, owed_member}
-use Rattle.ra_schedule.specs.Readers.{ReadersSeen, Reads}
+use Rattle.ra_schedule.specs.Readers.{ReadersSeen}
+use Rattle.ra_schedule.specs.Waking.{IsTold}
 use Rattle.ra_meaning.specs.declared.event.Event.{Event}
 use Rattle.ra_items.specs.declared.item_run.ItemRun.{ItemRun}
 use Rattle.ra_items.specs.declared.item_run.ItemRun.TheVariants.{Achievement, Leaderboard}
 use Rattle.ra_items.specs.declared.rest.ItemBefore.{ItemBefore}
 use Rattle.ra_items.specs.declared.rest.ItemBefore.TheVariants as before
 use Rattle.ra_items.specs.declared.rest.BoardBefore.{BoardBefore}
-use Rattle.ra_items.specs.declared.rest.Rest.{Rest}
 use Rattle.ra_items.specs.declared.rest.TriggerBefore.{TriggerBefore}
 use Rattle.ra_meaning.specs.Boards.{BoardKept, kept_board}
 use Rattle.ra_items.specs.BoardRuns.{board_kept}
@@ -56,19 +56,10 @@ owed_run n (before.Achievement b) (Achievement run) = kept_achievement run.earne
 owed_run n (before.Leaderboard b) (Leaderboard run) = kept_board (owed_board n (board_before b) (board_kept run))
 owed_run n _ run = kept_run run
 
--- what an item is seen to keep at a count of frames, where it rests since one of them or not at all
-abbrev pub seen_since : (clock : ℕ) → ItemRun → ItemBefore → Option ℕ → KeptItem
-seen_since clock run b None = kept_run run
-seen_since clock run b (Some since) = owed_run (clock - since) b run
-
--- what an item is seen to keep at a count of frames
-abbrev pub seen_run : (clock : ℕ) → ItemRun → Rest → KeptItem
-seen_run clock run rest = seen_since clock run rest.before rest.since
-
--- what items are seen to keep at a count of frames
-abbrev pub seen_runs : (clock : ℕ) → List ItemRun → List Rest → List KeptItem
-seen_runs clock (run ∷ runs) (rest ∷ rests) = seen_run clock run rest ∷ seen_runs clock runs rests
-seen_runs clock _ _ = []
+-- what an item is seen to keep, where it owes so many frames, or does not rest
+abbrev pub seen_run : ItemRun → ItemBefore → Option ℕ → KeptItem
+seen_run run b None = kept_run run
+seen_run run b (Some frames) = owed_run frames b run
 
 -- there is room for what an item keeps
 abbrev pub HasRoom : ItemContents → ItemBefore → Type 0
@@ -105,11 +96,9 @@ abbrev pub ItemSeesSame : (now later : Instant) → ItemContents → Type 0
 ItemSeesSame now later (Unlocks id t) = SeeSame now later (groups_of t)
 ItemSeesSame now later (Ranks id format b) = MemberSeesSame now later (board_member b)
 
--- a reader is told of all that an item sees: where the nodes that it reads keep their values, the item sees the same
+-- a reader is told of all that an item sees
 abbrev pub IsToldOf : List Node → ReadersSeen → ItemContents → (reader : ℕ) → Type 0
-IsToldOf nodes readers item reader =
-    (values values' : List ℕ) (now later : Instant) → AreValuesAt nodes values now → AreValuesAt nodes values' later
-    → ((n : ℕ) → Reads readers n reader → slice_index values' n ≡ slice_index values n) → ItemSeesSame now later item
+IsToldOf nodes readers item reader = IsTold (λ now later. ItemSeesSame now later item) nodes readers reader
 
 -- While an item sees what it sees at these values, each frame more adds to what it owes, and it tells nothing.
 pub record GoesOn (nodes : List Node) (values : List ℕ) (item : ItemContents) (b : ItemBefore) (run : ItemRun) : Type 0 where
@@ -127,12 +116,12 @@ FitsRun (before.Achievement b) (Achievement run) = length b.hits.items ≡ lengt
 FitsRun (before.Leaderboard b) (Leaderboard run) = HaveOneShape (kept_before b.member) (kept_by run.member)
 FitsRun _ _ = ⊥
 
--- an item is stepped with what it owes paid, and what it kept before that is noted where it is not due any longer
-pub record StepsRest (table : TableSeen) (item : ItemContents) (seen : KeptItem) (due : Bool) (b : ItemBefore) (new : ItemRun) : Type 0 where
+-- an item is stepped with what it owes paid, and what it kept before that is noted where it rests
+pub record StepsRest (table : TableSeen) (item : ItemContents) (seen : KeptItem) (rests : Bool) (b : ItemBefore) (new : ItemRun) : Type 0 where
   pub mid : ItemRun
   pub is : IsItemRun table.nodes item mid
   pub kept : kept_run mid ≡ seen
-  pub noted : due ≡ false → IsNoted b mid
+  pub noted : rests ≡ true → IsNoted b mid
   pub steps : StepsItem table item mid new
 
 -- one frame of an item, from what it is seen to keep: what it is seen to keep after it, and what it tells
@@ -148,3 +137,7 @@ reads_of_run (Leaderboard run) = reads_of_member run.member
 -- an item is one with its plans where the old one was
 abbrev pub StaysItem : (old new : ItemRun) → Type 0
 StaysItem old new = (nodes : List Node) (item : ItemContents) → IsItemRun nodes item old → IsItemRun nodes item new
+
+-- the nodes that the item at a place reads
+abbrev pub reads_at : List ItemRun → ItemRun → ℕ → List ℕ
+reads_at runs run place = reads_of_run (get_or runs place run)

@@ -19,7 +19,7 @@ pub use board_run::BoardRun;
 pub use events::Events;
 pub use item_run::ItemRun;
 pub use item_state::ItemState;
-pub use rest::{BoardBefore, ItemBefore, Rest, TriggerBefore};
+pub use rest::{BoardBefore, ItemBefore, TriggerBefore};
 pub use restored::put_back_runs;
 pub use rests::Rests;
 pub use runs::{new_runs, state_in};

@@ -1,6 +1,6 @@
 //! What an item kept before a frame, and whether it rests: docs/DEFINITIONS.md, "Items at rest".
 
-ghost use Rattle.std.specs.Prelude.{◌≡◌, ◌≤◌, ◌<◌, ℕ, true, not, None, Some, if◌then◌else◌, length, slice_index, IfOk, IfSome};
+ghost use Rattle.std.specs.Prelude.{◌≡◌, ◌<◌, ℕ, true, length, slice_index, IfOk};
 ghost use Rattle.std.specs.Result.{OnOk};
 ghost use Rattle.ra_schedule.specs.Reads.{IsAllRead};
 ghost use Rattle.ra_condition.specs.Contents.{trigger_contents, trigger_hits};
@@ -24,7 +24,7 @@ use ra_leaderboard::{BoardState, BoardText};
 use ra_member::Member;
 use ra_memref::Table;
 use ra_schedule::{
-    Before, Readers, note_laid, note_member, note_row, owed, pay, pay_member, row_of, test_keeps,
+    Before, Readers, note_laid, note_member, note_row, pay, pay_member, row_of, test_keeps,
     value_keeps,
 };
 use ra_set::Item;
@@ -52,13 +52,6 @@ pub struct BoardBefore {
 pub enum ItemBefore {
     Achievement(TriggerBefore),
     Leaderboard(BoardBefore),
-}
-
-/// What an item kept before its last step, and since which count of frames it rests, if it does.
-#[derive(Drop)]
-pub struct Rest {
-    pub before: ItemBefore,
-    pub since: Option<u64>,
 }
 
 impl ItemBefore {
@@ -257,59 +250,42 @@ fn pay_board(run: &mut BoardRun, before: &ItemBefore, frames: u32)
     }
 }
 
-// Pays what an item owes, which rests no longer.
-fn wake(run: &mut ItemRun, rest: &mut Rest, clock: u64)
-    requires fits { FitsRun rest.old.before run.old }
-    requires since { IfSome rest.old.since (λ since. since ≤ clock) }
-    ensures kept { kept_run run.new ≡ seen_run clock run.old rest.old }
+// Pays what an item owes, where it rests.
+fn pay_owed(run: &mut ItemRun, before: &ItemBefore, owed: Option<u32>)
+    requires { FitsRun before.now run.old }
+    ensures kept { kept_run run.new ≡ seen_run run.old before.now owed }
     ensures run { StaysItem run.old run.new }
-    ensures fits { FitsRun rest.new.before run.new }
-    ensures before { rest.new.before ≡ rest.old.before }
-    ensures awake { rest.new.since ≡ None }
+    ensures fits { FitsRun before.now run.new }
 {
-    if let Some(since) = rest.since {
-        pay_run(run, &rest.before, owed(since, clock));
-        rest.since = None;
+    if let Some(frames) = owed {
+        pay_run(run, before, frames);
     }
 }
 
-// Steps an item by the frame of the table's last sample, with what it owes at a count of frames paid, and says whether
-// it rested at it: then it rests from the next count on. That is not looked at where it is not to be noted.
-//
-// Whether it is looked at is kept in its place and not asked twice, so that a step has one place in the program.
+// Steps an item by the frame of the table's last sample, with what it owes paid, and says whether it rested at it. That
+// is not looked at where it is not to be looked at.
 pub(crate) fn step_rest(
     run: &mut ItemRun,
-    rest: &mut Rest,
+    before: &mut ItemBefore,
     item: &Item,
     table: &Table,
-    clock: u64,
-    next: u64,
-    noting: bool,
+    owed: Option<u32>,
+    looked: bool,
 ) -> bool
     requires run { IsItemRun table.now.nodes (item_contents item.now) run.old }
-    requires room { HasRoom (item_contents item.now) rest.old.before }
-    requires since { IfSome rest.old.since (λ since. since ≤ clock) }
+    requires room { HasRoom (item_contents item.now) before.old }
     requires sampled { table.now.sampled ≡ true }
     ensures run { IsItemRun table.now.nodes (item_contents item.now) run.new }
-    ensures room { HasRoom (item_contents item.now) rest.new.before }
-    ensures since { rest.new.since ≡ (if result then Some next else None) }
-    ensures steps { StepsRest table.now (item_contents item.now) (seen_run clock run.old rest.old) (not result) rest.new.before run.new }
-    ensures rests { result ≡ true → ItemRests (item_contents item.now) rest.new.before run.new }
+    ensures room { HasRoom (item_contents item.now) before.new }
+    ensures steps { StepsRest table.now (item_contents item.now) (seen_run run.old before.old owed) result before.new run.new }
+    ensures rests { result ≡ true → ItemRests (item_contents item.now) before.new run.new }
 {
-    wake(run, rest, clock);
-    if noting {
-        rest.before.note(run);
-        rest.since = Some(next);
+    pay_owed(run, before, owed);
+    if looked {
+        before.note(run);
     }
     run.step(item, table);
-    if rest.since.is_none() {
-        return false;
-    }
-    if rest.before.rests(item, run) {
-        return true;
-    }
-    rest.since = None;
-    false
+    looked && before.rests(item, run)
 }
 
 // Notes that a reader reads what an item reads. Memory is the only refusal.

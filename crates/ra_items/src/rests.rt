@@ -1,30 +1,31 @@
 //! All items of a set, of which those that rest are not stepped: docs/DEFINITIONS.md, "Items at rest".
 
-ghost use Rattle.std.specs.Prelude.{◌≡◌, ◌≤◌, ◌<◌, ◌^◌, ◌+◌, ℕ, true, None, List, take, length, map, slice_index_or, IfOk};
+ghost use Rattle.std.specs.Prelude.{◌≡◌, ◌≤◌, ◌<◌, ◌^◌, ℕ, true, List, take, length, map, slice_index_or, IfOk};
 ghost use Rattle.ra_indirect.specs.declared.node.Node.{Node};
 ghost use Rattle.ra_set.specs.Contents.{ItemContents, item_contents};
+ghost use Rattle.ra_schedule.specs.Schedules.{AreReaders};
+ghost use Rattle.ra_items.specs.declared.item_run.ItemRun.{ItemRun};
 ghost use Rattle.ra_items.specs.AllRuns.{AreItemRuns};
 ghost use Rattle.ra_items.specs.ItemRuns.{kept_run};
-ghost use Rattle.ra_items.specs.Rests.{AreForgotten, AreRests, AreTold, AreSteppedSeen, HasPlace, IsSomeFrame, IsSteppedAt, WereRests, seen_by};
+ghost use Rattle.ra_items.specs.Resting.{reads_at};
+ghost use Rattle.ra_items.specs.Rests.{AreFitting, AreRests, AreTold, AreSteppedSeen, HasPlace, IsSomeFrame, IsSteppedAt, WereRests, seen_by};
 
 use crate::item_run::ItemRun;
-use crate::rest::{ItemBefore, Rest, note_reads, step_rest};
+use crate::rest::{ItemBefore, note_reads, step_rest};
 use ra_memref::Table;
-use ra_schedule::{Readers, is_looked_at, looks, many_changed, wake};
+use ra_schedule::{Readers, Schedule};
 use ra_set::Item;
 use ra_text::OutOfMemory;
 use std::alloc::Global;
 
-/// What each item owes, who reads which node and who is due, and who was stepped at the last frame.
+/// What each item kept before its last step, who is due, and who was stepped at the last frame.
 #[derive(Drop)]
 pub struct Rests {
-    pub each: Vec<Rest>,
-    pub readers: Readers,
+    pub each: Vec<ItemBefore>,
+    pub schedule: Schedule,
     /// The places of the items that were stepped at the last frame, in order, as many as are counted.
     pub stepped: Vec<u32>,
     pub count: usize,
-    /// A count of frames that only goes on.
-    pub clock: u64,
 }
 
 impl Rests {
@@ -42,23 +43,15 @@ impl Rests {
         ensures rests { IfOk result (λ rests. (values : List ℕ) → AreRests table.now.nodes values (map item_contents items.now) runs.now rests) }
         ensures kept { IfOk result (λ rests. seen_by runs.now rests ≡ map kept_run runs.now) }
     {
-        let mut each = Vec::new(alloc);
-        let mut readers = Readers::new(alloc, nodes, items.len())?;
-        for (place, run) in runs.iter().enumerate() {
-            let before = ItemBefore::new(alloc, run)?;
-            each.push(Rest {
-                before,
-                since: None,
-            })?;
-            note_reads(&mut readers, run, place as u32)?;
-        }
+        let readers = readers_of(alloc, runs, items, table, nodes)?;
+        let schedule = Schedule::new(alloc, readers, items.len())?;
+        let each = befores_of(alloc, runs)?;
         let stepped = vec![in alloc; 0; items.len()]?;
         Ok(Rests {
             each,
-            readers,
+            schedule,
             stepped,
             count: 0,
-            clock: 0,
         })
     }
 
@@ -75,18 +68,14 @@ impl Rests {
         ensures stepped { AreSteppedSeen table.now (map item_contents items.now) (seen_by runs.old self.old) (seen_by runs.new self.new) runs.new }
         ensures told { AreTold (map item_contents items.now) runs.new self.new }
     {
-        let noting = !many_changed(&self.readers, table);
-        wake(&mut self.readers, items.len(), self.clock, table);
+        self.schedule.begin(table.changed());
         self.count = 0;
-        let now = self.clock.saturating_add(1);
-        let mut left = looks(items.len());
         let mut at = 0;
-        while let Some(place) = self.readers.next_due(at) {
-            self.step_at(runs, items, table, place, now, noting, left);
-            left = left.saturating_sub(1);
+        while let Some(place) = self.schedule.next_due(at) {
+            self.step_at(runs, items, table, place);
             at = place + 1;
         }
-        self.clock = now;
+        self.schedule.end();
     }
 
     /// The places of the items that were stepped at the last frame, in order.
@@ -98,34 +87,24 @@ impl Rests {
     }
 
     // Steps the item at a place, which rests from the next count of frames on where it is seen to have rested at this one.
-    fn step_at(
-        &mut self,
-        runs: &mut [ItemRun],
-        items: &[Item],
-        table: &Table,
-        place: usize,
-        next: u64,
-        noting: bool,
-        left: usize,
-    )
+    fn step_at(&mut self, runs: &mut [ItemRun], items: &[Item], table: &Table, place: usize)
         requires here { place < length items.now }
-        requires due { slice_index_or self.old.readers.due place true ≡ true }
+        requires due { slice_index_or self.old.schedule.readers.due place true ≡ true }
         requires runs { AreItemRuns table.now.nodes (map item_contents items.now) runs.old }
         requires place { HasPlace (map item_contents items.now) self.old place }
         requires sampled { table.now.sampled ≡ true }
         requires few { length items.now < 2 ^ 32 }
-        ensures { IsSteppedAt table.now (map item_contents items.now) place next runs.old runs.new self.old self.new }
+        ensures { IsSteppedAt table.now (map item_contents items.now) place runs.old runs.new self.old self.new }
     {
+        let owed = self.schedule.owed(place);
+        let looked = self.schedule.looks_at(place);
         let run = &mut runs[place];
-        let rest = &mut self.each[place];
-        let looked = noting && is_looked_at(left, rest.since.is_some(), place, self.clock);
+        let before = &mut self.each[place];
         let item = &items[place];
-        let rests = step_rest(run, rest, item, table, self.clock, next, looked);
+        let rests = step_rest(run, before, item, table, owed, looked);
         self.stepped[self.count] = place as u32;
         self.count += 1;
-        if rests {
-            self.readers.put(place, false);
-        }
+        self.schedule.note(place, rests);
     }
 
     /// No item rests any longer, and each is due. What they owe is given up.
@@ -134,16 +113,38 @@ impl Rests {
             → AreRests nodes values items before self.old → AreRests nodes later items runs self.new }
         ensures kept { (runs : List ItemRun) → length runs ≡ length self.old.each.items → seen_by runs self.new ≡ map kept_run runs }
     {
-        forget_each(&mut self.each);
-        self.readers.wake_all();
+        self.schedule.forget();
     }
 }
 
-// None of these rests any longer.
-fn forget_each(rests: &mut [Rest])
-    ensures { AreForgotten rests.old rests.new }
+// Who of the items reads which node, and all are due. Memory is the only refusal.
+fn readers_of(
+    alloc: Global,
+    runs: &[ItemRun],
+    items: &[Item],
+    table: &Table,
+    nodes: usize,
+) -> Result<Readers, OutOfMemory>
+    requires runs { AreItemRuns table.now.nodes (map item_contents items.now) runs.now }
+    requires nodes { length table.now.nodes ≡ nodes }
+    requires few { length items.now < 2 ^ 32 }
+    ensures { IfOk result (λ readers. AreReaders ItemRun (reads_at runs.now) nodes (length items.now) readers (length items.now)) }
 {
-    for place in 0..rests.len() {
-        rests[place].since = None;
+    let mut readers = Readers::new(alloc, nodes, items.len())?;
+    for (place, run) in runs.iter().enumerate() {
+        note_reads(&mut readers, run, place as u32)?;
     }
+    Ok(readers)
+}
+
+// What each item keeps now, in rooms of its own. Memory is the only refusal.
+fn befores_of(alloc: Global, runs: &[ItemRun]) -> Result<Vec<ItemBefore>, OutOfMemory>
+    ensures { IfOk result (λ befores. AreFitting runs.now befores.items) }
+{
+    let mut befores = Vec::new(alloc);
+    for run in runs {
+        let before = ItemBefore::new(alloc, run)?;
+        befores.push(before)?;
+    }
+    Ok(befores)
 }

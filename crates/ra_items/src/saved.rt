@@ -14,17 +14,16 @@ ghost use Rattle.ra_member.specs.Members.{saved_hits, saved_numbers};
 ghost use Rattle.ra_member.specs.MemberRuns.{kept_by};
 ghost use Rattle.ra_leaderboard.specs.States.{board_byte};
 ghost use Rattle.ra_progress.specs.Contents.{OfBoard};
-ghost use Rattle.std.specs.Prelude.{IfSome};
 ghost use Rattle.ra_items.specs.Shapes.{run_shape};
 
 use crate::achievement_run::AchievementRun;
 use crate::board_run::BoardRun;
 use crate::item_run::ItemRun;
-use crate::rest::{ItemBefore, Rest};
+use crate::rest::ItemBefore;
 use crate::rests::Rests;
 use ra_member::Member;
 use ra_progress::{put_achievement, put_board, put_presence, state_byte};
-use ra_schedule::{hits_before, owed, pay, row_of};
+use ra_schedule::{hits_before, pay, row_of};
 use ra_text::OutOfMemory;
 use std::alloc::Global;
 
@@ -38,42 +37,35 @@ pub fn put_runs(
 ) -> Result<(), OutOfMemory>
     requires names { length names.now ≡ length runs.now }
     requires many { length rests.now.each.items ≡ length runs.now }
-    requires fit { AreFitting runs.now rests.now.each.items rests.now.clock }
+    requires fit { AreFitting runs.now rests.now.each.items }
     requires short { sum_by item_length (map run_shape runs.now) ≤ 8388608 }
     ensures bytes { OnOk result (bytes.new.items
         ≡ bytes.old.items ++ named_blocks names.now (map item_bytes (seen_by runs.now rests.now))) }
     ensures fit { OnOk result (ItemsFit (map run_shape runs.now) (seen_by runs.now rests.now)) }
 {
     for k in 0..runs.len() {
-        put_run(
-            alloc,
-            bytes,
-            &names[k],
-            &runs[k],
-            &rests.each[k],
-            rests.clock,
-        )?;
+        let owed = rests.schedule.owed(k);
+        put_run(alloc, bytes, &names[k], &runs[k], &rests.each[k], owed)?;
     }
     Ok(())
 }
 
-// Writes what is kept of an item behind other bytes, with its name, and what it owes at a count of frames.
+// Writes what is kept of an item behind other bytes, with its name, and what it owes with it.
 fn put_run(
     alloc: Global,
     bytes: &mut Vec<u8>,
     name: &[u8; 16],
     run: &ItemRun,
-    rest: &Rest,
-    clock: u64,
+    before: &ItemBefore,
+    owed: Option<u32>,
 ) -> Result<(), OutOfMemory>
-    requires fits { FitsRun rest.now.before run.now }
-    requires since { IfSome rest.now.since (λ since. since ≤ clock) }
+    requires fits { FitsRun before.now run.now }
     requires short { item_length (run_shape run.now) ≤ 8388608 }
-    ensures bytes { OnOk result (bytes.new.items ≡ bytes.old.items ++ named_block name.now (item_bytes (seen_run clock run.now rest.now))) }
-    ensures fits { OnOk result (ItemFits (run_shape run.now) (seen_run clock run.now rest.now)) }
+    ensures bytes { OnOk result (bytes.new.items ≡ bytes.old.items ++ named_block name.now (item_bytes (seen_run run.now before.now owed))) }
+    ensures fits { OnOk result (ItemFits (run_shape run.now) (seen_run run.now before.now owed)) }
 {
-    match rest.since {
-        Some(since) => put_owed(alloc, bytes, name, run, &rest.before, owed(since, clock)),
+    match owed {
+        Some(frames) => put_owed(alloc, bytes, name, run, before, frames),
         None => put_kept(alloc, bytes, name, run),
     }
 }

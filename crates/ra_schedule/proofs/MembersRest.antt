@@ -1,5 +1,7 @@
 -- Members that rest, and what they owe.
+pub mod Frames
 pub mod GoesOn
+pub mod SeenAll
 pub mod OneOn
 pub mod Reading
 pub mod SeesSame

@@ -4,6 +4,7 @@ pub mod Inputs
 pub mod Owing
 pub mod Readers
 pub mod Reads
+pub mod Schedules
 pub mod Triggers
 pub mod Values
 pub mod Waking

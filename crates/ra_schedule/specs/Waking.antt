@@ -34,8 +34,12 @@ pub record IsWoken (clock : ℕ) (nodes : List ℕ) (old new : ReadersSeen) : Ty
   pub kept : (r : ℕ) → slice_index_or new.due r true ≡ false → (slice_index_or old.due r true ≡ false) × (clock < 18446744073709551615)
   pub woken : (r n : ℕ) → slice_index_or new.due r true ≡ false → IsListed n nodes → Reads old n r → ⊥
 
--- a reader is told of all that a member sees: where the nodes that it reads keep their values, the member sees the same
-abbrev pub IsMemberTold : List Node → ReadersSeen → MemberContents → (reader : ℕ) → Type 0
-IsMemberTold nodes readers m reader =
+-- a reader is told of all that something sees: where the nodes that it reads keep their values, it sees the same
+abbrev pub IsTold : (Sees : Instant → Instant → Type 0) → List Node → ReadersSeen → (reader : ℕ) → Type 0
+IsTold Sees nodes readers reader =
     (values values' : List ℕ) (now later : Instant) → AreValuesAt nodes values now → AreValuesAt nodes values' later
-    → ((n : ℕ) → Reads readers n reader → slice_index values' n ≡ slice_index values n) → MemberSeesSame now later m
+    → ((n : ℕ) → Reads readers n reader → slice_index values' n ≡ slice_index values n) → Sees now later
+
+-- a reader is told of all that a member sees
+abbrev pub IsMemberTold : List Node → ReadersSeen → MemberContents → (reader : ℕ) → Type 0
+IsMemberTold nodes readers m reader = IsTold (λ now later. MemberSeesSame now later m) nodes readers reader

@@ -10,6 +10,7 @@ mod laws;
 mod paying;
 mod readers;
 mod reads;
+mod schedule;
 mod seen;
 mod waking;
 
@@ -19,8 +20,8 @@ pub use laws::{
     achievements_rest, groups_rest, hits_are_owed, rest_goes_on, rest_is_seen, tests_rest,
     values_rest,
 };
-pub use paying::{owed, pay_member};
+pub use paying::pay_member;
 pub use readers::Readers;
 pub use reads::{note_laid, note_member};
+pub use schedule::Schedule;
 pub use seen::{is_free, pay};
-pub use waking::{is_looked_at, looks, many_changed, wake};

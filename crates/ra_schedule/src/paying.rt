@@ -9,12 +9,11 @@ use crate::before::{Before, ValueBefore};
 use crate::seen::pay;
 use ra_member::{Member, TriggerRun, ValueRun};
 
-/// How many frames are owed between two counts of frames, as far as hits can tell: at most 4,294,967,295.
-pub fn owed(since: u64, now: u64) -> u32
-    requires { since ≤ now }
+// How many frames are owed between two counts of frames, as far as hits can tell: at most 4,294,967,295.
+pub(crate) fn owed(since: u64, now: u64) -> u32
     ensures { AreFramesOwed (now - since) result }
 {
-    let frames = now - since;
+    let frames = now.saturating_sub(since);
     if frames < 4_294_967_295 {
         frames as u32
     } else {

@@ -17,7 +17,7 @@ overflow_cast-run c =
     let old = c.args.run.now in
     let rests = c.args.rests.now in
     let now = c.step.new.self in
-    let seen : AreLinesSeen c.args.table.now lines (seen_lines rests.clock old.lines.items rests.each.items) (seen_lines now.clock c.step.new.runs now.each.items) now.holds =
+    let seen : AreLinesSeen c.args.table.now lines (seen_lines old.lines.items rests) (seen_lines c.step.new.runs now) now.holds =
     rw (c.deref.ensures.value, c.deref_mut.ensures.value) at c.step.ensures.stepped in
     let untested = untested_hold c.args.table.now c.requires.frame.start c.requires.frame.image c.requires.frame.has lines _ _ now.holds seen in
     omega (arith, c.requires.spelled.1, c.first-first.ensures.first, first_shown lines now.holds c.requires.spelled.0.lines untested)
@@ -30,7 +30,7 @@ returns-clause-run c =
     let news = c.step.new.runs in
     let rests = c.args.rests.now in
     let now = c.step.new.self in
-    let seen : AreLinesSeen c.args.table.now lines (seen_lines rests.clock old.lines.items rests.each.items) (seen_lines now.clock news now.each.items) now.holds =
+    let seen : AreLinesSeen c.args.table.now lines (seen_lines old.lines.items rests) (seen_lines news now) now.holds =
     rw (c.deref.ensures.value, c.deref_mut.ensures.value) at c.step.ensures.stepped in
     let untested = untested_hold c.args.table.now c.requires.frame.start c.requires.frame.image c.requires.frame.has lines _ _ now.holds seen in
     let runs : AreLineRuns table.nodes lines news = rw c.deref.ensures.value at c.step.ensures.runs in
@@ -61,8 +61,8 @@ returns-clause-steps c =
     let now = c.step.new.self in
     let new : PresenceRun = record { lines = with_items old.lines news; shown = c.first-first.result } in
     let same : (with_items old.lines news).items ≡ news = with_items_is old.lines news (c.step.auto.runs ∙ c.deref_mut.ensures.len) in
-    let seen : AreLinesSeen table script.lines (seen_lines rests.clock old.lines.items rests.each.items) (seen_lines now.clock news now.each.items) now.holds =
+    let seen : AreLinesSeen table script.lines (seen_lines old.lines.items rests) (seen_lines news now) now.holds =
     rw (c.deref.ensures.value, c.deref_mut.ensures.value) at c.step.ensures.stepped in
-    let seen_too = subst (λ (rs : List Member). AreLinesSeen table script.lines (seen_lines rests.clock old.lines.items rests.each.items) (seen_lines now.clock rs now.each.items) now.holds) (sym same) seen in
+    let seen_too = subst (λ (rs : List Member). AreLinesSeen table script.lines (seen_lines old.lines.items rests) (seen_lines rs now) now.holds) (sym same) seen in
     subst (λ (q : LineRests). StepsPresence table script (presence_seen old rests) (presence_seen new q)) (sym c.first-first.ensures.same)
     (presence_stepped table c.requires.rests.values script old new rests now c.requires.run c.requires.rests.are seen_too c.first-first.ensures.first)

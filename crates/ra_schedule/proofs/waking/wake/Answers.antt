@@ -1,5 +1,4 @@
-use Rattle.std.proofs.Common.{◌≡◌, List, ℕ, true, false, refl, sym, ◌∙◌, subst, arith}
-use Rattle.ra_memref.specs.Table.{IsListed}
+use Rattle.std.proofs.Common.{◌≡◌, true, false, refl, sym, ◌∙◌, arith}
 use Rattle.ra_schedule.proofs.MembersRest.Woken.{none_quiet}
 use Rattle.ra_schedule.proofs.waking.wake.Goals as goal
 
@@ -20,6 +19,6 @@ returns-else-many_changed c =
       long = c.wake.ensures.long;
       kept = λ r quiet. (c.wake.ensures.kept r quiet, omega arith);
       woken = λ r n quiet listed reads.
-          let due = c.wake.ensures.woken r n (subst (λ (xs : List ℕ). IsListed n xs) (sym c.changed.ensures) listed) reads in
+          let due = c.wake.ensures.woken r n listed reads in
           let bad : true ≡ false = sym due ∙ quiet in cc;
     }

@@ -4,7 +4,8 @@ use Rattle.ra_display.proofs.LineSteps.{AreLinesFar}
 use Rattle.ra_display.proofs.line_rests.LineRests.step.Given as goal
 
 abbrev pub invariant-loop-place : goal.invariant-loop-place
-invariant-loop-place l = AreLinesFar l.table (map line_contents l.lines) l.now l.fn.runs l.initial.self l.runs l.self l.at
+invariant-loop-place l =
+    AreLinesFar l.table (map line_contents l.lines) l.fn.runs l.fn.self l.initial.self.schedule l.runs l.self l.at
 
 abbrev pub decreases-loop-place : goal.decreases-loop-place
 decreases-loop-place l = length l.lines - l.at

@@ -4,7 +4,8 @@ use Rattle.ra_items.proofs.RestSteps.{IsFar}
 use Rattle.ra_items.proofs.rests.Rests.step.Given as goal
 
 abbrev pub invariant-loop-place : goal.invariant-loop-place
-invariant-loop-place l = IsFar l.table (map item_contents l.items) l.initial.self.clock l.now l.fn.runs l.initial.self l.runs l.self l.at
+invariant-loop-place l =
+    IsFar l.table (map item_contents l.items) l.fn.runs l.fn.self l.initial.self.schedule l.runs l.self l.at
 
 abbrev pub decreases-loop-place : goal.decreases-loop-place
 decreases-loop-place l = length l.items - l.at

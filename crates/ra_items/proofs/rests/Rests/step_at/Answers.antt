@@ -1,12 +1,11 @@
-use Rattle.std.proofs.Common.{true, false, not, None, Some, if◌then◌else◌, map, get_or, refl, sym, ◌∙◌, ap, subst, arith}
-use Rattle.std.proofs.lemmas.Bool.{true≢false}
+use Rattle.std.proofs.Common.{map, get_or, refl, sym, ◌∙◌, ap, subst, arith}
 use Rattle.std.proofs.lemmas.List.{length-map}
 use Rattle.ra_set.specs.Contents.{ItemContents, item_contents}
-use Rattle.ra_items.specs.declared.rest.Rest.{Rest}
+use Rattle.ra_schedule.specs.Schedules.{ScheduleSeen, noted_at}
+use Rattle.ra_items.specs.declared.rest.ItemBefore.{ItemBefore}
 use Rattle.ra_items.specs.ItemRuns.{IsItemRun}
 use Rattle.ra_items.specs.declared.item_run.ItemRun.{ItemRun}
 use Rattle.ra_items.specs.Resting.{HasRoom, StepsRest, seen_run}
-use Rattle.ra_schedule.proofs.MembersRest.Woken.{still_due}
 use Rattle.ra_items.proofs.RunsLemmas.{length_runs, run_at}
 use Rattle.ra_items.proofs.StepAt.{contents_at, stepped_at}
 use Rattle.ra_items.proofs.rests.Rests.step_at.Goals as goal
@@ -27,34 +26,18 @@ pub step_rest-rests-requires-clause-room : goal.step_rest-rests-requires-clause-
 step_rest-rests-requires-clause-room c =
     let items = c.args.items.now in
     let item = c.index-items-place.result in
-    let rest = c.index_mut-rest.result.now in
-    subst (λ (i : ItemContents). HasRoom i rest.before) (contents_at items c.args.place item (item_contents item) c.requires.here c.index-items-place.is)
-    (subst (λ (e : Rest). HasRoom (get_or (map item_contents items) c.args.place (item_contents item)) e.before) (sym c.index_mut-rest.ensures.value) (c.requires.place.rooms (item_contents item) rest))
+    let had = c.index_mut-before.result.now in
+    subst (λ (i : ItemContents). HasRoom i had) (contents_at items c.args.place item (item_contents item) c.requires.here c.index-items-place.is)
+    (subst (λ (b : ItemBefore). HasRoom (get_or (map item_contents items) c.args.place (item_contents item)) b) (sym c.index_mut-before.ensures.value) (c.requires.place.rooms (item_contents item) had))
 
-pub returns-then-rests : goal.returns-then-rests
-returns-then-rests c =
+pub returns : goal.returns
+returns c =
     let items = c.args.items.now in
     let item = c.index-items-place.result in
-    let had = c.index_mut-rest.result.now in
     let stepped = c.step_rest-rests in
-    stepped_at c.args.table.now items c.args.place c.args.next c.args.runs.now _ c.args.self.now _ item c.index-runs-place.result stepped.new.run had stepped.new.rest false
-    c.requires.here c.index-items-place.is (omega (arith, c.requires.here, length_runs c.args.table.now.nodes (map item_contents items) c.args.runs.now c.requires.runs, length-map items item_contents)) (omega (arith, c.requires.here, c.requires.place.many, length-map items item_contents)) c.index-runs-place.is c.index_mut-rest.ensures.value
-    refl refl c.put.ensures refl refl refl stepped.ensures.run stepped.ensures.room
-    (subst (λ b. StepsRest c.args.table.now (item_contents item) (seen_run c.args.self.now.clock c.index-runs-place.result had) (not b) stepped.new.rest.before stepped.new.run) c.if-rests.true
-    (subst (λ (r : ItemRun). StepsRest c.args.table.now (item_contents item) (seen_run c.args.self.now.clock r had) (not stepped.result) stepped.new.rest.before stepped.new.run) (sym c.index-runs-place.is) stepped.ensures.steps))
-    (λ quiet. stepped.ensures.rests c.if-rests.true)
-    (stepped.ensures.since ∙ ap (λ b. if b then Some c.args.next else None) c.if-rests.true)
-
-pub returns-else-rests : goal.returns-else-rests
-returns-else-rests c =
-    let items = c.args.items.now in
-    let item = c.index-items-place.result in
-    let had = c.index_mut-rest.result.now in
-    let stepped = c.step_rest-rests in
-    stepped_at c.args.table.now items c.args.place c.args.next c.args.runs.now _ c.args.self.now _ item c.index-runs-place.result stepped.new.run had stepped.new.rest true
-    c.requires.here c.index-items-place.is (omega (arith, c.requires.here, length_runs c.args.table.now.nodes (map item_contents items) c.args.runs.now c.requires.runs, length-map items item_contents)) (omega (arith, c.requires.here, c.requires.place.many, length-map items item_contents)) c.index-runs-place.is c.index_mut-rest.ensures.value
-    refl refl (still_due c.args.self.now.readers c.args.place c.requires.due) refl refl refl stepped.ensures.run stepped.ensures.room
-    (subst (λ b. StepsRest c.args.table.now (item_contents item) (seen_run c.args.self.now.clock c.index-runs-place.result had) (not b) stepped.new.rest.before stepped.new.run) c.if-rests.false
-    (subst (λ (r : ItemRun). StepsRest c.args.table.now (item_contents item) (seen_run c.args.self.now.clock r had) (not stepped.result) stepped.new.rest.before stepped.new.run) (sym c.index-runs-place.is) stepped.ensures.steps))
-    (λ quiet. absurd (true≢false quiet))
-    (stepped.ensures.since ∙ ap (λ b. if b then Some c.args.next else None) c.if-rests.false)
+    let had = c.index_mut-before.result.now in
+    stepped_at c.args.table.now items c.args.place c.args.runs.now _ c.args.self.now _ item c.index-runs-place.result stepped.new.run had stepped.new.before c.owed-owed.result stepped.result
+    c.requires.here c.index-items-place.is (omega (arith, c.requires.here, length_runs c.args.table.now.nodes (map item_contents items) c.args.runs.now c.requires.runs, length-map items item_contents)) (omega (arith, c.requires.here, c.requires.place.many, length-map items item_contents)) c.index-runs-place.is c.index_mut-before.ensures.value c.owed-owed.ensures
+    refl refl (c.note.ensures ∙ ap (λ (s : ScheduleSeen). noted_at c.args.place stepped.result s) c.looks_at-looked.ensures) refl refl stepped.ensures.run stepped.ensures.room
+    (subst (λ (r : ItemRun). StepsRest c.args.table.now (item_contents item) (seen_run r had c.owed-owed.result) stepped.result stepped.new.before stepped.new.run) (sym c.index-runs-place.is) stepped.ensures.steps)
+    stepped.ensures.rests

@@ -28,8 +28,10 @@ step-requires-clause-rests g c =
     transport (λ i. WereRests now (map item_contents (sym c.deref.ensures.value i)) (sym c.deref_mut.ensures.value i) t.rests) (record {
       values = t.table.values;
       are = subst (λ (ns : List Node). AreRests ns t.table.values items t.runs.items t.rests) (sym same) c.self.invariant.rests;
-      each = λ n within differ. changed.each n (subst (λ (ns : List Node). n < length ns) same within) differ;
-      nodes = λ k within. subst (λ (ns : List Node). slice_index now.changed k < length ns) (sym same) (changed.nodes k within);
+      changed = record {
+        each = λ n within differ. changed.each n (subst (λ (ns : List Node). n < length ns) same within) differ;
+        nodes = λ k within. subst (λ (ns : List Node). slice_index now.changed k < length ns) (sym same) (changed.nodes k within);
+      };
     })
 
 pub step-requires-clause-frame : goal.step-requires-clause-frame

@@ -22,8 +22,7 @@ use Rattle.ra_items.proofs.ShapeLemmas.{runs_shaped}
 use Rattle.ra_runtime.proofs.LaidShapes.{presence_shaped}
 use Rattle.ra_items.proofs.RunsLemmas.{length_runs}
 use Rattle.ra_runtime.proofs.SavedOpening.{opening_taken, short_parts}
-use Rattle.ra_items.proofs.SaveLemmas.{seen_many}
-use Rattle.ra_items.proofs.SeenItems.{rests_fit}
+use Rattle.ra_items.proofs.SeenItems.{rests_fit, seen_long}
 use Rattle.ra_runtime.proofs.course.Course.save.Goals as goal
 
 pub begin-requires-clause-cells : goal.begin-requires-clause-cells
@@ -63,7 +62,7 @@ pub put_runs-requires-clause-fit : goal.put_runs-requires-clause-fit
 put_runs-requires-clause-fit c =
     let t = c.self.inside in
     let inv = c.self.invariant in
-    subst (λ (runs : List ItemRun). AreFitting runs t.rests.each.items t.rests.clock) (sym c.deref-2.ensures.value)
+    subst (λ (runs : List ItemRun). AreFitting runs t.rests.each.items) (sym c.deref-2.ensures.value)
     (rests_fit t.table.nodes t.table.values (set_contents t.set).items t.runs.items t.rests inv.runs inv.rests)
 
 pub put_display-requires-clause-fit : goal.put_display-requires-clause-fit
@@ -87,7 +86,7 @@ returns-clause-bytes c =
     let rests = c.self.inside.rests in
     let o = opening_by c.self.inside.count c.self.inside.table (seen_by runs rests) (optional_presence_seen c.self.inside.presence c.self.inside.line_rests) in
     let shaped = runs_shaped c.self.inside.table.nodes set.items runs inv.runs ∙ sym (ap (λ (s : ShapeContents). s.items) inv.shape) in
-    let many : length shape.item_names ≡ length o.items = inv.usable.searchable.paired.items ∙ sym (ap length shaped) ∙ length-map runs run_shape ∙ sym (seen_many rests.clock runs rests.each.items (inv.rests.many ∙ sym (length_runs c.self.inside.table.nodes set.items runs inv.runs))) in
+    let many : length shape.item_names ≡ length o.items = inv.usable.searchable.paired.items ∙ sym (ap length shaped) ∙ length-map runs run_shape ∙ sym (seen_long runs rests (inv.rests.many ∙ sym (length_runs c.self.inside.table.nodes set.items runs inv.runs))) in
     let front : c.in_ok-bytes.bytes.items ≡ front_bytes shape o.frames o.cells o.priors = rw (c.cells-cells.ensures, c.priors-priors.ensures) at c.in_ok-bytes.ensures.bytes in
     let items = named_blocks shape.item_names (map item_bytes o.items) in
     let display = named_blocks (option_to_list shape.presence_name) (presence_block o.presence) in

@@ -1,5 +1,0 @@
-use Rattle.ra_display.proofs.NewRests.{AreForgottenTo}
-use Rattle.ra_display.proofs.line_rests.forget_each.Given as goal
-
-abbrev pub invariant-loop-place : goal.invariant-loop-place
-invariant-loop-place l = AreForgottenTo l.fn.rests l.rests l.place

@@ -1,0 +1,86 @@
+-- Who is due at a frame, and what those at rest owe: docs/DEFINITIONS.md, "Schedules".
+use Rattle.std.specs.Prelude.{◌≡◌, ℕ, suc, ◌+◌, ◌-◌, ◌<◌, ◌≤◌, min, not, Bool, true, false, if◌then◌else◌, Option, None, Some, IfSome, List, [], ◌∷◌, length, replicate, slice_index, slice_index_or, slice_set}
+use Rattle.std.specs.Option.{is_some}
+use Rattle.ra_schedule.specs.Readers.{ReadersSeen, Reads}
+use Rattle.ra_schedule.specs.Waking.{IsWoken}
+
+-- what a schedule is seen as: who reads which signal and who is due, since which count of frames each place rests, and the count of now
+pub record ScheduleSeen : Type 0 where
+  pub readers : ReadersSeen
+  pub since : List (Option ℕ)
+  pub clock : ℕ
+
+-- whether a place is due
+abbrev pub is_due : ScheduleSeen → (place : ℕ) → Bool
+is_due s place = slice_index_or s.readers.due place true
+
+-- since which count of frames a place rests, if it does
+abbrev pub since_at : ScheduleSeen → (place : ℕ) → Option ℕ
+since_at s place = slice_index_or s.since place None
+
+-- how many frames are owed at a count of frames, by what rests since one of them or not at all
+abbrev pub frames_since : (clock : ℕ) → Option ℕ → Option ℕ
+frames_since clock None = None
+frames_since clock (Some since) = Some (clock - since)
+
+-- how many frames a place owes, where it rests
+abbrev pub owed_at : ScheduleSeen → (place : ℕ) → Option ℕ
+owed_at s place = frames_since s.clock (since_at s place)
+
+-- so many frames as far as hits can tell: all of them, or the most that a hit can count
+abbrev pub as_hits_tell : Option ℕ → Option ℕ
+as_hits_tell None = None
+as_hits_tell (Some frames) = Some (min frames 4294967295)
+
+-- the count of frames after one, which stops at the last number
+abbrev pub next_count : ℕ → ℕ
+next_count clock = min (clock + 1) 18446744073709551615
+
+-- readers that are all due
+abbrev pub all_woken : ReadersSeen → ReadersSeen
+all_woken readers = record readers { due = replicate (length readers.due) true }
+
+-- no place rests, and each is due
+abbrev pub nothing_owed : ReadersSeen → (clock : ℕ) → ScheduleSeen
+nothing_owed readers clock =
+    record { readers = all_woken readers; since = replicate (length readers.due) None; clock = clock }
+
+-- a place was stepped: it rests from the next count of frames on, or is due
+abbrev pub noted_at : (place : ℕ) → (rests : Bool) → ScheduleSeen → ScheduleSeen
+noted_at place rests s = record {
+  readers = record s.readers { due = slice_set s.readers.due place (not rests) };
+  since = slice_set s.since place (if rests then Some (next_count s.clock) else None);
+  clock = s.clock;
+}
+
+-- a frame begins at which these signals changed: who reads one of them is due, and none owes more or less
+pub record Begins (signals : List ℕ) (old new : ScheduleSeen) : Type 0 where
+  pub woken : IsWoken old.clock signals old.readers new.readers
+  pub since : new.since ≡ old.since
+  pub clock : new.clock ≡ old.clock
+
+-- between frames: so many places, of which each rests since no later count; who is not due rests, and this holds of it
+pub record AreAtRest (On : ℕ → Type 0) (places : ℕ) (s : ScheduleSeen) : Type 0 where
+  pub due_many : length s.readers.due ≡ places
+  pub since_many : length s.since ≡ places
+  pub early : (k : ℕ) → k < places → IfSome (since_at s k) (λ since. since ≤ s.clock)
+  pub rests : (k : ℕ) → k < places → is_due s k ≡ false → is_some (since_at s k) ≡ true
+  pub on : (k : ℕ) → k < places → is_due s k ≡ false → On k
+
+-- what is seen of each place, by what it has, what it had before its rest, and how many frames it owes
+abbrev pub seen_all : {Run Before Kept : Type 0} → (Run → Before → Option ℕ → Kept) → (owed : ℕ → Option ℕ) → List Run → List Before → List Kept
+seen_all seen owed (run ∷ runs) (before ∷ befores) = seen run before (owed 0) ∷ seen_all seen (λ k. owed (suc k)) runs befores
+seen_all seen owed _ _ = []
+
+-- one frame of each, from what is seen of it before to what is seen of it after, beside what it says
+abbrev pub AllSteps : {Thing Kept Said : Type 0} → (Thing → Kept → Kept → Said → Type 0) → List Thing → (olds news : List Kept) → List Said → Type 0
+AllSteps Steps [] [] [] [] = Unit {0}
+AllSteps Steps (thing ∷ things) (old ∷ olds) (new ∷ news) (said ∷ all) =
+    Steps thing old new said × AllSteps Steps things olds news all
+AllSteps Steps _ _ _ _ = ⊥
+
+-- so many readers, all due, of which the ones in front of a place read what they are to read, whatever run stands past the last one
+pub record AreReaders (Run : Type 0) (reads : Run → ℕ → List ℕ) (signals places : ℕ) (readers : ReadersSeen) (place : ℕ) : Type 0 where
+  pub rows : length readers.rows ≡ signals
+  pub due : readers.due ≡ replicate places true
+  pub noted : (run : Run) (k : ℕ) → k < place → (j : ℕ) → j < length (reads run k) → Reads readers (slice_index (reads run k) j) k

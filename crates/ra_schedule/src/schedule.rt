@@ -1,0 +1,133 @@
+ghost use Rattle.std.specs.Prelude.{◌≡◌, ◌≤◌, ◌<◌, ℕ, true, None, length, slice_index, slice_index_or, IfOk, IfSome};
+ghost use Rattle.ra_memref.specs.Flags.{NoneSet, IsFirstSet};
+ghost use Rattle.ra_schedule.specs.Schedules.{Begins, ScheduleSeen, as_hits_tell, next_count, noted_at, nothing_owed, owed_at};
+
+use crate::paying::owed;
+use crate::readers::Readers;
+use crate::waking::{is_looked_at, looks, many_changed, wake};
+use ra_text::OutOfMemory;
+use std::alloc::Global;
+use std::marker::Model;
+
+/// Which places are due at a frame, and since when each other one rests: docs/DEFINITIONS.md, "Schedules".
+///
+/// Its owner lets a frame begin with the signals that changed, takes the places that are due one by one, pays what
+/// each owes, steps it and notes whether it rests, and ends the frame. Only `new` takes memory.
+#[derive(Drop)]
+pub struct Schedule {
+    readers: Readers,
+    since: Vec<Option<u64>>,
+    // a count of frames that only goes on
+    clock: u64,
+    // whether any place is looked at for rest at this frame, and how many still are, whatever their places are
+    looking: bool,
+    left: usize,
+}
+
+impl Model for Schedule {
+    ghost use Rattle.std.specs.Prelude.{◌≡◌, length};
+    ghost use Rattle.ra_schedule.specs.Schedules.{ScheduleSeen};
+
+    ghost Value = { ScheduleSeen };
+
+    ghost view = { λ s. record { readers = s.readers; since = s.since.items; clock = s.clock } };
+
+    ghost invariant = { λ s. length s.since.items ≡ length s.readers.due };
+}
+
+impl Schedule {
+    /// No place rests, and each is due, by who of so many reads which signal. Memory is the only refusal.
+    pub fn new(alloc: Global, mut readers: Readers, places: usize) -> Result<Schedule, OutOfMemory>
+        requires { length readers.due ≡ places }
+        ensures { IfOk result (λ s. s ≡ nothing_owed readers 0) }
+    {
+        readers.wake_all();
+        let since = vec![in alloc; None; places]?;
+        Ok(Schedule {
+            readers,
+            since,
+            clock: 0,
+            looking: false,
+            left: 0,
+        })
+    }
+
+    /// Begins a frame at which these signals changed: who reads one of them is due. Where more than a quarter of all
+    /// signals did, or the count of frames is at its end, all are due, and then none is looked at for rest.
+    pub fn begin(&mut self, signals: &[u32])
+        requires { (k : ℕ) → k < length signals.now → slice_index signals.now k < length self.old.readers.rows }
+        ensures { Begins signals.now self.old self.new }
+    {
+        let places = self.since.len();
+        self.looking = !many_changed(&self.readers, signals);
+        self.left = looks(places);
+        wake(&mut self.readers, places, self.clock, signals);
+    }
+
+    /// The first place from one on that is due. None exactly where none is.
+    pub fn next_due(&mut self, from: usize) -> Option<usize>
+        ensures first { IfSome result (λ place. IsFirstSet self.old.readers.due from place) }
+        ensures none { result ≡ None → NoneSet self.old.readers.due from (length self.old.readers.due) }
+        ensures same { self.new ≡ self.old }
+    {
+        self.readers.next_due(from)
+    }
+
+    /// How many frames a place owes, as far as hits can tell: at most 4,294,967,295. None where it does not rest.
+    pub fn owed(&self, place: usize) -> Option<u32>
+        ensures { result ≡ as_hits_tell (owed_at self.now place) }
+    {
+        match self.since.get(place) {
+            Some(Some(since)) => Some(owed(*since, self.clock)),
+            _ => None,
+        }
+    }
+
+    /// Whether the place that is stepped next is looked at for rest. Any answer is right.
+    ///
+    /// Where many signals changed none is, and where many places are due some are.
+    pub fn looks_at(&mut self, place: usize) -> bool
+        ensures { self.new ≡ self.old }
+    {
+        let left = self.left;
+        self.left = left.saturating_sub(1);
+        self.looking && is_looked_at(left, self.rests(place), place, self.clock)
+    }
+
+    // Whether a place rested until now.
+    fn rests(&self, place: usize) -> bool {
+        match self.since.get(place) {
+            Some(since) => since.is_some(),
+            None => false,
+        }
+    }
+
+    /// Notes that a place that was due is stepped, and whether it rests from the next count of frames on.
+    pub fn note(&mut self, place: usize, rests: bool)
+        requires here { place < length self.old.readers.due }
+        requires due { slice_index_or self.old.readers.due place true ≡ true }
+        ensures { self.new ≡ noted_at place rests self.old }
+    {
+        if rests {
+            self.since[place] = Some(self.clock.saturating_add(1));
+            self.readers.put(place, false);
+        } else {
+            self.since[place] = None;
+        }
+    }
+
+    /// Ends a frame: the count of frames goes on.
+    pub fn end(&mut self)
+        ensures { self.new ≡ record self.old { clock = next_count self.old.clock } }
+    {
+        self.clock = self.clock.saturating_add(1);
+    }
+
+    /// No place rests any longer, and each is due. What they owe is given up.
+    pub fn forget(&mut self)
+        ensures { self.new ≡ nothing_owed self.old.readers self.old.clock }
+    {
+        self.since.fill(None);
+        self.readers.wake_all();
+    }
+}
