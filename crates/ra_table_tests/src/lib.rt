@@ -1,4 +1,5 @@
-//! Tests of what stands below a frame: images, lists, pools, reference tables, truths of comparisons, and who reads nodes.
+//! Tests of what stands below a frame: images, lists, pools, reference tables, truths of comparisons, who reads nodes, and who
+//! is due.
 //!
 //! They stand apart so that the crates that they show are not proved once more with them.
 #![tactic(auto)]
@@ -9,6 +10,8 @@ mod images;
 mod lists;
 #[cfg(test)]
 mod pools;
+#[cfg(test)]
+mod schedules;
 #[cfg(test)]
 mod tables;
 #[cfg(test)]
