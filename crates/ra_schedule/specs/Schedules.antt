@@ -2,7 +2,7 @@
 use Rattle.std.specs.Prelude.{◌≡◌, ℕ, suc, ◌+◌, ◌-◌, ◌<◌, ◌≤◌, min, not, Bool, true, false, if◌then◌else◌, Option, None, Some, IfSome, List, [], ◌∷◌, length, replicate, slice_index, slice_index_or, slice_set}
 use Rattle.std.specs.Option.{is_some}
 use Rattle.ra_schedule.specs.Readers.{ReadersSeen, Reads}
-use Rattle.ra_schedule.specs.Waking.{IsWoken}
+use Rattle.ra_schedule.specs.Waking.{IsWoken, IsWokenAlone}
 
 -- what a schedule is seen as: who reads which signal and who is due, since which count of frames each place rests, and the count of now
 pub record ScheduleSeen : Type 0 where
@@ -53,9 +53,10 @@ noted_at place rests s = record {
   clock = s.clock;
 }
 
--- a frame begins at which these signals changed: who reads one of them is due, and none owes more or less
+-- a frame begins at which these signals changed: who reads one of them is due, and none owes more or less; where not many changed, who became due reads one
 pub record Begins (signals : List ℕ) (old new : ScheduleSeen) : Type 0 where
   pub woken : IsWoken old.clock signals old.readers new.readers
+  pub only : IsWokenAlone old.clock signals old.readers new.readers
   pub since : new.since ≡ old.since
   pub clock : new.clock ≡ old.clock
 

@@ -1,10 +1,10 @@
 -- When readers are woken at a frame, and what they see of its values: docs/DEFINITIONS.md, "Members at rest".
-use Rattle.std.specs.Prelude.{◌≡◌, ◌≢◌, ℕ, ◌<◌, true, false, List, [], ◌∷◌, length, map, slice_index, slice_index_or}
+use Rattle.std.specs.Prelude.{◌≡◌, ◌≢◌, ℕ, ◌/◌, ◌<◌, ◌≤◌, true, false, List, [], ◌∷◌, length, map, slice_index, slice_index_or}
 use Rattle.ra_indirect.specs.declared.node.Node.{Node}
 use Rattle.ra_indirect.specs.Pools.{spelled_by}
 use Rattle.ra_memref.specs.Table.{TableSeen, IsListed, spelled_value}
 use Rattle.ra_memref.specs.Values.{Start}
-use Rattle.ra_schedule.specs.Readers.{ReadersSeen, Reads}
+use Rattle.ra_schedule.specs.Readers.{ReadersSeen, Reads, ReadsOne}
 use Rattle.ra_member.specs.Members.{MemberContents}
 use Rattle.ra_schedule.specs.Inputs.{Instant, MemberSeesSame}
 
@@ -33,6 +33,12 @@ pub record IsWoken (clock : ℕ) (nodes : List ℕ) (old new : ReadersSeen) : Ty
   pub long : length new.due ≡ length old.due
   pub kept : (r : ℕ) → slice_index_or new.due r true ≡ false → (slice_index_or old.due r true ≡ false) × (clock < 18446744073709551615)
   pub woken : (r n : ℕ) → slice_index_or new.due r true ≡ false → IsListed n nodes → Reads old n r → ⊥
+
+-- who became due reads one of these nodes, unless more than a quarter of all nodes are among them, or the count of frames is at its end
+abbrev pub IsWokenAlone : (clock : ℕ) → List ℕ → (old new : ReadersSeen) → Type 0
+IsWokenAlone clock nodes old new =
+    length nodes ≤ length old.rows / 4 → clock < 18446744073709551615
+    → (r : ℕ) → slice_index_or old.due r true ≡ false → slice_index_or new.due r true ≡ true → ReadsOne old nodes r
 
 -- a reader is told of all that something sees: where the nodes that it reads keep their values, it sees the same
 abbrev pub IsTold : (Sees : Instant → Instant → Type 0) → List Node → ReadersSeen → (reader : ℕ) → Type 0

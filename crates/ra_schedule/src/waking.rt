@@ -1,7 +1,7 @@
 //! Readers that are woken at a frame.
 
 ghost use Rattle.std.specs.Prelude.{◌≡◌, ◌+◌, ◌<◌, ◌/◌, ◌%◌, ◌==◌, ◌&&◌, ◌||◌, not, ℕ, length, nat_lt, slice_index};
-ghost use Rattle.ra_schedule.specs.Waking.{IsWoken};
+ghost use Rattle.ra_schedule.specs.Waking.{IsWoken, IsWokenAlone};
 
 use crate::readers::Readers;
 
@@ -10,7 +10,8 @@ use crate::readers::Readers;
 pub(crate) fn wake(readers: &mut Readers, count: usize, clock: u64, signals: &[u32])
     requires count { count ≡ length readers.old.due }
     requires nodes { (k : ℕ) → k < length signals.now → slice_index signals.now k < length readers.old.rows }
-    ensures { IsWoken clock signals.now readers.old readers.new }
+    ensures woken { IsWoken clock signals.now readers.old readers.new }
+    ensures only { IsWokenAlone clock signals.now readers.old readers.new }
 {
     if count == 0 {
         return;
