@@ -12,3 +12,4 @@ pub mod SeenLaws
 pub mod ValueRest
 pub mod MoreRest
 pub mod GoesOn
+pub mod Lefts

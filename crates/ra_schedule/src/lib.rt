@@ -7,6 +7,7 @@
 mod before;
 mod keeping;
 mod laws;
+mod needed;
 mod paying;
 mod readers;
 mod reads;
@@ -20,6 +21,7 @@ pub use laws::{
     achievements_rest, groups_rest, hits_are_owed, rest_goes_on, rest_is_seen, tests_rest,
     values_rest,
 };
+pub use needed::{groups_need_few_numbers, triggers_need_few_numbers, values_need_few_numbers};
 pub use paying::pay_member;
 pub use readers::Readers;
 pub use reads::{note_laid, note_member};
