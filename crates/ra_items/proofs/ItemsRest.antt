@@ -22,6 +22,8 @@ use Rattle.ra_member.specs.Members.{MemberContents, MemberKept, HasShape, tests_
 use Rattle.ra_member.proofs.Shaped.{member_shape}
 use Rattle.ra_schedule.specs.Inputs.{SeeSame, MemberSeesSame}
 use Rattle.ra_schedule.specs.Owing.{ValuesKeep, owed_values}
+use Rattle.ra_group.specs.declared.form.Form.TheVariants.{InTrigger}
+use Rattle.ra_schedule.proofs.Resting.Lefts.{achievement_same}
 use Rattle.ra_schedule.proofs.MembersRest.GoesOn.{tests_go_on, tests_say_on, values_go_on, tests_owe_nothing, values_owe_nothing, values_stay, numbers_long, owed_fits, as_many}
 use Rattle.ra_schedule.proofs.MembersRest.OneOn.{achievement_goes_on, achievement_owes_nothing}
 use Rattle.ra_items.specs.declared.achievement_run.AchievementRun.{AchievementRun}
@@ -155,7 +157,7 @@ module _ (table : TableSeen) (id : ℕ) (t : TriggerContents) (mid new : Achieve
   achievement_starts =
       ap (kept_achievement new.earned) (achievement_owes_nothing t truths lefts old_kept new_kept room noted.1 stepped rests.state rests.measured rests.hits)
 
-  module _ (start' : Start) (image' : List ℕ) (same : SeeSame (first_frame start image) (first_frame start' image') (groups_of t)) (n : ℕ) where
+  module _ (start' : Start) (image' : List ℕ) (same : SeeSame InTrigger (first_frame start image) (first_frame start' image') (groups_of t)) (n : ℕ) where
     abbrev kept_now : TriggerKept
     kept_now = owed_trigger n old_kept.hits new_kept
 
@@ -165,7 +167,8 @@ module _ (table : TableSeen) (id : ℕ) (t : TriggerContents) (mid new : Achieve
     later : achievement_after start' t (opened_achievement (kept_achievement new.earned kept_now)) (image' ∷ []) ≡ kept_then
     later =
         ap (λ k. achievement_after start' t k (image' ∷ [])) (achievement_again new.earned kept_now)
-        ∙ (λ i. achievement_step t (same.truths i) (same.lefts i) kept_now)
+        ∙ achievement_same t (truths_at start' (image' ∷ []) (groups_of t)) lefts (lefts_at start' (image' ∷ []) (groups_of t)) kept_now same.lefts
+        ∙ ap (λ ts. achievement_step t ts lefts kept_now) same.truths
         ∙ goes_on n
 
     kept_later : item_after start' (image' ∷ []) (achievement, owed_run n (before.Achievement b) (Achievement new)) ≡ owed_run (n + 1) (before.Achievement b) (Achievement new)

@@ -3,6 +3,7 @@ use Rattle.std.proofs.Common.{◌≡◌, ℕ, zero, suc, ◌<◌, true, List, []
 use Rattle.std.proofs.lemmas.List.{length-replicate}
 use Rattle.ra_condition.specs.Contents.{groups_of}
 use Rattle.ra_indirect.specs.declared.node.Node.{Node}
+use Rattle.ra_group.specs.declared.form.Form.TheVariants.{InTrigger}
 use Rattle.ra_schedule.specs.Inputs.{Instant}
 use Rattle.ra_schedule.specs.Readers.{ReadersSeen, Reads}
 use Rattle.ra_set.specs.Contents.{ItemContents, Unlocks, Ranks}
@@ -40,7 +41,7 @@ module _ (nodes : List Node) where
   pub item_told : (readers : ReadersSeen) (reader : ℕ) (item : ItemContents) (run : ItemRun) → IsItemRun nodes item run
       → ((k : ℕ) → k < length (reads_of_run run) → Reads readers (slice_index (reads_of_run run) k) reader) → IsToldOf nodes readers item reader
   item_told readers reader (Unlocks id t) (Achievement run) is noted values values' now later at at' agree =
-      laid_sees nodes values values' now later at at' (groups_of t) run.run.laid is.laid (λ k within. agree (slice_index (reads_of_laid run.run.laid) k) (noted k within))
+      laid_sees nodes values values' now later at at' InTrigger (groups_of t) run.run.laid is.laid (λ k within. agree (slice_index (reads_of_laid run.run.laid) k) (noted k within))
   item_told readers reader (Unlocks id t) (Leaderboard run) is noted values values' now later at at' agree = absurd is
   item_told readers reader (Ranks id format b) (Achievement run) is noted values values' now later at at' agree = absurd is
   item_told readers reader (Ranks id format b) (Leaderboard run) is noted values values' now later at at' agree =

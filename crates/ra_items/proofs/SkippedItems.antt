@@ -5,6 +5,7 @@ use Rattle.ra_memref.specs.Values.{Start}
 use Rattle.ra_schedule.specs.Readers.{ReadersSeen, Reads}
 use Rattle.ra_set.specs.Contents.{ItemContents, Unlocks, Ranks}
 use Rattle.ra_schedule.proofs.MembersRest.Woken.{member_through, through}
+use Rattle.ra_group.specs.declared.form.Form.TheVariants.{InTrigger}
 use Rattle.ra_schedule.specs.Inputs.{Instant}
 use Rattle.ra_items.specs.declared.item_run.ItemRun.{ItemRun}
 use Rattle.ra_items.specs.declared.rest.ItemBefore.{ItemBefore}
@@ -18,7 +19,7 @@ use Rattle.ra_items.specs.RunEvents.{run_events}
 -- what sees the same at a second instant as at a first, and at a third as at the second, sees the same at the third as at the first
 module _ (one two three : Instant) where
   item_through : (item : ItemContents) → ItemSeesSame one two item → ItemSeesSame two three item → ItemSeesSame one three item
-  item_through (Unlocks id t) first second = through one two three _ first second
+  item_through (Unlocks id t) first second = through one two three InTrigger _ first second
   item_through (Ranks id format b) first second =
       member_through one two three (board_member b) first second
 

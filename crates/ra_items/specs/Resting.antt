@@ -93,7 +93,7 @@ ItemRests _ _ _ = ⊥
 
 -- an item sees the same at two instants
 abbrev pub ItemSeesSame : (now later : Instant) → ItemContents → Type 0
-ItemSeesSame now later (Unlocks id t) = SeeSame now later (groups_of t)
+ItemSeesSame now later (Unlocks id t) = SeeSame InTrigger now later (groups_of t)
 ItemSeesSame now later (Ranks id format b) = MemberSeesSame now later (board_member b)
 
 -- a reader is told of all that an item sees

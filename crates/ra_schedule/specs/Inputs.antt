@@ -6,25 +6,28 @@ use Rattle.ra_memory.specs.Image.{History}
 use Rattle.ra_memref.specs.Values.{Start}
 use Rattle.ra_member.specs.Frames.{lefts_at, truths_at, sum_at}
 use Rattle.ra_member.specs.Members.{MemberContents}
+use Rattle.ra_group.specs.declared.form.Form.{Form}
+use Rattle.ra_group.specs.declared.form.Form.TheVariants.{InTrigger, InValue}
+use Rattle.ra_schedule.specs.Given.{GiveTheSame}
 
 -- the last frame of a history, from a start
 pub record Instant : Type 0 where
   pub start : Start
   pub history : History
 
--- the conditions of some groups see the same at two moments
-pub record SeeSame (now later : Instant) (groups : List (List Condition)) : Type 0 where
+-- the conditions of some groups see the same at two moments: the same comparisons hold, and what is given as a number is the same
+pub record SeeSame (form : Form) (now later : Instant) (groups : List (List Condition)) : Type 0 where
   pub truths : truths_at later.start later.history groups ≡ truths_at now.start now.history groups
-  pub lefts : lefts_at later.start later.history groups ≡ lefts_at now.start now.history groups
+  pub lefts : GiveTheSame form groups (lefts_at now.start now.history groups) (lefts_at later.start later.history groups)
 
 -- each of some tests sees the same at two moments
 abbrev pub TestsSeeSame : (now later : Instant) → List TriggerContents → Type 0
 TestsSeeSame now later [] = Unit {0}
-TestsSeeSame now later (t ∷ tests) = SeeSame now later (groups_of t) × TestsSeeSame now later tests
+TestsSeeSame now later (t ∷ tests) = SeeSame InTrigger now later (groups_of t) × TestsSeeSame now later tests
 
 -- a value sees the same at two moments, its legacy sums too
 pub record ValueSeesSame (now later : Instant) (parts : List PartContents) : Type 0 where
-  pub conditions : SeeSame now later (map counted_in parts)
+  pub conditions : SeeSame InValue now later (map counted_in parts)
   pub sums : map (sum_at later.start later.history) parts ≡ map (sum_at now.start now.history) parts
 
 -- each of some values does

@@ -15,6 +15,7 @@ use Rattle.ra_member.specs.Members.{MemberContents, MemberKept, HasShape, tests_
 use Rattle.ra_schedule.specs.Inputs.{Instant, TestsSeeSame, ValuesSeeSame}
 use Rattle.ra_schedule.specs.Owing.{AreTestsSmall, AreValuesSmall, TestsKeep, ValuesKeep, owed_tests, owed_values, owed_member}
 use Rattle.ra_schedule.specs.Values.{owed_value}
+use Rattle.ra_schedule.proofs.Resting.Lefts.{test_same, value_same}
 use Rattle.ra_schedule.proofs.Resting.Owed.{length-paid, owed, owed_none, paid_at}
 use Rattle.ra_schedule.proofs.MembersRest.OneOn.{test_goes_on, test_says_on, test_owes_nothing, value_goes_on, value_owes_nothing}
 
@@ -42,7 +43,7 @@ module _ (now later : Instant) where
       let here : hits_after_truth t truths lefts (paid n old new) ≡ paid (n + 1) old new =
       test_goes_on t truths lefts old new (heads (length old) (trigger_hits t) (map length olds) (map trigger_hits tests) long) small.0 one keep.0 n in
       ap₂ (λ x xs. x ∷ xs)
-      ((λ i. hits_after_truth t (same.0.truths i) (same.0.lefts i) (paid n old new)) ∙ here)
+      ((test_same t (truths_at later.start later.history (groups_of t)) lefts (lefts_at later.start later.history (groups_of t)) (paid n old new) same.0.lefts).1 ∙ ap (λ ts. hits_after_truth t ts lefts (paid n old new)) same.0.truths ∙ here)
       (tests_go_on tests olds news (tails (length old) (trigger_hits t) (map length olds) (map trigger_hits tests) long) same.1 rest small.1 keep.1 n)
 
   -- and say what they said
@@ -62,7 +63,7 @@ module _ (now later : Instant) where
       let here : truth t truths lefts (paid n old new) ≡ truth t truths lefts old =
       test_says_on t truths lefts old new (heads (length old) (trigger_hits t) (map length olds) (map trigger_hits tests) long) small.0 one keep.0 n in
       ap₂ (λ x xs. x ∷ xs)
-      ((λ i. truth t (same.0.truths i) (same.0.lefts i) (paid n old new)) ∙ here)
+      ((test_same t (truths_at later.start later.history (groups_of t)) lefts (lefts_at later.start later.history (groups_of t)) (paid n old new) same.0.lefts).0 ∙ ap (λ ts. truth t ts lefts (paid n old new)) same.0.truths ∙ here)
       (tests_say_on tests olds news (tails (length old) (trigger_hits t) (map length olds) (map trigger_hits tests) long) same.1 rest small.1 keep.1 n)
 
   -- values
@@ -84,7 +85,8 @@ module _ (now later : Instant) where
       let here : value_step parts truths lefts sums (owed_value n old.hits new) ≡ owed_value (n + 1) old.hits new =
       value_goes_on parts truths lefts sums old new (heads (length old.hits) (value_hits parts) (map length (hits olds)) (map value_hits values) long) small.0 one keep.0.numbers keep.0.hits n in
       ap₂ (λ x xs. x ∷ xs)
-      ((λ i. value_step parts (same.0.conditions.truths i) (same.0.conditions.lefts i) (same.0.sums i) (owed_value n old.hits new)) ∙ here)
+      (value_same parts (truths_at later.start later.history (map counted_in parts)) lefts (lefts_at later.start later.history (map counted_in parts)) (map (sum_at later.start later.history) parts) (owed_value n old.hits new) same.0.conditions.lefts
+      ∙ (λ i. value_step parts (same.0.conditions.truths i) lefts (same.0.sums i) (owed_value n old.hits new)) ∙ here)
       (values_go_on values olds news (tails (length old.hits) (value_hits parts) (map length (hits olds)) (map value_hits values) long) same.1 rest small.1 keep.1 n)
 
 -- nothing is owed at once

@@ -18,6 +18,11 @@ use Rattle.ra_member.specs.Readings.{numbers_at, truths_by, sum_by_node}
 use Rattle.ra_member.specs.Runs.{IsLaid, IsTriggerRun, IsValueRun}
 use Rattle.ra_member.proofs.LaidLemmas.{laid_lefts, laid_truths, read_sums_of}
 use Rattle.ra_schedule.specs.Inputs.{Instant, SeeSame, TestsSeeSame, ValueSeesSame, ValuesSeeSame, MemberSeesSame}
+use Rattle.ra_group.specs.declared.form.Form.{Form}
+use Rattle.ra_group.specs.declared.form.Form.TheVariants.{InTrigger, InValue}
+use Rattle.ra_member.specs.Frames.{lefts_at}
+use Rattle.ra_schedule.specs.Given.{GiveTheSame}
+use Rattle.ra_schedule.proofs.Resting.Lefts.{give_themselves}
 use Rattle.ra_schedule.specs.Reads.{AgreeAt, nodes_there, reads_of_laid, reads_of_value, reads_of_member}
 
 module _ (values values' : List ℕ) where
@@ -46,8 +51,8 @@ module _ (values values' : List ℕ) where
 module _ (nodes : List Node) (values values' : List ℕ) (now later : Instant)
     (has : values ≡ map (spelled_value now.start now.history) (spelled_by nodes))
     (has' : values' ≡ map (spelled_value later.start later.history) (spelled_by nodes)) where
-  pub laid_sees : (groups : List (List Condition)) (laid : Laid) → IsLaid nodes groups laid → AgreeAt (reads_of_laid laid) values values' → SeeSame now later groups
-  laid_sees groups laid is agree =
+  pub laid_sees : (form : Form) (groups : List (List Condition)) (laid : Laid) → IsLaid nodes groups laid → AgreeAt (reads_of_laid laid) values values' → SeeSame form now later groups
+  laid_sees form groups laid is agree =
       let left_nodes : List ℕ = laid.plan.lefts.items in
       let right_nodes : List ℕ = laid.plan.rights.items in
       let lefts = numbers_same values values' left_nodes (agree_front values values' left_nodes right_nodes agree) in
@@ -58,9 +63,9 @@ module _ (nodes : List Node) (values values' : List ℕ) (now later : Instant)
             ∙ (λ i. truths_by laid.ops.items (lefts i) (rights i))
             ∙ laid_truths nodes values now.start now.history has groups laid is;
         lefts =
-            sym (laid_lefts nodes values' later.start later.history has' groups laid is)
-            ∙ lefts
-            ∙ laid_lefts nodes values now.start now.history has groups laid is;
+            subst (λ xs. GiveTheSame form groups xs (lefts_at later.start later.history groups))
+            (sym (laid_lefts nodes values' later.start later.history has' groups laid is) ∙ lefts ∙ laid_lefts nodes values now.start now.history has groups laid is)
+            (give_themselves form groups (lefts_at later.start later.history groups));
       }
 
   tests_see : (tests : List TriggerContents) (runs : List TriggerRun) → AreBeside (IsTriggerRun nodes) tests runs
@@ -71,14 +76,14 @@ module _ (nodes : List Node) (values values' : List ℕ) (now later : Instant)
   tests_see (t ∷ tests) (run ∷ runs) are agree =
       let here : List ℕ = reads_of_laid run.laid in
       let rest : List ℕ = flat_map (λ (r : TriggerRun). reads_of_laid r.laid) runs in
-      (laid_sees (groups_of t) run.laid are.0.laid (agree_front values values' here rest agree), tests_see tests runs are.1 (agree_back values values' here rest agree))
+      (laid_sees InTrigger (groups_of t) run.laid are.0.laid (agree_front values values' here rest agree), tests_see tests runs are.1 (agree_back values values' here rest agree))
 
   value_sees : (parts : List PartContents) (run : ValueRun) → IsValueRun nodes parts run → AgreeAt (reads_of_value run) values values' → ValueSeesSame now later parts
   value_sees parts run is agree =
       let conditions : List ℕ = reads_of_laid run.laid in
       let sums : List ℕ = nodes_there run.nodes.items in
       record {
-        conditions = laid_sees (map counted_in parts) run.laid is.laid (agree_front values values' conditions sums agree);
+        conditions = laid_sees InValue (map counted_in parts) run.laid is.laid (agree_front values values' conditions sums agree);
         sums =
             sym (read_sums_of nodes values' later.start later.history has' parts run.nodes.items is.nodes_too)
             ∙ sums_same values values' run.nodes.items (agree_back values values' conditions sums agree)

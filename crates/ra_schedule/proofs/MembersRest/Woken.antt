@@ -8,21 +8,28 @@ use Rattle.ra_memref.specs.Table.{TableSeen}
 use Rattle.ra_schedule.specs.Readers.{ReadersSeen, Reads}
 use Rattle.ra_member.specs.Members.{MemberContents}
 use Rattle.ra_schedule.specs.Inputs.{Instant, SeeSame, TestsSeeSame, ValuesSeeSame, MemberSeesSame}
+use Rattle.ra_group.specs.declared.form.Form.{Form}
+use Rattle.ra_group.specs.declared.form.Form.TheVariants.{InTrigger, InValue}
+use Rattle.ra_member.specs.Frames.{lefts_at}
 use Rattle.ra_schedule.specs.Waking.{AreChanged, IsWoken}
+use Rattle.ra_schedule.proofs.Resting.Lefts.{give_through}
 
 -- what sees the same at a second instant as at a first, and at a third as at the second, sees the same at the third as at the first
 module _ (one two three : Instant) where
-  pub through : (groups : List (List Condition)) → SeeSame one two groups → SeeSame two three groups → SeeSame one three groups
-  through groups first second = record { truths = second.truths ∙ first.truths; lefts = second.lefts ∙ first.lefts }
+  pub through : (form : Form) (groups : List (List Condition)) → SeeSame form one two groups → SeeSame form two three groups → SeeSame form one three groups
+  through form groups first second = record {
+    truths = second.truths ∙ first.truths;
+    lefts = give_through form groups (lefts_at one.start one.history groups) (lefts_at two.start two.history groups) (lefts_at three.start three.history groups) first.lefts second.lefts;
+  }
 
   tests_through : (tests : List TriggerContents) → TestsSeeSame one two tests → TestsSeeSame two three tests → TestsSeeSame one three tests
   tests_through [] first second = tt
-  tests_through (t ∷ tests) first second = (through _ first.0 second.0, tests_through tests first.1 second.1)
+  tests_through (t ∷ tests) first second = (through InTrigger _ first.0 second.0, tests_through tests first.1 second.1)
 
   values_through : (values : List (List PartContents)) → ValuesSeeSame one two values → ValuesSeeSame two three values → ValuesSeeSame one three values
   values_through [] first second = tt
   values_through (parts ∷ values) first second =
-      (record { conditions = through _ first.0.conditions second.0.conditions; sums = second.0.sums ∙ first.0.sums }, values_through values first.1 second.1)
+      (record { conditions = through InValue _ first.0.conditions second.0.conditions; sums = second.0.sums ∙ first.0.sums }, values_through values first.1 second.1)
 
   pub member_through : (m : MemberContents) → MemberSeesSame one two m → MemberSeesSame two three m → MemberSeesSame one three m
   member_through m first second =

@@ -17,6 +17,20 @@ use Rattle.ra_trigger.specs.Steps.{Together, TriggerKept, cleared, core_and_some
 use Rattle.ra_value.specs.Steps.{PartStep, ValueKept, number_after, part_step, part_steps, step as value_step}
 use Rattle.ra_schedule.specs.Given.{AgreeWhereGiven, GiveTheSame, with_lefts}
 
+module _ (form : Form) where
+  -- a row of left values gives what it gives
+  pub give_themselves : (groups : List (List Condition)) (lefts : List ℕ) → GiveTheSame form groups lefts lefts
+  give_themselves [] lefts = tt
+  give_themselves (cs ∷ groups) lefts = (record { at = λ j gives. refl }, give_themselves groups (drop (length cs) lefts))
+
+  -- what gives the same as a second row, which gives the same as a third one, gives the same as the third one
+  pub give_through : (groups : List (List Condition)) (one two three : List ℕ) → GiveTheSame form groups one two → GiveTheSame form groups two three → GiveTheSame form groups one three
+  give_through [] one two three first second = tt
+  give_through (cs ∷ groups) one two three first second = (
+    record { at = λ j gives. first.0.at j gives ∙ second.0.at j gives },
+    give_through groups (drop (length cs) one) (drop (length cs) two) (drop (length cs) three) first.1 second.1,
+  )
+
 -- a number that is offered, where the left value is given or is not
 offered : (measured total : Bool) (number left left' : ℕ) → ((measured && not total) ≡ true → left ≡ left')
     → (if measured then Some (if total then number else left) else None) ≡ (if measured then Some (if total then number else left') else None)
