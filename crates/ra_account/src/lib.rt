@@ -1,0 +1,12 @@
+//! Why an achievement did not unlock: what each of its conditions did over the frames of a history.
+#![tactic(auto)]
+
+mod best;
+mod mark;
+mod range;
+mod times;
+
+pub use best::Best;
+pub use mark::Mark;
+pub use range::Range;
+pub use times::Times;

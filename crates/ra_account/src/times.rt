@@ -1,0 +1,46 @@
+ghost use Rattle.std.specs.Prelude.{◌≡◌, ◌+◌, ◌<◌, ◌≤◌, ◌^◌, ◌∷◌, [], Bool, List, length};
+ghost use Rattle.ra_account.specs.Counting.{times_of};
+
+/// At how many frames something was so, at the first of them and at the last: docs/DEFINITIONS.md,
+/// "Account of an achievement".
+///
+/// Where it was so at no frame all three are 0.
+#[derive(Clone, Copy, Debug, PartialEq, Eq)]
+pub struct Times {
+    /// At how many frames it was so.
+    pub count: u64,
+    /// The first of these frames, counted from 0.
+    pub first: u64,
+    /// The last of them.
+    pub last: u64,
+}
+
+impl Times {
+    /// Before the first frame.
+    pub fn new() -> Times
+        ensures { result ≡ times_of [] }
+    {
+        Times {
+            count: 0,
+            first: 0,
+            last: 0,
+        }
+    }
+
+    /// Notes whether it is so at the frame `at`, behind all frames before it.
+    pub fn note(&mut self, at: u64, now: bool)
+        requires within { self.old.count ≤ at }
+        requires few { at < 2 ^ 60 }
+        ensures noted { (earlier : List Bool) → length earlier ≡ at → self.old ≡ times_of earlier
+            → self.new ≡ times_of (now ∷ earlier) }
+        ensures within { self.new.count ≤ at + 1 }
+    {
+        if now {
+            if self.count == 0 {
+                self.first = at;
+            }
+            self.last = at;
+            self.count += 1;
+        }
+    }
+}
