@@ -1,1 +1,3 @@
+pub mod ColumnLemmas
 pub mod GreatestLemmas
+pub mod WidthLemmas

@@ -1,6 +1,7 @@
 -- The columns of a timeline: docs/DEFINITIONS.md, "Account of an achievement".
-use Rattle.std.specs.Prelude.{◌≡◌, ℕ, ◌+◌, ◌*◌, ◌<◌, ◌≤◌, Bool, true, false, not, if◌then◌else◌, List, [], ◌∷◌, ◌++◌, length, take, drop, reverse, slice_index_or}
+use Rattle.std.specs.Prelude.{◌≡◌, ℕ, ◌+◌, ◌*◌, ◌^◌, ◌<◌, ◌≤◌, Bool, true, false, not, if◌then◌else◌, ◌==◌, List, [], ◌∷◌, ◌++◌, length, take, drop, reverse, slice_index_or}
 use Rattle.std.specs.List.{list_all}
+use Rattle.ra_account.specs.declared.columns.Columns.{Columns}
 use Rattle.ra_account.specs.declared.mark.Mark.{Mark}
 use Rattle.ra_account.specs.declared.mark.Mark.TheVariants.{Never, Sometimes, Always}
 
@@ -26,3 +27,31 @@ frames_in width column counts = take width (drop (column * width) counts)
 -- the mark of a column; the frames of the history come newest first
 abbrev pub column_of : (width column : ℕ) → List Bool → Mark
 column_of width column counts = mark_of (frames_in width column (reverse counts))
+
+-- the mark of a column of so many frames that has this mark, with one frame more
+abbrev pub mark_more : ℕ → Mark → Bool → Mark
+mark_more begun mark now = if begun == 0 then mark_at now else joined mark (mark_at now)
+
+-- columns are within their bounds: the last one is not full, the width is not 0, and was not doubled before it had to be
+pub record IsSound (c : Columns) : Type 0 where
+  pub sixty : length c.marks.items ≡ 60
+  pub full : c.full ≤ 60
+  pub begun : c.begun < c.width
+  pub none_begun : c.full ≡ 60 → c.begun ≡ 0
+
+-- they have the marks of these frames
+pub record HasColumns (counts : List Bool) (c : Columns) : Type 0 where
+  pub frames : c.full * c.width + c.begun ≡ length counts
+  pub marks_too : (k : ℕ) → k * c.width < length counts → slice_index_or c.marks.items k Never ≡ column_of c.width k counts
+
+-- the width is the least power of two with which 60 columns have room for so many frames
+pub record IsWidth (frames width : ℕ) : Type 0 where
+  pub exponent : ℕ
+  pub power : width ≡ 2 ^ exponent
+  pub enough : frames ≤ 60 * width
+  pub least : (e : ℕ) → frames ≤ 60 * 2 ^ e → exponent ≤ e
+
+-- the columns of these frames, of the least width
+pub record IsTimeline (counts : List Bool) (c : Columns) : Type 0 where
+  pub columns_too : HasColumns counts c
+  pub width_too : IsWidth (length counts) c.width

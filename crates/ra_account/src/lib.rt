@@ -2,11 +2,13 @@
 #![tactic(auto)]
 
 mod best;
+mod columns;
 mod mark;
 mod range;
 mod times;
 
 pub use best::Best;
+pub use columns::Columns;
 pub use mark::Mark;
 pub use range::Range;
 pub use times::Times;

@@ -1,0 +1,64 @@
+ghost use Rattle.std.specs.Prelude.{◌≡◌, ◌+◌, ◌<◌, ◌≤◌, ◌^◌, ◌∷◌, [], Bool, ℕ, List, length, IfOk};
+ghost use Rattle.ra_account.specs.Counting.{count_of};
+ghost use Rattle.ra_account.specs.Nearness.{Lack, IsNearest};
+
+use ra_text::OutOfMemory;
+use std::alloc::Global;
+
+/// The frame at which the fewest conditions were missing, and which: docs/DEFINITIONS.md, "Account of an
+/// achievement".
+#[derive(Drop)]
+pub struct Nearest {
+    /// The frame, counted from 0; 0 before the first one.
+    pub at: u64,
+    /// Whether it has a reset; true before the first frame.
+    pub reset: bool,
+    /// How many conditions it wants.
+    pub count: u64,
+    /// For each condition of the trigger whether it wants it.
+    pub wants: Vec<bool>,
+}
+
+impl Nearest {
+    /// Before the first frame, for so many conditions.
+    pub fn new(alloc: Global, conditions: usize) -> Result<Nearest, OutOfMemory>
+        ensures begun { IfOk result (IsNearest []) }
+        ensures many { IfOk result (λ nearest. length nearest.wants.items ≡ conditions) }
+    {
+        Ok(Nearest {
+            at: 0,
+            reset: true,
+            count: u64::MAX,
+            wants: vec![in alloc; false; conditions]?,
+        })
+    }
+
+    /// Notes the frame `at`, behind all frames before it: whether it has a reset, and which conditions it wants.
+    pub fn note(&mut self, at: u64, reset: bool, wants: &[bool])
+        requires many { length wants.now ≡ length self.old.wants.items }
+        ensures noted { (earlier : List Lack) → length earlier ≡ at → IsNearest earlier self.old
+            → IsNearest (record { reset = reset; wants = wants.now } ∷ earlier) self.new }
+        ensures many { length self.new.wants.items ≡ length self.old.wants.items }
+    {
+        let count = count_true(wants);
+        if !reset && self.reset || reset == self.reset && count <= self.count {
+            self.at = at;
+            self.reset = reset;
+            self.count = count;
+            self.wants.copy_from_slice(wants);
+        }
+    }
+}
+
+// How many of them are so.
+fn count_true(wants: &[bool]) -> u64
+    ensures { result ≡ count_of wants.now }
+{
+    let mut count = 0;
+    for wanted in wants {
+        if *wanted {
+            count += 1;
+        }
+    }
+    count
+}
