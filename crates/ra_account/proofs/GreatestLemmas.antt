@@ -1,8 +1,8 @@
 -- The greatest number of some frames, and the first frame that has it, with one frame more.
-use Rattle.std.proofs.Common.{◌≡◌, ℕ, zero, suc, ◌<◌, ◌≤◌, max, Bool, true, false, nat_eq, List, [], ◌∷◌, length, map, refl, sym, ap, ◌∙◌, arith}
-use Rattle.std.specs.Prelude.{◌==◌, ◌&&◌, if◌then◌else◌}
+use Rattle.std.proofs.Common.{◌≡◌, ℕ, ◌<◌, ◌≤◌, List, [], ◌∷◌, length, map, refl, arith}
+use Rattle.std.specs.Prelude.{◌==◌}
 use Rattle.std.proofs.lemmas.Grind.{common_steps}
-use Rattle.ra_account.specs.Counting.{count_of, first_of}
+use Rattle.ra_account.specs.Counting.{count_of}
 use Rattle.ra_account.specs.Greatest.{greatest_of, best_of}
 
 -- a number above the greatest is at no frame

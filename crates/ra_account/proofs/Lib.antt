@@ -1,3 +1,4 @@
 pub mod ColumnLemmas
 pub mod GreatestLemmas
+pub mod NearLemmas
 pub mod WidthLemmas

@@ -1,3 +1,4 @@
 pub mod Counting
 pub mod Greatest
 pub mod Marks
+pub mod Nearness

@@ -1,5 +1,5 @@
 -- The columns of a timeline: docs/DEFINITIONS.md, "Account of an achievement".
-use Rattle.std.specs.Prelude.{◌≡◌, ℕ, ◌+◌, ◌*◌, ◌^◌, ◌<◌, ◌≤◌, Bool, true, false, not, if◌then◌else◌, ◌==◌, List, [], ◌∷◌, ◌++◌, length, take, drop, reverse, slice_index_or}
+use Rattle.std.specs.Prelude.{◌≡◌, ℕ, ◌+◌, ◌*◌, ◌^◌, ◌<◌, ◌≤◌, Bool, not, if◌then◌else◌, ◌==◌, List, length, take, drop, reverse, slice_index_or}
 use Rattle.std.specs.List.{list_all}
 use Rattle.ra_account.specs.declared.columns.Columns.{Columns}
 use Rattle.ra_account.specs.declared.mark.Mark.{Mark}

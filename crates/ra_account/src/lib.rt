@@ -4,11 +4,13 @@
 mod best;
 mod columns;
 mod mark;
+mod nearest;
 mod range;
 mod times;
 
 pub use best::Best;
 pub use columns::Columns;
 pub use mark::Mark;
+pub use nearest::Nearest;
 pub use range::Range;
 pub use times::Times;

@@ -1,6 +1,6 @@
 ghost use Rattle.std.specs.Prelude.{◌≡◌, ◌+◌, ◌<◌, ◌≤◌, ◌^◌, ◌∷◌, [], Bool, ℕ, List, length, IfOk};
 ghost use Rattle.ra_account.specs.Counting.{count_of};
-ghost use Rattle.ra_account.specs.Nearness.{Lack, IsNearest};
+ghost use Rattle.ra_account.specs.Nearness.{Lack, IsNearest, nearer_by};
 
 use ra_text::OutOfMemory;
 use std::alloc::Global;
@@ -41,13 +41,20 @@ impl Nearest {
         ensures many { length self.new.wants.items ≡ length self.old.wants.items }
     {
         let count = count_true(wants);
-        if !reset && self.reset || reset == self.reset && count <= self.count {
+        if !is_nearer(self.reset, self.count, reset, count) {
             self.at = at;
             self.reset = reset;
             self.count = count;
             self.wants.copy_from_slice(wants);
         }
     }
+}
+
+// Whether a frame is nearer than another, by whether each has a reset and how many conditions it wants.
+fn is_nearer(reset: bool, count: u64, other_reset: bool, other_count: u64) -> bool
+    ensures { result ≡ nearer_by reset count other_reset other_count }
+{
+    !reset && other_reset || (!reset || other_reset) && count < other_count
 }
 
 // How many of them are so.

@@ -1,5 +1,4 @@
-use Rattle.std.proofs.Common.{◌≡◌, ◌*◌, ◌<◌, suc, ap, arith, length}
-use Rattle.ra_account.specs.Marks.{IsWidth}
+use Rattle.std.proofs.Common.{◌≡◌, ◌*◌, ◌<◌, ap, arith, length}
 use Rattle.ra_account.proofs.WidthLemmas.{kept_width, doubled_width}
 use Rattle.ra_account.proofs.columns.Columns.note.Goals as goal
 use Rattle.ra_account.proofs.columns.Columns.note.Goals.{then-self-eq-COLUMNS, else-self-eq-COLUMNS}

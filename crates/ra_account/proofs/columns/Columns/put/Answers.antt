@@ -1,6 +1,5 @@
-use Rattle.std.proofs.Common.{◌≡◌, ◌+◌, ◌*◌, ◌<◌, length, arith, get_or, subst, sym, ap}
-use Rattle.ra_account.specs.Marks.{mark_more}
-use Rattle.ra_account.proofs.ColumnLemmas.{AreMarks, put_marks}
+use Rattle.std.proofs.Common.{arith}
+use Rattle.ra_account.proofs.ColumnLemmas.{put_marks}
 use Rattle.ra_account.proofs.columns.Columns.put.Goals as goal
 
 pub returns-then-self-clause-put : goal.returns-then-self-clause-put

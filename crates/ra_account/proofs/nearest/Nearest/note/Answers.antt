@@ -1,0 +1,19 @@
+use Rattle.std.proofs.Common.{◌<◌, ◌^◌, arith, ap, sym, refl, ◌∙◌}
+use Rattle.ra_account.specs.Counting.{count_of}
+use Rattle.ra_account.specs.Nearness.{Lack, nearer_by}
+use Rattle.ra_account.proofs.NearLemmas.{note_near, note_far}
+use Rattle.ra_account.proofs.nearest.Nearest.note.Goals as goal
+
+pub returns-then-not-is_nearer-clause-noted : goal.returns-then-not-is_nearer-clause-noted
+returns-then-not-is_nearer-clause-noted c = λ earlier long known.
+    let now : Lack = record { reset = c.args.reset; wants = c.args.wants.now } in
+    let few : count_of c.args.wants.now < 2 ^ 64 = omega (arith, c.count_true-count.ensures) in
+    let near = ap (λ n. nearer_by c.args.self.now.reset c.args.self.now.count c.args.reset n) (sym c.count_true-count.ensures) ∙ sym c.is_nearer.ensures ∙ c.if-not-is_nearer.true in
+    note_near now earlier c.args.self.now _ few known near (sym long) refl c.copy_from_slice.ensures.items c.count_true-count.ensures
+
+pub returns-else-not-is_nearer-clause-noted : goal.returns-else-not-is_nearer-clause-noted
+returns-else-not-is_nearer-clause-noted c = λ earlier long known.
+    let now : Lack = record { reset = c.args.reset; wants = c.args.wants.now } in
+    let few : count_of c.args.wants.now < 2 ^ 64 = omega (arith, c.count_true-count.ensures) in
+    let near = ap (λ n. nearer_by c.args.self.now.reset c.args.self.now.count c.args.reset n) (sym c.count_true-count.ensures) ∙ sym c.is_nearer.ensures ∙ c.if-not-is_nearer.false in
+    note_far now earlier c.args.self.now few known near
