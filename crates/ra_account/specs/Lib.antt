@@ -1,4 +1,5 @@
 pub mod Counting
+pub mod Facts
 pub mod Greatest
 pub mod Marks
 pub mod Nearness

@@ -3,6 +3,7 @@
 
 mod best;
 mod columns;
+mod facts;
 mod mark;
 mod nearest;
 mod range;
@@ -10,6 +11,7 @@ mod times;
 
 pub use best::Best;
 pub use columns::Columns;
+pub use facts::Facts;
 pub use mark::Mark;
 pub use nearest::Nearest;
 pub use range::Range;

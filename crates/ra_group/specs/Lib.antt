@@ -6,4 +6,5 @@ pub mod Handed
 pub mod Laws
 pub mod Outcome
 pub mod OutcomeLaws
+pub mod Standings
 pub mod Tallies

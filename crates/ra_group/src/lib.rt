@@ -8,6 +8,7 @@ mod laws;
 mod outcome;
 mod pass;
 mod settled;
+mod standing;
 mod tally;
 mod visit;
 
@@ -16,4 +17,5 @@ pub use form::Form;
 pub use laws::{equations_hold, handed_on_holds, outcome_holds};
 pub use outcome::Outcome;
 pub use pass::step;
+pub use standing::{Standing, stand};
 pub use tally::{counts_hits, larger};

@@ -12,4 +12,6 @@ mod verdict;
 pub use change::Change;
 pub use laws::achievement_holds;
 pub use state::State;
+pub use together::step_groups;
 pub use trigger::Trigger;
+pub use verdict::Verdict;
