@@ -1,7 +1,7 @@
 -- What a frame shows of each condition of a trigger: docs/DEFINITIONS.md, "Account of an achievement".
-use Rattle.std.specs.Prelude.{ℕ, zero, suc, ◌+◌, ◌%◌, ◌^◌, Bool, false, not, ◌&&◌, ◌||◌, if◌then◌else◌, nat_lt, List, [], ◌∷◌, ◌++◌, length, map, slice_index}
+use Rattle.std.specs.Prelude.{ℕ, zero, suc, ◌+◌, ◌%◌, ◌^◌, Bool, false, not, ◌&&◌, ◌||◌, if◌then◌else◌, nat_lt, List, slice_index}
 use Rattle.ra_operand.specs.declared.operand.Operand.{Operand}
-use Rattle.ra_operand.specs.declared.operand.Operand.TheVariants.{Cell, Const, Recall}
+use Rattle.ra_operand.specs.declared.operand.Operand.TheVariants.{Cell}
 use Rattle.ra_operand.specs.declared.size.Size.{Size}
 use Rattle.ra_operand.specs.declared.size.Size.TheVariants.{Two, TwoBig, Three, ThreeBig, Four, FourBig}
 use Rattle.ra_condition.specs.declared.flag.Flag.{Flag}
@@ -10,12 +10,15 @@ use Rattle.ra_condition.specs.Chains.{in_pause_chain, places}
 use Rattle.ra_condition.specs.Contents.{condition_at, flag_at}
 use Rattle.ra_condition.specs.Flags.{hands_on, is_address, is_pause, is_required}
 use Rattle.ra_group.specs.declared.standing.Standing.{Standing}
-use Rattle.ra_group.specs.Along.{frame_at}
 use Rattle.ra_group.specs.Equations.{Frame}
 use Rattle.ra_group.specs.Outcome.{some_valid}
 use Rattle.ra_group.specs.Standings.{standing_at}
 use Rattle.ra_account.specs.declared.facts.Facts.{Facts}
 use Rattle.ra_account.specs.declared.facts.Around.{Around}
+
+-- what is taken for a condition past the end, where no clause looks
+abbrev pub no_facts : Facts
+no_facts = record { counts = false; total = 0; past = false; left = 0; right = 0 }
 
 -- how many bytes a size looks at: three of the four of a cell of 24 bits
 abbrev pub bytes_of : Size → ℕ
@@ -55,10 +58,14 @@ wanted_by flag paused valid = (is_required flag && (paused || not valid)) || (is
 abbrev pub is_paused : Frame → Bool
 is_paused f = some_valid is_pause f (places f.conditions)
 
+-- the value of the pointer of the condition behind one, by its flag and its left value
+abbrev pub pointer_by : Flag → ℕ → ℕ
+pointer_by flag left = if is_address flag then left else 0
+
 -- the value of the pointer of the condition at j: the left value of an AddAddress directly before it, else 0
 abbrev pub pointer_at : Frame → ℕ → ℕ
 pointer_at f zero = 0
-pointer_at f (suc i) = if is_address (flag_at f.conditions i) then slice_index f.lefts i else 0
+pointer_at f (suc i) = pointer_by (flag_at f.conditions i) (slice_index f.lefts i)
 
 -- what the group is for its condition at j, over a memory of so many bytes
 abbrev pub around_at : Frame → (size : ℕ) → ℕ → Around

@@ -4,6 +4,7 @@
 mod best;
 mod columns;
 mod facts;
+mod group;
 mod mark;
 mod nearest;
 mod range;

@@ -11,7 +11,7 @@ mod trees;
 mod values_law;
 
 pub use laws::pass_order_holds;
-pub use order::order_of;
+pub use order::{order_of, pausing_of};
 pub use plan::GroupPlan;
 pub use terms::elaborate_terms;
 pub use trees::elaborate;

@@ -23,8 +23,9 @@ pub fn order_of(alloc: Global, group: &Group) -> Result<Vec<u32>, OutOfMemory>
     Ok(order)
 }
 
-// Whether each condition stands in a pause chain. A chain is known by its last condition.
-fn pausing_of(alloc: Global, conditions: &[Condition]) -> Result<Vec<bool>, OutOfMemory>
+/// Whether each condition of a group stands in a pause chain: docs/DEFINITIONS.md, "Chains and pass order".
+// A chain is known by its last condition.
+pub fn pausing_of(alloc: Global, conditions: &[Condition]) -> Result<Vec<bool>, OutOfMemory>
     ensures { IfOk result (λ marks.
         marks.items ≡ map (in_pause_chain conditions.now) (places conditions.now)) }
 {
