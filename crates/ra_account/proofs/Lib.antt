@@ -1,4 +1,7 @@
 pub mod ColumnLemmas
+pub mod CountingLemmas
 pub mod GreatestLemmas
+pub mod GroupLemmas
 pub mod NearLemmas
+pub mod RefillLemmas
 pub mod WidthLemmas

@@ -3,16 +3,21 @@
 
 mod best;
 mod columns;
+mod condition;
 mod facts;
 mod group;
+mod group_account;
 mod mark;
 mod nearest;
+mod noting;
 mod range;
 mod times;
 
 pub use best::Best;
 pub use columns::Columns;
+pub use condition::ConditionAccount;
 pub use facts::Facts;
+pub use group_account::GroupAccount;
 pub use mark::Mark;
 pub use nearest::Nearest;
 pub use range::Range;

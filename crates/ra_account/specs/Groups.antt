@@ -1,0 +1,46 @@
+-- The accounts of a group's conditions: docs/DEFINITIONS.md, "Account of an achievement". A list has a row for each frame, the newest first.
+use Rattle.std.specs.Prelude.{◌≡◌, ℕ, ◌<◌, ◌≤◌, Bool, false, List, length, map, slice_index_or}
+use Rattle.ra_condition.specs.declared.condition.Condition.{Condition}
+use Rattle.ra_condition.specs.Chains.{in_pause_chain, places}
+use Rattle.ra_group.specs.Equations.{Frame, frame_of}
+use Rattle.ra_account.specs.declared.facts.Facts.{Facts}
+use Rattle.ra_account.specs.declared.group_account.GroupAccount.{GroupAccount}
+use Rattle.ra_account.specs.Conditions.{AllStandAt, AreAccounts}
+use Rattle.ra_account.specs.Facts.{facts_at, wanted_at}
+
+-- what the account of a group is told of a frame: for each condition its comparison, its left and right value, and its hits before
+pub record GroupRow : Type 0 where
+  pub truths : List Bool
+  pub lefts : List ℕ
+  pub rights : List ℕ
+  pub hits : List ℕ
+
+-- the group at the frame
+abbrev pub row_frame : List Condition → GroupRow → Frame
+row_frame cs r = frame_of cs r.truths r.lefts r.hits
+
+-- what the frame shows of the condition at j, over a memory of so many bytes
+abbrev pub shown : List Condition → (size : ℕ) → ℕ → GroupRow → Facts
+shown cs size j r = facts_at (row_frame cs r) r.rights size j
+
+-- whether the frame wants each condition
+abbrev pub wants_of : List Condition → GroupRow → List Bool
+wants_of cs r = map (wanted_at (row_frame cs r)) (places cs)
+
+-- an account of each condition over these frames
+abbrev pub IsGroupAccount : List Condition → (size : ℕ) → List GroupRow → GroupAccount → Type 0
+IsGroupAccount cs size frames g = AreAccounts (λ j. map (shown cs size j) frames) g.conditions.items
+
+-- each is an account of so many frames
+abbrev pub GroupStandsAt : ℕ → GroupAccount → Type 0
+GroupStandsAt count g = AllStandAt count g.conditions.items
+
+-- an account for each condition, with room for what a frame shows
+pub record FitsGroup (cs : List Condition) (g : GroupAccount) : Type 0 where
+  pub few : length cs ≤ 65536
+  pub many : length g.conditions.items ≡ length cs
+  pub wants : length g.wants.items ≡ length cs
+  pub pausings : length g.pausing.items ≡ length cs
+  pub pausing : (j : ℕ) → j < length cs → slice_index_or g.pausing.items j false ≡ in_pause_chain cs j
+  pub room : length g.room.items ≡ length cs
+  pub facts : length g.facts.items ≡ length cs

@@ -1,0 +1,126 @@
+ghost use Rattle.std.specs.Prelude.{◌≡◌, ℕ, ◌+◌, ◌<◌, ◌≤◌, ◌^◌, ◌∷◌, [], length, List, IfOk};
+ghost use Rattle.ra_condition.specs.Contents.{group_contents};
+ghost use Rattle.ra_account.specs.Conditions.{AllStandAt, AreAccounts};
+ghost use Rattle.ra_account.specs.Groups.{GroupRow, IsGroupAccount, GroupStandsAt, FitsGroup, wants_of};
+
+use crate::condition::ConditionAccount;
+use crate::facts::Facts;
+use crate::group::show_group;
+use crate::noting::note_all;
+use ra_chain::pausing_of;
+use ra_condition::Group;
+use ra_group::Standing;
+use ra_text::OutOfMemory;
+use std::alloc::Global;
+
+/// The accounts of a group's conditions, with room for what a frame shows of them: docs/DEFINITIONS.md, "Account of
+/// an achievement".
+#[derive(Drop)]
+pub struct GroupAccount {
+    /// The account of each condition, in text order.
+    pub conditions: Vec<ConditionAccount>,
+    /// Whether the last frame wants each condition.
+    pub wants: Vec<bool>,
+    /// Whether each condition stands in a pause chain.
+    pub pausing: Vec<bool>,
+    /// Room for how the conditions stand.
+    pub room: Vec<Standing>,
+    /// Room for what a frame shows of the conditions.
+    pub facts: Vec<Facts>,
+}
+
+impl GroupAccount {
+    /// Before the first frame.
+    pub fn new(alloc: Global, group: &Group) -> Result<GroupAccount, OutOfMemory>
+        requires few { length (group_contents group.now) ≤ 65536 }
+        ensures fits { IfOk result (λ made. FitsGroup (group_contents group.now) made) }
+        ensures stands { IfOk result (λ made. GroupStandsAt 0 made) }
+        ensures begun { (size : ℕ) → IfOk result (λ made. IsGroupAccount (group_contents group.now) size [] made) }
+    {
+        let count = group.conditions.len();
+        let pausing = pausing_of(alloc, &group.conditions)?;
+        let conditions = new_accounts(alloc, count)?;
+        Ok(GroupAccount {
+            conditions,
+            wants: vec![in alloc; false; count]?,
+            pausing,
+            room: vec![in alloc; NO_STANDING; count]?,
+            facts: vec![in alloc; NO_FACTS; count]?,
+        })
+    }
+
+    /// Notes what the frame `at` shows of the group's conditions over a memory of `size` bytes, behind all frames
+    /// before it.
+    ///
+    /// The slices have the comparison, the left and the right value and the hits before the frame of each condition.
+    pub fn note(
+        &mut self,
+        group: &Group,
+        size: u32,
+        at: u64,
+        truths: &[bool],
+        lefts: &[u32],
+        rights: &[u32],
+        hits: &[u32],
+    )
+        requires fits { FitsGroup (group_contents group.now) self.old }
+        requires stands { GroupStandsAt at self.old }
+        requires frames { at < 2 ^ 60 }
+        requires truths { length truths.now ≡ length (group_contents group.now) }
+        requires lefts { length lefts.now ≡ length (group_contents group.now) }
+        requires rights { length rights.now ≡ length (group_contents group.now) }
+        requires hits { length hits.now ≡ length (group_contents group.now) }
+
+        ensures fits { FitsGroup (group_contents group.now) self.new }
+        ensures stands { GroupStandsAt (at + 1) self.new }
+        ensures noted { (earlier : List GroupRow) → IsGroupAccount (group_contents group.now) size earlier self.old
+            → IsGroupAccount (group_contents group.now) size
+            (record { truths = truths.now; lefts = lefts.now; rights = rights.now; hits = hits.now } ∷ earlier) self.new }
+        ensures wants { self.new.wants.items ≡ wants_of (group_contents group.now)
+            (record { truths = truths.now; lefts = lefts.now; rights = rights.now; hits = hits.now }) }
+    {
+        show_group(
+            &group.conditions,
+            size,
+            &self.pausing,
+            truths,
+            lefts,
+            rights,
+            hits,
+            &mut self.room,
+            &mut self.facts,
+            &mut self.wants,
+        );
+        note_all(&mut self.conditions, at, &self.facts);
+    }
+}
+
+// What a standing is before any frame.
+const NO_STANDING: Standing = Standing {
+    met: false,
+    reset: false,
+    total: 0,
+    valid: false,
+};
+
+// What is shown before any frame.
+const NO_FACTS: Facts = Facts {
+    counts: false,
+    total: 0,
+    past: false,
+    left: 0,
+    right: 0,
+};
+
+// So many accounts before the first frame.
+fn new_accounts(alloc: Global, count: usize) -> Result<Vec<ConditionAccount>, OutOfMemory>
+    ensures many { IfOk result (λ accounts. length accounts.items ≡ count) }
+    ensures begun { IfOk result (λ accounts. AreAccounts (λ j. []) accounts.items) }
+    ensures stand { IfOk result (λ accounts. AllStandAt 0 accounts.items) }
+{
+    let mut accounts = Vec::new(alloc);
+    for _ in 0..count {
+        accounts.push(ConditionAccount::new(alloc)?)?;
+    }
+    Ok(accounts)
+}
