@@ -1,5 +1,5 @@
 -- The accounts of a group's conditions: docs/DEFINITIONS.md, "Account of an achievement". A list has a row for each frame, the newest first.
-use Rattle.std.specs.Prelude.{◌≡◌, ℕ, ◌<◌, ◌≤◌, Bool, false, List, length, map, slice_index_or}
+use Rattle.std.specs.Prelude.{◌≡◌, ℕ, ◌+◌, ◌<◌, ◌≤◌, Bool, false, List, [], length, map, take, drop, sum_by, slice_index_or}
 use Rattle.ra_condition.specs.declared.condition.Condition.{Condition}
 use Rattle.ra_condition.specs.Chains.{in_pause_chain, places}
 use Rattle.ra_group.specs.Equations.{Frame, frame_of}
@@ -44,3 +44,36 @@ pub record FitsGroup (cs : List Condition) (g : GroupAccount) : Type 0 where
   pub pausing : (j : ℕ) → j < length cs → slice_index_or g.pausing.items j false ≡ in_pause_chain cs j
   pub room : length g.room.items ≡ length cs
   pub facts : length g.facts.items ≡ length cs
+
+-- the part of a row that has the conditions of a group, which start at a place
+abbrev pub part_of : List Condition → ℕ → GroupRow → GroupRow
+part_of cs start r = record {
+  truths = take (length cs) (drop start r.truths);
+  lefts = take (length cs) (drop start r.lefts);
+  rights = take (length cs) (drop start r.rights);
+  hits = take (length cs) (drop start r.hits);
+}
+
+-- the group of a place
+abbrev pub group_at : List (List Condition) → ℕ → List Condition
+group_at groups g = slice_index_or groups g []
+
+-- the place at which the conditions of a group start, behind those of the groups before it
+abbrev pub start_at : List (List Condition) → ℕ → ℕ
+start_at groups g = sum_by length (take g groups)
+
+-- an account of each group over these frames, of which the conditions of all groups start at a place
+abbrev pub AreGroupAccounts : List (List Condition) → (from size : ℕ) → List GroupRow → List GroupAccount → Type 0
+AreGroupAccounts groups from size frames accounts =
+    (g : ℕ) → g < length accounts → (d : GroupAccount)
+    → IsGroupAccount (group_at groups g) size (map (part_of (group_at groups g) (from + start_at groups g)) frames) (slice_index_or accounts g d)
+
+-- each is an account of so many frames
+abbrev pub AllGroupsStandAt : ℕ → List GroupAccount → Type 0
+AllGroupsStandAt count accounts =
+    (g : ℕ) → g < length accounts → (d : GroupAccount) → GroupStandsAt count (slice_index_or accounts g d)
+
+-- each has an account for each condition of its group
+abbrev pub AllFit : List (List Condition) → List GroupAccount → Type 0
+AllFit groups accounts =
+    (g : ℕ) → g < length accounts → (d : GroupAccount) → FitsGroup (group_at groups g) (slice_index_or accounts g d)

@@ -7,6 +7,7 @@ mod condition;
 mod facts;
 mod group;
 mod group_account;
+mod groups;
 mod mark;
 mod nearest;
 mod noting;

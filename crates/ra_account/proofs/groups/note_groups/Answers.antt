@@ -1,0 +1,48 @@
+use Rattle.std.proofs.Common.{◌≡◌, ℕ, ◌+◌, ◌<◌, ◌≤◌, ◌∷◌, List, length, map, get_or, get_or-set_same, get_or-set_other, sym, ap, ◌∙◌, subst, arith, below_more}
+use Rattle.ra_condition.specs.declared.condition.Condition.{Condition}
+use Rattle.ra_condition.specs.Contents.{group_contents}
+use Rattle.ra_account.specs.declared.group_account.GroupAccount.{GroupAccount}
+use Rattle.ra_account.specs.Groups.{GroupRow, FitsGroup, GroupStandsAt, IsGroupAccount, group_at, part_of, start_at}
+use Rattle.ra_account.proofs.GroupLemmas.{end_within, group_here, noted_part, start_more}
+use Rattle.ra_account.proofs.groups.note_groups.Goals as goal
+
+pub slice_bounds-note-end : goal.slice_bounds-note-end
+slice_bounds-note-end c =
+    let group = c.index-groups-place.result in
+    let fits = end_within c.args.groups.now c.loop-place.place group (omega (arith, c.loop-place-test.true, c.requires.many)) c.index-groups-place.is in
+    omega (arith, fits, c.loop-place.invariant.starts, c.len.ensures, group.conditions.ok.0, c.requires.truths)
+
+pub loop-place-preserved : goal.loop-place-preserved
+loop-place-preserved c =
+    let place = c.loop-place.place in
+    let olds = c.loop-place.accounts in
+    let new = c.note.new.self in
+    let group = c.index-groups-place.result in
+    let gs = map group_contents c.args.groups.now in
+    let known = c.loop-place.invariant in
+    let first : place < length c.args.accounts.now = omega (arith, c.loop-place-test.true) in
+    let within : place < length olds = omega (arith, first, c.loop-place.auto.accounts) in
+    let in_text : place < length c.args.groups.now = omega (arith, first, c.requires.many) in
+    let here : group_at gs place ≡ group_contents group = group_here c.args.groups.now place group in_text c.index-groups-place.is in
+    let next = start_more c.args.groups.now place group in_text c.index-groups-place.is in
+    let own : get_or c.args.accounts.now place c.index-accounts-place.result ≡ get_or olds place c.index-accounts-place.result = sym (known.rest place (omega arith) c.index-accounts-place.result) in
+    let row : GroupRow = record { truths = c.args.truths.now; lefts = c.args.lefts.now; rights = c.args.rights.now; hits = c.args.hits.now } in
+    record {
+      starts = omega (arith, known.starts, next, c.len.ensures, group.conditions.ok.0);
+      fit = below_more _ _
+          (λ g below d. subst (λ (a : GroupAccount). FitsGroup (group_at gs g) a) (sym (get_or-set_other olds place g new d (omega arith))) (known.fit g below d))
+          (λ d. subst (λ (a : GroupAccount). FitsGroup (group_at gs place) a) (sym (get_or-set_same olds place new d within)) (subst (λ (cs : List Condition). FitsGroup cs new) (sym here) c.note.ensures.fits));
+      stand = below_more _ _
+          (λ g below d. subst (λ (a : GroupAccount). GroupStandsAt (c.args.at + 1) a) (sym (get_or-set_other olds place g new d (omega arith))) (known.stand g below d))
+          (λ d. subst (λ (a : GroupAccount). GroupStandsAt (c.args.at + 1) a) (sym (get_or-set_same olds place new d within)) c.note.ensures.stands);
+      noted = λ earlier was. below_more _ _
+          (λ g below d. subst (λ (a : GroupAccount). IsGroupAccount (group_at gs g) c.args.size (map (part_of (group_at gs g) (c.args.from + start_at gs g)) (row ∷ earlier)) a) (sym (get_or-set_other olds place g new d (omega arith))) (known.noted earlier was g below d))
+          (λ d. subst (λ (a : GroupAccount). IsGroupAccount (group_at gs place) c.args.size (map (part_of (group_at gs place) (c.args.from + start_at gs place)) (row ∷ earlier)) a) (sym (get_or-set_same olds place new d within))
+          (noted_part (group_contents group) (group_at gs place) c.args.size c.loop-place.start (c.args.from + start_at gs place) _ row earlier (get_or olds place c.index-accounts-place.result) new
+          c.note.ensures.noted here (sym known.starts) (omega (arith, c.len.ensures, group.conditions.ok.0))
+          (subst (λ (a : GroupAccount). IsGroupAccount (group_at gs place) c.args.size (map (part_of (group_at gs place) (c.args.from + start_at gs place)) earlier) a) own (was place first c.index-accounts-place.result))));
+      rest = λ g above d. get_or-set_other olds place g new d (omega arith) ∙ known.rest g (omega arith) d;
+    }
+
+pub returns-clause-noted : goal.returns-clause-noted
+returns-clause-noted c = λ earlier was g below d. c.loop-place.invariant.noted earlier was g (omega (arith, c.loop-place-test.false, c.loop-place.auto.accounts)) d

@@ -1,0 +1,19 @@
+use Rattle.std.proofs.Common.{◌≡◌, ℕ, ◌+◌, ◌<◌, ◌≤◌, ◌∷◌, List, map, get_or}
+use Rattle.ra_condition.specs.Contents.{group_contents}
+use Rattle.ra_account.specs.declared.group_account.GroupAccount.{GroupAccount}
+use Rattle.ra_account.specs.Groups.{GroupRow, AreGroupAccounts, FitsGroup, GroupStandsAt, IsGroupAccount, group_at, part_of, start_at}
+use Rattle.ra_account.proofs.groups.note_groups.Given as goal
+
+-- the frame is noted in the accounts of the groups so far, and the others are as they were
+abbrev pub invariant-loop-place : goal.invariant-loop-place
+invariant-loop-place l = record {
+  starts : l.start ≡ l.from + start_at (map group_contents l.groups) l.place;
+  fit : (g : ℕ) → g < l.place → (d : GroupAccount) → FitsGroup (group_at (map group_contents l.groups) g) (get_or l.accounts g d);
+  stand : (g : ℕ) → g < l.place → (d : GroupAccount) → GroupStandsAt (l.at + 1) (get_or l.accounts g d);
+  noted : (earlier : List GroupRow) → AreGroupAccounts (map group_contents l.groups) l.from l.size earlier l.fn.accounts
+      → (g : ℕ) → g < l.place → (d : GroupAccount)
+      → IsGroupAccount (group_at (map group_contents l.groups) g) l.size
+      (map (part_of (group_at (map group_contents l.groups) g) (l.from + start_at (map group_contents l.groups) g))
+      (record { truths = l.truths; lefts = l.lefts; rights = l.rights; hits = l.hits } ∷ earlier)) (get_or l.accounts g d);
+  rest : (g : ℕ) → l.place ≤ g → (d : GroupAccount) → get_or l.accounts g d ≡ get_or l.fn.accounts g d;
+}
