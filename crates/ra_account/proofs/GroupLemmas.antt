@@ -1,5 +1,8 @@
 -- The accounts of a group's conditions with one frame more.
-use Rattle.std.proofs.Common.{◌≡◌, ℕ, ◌+◌, ◌<◌, ◌≤◌, [], ◌∷◌, Bool, false, List, length, map, take, drop, sum_by, get_or, sym, ap, ◌∙◌, subst, arith}
+use Rattle.std.proofs.Common.{◌≡◌, ℕ, ◌+◌, ◌<◌, ◌≤◌, [], ◌∷◌, ◌++◌, inl, inr, length-append, Bool, false, List, length, map, take, drop, sum_by, get_or, sym, ap, ◌∙◌, subst, arith}
+use Rattle.std.proofs.lemmas.Bool.{cases_lt}
+use Rattle.std.proofs.Math.ListN.{get_or-append}
+use Rattle.std.proofs.Math.Seq.{get_or-append_seam}
 use Rattle.std.proofs.lemmas.List.{get_or-map, length-map}
 use Rattle.std.proofs.lemmas.List.Sums.{sum_by_more, sum_by_more_le}
 use Rattle.std.proofs.lemmas.List.FromFn.{fill_by_all}
@@ -62,3 +65,16 @@ noted_part cs cs' size start start' count row earlier old new noted same starts 
     (subst (λ (s : ℕ). IsGroupAccount cs size (map (part_of cs s) earlier) old → IsGroupAccount cs size (map (part_of cs s) (row ∷ earlier)) new) (sym starts)
     (λ before. subst (λ (n : ℕ). IsGroupAccount cs size (cut_row n start row ∷ map (part_of cs start) earlier) new) many (noted (map (part_of cs start) earlier) before)))
     was
+
+-- what holds of each account so far, and of one more
+pub each_pushed : (P : ℕ → GroupAccount → Type 0) (accounts : List GroupAccount) (next : GroupAccount) (n : ℕ) → length accounts ≡ n
+    → ((g : ℕ) → g < length accounts → (d : GroupAccount) → P g (get_or accounts g d)) → P n next
+    → (g : ℕ) → g < length (accounts ++ next ∷ []) → (d : GroupAccount) → P g (get_or (accounts ++ next ∷ []) g d)
+each_pushed P accounts next n long known here = λ g below d.
+    elim (cases_lt g (length accounts)) [
+      | inl before ↦ subst (λ (a : GroupAccount). P g a) (sym (get_or-append accounts (next ∷ []) d g before)) (known g before d)
+      | inr last ↦
+          (let is_last : length accounts ≡ g = omega (arith, length-append accounts (next ∷ [])) in
+          subst (λ (k : ℕ). P k (get_or (accounts ++ next ∷ []) k d)) is_last
+          (subst (λ (a : GroupAccount). P (length accounts) a) (sym (get_or-append_seam accounts next [] d)) (subst (λ (k : ℕ). P k next) (sym long) here)))
+    ]

@@ -5,3 +5,4 @@ pub mod Greatest
 pub mod Groups
 pub mod Marks
 pub mod Nearness
+pub mod Triggers

@@ -1,4 +1,4 @@
-use Rattle.std.proofs.Common.{◌≡◌, ℕ, ◌+◌, ◌<◌, ◌≤◌, ◌∷◌, List, length, map, get_or, get_or-set_same, get_or-set_other, sym, ap, ◌∙◌, subst, arith, below_more}
+use Rattle.std.proofs.Common.{◌≡◌, ◌+◌, ◌<◌, ◌∷◌, List, length, map, get_or, get_or-set_same, get_or-set_other, sym, ◌∙◌, subst, arith, below_more}
 use Rattle.ra_condition.specs.declared.condition.Condition.{Condition}
 use Rattle.ra_condition.specs.Contents.{group_contents}
 use Rattle.ra_account.specs.declared.group_account.GroupAccount.{GroupAccount}

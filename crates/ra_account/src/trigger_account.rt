@@ -1,0 +1,122 @@
+ghost use Rattle.std.specs.Prelude.{◌≡◌, ℕ, ◌+◌, ◌<◌, ◌≤◌, ◌^◌, ◌∷◌, [], length, map, sum_by, List, IfOk};
+ghost use Rattle.ra_condition.specs.Contents.{group_contents, trigger_contents, trigger_hits};
+ghost use Rattle.ra_account.specs.Groups.{AllFit, AllGroupsStandAt, AreGroupAccounts};
+ghost use Rattle.ra_account.specs.Triggers.{TriggerRow, IsReady, IsTriggerAccount};
+
+use crate::group_account::GroupAccount;
+use crate::groups::note_groups;
+use crate::moment::Moment;
+use crate::times::Times;
+use ra_condition::{Group, TriggerText};
+use ra_text::OutOfMemory;
+use std::alloc::Global;
+
+/// The account of a trigger: what each of its conditions did over the frames so far, and how often it reset, was
+/// paused and waited. docs/DEFINITIONS.md, "Account of an achievement".
+#[derive(Drop)]
+pub struct TriggerAccount {
+    /// The core group's conditions.
+    pub core: GroupAccount,
+    /// Those of each alt group.
+    pub alts: Vec<GroupAccount>,
+    /// The frames at which the trigger resets.
+    pub resets: Times,
+    /// The frames at which it is paused.
+    pub paused: Times,
+    /// The frames at which it was waiting and is valid.
+    pub waited: Times,
+    /// How many frames were noted.
+    pub frames: u64,
+}
+
+impl TriggerAccount {
+    /// Before the first frame. At most 65,536 conditions.
+    pub fn new(alloc: Global, text: &TriggerText) -> Result<TriggerAccount, OutOfMemory>
+        requires few { trigger_hits (trigger_contents text.now) ≤ 65536 }
+        ensures ready { IfOk result (IsReady (trigger_contents text.now)) }
+        ensures begun { (size : ℕ) → IfOk result (IsTriggerAccount (trigger_contents text.now) size []) }
+    {
+        let core = GroupAccount::new(alloc, &text.core)?;
+        let alts = new_groups(alloc, &text.alts)?;
+        Ok(TriggerAccount {
+            core,
+            alts,
+            resets: Times::new(),
+            paused: Times::new(),
+            waited: Times::new(),
+            frames: 0,
+        })
+    }
+
+    /// Notes one frame more over a memory of `size` bytes.
+    ///
+    /// The slices have the comparison, the left and the right value and the hits before the frame of each condition,
+    /// core first.
+    pub fn note(
+        &mut self,
+        text: &TriggerText,
+        size: u32,
+        now: Moment,
+        truths: &[bool],
+        lefts: &[u32],
+        rights: &[u32],
+        hits: &[u32],
+    )
+        requires ready { IsReady (trigger_contents text.now) self.old }
+        requires few { self.old.frames < 2 ^ 60 }
+        requires truths { length truths.now ≡ trigger_hits (trigger_contents text.now) }
+        requires lefts { length lefts.now ≡ trigger_hits (trigger_contents text.now) }
+        requires rights { length rights.now ≡ trigger_hits (trigger_contents text.now) }
+        requires hits { length hits.now ≡ trigger_hits (trigger_contents text.now) }
+
+        ensures ready { IsReady (trigger_contents text.now) self.new }
+        ensures noted { (earlier : List TriggerRow) → IsTriggerAccount (trigger_contents text.now) size earlier self.old
+            → IsTriggerAccount (trigger_contents text.now) size (record {
+              moment = now;
+              row = record { truths = truths.now; lefts = lefts.now; rights = rights.now; hits = hits.now };
+            } ∷ earlier) self.new }
+    {
+        let at = self.frames;
+        let count = text.core.conditions.len();
+        self.core.note(
+            &text.core,
+            size,
+            at,
+            &truths[..count],
+            &lefts[..count],
+            &rights[..count],
+            &hits[..count],
+        );
+        note_groups(
+            &mut self.alts,
+            &text.alts,
+            size,
+            at,
+            count,
+            truths,
+            lefts,
+            rights,
+            hits,
+        );
+        self.resets.note(at, now.reset);
+        self.paused.note(at, now.paused);
+        self.waited.note(at, now.waited);
+        self.frames += 1;
+    }
+}
+
+// The accounts of some groups before the first frame.
+fn new_groups(alloc: Global, groups: &[Group]) -> Result<Vec<GroupAccount>, OutOfMemory>
+    requires few { sum_by length (map group_contents groups.now) ≤ 65536 }
+    ensures many { IfOk result (λ accounts. length accounts.items ≡ length groups.now) }
+    ensures fit { IfOk result (λ accounts. AllFit (map group_contents groups.now) accounts.items) }
+    ensures stand { IfOk result (λ accounts. AllGroupsStandAt 0 accounts.items) }
+    ensures begun { (from size : ℕ) → IfOk result
+        (λ accounts. AreGroupAccounts (map group_contents groups.now) from size [] accounts.items) }
+{
+    let mut accounts = Vec::new(alloc);
+    for group in groups {
+        accounts.push(GroupAccount::new(alloc, group)?)?;
+    }
+    Ok(accounts)
+}
