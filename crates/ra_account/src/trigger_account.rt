@@ -34,6 +34,7 @@ impl TriggerAccount {
     pub fn new(alloc: Global, text: &TriggerText) -> Result<TriggerAccount, OutOfMemory>
         requires few { trigger_hits (trigger_contents text.now) ≤ 65536 }
         ensures ready { IfOk result (IsReady (trigger_contents text.now)) }
+        ensures none { IfOk result (λ made. made.frames ≡ 0) }
         ensures begun { (size : ℕ) → IfOk result (IsTriggerAccount (trigger_contents text.now) size []) }
     {
         let core = GroupAccount::new(alloc, &text.core)?;
@@ -70,6 +71,7 @@ impl TriggerAccount {
         requires hits { length hits.now ≡ trigger_hits (trigger_contents text.now) }
 
         ensures ready { IsReady (trigger_contents text.now) self.new }
+        ensures counted { self.new.frames ≡ self.old.frames + 1 }
         ensures noted { (earlier : List TriggerRow) → IsTriggerAccount (trigger_contents text.now) size earlier self.old
             → IsTriggerAccount (trigger_contents text.now) size (record {
               moment = now;

@@ -1,0 +1,9 @@
+//! Tests of `ra_account` over its public calls: accounts over frames that are told by hand.
+//!
+//! They stand apart so that `ra_account` is not proved once more with them.
+#![tactic(auto)]
+
+#[cfg(test)]
+mod timeline;
+#[cfg(test)]
+mod told;
