@@ -5,4 +5,5 @@ pub mod Greatest
 pub mod Groups
 pub mod Marks
 pub mod Nearness
+pub mod Text
 pub mod Triggers

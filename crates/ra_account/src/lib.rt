@@ -13,6 +13,7 @@ mod moment;
 mod nearest;
 mod noting;
 mod range;
+mod text;
 mod times;
 mod trigger_account;
 
@@ -25,5 +26,6 @@ pub use mark::Mark;
 pub use moment::Moment;
 pub use nearest::Nearest;
 pub use range::Range;
+pub use text::{write_account, write_times};
 pub use times::Times;
 pub use trigger_account::TriggerAccount;
