@@ -24,7 +24,8 @@ pub fn order_of(alloc: Global, group: &Group) -> Result<Vec<u32>, OutOfMemory>
 }
 
 /// Whether each condition of a group stands in a pause chain: docs/DEFINITIONS.md, "Chains and pass order".
-// A chain is known by its last condition.
+///
+/// A chain is known by its last condition.
 pub fn pausing_of(alloc: Global, conditions: &[Condition]) -> Result<Vec<bool>, OutOfMemory>
     ensures { IfOk result (λ marks.
         marks.items ≡ map (in_pause_chain conditions.now) (places conditions.now)) }
