@@ -67,14 +67,14 @@ noted_part cs cs' size start start' count row earlier old new noted same starts 
     was
 
 -- what holds of each account so far, and of one more
-pub each_pushed : (P : ℕ → GroupAccount → Type 0) (accounts : List GroupAccount) (next : GroupAccount) (n : ℕ) → length accounts ≡ n
-    → ((g : ℕ) → g < length accounts → (d : GroupAccount) → P g (get_or accounts g d)) → P n next
-    → (g : ℕ) → g < length (accounts ++ next ∷ []) → (d : GroupAccount) → P g (get_or (accounts ++ next ∷ []) g d)
-each_pushed P accounts next n long known here = λ g below d.
+pub each_pushed : {A : Type 0} (P : ℕ → A → Type 0) (accounts : List A) (next : A) (n : ℕ) → length accounts ≡ n
+    → ((g : ℕ) → g < length accounts → (d : A) → P g (get_or accounts g d)) → P n next
+    → (g : ℕ) → g < length (accounts ++ next ∷ []) → (d : A) → P g (get_or (accounts ++ next ∷ []) g d)
+each_pushed {A} P accounts next n long known here = λ g below d.
     elim (cases_lt g (length accounts)) [
-      | inl before ↦ subst (λ (a : GroupAccount). P g a) (sym (get_or-append accounts (next ∷ []) d g before)) (known g before d)
+      | inl before ↦ subst (λ (a : A). P g a) (sym (get_or-append accounts (next ∷ []) d g before)) (known g before d)
       | inr last ↦
           (let is_last : length accounts ≡ g = omega (arith, length-append accounts (next ∷ [])) in
           subst (λ (k : ℕ). P k (get_or (accounts ++ next ∷ []) k d)) is_last
-          (subst (λ (a : GroupAccount). P (length accounts) a) (sym (get_or-append_seam accounts next [] d)) (subst (λ (k : ℕ). P k next) (sym long) here)))
+          (subst (λ (a : A). P (length accounts) a) (sym (get_or-append_seam accounts next [] d)) (subst (λ (k : ℕ). P k next) (sym long) here)))
     ]

@@ -1,4 +1,5 @@
 pub mod ColumnLemmas
+pub mod CopyLemmas
 pub mod CountingLemmas
 pub mod GreatestLemmas
 pub mod GroupLemmas

@@ -1,4 +1,5 @@
 pub mod Conditions
+pub mod Copies
 pub mod Counting
 pub mod Facts
 pub mod Greatest

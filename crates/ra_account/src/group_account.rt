@@ -96,7 +96,7 @@ impl GroupAccount {
 }
 
 // What a standing is before any frame.
-const NO_STANDING: Standing = Standing {
+pub(crate) const NO_STANDING: Standing = Standing {
     met: false,
     reset: false,
     total: 0,
@@ -104,7 +104,7 @@ const NO_STANDING: Standing = Standing {
 };
 
 // What is shown before any frame.
-const NO_FACTS: Facts = Facts {
+pub(crate) const NO_FACTS: Facts = Facts {
     counts: false,
     total: 0,
     past: false,

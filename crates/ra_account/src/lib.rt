@@ -4,6 +4,7 @@
 mod best;
 mod columns;
 mod condition;
+mod copying;
 mod facts;
 mod group;
 mod group_account;

@@ -1,8 +1,9 @@
 ghost use Rattle.std.specs.Prelude.{◌≡◌, ℕ, ◌+◌, ◌<◌, ◌≤◌, ◌^◌, ◌∷◌, [], length, map, sum_by, List, IfOk};
-ghost use Rattle.ra_condition.specs.Contents.{group_contents, trigger_contents, trigger_hits};
+ghost use Rattle.ra_condition.specs.Contents.{TriggerContents, group_contents, trigger_contents, trigger_hits};
 ghost use Rattle.ra_account.specs.Groups.{AllFit, AllGroupsStandAt, AreGroupAccounts};
 ghost use Rattle.ra_account.specs.Triggers.{TriggerRow, IsReady, IsTriggerAccount};
 
+use crate::copying::copy_trigger;
 use crate::group_account::GroupAccount;
 use crate::groups::note_groups;
 use crate::moment::Moment;
@@ -104,6 +105,15 @@ impl TriggerAccount {
         self.paused.note(at, now.paused);
         self.waited.note(at, now.waited);
         self.frames += 1;
+    }
+
+    /// A copy, as a save slot keeps one: it is an account of the same frames.
+    pub fn copy(&self, alloc: Global) -> Result<TriggerAccount, OutOfMemory>
+        ensures ready { (t : TriggerContents) → IsReady t self.now → IfOk result (IsReady t) }
+        ensures same { (t : TriggerContents) (size : ℕ) (frames : List TriggerRow)
+            → IsTriggerAccount t size frames self.now → IfOk result (IsTriggerAccount t size frames) }
+    {
+        copy_trigger(alloc, self)
     }
 }
 
