@@ -15,6 +15,13 @@ pub record GroupRow : Type 0 where
   pub rights : List ℕ
   pub hits : List ℕ
 
+-- a row of so many conditions
+pub record IsRowOf (count : ℕ) (r : GroupRow) : Type 0 where
+  pub truths_many : length r.truths ≡ count
+  pub lefts_many : length r.lefts ≡ count
+  pub rights_many : length r.rights ≡ count
+  pub hits_many : length r.hits ≡ count
+
 -- the group at the frame
 abbrev pub row_frame : List Condition → GroupRow → Frame
 row_frame cs r = frame_of cs r.truths r.lefts r.hits

@@ -1,7 +1,7 @@
 ghost use Rattle.std.specs.Prelude.{◌≡◌, ℕ, ◌+◌, ◌<◌, ◌≤◌, ◌^◌, ◌∷◌, [], length, List, IfOk};
 ghost use Rattle.ra_condition.specs.Contents.{group_contents};
 ghost use Rattle.ra_account.specs.Conditions.{AllStandAt, AreAccounts};
-ghost use Rattle.ra_account.specs.Groups.{GroupRow, IsGroupAccount, GroupStandsAt, FitsGroup, wants_of};
+ghost use Rattle.ra_account.specs.Groups.{GroupRow, IsGroupAccount, GroupStandsAt, FitsGroup, IsRowOf, wants_of};
 
 use crate::condition::ConditionAccount;
 use crate::facts::Facts;
@@ -66,10 +66,8 @@ impl GroupAccount {
         requires fits { FitsGroup (group_contents group.now) self.old }
         requires stands { GroupStandsAt at self.old }
         requires frames { at < 2 ^ 60 }
-        requires truths { length truths.now ≡ length (group_contents group.now) }
-        requires lefts { length lefts.now ≡ length (group_contents group.now) }
-        requires rights { length rights.now ≡ length (group_contents group.now) }
-        requires hits { length hits.now ≡ length (group_contents group.now) }
+        requires row { IsRowOf (length (group_contents group.now))
+            (record { truths = truths.now; lefts = lefts.now; rights = rights.now; hits = hits.now }) }
 
         ensures fits { FitsGroup (group_contents group.now) self.new }
         ensures stands { GroupStandsAt (at + 1) self.new }

@@ -1,6 +1,6 @@
 ghost use Rattle.std.specs.Prelude.{◌≡◌, ℕ, ◌+◌, ◌<◌, ◌≤◌, ◌^◌, ◌∷◌, [], length, map, sum_by, List, IfOk};
 ghost use Rattle.ra_condition.specs.Contents.{TriggerContents, group_contents, trigger_contents, trigger_hits};
-ghost use Rattle.ra_account.specs.Groups.{AllFit, AllGroupsStandAt, AreGroupAccounts};
+ghost use Rattle.ra_account.specs.Groups.{AllFit, AllGroupsStandAt, AreGroupAccounts, IsRowOf};
 ghost use Rattle.ra_account.specs.Triggers.{TriggerRow, IsReady, IsTriggerAccount};
 
 use crate::copying::copy_trigger;
@@ -66,10 +66,8 @@ impl TriggerAccount {
     )
         requires ready { IsReady (trigger_contents text.now) self.old }
         requires few { self.old.frames < 2 ^ 60 }
-        requires truths { length truths.now ≡ trigger_hits (trigger_contents text.now) }
-        requires lefts { length lefts.now ≡ trigger_hits (trigger_contents text.now) }
-        requires rights { length rights.now ≡ trigger_hits (trigger_contents text.now) }
-        requires hits { length hits.now ≡ trigger_hits (trigger_contents text.now) }
+        requires row { IsRowOf (trigger_hits (trigger_contents text.now))
+            (record { truths = truths.now; lefts = lefts.now; rights = rights.now; hits = hits.now }) }
 
         ensures ready { IsReady (trigger_contents text.now) self.new }
         ensures counted { self.new.frames ≡ self.old.frames + 1 }
