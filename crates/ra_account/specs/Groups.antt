@@ -22,6 +22,11 @@ pub record IsRowOf (count : ℕ) (r : GroupRow) : Type 0 where
   pub rights_many : length r.rights ≡ count
   pub hits_many : length r.hits ≡ count
 
+-- the marks tell whether each condition stands in a pause chain
+pub record ArePausing (cs : List Condition) (pausing : List Bool) : Type 0 where
+  pub as_many : length pausing ≡ length cs
+  pub each : (j : ℕ) → j < length cs → slice_index_or pausing j false ≡ in_pause_chain cs j
+
 -- the group at the frame
 abbrev pub row_frame : List Condition → GroupRow → Frame
 row_frame cs r = frame_of cs r.truths r.lefts r.hits
@@ -84,3 +89,9 @@ AllGroupsStandAt count accounts =
 abbrev pub AllFit : List (List Condition) → List GroupAccount → Type 0
 AllFit groups accounts =
     (g : ℕ) → g < length accounts → (d : GroupAccount) → FitsGroup (group_at groups g) (slice_index_or accounts g d)
+
+-- each group has an account of so many frames, with one for each of its conditions
+pub record AreReady (groups : List (List Condition)) (count : ℕ) (accounts : List GroupAccount) : Type 0 where
+  pub as_many : length accounts ≡ length groups
+  pub fit : AllFit groups accounts
+  pub stand : AllGroupsStandAt count accounts

@@ -1,10 +1,10 @@
 //! What a frame shows of the conditions of a group.
 
 ghost use Rattle.std.specs.Prelude.{◌≡◌, ℕ, ◌<◌, ◌≤◌, ◌^◌, ◌&&◌, [], length, false, slice_index_or};
-ghost use Rattle.ra_condition.specs.Chains.{in_pause_chain};
 ghost use Rattle.ra_condition.specs.Flags.{is_pause};
 ghost use Rattle.ra_group.specs.Equations.{frame_of};
 ghost use Rattle.ra_group.specs.Standings.{no_standing, standing_at};
+ghost use Rattle.ra_account.specs.Groups.{ArePausing, IsRowOf};
 ghost use Rattle.ra_account.specs.Facts.{facts_at, is_paused, no_facts, pointer_by, wanted_at};
 
 use crate::facts::{Around, Facts, facts_of, is_wanted};
@@ -27,13 +27,9 @@ pub(crate) fn show_group(
     wants: &mut [bool],
 )
     requires few { length conditions.now ≤ 2 ^ 32 }
-    requires pausing { (j : ℕ) → j < length conditions.now
-        → slice_index_or pausing.now j false ≡ in_pause_chain conditions.now j }
-    requires pausings { length pausing.now ≡ length conditions.now }
-    requires truths { length truths.now ≡ length conditions.now }
-    requires lefts { length lefts.now ≡ length conditions.now }
-    requires rights { length rights.now ≡ length conditions.now }
-    requires hits { length hits.now ≡ length conditions.now }
+    requires pausing { ArePausing conditions.now pausing.now }
+    requires row { IsRowOf (length conditions.now)
+        (record { truths = truths.now; lefts = lefts.now; rights = rights.now; hits = hits.now }) }
     requires room { length room.old ≡ length conditions.now }
     requires facts { length facts.old ≡ length conditions.now }
     requires wants { length wants.old ≡ length conditions.now }

@@ -2,7 +2,7 @@
 
 ghost use Rattle.std.specs.Prelude.{◌≡◌, ◌+◌, ◌<◌, ◌≤◌, ◌^◌, ◌∷◌, List, length, map, sum_by};
 ghost use Rattle.ra_condition.specs.Contents.{group_contents};
-ghost use Rattle.ra_account.specs.Groups.{GroupRow, AllFit, AllGroupsStandAt, AreGroupAccounts};
+ghost use Rattle.ra_account.specs.Groups.{GroupRow, AreGroupAccounts, AreReady, IsRowOf};
 
 use crate::group_account::GroupAccount;
 use ra_condition::Group;
@@ -21,17 +21,13 @@ pub(crate) fn note_groups(
     rights: &[u32],
     hits: &[u32],
 )
-    requires many { length accounts.old ≡ length groups.now }
-    requires fit { AllFit (map group_contents groups.now) accounts.old }
-    requires stand { AllGroupsStandAt at accounts.old }
+    requires ready { AreReady (map group_contents groups.now) at accounts.old }
     requires few { at < 2 ^ 60 }
-    requires truths { from + sum_by length (map group_contents groups.now) ≤ length truths.now }
-    requires lefts { length lefts.now ≡ length truths.now }
-    requires rights { length rights.now ≡ length truths.now }
-    requires hits { length hits.now ≡ length truths.now }
+    requires row { IsRowOf (length truths.now)
+        (record { truths = truths.now; lefts = lefts.now; rights = rights.now; hits = hits.now }) }
+    requires within { from + sum_by length (map group_contents groups.now) ≤ length truths.now }
 
-    ensures fit { AllFit (map group_contents groups.now) accounts.new }
-    ensures stand { AllGroupsStandAt (at + 1) accounts.new }
+    ensures ready { AreReady (map group_contents groups.now) (at + 1) accounts.new }
     ensures noted { (earlier : List GroupRow)
         → AreGroupAccounts (map group_contents groups.now) from size earlier accounts.old
         → AreGroupAccounts (map group_contents groups.now) from size

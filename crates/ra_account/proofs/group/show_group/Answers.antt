@@ -12,7 +12,7 @@ loop-place-preserved c =
     let stands = c.stand.ensures place (omega arith) in
     let paused = c.some_pause-paused.ensures in
     let own = condition_at f.conditions place in
-    let pausing = c.requires.pausing place (omega arith) in
+    let pausing = c.requires.pausing.each place (omega arith) in
     record {
       pointer_too = c.pointer_behind-pointer.ensures ∙ ap (pointer_at f) (sym (add-one place));
       shown = below_more _ _

@@ -1,4 +1,5 @@
 use Rattle.std.proofs.Common.{◌≡◌, ◌+◌, ◌<◌, ◌∷◌, List, length, map, get_or, get_or-set_same, get_or-set_other, sym, ◌∙◌, subst, arith, below_more}
+use Rattle.std.proofs.lemmas.List.{length-map}
 use Rattle.ra_condition.specs.declared.condition.Condition.{Condition}
 use Rattle.ra_condition.specs.Contents.{group_contents}
 use Rattle.ra_account.specs.declared.group_account.GroupAccount.{GroupAccount}
@@ -9,8 +10,8 @@ use Rattle.ra_account.proofs.groups.note_groups.Goals as goal
 pub slice_bounds-note-end : goal.slice_bounds-note-end
 slice_bounds-note-end c =
     let group = c.index-groups-place.result in
-    let fits = end_within c.args.groups.now c.loop-place.place group (omega (arith, c.loop-place-test.true, c.requires.many)) c.index-groups-place.is in
-    omega (arith, fits, c.loop-place.invariant.starts, c.len.ensures, group.conditions.ok.0, c.requires.truths)
+    let fits = end_within c.args.groups.now c.loop-place.place group (omega (arith, c.loop-place-test.true, c.requires.ready.as_many, length-map c.args.groups.now group_contents)) c.index-groups-place.is in
+    omega (arith, fits, c.loop-place.invariant.starts, c.len.ensures, group.conditions.ok.0, c.requires.within)
 
 pub loop-place-preserved : goal.loop-place-preserved
 loop-place-preserved c =
@@ -22,7 +23,7 @@ loop-place-preserved c =
     let known = c.loop-place.invariant in
     let first : place < length c.args.accounts.now = omega (arith, c.loop-place-test.true) in
     let within : place < length olds = omega (arith, first, c.loop-place.auto.accounts) in
-    let in_text : place < length c.args.groups.now = omega (arith, first, c.requires.many) in
+    let in_text : place < length c.args.groups.now = omega (arith, first, c.requires.ready.as_many, length-map c.args.groups.now group_contents) in
     let here : group_at gs place ≡ group_contents group = group_here c.args.groups.now place group in_text c.index-groups-place.is in
     let next = start_more c.args.groups.now place group in_text c.index-groups-place.is in
     let own : get_or c.args.accounts.now place c.index-accounts-place.result ≡ get_or olds place c.index-accounts-place.result = sym (known.rest place (omega arith) c.index-accounts-place.result) in
