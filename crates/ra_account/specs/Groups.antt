@@ -78,7 +78,8 @@ start_at groups g = sum_by length (take g groups)
 abbrev pub AreGroupAccounts : List (List Condition) → (from size : ℕ) → List GroupRow → List GroupAccount → Type 0
 AreGroupAccounts groups from size frames accounts =
     (g : ℕ) → g < length accounts → (d : GroupAccount)
-    → IsGroupAccount (group_at groups g) size (map (part_of (group_at groups g) (from + start_at groups g)) frames) (slice_index_or accounts g d)
+    → IsGroupAccount (group_at groups g) size (map (part_of (group_at groups g) (from + start_at groups g)) frames)
+    (slice_index_or accounts g d)
 
 -- each is an account of so many frames
 abbrev pub AllGroupsStandAt : ℕ → List GroupAccount → Type 0

@@ -31,13 +31,15 @@ target_text target best =
 -- at how many frames it counts, its hits behind the last one, and its best
 abbrev pub counts_text : (target hits : ℕ) → ConditionAccount → List ℕ
 counts_text target hits a =
-    codes " counts " ++ decimal a.counts.count ++ span_text a.counts ++ codes " hits " ++ decimal hits ++ target_text target a.best ++ codes "\n"
+    codes " counts " ++ decimal a.counts.count ++ span_text a.counts
+    ++ codes " hits " ++ decimal hits ++ target_text target a.best ++ codes "\n"
 
 -- the least and the greatest value of each side, where it counts nowhere and there is a frame
 abbrev pub sides_text : (frames : ℕ) → ConditionAccount → List ℕ
 sides_text frames a =
     if not (a.counts.count == 0) || frames == 0 then []
-    else codes " left " ++ decimal a.left.least ++ codes " to " ++ decimal a.left.greatest ++ codes " right " ++ decimal a.right.least ++ codes " to " ++ decimal a.right.greatest ++ codes "\n"
+    else codes " left " ++ decimal a.left.least ++ codes " to " ++ decimal a.left.greatest
+    ++ codes " right " ++ decimal a.right.least ++ codes " to " ++ decimal a.right.greatest ++ codes "\n"
 
 -- a column
 abbrev pub mark_text : Mark → List ℕ
