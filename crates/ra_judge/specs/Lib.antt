@@ -1,0 +1,6 @@
+pub mod Codes
+pub mod Giving
+pub mod Importing
+pub mod Judging
+pub mod Places
+pub mod Reasons

@@ -1,0 +1,17 @@
+//! What C is told of texts: codes, reasons of refusals, judgements of one item, and sets from documents.
+//!
+//! No call here needs a game.
+#![tactic(auto)]
+
+mod breaks;
+pub mod codes;
+mod given;
+mod importing;
+mod judging;
+mod place;
+mod refusal;
+
+pub use given::{give, give_whole};
+pub use importing::import;
+pub use judging::judge;
+pub use refusal::{Refusal, of_document, of_progress, of_set};
