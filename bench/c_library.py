@@ -2,7 +2,7 @@
 """The C library beside the player.
 
 compare PLAYER PLAY SAFE N    plays N generated sets and traces by the player and by examples/c's play, which is also
-                              built with sanitizers as SAFE, by single writes and by whole memories, and counts those
+                              built with sanitizers as SAFE, over one bank and over three, and counts those
                               that print something else
 sets FOLDER FRAMES            makes hundred.set: 100 achievements of 8 conditions, and hundred.trace: FRAMES frames over a
                               memory of 2 MiB, each behind 8 writes of one byte
@@ -33,7 +33,7 @@ def compare(player, play, safe, count):
                 with open(name, "wb") as file:
                     file.write(content)
             wanted = printed(player, "run", *words)
-            runs = [printed(play, *words), printed(play, *words, "see"), printed(safe, *words), printed(safe, *words, "see")]
+            runs = [printed(play, *words), printed(play, *words, "3"), printed(safe, *words), printed(safe, *words, "3")]
             figures["sets"] += 1
             figures["refused"] += wanted[0] != 0
             figures["other"] += any(run != wanted for run in runs)

@@ -1,6 +1,6 @@
 #!/bin/sh
-# Counts the instructions of a frame through the C library, by single writes and by a whole memory of 2 MiB, beside those of
-# the player: the difference of a run of 1,200 frames and one of 200, by 1,000. The lines of each frame are asked for.
+# Counts the instructions of a frame through the C library, over one bank of 2 MiB and over eight, beside those of the
+# player: the difference of a run of 1,200 frames and one of 200, by 1,000. The lines of each frame are asked for.
 # usage: bench/c_library.sh [PLAYER], where PLAYER is the built program; where it is not named it is found, or built
 set -eu
 . "$(dirname "$0")/player.sh"
@@ -21,5 +21,5 @@ a_frame() {
     done | awk 'NR == 1 { less = $1 } NR == 2 { printf "%d\n", ($1 - less) / 1000 }'
 }
 echo "ra_player, single writes: $(a_frame "$player" run "")"
-echo "the library, single writes: $(a_frame "$folder/play" "" "")"
-echo "the library, the whole memory: $(a_frame "$folder/play" "" see)"
+echo "the library, one bank: $(a_frame "$folder/play" "" "")"
+echo "the library, eight banks: $(a_frame "$folder/play" "" 8)"

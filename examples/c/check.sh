@@ -1,6 +1,6 @@
 #!/bin/sh
 # Builds the archive and the programs of this folder, and runs them: plainly, under the sanitizers and under valgrind.
-# Then compares play with the program ra_player over generated sets and traces, by single writes and by whole memories.
+# Then compares play with the program ra_player over generated sets and traces, over one bank and over three.
 # usage: examples/c/check.sh [SETS [PLAYER]], where SETS is 200 and PLAYER the built program; where it is not named it is
 # the one in crates/ra_player/out, or built first, with every proof below it
 set -eu

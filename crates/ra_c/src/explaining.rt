@@ -1,7 +1,7 @@
 //! An achievement is recorded, and its unlock explained.
 ghost use Rattle.std.specs.Prelude.{◌≡◌, ◌≢◌, ◌⊎◌};
 ghost use Rattle.ra_calls.specs.Answers.{Calls};
-ghost use Rattle.ra_calls.specs.Codes.{done, no_room};
+ghost use Rattle.ra_judge.specs.Codes.{done, no_room};
 ghost use Rattle.ra_calls.specs.Handles.{held_in, recorded_in};
 ghost use Rattle.ra_calls.specs.Recordings.{AnswersExplain, AnswersRecord};
 
@@ -10,10 +10,10 @@ use std::alloc::Global;
 
 /// Records the achievement of this id from now on, before the first frame: docs/DEFINITIONS.md, "Calls from C".
 ///
-/// `RA_RANGE` where the set has no achievement of the id, or the count of frames is not 0; `RA_MEMORY` for want of memory. Then
+/// `MEERKAT_RANGE` where the set has no achievement of the id, or the count of frames is not 0; `MEERKAT_MEMORY` where memory runs out. Then
 /// what was recorded stays.
 #[unsafe(no_mangle)]
-pub extern "C" fn ra_record(alloc: Global, handle: &mut Handle, id: u32) -> u32
+pub extern "C" fn meerkat_record(alloc: Global, handle: &mut Handle, id: u32) -> u32
     ensures stays { Calls (λ old new. new ≡ old) result (held_in handle.old) (held_in handle.new) }
     ensures recorded { Calls (λ old _. AnswersRecord id old result (recorded_in handle.old) (recorded_in handle.new)) result (held_in handle.old) (held_in handle.new) }
 {
@@ -22,10 +22,10 @@ pub extern "C" fn ra_record(alloc: Global, handle: &mut Handle, id: u32) -> u32
 
 /// Why the recorded achievement unlocked at the last frame: docs/DEFINITIONS.md, "Calls from C" and "Explanations".
 ///
-/// `RA_NOTHING` where nothing is recorded, or the last frame was no unlock of it. `RA_ROOM` where there is too little room; the count
-/// is that of all events. `RA_MEMORY` for want of memory.
+/// `MEERKAT_NOTHING` where nothing is recorded, or the last frame was no unlock of it. `MEERKAT_ROOM` where there is too little room; the count
+/// is that of all events. `MEERKAT_MEMORY` where memory runs out.
 #[unsafe(no_mangle)]
-pub extern "C" fn ra_explain(
+pub extern "C" fn meerkat_explain(
     alloc: Global,
     handle: &mut Handle,
     out: &mut [ToldHits],

@@ -1,16 +1,17 @@
 ghost use Rattle.std.specs.Prelude.{◌≡◌, ◌≢◌, ◌⊎◌, None};
-ghost use Rattle.ra_calls.specs.Answers.{AnswersReset, AnswersRestore, AnswersTold, Calls, IsSaveOf};
-ghost use Rattle.ra_calls.specs.Codes.{done, memory, no_progress, empty};
+ghost use Rattle.ra_calls.specs.Answers.{AnswersReset, AnswersRestore, AnswersSize, AnswersTold, Calls, IsSaveOf};
+ghost use Rattle.ra_judge.specs.Codes.{done, memory, no_progress, empty};
 ghost use Rattle.ra_calls.specs.Handles.{held_in, recorded_in};
 
-use ra_calls::{Handle, Refusal};
+use ra_calls::Handle;
+use ra_judge::Refusal;
 use std::alloc::Global;
 
 /// The progress bytes of the present state: docs/DEFINITIONS.md, "Calls from C" and "Progress file".
 ///
-/// `RA_ROOM` where there is too little room; the count is that of the whole. `RA_MEMORY` for want of memory.
+/// `MEERKAT_ROOM` where there is too little room; the count is that of the whole. `MEERKAT_MEMORY` where memory runs out.
 #[unsafe(no_mangle)]
-pub extern "C" fn ra_save(
+pub extern "C" fn meerkat_save(
     alloc: Global,
     handle: &mut Handle,
     out: &mut [u8],
@@ -24,12 +25,22 @@ pub extern "C" fn ra_save(
     ra_calls::save(alloc, handle, out, count)
 }
 
+/// How many bytes a save has, which stays so for a game: docs/DEFINITIONS.md, "Calls from C" and "Progress file".
+#[unsafe(no_mangle)]
+pub extern "C" fn meerkat_save_size(alloc: Global, handle: &mut Handle, size: &mut usize) -> u32
+    ensures told { Calls (AnswersSize size.new result) result (held_in handle.old) (held_in handle.new) }
+    ensures recording { recorded_in handle.new ≡ recorded_in handle.old }
+    ensures untold { result ≢ done → size.new ≡ size.old }
+{
+    ra_calls::save_size(alloc, handle, size)
+}
+
 /// Takes up what progress bytes say, of this set or of a changed one: docs/DEFINITIONS.md, "Calls from C".
 ///
-/// Then nothing is recorded. `RA_PROGRESS` where the bytes are refused, with the reason, and then nothing changes. No memory is
+/// Then nothing is recorded. `MEERKAT_PROGRESS` where the bytes are refused, with the reason, and then nothing changes. No memory is
 /// taken.
 #[unsafe(no_mangle)]
-pub extern "C" fn ra_restore(
+pub extern "C" fn meerkat_restore(
     alloc: Global,
     handle: &mut Handle,
     bytes: &[u8],
@@ -48,7 +59,7 @@ pub extern "C" fn ra_restore(
 /// It is a restore of what a save gives before the first frame, which is never refused. Nothing is
 /// recorded then. No memory is taken.
 #[unsafe(no_mangle)]
-pub extern "C" fn ra_reset(alloc: Global, handle: &mut Handle) -> u32
+pub extern "C" fn meerkat_reset(alloc: Global, handle: &mut Handle) -> u32
     ensures begun { Calls (AnswersReset result) result (held_in handle.old) (held_in handle.new) }
     ensures unrecorded { recorded_in handle.new ≡ None }
 {

@@ -1,9 +1,10 @@
-//! The runtime for emulators that are written in C: a static library, whose header is include/ra.h.
+//! The runtime for emulators that are written in C: a static library, whose header is include/meerkat.h.
 //!
 //! Each export calls the function of `ra_calls` of its name, and states its clauses again.
 #![tactic(auto)]
 
 mod explaining;
+mod judging;
 mod keeping;
 mod making;
 mod playing;
@@ -11,9 +12,12 @@ mod telling;
 #[cfg(test)]
 mod tests;
 
-pub use explaining::{ra_explain, ra_record};
-pub use keeping::{ra_reset, ra_restore, ra_save};
-pub use making::{ra_free, ra_new, ra_version};
-pub use playing::{ra_frame, ra_see, ra_write};
-pub use ra_calls::{Handle, Refusal, ToldEvent, ToldHits, ToldUnlock};
-pub use telling::{ra_events, ra_lines, ra_show};
+pub use explaining::{meerkat_explain, meerkat_record};
+pub use judging::{meerkat_import, meerkat_judge};
+pub use keeping::{meerkat_reset, meerkat_restore, meerkat_save, meerkat_save_size};
+pub use making::{meerkat_free, meerkat_new, meerkat_version};
+pub use playing::meerkat_frame;
+pub use ra_banks::Bank;
+pub use ra_calls::{Handle, ToldEvent, ToldHits, ToldItem, ToldUnlock};
+pub use ra_judge::Refusal;
+pub use telling::{meerkat_events, meerkat_items, meerkat_lines, meerkat_number, meerkat_presence};

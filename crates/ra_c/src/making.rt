@@ -1,17 +1,18 @@
 ghost use Rattle.std.specs.Prelude.{◌≡◌, ◌≢◌, ◌⊎◌, ◌↔◌, ◌<◌, ◌^◌, None, IsSomeAnd};
 ghost use Rattle.ra_calls.specs.Answers.{IsLoaded, IsRefusedText};
-ghost use Rattle.ra_calls.specs.Codes.{done, memory, no_set, out_of_range, empty, full};
+ghost use Rattle.ra_judge.specs.Codes.{done, memory, no_set, out_of_range, empty, full};
 ghost use Rattle.ra_calls.specs.Handles.{held_in, recorded_in};
 
-use ra_calls::{Handle, Refusal};
+use ra_calls::Handle;
+use ra_judge::Refusal;
 use std::alloc::Global;
 
-/// Makes a runtime of a set's text over a memory of `size` bytes, all 0: docs/DEFINITIONS.md, "Calls from C".
+/// Makes a game of a set's text over memories of `size` bytes: docs/DEFINITIONS.md, "Calls from C".
 ///
-/// `RA_HELD` where the handle holds one already, `RA_RANGE` where the size is above 134,217,728, `RA_SET` where the text is
-/// no set, with the reason, and `RA_MEMORY` for want of memory. Then nothing else changes.
+/// `MEERKAT_HELD` where the handle holds one already, `MEERKAT_RANGE` where the size is above 134,217,728, `MEERKAT_SET` where the text is
+/// no set, with the reason, and `MEERKAT_MEMORY` where memory runs out. Then nothing else changes.
 #[unsafe(no_mangle)]
-pub extern "C" fn ra_new(
+pub extern "C" fn meerkat_new(
     alloc: Global,
     text: &[u8],
     size: u32,
@@ -31,11 +32,11 @@ pub extern "C" fn ra_new(
     ra_calls::make(alloc, text, size, handle, why)
 }
 
-/// Frees the runtime that the handle holds, which then holds nothing: docs/DEFINITIONS.md, "Calls from C".
+/// Frees the game that the handle holds, which then holds nothing: docs/DEFINITIONS.md, "Calls from C".
 ///
-/// `RA_EMPTY` where it holds nothing.
+/// `MEERKAT_EMPTY` where it holds nothing.
 #[unsafe(no_mangle)]
-pub extern "C" fn ra_free(alloc: Global, handle: &mut Handle) -> u32
+pub extern "C" fn meerkat_free(alloc: Global, handle: &mut Handle) -> u32
     ensures emptied { held_in handle.new ≡ None }
     ensures none { result ≡ empty ↔ held_in handle.old ≡ None }
     ensures freed { result ≡ done ↔ held_in handle.old ≢ None }
@@ -45,8 +46,8 @@ pub extern "C" fn ra_free(alloc: Global, handle: &mut Handle) -> u32
 
 /// The version of this interface, which a later one that differs counts up.
 #[unsafe(no_mangle)]
-pub extern "C" fn ra_version() -> u32
-    ensures { result ≡ 1 }
+pub extern "C" fn meerkat_version() -> u32
+    ensures { result ≡ 2 }
 {
-    1
+    2
 }

@@ -1,17 +1,19 @@
 ghost use Rattle.std.specs.Prelude.{◌≡◌, ◌≢◌, ◌⊎◌};
-ghost use Rattle.ra_calls.specs.Answers.{AnswersTold, AreEventsOf, AreLinesOf, Calls, IsShownBy};
-ghost use Rattle.ra_calls.specs.Codes.{done, memory, empty};
+ghost use Rattle.ra_calls.specs.Answers.{AnswersTold, AreEventsOf, AreLinesOf, Calls};
+ghost use Rattle.ra_judge.specs.Codes.{done, memory, no_room, empty};
 ghost use Rattle.ra_calls.specs.Handles.{held_in, recorded_in};
+ghost use Rattle.ra_calls.specs.Shows.{IsShownBy};
+ghost use Rattle.ra_calls.specs.ToldItems.{AnswersNumber, AreItemsOf};
 
-use ra_calls::{Handle, ToldEvent};
+use ra_calls::{Handle, ToldEvent, ToldItem};
 use std::alloc::Global;
 
 /// The events of the last frame, items in set order: docs/DEFINITIONS.md, "Calls from C" and "Events".
 ///
-/// None where no frame came. `RA_ROOM` where there is too little room; the count is that of all of them. `RA_MEMORY` for
+/// None where no frame came. `MEERKAT_ROOM` where there is too little room; the count is that of all of them. `MEERKAT_MEMORY` for
 /// want of memory.
 #[unsafe(no_mangle)]
-pub extern "C" fn ra_events(
+pub extern "C" fn meerkat_events(
     alloc: Global,
     handle: &mut Handle,
     out: &mut [ToldEvent],
@@ -27,9 +29,9 @@ pub extern "C" fn ra_events(
 
 /// The lines of the events of the last frame: docs/DEFINITIONS.md, "Calls from C" and "Printed lines".
 ///
-/// `RA_ROOM` where there is too little room; the count is that of the whole. `RA_MEMORY` for want of memory.
+/// `MEERKAT_ROOM` where there is too little room; the count is that of the whole. `MEERKAT_MEMORY` where memory runs out.
 #[unsafe(no_mangle)]
-pub extern "C" fn ra_lines(
+pub extern "C" fn meerkat_lines(
     alloc: Global,
     handle: &mut Handle,
     out: &mut [u8],
@@ -43,12 +45,30 @@ pub extern "C" fn ra_lines(
     ra_calls::lines(alloc, handle, out, count)
 }
 
-/// The presence line after the last frame: docs/DEFINITIONS.md, "Calls from C" and "Presence over frames".
+/// How the items stand, in the order of the set: docs/DEFINITIONS.md, "Calls from C".
 ///
-/// Empty where the set has no script. `RA_ROOM` where there is too little room; the count is that of the whole. `RA_MEMORY`
-/// for want of memory.
+/// `MEERKAT_ROOM` where there is too little room; the count is that of all of them. `MEERKAT_MEMORY` where memory runs out.
 #[unsafe(no_mangle)]
-pub extern "C" fn ra_show(
+pub extern "C" fn meerkat_items(
+    alloc: Global,
+    handle: &mut Handle,
+    out: &mut [ToldItem],
+    count: &mut usize,
+) -> u32
+    ensures told { Calls (AnswersTold AreItemsOf out.old out.new count.new result) result (held_in handle.old) (held_in handle.new) }
+    ensures recording { recorded_in handle.new ≡ recorded_in handle.old }
+    ensures unwritten { result ≢ done → out.new ≡ out.old }
+    ensures uncounted { (result ≡ memory) ⊎ (result ≡ empty) → count.new ≡ count.old }
+{
+    ra_calls::items(alloc, handle, out, count)
+}
+
+/// The presence text after the last frame: docs/DEFINITIONS.md, "Calls from C" and "Presence over frames".
+///
+/// Empty where the set has no script. `MEERKAT_ROOM` where there is too little room; the count is that of the whole. `MEERKAT_MEMORY`
+/// where memory runs out.
+#[unsafe(no_mangle)]
+pub extern "C" fn meerkat_presence(
     alloc: Global,
     handle: &mut Handle,
     out: &mut [u8],
@@ -59,5 +79,26 @@ pub extern "C" fn ra_show(
     ensures unwritten { result ≢ done → out.new ≡ out.old }
     ensures uncounted { (result ≡ memory) ⊎ (result ≡ empty) → count.new ≡ count.old }
 {
-    ra_calls::show(alloc, handle, out, count)
+    ra_calls::presence(alloc, handle, out, count)
+}
+
+/// The number in the format of the leaderboard of an id: docs/DEFINITIONS.md, "Calls from C" and "Formats".
+///
+/// `MEERKAT_RANGE` where no leaderboard has the id; `MEERKAT_ROOM` where there is too little room; the count is that of the whole.
+/// `MEERKAT_MEMORY` where memory runs out.
+#[unsafe(no_mangle)]
+pub extern "C" fn meerkat_number(
+    alloc: Global,
+    handle: &mut Handle,
+    id: u32,
+    number: i32,
+    out: &mut [u8],
+    count: &mut usize,
+) -> u32
+    ensures told { Calls (AnswersNumber id number out.old out.new count.new result) result (held_in handle.old) (held_in handle.new) }
+    ensures recording { recorded_in handle.new ≡ recorded_in handle.old }
+    ensures unwritten { result ≢ done → out.new ≡ out.old }
+    ensures uncounted { result ≢ done → result ≢ no_room → count.new ≡ count.old }
+{
+    ra_calls::number(alloc, handle, id, number, out, count)
 }

@@ -1,10 +1,11 @@
 //! Worked calls, as an emulator makes them.
 
 use crate::{
-    Handle, Refusal, ToldEvent, ToldHits, ToldUnlock, ra_events, ra_explain, ra_frame, ra_free,
-    ra_lines, ra_new, ra_record, ra_reset, ra_restore, ra_save, ra_see, ra_write,
+    Bank, Handle, Refusal, ToldEvent, ToldHits, ToldUnlock, meerkat_events, meerkat_explain,
+    meerkat_frame, meerkat_free, meerkat_lines, meerkat_new, meerkat_record, meerkat_reset,
+    meerkat_restore, meerkat_save,
 };
-use ra_calls::codes::{DONE, EMPTY, HELD, NOTHING, PROGRESS, RANGE, ROOM, SET};
+use ra_judge::codes::{DONE, EMPTY, HELD, NOTHING, PROGRESS, RANGE, ROOM, SET};
 use std::alloc::Global;
 
 const ROW: &[u8] = b"A 1 0xH0010=5.3.\n";
@@ -16,20 +17,30 @@ fn no_reason() -> Refusal {
         at: 0,
         found: 0,
         wanted: 0,
+        line: 0,
+        column: 0,
     }
 }
 
 fn made(alloc: Global) -> Handle {
     let mut handle = Handle::empty(alloc);
-    let _ = ra_new(alloc, ROW, 32, &mut handle, &mut no_reason());
+    let _ = meerkat_new(alloc, ROW, 32, &mut handle, &mut no_reason());
     handle
+}
+
+// Takes a frame of two banks of 16 bytes, all 0 but the first of the second one.
+fn frame(alloc: Global, handle: &mut Handle, byte: u8) -> u32 {
+    let first = [0u8; 16];
+    let mut second = [0u8; 16];
+    second[0] = byte;
+    let banks = [Bank { bytes: &first }, Bank { bytes: &second }];
+    meerkat_frame(alloc, handle, &banks)
 }
 
 // Plays frames with these bytes at the address 0x10.
 fn play(alloc: Global, handle: &mut Handle, bytes: &[u8]) {
     for byte in bytes {
-        let _ = ra_write(alloc, handle, 0x10, &[*byte]);
-        let _ = ra_frame(alloc, handle);
+        let _ = frame(alloc, handle, *byte);
     }
 }
 
@@ -37,7 +48,7 @@ fn play(alloc: Global, handle: &mut Handle, bytes: &[u8]) {
 fn prints(alloc: Global, handle: &mut Handle, lines: &str) -> bool {
     let mut out = [0u8; 64];
     let mut count = 0usize;
-    let _ = ra_lines(alloc, handle, &mut out, &mut count);
+    let _ = meerkat_lines(alloc, handle, &mut out, &mut count);
     out.get(..count) == Some(lines.as_bytes())
 }
 
@@ -48,7 +59,7 @@ fn unlocks_after(alloc: Global, bytes: &[u8]) -> bool {
     let before = prints(alloc, &mut handle, "");
     play(alloc, &mut handle, &[5]);
     let after = prints(alloc, &mut handle, "unlock 4 1\n");
-    let _ = ra_free(alloc, &mut handle);
+    let _ = meerkat_free(alloc, &mut handle);
     before && after
 }
 
@@ -64,16 +75,16 @@ fn codes(alloc: Global) -> [u32; 10] {
     let mut out = [0u8; 1];
     let mut count = 0usize;
     [
-        ra_frame(alloc, &mut handle),
-        ra_new(alloc, b"A 1 0xH10=5.3\n", 32, &mut handle, &mut why),
-        ra_new(alloc, ROW, 134_217_729, &mut handle, &mut why),
-        ra_new(alloc, ROW, 32, &mut handle, &mut why),
-        ra_new(alloc, ROW, 32, &mut handle, &mut why),
-        ra_write(alloc, &mut handle, 31, &[1, 2]),
-        ra_save(alloc, &mut handle, &mut out, &mut count),
-        ra_restore(alloc, &mut handle, &[1], &mut why),
-        ra_free(alloc, &mut handle),
-        ra_free(alloc, &mut handle),
+        frame(alloc, &mut handle, 0),
+        meerkat_new(alloc, b"A 1 0xH10=5.3\n", 32, &mut handle, &mut why),
+        meerkat_new(alloc, ROW, 134_217_729, &mut handle, &mut why),
+        meerkat_new(alloc, ROW, 32, &mut handle, &mut why),
+        meerkat_new(alloc, ROW, 32, &mut handle, &mut why),
+        meerkat_frame(alloc, &mut handle, &[Bank { bytes: &[1, 2] }]),
+        meerkat_save(alloc, &mut handle, &mut out, &mut count),
+        meerkat_restore(alloc, &mut handle, &[1], &mut why),
+        meerkat_free(alloc, &mut handle),
+        meerkat_free(alloc, &mut handle),
     ]
 }
 
@@ -91,7 +102,7 @@ fn each_code_has_its_call(rt: HostRuntime) {
 fn refused(alloc: Global, text: &[u8]) -> (u32, u64) {
     let mut handle = Handle::empty(alloc);
     let mut why = no_reason();
-    let _ = ra_new(alloc, text, 32, &mut handle, &mut why);
+    let _ = meerkat_new(alloc, text, 32, &mut handle, &mut why);
     (why.kind, why.at)
 }
 
@@ -103,7 +114,6 @@ fn a_refused_text_tells_its_first_bad_place(rt: HostRuntime) {
 // The event after a whole memory was seen three times with 5 in it, a save, a reset and a restore between.
 fn event_after_a_restore(alloc: Global) -> (usize, ToldEvent) {
     let mut handle = made(alloc);
-    let mut memory = [0u8; 32];
     let mut saved = [0u8; 128];
     let mut size = 0usize;
     let mut events = [ToldEvent {
@@ -113,20 +123,18 @@ fn event_after_a_restore(alloc: Global) -> (usize, ToldEvent) {
     }];
     let mut count = 0usize;
     play(alloc, &mut handle, &[0, 5, 5]);
-    let _ = ra_save(alloc, &mut handle, &mut saved, &mut size);
-    let _ = ra_reset(alloc, &mut handle);
+    let _ = meerkat_save(alloc, &mut handle, &mut saved, &mut size);
+    let _ = meerkat_reset(alloc, &mut handle);
     play(alloc, &mut handle, &[5]);
-    let _ = ra_restore(
+    let _ = meerkat_restore(
         alloc,
         &mut handle,
         &saved[..size.min(128)],
         &mut no_reason(),
     );
-    memory[16] = 5;
-    let _ = ra_see(alloc, &mut handle, 0, &memory);
-    let _ = ra_frame(alloc, &mut handle);
-    let _ = ra_events(alloc, &mut handle, &mut events, &mut count);
-    let _ = ra_free(alloc, &mut handle);
+    let _ = frame(alloc, &mut handle, 5);
+    let _ = meerkat_events(alloc, &mut handle, &mut events, &mut count);
+    let _ = meerkat_free(alloc, &mut handle);
     (count, events[0])
 }
 
@@ -157,17 +165,17 @@ fn explained(alloc: Global, handle: &mut Handle) -> (u32, ToldUnlock, [ToldHits;
         since: 9,
         waited: 9,
     };
-    let code = ra_explain(alloc, handle, &mut out, &mut count, &mut unlock);
+    let code = meerkat_explain(alloc, handle, &mut out, &mut count, &mut unlock);
     (code, unlock, out, count)
 }
 
 // Whether an unlock at the last of these frames, which was recorded, is explained by these rows.
 fn explains(alloc: Global, bytes: &[u8], unlock: ToldUnlock, rows: [ToldHits; 3]) -> bool {
     let mut handle = made(alloc);
-    let recorded = ra_record(alloc, &mut handle, 1);
+    let recorded = meerkat_record(alloc, &mut handle, 1);
     play(alloc, &mut handle, bytes);
     let told = explained(alloc, &mut handle);
-    let _ = ra_free(alloc, &mut handle);
+    let _ = meerkat_free(alloc, &mut handle);
     recorded == DONE && told == (DONE, unlock, rows, 3)
 }
 
@@ -191,18 +199,18 @@ fn an_unlock_is_explained_by_its_hits(rt: HostRuntime) {
 // The codes of records and of explanations: over nothing, of another id, before an unlock, behind it, and after a reset.
 fn record_codes(alloc: Global) -> [u32; 7] {
     let mut handle = Handle::empty(alloc);
-    let empty = ra_record(alloc, &mut handle, 1);
+    let empty = meerkat_record(alloc, &mut handle, 1);
     let mut handle = made(alloc);
-    let other = ra_record(alloc, &mut handle, 2);
+    let other = meerkat_record(alloc, &mut handle, 2);
     let unrecorded = explained(alloc, &mut handle).0;
-    let done = ra_record(alloc, &mut handle, 1);
+    let done = meerkat_record(alloc, &mut handle, 1);
     play(alloc, &mut handle, &[0, 5]);
-    let late = ra_record(alloc, &mut handle, 1);
+    let late = meerkat_record(alloc, &mut handle, 1);
     let locked = explained(alloc, &mut handle).0;
     play(alloc, &mut handle, &[5, 5]);
-    let _ = ra_reset(alloc, &mut handle);
+    let _ = meerkat_reset(alloc, &mut handle);
     let reset = explained(alloc, &mut handle).0;
-    let _ = ra_free(alloc, &mut handle);
+    let _ = meerkat_free(alloc, &mut handle);
     [empty, other, unrecorded, done, late, locked, reset]
 }
 

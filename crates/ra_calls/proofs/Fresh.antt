@@ -1,7 +1,6 @@
 -- The progress of a set before its first frame is accepted.
 use Rattle.std.proofs.Common.{◌≡◌, ◌≤◌, ℕ, List, [], ◌∷◌, map, Option, None, Some, option_map, ap, subst, sym, ◌∙◌}
-use Rattle.std.specs.Prelude.{IfSome, length, replicate}
-use Rattle.std.proofs.lemmas.List.{length-replicate}
+use Rattle.std.specs.Prelude.{IfSome, length}
 use Rattle.std.specs.List.{AllByRecursion}
 use Rattle.md5.specs.Md5.{md5}
 use Rattle.md5.proofs.StandardFacts.{length-md5}
@@ -16,10 +15,18 @@ use Rattle.ra_progress.specs.Reading.{refusal}
 use Rattle.ra_meaning.specs.Openings.{plain_opening}
 use Rattle.ra_meaning.specs.OpeningLaws.{HasDigests}
 use Rattle.ra_progress.specs.Spelling.{progress_bytes}
-use Rattle.ra_meaning.specs.Runtime.{RuntimeSeen, IsMade}
+use Rattle.ra_runtime.specs.Courses.{CourseSeen, IsBegun}
 use Rattle.ra_meaning.specs.Order.{shape_of}
 use Rattle.ra_meaning.proofs.Digests.{md5_bytes}
 use Rattle.ra_meaning.proofs.Openings.Snapshots.{is_shape, opening_comes_back, plain_is_opening}
+use Rattle.ra_progress.specs.Laws.{ComesBack}
+use Rattle.ra_progress.proofs.ComesBack.{comes_back}
+use Rattle.ra_value_format.specs.Formats.{HasDigits}
+use Rattle.ra_value_format.specs.declared.format.Format.{Format}
+use Rattle.ra_items.proofs.ShapeLemmas.{have_digits}
+use Rattle.ra_goals.specs.Goals.{format_in, goal_of}
+use Rattle.ra_goals.specs.declared.goal.Goal.{Goal}
+use Rattle.ra_calls.proofs.GoalLemmas.{digits_in}
 use Rattle.ra_calls.specs.Answers.{IsFirst, IsSaveOf}
 
 -- a digest is sixteen bytes
@@ -49,37 +56,34 @@ first_accepted text set bytes first is spelled named short =
     ∙ (opening_comes_back set (plain_opening set) (is_shape set is.limits spelled named (digests_of text set is) short) (plain_is_opening set spelled)).0
 
 -- bytes that are those of what is kept are a save
-pub save_is : (runtime : RuntimeSeen) (bytes : List ℕ) → bytes ≡ progress_bytes (shape_of runtime.set) runtime.kept → IsSaveOf runtime bytes
+pub save_is : (course : CourseSeen) (bytes : List ℕ) → bytes ≡ progress_bytes (shape_of course.set) course.kept → IsSaveOf course bytes
 unfolding IsSaveOf
-save_is runtime bytes is = is
+save_is course bytes is = is
 
 -- a save is the bytes of what is kept
-pub of_save : (runtime : RuntimeSeen) (bytes : List ℕ) → IsSaveOf runtime bytes → bytes ≡ progress_bytes (shape_of runtime.set) runtime.kept
+pub of_save : (course : CourseSeen) (bytes : List ℕ) → IsSaveOf course bytes → bytes ≡ progress_bytes (shape_of course.set) course.kept
 unfolding IsSaveOf
-of_save runtime bytes is = is
+of_save course bytes is = is
 
--- a save right after a runtime was made
-first_saved : (set : SetContents) (size : ℕ) (runtime : RuntimeSeen) (bytes : List ℕ) → IsMade set size runtime → IsSaveOf runtime bytes → IsFirst runtime.set bytes
-first_saved set size runtime bytes made saved = record {
-  is = of_save runtime bytes saved ∙ ap (progress_bytes (shape_of runtime.set)) made.kept ∙ ap (λ (s : SetContents). progress_bytes (shape_of runtime.set) (plain_opening s)) (sym made.set_too);
+-- a save right after a course was begun
+first_saved : (set : SetContents) (size : ℕ) (course : CourseSeen) (bytes : List ℕ) → IsBegun set size course → IsSaveOf course bytes → IsFirst course.set bytes
+first_saved set size course bytes begun saved = record {
+  is = of_save course bytes saved ∙ ap (progress_bytes (shape_of course.set)) begun.kept ∙ ap (λ (s : SetContents). progress_bytes (shape_of course.set) (plain_opening s)) (sym begun.set_too);
 }
 
--- zeros of an image of zeros are the image
-zeros_are : (image : List ℕ) (size : ℕ) → image ≡ replicate size 0 → replicate (length image) 0 ≡ image
-zeros_are image size is = ap (λ (l : List ℕ). replicate (length l) 0) is ∙ ap (λ n. replicate n 0) (length-replicate size 0) ∙ sym is
+-- what is held right after a course was begun
+pub record IsFresh (course : CourseSeen) (first : List ℕ) : Type 0 where
+  pub first_too : IsFirst course.set first
+  pub accepted : refusal (shape_of course.set) first ≡ None
+  pub long : length first ≡ length_of (shape_of course.set)
 
--- what is held right after a runtime was made
-pub record IsFresh (runtime : RuntimeSeen) (first zeros : List ℕ) : Type 0 where
-  pub shadow : zeros ≡ runtime.image
-  pub first_too : IsFirst runtime.set first
-  pub accepted : refusal (shape_of runtime.set) first ≡ None
+pub is_fresh : (text : List ℕ) (set : SetContents) (size : ℕ) (course : CourseSeen) (first : List ℕ) → IsSet text course.set → IsSpelled course.set → IsNamed course.set → IsBegun set size course → IsSaveOf course first → length_of (shape_of course.set) ≤ 8388608 → IsFresh course first
+is_fresh text set size course first is spelled named begun saved short =
+    let begins = first_saved set size course first begun saved in
+    let shape = is_shape course.set is.limits spelled named (digests_of text course.set is) short in
+    let back : ComesBack (shape_of course.set) (plain_opening course.set) = comes_back (shape_of course.set) (plain_opening course.set) shape (plain_is_opening course.set spelled) in
+    record { first_too = begins; accepted = first_accepted text course.set first begins is spelled named short; long = ap length begins.is ∙ back.long }
 
-pub is_fresh : (text : List ℕ) (set : SetContents) (size : ℕ) (runtime : RuntimeSeen) (first zeros : List ℕ) → IsSet text set → IsSpelled set → IsNamed set → IsMade set size runtime → IsSaveOf runtime first → zeros ≡ replicate (length runtime.image) 0 → length_of (shape_of runtime.set) ≤ 8388608 → IsFresh runtime first zeros
-is_fresh text set size runtime first zeros is spelled named made saved zero short =
-    let begins = first_saved set size runtime first made saved in
-    let same = sym made.set_too in
-    record {
-      shadow = zero ∙ zeros_are runtime.image size made.image;
-      first_too = begins;
-      accepted = first_accepted text runtime.set first begins (subst (IsSet text) same is) (subst IsSpelled same spelled) (subst IsNamed same named) short;
-    }
+-- the goals of a new course are those of its set, and each format that they have has digits
+pub has_digits : (set : SetContents) (goals : List Goal) → goals ≡ map goal_of set.items → IsSpelled set → (id : ℕ) (format : Format) → format_in id goals ≡ Some format → HasDigits format
+has_digits set goals same spelled id format is = digits_in id format set.items (have_digits set.items spelled.items) (ap (format_in id) (sym same) ∙ is)

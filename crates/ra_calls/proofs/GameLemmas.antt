@@ -1,42 +1,37 @@
 -- A recording that is begun, and an explanation that is given.
-use Rattle.std.proofs.Common.{◌≡◌, inl, inr, sym, ap, subst, ◌∙◌, ℕ, ◌+◌, ◌≤◌, Bool, true, List, length, Option, None, Some, option_map, arith}
+use Rattle.std.proofs.Common.{◌≡◌, inl, inr, sym, ap, subst, ◌∙◌, ℕ, ◌≤◌, ◌^◌, Bool, true, List, Option, None, Some, option_map}
 use Rattle.std.specs.Prelude.{IfOk, IfErr, IfSome, IsSomeAnd}
 use Rattle.std.specs.declared.result.Result.{Result}
 use Rattle.std.specs.declared.result.Result.TheVariants.{Ok, Err}
-use Rattle.std.proofs.lemmas.List.{length-replicate}
-use Rattle.ra_memory.proofs.Written.{length-written}
 use Rattle.ra_condition.specs.Contents.{TriggerContents}
-use Rattle.ra_meaning.specs.Runtime.{RuntimeSeen}
-use Rattle.ra_explain.specs.Recorders.{RecorderSeen}
-use Rattle.ra_calls.specs.Answers.{Calls, Gives}
+use Rattle.ra_runtime.specs.Courses.{CourseSeen}
+use Rattle.ra_explain.specs.Recordings.{RecordingSeen, IsBegun}
+use Rattle.ra_calls.specs.Answers.{Calls}
+use Rattle.ra_judge.specs.Giving.{Gives}
 use Rattle.ra_calls.specs.Games.{GameSeen}
+use Rattle.ra_set.specs.Accepted.{IsSet}
+use Rattle.ra_calls.specs.GameViews.{IsGame}
+use Rattle.ra_calls.specs.declared.game.Game.TheInside.{Inside}
 use Rattle.ra_calls.specs.Handles.{recording_of}
-use Rattle.ra_calls.specs.Recordings.{trigger_of, AnswersExplain, ExplainsWhere, IsNewOver, IsOfId}
+use Rattle.ra_calls.specs.Recordings.{trigger_of, AnswersExplain, ExplainsWhere, IsOfId}
 use Rattle.ra_calls.specs.Tellings.{GivesTold, TellsRecorded}
 use Rattle.ra_calls.specs.declared.recording.Told.{Told}
 use Rattle.ra_calls.specs.declared.told_unlock.ToldHits.{ToldHits}
 use Rattle.ra_calls.specs.declared.told_unlock.ToldUnlock.{ToldUnlock}
 
--- a new recorder has the bytes of the image
-long_new : (t : TriggerContents) (image : List ℕ) (r : RecorderSeen) → IsNewOver t image r → length r.image ≡ length image
-long_new t image r over =
-    let blank : length over.blank.image ≡ length image = ap length over.made.image ∙ length-replicate (length image) 0 in
-    let within : 0 + length image ≤ length over.blank.image = omega (arith, blank) in
-    ap (λ (s : RecorderSeen). length s.image) over.written ∙ length-written over.blank.image image 0 within ∙ blank
+-- a new recording of an id is over memories of the game's size
+pub sized_of_id : (id : ℕ) (course : CourseSeen) (recording : Option RecordingSeen) → IsOfId id course recording → IfSome recording (λ r. r.size ≡ course.size)
+sized_of_id id course None is = tt
+sized_of_id id course (Some r) is = is.1.size_too
 
--- so does one of an id
-pub long_of_id : (id : ℕ) (runtime : RuntimeSeen) (recording : Option RecorderSeen) → IsOfId id runtime recording → IfSome recording (λ r. length r.image ≡ length runtime.image)
-long_of_id id runtime None is = tt
-long_of_id id runtime (Some r) is = long_new r.trigger runtime.image r is.1
-
--- a new recorder of the trigger of an id is one of this id
-pub begun_of_id : (id : ℕ) (runtime : RuntimeSeen) (t : TriggerContents) (image : List ℕ) (r : RecorderSeen) → trigger_of id runtime.set.items ≡ Some t → image ≡ runtime.image → IsNewOver t image r → IsOfId id runtime (Some r)
-begun_of_id id runtime t image r found same over =
-    let named : t ≡ r.trigger = sym over.made.trigger ∙ sym (ap (λ (s : RecorderSeen). s.trigger) over.written) in
-    (found ∙ ap Some named, subst (λ (u : TriggerContents). IsNewOver u runtime.image r) named (subst (λ (bytes : List ℕ). IsNewOver t bytes r) same over))
+-- a new recording of the trigger of an id is one of this id
+pub begun_of_id : (id : ℕ) (course : CourseSeen) (t : TriggerContents) (size : ℕ) (r : RecordingSeen) → trigger_of id course.set.items ≡ Some t → size ≡ course.size → IsBegun t size r → IsOfId id course (Some r)
+begun_of_id id course t size r found same begun =
+    let named : t ≡ r.trigger = sym begun.made.trigger in
+    (found ∙ ap Some named, subst (λ (u : TriggerContents). IsBegun u course.size r) named (subst (λ n. IsBegun t n r) same begun))
 
 -- what is told of a recording and given answers the call
-pub explains_so : {E : Type 0} (recording : Option RecorderSeen) (told : Result (Option Told) E) (before after : List ToldHits) (count : ℕ) (unlock : ToldUnlock) (code : ℕ)
+pub explains_so : {E : Type 0} (recording : Option RecordingSeen) (told : Result (Option Told) E) (before after : List ToldHits) (count : ℕ) (unlock : ToldUnlock) (code : ℕ)
     → IfOk told (TellsRecorded recording) → IfErr told (λ why. IsSomeAnd recording (λ r. r.unlocked ≡ true)) → GivesTold told before after count unlock code → AnswersExplain recording before after count unlock code
 explains_so None (Ok None) before after count unlock code tells due gives = gives
 explains_so None (Ok (Some told)) before after count unlock code tells due gives = absurd tells
@@ -52,7 +47,15 @@ explains_so (Some r) (Ok (Some told)) before after count unlock code tells due g
 explains_so (Some r) (Err why) before after count unlock code tells due gives = subst (λ (b : Bool). ExplainsWhere b r before after count unlock code) (sym due) (inl gives)
 
 -- what holds of the recording of a full handle that stays answers the call
-pub answers_full : (P : Option RecorderSeen → Type 0) (code : ℕ) (game : GameSeen) (old new : Option GameSeen) → Some game ≡ old → new ≡ Some game → P game.recording → Calls (λ _ _. P (recording_of old)) code (option_map (λ (g : GameSeen). g.runtime) old) (option_map (λ (g : GameSeen). g.runtime) new)
+pub answers_full : (P : Option RecordingSeen → Type 0) (code : ℕ) (game : GameSeen) (old new : Option GameSeen) → Some game ≡ old → new ≡ Some game → P game.recording → Calls (λ _ _. P (recording_of old)) code (option_map (λ (g : GameSeen). g.course) old) (option_map (λ (g : GameSeen). g.course) new)
 answers_full P code game old new taken put holds =
-    subst (λ (o : Option GameSeen). Calls (λ _ _. P (recording_of o)) code (option_map (λ (g : GameSeen). g.runtime) o) (option_map (λ (g : GameSeen). g.runtime) new)) taken
-    (subst (λ (n : Option GameSeen). Calls (λ _ _. P game.recording) code (Some game.runtime) (option_map (λ (g : GameSeen). g.runtime) n)) (sym put) holds)
+    subst (λ (o : Option GameSeen). Calls (λ _ _. P (recording_of o)) code (option_map (λ (g : GameSeen). g.course) o) (option_map (λ (g : GameSeen). g.course) new)) taken
+    (subst (λ (n : Option GameSeen). Calls (λ _ _. P game.recording) code (Some game.course) (option_map (λ (g : GameSeen). g.course) n)) (sym put) holds)
+
+-- a game goes on as one without a recording, where its set and its size stay
+pub still_game : (old new : Inside) → IsGame old → new.held.set ≡ old.held.set → new.held.size ≡ old.held.size → new.text.items ≡ old.text.items → new.recording ≡ None → IsGame new
+still_game old new is set size text none = record {
+  spelled = subst (λ (bytes : List ℕ). IsSet bytes new.held.set) (sym text) (subst (IsSet old.text.items) (sym set) is.spelled);
+  small = subst (λ n. n ≤ 2 ^ 27) (sym size) is.small;
+  alike = subst (λ (o : Option RecordingSeen). IfSome o (λ r. r.size ≡ new.held.size)) (sym none) tt;
+}

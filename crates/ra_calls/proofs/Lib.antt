@@ -2,5 +2,6 @@ mod AsBox
 mod ChooseLemmas
 mod Fresh
 mod GameLemmas
-mod Seen
+mod GoalLemmas
 mod Taken
+mod ShownTexts

@@ -1,14 +1,14 @@
 pub mod Answers
 pub mod Choosing
-pub mod Codes
 pub mod Games
 pub mod GameViews
 pub mod Handles
 pub mod Owned
-pub mod Reasons
 pub mod RecordingViews
 pub mod Recordings
+pub mod Shows
 pub mod Tellings
 pub mod ToldEvents
+pub mod ToldItems
 pub mod ToldUnlocks
 pub mod Views

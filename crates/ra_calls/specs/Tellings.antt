@@ -3,29 +3,29 @@ use Rattle.std.specs.Prelude.{◌≡◌, ℕ, true, false, Option, None, Some, L
 use Rattle.std.specs.declared.result.Result.{Result}
 use Rattle.std.specs.declared.result.Result.TheVariants.{Ok, Err}
 use Rattle.ra_explain.specs.Explains.{ExplanationContents}
-use Rattle.ra_explain.specs.Recorders.{RecorderSeen}
+use Rattle.ra_explain.specs.Recordings.{RecordingSeen, over}
 use Rattle.ra_explain.specs.Unlocks.{ExplainsBehind}
-use Rattle.ra_calls.specs.Answers.{Gives}
-use Rattle.ra_calls.specs.Codes.{done, memory, nothing}
+use Rattle.ra_judge.specs.Giving.{Gives}
+use Rattle.ra_judge.specs.Codes.{done, memory, nothing}
 use Rattle.ra_calls.specs.ToldUnlocks.{all_hits, told_unlock}
 use Rattle.ra_calls.specs.declared.recording.Told.{Told}
 use Rattle.ra_calls.specs.declared.told_unlock.ToldHits.{ToldHits}
 use Rattle.ra_calls.specs.declared.told_unlock.ToldUnlock.{ToldUnlock}
 
--- what is told is an explanation of each history for which the recorder stands
-pub record TellsBehind (r : RecorderSeen) (told : Told) : Type 0 where
+-- what is told is an explanation of each history for which the recording stands
+pub record TellsBehind (r : RecordingSeen) (told : Told) : Type 0 where
   pub of : ExplanationContents
-  pub explains : ExplainsBehind r of
+  pub explains : (image : List ℕ) → ExplainsBehind (over r image) of
   pub head : told.head ≡ told_unlock of
   pub hits : told.hits.items ≡ all_hits 0 of.events
 
 -- something is told exactly where the last frame was an unlock
-abbrev pub TellsLast : RecorderSeen → Option Told → Type 0
+abbrev pub TellsLast : RecordingSeen → Option Told → Type 0
 TellsLast r None = r.unlocked ≡ false
 TellsLast r (Some told) = (r.unlocked ≡ true) × TellsBehind r told
 
 -- the same of what is recorded
-abbrev pub TellsRecorded : Option RecorderSeen → Option Told → Type 0
+abbrev pub TellsRecorded : Option RecordingSeen → Option Told → Type 0
 TellsRecorded None None = Unit {0}
 TellsRecorded None (Some told) = ⊥
 TellsRecorded (Some r) told = TellsLast r told

@@ -1,22 +1,22 @@
 //! An achievement is recorded, and its unlock explained.
 ghost use Rattle.std.specs.Prelude.{◌≡◌, ◌≢◌, ◌⊎◌};
 ghost use Rattle.ra_calls.specs.Answers.{Calls};
-ghost use Rattle.ra_calls.specs.Codes.{done, no_room};
+ghost use Rattle.ra_judge.specs.Codes.{done, no_room};
 ghost use Rattle.ra_calls.specs.Handles.{held_in, recorded_in};
 ghost use Rattle.ra_calls.specs.Recordings.{AnswersExplain, AnswersRecord};
 ghost use Rattle.ra_calls.specs.Tellings.{GivesTold, GivesUnlock};
 
-use crate::codes::{DONE, EMPTY, MEMORY, NOTHING};
-use crate::given::give_whole;
 use crate::handle::Handle;
 use crate::recording::Told;
 use crate::told_unlock::{ToldHits, ToldUnlock};
+use ra_judge::codes::{DONE, EMPTY, MEMORY, NOTHING};
+use ra_judge::give_whole;
 use ra_text::OutOfMemory;
 use std::alloc::Global;
 
 /// Records the achievement of this id from now on, before the first frame: docs/DEFINITIONS.md, "Calls from C".
 ///
-/// `RANGE` where the set has no achievement of the id, or the count of frames is not 0; `MEMORY` for want of memory. Then
+/// `RANGE` where the set has no achievement of the id, or the count of frames is not 0; `MEMORY` where memory runs out. Then
 /// what was recorded stays.
 pub fn record(alloc: Global, handle: &mut Handle, id: u32) -> u32
     ensures stays { Calls (λ old new. new ≡ old) result (held_in handle.old) (held_in handle.new) }
@@ -35,7 +35,7 @@ pub fn record(alloc: Global, handle: &mut Handle, id: u32) -> u32
 /// Why the recorded achievement unlocked at the last frame: docs/DEFINITIONS.md, "Calls from C" and "Explanations".
 ///
 /// `NOTHING` where nothing is recorded, or the last frame was no unlock of it. `ROOM` where there is too little room; the count
-/// is that of all events. `MEMORY` for want of memory.
+/// is that of all events. `MEMORY` where memory runs out.
 pub fn explain(
     alloc: Global,
     handle: &mut Handle,

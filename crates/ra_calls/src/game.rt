@@ -1,25 +1,31 @@
-ghost use Rattle.std.specs.Prelude.{◌≡◌, ◌⊎◌, ◌≤◌, ◌^◌, true, None, Some, IsSomeAnd, IfOk, IfErr, OnOk, OnErr};
+ghost use Rattle.std.specs.Prelude.{◌≡◌, ◌⊎◌, ◌<◌, ◌≤◌, ◌^◌, true, None, Some, IsSomeAnd, IfOk, IfErr, OnOk, OnErr, length, option_map};
+ghost use Rattle.ra_banks.specs.Banks.{bytes_of};
+ghost use Rattle.ra_progress.specs.Layout.{length_of};
+ghost use Rattle.ra_meaning.specs.Order.{shape_of};
 ghost use Rattle.ra_set.specs.Refusals.{Refuses};
-ghost use Rattle.ra_meaning.specs.Runtime.{TakesFrame};
 
 use crate::choosing::find_trigger;
-use crate::codes::{DONE, MEMORY, RANGE};
 use crate::held::Held;
-use crate::recording::{Recording, Told, frame_too, write_too};
+use crate::recording::{Recorded, Told, follow_too};
 use crate::told_event::ToldEvent;
+use crate::told_item::ToldItem;
+use ra_banks::{Bank, Banks, Row, size_of};
+use ra_judge::codes::{DONE, MEMORY, RANGE};
+use ra_memory::Steps;
 use ra_progress::ProgressRefused;
 use ra_set::SetRefused;
 use ra_text::OutOfMemory;
 use std::alloc::Global;
-use std::marker::Model;
+use std::marker::{Brand, Model};
+use std::sync::ledger::{Blank, Ledger};
 
-/// What a full handle holds: a runtime, and a recording where an achievement is recorded.
+/// What a full handle holds: a course, and a recording where an achievement is recorded.
 #[derive(Drop)]
 pub struct Game {
     held: Held,
     // the set's text, from which an achievement that is recorded is read once more
     text: Vec<u8>,
-    recording: Option<Recording>,
+    recording: Option<Recorded>,
 }
 
 impl Model for Game {
@@ -43,16 +49,19 @@ fn copied(alloc: Global, text: &[u8]) -> Result<Vec<u8>, OutOfMemory>
 }
 
 impl Game {
-    ghost use Rattle.ra_calls.specs.Answers.{AnswersSee, AnswersWrite, AreEventsOf, AreLinesOf, BeginsAgain, IsLoaded, IsSaveOf, IsShownBy, RefusesProgress, TakesProgress};
-    ghost use Rattle.ra_calls.specs.Recordings.{AnswersRecord, IsOfId, RecordsFrame, RecordsWrite};
+    ghost use Rattle.ra_calls.specs.Answers.{AnswersFrame, AreEventsOf, AreLinesOf, BeginsAgain, IsLoaded, IsSaveOf, RefusesProgress, TakesImage, TakesProgress};
+    ghost use Rattle.ra_calls.specs.Recordings.{AnswersRecord, IsOfId, RecordsCall, RecordsFrame};
+    ghost use Rattle.ra_calls.specs.Shows.{IsShownBy};
     ghost use Rattle.ra_calls.specs.Tellings.{TellsRecorded};
+    ghost use Rattle.ra_calls.specs.ToldItems.{AreItemsOf, number_in};
 
-    /// The runtime of a set's text over a memory of `size` bytes, all 0, in a box. Nothing is recorded.
+    /// The game of a set's text over memories of `size` bytes, in a box. Nothing is recorded.
     ///
-    /// A text that is no set is refused for the first reason that comes; `Memory` tells want of memory.
+    /// A text that is no set is refused for the first reason that comes, and one that is too long before it is copied;
+    /// `Memory` tells that memory ran out.
     pub fn boxed(alloc: Global, text: &[u8], size: u32) -> Result<Box<Game>, SetRefused>
         requires { size ≤ 2 ^ 27 }
-        ensures loaded { IfOk result (λ game. IsLoaded text.now size game.value.runtime) }
+        ensures loaded { IfOk result (λ game. IsLoaded text.now size game.value.course) }
         ensures unrecorded { IfOk result (λ game. game.value.recording ≡ None) }
         ensures refused { IfErr result (λ why. why ≡ SetRefused.Memory ⊎ Refuses text.now why) }
     {
@@ -69,80 +78,115 @@ impl Game {
     // The same, without its box.
     fn made(alloc: Global, text: &[u8], size: u32) -> Result<Game, SetRefused>
         requires { size ≤ 2 ^ 27 }
-        ensures loaded { IfOk result (λ game. IsLoaded text.now size game.runtime) }
+        ensures loaded { IfOk result (λ game. IsLoaded text.now size game.course) }
         ensures unrecorded { IfOk result (λ game. game.recording ≡ None) }
         ensures refused { IfErr result (λ why. why ≡ SetRefused.Memory ⊎ Refuses text.now why) }
     {
-        let copy = copied(alloc, text)?;
         let held = Held::new(alloc, text, size)?;
-        Ok(Game {
-            held,
-            text: copy,
-            recording: None,
-        })
+        match copied(alloc, text) {
+            Ok(text) => Ok(Game {
+                held,
+                text,
+                recording: None,
+            }),
+            Err(_) => {
+                drop(held);
+                Err(SetRefused::Memory)
+            }
+        }
     }
 
-    /// Writes the bytes from the address `at` on. `RANGE` where they pass the end.
-    pub fn write(&mut self, at: u32, bytes: &[u8]) -> u32
-        ensures played { AnswersWrite at bytes.now result self.old.runtime self.new.runtime }
-        ensures recorded { RecordsWrite at bytes.now result self.old.recording self.new.recording }
+    /// Takes one frame of the memory that the banks are together. `RANGE` where it is not of the size.
+    pub fn frame(&mut self, banks: &[Bank<'_>]) -> u32
+        ensures played { AnswersFrame banks.now result self.old.course self.new.course }
+        ensures recorded { RecordsCall (bytes_of banks.now) result self.old.recording self.new.recording }
     {
-        let code = self.held.write(at, bytes);
-        write_too(&mut self.recording, code, at, bytes);
-        code
+        let own = self.held.size();
+        match size_of(banks) {
+            Some(size) if size == own => {
+                self.take_frame::<Brand>(banks, Blank::new(1));
+                DONE
+            }
+            _ => RANGE,
+        }
     }
 
-    /// Takes the bytes from the address `at` on as they now are. `RANGE` where they pass the end.
-    pub fn see(&mut self, at: u32, bytes: &[u8]) -> u32
-        ensures played { AnswersSee at bytes.now result self.old.runtime self.new.runtime }
-        ensures recorded { RecordsWrite at bytes.now result self.old.recording self.new.recording }
+    // Takes one frame, and counts what is read by this blank.
+    fn take_frame<L: Ledger>(&mut self, banks: &[Bank<'_>], blank: Blank)
+        requires size { length (bytes_of banks.now) ≡ self.old.course.size }
+        requires name { blank.name ≡ L.name }
+        requires parts { blank.parts ≡ L.parts }
+        requires held { 0 < blank.parts }
+        ensures played { TakesImage (bytes_of banks.now) self.old.course self.new.course }
+        ensures recorded { RecordsFrame (bytes_of banks.now) self.old.recording self.new.recording }
     {
-        let code = self.held.see(at, bytes);
-        write_too(&mut self.recording, code, at, bytes);
-        code
-    }
-
-    /// Takes one frame.
-    pub fn frame(&mut self)
-        ensures played { TakesFrame self.old.runtime self.new.runtime }
-        ensures recorded { RecordsFrame self.old.recording self.new.recording }
-    {
-        self.held.frame();
-        frame_too(&mut self.recording);
+        let mut steps = Steps::<L>::open(blank);
+        let mut image = Banks {
+            row: Row::new(banks),
+            steps: &mut steps,
+        };
+        self.held.follow(&mut image);
+        follow_too(&mut self.recording, &mut image);
     }
 
     /// The events of the last frame.
     pub fn events(&self, alloc: Global) -> Result<Vec<ToldEvent>, OutOfMemory>
-        ensures { IfOk result (λ told. AreEventsOf self.now.runtime told.items) }
+        ensures { IfOk result (λ told. AreEventsOf self.now.course told.items) }
     {
         self.held.events(alloc)
     }
 
     /// The lines of the last frame.
     pub fn lines(&self, alloc: Global) -> Result<Vec<u8>, OutOfMemory>
-        ensures { IfOk result (λ text. AreLinesOf self.now.runtime text.items) }
+        ensures { IfOk result (λ text. AreLinesOf self.now.course text.items) }
     {
         self.held.lines(alloc)
     }
 
-    /// The presence line.
-    pub fn show(&self, alloc: Global) -> Result<Vec<u8>, OutOfMemory>
-        ensures { IfOk result (λ text. IsShownBy self.now.runtime text.items) }
+    /// How the items stand, in the order of the set.
+    pub fn items(&self, alloc: Global) -> Result<Vec<ToldItem>, OutOfMemory>
+        ensures { IfOk result (λ told. AreItemsOf self.now.course told.items) }
     {
-        self.held.show(alloc)
+        self.held.items(alloc)
+    }
+
+    /// The number in the format of the leaderboard of an id; none where no leaderboard has it.
+    pub fn number(
+        &self,
+        alloc: Global,
+        id: u32,
+        number: i32,
+    ) -> Result<Option<Vec<u8>>, OutOfMemory>
+        ensures { IfOk result (λ text. option_map (λ t. t.items) text ≡ number_in self.now.course id number) }
+    {
+        self.held.number(alloc, id, number)
+    }
+
+    /// The presence text after the last frame.
+    pub fn presence(&self, alloc: Global) -> Result<Vec<u8>, OutOfMemory>
+        ensures { IfOk result (λ text. IsShownBy self.now.course text.items) }
+    {
+        self.held.presence(alloc)
+    }
+
+    /// How many bytes the progress of the set has.
+    pub fn save_size(&self) -> usize
+        ensures { result ≡ length_of (shape_of self.now.course.set) }
+    {
+        self.held.save_size()
     }
 
     /// The progress bytes.
     pub fn save(&self, alloc: Global) -> Result<Vec<u8>, OutOfMemory>
-        ensures { IfOk result (λ bytes. IsSaveOf self.now.runtime bytes.items) }
+        ensures { IfOk result (λ bytes. IsSaveOf self.now.course bytes.items) }
     {
         self.held.save(alloc)
     }
 
     /// Takes up what progress bytes say, and then nothing is recorded.
     pub fn restore(&mut self, bytes: &[u8]) -> Result<(), ProgressRefused>
-        ensures ok { OnOk result (TakesProgress bytes.now self.old.runtime self.new.runtime) }
-        ensures err { IfErr result (λ why. RefusesProgress bytes.now why self.old.runtime self.new.runtime) }
+        ensures ok { OnOk result (TakesProgress bytes.now self.old.course self.new.course) }
+        ensures err { IfErr result (λ why. RefusesProgress bytes.now why self.old.course self.new.course) }
         ensures unrecorded { OnOk result (self.new.recording ≡ None) }
         ensures kept { OnErr result (self.new.recording ≡ self.old.recording) }
     {
@@ -157,7 +201,7 @@ impl Game {
 
     /// Takes up the progress bytes before the first frame, which are never refused, and then nothing is recorded.
     pub fn reset(&mut self)
-        ensures played { BeginsAgain self.old.runtime self.new.runtime }
+        ensures played { BeginsAgain self.old.course self.new.course }
         ensures unrecorded { self.new.recording ≡ None }
     {
         self.held.reset();
@@ -166,8 +210,8 @@ impl Game {
 
     /// Records the achievement of this id from now on. `RANGE` where frames were taken, or no achievement has the id.
     pub fn record(&mut self, alloc: Global, id: u32) -> u32
-        ensures stays { self.new.runtime ≡ self.old.runtime }
-        ensures recorded { AnswersRecord id self.old.runtime result self.old.recording self.new.recording }
+        ensures stays { self.new.course ≡ self.old.course }
+        ensures recorded { AnswersRecord id self.old.course result self.old.recording self.new.recording }
     {
         if !self.held.is_unplayed() {
             return RANGE;
@@ -182,13 +226,13 @@ impl Game {
         }
     }
 
-    // A new recording of the achievement of this id, over the present memory.
-    fn begun(&self, alloc: Global, id: u32) -> Result<Option<Recording>, OutOfMemory>
-        ensures { IfOk result (IsOfId id self.now.runtime) }
+    // A new recording of the achievement of this id.
+    fn begun(&self, alloc: Global, id: u32) -> Result<Option<Recorded>, OutOfMemory>
+        ensures { IfOk result (IsOfId id self.now.course) }
     {
         match find_trigger(alloc, &self.text, id)? {
             Some(text) => {
-                let recording = Recording::begun(alloc, text, self.held.image())?;
+                let recording = Recorded::begun(alloc, text, self.held.size())?;
                 Ok(Some(recording))
             }
             None => Ok(None),

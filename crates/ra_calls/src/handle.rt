@@ -8,7 +8,7 @@ use std::mem;
 
 /// What the emulator keeps of a runtime: a pointer that it never reads. All zero it holds nothing.
 ///
-/// In C it is `ra_runtime`: docs/DEFINITIONS.md, "Calls from C". A full handle that is dropped forgets what it holds; `free`
+/// In C it is `meerkat_game`: docs/DEFINITIONS.md, "Calls from C". A full handle that is dropped forgets what it holds; `free`
 /// frees it.
 #[repr(C)]
 #[derive(Drop)]

@@ -1,17 +1,16 @@
 ghost use Rattle.std.specs.Prelude.{◌≡◌, ◌≢◌, ◌⊎◌, None};
-ghost use Rattle.ra_calls.specs.Answers.{AnswersReset, AnswersRestore, AnswersTold, Calls, IsSaveOf};
-ghost use Rattle.ra_calls.specs.Codes.{done, memory, no_progress, empty};
+ghost use Rattle.ra_calls.specs.Answers.{AnswersReset, AnswersRestore, AnswersSize, AnswersTold, Calls, IsSaveOf};
+ghost use Rattle.ra_judge.specs.Codes.{done, memory, no_progress, empty};
 ghost use Rattle.ra_calls.specs.Handles.{held_in, recorded_in};
 
-use crate::codes::{DONE, EMPTY, PROGRESS};
-use crate::given::give;
 use crate::handle::Handle;
-use crate::refusal::{Refusal, of_progress};
+use ra_judge::codes::{DONE, EMPTY, PROGRESS};
+use ra_judge::{Refusal, give, of_progress};
 use std::alloc::Global;
 
 /// The progress bytes of the present state: docs/DEFINITIONS.md, "Calls from C" and "Progress file".
 ///
-/// `ROOM` where there is too little room; the count is that of the whole. `MEMORY` for want of memory.
+/// `ROOM` where there is too little room; the count is that of the whole. `MEMORY` where memory runs out.
 pub fn save(alloc: Global, handle: &mut Handle, out: &mut [u8], count: &mut usize) -> u32
     ensures told { Calls (AnswersTold IsSaveOf out.old out.new count.new result) result (held_in handle.old) (held_in handle.new) }
     ensures recording { recorded_in handle.new ≡ recorded_in handle.old }
@@ -23,6 +22,22 @@ pub fn save(alloc: Global, handle: &mut Handle, out: &mut [u8], count: &mut usiz
             let code = give(game.save(alloc), out, count);
             handle.put(game);
             code
+        }
+        None => EMPTY,
+    }
+}
+
+/// How many bytes a save has, which stays so for a game: docs/DEFINITIONS.md, "Calls from C" and "Progress file".
+pub fn save_size(alloc: Global, handle: &mut Handle, size: &mut usize) -> u32
+    ensures told { Calls (AnswersSize size.new result) result (held_in handle.old) (held_in handle.new) }
+    ensures recording { recorded_in handle.new ≡ recorded_in handle.old }
+    ensures untold { result ≢ done → size.new ≡ size.old }
+{
+    match handle.take(alloc) {
+        Some(game) => {
+            *size = game.save_size();
+            handle.put(game);
+            DONE
         }
         None => EMPTY,
     }

@@ -1,19 +1,19 @@
 ghost use Rattle.std.specs.Prelude.{◌≡◌, ◌≢◌, ◌⊎◌, ◌↔◌, ◌<◌, ◌^◌, None, IsSomeAnd};
 ghost use Rattle.ra_calls.specs.Answers.{IsLoaded, IsRefusedText};
-ghost use Rattle.ra_calls.specs.Codes.{done, memory, no_set, out_of_range, empty, full};
+ghost use Rattle.ra_judge.specs.Codes.{done, memory, no_set, out_of_range, empty, full};
 ghost use Rattle.ra_calls.specs.Handles.{held_in, recorded_in};
 
-use crate::codes::{DONE, EMPTY, HELD, MEMORY, RANGE, SET};
 use crate::game::Game;
 use crate::handle::Handle;
-use crate::refusal::{Refusal, of_set};
+use ra_judge::codes::{DONE, EMPTY, HELD, MEMORY, RANGE, SET};
+use ra_judge::{Refusal, of_set};
 use ra_set::SetRefused;
 use std::alloc::Global;
 
-/// Makes a runtime of a set's text over a memory of `size` bytes, all 0: docs/DEFINITIONS.md, "Calls from C".
+/// Makes a game of a set's text over memories of `size` bytes: docs/DEFINITIONS.md, "Calls from C".
 ///
 /// `HELD` where the handle holds one already, `RANGE` where the size is above 134,217,728, `SET` where the text is
-/// no set, with the reason, and `MEMORY` for want of memory. Then nothing else changes.
+/// no set, with the reason, and `MEMORY` where memory runs out. Then nothing else changes.
 pub fn make(alloc: Global, text: &[u8], size: u32, handle: &mut Handle, why: &mut Refusal) -> u32
     ensures held { result ≡ full ↔ held_in handle.old ≢ None }
     ensures range { result ≡ out_of_range ↔ ((held_in handle.old ≡ None) × (2 ^ 27 < size)) }
@@ -38,13 +38,13 @@ pub fn make(alloc: Global, text: &[u8], size: u32, handle: &mut Handle, why: &mu
         }
         Err(SetRefused::Memory) => MEMORY,
         Err(reason) => {
-            *why = of_set(reason);
+            *why = of_set(text, reason);
             SET
         }
     }
 }
 
-/// Frees the runtime that the handle holds, which then holds nothing: docs/DEFINITIONS.md, "Calls from C".
+/// Frees the game that the handle holds, which then holds nothing: docs/DEFINITIONS.md, "Calls from C".
 ///
 /// `EMPTY` where it holds nothing.
 pub fn free(alloc: Global, handle: &mut Handle) -> u32

@@ -1,82 +1,60 @@
-ghost use Rattle.std.specs.Prelude.{◌≡◌, ◌≢◌, ◌⊎◌, ◌<◌, ◌≤◌, ◌+◌, ◌^◌, true, false, length, IfOk, IfErr, IfSome};
+ghost use Rattle.std.specs.Prelude.{◌≡◌, ◌≤◌, ◌^◌, true, length, IfOk, IfErr, IfSome};
 ghost use Rattle.ra_condition.specs.Contents.{trigger_contents};
-ghost use Rattle.ra_calls.specs.Codes.{done};
-ghost use Rattle.ra_calls.specs.Recordings.{RecordsFrame, RecordsWrite};
+ghost use Rattle.ra_calls.specs.Recordings.{RecordsFrame};
 
-use crate::codes::DONE;
 use crate::told_unlock::{ToldHits, ToldUnlock, head_of, hits_of};
 use ra_condition::TriggerText;
-use ra_explain::Recorder;
-use ra_memory::Steps;
+use ra_explain::Recording;
+use ra_memory::Image;
 use ra_text::OutOfMemory;
 use std::alloc::Global;
-use std::marker::{Brand, Model};
-use std::sync::ledger::{Blank, Ledger};
+use std::marker::Model;
 
-/// An achievement that is recorded. It is seen as its recorder.
+/// An achievement that is recorded. It is seen as its recording.
 #[derive(Drop)]
-pub struct Recording {
-    recorder: Recorder,
+pub struct Recorded {
+    recording: Recording,
     // whether the last frame was an unlock
     unlocked: bool,
 }
 
-impl Model for Recording {
-    ghost use Rattle.ra_explain.specs.Recorders.{RecorderSeen};
+impl Model for Recorded {
+    ghost use Rattle.ra_explain.specs.Recordings.{RecordingSeen};
 
-    ghost Value = { RecorderSeen };
+    ghost Value = { RecordingSeen };
 
-    ghost use Rattle.ra_calls.specs.RecordingViews.{recording_seen, IsRecording};
+    ghost use Rattle.ra_calls.specs.RecordingViews.{recording_seen, IsRecorded};
 
     ghost view = { recording_seen };
 
-    ghost invariant = { IsRecording };
+    ghost invariant = { IsRecorded };
 }
 
-impl Recording {
-    ghost use Rattle.ra_explain.specs.Recorders.{IsWritten};
+impl Recorded {
+    ghost use Rattle.ra_explain.specs.Recordings.{IsBegun};
     ghost use Rattle.ra_calls.specs.Choosing.{MayBeRecorded};
-    ghost use Rattle.ra_calls.specs.Recordings.{FramesOrRefuses, IsNewOver};
+    ghost use Rattle.ra_calls.specs.Recordings.{FramesOrRefuses};
     ghost use Rattle.ra_calls.specs.Tellings.{TellsLast};
 
-    /// The recording of a trigger from now on, over a memory that is now this image.
-    pub fn begun(alloc: Global, text: TriggerText, image: &[u8]) -> Result<Recording, OutOfMemory>
+    /// The recording of a trigger from now on, over memories of `size` bytes.
+    pub fn begun(alloc: Global, text: TriggerText, size: u32) -> Result<Recorded, OutOfMemory>
         requires usable { MayBeRecorded (trigger_contents text) }
-        requires size { length image.now ≤ 2 ^ 27 }
-        ensures { IfOk result (IsNewOver (trigger_contents text) image.now) }
+        requires size { size ≤ 2 ^ 27 }
+        ensures { IfOk result (IsBegun (trigger_contents text) size) }
     {
-        let mut recorder = Recorder::new(alloc, text, image.len() as u32)?;
-        recorder.write(0, image);
-        Ok(Recording {
-            recorder,
+        let recording = Recording::for_looks(alloc, text, size)?;
+        Ok(Recorded {
+            recording,
             unlocked: false,
         })
     }
 
-    /// Writes the bytes from the address `at` on.
-    pub fn write(&mut self, at: u32, bytes: &[u8])
-        requires { at + length bytes.now ≤ length self.old.image }
-        ensures { IsWritten self.old self.new at bytes.now }
+    /// Takes one frame of an image of the size, and answers whether it was taken.
+    pub fn follow<I: Image>(&mut self, image: &mut I) -> bool
+        requires { length (I.bytes image.old) ≡ self.old.size }
+        ensures taken { FramesOrRefuses result (I.bytes image.old) self.old self.new }
     {
-        self.recorder.write(at, bytes);
-    }
-
-    /// Takes one frame, and answers whether it was taken.
-    pub fn frame(&mut self) -> bool
-        ensures { FramesOrRefuses result self.old self.new }
-    {
-        self.take_frame::<Brand>(Blank::new(1))
-    }
-
-    // Takes one frame, and counts what is read by this blank.
-    fn take_frame<L: Ledger>(&mut self, blank: Blank) -> bool
-        requires name { blank.name ≡ L.name }
-        requires parts { blank.parts ≡ L.parts }
-        requires held { 0 < blank.parts }
-        ensures { FramesOrRefuses result self.old self.new }
-    {
-        let mut steps = Steps::<L>::open(blank);
-        match self.recorder.frame(&mut steps) {
+        match self.recording.follow(image) {
             Ok(unlocked) => {
                 self.unlocked = unlocked;
                 true
@@ -93,7 +71,7 @@ impl Recording {
         if !self.unlocked {
             return Ok(None);
         }
-        let explanation = self.recorder.explain(alloc)?;
+        let explanation = self.recording.explain(alloc)?;
         let hits = hits_of(alloc, &explanation.events)?;
         Ok(Some(Told {
             head: head_of(&explanation),
@@ -109,27 +87,15 @@ pub struct Told {
     pub hits: Vec<ToldHits>,
 }
 
-/// Writes bytes that were written, where something is recorded.
-pub fn write_too(recording: &mut Option<Recording>, code: u32, at: u32, bytes: &[u8])
-    requires { code ≡ done → IfSome recording.old (λ r. at + length bytes.now ≤ length r.image) }
-    ensures { RecordsWrite at bytes.now code recording.old recording.new }
-{
-    if code != DONE {
-        return;
-    }
-    if let Some(own) = recording {
-        own.write(at, bytes);
-    }
-}
-
 /// Takes the frame, where something is recorded. What refuses it is given up.
-pub fn frame_too(recording: &mut Option<Recording>)
-    ensures { RecordsFrame recording.old recording.new }
+pub fn follow_too<I: Image>(recorded: &mut Option<Recorded>, image: &mut I)
+    requires { IfSome recorded.old (λ r. length (I.bytes image.old) ≡ r.size) }
+    ensures { RecordsFrame (I.bytes image.old) recorded.old recorded.new }
 {
-    if let Some(own) = recording
-        && own.frame()
+    if let Some(own) = recorded
+        && own.follow(image)
     {
         return;
     }
-    drop(recording.take());
+    drop(recorded.take());
 }

@@ -1,4 +1,4 @@
-use Rattle.ra_calls.proofs.recording.Recording.frame.Given as goal
+use Rattle.ra_calls.proofs.game.Game.frame.Given as goal
 
 abbrev pub ghosts-take_frame : goal.ghosts-take_frame
 ghosts-take_frame a = record { name = a.blank.name; parts = a.blank.parts }

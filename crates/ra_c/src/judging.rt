@@ -1,0 +1,47 @@
+//! Texts that are judged before a game is made of them.
+ghost use Rattle.std.specs.Prelude.{◌≡◌, ◌≢◌, ◌⊎◌, ◌↔◌, None};
+ghost use Rattle.ra_judge.specs.Codes.{done, memory, no_set, no_document, no_room, out_of_range};
+ghost use Rattle.ra_judge.specs.Importing.{AnswersImport};
+ghost use Rattle.ra_judge.specs.Judging.{AcceptsKind, RefusesKind, kind_of};
+
+use ra_judge::Refusal;
+use std::alloc::Global;
+
+/// Whether a set with this one item alone is accepted: docs/DEFINITIONS.md, "Calls from C".
+///
+/// `MEERKAT_RANGE` where the number is no kind; `MEERKAT_SET` where it is not accepted, with the reason and the place in the text;
+/// `MEERKAT_MEMORY` where memory runs out.
+#[unsafe(no_mangle)]
+pub extern "C" fn meerkat_judge(alloc: Global, kind: u32, text: &[u8], why: &mut Refusal) -> u32
+    ensures range { result ≡ out_of_range ↔ kind_of kind ≡ None }
+    ensures accepted { result ≡ done → AcceptsKind (kind_of kind) text.now }
+    ensures refused { result ≡ no_set → RefusesKind (kind_of kind) text.now why.new }
+    ensures unsaid { result ≢ no_set → why.new ≡ why.old }
+    ensures other { (result ≡ done) ⊎ ((result ≡ memory) ⊎ ((result ≡ no_set) ⊎ (result ≡ out_of_range))) }
+{
+    ra_judge::judge(alloc, kind, text, why)
+}
+
+/// The set file of what is left of a document in JSON: docs/DEFINITIONS.md, "Calls from C" and "What is left of a
+/// document".
+///
+/// `MEERKAT_RANGE` where a flag is set, since there is none yet; `MEERKAT_DOCUMENT` where nothing is left, with the reason; `MEERKAT_ROOM` where
+/// there is too little room; `MEERKAT_MEMORY` where memory runs out.
+#[unsafe(no_mangle)]
+pub extern "C" fn meerkat_import(
+    alloc: Global,
+    document: &[u8],
+    flags: u32,
+    out: &mut [u8],
+    count: &mut usize,
+    left: &mut usize,
+    why: &mut Refusal,
+) -> u32
+    ensures answers { AnswersImport document.now flags out.old out.new count.new left.new why.new result }
+    ensures unwritten { result ≢ done → out.new ≡ out.old }
+    ensures uncounted { result ≢ done → result ≢ no_room → count.new ≡ count.old }
+    ensures left_uncounted { result ≢ done → result ≢ no_room → left.new ≡ left.old }
+    ensures unsaid { result ≢ no_document → why.new ≡ why.old }
+{
+    ra_judge::import(alloc, document, flags, out, count, left, why)
+}
