@@ -57,6 +57,11 @@ both_ways() {
 
 compiles() {
     local compiler=$1 program
+    local header='#include "meerkat.h"'
+    echo "$header" | "$compiler" -std=c89 -Wall -Wextra -Wpedantic -Werror -Icrates/ra_c/include -fsyntax-only -x c - || return 1
+    if command -v c++ >/dev/null; then
+        echo "$header" | c++ -std=c++98 -Wall -Wextra -Wpedantic -Werror -Icrates/ra_c/include -fsyntax-only -x c++ - || return 1
+    fi
     for program in examples/c/*.c; do
         "$compiler" -std=c11 -Wall -Wextra -Wpedantic -Werror -Icrates/ra_c/include -fsyntax-only "$program" || return 1
     done
