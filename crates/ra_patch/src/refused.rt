@@ -60,8 +60,8 @@ impl PatchField {
     ghost use Rattle.std.specs.Prelude.{◌≡◌};
     ghost use Rattle.ra_patch.specs.Words.{field_word};
 
-    // The name of the field.
-    fn word(self) -> &'static str
+    /// The name of the field: docs/DEFINITIONS.md, "Sets from JSON".
+    pub fn word(self) -> &'static str
         ensures { result.now ≡ field_word self }
     {
         match self {
