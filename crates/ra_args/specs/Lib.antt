@@ -1,3 +1,4 @@
 pub mod Words
 pub mod JobCommand
 pub mod JobWords
+pub mod AuthorWords

@@ -54,8 +54,8 @@ pub enum Job<'a> {
     },
 }
 
-// Whether a word names a file.
-fn is_name(word: &str) -> bool
+/// Whether a word names a file.
+pub(crate) fn is_name(word: &str) -> bool
     ensures { result ≡ words.is_name word.now }
 {
     match word.as_bytes() {
