@@ -5,7 +5,7 @@ use Rattle.std.proofs.lemmas.List.Sums.{sum_by-cons}
 use Rattle.ra_set.specs.Contents.{ItemContents, Unlocks, Ranks, item_contents}
 use Rattle.ra_set.specs.declared.item.Item.{Item}
 use Rattle.ra_set.specs.declared.item.Item.TheVariants as item
-use Rattle.ra_session.specs.Expected.{achievements_in, boards_in}
+use Rattle.ra_jobs.specs.Counting.{achievements_in, boards_in}
 
 -- 1 for an achievement
 abbrev pub unlocks : ItemContents → ℕ

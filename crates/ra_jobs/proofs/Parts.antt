@@ -2,8 +2,8 @@
 use Rattle.std.proofs.Common.{◌≡◌, ap, sym, refl, ◌∙◌, ℕ, List, [], ◌++◌, take, drop, append_assoc, append-nil, Option}
 use Rattle.std.proofs.lemmas.List.{take-append-drop}
 use Rattle.ra_io.specs.Sink.{grown}
-use Rattle.ra_session.specs.Writing.{GrewByPart}
-use Rattle.ra_session.proofs.Pieces.{Written, grown-grown, grown-nil}
+use Rattle.ra_jobs.specs.Writing.{GrewByPart}
+use Rattle.ra_jobs.proofs.Pieces.{Written, grown-grown, grown-nil}
 
 pub part_none : (o n : Option (List ℕ)) (bytes : List ℕ) → n ≡ o → GrewByPart o n bytes
 part_none o n bytes same = record { front = []; rest = bytes; whole = refl; grew = same ∙ sym (grown-nil o) }

@@ -1,7 +1,7 @@
 -- A file that is read piece by piece.
 use Rattle.std.proofs.Common.{arith, ◌≡◌, ◌≤◌, ap, sym, refl, ◌∙◌, ℕ, ◌+◌, List, ◌++◌, length, take, drop, Bool, false, Option, Some, take-add, None, IfSome}
 use Rattle.std.proofs.lemmas.List.{take_all}
-use Rattle.ra_session.specs.Reading.{ReadsOn}
+use Rattle.ra_jobs.specs.Reading.{ReadsOn}
 
 -- What was read so far is the front of the file, where its bytes are told.
 pub record IsFront (content : Option (List ℕ)) (bytes : List ℕ) : Type 0 where

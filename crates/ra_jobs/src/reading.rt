@@ -3,11 +3,28 @@
 ghost use Rattle.std.specs.Prelude.{◌≡◌, ℕ, ◌^◌, ◌<◌, ◌≤◌, take, vec_len, IfOk, IsErrOf, IfSome};
 ghost use Rattle.ra_io.specs.Causes.{Rose};
 ghost use Rattle.ra_io.specs.Files.{OnlyRead};
-ghost use Rattle.ra_session.specs.Reading.{ReadsOn};
+ghost use Rattle.ra_jobs.specs.Reading.{ReadsOn};
+ghost use Rattle.ra_jobs.specs.declared.reading.ReadFailed.TheVariants as read;
 
-use crate::failures::ReadFailed;
 use ra_io::{Failed, Files};
-use std::alloc::Global;
+use std::alloc::{AllocError, Global};
+
+/// Why a file is not read.
+#[derive(Clone, Copy, Debug, PartialEq, Eq)]
+pub enum ReadFailed {
+    /// There was no memory for its bytes.
+    Memory,
+    /// A read of it failed.
+    Failed,
+}
+
+impl From<AllocError> for ReadFailed {
+    ghost from_gives = { λ _ e. e ≡ read.Memory };
+
+    fn from(_error: AllocError) -> ReadFailed {
+        ReadFailed::Memory
+    }
+}
 
 // The most bytes of one read.
 const CHUNK: usize = 4096;

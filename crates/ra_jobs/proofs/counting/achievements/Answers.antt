@@ -1,6 +1,6 @@
 use Rattle.std.proofs.Common.{rules}
-use Rattle.ra_session.proofs.CountLemmas.{achievements_counted}
-use Rattle.ra_session.proofs.check_line.achievements.Goals as goal
+use Rattle.ra_jobs.proofs.CountLemmas.{achievements_counted}
+use Rattle.ra_jobs.proofs.counting.achievements.Goals as goal
 
 pub returns : goal.returns
 returns c =

@@ -1,7 +1,7 @@
 use Rattle.std.proofs.Common.{◌≡◌, ◌≤◌, take, sum_by}
 use Rattle.ra_set.specs.Contents.{item_contents}
-use Rattle.ra_session.proofs.CountLemmas.{unlocks}
-use Rattle.ra_session.proofs.check_line.achievements.Given as goal
+use Rattle.ra_jobs.proofs.CountLemmas.{unlocks}
+use Rattle.ra_jobs.proofs.counting.achievements.Given as goal
 
 abbrev pub invariant-loop-item : goal.invariant-loop-item
 invariant-loop-item l = (l.count ≡ sum_by (λ item. unlocks (item_contents item)) (take l.item-index l.items)) × (l.count ≤ l.item-index)

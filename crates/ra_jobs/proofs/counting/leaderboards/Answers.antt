@@ -1,6 +1,6 @@
 use Rattle.std.proofs.Common.{rules}
-use Rattle.ra_session.proofs.CountLemmas.{boards_counted}
-use Rattle.ra_session.proofs.check_line.leaderboards.Goals as goal
+use Rattle.ra_jobs.proofs.CountLemmas.{boards_counted}
+use Rattle.ra_jobs.proofs.counting.leaderboards.Goals as goal
 
 pub returns : goal.returns
 returns c =

@@ -1,8 +1,8 @@
 use Rattle.std.proofs.Common.{arith}
 use Rattle.std.proofs.lemmas.Grind.{common_steps}
-use Rattle.ra_session.proofs.Stays.{stays_after}
-use Rattle.ra_session.proofs.Whole.{front_grows, front_at_end, if_some}
-use Rattle.ra_session.proofs.reading.read_whole.Goals as goal
+use Rattle.ra_jobs.proofs.Stays.{stays_after}
+use Rattle.ra_jobs.proofs.Whole.{front_grows, front_at_end, if_some}
+use Rattle.ra_jobs.proofs.reading.read_whole.Goals as goal
 
 pub returns-then-not-branch-clause-ok : goal.returns-then-not-branch-clause-ok
 returns-then-not-branch-clause-ok g c =

@@ -1,7 +1,7 @@
 use Rattle.std.proofs.Common.{◌≤◌, ◌-◌, length}
 use Rattle.ra_io.specs.Files.{OnlyRead}
-use Rattle.ra_session.proofs.Whole.{IsFront}
-use Rattle.ra_session.proofs.reading.read_whole.Given as goal
+use Rattle.ra_jobs.proofs.Whole.{IsFront}
+use Rattle.ra_jobs.proofs.reading.read_whole.Given as goal
 
 abbrev pub invariant-loop-bytes : goal.invariant-loop-bytes
 invariant-loop-bytes g l = record {

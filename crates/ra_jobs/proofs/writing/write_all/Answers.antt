@@ -1,7 +1,7 @@
 use Rattle.std.proofs.Common.{arith}
-use Rattle.ra_session.proofs.Pieces.{more_written}
-use Rattle.ra_session.proofs.Parts.{part_written}
-use Rattle.ra_session.proofs.writing.write_all.Goals as goal
+use Rattle.ra_jobs.proofs.Pieces.{more_written}
+use Rattle.ra_jobs.proofs.Parts.{part_written}
+use Rattle.ra_jobs.proofs.writing.write_all.Goals as goal
 
 pub loop-rest-preserved : goal.loop-rest-preserved
 loop-rest-preserved g c =

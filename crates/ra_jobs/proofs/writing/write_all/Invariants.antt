@@ -1,6 +1,6 @@
 use Rattle.std.proofs.Common.{◌≤◌, length}
-use Rattle.ra_session.proofs.Pieces.{Written}
-use Rattle.ra_session.proofs.writing.write_all.Given as goal
+use Rattle.ra_jobs.proofs.Pieces.{Written}
+use Rattle.ra_jobs.proofs.writing.write_all.Given as goal
 
 abbrev pub invariant-loop-rest : goal.invariant-loop-rest
 invariant-loop-rest g l = record {
