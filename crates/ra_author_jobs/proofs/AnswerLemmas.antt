@@ -1,0 +1,76 @@
+-- What is said of a file, by what was read of it.
+use Rattle.std.proofs.Common.{◌≡◌, ◌∙◌, ◌⊎◌, inl, inr, refl, sym, ap, subst, ℕ, ◌+◌, List, ◌++◌, append_assoc, take, Option, Some, Result, Ok, Err, IfOk, IfSome}
+use Rattle.ra_author_jobs.specs.Expected.{Expected, ImportSays, IsOfDocument, IsOwn, ReviewSays, SaysOfBytes, SaysOfLeft, expected_of, imported, imports, leaves, of_bytes, prints, refuses_document, refuses_set, review_status, reviews}
+use Rattle.ra_author_jobs.specs.Importing.{refused_document}
+use Rattle.ra_author_jobs.specs.declared.answer.Answer.{Answer}
+use Rattle.ra_patch.specs.Answers.{document_limit}
+use Rattle.ra_patch.specs.LeftAnswers.{IsLimit, LeavesDocument, LeavesNothing}
+use Rattle.ra_patch.specs.declared.document_refused.DocumentRefused.{DocumentRefused}
+use Rattle.ra_patch.specs.declared.document_refused.DocumentRefused.TheVariants as none
+use Rattle.ra_patch.specs.declared.left_out.LeftOut.{LeftOut}
+use Rattle.ra_review.specs.Reviews.{IsReview, Said, refused_line}
+use Rattle.ra_set.specs.Accepted.{IsSet}
+use Rattle.ra_set.specs.Contents.{SetContents}
+use Rattle.ra_set.specs.Limits.{most_bytes}
+use Rattle.ra_set.specs.Refusals.{Refuses}
+use Rattle.ra_set.specs.declared.refused.SetRefused.{SetRefused}
+use Rattle.ra_set.specs.declared.refused.SetRefused.TheVariants as set
+
+-- a text behind which two parts were written
+pub two_parts : (start a b x y : List ℕ) → x ≡ start ++ a → y ≡ x ++ b → y ≡ start ++ (a ++ b)
+two_parts start a b x y p q = q ∙ ap (λ t. t ++ b) p ∙ append_assoc start a b
+
+-- a text behind which three parts were written
+pub three_parts : (start a b c x y z : List ℕ) → x ≡ start ++ a → y ≡ x ++ b → z ≡ y ++ c → z ≡ start ++ (a ++ (b ++ c))
+three_parts start a b c x y z p q r = r ∙ ap (λ t. t ++ c) (two_parts start a b x y p q) ∙ append_assoc start (a ++ b) c ∙ ap (λ t. start ++ t) (append_assoc a b c)
+
+told : {T : Type 0} (o : Option T) (P : T → Type 0) (x : T) → o ≡ Some x → IfSome o P → P x
+told {T} o P x is h = subst (λ (o : Option T). IfSome o P) is h
+
+-- what was said has a status of its own
+own_so : (e : Expected) (a : Answer) → IsOwn e → expected_of a ≡ e → IsOwn (expected_of a)
+own_so e a own is = subst IsOwn (sym is) own
+
+module _ {E : Type 0} where
+  -- a set file that is left and refused passes a limit
+  pub set_says : (r : Result Answer E) (text : List ℕ) (rows : List LeftOut) (why : SetRefused) → why ≡ set.Memory ⊎ Refuses text why
+      → IfOk r (λ a. IsLimit why) → IfOk r (λ a. expected_of a ≡ prints 3 (refused_line why))
+      → IfOk r (λ a. SaysOfLeft text rows (expected_of a)) × IfOk r (λ a. IsOwn (expected_of a))
+  set_says (Ok a) text rows why (inl memory) limit is = absurd (subst IsLimit memory limit)
+  set_says (Ok a) text rows why (inr refuses) limit is =
+      (subst (SaysOfLeft text rows) (sym is) (refuses_set why refuses), own_so _ a (inr (inl refl, refl)) is)
+  set_says (Err e) text rows why refuses limit is = (tt, tt)
+
+  -- and one that is accepted is put
+  pub import_says : (r : Result Answer E) (text : List ℕ) (rows : List LeftOut) (s : SetContents) → IsSet text s
+      → IfOk r (λ a. expected_of a ≡ imported s text rows)
+      → IfOk r (λ a. SaysOfLeft text rows (expected_of a)) × IfOk r (λ a. IsOwn (expected_of a))
+  import_says (Ok a) text rows s accepted is = (subst (SaysOfLeft text rows) (sym is) (imports s accepted), own_so _ a (inl refl) is)
+  import_says (Err e) text rows s accepted is = (tt, tt)
+
+  -- a document of which nothing is left
+  pub document_says : (r : Result Answer E) (bytes : List ℕ) (why : DocumentRefused) → why ≡ none.Memory ⊎ LeavesNothing bytes why
+      → IfOk r (λ a. IsOfDocument why) → IfOk r (λ a. expected_of a ≡ prints 10 (refused_document why))
+      → IfOk r (λ a. SaysOfBytes bytes (expected_of a)) × IfOk r (λ a. IsOwn (expected_of a))
+  document_says (Ok a) bytes why (inl memory) of is = absurd (subst IsOfDocument memory of)
+  document_says (Ok a) bytes why (inr nothing) of is =
+      (subst (SaysOfBytes bytes) (sym is) (refuses_document why nothing), own_so _ a (inr (inr refl, refl)) is)
+  document_says (Err e) bytes why refused of is = (tt, tt)
+
+  -- and one of which something is
+  pub left_says : (r : Result Answer E) (bytes text : List ℕ) (rows : List LeftOut) → LeavesDocument bytes text rows
+      → IfOk r (λ a. SaysOfLeft text rows (expected_of a)) → IfOk r (λ a. SaysOfBytes bytes (expected_of a))
+  left_says (Ok a) bytes text rows left of = leaves text rows (expected_of a) left of
+  left_says (Err e) bytes text rows left of = tt
+
+-- what is said of what is read of a document is said of its file
+pub file_says : (content : List ℕ → Option (List ℕ)) (name bytes : List ℕ) (e : Expected) → IfSome (content name) (λ all. bytes ≡ take (document_limit + 1) all)
+    → SaysOfBytes bytes e → (file : List ℕ) → content name ≡ Some file → ImportSays content name e
+file_says content name bytes e read of file is =
+    of_bytes file e is (subst (λ b. SaysOfBytes b e) (told (content name) _ file is read) of)
+
+-- and the review of what is read of a set
+pub review_says : (content : List ℕ → Option (List ℕ)) (name bytes : List ℕ) (said : Said) (e : Expected) → IfSome (content name) (λ all. bytes ≡ take (most_bytes + 1) all)
+    → IsReview bytes said → e ≡ prints (review_status said.refused said.limit) said.text → (file : List ℕ) → content name ≡ Some file → ReviewSays content name e
+review_says content name bytes said e read is same file there =
+    subst (ReviewSays content name) (sym same) (reviews file said there (subst (λ b. IsReview b said) (told (content name) _ file there read) is))

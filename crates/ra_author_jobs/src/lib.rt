@@ -1,0 +1,12 @@
+//! The jobs of the program for authors, up to their texts: a set is reviewed, and what is left of a document is put.
+#![tactic(auto)]
+
+mod answer;
+mod importing;
+mod job;
+mod left_lines;
+mod reviewing;
+mod texts;
+
+pub use answer::Answer;
+pub use job::{answer_job, put_saved};
