@@ -28,18 +28,18 @@ use Rattle.ra_session.specs.Explaining.{Reason, AtUnlock, AtRows, AtEnd, AtStop,
 use Rattle.ra_session.specs.Closing.{EndsBefore, EndsJob}
 use Rattle.ra_session.specs.Failures.{ending_of_set}
 use Rattle.ra_session.specs.Loading.{HasNoSet, IsTaken}
-use Rattle.ra_session.specs.Outside.{Outside, ReadsRose, SinkRose, AreTold}
+use Rattle.ra_jobs.specs.Outside.{Outside, ReadsRose, SinkRose, AreTold}
 use Rattle.ra_session.specs.Running.{Ran, IsTold, IsCounted, PrintsSoFar, deciding}
 use Rattle.ra_session.specs.declared.ending.Ending.{Ending}
 use Rattle.ra_session.specs.declared.ending.Ending.TheVariants.{Done, NoMemory, NoJob, BadSet, ReadFault, SinkFault, BadProgress, BadTrace, LongTrace, SaveFault, NoAchievement, ManyRows}
 use Rattle.ra_session.specs.declared.failures.SetFailed.{SetFailed}
 use Rattle.ra_session.specs.declared.failures.SetFailed.TheVariants as set_failed
-use Rattle.ra_session.proofs.Pieces.{grown-nil}
-use Rattle.ra_session.proofs.Parts.{part_none}
+use Rattle.ra_jobs.proofs.Pieces.{grown-nil}
+use Rattle.ra_jobs.proofs.Parts.{part_none}
 use Rattle.ra_session.proofs.ReadLemmas.{played_read}
 use Rattle.ra_session.proofs.LoadLemmas.{never_bad, stop_decides}
 use Rattle.ra_session.proofs.RunLemmas.{any_first, any_later, file_of, set_read_of}
-use Rattle.ra_session.specs.Writing.{GrewByPart}
+use Rattle.ra_jobs.specs.Writing.{GrewByPart}
 use Rattle.ra_explain_job.specs.Failures.{ending_of_watch}
 use Rattle.ra_explain_job.specs.Printing.{EndsText, PrintsUnlock, PrintsWatched}
 use Rattle.ra_explain_job.specs.Watching.{IsReason, StandsAtIt, WatchedTo}

@@ -5,9 +5,9 @@ use Rattle.ra_condition.specs.declared.condition.Condition.{Condition}
 use Rattle.ra_explain.specs.declared.explanation.Events.{Events}
 use Rattle.ra_explain.specs.Replays.{contents_of}
 use Rattle.ra_session.specs.Explaining.{condition_line, conditions_text, explanation_text, groups_text}
-use Rattle.ra_session.specs.Writing.{GrewByPart}
-use Rattle.ra_session.proofs.Pieces.{grown-grown, grown-nil}
-use Rattle.ra_session.proofs.Parts.{part_after, part_none}
+use Rattle.ra_jobs.specs.Writing.{GrewByPart}
+use Rattle.ra_jobs.proofs.Pieces.{grown-grown, grown-nil}
+use Rattle.ra_jobs.proofs.Parts.{part_after, part_none}
 use Rattle.std.specs.List.{concat}
 use Rattle.ra_condition.specs.declared.group.Group.{Group}
 use Rattle.ra_condition.specs.Contents.{TriggerContents, group_contents}

@@ -3,7 +3,7 @@
 ghost use Rattle.std.specs.Prelude.{◌≤◌};
 ghost use Rattle.ra_io.specs.Files.{SameContent};
 ghost use Rattle.ra_args.specs.Words.{Explain};
-ghost use Rattle.ra_session.specs.Outside.{outside_of};
+ghost use Rattle.ra_jobs.specs.Outside.{outside_of};
 ghost use Rattle.ra_session.specs.Running.{Ran};
 
 use crate::choosing::trigger_of;

@@ -11,14 +11,15 @@ ghost use Rattle.ra_session.specs.Closing.{EndsBefore};
 ghost use Rattle.ra_session.specs.Expected.{prints_line};
 ghost use Rattle.ra_session.specs.Explaining as spec;
 ghost use Rattle.ra_session.specs.Explaining.{conditions_text, event_text, explanation_text, groups_text, no_unlock_text, unlock_text};
-ghost use Rattle.ra_session.specs.Writing.{GrewByPart};
+ghost use Rattle.ra_jobs.specs.Writing.{GrewByPart};
 ghost use Rattle.ra_explain_job.specs.Printing.{PrintsUnlock, PrintsWatched};
 
 use crate::watch::Watch;
 use ra_condition::TriggerText;
 use ra_explain::{Event, Events, Explanation, Recorder};
 use ra_io::{Sink, SinkFailed};
-use ra_session::{Ending, print_line, write_all};
+use ra_jobs::write_all;
+use ra_session::{Ending, print_line};
 use ra_text::OutOfMemory;
 use std::alloc::{AllocError, Global};
 use std::fmt::Write;

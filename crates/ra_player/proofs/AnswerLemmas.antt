@@ -7,11 +7,11 @@ use Rattle.ra_args.specs.JobWords.{job_of}
 use Rattle.ra_session.specs.Endings.{status_of, last_line}
 use Rattle.ra_session.specs.Expected.{Expected, JobSays}
 use Rattle.ra_session.specs.Closing.{Finishes, EndsJob}
-use Rattle.ra_session.specs.Outside.{Outside, ReadsRose, PutsRose, SinkRose}
+use Rattle.ra_jobs.specs.Outside.{Outside, ReadsRose, PutsRose, SinkRose}
 use Rattle.ra_session.specs.Running.{Ran, IsTold, deciding, trace_of}
 use Rattle.ra_session.specs.declared.ending.Ending.{Ending}
 use Rattle.ra_session.specs.declared.ending.Ending.TheVariants.{Done, NoMemory, NoJob, BadSet, ReadFault, SinkFault, BadProgress, BadTrace, LongTrace, SaveFault, BadDocument, LongNormal, NoAchievement, ManyRows}
-use Rattle.ra_session.proofs.Pieces.{grown-grown, grown-nil}
+use Rattle.ra_jobs.proofs.Pieces.{grown-grown, grown-nil}
 use Rattle.ra_player.specs.Headline.{PlaysAs, as_expected, no_memory}
 use Rattle.ra_player.specs.Statuses.{EndsAsSaid, Cause, Answers}
 use Rattle.ra_player.proofs.EndLemmas.{ends_with_line, no_job_ends}

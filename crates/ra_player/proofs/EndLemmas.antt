@@ -2,14 +2,15 @@
 use Rattle.std.proofs.Common.{◌∷◌, ◌≡◌, ◌⊎◌, inl, inr, ap, sym, subst, refl, ◌∙◌, ℕ, List, [], ◌++◌, take, append_assoc, Option}
 use Rattle.std.specs.List.{concat}
 use Rattle.ra_io.specs.Sink.{grown}
-use Rattle.ra_session.specs.Writing.{GrewByPart}
+use Rattle.ra_jobs.specs.Writing.{GrewByPart}
 use Rattle.ra_session.specs.Endings.{status_of, last_line}
 use Rattle.ra_session.specs.declared.ending.Ending.{Ending}
 use Rattle.ra_session.specs.declared.ending.Ending.TheVariants.{Done, NoMemory, NoJob, BadSet, ReadFault, SinkFault, BadProgress, BadTrace, LongTrace, SaveFault, BadDocument, LongNormal, NoAchievement, ManyRows}
 use Rattle.ra_session.specs.Expected.{Expected, before_put, prints_nothing}
 use Rattle.ra_player.specs.Headline.{Decides, as_expected, save_failed, read_failed, trace_failed, Ends, whole, sink_failed, no_memory, IsFront}
-use Rattle.ra_session.specs.Closing.{Closes, Finishes, EndsAtRead, EndsJob}
-use Rattle.ra_session.proofs.Pieces.{grown-grown, grown-nil}
+use Rattle.ra_jobs.specs.Closing.{Closes}
+use Rattle.ra_session.specs.Closing.{Finishes, EndsAtRead, EndsJob}
+use Rattle.ra_jobs.proofs.Pieces.{grown-grown, grown-nil}
 
 -- The text grew, and the status and the growth are those of an ending.
 pub record GrewToEnd (e : Expected) (reads trace puts sink : Type 0) (old new : Option (List ℕ)) (status : ℕ) : Type 0 where

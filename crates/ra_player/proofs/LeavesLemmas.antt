@@ -6,7 +6,7 @@ use Rattle.ra_args.specs.JobWords.{job_of}
 use Rattle.ra_session.specs.Endings.{status_of}
 use Rattle.ra_session.specs.Expected.{JobSays}
 use Rattle.ra_session.specs.Closing.{Finishes}
-use Rattle.ra_session.specs.Outside.{Outside, PutsRose}
+use Rattle.ra_jobs.specs.Outside.{Outside, PutsRose}
 use Rattle.ra_session.specs.Running.{Leaves, HasSaved}
 use Rattle.ra_session.specs.declared.ending.Ending.{Ending}
 use Rattle.ra_session.specs.declared.ending.Ending.TheVariants.{Done, NoMemory, SinkFault}

@@ -5,7 +5,7 @@ use Rattle.ra_io.specs.Sink.{grown}
 use Rattle.ra_args.specs.Words.{Job, Run, Check, Make, Import, Lint, Normal, Explain, file_in, reads_of, set_read, first_reads}
 use Rattle.ra_session.specs.Endings.{status_of, last_line}
 use Rattle.ra_session.specs.Expected.{Expected}
-use Rattle.ra_session.specs.Outside.{Outside, ReadsRose, SinkRose}
+use Rattle.ra_jobs.specs.Outside.{Outside, ReadsRose, SinkRose}
 use Rattle.ra_session.specs.Running.{deciding}
 use Rattle.ra_session.specs.declared.ending.Ending.{Ending}
 use Rattle.ra_session.specs.declared.ending.Ending.TheVariants.{Done, NoJob, BadSet, ReadFault, SinkFault, BadProgress, BadTrace, LongTrace, SaveFault, BadDocument, LongNormal, NoAchievement, ManyRows}

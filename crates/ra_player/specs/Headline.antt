@@ -5,7 +5,7 @@ use Rattle.ra_args.specs.Words.{Job, puts_of}
 use Rattle.ra_session.specs.Endings.{status_of, last_line}
 use Rattle.ra_session.specs.Expected.{Expected, IsReadBehind, before_put, prints_nothing}
 use Rattle.ra_session.specs.Running.{trace_of}
-use Rattle.ra_session.specs.Outside.{Outside, GrewBy, ReadsRose, PutsRose, SinkRose}
+use Rattle.ra_jobs.specs.Outside.{Outside, GrewBy, ReadsRose, PutsRose, SinkRose}
 use Rattle.ra_session.specs.declared.ending.Ending.{Ending}
 use Rattle.ra_session.specs.declared.ending.Ending.TheVariants.{Done, NoJob, ReadFault, SaveFault}
 

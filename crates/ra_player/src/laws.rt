@@ -5,7 +5,7 @@ ghost use Rattle.ra_set.specs.Accepted.{IsSet};
 ghost use Rattle.ra_set.specs.Contents.{SetContents};
 ghost use Rattle.ra_trace.specs.Workload.{made_set};
 ghost use Rattle.ra_session.specs.Expected.{Expected, MakeSays};
-ghost use Rattle.ra_session.specs.Outside.{Outside};
+ghost use Rattle.ra_jobs.specs.Outside.{Outside};
 ghost use Rattle.ra_session.specs.Running.{deciding};
 ghost use Rattle.ra_player.specs.Statuses.{Answers, IsWhole, SaysEachStatus};
 

@@ -2,7 +2,7 @@
 
 ghost use Rattle.std.specs.Prelude.{◌≤◌, map, string_bytes};
 ghost use Rattle.ra_args.specs.JobWords.{job_contents};
-ghost use Rattle.ra_session.specs.Outside.{outside_of};
+ghost use Rattle.ra_jobs.specs.Outside.{outside_of};
 ghost use Rattle.ra_session.specs.Running.{Leaves, Ran};
 ghost use Rattle.ra_player.specs.Statuses.{Answers, LeavesFiles};
 

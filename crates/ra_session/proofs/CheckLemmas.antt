@@ -9,15 +9,15 @@ use Rattle.ra_session.specs.Linting.{lint_text}
 use Rattle.ra_session.specs.Closing.{EndsBefore}
 use Rattle.ra_session.specs.Failures.{ending_of_set}
 use Rattle.ra_session.specs.Loading.{HasNoSet, IsTaken}
-use Rattle.ra_session.specs.Outside.{Outside, ReadsRose, SinkRose, AreTold}
+use Rattle.ra_jobs.specs.Outside.{Outside, ReadsRose, SinkRose, AreTold}
 use Rattle.ra_io.specs.Causes.{Rose}
 use Rattle.ra_session.specs.Running.{Ran, IsTold, IsCounted, PrintsSoFar, deciding}
 use Rattle.ra_session.specs.declared.ending.Ending.{Ending}
 use Rattle.ra_session.specs.declared.ending.Ending.TheVariants.{Done, NoMemory, NoJob, BadSet, ReadFault, SinkFault, BadProgress, SaveFault, NoAchievement}
 use Rattle.ra_session.specs.declared.failures.SetFailed.{SetFailed}
 use Rattle.ra_session.specs.declared.failures.SetFailed.TheVariants as set_failed
-use Rattle.ra_session.proofs.Pieces.{grown-nil}
-use Rattle.ra_session.proofs.Parts.{part_none}
+use Rattle.ra_jobs.proofs.Pieces.{grown-nil}
+use Rattle.ra_jobs.proofs.Parts.{part_none}
 use Rattle.ra_session.proofs.ReadLemmas.{set_told}
 use Rattle.ra_session.proofs.LoadLemmas.{never_bad}
 use Rattle.ra_session.proofs.RunLemmas.{any_first, file_of, set_read_of}

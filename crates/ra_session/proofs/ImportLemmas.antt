@@ -17,15 +17,15 @@ use Rattle.ra_session.specs.Expected.{Expected, ImportSays, IsOfDocument, refuse
 use Rattle.ra_session.specs.Closing.{EndsBefore}
 use Rattle.ra_session.specs.Failures.{document_refused, ending_of_document, ending_of_put, ending_of_refused}
 use Rattle.ra_session.specs.Importing.{HasNoDocument, IsDocument}
-use Rattle.ra_session.specs.Outside.{Outside, ReadsRose, SinkRose, AreTold}
+use Rattle.ra_jobs.specs.Outside.{Outside, ReadsRose, SinkRose, AreTold}
 use Rattle.ra_session.specs.Running.{Ran, Leaves, HasBytes, IsTold, IsCounted, PrintsSoFar, deciding}
 use Rattle.ra_session.specs.declared.document.Document.{Document}
 use Rattle.ra_session.specs.declared.ending.Ending.{Ending}
 use Rattle.ra_session.specs.declared.ending.Ending.TheVariants.{Done, BadSet, BadProgress, BadDocument, NoAchievement, NoMemory, ReadFault, SinkFault, SaveFault}
 use Rattle.ra_session.specs.declared.failures.DocumentFailed.{DocumentFailed}
 use Rattle.ra_session.specs.declared.failures.DocumentFailed.TheVariants as no_document
-use Rattle.ra_session.proofs.Pieces.{grown-nil}
-use Rattle.ra_session.proofs.Parts.{part_none}
+use Rattle.ra_jobs.proofs.Pieces.{grown-nil}
+use Rattle.ra_jobs.proofs.Parts.{part_none}
 use Rattle.ra_session.proofs.PutLemmas.{leaves_put, ran_put, ran_unput}
 use Rattle.ra_session.proofs.ReadLemmas.{import_read}
 use Rattle.ra_session.proofs.RunLemmas.{any_first, file_of}

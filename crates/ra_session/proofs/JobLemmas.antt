@@ -17,7 +17,7 @@ use Rattle.ra_session.specs.Expected.{Expected, RunSays, played}
 use Rattle.ra_session.specs.Closing.{EndsBefore, EndsJob}
 use Rattle.ra_session.specs.Failures.{ending_at, ending_of_load, ending_of_put, ending_of_trace}
 use Rattle.ra_session.specs.Loading.{BeginsAt, IsLoaded}
-use Rattle.ra_session.specs.Outside.{Outside, ReadsRose, PutsRose, SinkRose, AreTold}
+use Rattle.ra_jobs.specs.Outside.{Outside, ReadsRose, PutsRose, SinkRose, AreTold}
 use Rattle.ra_session.specs.Running.{Ran, Leaves, HasBytes, IsTold, IsCounted, PrintsSoFar, deciding, trace_of}
 use Rattle.ra_session.specs.declared.ending.Ending.{Ending}
 use Rattle.ra_session.specs.declared.ending.Ending.TheVariants.{Done}
@@ -27,7 +27,7 @@ use Rattle.ra_session.specs.declared.failures.ProgressFailed.TheVariants as prog
 use Rattle.ra_session.specs.declared.failures.SetFailed.TheVariants as set_failed
 use Rattle.ra_session.specs.declared.failures.TraceFailed.{TraceFailed}
 use Rattle.ra_session.specs.declared.failures.TraceFailed.TheVariants as failed
-use Rattle.ra_session.proofs.Parts.{part_all}
+use Rattle.ra_jobs.proofs.Parts.{part_all}
 use Rattle.ra_session.proofs.RunLemmas.{any_first, any_later, file_of}
 use Rattle.ra_session.proofs.LoadLemmas.{PlaysFrom, loaded_says, loaded_said, stop_decides}
 

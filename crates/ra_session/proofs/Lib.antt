@@ -1,8 +1,4 @@
-pub mod Whole
-pub mod Pieces
-pub mod Stays
 pub mod NormalLemmas
-pub mod Parts
 pub mod SlotRefusals
 pub mod LeftLemmas
 pub mod TraceLemmas
@@ -16,7 +12,6 @@ pub mod LoadLemmas
 pub mod EarnedLemmas
 pub mod ImportLemmas
 pub mod JobLemmas
-pub mod CountLemmas
 pub mod CheckLemmas
 pub mod MadeDigits
 pub mod MadeItems

@@ -25,7 +25,7 @@ use Rattle.ra_session.specs.Endings.{ending_of}
 use Rattle.ra_session.specs.Expected.{Expected, RunSays, refuses_set, refuses_file, begins, goes_on, takes_up, played, prints_nothing, progress_limit, set_limit}
 use Rattle.ra_session.specs.Failures.{ending_of_load}
 use Rattle.ra_session.specs.Loading.{BeginsAt, AreAccepted, AreOfFile, RefusesFile, IsTaken, HasNoProgress, IsLoaded, IsNotLoaded}
-use Rattle.ra_session.specs.Outside.{Outside, AnyRose, AreTold}
+use Rattle.ra_jobs.specs.Outside.{Outside, AnyRose, AreTold}
 use Rattle.ra_session.specs.Playing.{IsPlayable}
 use Rattle.ra_session.specs.Running.{IsTold, deciding, PrintsSoFar, IsCounted, Ran}
 use Rattle.ra_session.specs.declared.ending.Ending.{Ending}
@@ -35,8 +35,8 @@ use Rattle.ra_session.specs.declared.failures.ProgressFailed.{ProgressFailed}
 use Rattle.ra_session.specs.declared.failures.ProgressFailed.TheVariants as no_file
 use Rattle.ra_session.specs.declared.failures.LoadFailed.{LoadFailed}
 use Rattle.ra_session.specs.declared.failures.LoadFailed.TheVariants as load
-use Rattle.ra_session.proofs.Parts.{part_none}
-use Rattle.ra_session.proofs.Pieces.{grown-nil}
+use Rattle.ra_jobs.proofs.Parts.{part_none}
+use Rattle.ra_jobs.proofs.Pieces.{grown-nil}
 use Rattle.ra_session.proofs.ReadLemmas.{run_read}
 use Rattle.ra_session.proofs.RunLemmas.{any_first, any_later, file_of, set_read_of}
 use Rattle.ra_session.proofs.StandLemmas.{comes_back_of}

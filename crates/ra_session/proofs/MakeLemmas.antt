@@ -21,7 +21,7 @@ use Rattle.ra_session.specs.Closing.{EndsBefore}
 use Rattle.ra_session.specs.Failures.{ending_of_set, ending_of_trace}
 use Rattle.ra_session.specs.Loading.{HasNoSet}
 use Rattle.ra_session.specs.Making.{IsMadeText}
-use Rattle.ra_session.specs.Outside.{Outside, SinkRose}
+use Rattle.ra_jobs.specs.Outside.{Outside, SinkRose}
 use Rattle.ra_session.specs.Running.{Ran}
 use Rattle.ra_session.specs.declared.ending.Ending.{Ending}
 use Rattle.ra_session.specs.declared.ending.Ending.TheVariants.{Done, NoMemory}

@@ -25,10 +25,10 @@ use Rattle.ra_session.specs.Failures.{ending_of_trace, trace_failed, trace_unwri
 use Rattle.ra_io.specs.declared.sink.SinkFailed.{SinkFailed}
 use Rattle.ra_io.specs.declared.sink.SinkFailed.TheVariants as write
 use Rattle.ra_session.specs.Playing.{StandsAt, IsLeft, Plays, TakesEmpty, TakesNext, GoesOn, IsAtEnd, says_from}
-use Rattle.ra_session.specs.Writing.{GrewByPart}
+use Rattle.ra_jobs.specs.Writing.{GrewByPart}
 use Rattle.ra_session.specs.declared.failures.TraceFailed.{TraceFailed}
-use Rattle.ra_session.proofs.Pieces.{grown-nil}
-use Rattle.ra_session.proofs.Parts.{part_after}
+use Rattle.ra_jobs.proofs.Pieces.{grown-nil}
+use Rattle.ra_jobs.proofs.Parts.{part_after}
 use Rattle.ra_session.proofs.ReadLemmas.{left_read}
 use Rattle.ra_session.proofs.LeftLemmas.{left_refused, left_empty, left_ends, left_behind}
 

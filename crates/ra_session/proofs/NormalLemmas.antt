@@ -20,7 +20,7 @@ use Rattle.ra_session.specs.Expected.{Expected, NormalSays, refuses_set, passes_
 use Rattle.ra_session.specs.Closing.{EndsBefore}
 use Rattle.ra_session.specs.Failures.{ending_of_normal, ending_of_put}
 use Rattle.ra_session.specs.Normalizing.{HasNoNormal, IsNormalized, IsUnset}
-use Rattle.ra_session.specs.Outside.{Outside, ReadsRose, SinkRose, AreTold}
+use Rattle.ra_jobs.specs.Outside.{Outside, ReadsRose, SinkRose, AreTold}
 use Rattle.ra_session.specs.Running.{Ran, Leaves, HasBytes, IsTold, IsCounted, PrintsSoFar, deciding}
 use Rattle.ra_session.specs.declared.document.Document.{Document}
 use Rattle.ra_session.specs.declared.ending.Ending.{Ending}
@@ -29,8 +29,8 @@ use Rattle.ra_session.specs.declared.failures.NormalFailed.{NormalFailed}
 use Rattle.ra_session.specs.declared.failures.NormalFailed.TheVariants as no_normal
 use Rattle.ra_session.specs.declared.failures.SetFailed.{SetFailed}
 use Rattle.ra_session.specs.declared.failures.SetFailed.TheVariants as no_set
-use Rattle.ra_session.proofs.Pieces.{grown-nil}
-use Rattle.ra_session.proofs.Parts.{part_none}
+use Rattle.ra_jobs.proofs.Pieces.{grown-nil}
+use Rattle.ra_jobs.proofs.Parts.{part_none}
 use Rattle.ra_session.proofs.PutLemmas.{leaves_put, ran_put, ran_unput}
 use Rattle.ra_session.proofs.ReadLemmas.{normal_read}
 use Rattle.ra_session.proofs.RunLemmas.{any_first, file_of, read_all, set_read_of}

@@ -10,12 +10,12 @@ use Rattle.ra_args.specs.Words.{Job, puts_of}
 use Rattle.ra_session.specs.Expected.{Expected, JobSays, prints_line, puts_then_prints}
 use Rattle.ra_session.specs.Closing.{EndsBefore}
 use Rattle.ra_session.specs.Failures.{ending_of_put}
-use Rattle.ra_session.specs.Outside.{Outside, PutsRose, SinkRose, AreTold}
+use Rattle.ra_jobs.specs.Outside.{Outside, PutsRose, SinkRose, AreTold}
 use Rattle.ra_session.specs.Running.{Ran, Leaves, HasBytes, IsTold, IsCounted, IsSaved, OnlyThen, PrintsBehindPut, PrintsSoFar, deciding}
 use Rattle.ra_session.specs.declared.ending.Ending.{Ending}
 use Rattle.ra_session.specs.declared.ending.Ending.TheVariants.{Done, NoMemory, ReadFault, SinkFault, SaveFault}
-use Rattle.ra_session.proofs.Pieces.{grown-nil}
-use Rattle.ra_session.proofs.Parts.{part_none}
+use Rattle.ra_jobs.proofs.Pieces.{grown-nil}
+use Rattle.ra_jobs.proofs.Parts.{part_none}
 use Rattle.ra_session.proofs.CheckLemmas.{ran_line}
 use Rattle.ra_session.proofs.RunLemmas.{any_first}
 

@@ -35,9 +35,9 @@ use Rattle.ra_session.specs.Failures.{ending_at, ending_of_trace, trace_failed}
 use Rattle.ra_session.specs.declared.failures.TraceFailed.{TraceFailed}
 use Rattle.ra_session.specs.declared.failures.TraceFailed.TheVariants as failed
 use Rattle.ra_session.specs.Playing.{StandsAt, kept_bytes, says_from}
-use Rattle.ra_session.specs.Outside.{AnyRose}
-use Rattle.ra_session.proofs.Pieces.{grown-nil}
-use Rattle.ra_session.proofs.Parts.{part_none}
+use Rattle.ra_jobs.specs.Outside.{AnyRose}
+use Rattle.ra_jobs.proofs.Pieces.{grown-nil}
+use Rattle.ra_jobs.proofs.Parts.{part_none}
 use Rattle.ra_session.proofs.LeftLemmas.{pieces_of}
 use Rattle.ra_session.proofs.ReadLemmas.{played_read}
 

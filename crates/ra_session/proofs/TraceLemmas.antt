@@ -21,10 +21,10 @@ use Rattle.ra_session.specs.Expected.{Expected, IsReadBehind, trace_limit}
 use Rattle.ra_session.specs.Closing.{EndsBefore}
 use Rattle.ra_session.specs.Failures.{ending_at, ending_of_trace}
 use Rattle.ra_session.specs.Playing.{StandsAt, IsLeft, GoesOn, IsAtEnd, TakesNext, says_from}
-use Rattle.ra_session.specs.Writing.{GrewByPart}
+use Rattle.ra_jobs.specs.Writing.{GrewByPart}
 use Rattle.ra_session.specs.declared.failures.TraceFailed.{TraceFailed}
-use Rattle.ra_session.proofs.Pieces.{grown-grown, grown-nil}
-use Rattle.ra_session.proofs.Parts.{part_after}
+use Rattle.ra_jobs.proofs.Pieces.{grown-grown, grown-nil}
+use Rattle.ra_jobs.proofs.Parts.{part_after}
 
 -- The records so far have printed the first pieces, and those that are left print the rest.
 pub record PlayedTo (bytes : List ℕ) (set : SetContents) (o : Opening) (m : Moment) (earned : Earned) (all : Pieces) (reader : ReaderSeen) (runtime : RuntimeSeen) (slots : List (Option (List ℕ))) (first now : Option (List ℕ)) : Type 0 where

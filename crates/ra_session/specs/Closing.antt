@@ -2,17 +2,12 @@
 use Rattle.std.specs.Prelude.{◌≡◌, ◌⊎◌, ℕ, Option, List, take}
 use Rattle.std.specs.List.{concat}
 use Rattle.ra_io.specs.Sink.{grown}
-use Rattle.ra_session.specs.Writing.{GrewByPart}
+use Rattle.ra_jobs.specs.Closing.{Closes}
+use Rattle.ra_jobs.specs.Writing.{GrewByPart}
 use Rattle.ra_session.specs.Endings.{status_of, last_line}
 use Rattle.ra_session.specs.Expected.{Expected, IsReadBehind, before_put}
 use Rattle.ra_session.specs.declared.ending.Ending.{Ending}
 use Rattle.ra_session.specs.declared.ending.Ending.TheVariants.{Done, NoMemory, ReadFault, SinkFault, SaveFault}
-
--- a line was written whole, and the status is its own; or a write wanted memory or failed behind a front of it
-abbrev pub Closes : (own : ℕ) → (line : List ℕ) → (old new : Option (List ℕ)) → (sink : Type 0) → (status : ℕ) → Type 0
-Closes own line old new sink status =
-    ((status ≡ own) × (new ≡ grown old line))
-    ⊎ (((status ≡ 1) × GrewByPart old new line) ⊎ ((status ≡ 5) × sink × GrewByPart old new line))
 
 -- the status and the last line of a job that ended so
 abbrev pub Finishes : Ending → (old new : Option (List ℕ)) → (sink : Type 0) → (status : ℕ) → Type 0

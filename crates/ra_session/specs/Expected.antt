@@ -3,7 +3,7 @@ use Rattle.std.specs.Prelude.{◌≡◌, ℕ, ◌+◌, ◌^◌, ◌<◌, ◌≤�
 use Rattle.std.specs.List.{join_with_byte, slice_split, concat}
 use Rattle.md5.specs.Md5.{md5}
 use Rattle.ra_set.specs.declared.refused.SetRefused.{SetRefused}
-use Rattle.ra_set.specs.Contents.{SetContents, ItemContents, Unlocks, Ranks}
+use Rattle.ra_set.specs.Contents.{SetContents}
 use Rattle.ra_set.specs.Limits.{most_bytes, set_conditions}
 use Rattle.ra_memory.specs.Image.{History, AreImages}
 use Rattle.ra_progress.specs.Contents.{Opening, IsOpening}
@@ -20,13 +20,13 @@ use Rattle.ra_meaning.specs.Play.{first_moment, pieces_from, saved_end}
 use Rattle.ra_progress.specs.declared.refused.ProgressRefused.{ProgressRefused}
 use Rattle.ra_set.specs.Accepted.{IsSet}
 use Rattle.ra_set.specs.Refusals.{Refuses}
-use Rattle.ra_richpresence.specs.Contents.{ScriptContents}
 use Rattle.ra_patch.specs.declared.refused.PatchRefused.{PatchRefused}
 use Rattle.ra_patch.specs.declared.refused.PatchRefused.TheVariants as patch
 use Rattle.ra_patch.specs.Answers.{document_limit, Imports, RefusesDocument}
 use Rattle.ra_normal.specs.Text.{IsNormal, IsPastLimit, normal_conditions}
 use Rattle.ra_normal.specs.declared.refused.NormalRefused.TheVariants as normal
 use Rattle.ra_set.specs.declared.refused.Which.{Which}
+use Rattle.ra_jobs.specs.Counting.{achievements_in, boards_in, scripts_in}
 use Rattle.ra_args.specs.Words.{Job, Run, Check, Make, Import, Lint, Normal, Explain}
 use Rattle.ra_condition.specs.Contents.{TriggerContents}
 use Rattle.ra_explain.specs.Explains.{ExplanationContents}
@@ -112,18 +112,6 @@ pub data RunSays (content : List ℕ → Option (List ℕ)) (set trace : List �
   takes_up : (name set_file file trace_file : List ℕ) (s : SetContents) → content set ≡ Some set_file → content trace ≡ Some trace_file → content name ≡ Some file
       → IsSet set_file s → refusal (shape_of s) file ≡ None → RunSays content set trace (Some name) (played s (says (shape_of s) file) [] (earned_in (says (shape_of s) file)) trace_file)
 
--- how many achievements a set has
-abbrev pub achievements_in : List ItemContents → ℕ
-achievements_in [] = 0
-achievements_in (Unlocks id t ∷ items) = achievements_in items + 1
-achievements_in (Ranks id format b ∷ items) = achievements_in items
-
--- how many leaderboards a set has
-abbrev pub boards_in : List ItemContents → ℕ
-boards_in [] = 0
-boards_in (Unlocks id t ∷ items) = boards_in items
-boards_in (Ranks id format b ∷ items) = boards_in items + 1
-
 -- the line of `check`
 abbrev pub check_line : SetContents → List ℕ
 check_line set =
@@ -150,11 +138,6 @@ make_line number text =
 -- What `make` of a number says.
 pub data MakeSays (number : ℕ) : Expected → Type 0 where
   made : (s : SetContents) → IsSet (made_set number) s → MakeSays number (prints_line (make_line number (concat (played s (plain_opening s) [] (none_earned s) (made_trace number)).pieces)))
-
--- a script counts as one
-abbrev pub scripts_in : Option ScriptContents → ℕ
-scripts_in None = 0
-scripts_in (Some script) = 1
 
 -- the line of `import`
 abbrev pub import_line : SetContents → List ℕ

@@ -15,8 +15,8 @@ use Rattle.ra_session.specs.declared.failures.DocumentFailed.TheVariants as docu
 use Rattle.ra_normal.specs.declared.refused.NormalRefused.TheVariants as normal
 use Rattle.ra_session.specs.declared.failures.NormalFailed.{NormalFailed}
 use Rattle.ra_session.specs.declared.failures.NormalFailed.TheVariants as no_normal
-use Rattle.ra_session.specs.declared.failures.ReadFailed.{ReadFailed}
-use Rattle.ra_session.specs.declared.failures.ReadFailed.TheVariants as read
+use Rattle.ra_jobs.specs.declared.reading.ReadFailed.{ReadFailed}
+use Rattle.ra_jobs.specs.declared.reading.ReadFailed.TheVariants as read
 use Rattle.ra_session.specs.declared.failures.SetFailed.{SetFailed}
 use Rattle.ra_session.specs.declared.failures.SetFailed.TheVariants as set
 use Rattle.ra_session.specs.declared.failures.ProgressFailed.{ProgressFailed}

@@ -1,9 +1,6 @@
-pub mod Reading
-pub mod Writing
 pub mod Failures
 pub mod Endings
 pub mod Linting
-pub mod Outside
 pub mod Expected
 pub mod Explaining
 pub mod Closing

@@ -15,7 +15,7 @@ use Rattle.ra_meaning.specs.Openings.{snapshot, plain_opening}
 use Rattle.ra_io.specs.Causes.{Rose}
 use Rattle.ra_args.specs.Words.{file_in}
 use Rattle.ra_session.specs.Expected.{progress_limit, set_limit}
-use Rattle.ra_session.specs.Outside.{AnyRose}
+use Rattle.ra_jobs.specs.Outside.{AnyRose}
 use Rattle.ra_session.specs.Playing.{IsPlayable}
 use Rattle.ra_session.specs.declared.beginning.Beginning.{Beginning}
 use Rattle.ra_session.specs.declared.failures.SetFailed.{SetFailed}

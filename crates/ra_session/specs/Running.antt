@@ -5,7 +5,7 @@ use Rattle.ra_io.specs.Files.{SameContent}
 use Rattle.ra_args.specs.Words.{Job, Run, Explain, Import, Normal, reads_of, puts_of, set_read, first_reads}
 use Rattle.ra_session.specs.Expected.{Expected, JobSays}
 use Rattle.ra_session.specs.Closing.{EndsJob}
-use Rattle.ra_session.specs.Outside.{Outside, ReadsRose, PutsRose, SinkRose, AreTold}
+use Rattle.ra_jobs.specs.Outside.{Outside, ReadsRose, PutsRose, SinkRose, AreTold}
 use Rattle.ra_session.specs.declared.ending.Ending.{Ending}
 use Rattle.ra_session.specs.declared.ending.Ending.TheVariants.{Done, NoMemory, NoJob, BadSet, ReadFault, SinkFault, BadProgress, SaveFault, NoAchievement}
 

@@ -1,44 +1,18 @@
 //! The line of `check`: docs/DEFINITIONS.md, "Counts of a set".
 
-ghost use Rattle.std.specs.Prelude.{◌≡◌, ◌<◌, ◌^◌, length, map, IfOk, string_bytes};
+ghost use Rattle.std.specs.Prelude.{◌≡◌, ◌<◌, ◌^◌, length, IfOk, string_bytes};
 ghost use Rattle.ra_meaning.specs.Order.{set_cells, set_tracked};
-ghost use Rattle.ra_set.specs.Contents.{item_contents, set_contents};
+ghost use Rattle.ra_set.specs.Contents.{set_contents};
 ghost use Rattle.ra_set.specs.Limits.{set_conditions};
 ghost use Rattle.ra_session.specs.Expected as spec;
-ghost use Rattle.ra_session.specs.Expected.{achievements_in, boards_in};
 ghost use Rattle.ra_session.specs.Playing.{IsPlayable};
 
+use ra_jobs::{achievements, leaderboards};
 use ra_progress::Hex;
-use ra_set::{Item, Set, conditions};
+use ra_set::{Set, conditions};
 use ra_text::OutOfMemory;
 use std::alloc::Global;
 use std::fmt::Write;
-
-/// How many achievements these items have.
-pub(crate) fn achievements(items: &[Item]) -> usize
-    ensures { result ≡ achievements_in (map item_contents items.now) }
-{
-    let mut count = 0;
-    for item in items {
-        if let Item::Achievement { .. } = item {
-            count += 1;
-        }
-    }
-    count
-}
-
-/// How many leaderboards these items have.
-pub(crate) fn leaderboards(items: &[Item]) -> usize
-    ensures { result ≡ boards_in (map item_contents items.now) }
-{
-    let mut count = 0;
-    for item in items {
-        if let Item::Leaderboard { .. } = item {
-            count += 1;
-        }
-    }
-    count
-}
 
 // What a set has, in one line, by its cells and tracked masks.
 fn counted_line(

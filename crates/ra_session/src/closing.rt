@@ -2,12 +2,12 @@
 
 ghost use Rattle.std.specs.Prelude.{◌≡◌, ◌≤◌, IfOk, string_bytes};
 ghost use Rattle.ra_io.specs.Causes.{Rose};
-ghost use Rattle.ra_session.specs.Closing.{Closes, Finishes};
+ghost use Rattle.ra_session.specs.Closing.{Finishes};
 ghost use Rattle.ra_session.specs.Endings as spec;
 
 use crate::ending::Ending;
-use crate::writing::write_all;
-use ra_io::{Sink, SinkFailed};
+use ra_io::Sink;
+use ra_jobs::put_last;
 use ra_set::SetRefused;
 use ra_text::OutOfMemory;
 use std::alloc::Global;
@@ -16,20 +16,6 @@ use std::fmt::Write;
 // How the program is called.
 const USAGE: &str =
     "usage: ra_player run SET TRACE [--restore FILE] [--save FILE] | check SET | make N | import FILE SET | lint SET | normal SET OUT | explain SET TRACE ID\n";
-
-// Writes a last line, and answers its status.
-//
-// Where a write fails it answers 5, and where memory is wanting 1; a front of the line is written then.
-fn put_last<K: Sink>(status: u8, line: &str, out: &mut K) -> u8
-    ensures closes { Closes status line.now (K.text out.old) (K.text out.new) (Rose (K.faults out.old) (K.faults out.new)) result }
-    ensures later { K.faults out.old ≤ K.faults out.new }
-{
-    match write_all(line.as_bytes(), out) {
-        Ok(()) => status,
-        Err(SinkFailed::Failed) => 5,
-        Err(SinkFailed::Memory) => 1,
-    }
-}
 
 // The last line where a set has no achievement of an id.
 fn no_achievement_line(alloc: Global, id: u32) -> Result<String, OutOfMemory>
@@ -106,9 +92,9 @@ pub fn finish<K: Sink>(alloc: Global, ending: Ending, out: &mut K) -> u8
 {
     match ending {
         Ending::Done => 0,
-        Ending::NoJob => put_last(2, USAGE, out),
+        Ending::NoJob => put_last(2, USAGE.as_bytes(), out),
         _ => match last_line(alloc, ending) {
-            Ok(line) => put_last(status_of(ending), line.as_str(), out),
+            Ok(line) => put_last(status_of(ending), line.as_bytes(), out),
             Err(_) => 1,
         },
     }

@@ -6,10 +6,10 @@ ghost use Rattle.ra_session.specs.declared.failures.DocumentFailed.TheVariants a
 ghost use Rattle.ra_session.specs.declared.failures.LoadFailed.TheVariants as load;
 ghost use Rattle.ra_session.specs.declared.failures.NormalFailed.TheVariants as no_normal;
 ghost use Rattle.ra_session.specs.declared.failures.ProgressFailed.TheVariants as progress;
-ghost use Rattle.ra_session.specs.declared.failures.ReadFailed.TheVariants as read;
 ghost use Rattle.ra_session.specs.declared.failures.TraceFailed.TheVariants as trace;
 
 use ra_io::SinkFailed;
+use ra_jobs::ReadFailed;
 use ra_normal::NormalRefused;
 use ra_patch::PatchRefused;
 use ra_progress::ProgressRefused;
@@ -17,15 +17,6 @@ use ra_set::SetRefused;
 use ra_text::OutOfMemory;
 use ra_trace::{TraceError, Why};
 use std::alloc::AllocError;
-
-/// Why a file is not read.
-#[derive(Clone, Copy, Debug, PartialEq, Eq)]
-pub enum ReadFailed {
-    /// There was no memory for its bytes.
-    Memory,
-    /// A read of it failed.
-    Failed,
-}
 
 /// Why there is no set.
 #[derive(Clone, Copy, Debug, PartialEq, Eq)]
@@ -91,14 +82,6 @@ pub enum TraceFailed {
     Refused { at: u64, why: Why },
     /// The trace has no end record within the limit.
     TooLong,
-}
-
-impl From<AllocError> for ReadFailed {
-    ghost from_gives = { λ _ e. e ≡ read.Memory };
-
-    fn from(_error: AllocError) -> ReadFailed {
-        ReadFailed::Memory
-    }
 }
 
 impl From<ReadFailed> for SetFailed {

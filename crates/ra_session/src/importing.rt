@@ -1,25 +1,22 @@
 //! The job `import`: a set is taken of a document, put, and told in one line.
 
-ghost use Rattle.std.specs.Prelude.{◌≡◌, ◌≤◌, IfOk, IfErr, option_map, string_bytes};
+ghost use Rattle.std.specs.Prelude.{◌≡◌, ◌≤◌, IfOk, IfErr, string_bytes};
 ghost use Rattle.ra_io.specs.Causes.{Rose};
 ghost use Rattle.ra_io.specs.Files.{OnlyRead};
 ghost use Rattle.ra_args.specs.Words.{Import};
-ghost use Rattle.ra_richpresence.specs.Contents.{script_contents};
 ghost use Rattle.ra_set.specs.Contents.{set_contents};
 ghost use Rattle.ra_session.specs.Expected as spec;
 ghost use Rattle.ra_session.specs.Importing.{HasNoDocument, IsDocument};
-ghost use Rattle.ra_session.specs.Outside.{outside_of};
+ghost use Rattle.ra_jobs.specs.Outside.{outside_of};
 ghost use Rattle.ra_session.specs.Running.{Leaves, Ran};
 
-use crate::check_line::{achievements, leaderboards};
 use crate::document::Document;
 use crate::ending::Ending;
 use crate::failures::DocumentFailed;
-use crate::reading::read_whole;
 use crate::writing::print_line;
 use ra_io::{Files, Sink};
+use ra_jobs::{achievements, leaderboards, read_whole, scripts};
 use ra_patch::{Imported, import};
-use ra_richpresence::Script;
 use ra_set::Set;
 use ra_text::OutOfMemory;
 use std::alloc::Global;
@@ -27,16 +24,6 @@ use std::fmt::Write;
 
 // A byte more than a document may have.
 const DOCUMENT_READ: usize = 16_777_217;
-
-// One for a presence script.
-fn scripts(script: &Option<Script>) -> usize
-    ensures { result ≡ spec.scripts_in (option_map script_contents script.now) }
-{
-    match script {
-        Some(_) => 1,
-        None => 0,
-    }
-}
 
 // What a set has, in the line of `import`.
 fn import_line(alloc: Global, set: &Set) -> Result<String, OutOfMemory>

@@ -7,7 +7,7 @@ ghost use Rattle.ra_args.specs.Words.{Lint};
 ghost use Rattle.ra_set.specs.Contents.{item_contents, set_contents};
 ghost use Rattle.ra_session.specs.Linting as spec;
 ghost use Rattle.ra_session.specs.Linting.{is_on_item, item_line, item_text, place_text, warning_line, warning_word, where_text};
-ghost use Rattle.ra_session.specs.Outside.{outside_of};
+ghost use Rattle.ra_jobs.specs.Outside.{outside_of};
 ghost use Rattle.ra_session.specs.Playing.{IsPlayable};
 ghost use Rattle.ra_session.specs.Running.{Ran};
 

@@ -11,15 +11,15 @@ ghost use Rattle.ra_memory.specs.Image.{AreBytes};
 ghost use Rattle.ra_meaning.specs.Order as order;
 ghost use Rattle.ra_session.specs.Expected.{progress_limit};
 ghost use Rattle.ra_session.specs.Loading.{AreAccepted, AreOfFile, HasNoProgress, HasNoSet, IsLoaded, IsNotLoaded, IsTaken, progress_in};
-ghost use Rattle.ra_session.specs.Outside.{AnyRose};
+ghost use Rattle.ra_jobs.specs.Outside.{AnyRose};
 ghost use Rattle.ra_session.specs.Playing.{IsPlayable};
 ghost use Rattle.ra_args.specs.Words.{file_in};
 
 use crate::beginning::Beginning;
 use crate::failures::{LoadFailed, ProgressFailed, SetFailed};
-use crate::reading::read_whole;
 use crate::run_files::RunFiles;
 use ra_io::Files;
+use ra_jobs::read_whole;
 use ra_progress::{ProgressRefused, Shape, check};
 use ra_runtime::shape_of;
 use ra_set::{Set, SetRefused, parse_set};

@@ -5,7 +5,7 @@ ghost use Rattle.ra_io.specs.SureFiles.{names_of};
 ghost use Rattle.ra_trace.specs.Workload.{made_set, made_trace};
 ghost use Rattle.ra_session.specs.Expected.{make_line};
 ghost use Rattle.ra_session.specs.Making.{IsMadeText, set_name, trace_name};
-ghost use Rattle.ra_session.specs.Outside.{outside_of};
+ghost use Rattle.ra_jobs.specs.Outside.{outside_of};
 ghost use Rattle.ra_session.specs.Running.{Ran};
 ghost use Rattle.ra_args.specs.Words.{Make};
 

@@ -10,16 +10,16 @@ ghost use Rattle.ra_normal.specs.Text as text;
 ghost use Rattle.ra_normal.specs.Text.{IsNormal, IsPastLimit};
 ghost use Rattle.ra_session.specs.Expected as spec;
 ghost use Rattle.ra_session.specs.Normalizing.{HasNoNormal, IsNormalized, IsUnset};
-ghost use Rattle.ra_session.specs.Outside.{outside_of};
+ghost use Rattle.ra_jobs.specs.Outside.{outside_of};
 ghost use Rattle.ra_session.specs.Running.{Leaves, Ran};
 
 use crate::document::Document;
 use crate::ending::Ending;
 use crate::failures::{NormalFailed, SetFailed};
 use crate::loading::SET_READ;
-use crate::reading::read_whole;
 use crate::writing::print_line;
 use ra_io::{Files, Sink};
+use ra_jobs::read_whole;
 use ra_normal::{NormalRefused, normal, normal_conditions};
 use ra_set::{Set, SetRefused, parse_set};
 use ra_text::OutOfMemory;

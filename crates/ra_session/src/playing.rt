@@ -14,8 +14,8 @@ ghost use Rattle.ra_session.specs.Playing.{StandsAt, StandsSomewhere, IsLeft, Ta
 
 use crate::failures::TraceFailed;
 use crate::player::{Player, Unplayed};
-use crate::writing::write_all;
 use ra_io::{Files, Sink};
+use ra_jobs::write_all;
 use ra_trace::{Reader, Record, Why};
 use std::alloc::Global;
 

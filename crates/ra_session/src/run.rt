@@ -12,7 +12,7 @@ ghost use Rattle.ra_session.specs.Closing.{EndsBefore};
 ghost use Rattle.ra_session.specs.Expected.{played};
 ghost use Rattle.ra_session.specs.Failures.{ending_at};
 ghost use Rattle.ra_session.specs.Loading.{AreAccepted, BeginsAt, progress_in};
-ghost use Rattle.ra_session.specs.Outside.{AnyRose, outside_of};
+ghost use Rattle.ra_jobs.specs.Outside.{AnyRose, outside_of};
 ghost use Rattle.ra_session.specs.Playing.{IsPlayable, kept_bytes};
 ghost use Rattle.ra_session.specs.RunFiles.{run_of};
 ghost use Rattle.ra_session.specs.Running.{HasBytes, Leaves, Ran};

@@ -2,7 +2,7 @@ use Rattle.std.proofs.Common.{arith, ◌+◌, ◌∙◌, ap, subst}
 use Rattle.ra_io.specs.Sink.{grown}
 use Rattle.ra_explain.specs.Replays.{contents_of}
 use Rattle.ra_session.specs.Explaining.{condition_line, conditions_text}
-use Rattle.ra_session.specs.Writing.{GrewByPart}
+use Rattle.ra_jobs.specs.Writing.{GrewByPart}
 use Rattle.ra_explain_job.proofs.PrintLemmas.{leaves_less, leaves_cut, condition_first}
 use Rattle.ra_explain_job.proofs.printing.print_conditions.Goals as goal
 

@@ -6,7 +6,7 @@ use Rattle.ra_explain.specs.Explains.{explanation_contents}
 use Rattle.ra_explain.specs.Replays.{contents_of}
 use Rattle.ra_explain.specs.declared.explanation.Event.{Event}
 use Rattle.ra_session.specs.Explaining.{groups_text, unlock_text}
-use Rattle.ra_session.specs.Writing.{GrewByPart}
+use Rattle.ra_jobs.specs.Writing.{GrewByPart}
 use Rattle.ra_explain_job.proofs.PrintLemmas.{two_pieces, second_cut, first_cut}
 use Rattle.ra_explain_job.proofs.printing.print_explanation.Goals as goal
 

@@ -1,5 +1,5 @@
 use Rattle.std.proofs.Common.{◌∙◌, ap}
-use Rattle.ra_session.proofs.Stays.{stays_after}
+use Rattle.ra_jobs.proofs.Stays.{stays_after}
 use Rattle.ra_explain_job.proofs.NextLemmas.{leads_on, ends_unlocked, ends_ended, ends_failed}
 use Rattle.ra_explain_job.proofs.watching.watch.Goals as goal
 

@@ -1,7 +1,7 @@
 use Rattle.std.proofs.Common.{sym, subst}
 use Rattle.ra_args.specs.JobWords.{job_contents}
 use Rattle.ra_args.specs.declared.job_words.Job.{Job}
-use Rattle.ra_session.specs.Outside.{outside_of}
+use Rattle.ra_jobs.specs.Outside.{outside_of}
 use Rattle.ra_session.specs.Running.{Ran}
 use Rattle.ra_player.proofs.play.do_job.Goals as goal
 

@@ -1,6 +1,6 @@
 use Rattle.std.proofs.Common.{arith, ap, sym, refl, option_map, ◌∙◌}
 use Rattle.ra_args.specs.JobWords.{job_contents}
-use Rattle.ra_session.specs.Outside.{outside_of}
+use Rattle.ra_jobs.specs.Outside.{outside_of}
 use Rattle.ra_player.proofs.AnswerLemmas.{answers_no_job, answers_no_memory, answers_job, finishes_in}
 use Rattle.ra_player.proofs.LeavesLemmas.{leaves_job}
 use Rattle.ra_player.proofs.play.play.Goals as goal

@@ -7,7 +7,7 @@ use Rattle.ra_session.specs.Running.{HasBytes}
 use Rattle.ra_session.proofs.ImportLemmas.{document_not_done, leaves_import, ran_import, ran_no_document, ran_no_put}
 use Rattle.ra_session.proofs.JobLemmas.{leaves_same}
 use Rattle.ra_session.proofs.PutLemmas.{has_bytes, leaves_unput}
-use Rattle.ra_session.proofs.Stays.{same_after}
+use Rattle.ra_jobs.proofs.Stays.{same_after}
 use Rattle.ra_session.proofs.importing.import_job.Goals as goal
 
 pub returns-in-Err-clause-ran : goal.returns-in-Err-clause-ran

@@ -1,7 +1,7 @@
 use Rattle.std.proofs.Common.{◌≡◌, ◌∙◌, ◌++◌, ◌∷◌, [], ap, codes, decimal, map, refl, List, ℕ}
 use Rattle.std.specs.List.{join_with_byte}
 use Rattle.ra_set.specs.Contents.{item_contents}
-use Rattle.ra_session.specs.Expected.{achievements_in, boards_in}
+use Rattle.ra_jobs.specs.Counting.{achievements_in, boards_in}
 use Rattle.ra_session.proofs.importing.import_line.Goals as goal
 
 -- the line, by what was written of its three numbers

@@ -2,7 +2,7 @@ use Rattle.std.proofs.Common.{sym, subst, [], Bor, List, ℕ, Option, option_map
 use Rattle.ra_set.specs.Contents.{set_contents}
 use Rattle.ra_args.specs.Words.{file_in}
 use Rattle.ra_session.specs.Loading.{HasNoProgress}
-use Rattle.ra_session.specs.Outside.{AnyRose}
+use Rattle.ra_jobs.specs.Outside.{AnyRose}
 use Rattle.ra_session.proofs.LoadLemmas.{not_progress_since}
 use Rattle.ra_session.proofs.RunLemmas.{any_first, err_by}
 use Rattle.ra_session.proofs.loading.load_progress.Goals as goal

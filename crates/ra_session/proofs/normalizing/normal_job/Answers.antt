@@ -7,7 +7,7 @@ use Rattle.ra_session.specs.Running.{HasBytes}
 use Rattle.ra_session.proofs.NormalLemmas.{leaves_normal, normal_not_done, ran_no_normal, ran_no_put, ran_normal}
 use Rattle.ra_session.proofs.JobLemmas.{leaves_same}
 use Rattle.ra_session.proofs.PutLemmas.{has_bytes, leaves_unput}
-use Rattle.ra_session.proofs.Stays.{same_after}
+use Rattle.ra_jobs.proofs.Stays.{same_after}
 use Rattle.ra_session.proofs.normalizing.normal_job.Goals as goal
 
 pub returns-in-Err-clause-ran : goal.returns-in-Err-clause-ran

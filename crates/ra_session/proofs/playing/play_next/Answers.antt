@@ -2,7 +2,7 @@ use Rattle.std.proofs.Common.{◌∙◌, ap, sym, subst}
 use Rattle.ra_io.specs.Sink.{grown}
 use Rattle.ra_trace.specs.Entries.{entry_of}
 use Rattle.ra_meaning.specs.Play.{moved, earned_next}
-use Rattle.ra_session.specs.Writing.{GrewByPart}
+use Rattle.ra_jobs.specs.Writing.{GrewByPart}
 use Rattle.ra_session.proofs.NextLemmas.{next_refused, next_empty, next_played, next_cut, ok_at, end_is, other_is}
 use Rattle.ra_session.proofs.playing.play_next.Goals as goal
 use Rattle.ra_session.proofs.playing.play_next.Goals.{in-End, in_default}

@@ -1,6 +1,6 @@
 use Rattle.std.proofs.Common.{arith, ◌∙◌, ap}
 use Rattle.ra_session.specs.Playing.{slots_of}
-use Rattle.ra_session.proofs.Stays.{stays_after}
+use Rattle.ra_jobs.proofs.Stays.{stays_after}
 use Rattle.ra_session.proofs.TraceLemmas.{stops_with, goes_on_with, ends_with, stands_with}
 use Rattle.ra_session.proofs.playing.play_records.Goals as goal
 

@@ -1,5 +1,5 @@
 use Rattle.std.proofs.Common.{sym, subst, [], Bor, List, ℕ, Option, option_map}
-use Rattle.ra_session.specs.Outside.{AnyRose}
+use Rattle.ra_jobs.specs.Outside.{AnyRose}
 use Rattle.ra_args.specs.Words.{file_in}
 use Rattle.ra_session.proofs.RunLemmas.{any_first}
 use Rattle.ra_session.proofs.run.put_kept.Goals as goal

@@ -8,7 +8,7 @@ use Rattle.ra_session.specs.RunFiles.{run_of}
 use Rattle.ra_session.proofs.JobLemmas.{leaves_same, load_not_done, trace_not_done, ran_on, ran_not_put, leaves_put, leaves_not_put, others_since, bytes_since}
 use Rattle.ra_session.proofs.LoadLemmas.{ran_not_begun}
 use Rattle.ra_session.proofs.RunLemmas.{rose_before}
-use Rattle.ra_session.proofs.Stays.{same_after, none_after}
+use Rattle.ra_jobs.proofs.Stays.{same_after, none_after}
 use Rattle.ra_session.proofs.run.run_job.Goals as goal
 
 pub returns-in-Err-clause-ran : goal.returns-in-Err-clause-ran
