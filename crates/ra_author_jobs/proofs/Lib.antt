@@ -1,3 +1,4 @@
 pub mod AnswerLemmas
 pub mod OneReview
 pub mod OneAnswer
+pub mod PassedReviews

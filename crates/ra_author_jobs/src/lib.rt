@@ -4,9 +4,11 @@
 mod answer;
 mod importing;
 mod job;
+mod laws;
 mod left_lines;
 mod reviewing;
 mod texts;
 
 pub use answer::Answer;
 pub use job::{answer_job, put_saved};
+pub use laws::reviews_pass_sets;
