@@ -1,5 +1,6 @@
 #!/bin/sh
 # Builds the archive and the programs of this folder, and runs them: plainly, under the sanitizers and under valgrind.
+# Then it installs the library, builds the programs against what was installed, and calls it in random sequences.
 # Then compares play with the program ra_player over generated sets and traces, over one bank and over three.
 # usage: examples/c/check.sh [SETS [PLAYER]], where SETS is 200 and PLAYER the built program; where it is not named it is
 # the one in crates/ra_player/out, or built first, with every proof below it
@@ -33,6 +34,9 @@ for program in codes row1 loop; do
     valgrind -q --error-exitcode=9 --leak-check=full --errors-for-leak-kinds=all "$folder/plain/$program" >"$folder/valgrind.out"
     cmp "$folder/valgrind.out" "$folder/$program.out"
 done
+"$root/crates/ra_c/install.sh" "$folder/prefix" "$archive.a"
+./installed.sh "$folder/prefix"
+./fuzz.sh "$folder/prefix"
 if [ ! -x "$player" ]; then
     echo "the player is proved and built first" >&2
     (cd "$root/crates/ra_player" && rt run -- check ../../examples/small.set) >&2
