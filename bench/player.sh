@@ -9,6 +9,16 @@ find_player() {
     fi
 }
 
+# The same of the program for authors, as $player, for `instructions`.
+find_author() {
+    here=$(cd "$(dirname "$0")/.." && pwd)
+    player=${1:-$here/crates/ra_author/out/ra_author}
+    if [ ! -x "$player" ]; then
+        echo "the program is proved and built first" >&2
+        (cd "$here/crates/ra_author" && rt run -- version) >&2
+    fi
+}
+
 # Ends the script where one of these programs is missing.
 need() {
     for tool in "$@"; do

@@ -8,12 +8,7 @@
 set -eu
 . "$(dirname "$0")/player.sh"
 need valgrind
-here=$(cd "$(dirname "$0")/.." && pwd)
-player=${1:-$here/crates/ra_author/out/ra_author}
-if [ ! -x "$player" ]; then
-    echo "the program is proved and built first" >&2
-    (cd "$here/crates/ra_author" && rt run -- version) >&2
-fi
+find_author "${1:-}"
 folder=$(mktemp -d)
 trap 'rm -rf "$folder"' EXIT
 
