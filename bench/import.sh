@@ -1,5 +1,6 @@
 #!/bin/sh
-# How many instructions `ra_author import` takes: documents of about 4, 8 and 16 MiB, of which every eighth achievement is left out.
+# How many instructions `ra_author import` takes: documents of 4, 8 and 16 MiB of short achievements, of which all but
+# 12,000 are left out.
 # usage: bench/import.sh [AUTHOR], where AUTHOR is the built program ra_author; where it is not named the one that lies in
 # crates/ra_author/out is taken, or it is proved and built first.
 # Each row: the bytes of the document, instructions in all, for each byte, and the last line of the import. An import that is linear
@@ -15,12 +16,13 @@ for mebibytes in 4 8 16; do
     python3 - "$folder/document" $((mebibytes * 1048576)) <<'P'
 import sys
 name, most = sys.argv[1], int(sys.argv[2])
+count = most // 72
 with open(name, "w") as out:
-    size = out.write('{"PatchData":{"Achievements":[')
-    for at in range(16000):
-        text = "0xH%04x=%d.%d." % (at * 7 % 65536, at % 256, 1 + at % 9) if at % 8 else "fF%04x=1" % at
-        note = "n" * (most // 16000 - 90)
-        size += out.write('%s{"ID":%d,"MemAddr":"%s","Title":"item","Description":"%s"}' % ("," if at else "", at + 1, text, note))
+    out.write('{"PatchData":{"Achievements":[')
+    for at in range(count):
+        kept = at * 12000 // count != (at - 1) * 12000 // count
+        text = ("0xH%04x=%03d" if kept else "fF%05x=%03d") % (at * 7 % 65536, at % 256)
+        out.write('%s{"ID":%07d,"MemAddr":"%s","Title":"item number %07d"}' % ("," if at else "", 1000000 + at, text, at))
     out.write("]}}")
 P
     bytes=$(wc -c <"$folder/document")
