@@ -46,7 +46,7 @@ pub end_within : (groups : List Group) (k : ℕ) (g : Group) → k < length grou
 end_within groups k g within is =
     omega (arith, sum_by_more_le length (map group_contents groups) k [] (omega (arith, length-map groups group_contents)), ap length (group_here groups k g within is))
 
--- a row of so many conditions of all from a place on
+-- a row of this many of all conditions, from a place on
 abbrev pub cut_row : (count start : ℕ) → GroupRow → GroupRow
 cut_row count start r = record {
   truths = take count (drop start r.truths);

@@ -15,7 +15,7 @@ pub record IsAccountOf (frames : List Facts) (a : ConditionAccount) : Type 0 whe
   pub right : a.right ≡ range_of (map (λ f. f.right) frames)
   pub columns : IsTimeline (map (λ f. f.counts) frames) a.columns
 
--- an account of so many frames, whatever they showed
+-- an account of this many frames, whatever they showed
 pub record StandsAt (count : ℕ) (a : ConditionAccount) : Type 0 where
   pub frames : List Facts
   pub long : length frames ≡ count
@@ -27,7 +27,7 @@ abbrev pub AreAccounts : (ℕ → List Facts) → List ConditionAccount → Type
 AreAccounts frames accounts =
     (j : ℕ) → j < length accounts → (d : ConditionAccount) → IsAccountOf (frames j) (slice_index_or accounts j d)
 
--- each is an account of so many frames
+-- each is an account of this many frames
 abbrev pub AllStandAt : ℕ → List ConditionAccount → Type 0
 AllStandAt count accounts =
     (j : ℕ) → j < length accounts → (d : ConditionAccount) → StandsAt count (slice_index_or accounts j d)

@@ -30,7 +30,7 @@ bytes_of Four = 4
 bytes_of FourBig = 4
 bytes_of _ = 1
 
--- a memory operand looks past a memory of so many bytes, by the value of its pointer
+-- a memory operand looks past a memory of this many bytes, by the value of its pointer
 abbrev pub past_memory : Operand → (pointer memory : ℕ) → Bool
 past_memory (Cell kind size address) pointer memory =
     nat_lt memory ((address + pointer) % 2 ^ 32 + bytes_of size)
@@ -67,7 +67,7 @@ abbrev pub pointer_at : Frame → ℕ → ℕ
 pointer_at f zero = 0
 pointer_at f (suc i) = pointer_by (flag_at f.conditions i) (slice_index f.lefts i)
 
--- what the group is for its condition at j, over a memory of so many bytes
+-- what the group is for its condition at j, over a memory of this many bytes
 abbrev pub around_at : Frame → (size : ℕ) → ℕ → Around
 around_at f size j = record { paused = is_paused f; in_pause_chain = in_pause_chain f.conditions j; pointer = pointer_at f j; size = size }
 

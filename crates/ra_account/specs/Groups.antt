@@ -15,7 +15,7 @@ pub record GroupRow : Type 0 where
   pub rights : List ℕ
   pub hits : List ℕ
 
--- a row of so many conditions
+-- a row of this many conditions
 pub record IsRowOf (count : ℕ) (r : GroupRow) : Type 0 where
   pub truths_many : length r.truths ≡ count
   pub lefts_many : length r.lefts ≡ count
@@ -31,7 +31,7 @@ pub record ArePausing (cs : List Condition) (pausing : List Bool) : Type 0 where
 abbrev pub row_frame : List Condition → GroupRow → Frame
 row_frame cs r = frame_of cs r.truths r.lefts r.hits
 
--- what the frame shows of the condition at j, over a memory of so many bytes
+-- what the frame shows of the condition at j, over a memory of this many bytes
 abbrev pub shown : List Condition → (size : ℕ) → ℕ → GroupRow → Facts
 shown cs size j r = facts_at (row_frame cs r) r.rights size j
 
@@ -43,7 +43,7 @@ wants_of cs r = map (wanted_at (row_frame cs r)) (places cs)
 abbrev pub IsGroupAccount : List Condition → (size : ℕ) → List GroupRow → GroupAccount → Type 0
 IsGroupAccount cs size frames g = AreAccounts (λ j. map (shown cs size j) frames) g.conditions.items
 
--- each is an account of so many frames
+-- each is an account of this many frames
 abbrev pub GroupStandsAt : ℕ → GroupAccount → Type 0
 GroupStandsAt count g = AllStandAt count g.conditions.items
 
@@ -81,7 +81,7 @@ AreGroupAccounts groups from size frames accounts =
     → IsGroupAccount (group_at groups g) size (map (part_of (group_at groups g) (from + start_at groups g)) frames)
     (slice_index_or accounts g d)
 
--- each is an account of so many frames
+-- each is an account of this many frames
 abbrev pub AllGroupsStandAt : ℕ → List GroupAccount → Type 0
 AllGroupsStandAt count accounts =
     (g : ℕ) → g < length accounts → (d : GroupAccount) → GroupStandsAt count (slice_index_or accounts g d)
@@ -91,7 +91,7 @@ abbrev pub AllFit : List (List Condition) → List GroupAccount → Type 0
 AllFit groups accounts =
     (g : ℕ) → g < length accounts → (d : GroupAccount) → FitsGroup (group_at groups g) (slice_index_or accounts g d)
 
--- each group has an account of so many frames, with one for each of its conditions
+-- each group has an account of this many frames, with one for each of its conditions
 pub record AreReady (groups : List (List Condition)) (count : ℕ) (accounts : List GroupAccount) : Type 0 where
   pub as_many : length accounts ≡ length groups
   pub fit : AllFit groups accounts

@@ -28,7 +28,7 @@ frames_in width column counts = take width (drop (column * width) counts)
 abbrev pub column_of : (width column : ℕ) → List Bool → Mark
 column_of width column counts = mark_of (frames_in width column (reverse counts))
 
--- the mark of a column of so many frames that has this mark, with one frame more
+-- the mark of a column of this many frames that has this mark, with one frame more
 abbrev pub mark_more : ℕ → Mark → Bool → Mark
 mark_more begun mark now = if begun == 0 then mark_at now else joined mark (mark_at now)
 
@@ -44,7 +44,7 @@ pub record HasColumns (counts : List Bool) (c : Columns) : Type 0 where
   pub frames : c.full * c.width + c.begun ≡ length counts
   pub marks_too : (k : ℕ) → k * c.width < length counts → slice_index_or c.marks.items k Never ≡ column_of c.width k counts
 
--- the width is the least power of two with which 60 columns have room for so many frames
+-- the width is the least power of two with which 60 columns have room for this many frames
 pub record IsWidth (frames width : ℕ) : Type 0 where
   pub exponent : ℕ
   pub power : width ≡ 2 ^ exponent

@@ -11,7 +11,7 @@ pub record TriggerRow : Type 0 where
   pub moment : Moment
   pub row : GroupRow
 
--- an account of the trigger over these frames, with a memory of so many bytes
+-- an account of the trigger over these frames, with a memory of this many bytes
 pub record IsTriggerAccount (t : TriggerContents) (size : ℕ) (frames : List TriggerRow) (a : TriggerAccount) : Type 0 where
   pub count : a.frames ≡ length frames
   pub core : IsGroupAccount t.core size (map (part_of t.core 0) (map (λ f. f.row) frames)) a.core
@@ -20,7 +20,7 @@ pub record IsTriggerAccount (t : TriggerContents) (size : ℕ) (frames : List Tr
   pub paused : a.paused ≡ times_of (map (λ f. f.moment.paused) frames)
   pub waited : a.waited ≡ times_of (map (λ f. f.moment.waited) frames)
 
--- an account of the trigger over so many frames, whatever they showed
+-- an account of the trigger over this many frames, whatever they showed
 pub record IsReady (t : TriggerContents) (a : TriggerAccount) : Type 0 where
   pub few : trigger_hits t ≤ 65536
   pub core_fits : FitsGroup t.core a.core

@@ -43,7 +43,7 @@ fn bytes(size: Size) -> u32
     }
 }
 
-// Whether an operand is past a memory of so many bytes, by the value of its pointer.
+// Whether an operand is past a memory of this many bytes, by the value of its pointer.
 fn is_past(operand: Operand, pointer: u32, memory: u32) -> bool
     ensures { result ≡ past_memory operand pointer memory }
 {

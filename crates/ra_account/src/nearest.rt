@@ -20,7 +20,7 @@ pub struct Nearest {
 }
 
 impl Nearest {
-    /// Before the first frame, for so many conditions.
+    /// Before the first frame, for this many conditions.
     pub fn new(alloc: Global, conditions: usize) -> Result<Nearest, OutOfMemory>
         ensures begun { IfOk result (IsNearest []) }
         ensures many { IfOk result (λ nearest. length nearest.wants.items ≡ conditions) }

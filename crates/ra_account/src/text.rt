@@ -158,7 +158,7 @@ fn write_live(
     Ok(())
 }
 
-/// Writes the lines of a condition's account over so many frames, with its hits behind the last one, behind the line
+/// Writes the lines of a condition's account over this many frames, with its hits behind the last one, behind the line
 /// that names it: docs/DEFINITIONS.md, "Account of an achievement".
 pub fn write_account(
     text: &mut String,

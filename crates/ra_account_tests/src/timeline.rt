@@ -8,7 +8,7 @@ use ra_text::OutOfMemory;
 use std::alloc::Global;
 use std::test::Fail;
 
-// The columns after so many frames, at the last of which alone the condition counts.
+// The columns after this many frames, at the last of which alone the condition counts.
 fn after(alloc: Global, frames: u64) -> Result<Columns, OutOfMemory>
     requires { frames ≤ 1000 }
     ensures { IfOk result (StandsFor frames) }

@@ -45,11 +45,11 @@ module _ (words : List (List ℕ)) (old new : Outside) where
     pub put : PutsRose (author_puts job) old new → ⊥
     pub write : SinkRose old new → ⊥
 
-  -- Without a fault the words that are no job have the usage line, unless memory was wanting.
+  -- Without a fault the words that are no job have the usage line, unless memory ran out.
   abbrev pub IsUsage : ℕ → Type 0
   IsUsage status = author_job_of words ≡ None → (SinkRose old new → ⊥) → (status ≡ 1) ⊎ ((status ≡ 2) × GrewBy old new usage_line)
 
-  -- Without a fault a job is done as the told files say, and all of it is printed, unless memory was wanting.
+  -- Without a fault a job is done as the told files say, and all of it is printed, unless memory ran out.
   abbrev pub IsWhole : ℕ → Type 0
   IsWhole status = (job : AuthorJob) (e : Expected) → author_job_of words ≡ Some job → JobSays old.content job e → MeetsNoFault job
       → (status ≡ 1) ⊎ ((status ≡ e.status) × GrewBy old new e.text)

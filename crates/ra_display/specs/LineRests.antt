@@ -24,7 +24,7 @@ use Rattle.ra_meaning.specs.LineMembers.{tests_in, line_member}
 use Rattle.ra_meaning.specs.Presence.{DisplayKept, line_holds, kept_display}
 use Rattle.ra_display.specs.PresenceRuns.{IsLineRun, StepsLine}
 
--- what a line is seen to keep, where it owes so many frames, or does not rest
+-- what a line is seen to keep, where it owes this many frames, or does not rest
 abbrev pub seen_line : Member → Before → Option ℕ → MemberKept
 seen_line run b None = kept_by run
 seen_line run b (Some frames) = owed_member frames (kept_before b) (kept_by run)

@@ -56,7 +56,7 @@ owed_run n (before.Achievement b) (Achievement run) = kept_achievement run.earne
 owed_run n (before.Leaderboard b) (Leaderboard run) = kept_board (owed_board n (board_before b) (board_kept run))
 owed_run n _ run = kept_run run
 
--- what an item is seen to keep, where it owes so many frames, or does not rest
+-- what an item is seen to keep, where it owes this many frames, or does not rest
 abbrev pub seen_run : ItemRun → ItemBefore → Option ℕ → KeptItem
 seen_run run b None = kept_run run
 seen_run run b (Some frames) = owed_run frames b run

@@ -10,7 +10,7 @@ use ra_io::{Sink, SinkFailed};
 
 /// Writes all of the bytes, in as many pieces as the sink takes. No piece is empty.
 ///
-/// It stops at a write that failed, and for want of memory; a front of the bytes is written then.
+/// It stops at a write that failed, and where memory runs out; a front of the bytes is written then.
 pub fn write_all<K: Sink>(bytes: &[u8], out: &mut K) -> Result<(), SinkFailed>
     ensures ok { OnOk result (K.text out.new ≡ grown (K.text out.old) bytes.now) }
     ensures part { GrewByPart (K.text out.old) (K.text out.new) bytes.now }

@@ -27,7 +27,7 @@ frames_since clock (Some since) = Some (clock - since)
 abbrev pub owed_at : ScheduleSeen → (place : ℕ) → Option ℕ
 owed_at s place = frames_since s.clock (since_at s place)
 
--- so many frames as far as hits can tell: all of them, or the most that a hit can count
+-- this many frames as far as hits can tell: all of them, or the most that a hit can count
 abbrev pub as_hits_tell : Option ℕ → Option ℕ
 as_hits_tell None = None
 as_hits_tell (Some frames) = Some (min frames 4294967295)
@@ -60,7 +60,7 @@ pub record Begins (signals : List ℕ) (old new : ScheduleSeen) : Type 0 where
   pub since : new.since ≡ old.since
   pub clock : new.clock ≡ old.clock
 
--- between frames: so many places, of which each rests since no later count; who is not due rests, and this holds of it
+-- between frames: this many places, of which each rests since no later count; who is not due rests, and this holds of it
 pub record AreAtRest (On : ℕ → Type 0) (places : ℕ) (s : ScheduleSeen) : Type 0 where
   pub due_many : length s.readers.due ≡ places
   pub since_many : length s.since ≡ places
@@ -80,7 +80,7 @@ AllSteps Steps (thing ∷ things) (old ∷ olds) (new ∷ news) (said ∷ all) =
     Steps thing old new said × AllSteps Steps things olds news all
 AllSteps Steps _ _ _ _ = ⊥
 
--- so many readers, all due, of which the ones in front of a place read what they are to read, whatever run stands past the last one
+-- this many readers, all due, of which the ones in front of a place read what they are to read, whatever run stands past the last one
 pub record AreReaders (Run : Type 0) (reads : Run → ℕ → List ℕ) (signals places : ℕ) (readers : ReadersSeen) (place : ℕ) : Type 0 where
   pub rows : length readers.rows ≡ signals
   pub due : readers.due ≡ replicate places true

@@ -36,7 +36,7 @@ impl Model for Schedule {
 }
 
 impl Schedule {
-    /// No place rests, and each is due, by who of so many reads which signal. Memory is the only refusal.
+    /// No place rests, and each is due, by which place reads which signal. Memory is the only refusal.
     pub fn new(alloc: Global, mut readers: Readers, places: usize) -> Result<Schedule, OutOfMemory>
         requires { length readers.due ≡ places }
         ensures { IfOk result (λ s. s ≡ nothing_owed readers 0) }

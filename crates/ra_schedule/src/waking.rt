@@ -5,7 +5,7 @@ ghost use Rattle.ra_schedule.specs.Waking.{IsWoken, IsWokenAlone};
 
 use crate::readers::Readers;
 
-// Makes due who of so many readers reads one of these signals, which changed at a frame. Where many did, or the count of
+// Makes due each of this many readers that reads one of these signals, which changed at a frame. Where many did, or the count of
 // frames is at its end, all are due. No memory is taken.
 pub(crate) fn wake(readers: &mut Readers, count: usize, clock: u64, signals: &[u32])
     requires count { count ≡ length readers.old.due }
@@ -32,14 +32,14 @@ pub(crate) fn many_changed(readers: &Readers, signals: &[u32]) -> bool
     signals.len() > readers.nodes() / 4
 }
 
-// How many of so many are looked at for rest at a frame, whatever their places are.
+// How many of this many places are looked at for rest at a frame, whatever their places are.
 pub(crate) fn looks(count: usize) -> usize
     ensures { result ≡ count / 64 + 4 }
 {
     count / 64 + 4
 }
 
-// Whether the one at a place is looked at for rest: where so many may still be, and else one of eight, others at each count
+// Whether the one at a place is looked at for rest: where this many may still be, and else one of eight, others at each count
 // of frames, unless it has rested until now.
 pub(crate) fn is_looked_at(left: usize, rested: bool, place: usize, clock: u64) -> bool
     ensures { result ≡ (not (left == 0) || not rested && place % 8 == clock % 8) }
