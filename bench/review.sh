@@ -17,6 +17,8 @@ lines() {
     awk -v kind="$1" -v bytes="$2" 'BEGIN {
         for (id = 1; ; id++) {
             if (kind == "one") line = sprintf("A %d 0xH%04x=%d", id, id * 7 % 65536, id % 256)
+            else if (kind == "short") line = "A " id " 0=1"
+            else if (kind == "none") line = "A " id " "
             else if (kind == "eight") {
                 line = "A " id " "
                 for (k = 0; k < 8; k++)
@@ -32,7 +34,7 @@ lines() {
     }'
 }
 
-for kind in one eight boards comments bad; do
+for kind in short none one eight boards comments bad; do
     for mebibytes in 2 4; do
         lines "$kind" $((mebibytes * 1048576)) >"$folder/set"
         bytes=$(wc -c <"$folder/set")
