@@ -1,10 +1,12 @@
 #!/usr/bin/env bash
 # What no proof sees, over a built player: the status is how many of these checks failed.
-# usage: .ci/checks.sh PLAYER [ARCHIVE], where ARCHIVE is a folder with libra_c.a and libra_c.sum, as examples/c/check.sh
-# leaves them in crates/ra_c/out. Where the sum is that of the files here, the C programs are linked and run.
+# usage: .ci/checks.sh PLAYER [ARCHIVE [AUTHOR]], where ARCHIVE is a folder with libra_c.a and libra_c.sum, as
+# examples/c/check.sh leaves them in crates/ra_c/out, and AUTHOR is the built program ra_author. Where the sum is that of the
+# files here, the C programs are linked and run.
 cd "$(dirname "$0")/.." || exit 1
 player=$(realpath "$1")
 archive=${2:-crates/ra_c/out}
+author=$(realpath "${3:-crates/ra_author/out/ra_author}")
 room=$(mktemp -d) || exit 1
 trap 'rm -rf "$room"' EXIT
 failed=0
@@ -72,6 +74,10 @@ for name in small forest; do
 done
 check examples/changed changed_set
 check "what edits guard" bench/edits.py --check
+if has "documents and words" python3; then
+    check "links, paths and headings of documents" bench/links.py
+    check "words of both programs" bench/words.py check "$player" "$author"
+fi
 if has "examples/trace.py" python3; then
     for name in small forest changed/first changed/later; do
         check "examples/trace.py on $name" both_ways "examples/$name"
