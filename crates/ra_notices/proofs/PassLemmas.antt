@@ -13,7 +13,7 @@ use Rattle.ra_notices.specs.declared.conditions.Spot.{Spot}
 use Rattle.ra_notices.specs.declared.groups.Standing.{Standing}
 use Rattle.ra_notices.specs.declared.notice.Notice.{Notice}
 use Rattle.ra_notices.specs.Notices.{stands, resets_at, pauses_at, is_twice, condition_notices, has_memory_right}
-use Rattle.ra_notices.specs.Noticing.{locks_at, notices_by, seen_by, standing_with}
+use Rattle.ra_notices.specs.Noticing.{AreMarks, locks_at, notices_by, seen_by, standing_with}
 
 pub next_place : (place : ℕ) → range_with_len 0 (place + 1) ≡ range_with_len 0 place ++ place ∷ []
 next_place place =
@@ -104,6 +104,10 @@ pub test_there : (test : ℕ → Bool) (cs : List Condition) (tests : List Bool)
     → tests ≡ map test (places cs) → place < length cs → get_or tests place d ≡ test place
 test_there test cs tests place d all within =
     ap (λ ts. get_or ts place d) all ∙ get_or-map-range_with_len test 0 (length cs) place place d within (omega arith)
+
+-- a row with a test of each condition marks those that pass it
+pub marks_of : (test : ℕ → Bool) (cs : List Condition) (tests : List Bool) → tests ≡ map test (places cs) → AreMarks tests test cs
+marks_of test cs tests all = λ j within. test_there test cs tests j false all within
 
 -- there is one for each condition
 pub tests_many : (test : ℕ → Bool) (cs : List Condition) (tests : List Bool) → tests ≡ map test (places cs) → length tests ≡ length cs

@@ -1,7 +1,8 @@
 -- Which conditions reset or pause their group, and which alts keep their trigger from being valid.
-use Rattle.std.proofs.Common.{◌≡◌, ◌∙◌, ℕ, zero, suc, ◌+◌, ◌<◌, ◌==◌, Bool, true, false, not, ◌&&◌, ◌||◌, List, [], ◌∷◌, ◌++◌, length, map, slice_index_or, refl, sym, ap, ap₂, arith, append_assoc, append-nil}
+use Rattle.std.proofs.Common.{◌≡◌, ◌∙◌, ℕ, zero, suc, ◌+◌, ◌<◌, ◌==◌, nat_lt, Bool, true, false, not, ◌&&◌, ◌||◌, List, [], ◌∷◌, ◌++◌, length, map, slice_index_or, refl, sym, ap, ap₂, arith, append_assoc, append-nil}
 use Rattle.std.specs.List.{list_any, list_all, range_with_len}
-use Rattle.std.proofs.lemmas.Bool.{true≢false, ne_eqb}
+use Rattle.std.proofs.lemmas.Bool.{true≢false, ne_eqb, ltb-true, ltb-false}
+use Rattle.std.proofs.lemmas.List.Folds.{list_any-append}
 use Rattle.std.proofs.lemmas.List.FromFn.{map-range_with_len_more}
 use Rattle.ra_condition.specs.declared.condition.Condition.{Condition}
 use Rattle.ra_condition.specs.Contents.{condition_at, flag_at}
@@ -12,9 +13,27 @@ use Rattle.ra_lint.specs.Warnings.{always_at}
 use Rattle.ra_notices.specs.declared.notice.Notice.{Notice}
 use Rattle.ra_notices.specs.Notices.{has_before, resets, locks, some_in, resets_always, all_lock, group_notices, notices_from}
 use Rattle.ra_notices.specs.Noticing.{may_lock, may_lock_after, before_next, locks_at}
-use Rattle.ra_notices.proofs.PassLemmas.{test_there}
+use Rattle.ra_notices.proofs.PassLemmas.{next_place, test_there}
 
 -- ---- conditions
+
+or_false : (b : Bool) → (b || false) ≡ b
+or_false true = refl
+or_false false = refl
+
+-- whether some place so far passes a test, with one place more
+any_more : (test : ℕ → Bool) (place : ℕ) → list_any test (range_with_len 0 (place + 1)) ≡ (list_any test (range_with_len 0 place) || test place)
+any_more test place =
+    ap (list_any test) (next_place place) ∙ list_any-append test (range_with_len 0 place) (place ∷ [])
+    ∙ ap (λ b. list_any test (range_with_len 0 place) || b) (or_false (test place))
+
+or_left : (a b : Bool) → (a || b) ≡ false → a ≡ false
+or_left true b e = e
+or_left false b e = refl
+
+or_right : (a b : Bool) → (a || b) ≡ false → b ≡ false
+or_right true b e = absurd (true≢false e)
+or_right false b e = e
 
 -- one condition more
 pub may_more : (cs : List Condition) (place : ℕ) (c : Condition) (before : Bool) (may may' : List Bool) (next : Bool)
@@ -41,17 +60,35 @@ may_then_always false false t b a = refl
 may_not : (r p t b a : Bool) → (((r || p) && t) && b) ≡ false → ((r && ((t && b) && a)) || (p && ((t && b) && a))) ≡ false
 may_not r p t b a e = sym (may_then_always r p t b a) ∙ ap (λ x. x && a) e
 
--- where none may lock, none does
-pub none_locks : (cs : List Condition) (js : List ℕ) → list_any (λ b. b) (map (may_lock cs) js) ≡ false → map (may_lock cs) js ≡ map (locks_at cs) js
-none_locks cs [] e = refl
-none_locks cs (j ∷ js) e = by_first (may_lock cs j) refl e (none_locks cs js)
+-- the same of whether some condition so far may lock
+pub some_more : (cs : List Condition) (place : ℕ) (c : Condition) (before some some' next : Bool)
+    → c ≡ condition_at cs place → (some ≡ list_any (may_lock cs) (range_with_len 0 place)) × (before ≡ has_before cs place)
+    → some' ≡ (some || may_lock_after c before) → next ≡ before_next c before
+    → (some' ≡ list_any (may_lock cs) (range_with_len 0 (place + 1))) × (next ≡ has_before cs (place + 1))
+some_more cs place c before some some' next is_c so_far is_some is_next = (
+  is_some ∙ (λ i. so_far.0 i || may_lock_after (is_c i) (so_far.1 i)) ∙ sym (any_more (may_lock cs) place),
+  is_next ∙ (λ i. before_next (is_c i) (so_far.1 i)) ∙ (let e : suc place ≡ place + 1 = omega arith in ap (has_before cs) e),
+)
+
+-- where none of the first places may lock, none of them does
+pub none_lock : (cs : List Condition) (n : ℕ) → list_any (may_lock cs) (range_with_len 0 n) ≡ false → (j : ℕ) → j < n → false ≡ locks_at cs j
+none_lock cs zero e j less = absurd (omega (arith, less))
+none_lock cs (suc n) e j less = by_last (none_lock cs n) (nat_lt j n) refl
   where
-    by_first : (b : Bool) → may_lock cs j ≡ b → (b || list_any (λ b. b) (map (may_lock cs) js)) ≡ false
-        → (list_any (λ b. b) (map (may_lock cs) js) ≡ false → map (may_lock cs) js ≡ map (locks_at cs) js)
-        → may_lock cs j ∷ map (may_lock cs) js ≡ locks_at cs j ∷ map (locks_at cs) js
-    by_first true is e next = absurd (true≢false e)
-    by_first false is e next =
-        ap₂ (λ b bs. b ∷ bs) (is ∙ sym (may_not (is_reset (flag_at cs j)) (is_pause (flag_at cs j)) ((condition_at cs j).target == 0) (not (has_before cs j)) (always_at cs j) is)) (next e)
+    n_more : suc n ≡ n + 1
+    n_more = omega arith
+
+    parts : (list_any (may_lock cs) (range_with_len 0 n) || may_lock cs n) ≡ false
+    parts = sym (any_more (may_lock cs) n) ∙ ap (λ k. list_any (may_lock cs) (range_with_len 0 k)) (sym n_more) ∙ e
+
+    by_last : (list_any (may_lock cs) (range_with_len 0 n) ≡ false → (i : ℕ) → i < n → false ≡ locks_at cs i)
+        → (before : Bool) → nat_lt j n ≡ before → false ≡ locks_at cs j
+    by_last each true is = each (or_left (list_any (may_lock cs) (range_with_len 0 n)) (may_lock cs n) parts) j (ltb-true j n is)
+    by_last each false is =
+        let last : n ≡ j = omega (arith, less, ltb-false j n is) in
+        sym (ap (locks_at cs) (sym last)
+        ∙ may_not (is_reset (flag_at cs n)) (is_pause (flag_at cs n)) ((condition_at cs n).target == 0) (not (has_before cs n)) (always_at cs n)
+        (or_right (list_any (may_lock cs) (range_with_len 0 n)) (may_lock cs n) parts))
 
 -- functions that agree below a number
 map_below : {X : Type 0} (f g : ℕ → X) (n : ℕ) → ((j : ℕ) → j < n → f j ≡ g j) → map f (range_with_len 0 n) ≡ map g (range_with_len 0 n)
@@ -86,10 +123,6 @@ or_assoc false b c = refl
 and_assoc : (a b c : Bool) → ((a && b) && c) ≡ (a && (b && c))
 and_assoc true b c = refl
 and_assoc false b c = refl
-
-or_false : (b : Bool) → (b || false) ≡ b
-or_false true = refl
-or_false false = refl
 
 and_true : (b : Bool) → (b && true) ≡ b
 and_true true = refl

@@ -1,5 +1,5 @@
 -- What is known of a condition or of groups while notices are taken: the step between the code and docs/DEFINITIONS.md, "Review of a set".
-use Rattle.std.specs.Prelude.{ℕ, ◌==◌, ◌&&◌, ◌||◌, not, if◌then◌else◌, Bool, true, List, ◌++◌, ℕ, ◌∷◌, []}
+use Rattle.std.specs.Prelude.{◌≡◌, ◌<◌, false, length, slice_index_or, ℕ, ◌==◌, ◌&&◌, ◌||◌, not, if◌then◌else◌, Bool, true, List, ◌++◌, ◌∷◌, []}
 use Rattle.std.specs.List.{list_any}
 use Rattle.ra_condition.specs.declared.condition.Condition.{Condition}
 use Rattle.ra_condition.specs.declared.flag.Flag.{Flag}
@@ -23,6 +23,10 @@ has_class class.Pause = is_pause
 has_class class.MeasuredIf = is_measured_if
 has_class class.Measured = is_measured
 has_class class.Required = is_required
+
+-- a row of marks says at which places of a group something holds; a place past the end of the row is not marked
+abbrev pub AreMarks : List Bool → (ℕ → Bool) → List Condition → Type 0
+AreMarks marks holds cs = (j : ℕ) → j < length cs → slice_index_or marks j false ≡ holds j
 
 -- a group of the trigger at a place
 abbrev pub spot_of : Place → ℕ → Spot

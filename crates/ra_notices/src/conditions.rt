@@ -27,6 +27,17 @@ pub(crate) struct Seen {
     pub pauses: bool,
 }
 
+impl Seen {
+    ghost use Rattle.std.specs.Prelude.{◌≡◌, ◌||◌, not};
+
+    // Nothing is seen that a notice tells.
+    fn is_nothing(self) -> bool
+        ensures { result ≡ not (self.chained || self.twice || self.memory_right || self.resets || self.pauses) }
+    {
+        !(self.chained || self.twice || self.memory_right || self.resets || self.pauses)
+    }
+}
+
 /// An operand of the condition is `{recall}`.
 pub(crate) fn has_recall(condition: &Condition) -> bool
     ensures { result ≡ (is_recall condition.now.left || is_recall condition.now.right) }
@@ -72,6 +83,9 @@ pub(crate) fn put_notices(
 ) -> Result<(), OutOfMemory>
     ensures { OnOk result (found.new.items ≡ found.old.items ++ notices_by spot place seen) }
 {
+    if seen.is_nothing() {
+        return Ok(());
+    }
     put_where(found, seen.chained, spot, place, Word::OpenChain)?;
     put_where(found, seen.twice, spot, place, Word::Twice)?;
     put_where(found, seen.memory_right, spot, place, Word::MemoryRight)?;

@@ -1,12 +1,11 @@
 //! Notices on the groups of a trigger: docs/DEFINITIONS.md, "Review of a set".
 
-ghost use Rattle.std.specs.Prelude.{◌≡◌, ◌+◌, ◌*◌, ◌^◌, ◌≤◌, ◌++◌, ◌&&◌, All, IfOk, OnOk, length, map, not, sum_by};
-ghost use Rattle.ra_condition.specs.Chains.{places};
+ghost use Rattle.std.specs.Prelude.{◌≡◌, ◌+◌, ◌*◌, ◌^◌, ◌≤◌, ◌++◌, ◌&&◌, All, false, slice_index_or, IfOk, OnOk, length, map, not, sum_by};
 ghost use Rattle.ra_condition.specs.Contents.{group_contents};
 ghost use Rattle.ra_condition.specs.Flags.{is_pause};
 ghost use Rattle.ra_condition.specs.Spelled.{IsTriggerGroup};
 ghost use Rattle.ra_notices.specs.Notices.{group_notices, is_twice, locks, notices_from, resets, some_in};
-ghost use Rattle.ra_notices.specs.Noticing.{alts_lock, has_class, locks_at, seen_by};
+ghost use Rattle.ra_notices.specs.Noticing.{AreMarks, alts_lock, has_class, locks_at, seen_by};
 
 use crate::class::Class;
 use crate::conditions::{Seen, Spot, has_memory_right, put_notices};
@@ -53,8 +52,8 @@ fn pass_conditions(
     again: &[bool],
     locking: &[bool],
 ) -> Result<Standing, OutOfMemory>
-    requires twice { again.now ≡ map (is_twice conditions.now) (places conditions.now) }
-    requires locks { locking.now ≡ map (locks_at conditions.now) (places conditions.now) }
+    requires twice { AreMarks again.now (is_twice conditions.now) conditions.now }
+    requires locks { AreMarks locking.now (locks_at conditions.now) conditions.now }
     ensures resets { IfOk result (λ standing. standing.resets ≡ resets conditions.now) }
     ensures locks { IfOk result (λ standing. standing.locks ≡ locks conditions.now) }
     ensures all { OnOk result (found.new.items ≡ found.old.items ++ group_notices spot.place spot.group conditions.now) }
@@ -65,11 +64,23 @@ fn pass_conditions(
     };
     for (place, condition) in conditions.iter().enumerate() {
         let last = place + 1 == conditions.len();
-        let seen = seen_of(condition, last, again[place], locking[place]);
+        let seen = seen_of(
+            condition,
+            last,
+            is_marked(again, place),
+            is_marked(locking, place),
+        );
         put_notices(found, spot, place, seen)?;
         standing = standing.with(seen);
     }
     Ok(standing)
+}
+
+// Whether a place is marked; one past the end of the marks is not.
+fn is_marked(marks: &[bool], place: usize) -> bool
+    ensures { result ≡ slice_index_or marks.now place false }
+{
+    marks.get(place).copied().unwrap_or(false)
 }
 
 // What is seen of a condition.

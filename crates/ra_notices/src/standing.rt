@@ -5,33 +5,39 @@ ghost use Rattle.std.specs.List.{list_any, range_with_len};
 ghost use Rattle.ra_condition.specs.Chains.{places};
 ghost use Rattle.ra_condition.specs.Contents.{group_contents};
 ghost use Rattle.ra_condition.specs.Spelled.{IsTriggerGroup};
-ghost use Rattle.ra_notices.specs.Noticing.{before_next, locks_at, may_lock, may_lock_after};
+ghost use Rattle.ra_notices.specs.Noticing.{AreMarks, before_next, locks_at, may_lock, may_lock_after};
 
 use ra_condition::{Condition, Group};
 use ra_lint::always_hold;
 use ra_text::OutOfMemory;
 use std::alloc::Global;
 
-/// Whether each condition of a group is a ResetIf or a PauseIf that stands, in text order.
+/// Marks of the conditions of a group that are a ResetIf or a PauseIf that stands.
 pub(crate) fn standing(alloc: Global, group: &Group) -> Result<Vec<bool>, OutOfMemory>
     requires spelled { IsTriggerGroup (group_contents group.now) }
     requires few { 12 * length (group_contents group.now) + 2 ≤ 2 ^ 31 }
-    ensures { IfOk result (λ locks. locks.items ≡ map (locks_at (group_contents group.now)) (places (group_contents group.now))) }
+    ensures { IfOk result (λ locks. AreMarks locks.items (locks_at (group_contents group.now)) (group_contents group.now)) }
 {
-    let may = may_lock(alloc, &group.conditions)?;
-    if !some_may(&may) {
-        return Ok(may);
+    if !some_may(&group.conditions) {
+        return Ok(Vec::new(alloc));
     }
+    let may = may_lock(alloc, &group.conditions)?;
     let always = always_hold(alloc, group)?;
     let locks = both(alloc, &may, &always)?;
     Ok(locks)
 }
 
-// Whether one of these is so.
-fn some_may(may: &[bool]) -> bool
-    ensures { result ≡ list_any (λ b. b) may.now }
+// Whether some condition is a ResetIf or a PauseIf without target, with nothing before it in its chain.
+fn some_may(conditions: &[Condition]) -> bool
+    ensures { result ≡ list_any (may_lock conditions.now) (places conditions.now) }
 {
-    may.iter().any(|may| *may)
+    let mut some = false;
+    let mut before = false;
+    for condition in conditions {
+        some |= may_lock_after(condition, before);
+        before = before_next(condition, before);
+    }
+    some
 }
 
 // Whether each condition is a ResetIf or a PauseIf without target, with nothing before it in its chain.

@@ -1,11 +1,10 @@
 //! Conditions that stand in their group twice: docs/DEFINITIONS.md, "Review of a set".
 
-ghost use Rattle.std.specs.Prelude.{◌≡◌, ◌&&◌, ◌||◌, ℕ, List, bytes_eq, map, IfOk, OnOk};
+ghost use Rattle.std.specs.Prelude.{◌≡◌, ◌&&◌, ◌||◌, ℕ, List, bytes_eq, IfOk, OnOk};
 ghost use Rattle.std.specs.BTreeSet.{contains};
-ghost use Rattle.ra_condition.specs.Chains.{places};
 ghost use Rattle.ra_notices.specs.Keys.{key_cmp, key_of};
 ghost use Rattle.ra_notices.specs.Notices.{is_twice};
-ghost use Rattle.ra_notices.specs.Noticing.{is_lone_after};
+ghost use Rattle.ra_notices.specs.Noticing.{AreMarks, is_lone_after};
 
 use crate::conditions::has_recall;
 use crate::key::key_of;
@@ -14,11 +13,14 @@ use ra_text::OutOfMemory;
 use std::alloc::Global;
 use std::collections::BTreeSet;
 
-/// Whether each condition of a group stands there before, where both are chains by themselves, in
-/// text order.
+/// Marks of the conditions of a group that stand there before, where both are chains by themselves.
 pub(crate) fn twice_in(alloc: Global, conditions: &[Condition]) -> Result<Vec<bool>, OutOfMemory>
-    ensures { IfOk result (λ twice. twice.items ≡ map (is_twice conditions.now) (places conditions.now)) }
+    ensures { IfOk result (λ twice. AreMarks twice.items (is_twice conditions.now) conditions.now) }
 {
+    // (no condition stands before the only one)
+    if conditions.len() < 2 {
+        return Ok(Vec::new(alloc));
+    }
     let mut twice = Vec::with_capacity(alloc, conditions.len())?;
     let mut seen = BTreeSet::new(alloc);
     let mut chained = false;
