@@ -1,6 +1,7 @@
 pub mod AcceptedFiles
 pub mod DisplayLemmas
-pub mod FormatLemmas
+pub mod FirstLemmas
+mod FormatLemmas
 pub mod FrontLemmas
 pub mod LineAlone
 pub mod MacroLemmas

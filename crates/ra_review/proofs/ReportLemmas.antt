@@ -1,5 +1,5 @@
 -- What a review keeps of the lines so far, and of one more.
-use Rattle.std.proofs.Common.{◌≡◌, ◌∙◌, ℕ, suc, ◌+◌, ◌≤◌, ◌==◌, sum_by, Bool, true, false, if◌then◌else◌, List, [], ◌∷◌, ◌++◌, length, map, Option, None, Some, refl, sym, ap, subst, arith, append-nil, length-append, eqb-true, Result, Ok, Err, OnOk}
+use Rattle.std.proofs.Common.{◌≡◌, ◌∙◌, ℕ, suc, ◌+◌, ◌≤◌, ◌==◌, sum_by, Bool, true, false, if◌then◌else◌, List, [], ◌∷◌, ◌++◌, length, map, Option, None, Some, unwrap_or, refl, sym, ap, subst, arith, append-nil, length-append, eqb-true, Result, Ok, Err, OnOk}
 use Rattle.std.proofs.lemmas.List.Sums.{sum_by_push}
 use Rattle.ra_text.specs.declared.refusals.OutOfMemory.{OutOfMemory}
 use Rattle.ra_richpresence.specs.Cut.{content_of}
@@ -12,7 +12,7 @@ use Rattle.ra_set.specs.Contents.{ItemContents, Unlocks, Ranks, item_contents}
 use Rattle.ra_set.specs.Grammar.{Line}
 use Rattle.ra_review.specs.declared.report.Report.{Report}
 use Rattle.ra_review.specs.Lines.{Refuses, first_with, Findings, nothing, then_more, refused, item_lines, item_findings}
-use Rattle.ra_review.specs.Reporting.{AreEntries, first_by, Reports, ReportsBefore, AddsItem, AddsLine}
+use Rattle.ra_review.specs.Reporting.{AreEntries, first_by, Reports, ReportsBefore, ReportsNoted, AddsItem, AddsLine}
 use Rattle.ra_review.specs.Shown.{again, refusal}
 
 -- ---- first lines
@@ -136,24 +136,44 @@ adds_refusal old new rows row found text firsts more n i f l h = record {
 pub refused_row : (rows : List Line) (x : ItemContents) → first_with x 1 (rows ++ None ∷ []) ≡ first_with x 1 rows
 refused_row rows x = first_none x rows
 
-pub repeated_row : (x : ItemContents) (rows : List Line) (first : ℕ) → first_with x 1 rows ≡ Some first → (y : ItemContents)
-    → first_with y 1 (rows ++ Some x ∷ []) ≡ first_with y 1 rows
-repeated_row x rows first is y = first_again x y rows first is
+-- the line of an accepted item is noted where none was
+pub noted : (old new : Report) (x : ItemContents) (rows : List Line) (found : Findings) (first : Option ℕ)
+    → first ≡ first_by old.firsts x
+    → ((y : ItemContents) → first_by new.firsts y ≡ (if repeats x y then Some (unwrap_or first old.lines) else first_by old.firsts y))
+    → new.refusals ≡ old.refusals → new.notices ≡ old.notices → new.items ≡ old.items → new.lines ≡ old.lines
+    → ReportsBefore old rows found → ReportsNoted new x rows found
+noted old new x rows found first is_first notes r n i l h = record {
+  refusals = subst (λ e. AreEntries e found.refusals) (sym r) h.refusals;
+  notices = subst (λ e. AreEntries e found.notices) (sym n) h.notices;
+  items = ap (λ xs. map item_contents xs.items) i ∙ h.items;
+  firsts = λ y. notes y ∙ by_first first (is_first ∙ h.firsts x) y;
+  lines = l ∙ h.lines;
+  few = h.few;
+}
+  where
+    again : (f : ℕ) (y : ItemContents) → first_with x 1 rows ≡ Some f → (same : Bool) → repeats x y ≡ same
+        → (if same then Some f else first_by old.firsts y) ≡ first_with y 1 (rows ++ Some x ∷ [])
+    again f y is true e = sym (first_again x y rows f is ∙ same_first x y e 1 rows ∙ is)
+    again f y is false e = h.firsts y ∙ sym (first_again x y rows f is)
+
+    by_first : (o : Option ℕ) → o ≡ first_with x 1 rows → (y : ItemContents)
+        → (if repeats x y then Some (unwrap_or o old.lines) else first_by old.firsts y) ≡ first_with y 1 (rows ++ Some x ∷ [])
+    by_first None is y = first_new x y rows old.lines (first_by old.firsts y) h.lines (sym is) (h.firsts y)
+    by_first (Some f) is y = again f y (sym is) (repeats x y) refl
 
 -- an item was kept
 pub adds_kept : (old new : Report) (line : List ℕ) (x : ItemContents) (rows : List Line) (found : Findings)
     → item_conditions x ≤ 178956970 → first_with x 1 rows ≡ None
-    → ((y : ItemContents) → first_by new.firsts y ≡ (if repeats x y then Some old.lines else first_by old.firsts y))
     → ((entries : List (List ℕ)) → AreEntries old.notices entries → AreEntries new.notices (entries ++ item_lines line x))
     → map item_contents new.items.items ≡ map item_contents old.items.items ++ x ∷ []
-    → new.refusals ≡ old.refusals → new.lines ≡ old.lines
-    → ReportsBefore old rows found → AddsItem line x rows found new
-adds_kept old new line x rows found weight none firsts notices items r l h =
+    → new.refusals ≡ old.refusals → new.firsts ≡ old.firsts → new.lines ≡ old.lines
+    → ReportsNoted old x rows found → AddsItem line x rows found new
+adds_kept old new line x rows found weight none notices items r f l h =
     subst (λ o. Reports new (rows ++ Some x ∷ []) (then_more found (item_findings (suc (length rows)) line x o))) (sym none) (record {
       refusals = subst (AreEntries new.refusals) (sym (append-nil found.refusals)) (subst (λ e. AreEntries e found.refusals) (sym r) h.refusals);
       notices = notices found.notices h.notices;
       items = items ∙ ap (λ xs. xs ++ x ∷ []) h.items;
-      firsts = λ y. firsts y ∙ first_new x y rows old.lines (first_by old.firsts y) h.lines none (h.firsts y);
+      firsts = λ y. ap (λ fs. first_by fs y) f ∙ h.firsts y;
       lines = one_longer rows (Some x) new.lines (l ∙ h.lines);
       few = omega (arith, h.few, length-append rows (Some x ∷ []), sum_by_push item_conditions found.items x, weight);
     })
@@ -163,11 +183,18 @@ pub adds_again : (old new : Report) (line : List ℕ) (x : ItemContents) (rows :
     → number ≡ old.lines → id ≡ id_of x → first_with x 1 rows ≡ Some first
     → ((entries : List (List ℕ)) → AreEntries old.refusals entries → AreEntries new.refusals (entries ++ again number id first ∷ []))
     → new.notices ≡ old.notices → new.items ≡ old.items → new.firsts ≡ old.firsts → new.lines ≡ old.lines
-    → ReportsBefore old rows found → AddsItem line x rows found new
+    → ReportsNoted old x rows found → AddsItem line x rows found new
 adds_again old new line x rows found number id first is_number is_id is more n i f l h =
     subst (λ o. Reports new (rows ++ Some x ∷ []) (then_more found (item_findings (suc (length rows)) line x o))) (sym is)
     (subst (λ text. Reports new (rows ++ Some x ∷ []) (then_more found (refused text))) (λ j. again ((is_number ∙ h.lines) j) (is_id j) first)
-    (adds_refusal old new rows (Some x) found (again number id first) (repeated_row x rows first is) more n i f l h))
+    (record {
+      refusals = more found.refusals h.refusals;
+      notices = subst (AreEntries new.notices) (sym (append-nil found.notices)) (subst (λ e. AreEntries e found.notices) (sym n) h.notices);
+      items = ap (λ xs. map item_contents xs.items) i ∙ h.items ∙ sym (append-nil found.items);
+      firsts = λ y. ap (λ fs. first_by fs y) f ∙ h.firsts y;
+      lines = one_longer rows (Some x) new.lines (l ∙ h.lines);
+      few = omega (arith, h.few, length-append rows (Some x ∷ []), ap (sum_by item_conditions) (append-nil found.items));
+    }))
 
 -- a line was judged, whose refusal stands behind the others
 pub refuses_line : (old new : Report) (rows : List Line) (found : Findings) (number place : ℕ) (line content : List ℕ)

@@ -1,3 +1,4 @@
+pub mod FirstLines
 pub mod Judging
 pub mod Lines
 pub mod Passing

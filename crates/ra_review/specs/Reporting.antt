@@ -1,8 +1,6 @@
 -- What a review keeps of the lines so far: the step between the code and docs/DEFINITIONS.md, "Review of a set".
 use Rattle.std.specs.Prelude.{◌≡◌, ℕ, suc, ◌+◌, ◌*◌, ◌≤◌, Bool, sum_by, true, false, List, [], ◌∷◌, ◌++◌, length, map, Option, Some, option_map}
-use Rattle.std.specs.BTreeMap.{get}
 use Rattle.std.specs.List.{flat_map}
-use Rattle.std.specs.Ordering.{nat_cmp}
 use Rattle.ra_richpresence.specs.Cut.{lines_of}
 use Rattle.ra_set.specs.Contents.{ItemContents, Unlocks, Ranks, item_contents}
 use Rattle.ra_set.specs.Grammar.{Line}
@@ -13,6 +11,7 @@ use Rattle.ra_value_format.specs.declared.format.Format.{Format}
 use Rattle.ra_value_format.specs.declared.format.Format.TheVariants.{Value}
 use Rattle.ra_review.specs.declared.entries.Entries.{Entries}
 use Rattle.ra_review.specs.declared.firsts.Firsts.{Firsts}
+use Rattle.ra_review.specs.FirstLines.{line_of}
 use Rattle.ra_review.specs.declared.report.Report.{Report}
 use Rattle.ra_review.specs.declared.reviewed.Reviewed.{Reviewed}
 use Rattle.ra_review.specs.Reviews.{Said}
@@ -31,8 +30,8 @@ is_value _ = false
 
 -- the first line that is kept for the letter and the id of an item
 abbrev pub first_by : Firsts → ItemContents → Option ℕ
-first_by firsts (Unlocks id t) = get nat_cmp firsts.achievements id
-first_by firsts (Ranks id format b) = get nat_cmp firsts.leaderboards id
+first_by firsts (Unlocks id t) = line_of firsts.achievements id
+first_by firsts (Ranks id format b) = line_of firsts.leaderboards id
 
 -- what is kept is what was found in lines that have these items; each has few enough conditions
 pub record Reports (report : Report) (rows : List Line) (found : Findings) : Type 0 where
@@ -49,6 +48,15 @@ pub record ReportsBefore (report : Report) (rows : List Line) (found : Findings)
   pub notices : AreEntries report.notices found.notices
   pub items : map item_contents report.items.items ≡ found.items
   pub firsts : (x : ItemContents) → first_by report.firsts x ≡ first_with x 1 rows
+  pub lines : report.lines ≡ suc (length rows)
+  pub few : sum_by item_conditions found.items ≤ 178956970 * length rows
+
+-- the same, and the line of an accepted item is noted
+pub record ReportsNoted (report : Report) (x : ItemContents) (rows : List Line) (found : Findings) : Type 0 where
+  pub refusals : AreEntries report.refusals found.refusals
+  pub notices : AreEntries report.notices found.notices
+  pub items : map item_contents report.items.items ≡ found.items
+  pub firsts : (y : ItemContents) → first_by report.firsts y ≡ first_with y 1 (rows ++ Some x ∷ [])
   pub lines : report.lines ≡ suc (length rows)
   pub few : sum_by item_conditions found.items ≤ 178956970 * length rows
 

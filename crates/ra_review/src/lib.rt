@@ -3,6 +3,7 @@
 
 mod display;
 mod entries;
+mod first_lines;
 mod firsts;
 mod formats;
 mod front;

@@ -35,7 +35,7 @@ impl Report {
     ghost use Rattle.ra_set.specs.Limits.{item_conditions, most_bytes};
     ghost use Rattle.ra_set.specs.Spelled.{IsItem};
     ghost use Rattle.ra_review.specs.Lines.{Findings, first_with, nothing};
-    ghost use Rattle.ra_review.specs.Reporting.{AddsItem, AddsLine, Reports, ReportsBefore};
+    ghost use Rattle.ra_review.specs.Reporting.{AddsItem, AddsLine, Reports, ReportsBefore, ReportsNoted};
 
     /// Nothing.
     pub fn none(alloc: Global) -> Self
@@ -81,20 +81,19 @@ impl Report {
         ensures { OnOk result ((rows : List Line) (found : Findings) → ReportsBefore self.old rows found
             → AddsItem line.now (item_contents item) rows found self.new) }
     {
-        match self.firsts.of(&item) {
+        match self.firsts.note(&item, self.lines)? {
             Some(first) => self.refusals.repeat(self.lines, item.id(), first),
             None => self.keep_item(alloc, line, item),
         }
     }
 
-    // Keeps an item whose id is new, and adds the notices on it.
+    // Keeps an item whose id is new and noted, and adds the notices on it.
     fn keep_item(&mut self, alloc: Global, line: &[u8], item: Item) -> Result<(), OutOfMemory>
         requires spelled { IsItem (item_contents item) }
         requires few { 12 * item_conditions (item_contents item) + 2 ≤ 2 ^ 31 }
         ensures { OnOk result ((rows : List Line) (found : Findings) → first_with (item_contents item) 1 rows ≡ None
-            → ReportsBefore self.old rows found → AddsItem line.now (item_contents item) rows found self.new) }
+            → ReportsNoted self.old (item_contents item) rows found → AddsItem line.now (item_contents item) rows found self.new) }
     {
-        self.firsts.put(&item, self.lines)?;
         put_notices(alloc, &mut self.notices, line, &item)?;
         self.items.push(item)?;
         Ok(())
