@@ -20,27 +20,27 @@ use ra_set::Item;
 use ra_text::OutOfMemory;
 use std::alloc::Global;
 
-/// The notices on an item in order: docs/DEFINITIONS.md, "Review of a set".
+/// The notices on an item in order, in place of what the row has: docs/DEFINITIONS.md, "Review of a set".
 ///
 /// Twelve nodes for each condition and two are together at most 2^31.
-pub fn review_item(alloc: Global, item: &Item) -> Result<Vec<Notice>, OutOfMemory>
+pub fn review_item(alloc: Global, item: &Item, found: &mut Vec<Notice>) -> Result<(), OutOfMemory>
     requires spelled { IsItem (item_contents item.now) }
     requires few { 12 * item_conditions (item_contents item.now) + 2 ≤ 2 ^ 31 }
-    ensures { IfOk result (λ notices. notices.items ≡ item_notices (item_contents item.now)) }
+    ensures { OnOk result (found.new.items ≡ item_notices (item_contents item.now)) }
 {
-    let mut found = Vec::new(alloc);
+    found.clear();
     match item {
         Item::Achievement { text, .. } => {
-            let locked = review_trigger(alloc, &mut found, Place::Trigger, text)?;
-            put_whole(&mut found, text, locked)?;
+            let locked = review_trigger(alloc, found, Place::Trigger, text)?;
+            put_whole(found, text, locked)
         }
         Item::Leaderboard { text, .. } => {
-            review_trigger(alloc, &mut found, Place::Start, &text.start)?;
-            review_trigger(alloc, &mut found, Place::Cancel, &text.cancel)?;
-            review_trigger(alloc, &mut found, Place::Submit, &text.submit)?;
+            review_trigger(alloc, found, Place::Start, &text.start)?;
+            review_trigger(alloc, found, Place::Cancel, &text.cancel)?;
+            review_trigger(alloc, found, Place::Submit, &text.submit)?;
+            Ok(())
         }
     }
-    Ok(found)
 }
 
 // Puts the notices on the conditions of a trigger, and says whether some of them keep it from being valid.

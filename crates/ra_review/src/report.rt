@@ -9,7 +9,7 @@ use crate::entries::{Entries, more};
 use crate::firsts::Firsts;
 use crate::formats::{is_text, put_format_notice};
 use ra_condition::Refused;
-use ra_notices::review_item;
+use ra_notices::{Notice, review_item};
 use ra_set::{Item, read_line};
 use ra_text::OutOfMemory;
 use std::alloc::Global;
@@ -24,6 +24,8 @@ pub(crate) struct Report {
     pub firsts: Firsts,
     /// How many lines there were.
     pub lines: usize,
+    /// Room for the notices on one item.
+    found: Vec<Notice>,
 }
 
 impl Report {
@@ -47,6 +49,7 @@ impl Report {
             items: Vec::new(alloc),
             firsts: Firsts::none(alloc),
             lines: 0,
+            found: Vec::new(alloc),
         }
     }
 
@@ -94,25 +97,26 @@ impl Report {
         ensures { OnOk result ((rows : List Line) (found : Findings) → first_with (item_contents item) 1 rows ≡ None
             → ReportsNoted self.old (item_contents item) rows found → AddsItem line.now (item_contents item) rows found self.new) }
     {
-        put_notices(alloc, &mut self.notices, line, &item)?;
+        put_notices(alloc, &mut self.notices, line, &item, &mut self.found)?;
         self.items.push(item)?;
         Ok(())
     }
 }
 
-// Adds the notices on an item and on its line.
+// Adds the notices on an item and on its line. `found` is room for the former.
 fn put_notices(
     alloc: Global,
     notices: &mut Entries,
     line: &[u8],
     item: &Item,
+    found: &mut Vec<Notice>,
 ) -> Result<(), OutOfMemory>
     requires spelled { IsItem (item_contents item.now) }
     requires few { 12 * item_conditions (item_contents item.now) + 2 ≤ 2 ^ 31 }
     ensures { OnOk result ((entries : List (List ℕ)) → AreEntries notices.old entries
         → AreEntries notices.new (entries ++ item_lines line.now (item_contents item.now))) }
 {
-    let found = review_item(alloc, item)?;
-    notices.notice(item, &found)?;
+    review_item(alloc, item, found)?;
+    notices.notice(item, found)?;
     put_format_notice(notices, line, item)
 }

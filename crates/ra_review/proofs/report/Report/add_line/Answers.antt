@@ -39,6 +39,6 @@ pub returns-in-Err-Syntax : goal.returns-in-Err-Syntax
 returns-in-Err-Syntax c =
     let other = ap (bytes_eq (codes "P")) (sym c.requires.content) ∙ sym c.if-is_text.ensures in
     on_ok c.refuse.result _ _
-    (λ more rows found h. refuses_line _ _ rows found c.in_ok-self.field-0 _ c.args.line.now c.args.content.now refl c.requires.content more refl refl refl refl
+    (λ more rows found h. refuses_line (record c.args.self.now { lines = c.in_ok-self.field-0 }) _ rows found c.in_ok-self.field-0 _ c.args.line.now c.args.content.now refl c.requires.content more refl refl refl refl
     other (subst (IsFileOutside c.args.line.now) (sym c.in-Err-Syntax.at-is) (rw c.in-Err-Syntax.field-0-is at c.in-Err-Syntax.ensures.err)) (counted c.args.self.now _ rows found refl refl refl refl c.in_ok-self.ensures h))
     c.refuse.ensures
