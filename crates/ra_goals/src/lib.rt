@@ -3,6 +3,8 @@
 
 mod goal;
 mod goals;
+mod named;
 
 pub use goal::{Goal, GoalKind, goal_of};
 pub use goals::{format_in, goals_of};
+pub use named::named_in;
