@@ -63,7 +63,7 @@ achievement_has id change true = tt
 achievement_has id change false = change_has id change
 
 item_has : (item : ItemContents) (run : ItemRun) → HasItemDigits item → Have (run_events item run)
-item_has (Unlocks id t) (Achievement run) has = achievement_has id run.change run.earned
+item_has (Unlocks id t) (Achievement run) has = achievement_has id run.change run.silent
 item_has (Unlocks id t) (Leaderboard run) has = tt
 item_has (Ranks id format b) (Achievement run) has = tt
 item_has (Ranks id format b) (Leaderboard run) has = board_has id format run has

@@ -53,7 +53,7 @@ achievement_item table id t old new steps =
       kept = λ start image has.
           ap₂ kept_achievement steps.earned (steps.trigger.kept start (image ∷ []) has ∙ ap (λ k. achievement_after start t k (image ∷ [])) again);
       events = λ start image has.
-          ap (λ earned. if earned then [] else change_events id new.change) steps.earned
+          ap (λ earned. if earned then [] else change_events id new.change) steps.silent
           ∙ unless_is (earned_by old) (change_events id new.change) (item_events start image []) (Unlocks id t, kept_run (Achievement old))
           (ap (change_events id) steps.trigger.told
           ∙ change_told id old.run.trigger new.run.trigger

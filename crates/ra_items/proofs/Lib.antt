@@ -1,4 +1,5 @@
 pub mod BoardLemmas
+pub mod EarnedRuns
 pub mod EventLemmas
 pub mod ItemLemmas
 pub mod ItemStates

@@ -25,7 +25,7 @@ use Rattle.ra_display.specs.PresenceBack.{HasDisplay}
 use Rattle.ra_items.proofs.RunsLemmas.{rest_more}
 
 -- what follows the same is the same
-rest_at : (runs olds : List ItemRun) (k : ℕ) (d : ItemRun) → drop k runs ≡ drop k olds → get_or runs k d ≡ get_or olds k d
+pub rest_at : (runs olds : List ItemRun) (k : ℕ) (d : ItemRun) → drop k runs ≡ drop k olds → get_or runs k d ≡ get_or olds k d
 rest_at runs olds k d rest =
     let here : k ≡ k + 0 = omega arith in
     ap (λ n. get_or runs n d) here ∙ sym (get_or-drop k runs 0 d) ∙ ap (λ xs. get_or xs 0 d) rest ∙ get_or-drop k olds 0 d ∙ ap (λ n. get_or olds n d) (sym here)

@@ -1,5 +1,6 @@
 pub mod AllRuns
 pub mod BoardRuns
+pub mod Earning
 pub mod ItemRuns
 pub mod ItemStates
 pub mod Left

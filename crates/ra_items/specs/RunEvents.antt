@@ -44,7 +44,7 @@ board_run_events id format run =
 
 -- the events of an achievement, which has none where it was earned before its last frame
 abbrev pub achievement_run_events : (id : ℕ) → AchievementRun → List Event
-achievement_run_events id run = if run.earned then [] else change_events id run.change
+achievement_run_events id run = if run.silent then [] else change_events id run.change
 
 -- the events of an item
 abbrev pub run_events : ItemContents → ItemRun → List Event

@@ -16,11 +16,12 @@ pub record IsNewAchievement (old new : List Node) (t : TriggerContents) (run : A
   pub trigger : IsNewTrigger old new t run.run
   pub earned : run.earned ≡ false
 
--- whether an achievement is earned: it was before its last frame, or it is triggered
+-- whether an achievement is earned: it was before its last frame, was given since, or is triggered
 abbrev pub earned_by : AchievementRun → Bool
 earned_by run = run.earned || is_triggered run.run.trigger.state
 
--- one frame of an achievement, and the record of it: whether it was earned before the frame is kept
+-- one frame of an achievement, and the record of it: it is silent where it was earned before the frame, and stays earned
 pub record StepsAchievement (table : TableSeen) (t : TriggerContents) (old new : AchievementRun) : Type 0 where
   pub trigger : StepsTrigger table t old.run new.run new.change
   pub earned : new.earned ≡ earned_by old
+  pub silent : new.silent ≡ earned_by old

@@ -12,12 +12,14 @@ use ra_text::OutOfMemory;
 use ra_trigger::{Change, State};
 use std::alloc::Global;
 
-/// An achievement: its trigger, what its last frame did, and whether it was earned before that frame.
+/// An achievement: its trigger, what its last frame did, whether it was earned before that frame or was given since, and
+/// whether it was earned before that frame, which is silent then.
 #[derive(Drop)]
 pub struct AchievementRun {
     pub run: TriggerRun,
     pub change: Change,
     pub earned: bool,
+    pub silent: bool,
 }
 
 impl AchievementRun {
@@ -40,10 +42,11 @@ impl AchievementRun {
                 measured: None,
             },
             earned: false,
+            silent: false,
         })
     }
 
-    // Whether the achievement is earned: it was before its last frame, or it is triggered.
+    // Whether the achievement is earned: it was before its last frame, was given since, or is triggered.
     pub(crate) fn is_earned(&self) -> bool
         ensures { result ≡ earned_by self.now }
     {
@@ -57,7 +60,8 @@ impl AchievementRun {
         ensures run { IsTriggerRun table.now.nodes (trigger_contents text.now) self.new.run }
         ensures steps { StepsAchievement table.now (trigger_contents text.now) self.old self.new }
     {
-        self.earned = self.is_earned();
+        self.silent = self.is_earned();
+        self.earned = self.silent;
         self.change = self.run.step(text, table);
     }
 }

@@ -3,6 +3,7 @@
 
 mod achievement_run;
 mod board_run;
+mod earning;
 mod events;
 mod item_run;
 mod item_state;
@@ -16,6 +17,7 @@ mod told;
 
 pub use achievement_run::AchievementRun;
 pub use board_run::BoardRun;
+pub use earning::{earn_runs, earned_in};
 pub use events::Events;
 pub use item_run::ItemRun;
 pub use item_state::ItemState;

@@ -66,7 +66,7 @@ impl Told {
     fn of_achievement(id: u32, run: &AchievementRun) -> Told
         ensures { told_events result ≡ achievement_run_events id run.now }
     {
-        if run.earned {
+        if run.silent {
             Told::nothing()
         } else {
             Told::of_change(id, &run.change)

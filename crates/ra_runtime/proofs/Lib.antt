@@ -1,4 +1,5 @@
 pub mod CurrentLemmas
+pub mod EarnedCourses
 pub mod FrameLemmas
 pub mod LaidShapes
 pub mod LineLemmas

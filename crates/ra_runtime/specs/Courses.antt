@@ -6,6 +6,7 @@ use Rattle.ra_memref.specs.Values.{cell_place}
 use Rattle.ra_memref.specs.Marks.{marks_after, marks_seen, reads_of}
 use Rattle.ra_memref.specs.Table.{DifferWithin, no_cell}
 use Rattle.ra_progress.specs.Contents.{Opening, IsOpening}
+use Rattle.ra_meaning.specs.Earned.{Earned, both_earned, earned_in, with_earned}
 use Rattle.ra_meaning.specs.Order.{set_cells, shape_of}
 use Rattle.ra_meaning.specs.Openings.{start_of, plain_opening}
 use Rattle.ra_meaning.specs.declared.event.Event.{Event}
@@ -67,3 +68,8 @@ pub record ReadsLooked (old new : RuntimeSeen) (reads : ℕ) : Type 0 where
   pub unmarked : new.marked ≡ replicate (length (set_cells old.set)) false
   pub places : (o : Opening) (history : History) → IsOpening (shape_of old.set) o → StandsAfter old o history → new.places ≡ map (λ c. cell_place (start_of old.set o) c (old.image ∷ history)) (set_cells old.set)
   pub counted : reads ≡ count_by not old.marked + reads_of (marks_seen old.image (set_cells old.set) old.places old.kept.cells old.marked) old.places new.places
+
+-- More is earned, by an answer for each item, and nothing else changes; the course stands after every history after which it stood.
+pub record EarnsToo (old new : CourseSeen) (earned : Earned) : Type 0 where
+  pub rest : new ≡ record old { kept = with_earned old.kept (both_earned (earned_in old.kept) earned) }
+  pub stands : (image : List ℕ) (o : Opening) (history : History) → StandsAfter (over old image) o history → StandsAfter (over new image) o history

@@ -1,4 +1,4 @@
-ghost use Rattle.std.specs.Prelude.{◌≡◌, ◌++◌, ◌+◌, ◌-◌, ◌≤◌, ◌^◌, ℕ, List, [], None, Some, option_map, not, count_by, length, IfOk, IfErr, OnOk, OnErr};
+ghost use Rattle.std.specs.Prelude.{◌≡◌, ◌++◌, ◌+◌, ◌-◌, ◌≤◌, ◌^◌, ℕ, List, [], None, Some, false, option_map, not, count_by, length, slice_index_or, IfOk, IfErr, OnOk, OnErr};
 ghost use Rattle.ra_set.specs.Contents.{set_contents};
 ghost use Rattle.ra_set.specs.Limits.{IsWithinLimits};
 ghost use Rattle.ra_set.specs.Names.{IsNamed};
@@ -7,6 +7,7 @@ ghost use Rattle.ra_progress.specs.Names.{IsUsable};
 ghost use Rattle.ra_progress.specs.Reading.{IsAccepted, refusal};
 ghost use Rattle.ra_progress.specs.Spelling.{progress_bytes};
 ghost use Rattle.ra_items.specs.ItemStates.{state_at};
+ghost use Rattle.ra_meaning.specs.Earned as earning;
 ghost use Rattle.ra_meaning.specs.Order.{shape_of};
 ghost use Rattle.ra_meaning.specs.Play.{shown};
 ghost use Rattle.ra_meaning.specs.Saving.{IsSaved};
@@ -18,7 +19,9 @@ use crate::written::put_events;
 use ra_display::{
     LineRests, PresenceRun, put_back_presence, put_display, shown_line, step_presence,
 };
-use ra_items::{Events, ItemRun, ItemState, Rests, put_back_runs, put_runs, state_in};
+use ra_items::{
+    Events, ItemRun, ItemState, Rests, earn_runs, earned_in, put_back_runs, put_runs, state_in,
+};
 use ra_memory::Image;
 use ra_memref::Table;
 use ra_progress::{ProgressRefused, Said, Shape, begin, check, close, frames_at};
@@ -65,7 +68,7 @@ impl Model for Course {
 impl Course {
     ghost use Rattle.ra_meaning.specs.Lines.{IsTextOf};
     ghost use Rattle.ra_meaning.specs.Runtime.{ReadsFew, ShowsKept, TakesFrame, TakesUp};
-    ghost use Rattle.ra_runtime.specs.Courses.{over, IsBegun, IsCurrent, IsTold, LooksAt, ReadsLooked};
+    ghost use Rattle.ra_runtime.specs.Courses.{over, EarnsToo, IsBegun, IsCurrent, IsTold, LooksAt, ReadsLooked};
     ghost use Rattle.ra_runtime.specs.Told.{GrewByFront};
 
     /// A set over images of `size` bytes, before the first frame: docs/DEFINITIONS.md, "What a runtime keeps".
@@ -191,6 +194,24 @@ impl Course {
         check(&self.shape, bytes)?;
         self.take_up(bytes);
         Ok(())
+    }
+
+    /// Adds to what is earned, by an answer for each item in set order: docs/DEFINITIONS.md, "Earned achievements".
+    ///
+    /// Nothing else changes: the events and lines of the last frame stay, and what is earned is silent from the next frame
+    /// on. A leaderboard is never earned, whatever its answer. No memory is taken.
+    pub fn earn(&mut self, earned: &[bool])
+        requires { length self.old.set.items ≤ length earned.now }
+        ensures { EarnsToo self.old self.new earned.now }
+    {
+        earn_runs(&mut self.runs, earned);
+    }
+
+    /// Whether the item at a place of the set is earned; none past the last one is, and no leaderboard.
+    pub fn is_earned(&self, place: usize) -> bool
+        ensures { result ≡ slice_index_or (earning.earned_in self.now.kept) place false }
+    {
+        earned_in(&self.runs, place)
     }
 
     // Takes up what accepted bytes say.
