@@ -1,3 +1,4 @@
+pub mod CellLemmas
 pub mod CurrentLemmas
 pub mod EarnedCourses
 pub mod FrameLemmas

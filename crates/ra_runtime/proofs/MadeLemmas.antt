@@ -28,7 +28,7 @@ use Rattle.ra_items.proofs.WaitingLemmas.{item_runs_more}
 
 module _ (set : SetContents) where
   -- a pool that grew by the trees of the set has the cells and the tracked masks of the set
-  grown_cells : (nodes : List Node) → GrowsBy [] nodes (trees_in_set set) → cells_of nodes ≡ set_cells set
+  pub grown_cells : (nodes : List Node) → GrowsBy [] nodes (trees_in_set set) → cells_of nodes ≡ set_cells set
   grown_cells nodes grows =
       grows.cells ∙ grown-firsts same_cell cell_is cell_itself [] (flat_map cells_in (trees_in_set set))
 
@@ -50,7 +50,7 @@ module _ (set : SetContents) where
 
   -- a pool that grew by the items and then by the display of the set
   module _ (items pool : List Node) (limits : IsWithinLimits set) (first : GrowsByItems [] items set.items) (next : GrowsWithin items pool (flat_map trees_in_line (lines_in set.script)) (script_conditions set.script)) where
-    all_grown : GrowsWithin [] pool (trees_in_set set) (set_conditions set)
+    pub all_grown : GrowsWithin [] pool (trees_in_set set) (set_conditions set)
     all_grown =
         within_through [] items pool (flat_map trees_in_item set.items) (flat_map trees_in_line (lines_in set.script)) (sum_by item_conditions set.items) (script_conditions set.script) (set_conditions set) (omega arith) first next
 

@@ -1,3 +1,4 @@
+pub mod Cells
 pub mod Courses
 pub mod Laid
 pub mod Numbers

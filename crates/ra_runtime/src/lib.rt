@@ -1,6 +1,7 @@
 //! A set over a memory: a runtime that is made, stepped, shown, saved and restored.
 #![tactic(auto)]
 
+mod cells;
 mod course;
 mod numbers;
 mod runtime;
@@ -8,6 +9,7 @@ mod shapes;
 mod tallied;
 mod written;
 
+pub use cells::{DirectCell, direct_cells};
 pub use course::Course;
 pub use ra_items::{Events, ItemState};
 pub use ra_meaning::{
