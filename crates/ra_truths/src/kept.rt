@@ -27,7 +27,7 @@ impl Model for Kept {
 }
 
 impl Kept {
-    /// So many truths, all false, of which none flipped. Memory is the only refusal.
+    /// This many truths, all false, of which none flipped. Memory is the only refusal.
     pub fn new(alloc: Global, count: usize) -> Result<Kept, OutOfMemory>
         ensures { IfOk result (λ kept. kept ≡ record { truths = replicate count false; flipped = [] }) }
     {

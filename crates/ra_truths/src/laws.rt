@@ -7,7 +7,7 @@ ghost use Rattle.ra_truths.specs.Truths.{HasNone, Takes, TruthsSeen};
 /// Whoever reads comparisons of which none flipped at a frame sees the truths that it saw before:
 /// docs/DEFINITIONS.md, "Truths of comparisons".
 ///
-/// A law: it does nothing.
+/// A law; no effect at run time.
 pub fn unflipped_truths_stay()
     ensures { (old new : TruthsSeen) (table : TableSeen) (numbers : List ℕ) → Takes old new table
         → HasNone new.flipped numbers

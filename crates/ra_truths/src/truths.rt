@@ -43,7 +43,7 @@ impl Model for Truths {
 }
 
 impl Truths {
-    /// Truths of comparisons over so many nodes. No frame was taken. Memory is the only refusal.
+    /// Truths of comparisons over this many nodes. No frame was taken. Memory is the only refusal.
     pub fn new(alloc: Global, comparisons: &Comparisons, nodes: u32) -> Result<Truths, OutOfMemory>
         requires nodes { nodes ≤ 2 ^ 31 }
         requires within { AreWithin nodes comparisons.now }
@@ -74,6 +74,13 @@ impl Truths {
         self.comparisons.len() as u32
     }
 
+    /// How many nodes the comparisons are over.
+    pub fn nodes(&self) -> u32
+        ensures { result ≡ self.now.nodes }
+    {
+        self.nodes
+    }
+
     /// Takes up one frame: docs/DEFINITIONS.md, "Truths of comparisons".
     ///
     /// The table was sampled, and has the nodes of the comparisons. From the second frame on it lists each
@@ -93,6 +100,13 @@ impl Truths {
             settle_all(&mut self.kept, &self.comparisons, table);
         }
         self.known = true;
+    }
+
+    /// Gives up what was taken: each truth counts for nothing until the next frame is taken.
+    pub fn forget(&mut self)
+        ensures { self.new ≡ record self.old { known = false } }
+    {
+        self.known = false;
     }
 
     /// Whether the comparison of a number holds, by the values of the frame that was taken last.
