@@ -59,7 +59,7 @@ class SetDrawing:
 
     def __init__(self, r):
         self.r = r
-        bases = [r.randrange(WRITTEN) for _ in range(r.choice([2, 3, 5, 8]))]
+        bases = [r.randrange(WRITTEN) for _ in range(r.choice([1, 1, 2, 2, 3, 5, 8]))]
         self.places = sorted({(base + k) % WRITTEN for base in bases for k in range(4)})
         self.pointers = r.sample(self.places, 2)
 
@@ -197,10 +197,16 @@ class SetDrawing:
 
 
 class TraceDrawing:
-    """Draws the records of a trace. Most frames have no write behind them or one; numbers come back to what they were."""
+    """Draws the records of a trace. Most frames have no write behind them or one; numbers come back to what they were.
+
+    In some traces a byte counts the frames, or two, as a game's frame counter and its timer do, and in some each frame has
+    many writes.
+    """
 
     def __init__(self, r, places, pointers):
         self.r = r
+        self.counters = r.sample(places, r.choice([0, 0, 1, 2]))
+        self.dense = r.random() < 0.2
         self.places = places + pointers * 3
         self.image = bytearray(WRITTEN)
         self.earlier = []
@@ -232,8 +238,17 @@ class TraceDrawing:
         for _ in range(self.r.choice([3, 8, 20])):
             self.write_one()
 
+    def count_frame(self):
+        for number, at in enumerate(self.counters):
+            if number == 0 or self.r.random() < 0.1:
+                self.write(at, [(self.image[at] + 1) % self.r.choice([256, 256, 8])])
+        if self.dense:
+            for _ in range(self.r.choice([1, 2, 6])):
+                self.write_one()
+
     def frames(self, count, shown):
         for _ in range(count):
+            self.count_frame()
             self.records.append(b"F")
             if self.r.random() < shown:
                 self.records.append(b"P")

@@ -2,6 +2,7 @@ pub mod Counts
 pub mod DisplayRows
 pub mod KeptLines
 pub mod LineAt
+pub mod LineReads
 pub mod LineSteps
 pub mod LinesRest
 pub mod NewLines

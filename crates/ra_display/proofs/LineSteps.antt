@@ -15,7 +15,9 @@ use Rattle.ra_schedule.specs.Before.{kept_before}
 use Rattle.ra_schedule.specs.Inputs.{Instant, MemberSeesSame}
 use Rattle.ra_schedule.specs.Schedules.{Begins, ScheduleSeen, frames_since, next_count, owed_at, since_at}
 use Rattle.ra_schedule.specs.Waking.{AreChanged, IsSomeFrame}
-use Rattle.ra_schedule.proofs.MembersRest.Frames.{AreUnderWay, IsAlong, IsDone, Place, Took, along_begins, along_on, done_now, place_of, still_owed, still_there, told_by_rows, took_frame, under_way_on}
+use Rattle.ra_schedule.proofs.MembersRest.Frames.{AreUnderWay, IsAlong, IsDone, Place, Took, along_begins, along_on, done_now, heard_after, place_of, still_owed, still_there, took_frame, under_way_on}
+use Rattle.ra_schedule.proofs.MembersRest.Woken.{told_by_rows}
+use Rattle.ra_truths.specs.Truths.{TruthsSeen}
 use Rattle.ra_schedule.proofs.MembersRest.SeenAll.{all_steps, seen_at, seen_many}
 use Rattle.ra_schedule.proofs.MembersRest.Turns.{element, taken_begins}
 use Rattle.ra_display.specs.declared.line_rests.LineRests.{LineRests}
@@ -95,7 +97,7 @@ line_done table frame line next old s rests room steps keeps =
     ))
 
 module _ (table : TableSeen) (frame : IsSomeFrame table) (lines : List LineContents) (olds : List Member) (before : LineRests) (start : ScheduleSeen) (values : List ℕ)
-    (were : AreLineRests table.nodes values lines olds before) (were_runs : AreLineRuns table.nodes lines olds) (begun : Begins table.changed before.schedule start) where
+    (were : AreLineRests table.nodes values lines olds before) (were_runs : AreLineRuns table.nodes lines olds) (begun : Begins table before.schedule start) where
   abbrev Far : List Member → LineRests → ℕ → Type 0
   Far runs rests at = AreLinesFar table lines olds before start runs rests at
 
@@ -187,10 +189,10 @@ module _ (table : TableSeen) (frame : IsSomeFrame table) (lines : List LineConte
     module _ (changed : AreChanged table values) (none : NoneSet rests.schedule.readers.due at (length rests.schedule.readers.due)) where
       known : (k : ℕ) → k < length lines → (line : LineContents) (m : Member) (b : Before) → LineTook table lines line olds before m b k (place_of LineSpot rests.schedule (spots runs rests m b) k)
       known k within line m b =
-          took_frame table values changed (length lines) before.schedule start were.rows begun LineSpot MemberKept spot_seen (λ k. SpotSteps table (get_or lines k line)) (λ k. SpotOn table (get_or lines k line)) (spots olds before m b)
+          took_frame table values changed (length lines) before.schedule start were.heard begun LineSpot MemberKept spot_seen (λ k. SpotSteps table (get_or lines k line)) (λ k. SpotOn table (get_or lines k line)) (spots olds before m b)
           _ were.at_rest
-          (λ k within was quiet n. (skipped table values (get_or lines k line) (get_or before.each.items k b) (get_or olds k m) _ (was line b m) before.schedule.readers k (were.told_of k within line) quiet n, were.room k within line b))
-          (λ k within was quiet. still_on table values (get_or lines k line) (get_or before.each.items k b) (get_or olds k m) _ (was line b m) before.schedule.readers k (were.told_of k within line) quiet frame)
+          (λ k within was quiet n. (skipped table values (get_or lines k line) (get_or before.each.items k b) (get_or olds k m) _ (was line b m) before.schedule.truths.comparisons before.schedule.readers k (were.told_of k within line) quiet n, were.room k within line b))
+          (λ k within was quiet. still_on table values (get_or lines k line) (get_or before.each.items k b) (get_or olds k m) _ (was line b m) before.schedule.truths.comparisons before.schedule.readers k (were.told_of k within line) quiet frame)
           rests.schedule (spots runs rests m b) at far.along (far.under_way line m b) none k within
 
       a_run : (k : ℕ) → k < length lines → Member
@@ -209,9 +211,10 @@ module _ (table : TableSeen) (frame : IsSomeFrame table) (lines : List LineConte
       rests_after = record {
         many = far.each_many;
         holds = far.holds_many;
-        rows = ap length (far.along.rows ∙ begun.woken.rows) ∙ were.rows;
+        heard = heard_after table values before.schedule start lines_after.schedule were.heard begun far.along.truths;
         told_of = λ k within line.
-            told_by_rows (λ (now later : Instant). MemberSeesSame now later (line_member (get_or lines k line))) table.nodes before.schedule.readers rests.schedule.readers k (far.along.rows ∙ begun.woken.rows) (were.told_of k within line);
+            told_by_rows (λ (now later : Instant). MemberSeesSame now later (line_member (get_or lines k line))) table.nodes before.schedule lines_after.schedule k (far.along.rows ∙ begun.woken.rows)
+            (ap (λ (t : TruthsSeen). t.comparisons) far.along.truths ∙ begun.truths.comparisons) (were.told_of k within line);
         room = λ k within line b. (known k within line (a_run k within) b).steps.1;
         at_rest = record {
           due_many = due_many;
@@ -219,6 +222,7 @@ module _ (table : TableSeen) (frame : IsSomeFrame table) (lines : List LineConte
           early = λ k within.
               subst (λ n. IfSome (slice_index_or rests.schedule.since k None) (λ since. since ≤ n)) next_is (known k within (element lines k within) (a_run k within) (a_before k within)).early;
           rests = λ k within quiet. (known k within (element lines k within) (a_run k within) (a_before k within)).rests quiet;
+          known = λ k within quiet. ap (λ (t : TruthsSeen). t.known) far.along.truths ∙ begun.truths.known;
           on = λ k within quiet line b run. (known k within line run b).on quiet;
         };
       }

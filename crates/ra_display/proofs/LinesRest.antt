@@ -1,9 +1,10 @@
 -- A line that rested at a frame goes on to rest while it sees the same.
-use Rattle.std.proofs.Common.{true, ◌≡◌, ℕ, ◌+◌, Bool, Option, None, Some, List, [], ◌∷◌, slice_index, refl, sym, ◌∙◌, ap, subst}
+use Rattle.std.proofs.Common.{true, ◌≡◌, ℕ, ◌+◌, Bool, Option, None, Some, List, [], ◌∷◌, length, refl, sym, ◌∙◌, ap, subst}
 use Rattle.ra_memory.specs.Image.{History}
 use Rattle.ra_memref.specs.Table.{TableSeen}
 use Rattle.ra_memref.specs.Values.{Start}
-use Rattle.ra_schedule.specs.Readers.{ReadersSeen, Reads}
+use Rattle.ra_truths.specs.declared.comparison.Comparison.{Comparison}
+use Rattle.ra_schedule.specs.Readers.{ReadersSeen}
 use Rattle.ra_richpresence.specs.Contents.{LineContents}
 use Rattle.ra_member.specs.declared.member.Member.{Member}
 use Rattle.ra_member.specs.Members.{MemberContents, MemberKept, member_next, tests_hold, tests_next, values_next}
@@ -12,7 +13,7 @@ use Rattle.ra_schedule.specs.declared.before.Before.{Before}
 use Rattle.ra_schedule.specs.Before.{kept_before}
 use Rattle.ra_schedule.specs.Inputs.{MemberSeesSame}
 use Rattle.ra_schedule.specs.Owing.{AreHitsSmall, owed_member}
-use Rattle.ra_schedule.specs.Waking.{AreValuesAt, IsMemberTold, IsSomeFrame, first_frame}
+use Rattle.ra_schedule.specs.Waking.{Agrees, AreValuesAt, IsMemberTold, IsSomeFrame, first_frame}
 use Rattle.ra_schedule.specs.Schedules.{as_hits_tell}
 use Rattle.ra_schedule.proofs.MembersRest.AtMost.{member_at_most}
 use Rattle.ra_schedule.proofs.MembersRest.GoesOn.{tests_go_on, tests_say_on, values_go_on, tests_owe_nothing, values_owe_nothing}
@@ -85,10 +86,10 @@ module _ (table : TableSeen) (line : LineContents) (seen : MemberKept) (rests : 
     truth = λ start' image' same n. holds_later start' image' same n;
   }
 
--- a line that goes on to rest by earlier values, where each node that it reads has the same value still
+-- a line that goes on to rest by earlier values, where it reads the same still
 module _ (table : TableSeen) (values : List ℕ) (line : LineContents) (b : Before) (run : Member) (holds : Bool) (on : LineGoesOn table.nodes values line b run holds)
-    (readers : ReadersSeen) (reader : ℕ) (told : IsMemberTold table.nodes readers (line_member line) reader)
-    (same : (n : ℕ) → Reads readers n reader → slice_index table.values n ≡ slice_index values n) where
+    (comparisons : List Comparison) (readers : ReadersSeen) (reader : ℕ) (told : IsMemberTold table.nodes comparisons readers (line_member line) reader)
+    (same : Agrees (length table.nodes) comparisons readers reader values table.values) where
   sees : (start : Start) (image : List ℕ) → AreValuesAt table.nodes table.values (first_frame start image) → MemberSeesSame on.now (first_frame start image) (line_member line)
   sees start image has = told values table.values on.now (first_frame start image) on.at has same
 

@@ -15,8 +15,8 @@ use Rattle.ra_schedule.specs.declared.before.Before.{Before}
 use Rattle.ra_schedule.specs.Before.{HaveOneShape, kept_before}
 use Rattle.ra_schedule.specs.Inputs.{Instant, MemberSeesSame}
 use Rattle.ra_schedule.specs.Owing.{AreHitsSmall, TestsKeep, ValuesKeep, owed_member}
-use Rattle.ra_schedule.specs.Reads.{reads_of_member}
-use Rattle.ra_schedule.specs.Schedules.{AllSteps, AreAtRest, noted_at, owed_at, seen_all}
+use Rattle.ra_schedule.specs.Signals.{SignalsSeen}
+use Rattle.ra_schedule.specs.Schedules.{AllSteps, AreAtRest, IsHeard, noted_at, owed_at, seen_all}
 use Rattle.ra_schedule.specs.Waking.{AreChanged, AreValuesAt, IsMemberTold, first_frame}
 use Rattle.ra_display.specs.declared.line_rests.LineRests.{LineRests}
 use Rattle.ra_display.specs.declared.presence_run.PresenceRun.{PresenceRun}
@@ -45,10 +45,6 @@ presence_seen run rests = kept_display (display_seen run rests)
 abbrev pub optional_presence_seen : Option PresenceRun → LineRests → Option KeptPresence
 optional_presence_seen run rests = option_map (λ r. presence_seen r rests) run
 
--- the nodes that the line at a place reads
-abbrev pub reads_at : List Member → Member → ℕ → List ℕ
-reads_at runs run place = reads_of_member (get_or runs place run)
-
 -- a line keeps all but free hits at a frame
 pub record LineKeeps (line : LineContents) (old new : MemberKept) : Type 0 where
   pub tests : TestsKeep (tests_in line.test) old.tests new.tests
@@ -67,12 +63,16 @@ pub record LineGoesOn (nodes : List Node) (values : List ℕ) (line : LineConten
 abbrev pub HasLineRoom : LineContents → Before → Type 0
 HasLineRoom line b = HasShape (line_member line) (kept_before b)
 
+-- the reader at a place is told of all that the line at it sees
+abbrev pub AreLinesTold : List Node → List LineContents → SignalsSeen → ℕ → Type 0
+AreLinesTold nodes lines s k = (line : LineContents) → IsMemberTold nodes s.comparisons s.readers (line_member (get_or lines k line)) k
+
 -- beside each line: it is told of what the line sees, and there is room for what the line keeps; where it is not due, it goes on to rest by these values
 pub record AreLineRests (nodes : List Node) (values : List ℕ) (lines : List LineContents) (runs : List Member) (rests : LineRests) : Type 0 where
   pub many : length rests.each.items ≡ length lines
   pub holds : length rests.holds ≡ length lines
-  pub rows : length rests.schedule.readers.rows ≡ length nodes
-  pub told_of : (k : ℕ) → k < length lines → (line : LineContents) → IsMemberTold nodes rests.schedule.readers (line_member (get_or lines k line)) k
+  pub heard : IsHeard nodes values rests.schedule
+  pub told_of : (k : ℕ) → k < length lines → (line : LineContents) → IsMemberTold nodes rests.schedule.truths.comparisons rests.schedule.readers (line_member (get_or lines k line)) k
   pub room : (k : ℕ) → k < length lines → (line : LineContents) (b : Before) → HasLineRoom (get_or lines k line) (get_or rests.each.items k b)
   pub at_rest : AreAtRest
       (λ k. (line : LineContents) (b : Before) (run : Member) → LineGoesOn nodes values (get_or lines k line) (get_or rests.each.items k b) (get_or runs k run) (slice_index_or rests.holds k true))

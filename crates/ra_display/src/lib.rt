@@ -3,6 +3,7 @@
 
 mod counted;
 mod line_keeps;
+mod line_reads;
 mod line_rests;
 mod line_run;
 mod presence_run;

@@ -1,23 +1,25 @@
 //! The lines of a display, of which those that rest are not stepped: docs/DEFINITIONS.md, "Lines at rest".
 
-ghost use Rattle.std.specs.Prelude.{◌≡◌, ◌<◌, ◌^◌, ℕ, true, None, List, length, map, replicate, slice_index_or, IfOk};
+ghost use Rattle.std.specs.Prelude.{◌≡◌, ◌≤◌, ◌<◌, ◌^◌, ℕ, true, None, List, length, map, replicate, slice_index_or, IfOk};
 ghost use Rattle.ra_indirect.specs.declared.node.Node.{Node};
 ghost use Rattle.ra_richpresence.specs.Contents.{LineContents, line_contents};
 ghost use Rattle.ra_member.specs.MemberRuns.{StaysMember, kept_by};
 ghost use Rattle.ra_schedule.specs.Before.{HaveOneShape, kept_before};
 ghost use Rattle.ra_member.specs.declared.member.Member.{Member};
-ghost use Rattle.ra_schedule.specs.Schedules.{AreReaders, as_hits_tell, owed_at};
+ghost use Rattle.ra_schedule.specs.Schedules.{as_hits_tell, owed_at};
+ghost use Rattle.ra_schedule.specs.Signals.{AreSignals};
 ghost use Rattle.ra_schedule.specs.Waking.{IsSomeFrame};
 ghost use Rattle.ra_meaning.specs.Presence.{first_true};
 ghost use Rattle.ra_display.specs.PresenceRuns.{AreLineRuns, IsLineRun};
-ghost use Rattle.ra_display.specs.LineRests.{AreLineRests, AreLinesSeen, HasLinePlace, HasLineRoom, IsLineSteppedAt, LineKeeps, StepsNoted, WereLineRests, reads_at, seen_line, seen_lines};
+ghost use Rattle.ra_display.specs.LineRests.{AreLineRests, AreLinesSeen, AreLinesTold, HasLinePlace, HasLineRoom, IsLineSteppedAt, LineKeeps, StepsNoted, WereLineRests, seen_line, seen_lines};
 
 use crate::line_keeps::line_keeps;
+use crate::line_reads::note_line;
 use crate::line_run::step_line;
 use ra_member::Member;
 use ra_memref::{Flags, Table};
 use ra_richpresence::Line;
-use ra_schedule::{Before, Readers, Schedule, note_member, pay_member};
+use ra_schedule::{Before, Schedule, Signals, pay_member};
 use ra_text::OutOfMemory;
 use std::alloc::Global;
 
@@ -48,12 +50,13 @@ impl LineRests {
     ) -> Result<LineRests, OutOfMemory>
         requires runs { AreLineRuns table.now.nodes (map line_contents lines.now) runs.now }
         requires nodes { length table.now.nodes ≡ nodes }
+        requires few_nodes { nodes ≤ 2 ^ 30 }
         requires few { length lines.now < 2 ^ 32 }
         ensures rests { IfOk result (λ rests. (values : List ℕ) → AreLineRests table.now.nodes values (map line_contents lines.now) runs.now rests) }
         ensures kept { IfOk result (λ rests. seen_lines runs.now rests ≡ map kept_by runs.now) }
     {
-        let readers = readers_of(alloc, runs, lines, table, nodes)?;
-        let schedule = Schedule::new(alloc, readers, lines.len())?;
+        let signals = signals_of(alloc, runs, lines, table, nodes)?;
+        let schedule = Schedule::new(alloc, signals, lines.len())?;
         let each = befores_of(alloc, runs)?;
         let holds = Flags::new(alloc, lines.len())?;
         Ok(LineRests {
@@ -65,8 +68,8 @@ impl LineRests {
 
     // Nothing beside no lines. Memory is the only refusal.
     pub(crate) fn none(alloc: Global) -> Result<LineRests, OutOfMemory> {
-        let readers = Readers::new(alloc, 0, 0)?;
-        let schedule = Schedule::new(alloc, readers, 0)?;
+        let signals = Signals::new(alloc, 0, 0)?;
+        let schedule = Schedule::new(alloc, signals, 0)?;
         let holds = Flags::new(alloc, 0)?;
         Ok(LineRests {
             each: Vec::new(alloc),
@@ -75,7 +78,7 @@ impl LineRests {
         })
     }
 
-    // Steps each line that is due or reads a node that changed, by the frame of the table's last sample.
+    // Steps each line that is due or reads what changed, by the frame of the table's last sample.
     pub(crate) fn step(&mut self, runs: &mut [Member], lines: &[Line], table: &Table)
         requires runs { AreLineRuns table.now.nodes (map line_contents lines.now) runs.old }
         requires rests { WereLineRests table.now (map line_contents lines.now) runs.old self.old }
@@ -86,7 +89,7 @@ impl LineRests {
         ensures rests { AreLineRests table.now.nodes table.now.values (map line_contents lines.now) runs.new self.new }
         ensures stepped { AreLinesSeen table.now (map line_contents lines.now) (seen_lines runs.old self.old) (seen_lines runs.new self.new) self.new.holds }
     {
-        self.schedule.begin(table.changed());
+        self.schedule.begin(table);
         let mut at = 0;
         while let Some(place) = self.schedule.next_due(at) {
             self.step_at(runs, lines, table, place);
@@ -140,24 +143,26 @@ impl LineRests {
     }
 }
 
-// Who of the lines reads which node, and all are due. Memory is the only refusal.
-fn readers_of(
+// What each of the lines reads, and all are due. Memory is the only refusal.
+fn signals_of(
     alloc: Global,
     runs: &[Member],
     lines: &[Line],
     table: &Table,
     nodes: usize,
-) -> Result<Readers, OutOfMemory>
+) -> Result<Signals, OutOfMemory>
     requires runs { AreLineRuns table.now.nodes (map line_contents lines.now) runs.now }
     requires nodes { length table.now.nodes ≡ nodes }
+    requires few_nodes { nodes ≤ 2 ^ 30 }
     requires few { length lines.now < 2 ^ 32 }
-    ensures { IfOk result (λ readers. AreReaders Member (reads_at runs.now) nodes (length lines.now) readers (length lines.now)) }
+    ensures { IfOk result (λ signals. AreSignals table.now.nodes
+        (AreLinesTold table.now.nodes (map line_contents lines.now)) (length lines.now) signals (length lines.now)) }
 {
-    let mut readers = Readers::new(alloc, nodes, lines.len())?;
-    for (place, run) in runs.iter().enumerate() {
-        note_member(&mut readers, run, place as u32)?;
+    let mut signals = Signals::new(alloc, nodes as u32, lines.len())?;
+    for (place, line) in lines.iter().enumerate() {
+        note_line(&mut signals, line, &runs[place], table, place as u32)?;
     }
-    Ok(readers)
+    Ok(signals)
 }
 
 // What each line keeps now, in rooms of its own. Memory is the only refusal.

@@ -76,6 +76,7 @@ pub fn rest_lines(
     requires spelled { OptionalScript (option_map script_contents script.now) }
     requires run { IsOptionalPresence table.now.nodes (option_map script_contents script.now) run.now }
     requires nodes { length table.now.nodes ≡ nodes }
+    requires few_nodes { nodes ≤ 2 ^ 30 }
     ensures rests { IfOk result (λ rests. (values : List ℕ) → AreOptionalRests table.now.nodes values (option_map script_contents script.now) run.now rests) }
     ensures kept { IfOk result (λ rests. optional_presence_seen run.now rests ≡ optional_presence_kept run.now) }
 {

@@ -151,7 +151,7 @@ module _ (nodes : List Node) (values : List ℕ) where
   pub earned_rests : (items : List ItemContents) (earned : Earned) (runs : List ItemRun) (rests : Rests) → AreItemRuns nodes items runs → AreRests nodes values items runs rests → AreRests nodes values items (earned_runs earned runs) rests
   earned_rests items earned runs rests are they = record {
     many = they.many;
-    rows = they.rows;
+    heard = they.heard;
     room = they.room;
     few = they.few;
     told_of = they.told_of;
@@ -161,6 +161,7 @@ module _ (nodes : List Node) (values : List ℕ) where
       since_many = they.at_rest.since_many;
       early = they.at_rest.early;
       rests = they.at_rest.rests;
+      known = they.at_rest.known;
       on = λ k within free item b run.
           on_at (get_or items k item) (get_or rests.each.items k b) earned runs k run (omega (arith, within, length_runs nodes items runs are))
           (run_at nodes items runs are k item run within) (they.rooms k within item b) (they.at_rest.on k within free item b run);

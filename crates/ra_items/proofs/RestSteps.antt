@@ -9,7 +9,9 @@ use Rattle.ra_memref.specs.Table.{TableSeen}
 use Rattle.ra_schedule.specs.Inputs.{Instant}
 use Rattle.ra_schedule.specs.Schedules.{Begins, ScheduleSeen, frames_since, is_due, next_count, owed_at, since_at}
 use Rattle.ra_schedule.specs.Waking.{AreChanged}
-use Rattle.ra_schedule.proofs.MembersRest.Frames.{AreUnderWay, IsAlong, IsDone, Place, Took, along_begins, along_on, done_now, place_of, still_owed, still_there, told_by_rows, took_frame, under_way_on}
+use Rattle.ra_schedule.proofs.MembersRest.Frames.{AreUnderWay, IsAlong, IsDone, Place, Took, along_begins, along_on, done_now, heard_after, place_of, still_owed, still_there, took_frame, under_way_on}
+use Rattle.ra_schedule.proofs.MembersRest.Woken.{told_by_rows}
+use Rattle.ra_truths.specs.Truths.{TruthsSeen}
 use Rattle.ra_schedule.proofs.MembersRest.SeenAll.{all_steps, seen_at, seen_many}
 use Rattle.ra_schedule.proofs.MembersRest.Turns.{element, taken_begins}
 use Rattle.ra_set.specs.Contents.{ItemContents}
@@ -161,7 +163,7 @@ module _ (table : TableSeen) (items : List ItemContents) (runs : List ItemRun) (
           ∙ ap (λ b. events_of items runs (due_below due k ++ (if b then k ∷ [] else []))) (sym is)
 
 module _ (table : TableSeen) (frame : IsSomeFrame table) (items : List ItemContents) (olds : List ItemRun) (before : Rests) (start : ScheduleSeen) (values : List ℕ)
-    (were : AreRests table.nodes values items olds before) (were_runs : AreItemRuns table.nodes items olds) (begun : Begins table.changed before.schedule start) where
+    (were : AreRests table.nodes values items olds before) (were_runs : AreItemRuns table.nodes items olds) (begun : Begins table before.schedule start) where
   abbrev Far : List ItemRun → Rests → ℕ → Type 0
   Far runs rests at = IsFar table items olds before start runs rests at
 
@@ -266,10 +268,10 @@ module _ (table : TableSeen) (frame : IsSomeFrame table) (items : List ItemConte
     module _ (changed : AreChanged table values) (none : NoneSet rests.schedule.readers.due at (length rests.schedule.readers.due)) where
       known : (k : ℕ) → k < length items → (item : ItemContents) (r : ItemRun) (b : ItemBefore) → ItemTook table items item olds before r b k (place_of ItemSpot rests.schedule (spots runs rests r b) k)
       known k within item r b =
-          took_frame table values changed (length items) before.schedule start were.rows begun ItemSpot KeptItem spot_seen (λ k. SpotSteps table (get_or items k item)) (λ k. SpotOn table (get_or items k item)) (spots olds before r b)
+          took_frame table values changed (length items) before.schedule start were.heard begun ItemSpot KeptItem spot_seen (λ k. SpotSteps table (get_or items k item)) (λ k. SpotOn table (get_or items k item)) (spots olds before r b)
           _ were.at_rest
-          (λ k within was quiet n. (skipped table values (get_or items k item) (get_or before.each.items k b) (get_or olds k r) (was item b r) before.schedule.readers k (were.told_of k within item) quiet n, were.rooms k within item b))
-          (λ k within was quiet. still_on table values (get_or items k item) (get_or before.each.items k b) (get_or olds k r) (was item b r) before.schedule.readers k (were.told_of k within item) quiet frame)
+          (λ k within was quiet n. (skipped table values (get_or items k item) (get_or before.each.items k b) (get_or olds k r) (was item b r) before.schedule.truths.comparisons before.schedule.readers k (were.told_of k within item) quiet n, were.rooms k within item b))
+          (λ k within was quiet. still_on table values (get_or items k item) (get_or before.each.items k b) (get_or olds k r) (was item b r) before.schedule.truths.comparisons before.schedule.readers k (were.told_of k within item) quiet frame)
           rests.schedule (spots runs rests r b) at far.along (far.under_way item r b) none k within
 
       a_run : (k : ℕ) → k < length items → ItemRun
@@ -287,11 +289,12 @@ module _ (table : TableSeen) (frame : IsSomeFrame table) (items : List ItemConte
       pub rests_after : AreRests table.nodes table.values items runs items_after
       rests_after = record {
         many = far.each_many;
-        rows = ap length (far.along.rows ∙ begun.woken.rows) ∙ were.rows;
+        heard = heard_after table values before.schedule start items_after.schedule were.heard begun far.along.truths;
         room = far.room;
         few = omega (arith, far.count, far.within);
         told_of = λ k within item.
-            told_by_rows (λ (now later : Instant). ItemSeesSame now later (get_or items k item)) table.nodes before.schedule.readers rests.schedule.readers k (far.along.rows ∙ begun.woken.rows) (were.told_of k within item);
+            told_by_rows (λ (now later : Instant). ItemSeesSame now later (get_or items k item)) table.nodes before.schedule items_after.schedule k (far.along.rows ∙ begun.woken.rows)
+            (ap (λ (t : TruthsSeen). t.comparisons) far.along.truths ∙ begun.truths.comparisons) (were.told_of k within item);
         rooms = λ k within item b. (known k within item (a_run k within) b).steps.1;
         at_rest = record {
           due_many = due_many;
@@ -299,6 +302,7 @@ module _ (table : TableSeen) (frame : IsSomeFrame table) (items : List ItemConte
           early = λ k within.
               subst (λ n. IfSome (slice_index_or rests.schedule.since k None) (λ since. since ≤ n)) next_is (known k within (element items k within) (a_run k within) (a_before k within)).early;
           rests = λ k within quiet. (known k within (element items k within) (a_run k within) (a_before k within)).rests quiet;
+          known = λ k within quiet. ap (λ (t : TruthsSeen). t.known) far.along.truths ∙ begun.truths.known;
           on = λ k within quiet item b run. (known k within item run b).on quiet;
         };
       }

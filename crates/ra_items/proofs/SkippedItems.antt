@@ -1,8 +1,10 @@
 -- An item that is not due keeps what it owes, and is seen to take the frame.
-use Rattle.std.proofs.Common.{◌≡◌, ℕ, ◌+◌, Bool, true, false, List, [], slice_index, refl, sym, ◌∙◌}
+use Rattle.std.proofs.Common.{◌≡◌, ℕ, ◌+◌, Bool, true, false, List, [], length, refl, sym, ◌∙◌}
 use Rattle.ra_memref.specs.Table.{TableSeen}
 use Rattle.ra_memref.specs.Values.{Start}
-use Rattle.ra_schedule.specs.Readers.{ReadersSeen, Reads}
+use Rattle.ra_truths.specs.declared.comparison.Comparison.{Comparison}
+use Rattle.ra_schedule.specs.Readers.{ReadersSeen}
+use Rattle.ra_schedule.specs.Waking.{Agrees}
 use Rattle.ra_set.specs.Contents.{ItemContents, Unlocks, Ranks}
 use Rattle.ra_schedule.proofs.MembersRest.Woken.{member_through, through}
 use Rattle.ra_group.specs.declared.form.Form.TheVariants.{InTrigger}
@@ -23,10 +25,10 @@ module _ (one two three : Instant) where
   item_through (Ranks id format b) first second =
       member_through one two three (board_member b) first second
 
--- an item that goes on to rest by earlier values, where each node that it reads has the same value still
+-- an item that goes on to rest by earlier values, where it reads the same still
 module _ (table : TableSeen) (values : List ℕ) (item : ItemContents) (b : ItemBefore) (run : ItemRun) (on : GoesOn table.nodes values item b run)
-    (readers : ReadersSeen) (reader : ℕ) (told : IsToldOf table.nodes readers item reader)
-    (same : (n : ℕ) → Reads readers n reader → slice_index table.values n ≡ slice_index values n) where
+    (comparisons : List Comparison) (readers : ReadersSeen) (reader : ℕ) (told : IsToldOf table.nodes comparisons readers item reader)
+    (same : Agrees (length table.nodes) comparisons readers reader values table.values) where
   sees : (start : Start) (image : List ℕ) → AreValuesAt table.nodes table.values (first_frame start image) → ItemSeesSame on.now (first_frame start image) item
   sees start image has = told values table.values on.now (first_frame start image) on.at has same
 

@@ -1,5 +1,5 @@
 -- What items kept before a frame, what they owe while they rest, and when they do: docs/DEFINITIONS.md, "Items at rest".
-use Rattle.std.specs.Prelude.{◌≡◌, ℕ, ◌+◌, Bool, true, Option, None, Some, List, [], ◌∷◌, length, get_or}
+use Rattle.std.specs.Prelude.{◌≡◌, ℕ, ◌+◌, Bool, true, Option, None, Some, List, [], ◌∷◌, length}
 use Rattle.ra_condition.specs.Contents.{TriggerContents, groups_of, trigger_hits}
 use Rattle.ra_group.specs.declared.form.Form.TheVariants.{InTrigger}
 use Rattle.ra_indirect.specs.declared.node.Node.{Node}
@@ -17,7 +17,7 @@ use Rattle.ra_member.specs.Runs.{HasValues}
 use Rattle.ra_member.specs.MemberRuns.{kept_by}
 use Rattle.ra_schedule.specs.Before.{HaveOneShape, kept_before}
 use Rattle.ra_schedule.specs.Inputs.{Instant, SeeSame, MemberSeesSame}
-use Rattle.ra_schedule.specs.Reads.{reads_of_laid, reads_of_member}
+use Rattle.ra_truths.specs.declared.comparison.Comparison.{Comparison}
 use Rattle.ra_schedule.specs.Owing.{AreHitsSmall, AreSmall, TestsKeep, ValuesKeep, owed_member}
 use Rattle.ra_schedule.specs.Readers.{ReadersSeen}
 use Rattle.ra_schedule.specs.Waking.{IsTold}
@@ -97,8 +97,8 @@ ItemSeesSame now later (Unlocks id t) = SeeSame InTrigger now later (groups_of t
 ItemSeesSame now later (Ranks id format b) = MemberSeesSame now later (board_member b)
 
 -- a reader is told of all that an item sees
-abbrev pub IsToldOf : List Node → ReadersSeen → ItemContents → (reader : ℕ) → Type 0
-IsToldOf nodes readers item reader = IsTold (λ now later. ItemSeesSame now later item) nodes readers reader
+abbrev pub IsToldOf : List Node → List Comparison → ReadersSeen → ItemContents → (reader : ℕ) → Type 0
+IsToldOf nodes comparisons readers item reader = IsTold (λ now later. ItemSeesSame now later item) nodes comparisons readers reader
 
 -- While an item sees what it sees at these values, each frame more adds to what it owes, and it tells nothing.
 pub record GoesOn (nodes : List Node) (values : List ℕ) (item : ItemContents) (b : ItemBefore) (run : ItemRun) : Type 0 where
@@ -129,15 +129,6 @@ pub record StepsSeen (table : TableSeen) (item : ItemContents) (old new : KeptIt
   pub kept : (start : Start) (image : List ℕ) → HasValues table start (image ∷ []) → new ≡ item_after start (image ∷ []) (item, old)
   pub events : (start : Start) (image : List ℕ) → HasValues table start (image ∷ []) → told ≡ unless_earned (item_events start image []) (is_earned old, (item, old))
 
--- the nodes that an item reads
-abbrev pub reads_of_run : ItemRun → List ℕ
-reads_of_run (Achievement run) = reads_of_laid run.run.laid
-reads_of_run (Leaderboard run) = reads_of_member run.member
-
 -- an item is one with its plans where the old one was
 abbrev pub StaysItem : (old new : ItemRun) → Type 0
 StaysItem old new = (nodes : List Node) (item : ItemContents) → IsItemRun nodes item old → IsItemRun nodes item new
-
--- the nodes that the item at a place reads
-abbrev pub reads_at : List ItemRun → ItemRun → ℕ → List ℕ
-reads_at runs run place = reads_of_run (get_or runs place run)

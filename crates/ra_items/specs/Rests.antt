@@ -3,7 +3,8 @@ use Rattle.std.specs.Prelude.{◌≡◌, ℕ, zero, suc, ◌<◌, ◌≤◌, Boo
 use Rattle.std.specs.List.{flat_map}
 use Rattle.ra_indirect.specs.declared.node.Node.{Node}
 use Rattle.ra_memref.specs.Table.{TableSeen}
-use Rattle.ra_schedule.specs.Schedules.{AllSteps, AreAtRest, noted_at, owed_at, seen_all}
+use Rattle.ra_schedule.specs.Schedules.{AllSteps, AreAtRest, IsHeard, noted_at, owed_at, seen_all}
+use Rattle.ra_schedule.specs.Signals.{SignalsSeen}
 use Rattle.ra_schedule.specs.Waking.{AreChanged}
 use Rattle.ra_set.specs.Contents.{ItemContents}
 use Rattle.ra_progress.specs.Contents.{KeptItem}
@@ -30,13 +31,17 @@ events_at items runs place = maybe_events (slice_get items place) (slice_get run
 abbrev pub events_of : List ItemContents → List ItemRun → List ℕ → List Event
 events_of items runs places = flat_map (events_at items runs) places
 
+-- the reader at a place is told of all that the item at it sees
+abbrev pub AreItemsTold : List Node → List ItemContents → SignalsSeen → ℕ → Type 0
+AreItemsTold nodes items s k = (item : ItemContents) → IsToldOf nodes s.comparisons s.readers (get_or items k item) k
+
 -- beside each item: it is told of what the item sees, and there is room for what the item keeps; where it is not due, it goes on to rest by these values
 pub record AreRests (nodes : List Node) (values : List ℕ) (items : List ItemContents) (runs : List ItemRun) (rests : Rests) : Type 0 where
   pub many : length rests.each.items ≡ length items
-  pub rows : length rests.schedule.readers.rows ≡ length nodes
+  pub heard : IsHeard nodes values rests.schedule
   pub room : length rests.stepped.items ≡ length items
   pub few : rests.count ≤ length items
-  pub told_of : (k : ℕ) → k < length items → (item : ItemContents) → IsToldOf nodes rests.schedule.readers (get_or items k item) k
+  pub told_of : (k : ℕ) → k < length items → (item : ItemContents) → IsToldOf nodes rests.schedule.truths.comparisons rests.schedule.readers (get_or items k item) k
   pub rooms : (k : ℕ) → k < length items → (item : ItemContents) (b : ItemBefore) → HasRoom (get_or items k item) (get_or rests.each.items k b)
   pub at_rest : AreAtRest (λ k. (item : ItemContents) (b : ItemBefore) (run : ItemRun) → GoesOn nodes values (get_or items k item) (get_or rests.each.items k b) (get_or runs k run))
       (length items) rests.schedule

@@ -1,18 +1,19 @@
 //! What an item kept before a frame, and whether it rests: docs/DEFINITIONS.md, "Items at rest".
 
-ghost use Rattle.std.specs.Prelude.{◌≡◌, ◌<◌, ℕ, true, length, slice_index, IfOk};
-ghost use Rattle.std.specs.Result.{OnOk};
-ghost use Rattle.ra_schedule.specs.Reads.{IsAllRead};
+ghost use Rattle.std.specs.Prelude.{◌≡◌, ◌<◌, true, length, IfOk, OnOk};
+ghost use Rattle.ra_schedule.specs.Inputs.{TestsSeeSame, ValuesSeeSame};
+ghost use Rattle.ra_schedule.specs.Signals.{KeepsAll};
+ghost use Rattle.ra_schedule.specs.Waking.{IsMemberTold, IsTold};
 ghost use Rattle.ra_condition.specs.Contents.{trigger_contents, trigger_hits};
 ghost use Rattle.ra_set.specs.Contents.{item_contents};
 ghost use Rattle.ra_leaderboard.specs.Contents.{board_contents};
 ghost use Rattle.ra_member.specs.Members.{HasShape};
-ghost use Rattle.ra_member.specs.MemberRuns.{kept_by};
+ghost use Rattle.ra_member.specs.MemberRuns.{IsMember, kept_by};
 ghost use Rattle.ra_schedule.specs.Before.{HaveOneShape, kept_before};
-ghost use Rattle.ra_meaning.specs.Order.{board_member};
+ghost use Rattle.ra_meaning.specs.Order.{board_member, progress_in};
 ghost use Rattle.ra_items.specs.BoardRuns.{board_kept};
 ghost use Rattle.ra_items.specs.ItemRuns.{IsItemRun, kept_run};
-ghost use Rattle.ra_items.specs.Resting.{BoardRests, FitsRun, HasRoom, IsNoted, ItemRests, StaysItem, StepsRest, TriggerRests, board_before, owed_run, reads_of_run, seen_run, trigger_before};
+ghost use Rattle.ra_items.specs.Resting.{BoardRests, FitsRun, HasRoom, IsNoted, IsToldOf, ItemRests, StaysItem, StepsRest, TriggerRests, board_before, owed_run, seen_run, trigger_before};
 ghost use Rattle.ra_schedule.specs.Owing.{AreHitsSmall, AreSmall, TestsKeep, ValuesKeep};
 ghost use Rattle.ra_items.specs.declared.item_run.ItemRun.TheVariants.{Achievement, Leaderboard};
 
@@ -24,7 +25,7 @@ use ra_leaderboard::{BoardState, BoardText};
 use ra_member::Member;
 use ra_memref::Table;
 use ra_schedule::{
-    Before, Readers, note_laid, note_member, note_row, pay, pay_member, row_of, test_keeps,
+    Before, Signals, note_row, note_trigger, note_value, pay, pay_member, row_of, test_keeps,
     value_keeps,
 };
 use ra_set::Item;
@@ -288,18 +289,89 @@ pub(crate) fn step_rest(
     looked && before.rests(item, run)
 }
 
-// Notes that a reader reads what an item reads. Memory is the only refusal.
-pub(crate) fn note_reads(
-    readers: &mut Readers,
+// Notes that a reader reads what an item needs. Memory is the only refusal.
+pub(crate) fn note_item(
+    signals: &mut Signals,
+    item: &Item,
     run: &ItemRun,
+    table: &Table,
     reader: u32,
 ) -> Result<(), OutOfMemory>
-    requires nodes { (k : ℕ) → k < length (reads_of_run run.now) → slice_index (reads_of_run run.now) k < length readers.old.rows }
-    requires reader { reader < length readers.old.due }
-    ensures { OnOk result (IsAllRead (reads_of_run run.now) reader readers.old readers.new) }
+    requires run { IsItemRun table.now.nodes (item_contents item.now) run.now }
+    requires nodes { length table.now.nodes ≡ signals.old.nodes }
+    requires reader { reader < length signals.old.readers.due }
+    ensures keeps { OnOk result (KeepsAll table.now.nodes signals.old signals.new) }
+    ensures told { OnOk result (IsToldOf table.now.nodes signals.new.comparisons signals.new.readers (item_contents item.now) reader) }
 {
-    match run {
-        ItemRun::Achievement(run) => note_laid(readers, &run.run.laid, reader),
-        ItemRun::Leaderboard(run) => note_member(readers, &run.member, reader),
+    match (item, run) {
+        (Item::Achievement { text, .. }, ItemRun::Achievement(run)) => {
+            note_trigger(signals, text, &run.run.laid, table, reader)
+        }
+        (Item::Leaderboard { text, .. }, ItemRun::Leaderboard(run)) => {
+            note_board(signals, text, &run.member, table, reader)
+        }
+        _ => unreachable!(),
     }
+}
+
+// Notes that a reader reads what a board needs. Memory is the only refusal.
+fn note_board(
+    signals: &mut Signals,
+    text: &BoardText,
+    member: &Member,
+    table: &Table,
+    reader: u32,
+) -> Result<(), OutOfMemory>
+    requires run { IsMember table.now.nodes (board_member (board_contents text.now)) member.now }
+    requires nodes { length table.now.nodes ≡ signals.old.nodes }
+    requires reader { reader < length signals.old.readers.due }
+    ensures keeps { OnOk result (KeepsAll table.now.nodes signals.old signals.new) }
+    ensures told { OnOk result (IsMemberTold table.now.nodes signals.new.comparisons signals.new.readers (board_member (board_contents text.now)) reader) }
+{
+    note_tests(signals, text, member, table, reader)?;
+    note_value(signals, &text.value, &member.values[0], table, reader)?;
+    note_progress(signals, text, member, table, reader)?;
+    Ok(())
+}
+
+// Notes that a reader reads what the progress of a board needs, where it has one. Memory is the only refusal.
+fn note_progress(
+    signals: &mut Signals,
+    text: &BoardText,
+    member: &Member,
+    table: &Table,
+    reader: u32,
+) -> Result<(), OutOfMemory>
+    requires run { IsMember table.now.nodes (board_member (board_contents text.now)) member.now }
+    requires nodes { length table.now.nodes ≡ signals.old.nodes }
+    requires reader { reader < length signals.old.readers.due }
+    ensures keeps { OnOk result (KeepsAll table.now.nodes signals.old signals.new) }
+    ensures told { OnOk result (IsTold (λ now later. ValuesSeeSame now later (progress_in (board_contents text.now).progress))
+        table.now.nodes signals.new.comparisons signals.new.readers reader) }
+{
+    match &text.progress {
+        Some(progress) => note_value(signals, progress, &member.values[1], table, reader),
+        None => Ok(()),
+    }
+}
+
+// Notes that a reader reads what the tests of a board need. Memory is the only refusal.
+fn note_tests(
+    signals: &mut Signals,
+    text: &BoardText,
+    member: &Member,
+    table: &Table,
+    reader: u32,
+) -> Result<(), OutOfMemory>
+    requires run { IsMember table.now.nodes (board_member (board_contents text.now)) member.now }
+    requires nodes { length table.now.nodes ≡ signals.old.nodes }
+    requires reader { reader < length signals.old.readers.due }
+    ensures keeps { OnOk result (KeepsAll table.now.nodes signals.old signals.new) }
+    ensures told { OnOk result (IsTold (λ now later. TestsSeeSame now later (board_member (board_contents text.now)).tests)
+        table.now.nodes signals.new.comparisons signals.new.readers reader) }
+{
+    note_trigger(signals, &text.start, &member.tests[0].laid, table, reader)?;
+    note_trigger(signals, &text.cancel, &member.tests[1].laid, table, reader)?;
+    note_trigger(signals, &text.submit, &member.tests[2].laid, table, reader)?;
+    Ok(())
 }

@@ -3,17 +3,16 @@
 ghost use Rattle.std.specs.Prelude.{◌≡◌, ◌≤◌, ◌<◌, ◌^◌, ℕ, true, List, take, length, map, slice_index_or, IfOk};
 ghost use Rattle.ra_indirect.specs.declared.node.Node.{Node};
 ghost use Rattle.ra_set.specs.Contents.{ItemContents, item_contents};
-ghost use Rattle.ra_schedule.specs.Schedules.{AreReaders};
+ghost use Rattle.ra_schedule.specs.Signals.{AreSignals};
 ghost use Rattle.ra_items.specs.declared.item_run.ItemRun.{ItemRun};
 ghost use Rattle.ra_items.specs.AllRuns.{AreItemRuns};
 ghost use Rattle.ra_items.specs.ItemRuns.{kept_run};
-ghost use Rattle.ra_items.specs.Resting.{reads_at};
-ghost use Rattle.ra_items.specs.Rests.{AreFitting, AreRests, AreTold, AreSteppedSeen, HasPlace, IsSomeFrame, IsSteppedAt, WereRests, seen_by};
+ghost use Rattle.ra_items.specs.Rests.{AreFitting, AreItemsTold, AreRests, AreTold, AreSteppedSeen, HasPlace, IsSomeFrame, IsSteppedAt, WereRests, seen_by};
 
 use crate::item_run::ItemRun;
-use crate::rest::{ItemBefore, note_reads, step_rest};
+use crate::rest::{ItemBefore, note_item, step_rest};
 use ra_memref::Table;
-use ra_schedule::{Readers, Schedule};
+use ra_schedule::{Schedule, Signals};
 use ra_set::Item;
 use ra_text::OutOfMemory;
 use std::alloc::Global;
@@ -39,12 +38,13 @@ impl Rests {
     ) -> Result<Rests, OutOfMemory>
         requires runs { AreItemRuns table.now.nodes (map item_contents items.now) runs.now }
         requires nodes { length table.now.nodes ≡ nodes }
+        requires few_nodes { nodes ≤ 2 ^ 30 }
         requires few { length items.now < 2 ^ 32 }
         ensures rests { IfOk result (λ rests. (values : List ℕ) → AreRests table.now.nodes values (map item_contents items.now) runs.now rests) }
         ensures kept { IfOk result (λ rests. seen_by runs.now rests ≡ map kept_run runs.now) }
     {
-        let readers = readers_of(alloc, runs, items, table, nodes)?;
-        let schedule = Schedule::new(alloc, readers, items.len())?;
+        let signals = signals_of(alloc, runs, items, table, nodes)?;
+        let schedule = Schedule::new(alloc, signals, items.len())?;
         let each = befores_of(alloc, runs)?;
         let stepped = vec![in alloc; 0; items.len()]?;
         Ok(Rests {
@@ -55,7 +55,7 @@ impl Rests {
         })
     }
 
-    /// Steps each item that is due or reads a node that changed, by the frame of the table's last sample. Where many nodes
+    /// Steps each item that is due or reads what changed, by the frame of the table's last sample. Where much
     /// changed it looks at none for rest, and where many items are due at some of them.
     pub fn step(&mut self, runs: &mut [ItemRun], items: &[Item], table: &Table)
         requires runs { AreItemRuns table.now.nodes (map item_contents items.now) runs.old }
@@ -68,7 +68,7 @@ impl Rests {
         ensures stepped { AreSteppedSeen table.now (map item_contents items.now) (seen_by runs.old self.old) (seen_by runs.new self.new) runs.new }
         ensures told { AreTold (map item_contents items.now) runs.new self.new }
     {
-        self.schedule.begin(table.changed());
+        self.schedule.begin(table);
         self.count = 0;
         let mut at = 0;
         while let Some(place) = self.schedule.next_due(at) {
@@ -117,24 +117,26 @@ impl Rests {
     }
 }
 
-// Who of the items reads which node, and all are due. Memory is the only refusal.
-fn readers_of(
+// What each of the items reads, and all are due. Memory is the only refusal.
+fn signals_of(
     alloc: Global,
     runs: &[ItemRun],
     items: &[Item],
     table: &Table,
     nodes: usize,
-) -> Result<Readers, OutOfMemory>
+) -> Result<Signals, OutOfMemory>
     requires runs { AreItemRuns table.now.nodes (map item_contents items.now) runs.now }
     requires nodes { length table.now.nodes ≡ nodes }
+    requires few_nodes { nodes ≤ 2 ^ 30 }
     requires few { length items.now < 2 ^ 32 }
-    ensures { IfOk result (λ readers. AreReaders ItemRun (reads_at runs.now) nodes (length items.now) readers (length items.now)) }
+    ensures { IfOk result (λ signals. AreSignals table.now.nodes
+        (AreItemsTold table.now.nodes (map item_contents items.now)) (length items.now) signals (length items.now)) }
 {
-    let mut readers = Readers::new(alloc, nodes, items.len())?;
-    for (place, run) in runs.iter().enumerate() {
-        note_reads(&mut readers, run, place as u32)?;
+    let mut signals = Signals::new(alloc, nodes as u32, items.len())?;
+    for (place, item) in items.iter().enumerate() {
+        note_item(&mut signals, item, &runs[place], table, place as u32)?;
     }
-    Ok(readers)
+    Ok(signals)
 }
 
 // What each item keeps now, in rooms of its own. Memory is the only refusal.

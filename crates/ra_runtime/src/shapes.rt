@@ -129,6 +129,7 @@ fn rests_beside(
     requires runs { AreItemRuns table.now.nodes (set_contents set.now).items runs.now }
     requires presence { IsOptionalPresence table.now.nodes (set_contents set.now).script presence.now }
     requires nodes { length table.now.nodes ≡ nodes }
+    requires few_nodes { nodes ≤ 2 ^ 30 }
     ensures rests { IfOk result (λ both. AreRests table.now.nodes table.now.values (set_contents set.now).items runs.now both.0) }
     ensures kept { IfOk result (λ both. seen_by runs.now both.0 ≡ map kept_run runs.now) }
     ensures lines { IfOk result (λ both. AreOptionalRests table.now.nodes table.now.values (set_contents set.now).script presence.now both.1) }

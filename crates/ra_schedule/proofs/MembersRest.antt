@@ -3,11 +3,10 @@ pub mod Frames
 pub mod GoesOn
 pub mod SeenAll
 pub mod OneOn
-pub mod Reading
+pub mod Signals
 pub mod SeesSame
 pub mod SideBySideRows
 pub mod AtMost
-pub mod Below
 pub mod Turns
 pub mod Woken
 pub mod Kept

@@ -1,5 +1,6 @@
 -- Which left values a step needs as numbers: docs/DEFINITIONS.md, "Numbers that a step needs".
-use Rattle.std.specs.Prelude.{◌≡◌, ℕ, Bool, true, not, ◌&&◌, List, [], ◌∷◌, length, take, drop, slice_index}
+use Rattle.std.specs.Prelude.{◌≡◌, ℕ, Bool, true, not, ◌&&◌, List, [], ◌∷◌, length, map, take, drop, slice_index}
+use Rattle.std.specs.List.{flat_map}
 use Rattle.ra_condition.specs.declared.condition.Condition.{Condition}
 use Rattle.ra_condition.specs.Flags.{is_measured}
 use Rattle.ra_condition.specs.Contents.{condition_at}
@@ -14,6 +15,14 @@ with_lefts f lefts = frame_of f.conditions f.truths lefts f.hits
 -- a condition gives its left value as a number: it is measured, and takes its number from no total
 abbrev pub gives_left : Form → Condition → Bool
 gives_left form c = is_measured c.flag && not (from_total form c)
+
+-- whether each condition of a group does
+abbrev pub given_in : Form → List Condition → List Bool
+given_in form cs = map (gives_left form) cs
+
+-- whether each condition of some groups does, group after group
+abbrev pub given_by : Form → List (List Condition) → List Bool
+given_by form groups = flat_map (given_in form) groups
 
 -- two rows of left values agree where a condition gives its own as a number
 pub record AgreeWhereGiven (form : Form) (cs : List Condition) (lefts others : List ℕ) : Type 0 where

@@ -4,8 +4,8 @@ pub mod Groups
 pub mod Inputs
 pub mod Owing
 pub mod Readers
-pub mod Reads
 pub mod Schedules
+pub mod Signals
 pub mod Triggers
 pub mod Values
 pub mod Waking

@@ -1,12 +1,18 @@
 -- Who is due at a frame, and what those at rest owe: docs/DEFINITIONS.md, "Schedules".
-use Rattle.std.specs.Prelude.{◌≡◌, ℕ, suc, ◌+◌, ◌-◌, ◌<◌, ◌≤◌, min, not, Bool, true, false, if◌then◌else◌, Option, None, Some, IfSome, List, [], ◌∷◌, length, replicate, slice_index, slice_index_or, slice_set}
+use Rattle.std.specs.Prelude.{◌≡◌, ℕ, suc, ◌+◌, ◌-◌, ◌<◌, ◌≤◌, min, not, Bool, true, false, if◌then◌else◌, Option, None, Some, IfSome, List, [], ◌∷◌, ◌++◌, length, map, replicate, slice_index, slice_index_or, slice_set}
 use Rattle.std.specs.Option.{is_some}
-use Rattle.ra_schedule.specs.Readers.{ReadersSeen, Reads}
+use Rattle.ra_indirect.specs.declared.node.Node.{Node}
+use Rattle.ra_memref.specs.Table.{TableSeen}
+use Rattle.ra_truths.specs.declared.comparison.Comparison.{Comparison}
+use Rattle.ra_truths.specs.Comparisons.{AreOver, truths_by}
+use Rattle.ra_truths.specs.Truths.{IsTold, Takes, TruthsSeen}
+use Rattle.ra_schedule.specs.Readers.{ReadersSeen}
 use Rattle.ra_schedule.specs.Waking.{IsWoken, IsWokenAlone}
 
--- what a schedule is seen as: who reads which signal and who is due, since which count of frames each place rests, and the count of now
+-- what a schedule is seen as: who reads which signal and who is due, the comparisons among the signals with their truths, since which count of frames each place rests, and the count of now
 pub record ScheduleSeen : Type 0 where
   pub readers : ReadersSeen
+  pub truths : TruthsSeen
   pub since : List (Option ℕ)
   pub clock : ℕ
 
@@ -40,32 +46,65 @@ next_count clock = min (clock + 1) 18446744073709551615
 abbrev pub all_woken : ReadersSeen → ReadersSeen
 all_woken readers = record readers { due = replicate (length readers.due) true }
 
+-- the truths of comparisons of which none was taken yet
+abbrev pub no_truths : (nodes : ℕ) → List Comparison → TruthsSeen
+no_truths nodes comparisons = record {
+  comparisons = comparisons;
+  nodes = nodes;
+  truths = replicate (length comparisons) false;
+  flipped = [];
+  known = false;
+}
+
+-- truths that count for nothing
+abbrev pub forgotten : TruthsSeen → TruthsSeen
+forgotten truths = record truths { known = false }
+
 -- no place rests, and each is due
-abbrev pub nothing_owed : ReadersSeen → (clock : ℕ) → ScheduleSeen
-nothing_owed readers clock =
-    record { readers = all_woken readers; since = replicate (length readers.due) None; clock = clock }
+abbrev pub nothing_owed : ReadersSeen → TruthsSeen → (clock : ℕ) → ScheduleSeen
+nothing_owed readers truths clock =
+    record { readers = all_woken readers; truths = truths; since = replicate (length readers.due) None; clock = clock }
 
 -- a place was stepped: it rests from the next count of frames on, or is due
 abbrev pub noted_at : (place : ℕ) → (rests : Bool) → ScheduleSeen → ScheduleSeen
-noted_at place rests s = record {
+noted_at place rests s = record s {
   readers = record s.readers { due = slice_set s.readers.due place (not rests) };
   since = slice_set s.since place (if rests then Some (next_count s.clock) else None);
-  clock = s.clock;
 }
 
--- a frame begins at which these signals changed: who reads one of them is due, and none owes more or less; where not many changed, who became due reads one
-pub record Begins (signals : List ℕ) (old new : ScheduleSeen) : Type 0 where
-  pub woken : IsWoken old.clock signals old.readers new.readers
-  pub only : IsWokenAlone old.clock signals old.readers new.readers
+-- the signals that changed at the last sample of a table: its nodes, and the comparisons that came out otherwise
+abbrev pub signals_at : TableSeen → TruthsSeen → List ℕ
+signals_at table truths = table.changed ++ map (λ k. truths.nodes + k) truths.flipped
+
+-- a frame may begin: the table was sampled, has the nodes of the comparisons, and lists those with another value than the truths are by
+pub record MayBegin (table : TableSeen) (s : ScheduleSeen) : Type 0 where
+  pub nodes : length table.nodes ≡ s.truths.nodes
+  pub over : AreOver table.nodes s.truths.comparisons
+  pub sampled : table.sampled ≡ true
+  pub told : s.truths.known ≡ true → IsTold s.truths.comparisons s.truths.truths table
+  pub changed : (k : ℕ) → k < length table.changed → slice_index table.changed k < length table.nodes
+
+-- a frame begins by a table: the truths are taken, who reads a signal that changed is due, and none owes more or less; where not many changed, who became due reads one
+pub record Begins (table : TableSeen) (old new : ScheduleSeen) : Type 0 where
+  pub truths : Takes old.truths new.truths table
+  pub woken : IsWoken old.clock (signals_at table new.truths) old.readers new.readers
+  pub only : IsWokenAlone old.clock (signals_at table new.truths) old.readers new.readers
   pub since : new.since ≡ old.since
   pub clock : new.clock ≡ old.clock
 
--- between frames: this many places, of which each rests since no later count; who is not due rests, and this holds of it
+-- the comparisons of a schedule are over these nodes, and where a frame was taken their truths are by these values
+pub record IsHeard (nodes : List Node) (values : List ℕ) (s : ScheduleSeen) : Type 0 where
+  pub nodes_too : length nodes ≡ s.truths.nodes
+  pub over : AreOver nodes s.truths.comparisons
+  pub truths : s.truths.known ≡ true → s.truths.truths ≡ truths_by values s.truths.comparisons
+
+-- between frames: this many places, of which each rests since no later count; who is not due rests, a frame was taken, and this holds of it
 pub record AreAtRest (On : ℕ → Type 0) (places : ℕ) (s : ScheduleSeen) : Type 0 where
   pub due_many : length s.readers.due ≡ places
   pub since_many : length s.since ≡ places
   pub early : (k : ℕ) → k < places → IfSome (since_at s k) (λ since. since ≤ s.clock)
   pub rests : (k : ℕ) → k < places → is_due s k ≡ false → is_some (since_at s k) ≡ true
+  pub known : (k : ℕ) → k < places → is_due s k ≡ false → s.truths.known ≡ true
   pub on : (k : ℕ) → k < places → is_due s k ≡ false → On k
 
 -- what is seen of each place, by what it has, what it had before its rest, and how many frames it owes
@@ -79,9 +118,3 @@ AllSteps Steps [] [] [] [] = Unit {0}
 AllSteps Steps (thing ∷ things) (old ∷ olds) (new ∷ news) (said ∷ all) =
     Steps thing old new said × AllSteps Steps things olds news all
 AllSteps Steps _ _ _ _ = ⊥
-
--- this many readers, all due, of which the ones in front of a place read what they are to read, whatever run stands past the last one
-pub record AreReaders (Run : Type 0) (reads : Run → ℕ → List ℕ) (signals places : ℕ) (readers : ReadersSeen) (place : ℕ) : Type 0 where
-  pub rows : length readers.rows ≡ signals
-  pub due : readers.due ≡ replicate places true
-  pub noted : (run : Run) (k : ℕ) → k < place → (j : ℕ) → j < length (reads run k) → Reads readers (slice_index (reads run k) j) k

@@ -1,6 +1,6 @@
 //! Who is due at a frame, and what those at rest owe.
 //!
-//! Who reads a node is due where that node changed. What changes nothing but hits at which nothing looks rests, and owes one
+//! Who reads a comparison is due where it came out otherwise, and who reads the number of a node where that changed. What changes nothing but hits at which nothing looks rests, and owes one
 //! hit more of these for each frame: as groups, triggers and values, and as the members that are made of them.
 #![tactic(auto)]
 
@@ -13,6 +13,7 @@ mod readers;
 mod reads;
 mod schedule;
 mod seen;
+mod signals;
 mod waking;
 
 pub use before::{Before, ValueBefore, hits_before, note_row, row_of};
@@ -24,6 +25,7 @@ pub use laws::{
 pub use needed::{groups_need_few_numbers, triggers_need_few_numbers, values_need_few_numbers};
 pub use paying::pay_member;
 pub use readers::Readers;
-pub use reads::{note_laid, note_member};
+pub use reads::{note_trigger, note_value};
 pub use schedule::Schedule;
 pub use seen::{is_free, pay};
+pub use signals::Signals;

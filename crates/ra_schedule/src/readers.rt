@@ -1,4 +1,4 @@
-ghost use Rattle.std.specs.Prelude.{◌≡◌, ◌<◌, ℕ, true, [], length, map, replicate, slice_index, slice_index_or, slice_set, IfOk, IfSome, OnOk, OnErr, None};
+ghost use Rattle.std.specs.Prelude.{◌≡◌, ◌+◌, ◌++◌, ◌<◌, ℕ, true, [], ◌∷◌, length, map, replicate, slice_index, slice_index_or, slice_set, IfOk, IfSome, OnOk, OnErr, None};
 ghost use Rattle.ra_memref.specs.Flags.{NoneSet, IsFirstSet};
 ghost use Rattle.ra_schedule.specs.Readers.{ReadersSeen, IsListed, IsLast, AddsNone, Notes, WakesRow, Wakes};
 
@@ -27,7 +27,7 @@ impl Model for Readers {
 }
 
 impl Readers {
-    /// No reader reads any of so many nodes, and so many readers are all due. Memory is the only refusal.
+    /// No reader reads any of this many nodes, and this many readers are all due. Memory is the only refusal.
     pub fn new(alloc: Global, nodes: usize, readers: usize) -> Result<Readers, OutOfMemory>
         ensures { IfOk result (λ r. r ≡ record { rows = replicate nodes []; due = replicate readers true }) }
     {
@@ -59,13 +59,25 @@ impl Readers {
         put_last(&mut self.rows[node as usize], reader)
     }
 
-    /// Makes the readers of these nodes due.
-    pub fn wake(&mut self, nodes: &[u32])
-        requires { (k : ℕ) → k < length nodes.now → slice_index nodes.now k < length self.old.rows }
-        ensures { Wakes nodes.now self.old self.new }
+    /// Adds a node behind the others, which no reader reads. Memory is the only refusal.
+    pub fn add(&mut self, alloc: Global) -> Result<(), OutOfMemory>
+        ensures added { OnOk result (self.new ≡ record self.old { rows = self.old.rows ++ [] ∷ [] }) }
+        ensures err { OnErr result (self.new ≡ self.old) }
+    {
+        self.rows.push(Vec::new(alloc))?;
+        Ok(())
+    }
+
+    /// Makes the readers of these nodes due, which are counted from one on.
+    pub fn wake(&mut self, from: u32, nodes: &[u32])
+        requires { (k : ℕ) → k < length nodes.now → from + slice_index nodes.now k < length self.old.rows }
+        ensures { Wakes (map (λ n. from + n) nodes.now) self.old self.new }
     {
         for node in nodes {
-            wake_row(&self.rows[*node as usize], &mut self.due);
+            wake_row(
+                &self.rows[from as usize + *node as usize],
+                &mut self.due,
+            );
         }
     }
 
@@ -94,7 +106,7 @@ impl Readers {
     }
 }
 
-// So many rows without a number.
+// This many rows without a number.
 fn empty_rows(alloc: Global, count: usize) -> Result<Vec<Vec<u32>>, OutOfMemory>
     ensures { IfOk result (λ rows. map (λ row. row.items) rows.items ≡ replicate count []) }
 {

@@ -1,65 +1,194 @@
-//! The nodes that members read, noted for a reader.
+//! What triggers and values are woken by, noted for a reader: docs/DEFINITIONS.md, "Signals".
 
-ghost use Rattle.std.specs.Prelude.{◌<◌, ℕ, length, slice_index};
-ghost use Rattle.std.specs.Result.{OnOk};
-ghost use Rattle.ra_schedule.specs.Reads.{IsAllRead, reads_of_laid, reads_of_member, reads_of_value};
+ghost use Rattle.std.specs.Prelude.{◌≡◌, ◌++◌, ◌<◌, true, length, map, slice_index_or, IfOk, OnOk};
+ghost use Rattle.ra_operand.specs.declared.op.Op.TheVariants.{Bare};
+ghost use Rattle.ra_condition.specs.Contents.{counted_in, group_contents, groups_of, trigger_contents, value_contents};
+ghost use Rattle.ra_group.specs.declared.form.Form.TheVariants.{InTrigger, InValue};
+ghost use Rattle.ra_member.specs.Runs.{IsLaid, IsValueRun, MayFill};
+ghost use Rattle.ra_member.specs.Readings.{AreValuedSums};
+ghost use Rattle.ra_schedule.specs.Given as spec;
+ghost use Rattle.ra_schedule.specs.Given.{given_in, given_by};
+ghost use Rattle.ra_schedule.specs.Inputs.{SeeSame, ValueSeesSame};
+ghost use Rattle.ra_schedule.specs.Signals as heard;
+ghost use Rattle.ra_schedule.specs.Signals.{AreHeard, AreSumsRead, Hears, IsGivenRead, KeepsAll, comparison_in};
+ghost use Rattle.ra_schedule.specs.Waking.{IsTold};
 
-use crate::readers::Readers;
-use ra_member::{Laid, Member, TriggerRun, ValueRun};
+use crate::signals::Signals;
+use ra_condition::{Condition, Group, Part, TriggerText, ValueText};
+use ra_group::Form;
+use ra_member::{Laid, ValueRun};
+use ra_memref::Table;
+use ra_operand::Op;
 use ra_text::OutOfMemory;
+use ra_truths::Comparison;
+use std::alloc::Global;
 
-/// Notes that a reader reads what a member reads. Memory is the only refusal.
-pub fn note_member(readers: &mut Readers, member: &Member, reader: u32) -> Result<(), OutOfMemory>
-    requires nodes { (k : ℕ) → k < length (reads_of_member member.now)
-        → slice_index (reads_of_member member.now) k < length readers.old.rows }
-    requires reader { reader < length readers.old.due }
-    ensures { OnOk result (IsAllRead (reads_of_member member.now) reader readers.old readers.new) }
+/// Notes that a reader reads what a trigger needs: each comparison that may come out otherwise, and each left value
+/// that is given as a number. Memory is the only refusal.
+pub fn note_trigger(
+    signals: &mut Signals,
+    text: &TriggerText,
+    laid: &Laid,
+    table: &Table,
+    reader: u32,
+) -> Result<(), OutOfMemory>
+    requires laid { IsLaid table.now.nodes (groups_of (trigger_contents text.now)) laid.now }
+    requires nodes { length table.now.nodes ≡ signals.old.nodes }
+    requires reader { reader < length signals.old.readers.due }
+    ensures keeps { OnOk result (KeepsAll table.now.nodes signals.old signals.new) }
+    ensures told { OnOk result (IsTold (λ now later. SeeSame InTrigger now later (groups_of (trigger_contents text.now)))
+        table.now.nodes signals.new.comparisons signals.new.readers reader) }
 {
-    for test in &member.tests {
-        note_laid(readers, &test.laid, reader)?;
-    }
-    for value in &member.values {
-        note_value(readers, value, reader)?;
-    }
+    let given = trigger_given(signals.alloc(), text)?;
+    note_laid(signals, laid, &given, table, reader)?;
     Ok(())
 }
 
-// Notes that a reader reads what a value reads.
-fn note_value(readers: &mut Readers, value: &ValueRun, reader: u32) -> Result<(), OutOfMemory>
-    requires nodes { (k : ℕ) → k < length (reads_of_value value.now)
-        → slice_index (reads_of_value value.now) k < length readers.old.rows }
-    requires reader { reader < length readers.old.due }
-    ensures { OnOk result (IsAllRead (reads_of_value value.now) reader readers.old readers.new) }
+/// Notes that a reader reads what a value needs: what its conditions need, and its legacy sums. Memory is the only
+/// refusal.
+pub fn note_value(
+    signals: &mut Signals,
+    text: &ValueText,
+    run: &ValueRun,
+    table: &Table,
+    reader: u32,
+) -> Result<(), OutOfMemory>
+    requires run { IsValueRun table.now.nodes (value_contents text.now) run.now }
+    requires nodes { length table.now.nodes ≡ signals.old.nodes }
+    requires reader { reader < length signals.old.readers.due }
+    ensures keeps { OnOk result (KeepsAll table.now.nodes signals.old signals.new) }
+    ensures told { OnOk result (IsTold (λ now later. ValueSeesSame now later (value_contents text.now))
+        table.now.nodes signals.new.comparisons signals.new.readers reader) }
 {
-    note_laid(readers, &value.laid, reader)?;
-    for node in &value.nodes {
-        if let Some(node) = node {
-            readers.note(*node, reader)?;
+    let given = value_given(signals.alloc(), text)?;
+    note_laid(signals, &run.laid, &given, table, reader)?;
+    note_sums(signals, &run.nodes, table, reader)?;
+    Ok(())
+}
+
+// Notes that a reader reads what the conditions of a laid plan need, by a flag for each that gives its left value.
+fn note_laid(
+    signals: &mut Signals,
+    laid: &Laid,
+    given: &[bool],
+    table: &Table,
+    reader: u32,
+) -> Result<(), OutOfMemory>
+    requires fills { MayFill table.now.nodes laid.now }
+    requires given { length given.now ≡ length laid.now.ops.items }
+    requires nodes { length table.now.nodes ≡ signals.old.nodes }
+    requires reader { reader < length signals.old.readers.due }
+    ensures keeps { OnOk result (KeepsAll table.now.nodes signals.old signals.new) }
+    ensures heard { OnOk result (AreHeard signals.new laid.now (length laid.now.ops.items) reader) }
+    ensures read { OnOk result (IsGivenRead given.now laid.now (length laid.now.ops.items) signals.new.readers reader) }
+{
+    for place in 0..given.len() {
+        note_compared(signals, laid, place, table, reader)?;
+        if given[place] {
+            signals.note_node(laid.plan.lefts[place], reader)?;
         }
     }
     Ok(())
 }
 
-/// Notes that a reader reads what a laid plan reads. Memory is the only refusal.
-pub fn note_laid(readers: &mut Readers, laid: &Laid, reader: u32) -> Result<(), OutOfMemory>
-    requires nodes { (k : ℕ) → k < length (reads_of_laid laid.now)
-        → slice_index (reads_of_laid laid.now) k < length readers.old.rows }
-    requires reader { reader < length readers.old.due }
-    ensures { OnOk result (IsAllRead (reads_of_laid laid.now) reader readers.old readers.new) }
+// Notes that a reader reads the comparison of the condition at a place of a laid plan, where it may come out otherwise.
+fn note_compared(
+    signals: &mut Signals,
+    laid: &Laid,
+    place: usize,
+    table: &Table,
+    reader: u32,
+) -> Result<(), OutOfMemory>
+    requires fills { MayFill table.now.nodes laid.now }
+    requires here { place < length laid.now.ops.items }
+    requires nodes { length table.now.nodes ≡ signals.old.nodes }
+    requires reader { reader < length signals.old.readers.due }
+    ensures keeps { OnOk result (KeepsAll table.now.nodes signals.old signals.new) }
+    ensures heard { OnOk result (heard.is_comparing (slice_index_or laid.now.ops.items place Bare) ≡ true
+        → Hears signals.new (comparison_in laid.now place) reader) }
 {
-    note_nodes(readers, &laid.plan.lefts, reader)?;
-    note_nodes(readers, &laid.plan.rights, reader)?;
+    let op = laid.ops[place];
+    if is_comparing(op) {
+        let comparison = Comparison {
+            op,
+            left: laid.plan.lefts[place],
+            right: laid.plan.rights[place],
+        };
+        return signals.note_comparison(comparison, reader);
+    }
     Ok(())
 }
 
-// Notes that a reader reads these nodes.
-fn note_nodes(readers: &mut Readers, nodes: &[u32], reader: u32) -> Result<(), OutOfMemory>
-    requires nodes { (k : ℕ) → k < length nodes.now → slice_index nodes.now k < length readers.old.rows }
-    requires reader { reader < length readers.old.due }
-    ensures { OnOk result (IsAllRead nodes.now reader readers.old readers.new) }
+// Notes that a reader reads the nodes that are there.
+fn note_sums(
+    signals: &mut Signals,
+    nodes: &[Option<u32>],
+    table: &Table,
+    reader: u32,
+) -> Result<(), OutOfMemory>
+    requires valued { AreValuedSums table.now.nodes nodes.now }
+    requires nodes { length table.now.nodes ≡ signals.old.nodes }
+    requires reader { reader < length signals.old.readers.due }
+    ensures keeps { OnOk result (KeepsAll table.now.nodes signals.old signals.new) }
+    ensures read { OnOk result (AreSumsRead nodes.now (length nodes.now) signals.new.readers reader) }
 {
     for node in nodes {
-        readers.note(*node, reader)?;
+        if let Some(node) = node {
+            signals.note_node(*node, reader)?;
+        }
     }
     Ok(())
+}
+
+// Whether a comparison by the operator may come out one way and the other.
+fn is_comparing(op: Op) -> bool
+    ensures { result ≡ heard.is_comparing op }
+{
+    matches!(op, Op::Eq | Op::Ne | Op::Lt | Op::Le | Op::Gt | Op::Ge)
+}
+
+// Whether each condition of a trigger gives its left value as a number, the core group's first.
+fn trigger_given(alloc: Global, text: &TriggerText) -> Result<Vec<bool>, OutOfMemory>
+    ensures { IfOk result (λ given. given.items ≡ given_by InTrigger (groups_of (trigger_contents text.now))) }
+{
+    let mut given = Vec::new(alloc);
+    put_given(&mut given, Form::InTrigger, &text.core)?;
+    for alt in &text.alts {
+        put_given(&mut given, Form::InTrigger, alt)?;
+    }
+    Ok(given)
+}
+
+// The same of the conditions of a value's parts.
+fn value_given(alloc: Global, text: &ValueText) -> Result<Vec<bool>, OutOfMemory>
+    ensures { IfOk result (λ given. given.items ≡ given_by InValue (map counted_in (value_contents text.now))) }
+{
+    let mut given = Vec::new(alloc);
+    for part in &text.parts {
+        if let Part::Conditions(group) = part {
+            put_given(&mut given, Form::InValue, group)?;
+        }
+    }
+    Ok(given)
+}
+
+// The same of the conditions of a group.
+fn put_given(given: &mut Vec<bool>, form: Form, group: &Group) -> Result<(), OutOfMemory>
+    ensures { OnOk result (given.new.items ≡ given.old.items ++ given_in form (group_contents group.now)) }
+{
+    for condition in &group.conditions {
+        given.push(gives_left(form, condition))?;
+    }
+    Ok(())
+}
+
+// Whether a condition gives its left value as a number: docs/DEFINITIONS.md, "Numbers that a step needs".
+fn gives_left(form: Form, condition: &Condition) -> bool
+    ensures { result ≡ spec.gives_left form condition.now }
+{
+    condition.flag.is_measured()
+        && match form {
+            Form::InTrigger => condition.target == 0,
+            Form::InValue => matches!(condition.op, Op::Bare),
+        }
 }

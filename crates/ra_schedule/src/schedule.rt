@@ -1,21 +1,26 @@
 ghost use Rattle.std.specs.Prelude.{◌≡◌, ◌≤◌, ◌<◌, ℕ, true, None, length, slice_index, slice_index_or, IfOk, IfSome};
 ghost use Rattle.ra_memref.specs.Flags.{NoneSet, IsFirstSet};
-ghost use Rattle.ra_schedule.specs.Schedules.{Begins, ScheduleSeen, as_hits_tell, next_count, noted_at, nothing_owed, owed_at};
+ghost use Rattle.ra_schedule.specs.Schedules.{Begins, MayBegin, ScheduleSeen, as_hits_tell, forgotten, next_count, no_truths, noted_at, nothing_owed, owed_at};
 
 use crate::paying::owed;
 use crate::readers::Readers;
+use crate::signals::Signals;
 use crate::waking::{is_looked_at, looks, many_changed, wake};
+use ra_memref::Table;
 use ra_text::OutOfMemory;
+use ra_truths::Truths;
 use std::alloc::Global;
 use std::marker::Model;
 
 /// Which places are due at a frame, and since when each other one rests: docs/DEFINITIONS.md, "Schedules".
 ///
-/// Its owner lets a frame begin with the signals that changed, takes the places that are due one by one, pays what
+/// Its owner lets a frame begin by a table, takes the places that are due one by one, pays what
 /// each owes, steps it and notes whether it rests, and ends the frame. Only `new` takes memory.
 #[derive(Drop)]
 pub struct Schedule {
     readers: Readers,
+    // the comparisons among the signals, by the frame that began last
+    truths: Truths,
     since: Vec<Option<u64>>,
     // a count of frames that only goes on
     clock: u64,
@@ -25,26 +30,37 @@ pub struct Schedule {
 }
 
 impl Model for Schedule {
-    ghost use Rattle.std.specs.Prelude.{◌≡◌, length};
+    ghost use Rattle.std.specs.Prelude.{◌≡◌, ◌+◌, ◌≤◌, length};
     ghost use Rattle.ra_schedule.specs.Schedules.{ScheduleSeen};
 
     ghost Value = { ScheduleSeen };
 
-    ghost view = { λ s. record { readers = s.readers; since = s.since.items; clock = s.clock } };
+    ghost view = { λ s. record { readers = s.readers; truths = s.truths; since = s.since.items; clock = s.clock } };
 
-    ghost invariant = { λ s. length s.since.items ≡ length s.readers.due };
+    ghost invariant = { λ s. record {
+      many : length s.since.items ≡ length s.readers.due;
+      rows : s.truths.nodes + length s.truths.comparisons ≤ length s.readers.rows;
+    } };
 }
 
 impl Schedule {
     /// No place rests, and each is due, by which place reads which signal. Memory is the only refusal.
-    pub fn new(alloc: Global, mut readers: Readers, places: usize) -> Result<Schedule, OutOfMemory>
-        requires { length readers.due ≡ places }
-        ensures { IfOk result (λ s. s ≡ nothing_owed readers 0) }
+    pub fn new(alloc: Global, signals: Signals, places: usize) -> Result<Schedule, OutOfMemory>
+        requires { length signals.readers.due ≡ places }
+        ensures { IfOk result (λ s. s ≡ nothing_owed signals.readers (no_truths signals.nodes signals.comparisons) 0) }
     {
+        let Signals {
+            nodes,
+            comparisons,
+            mut readers,
+            ..
+        } = signals;
+        let truths = Truths::new(alloc, &comparisons, nodes)?;
         readers.wake_all();
         let since = vec![in alloc; None; places]?;
         Ok(Schedule {
             readers,
+            truths,
             since,
             clock: 0,
             looking: false,
@@ -52,16 +68,19 @@ impl Schedule {
         })
     }
 
-    /// Begins a frame at which these signals changed: who reads one of them is due. Where more than a quarter of all
-    /// signals did, or the count of frames is at its end, all are due, and then none is looked at for rest.
-    pub fn begin(&mut self, signals: &[u32])
-        requires { (k : ℕ) → k < length signals.now → slice_index signals.now k < length self.old.readers.rows }
-        ensures { Begins signals.now self.old self.new }
+    /// Begins a frame by the table's last sample: who reads a comparison that came out otherwise, or a node that
+    /// changed, is due. Where more than a quarter of all signals did, or the count of frames is at its end, all are due,
+    /// and where many did none is looked at for rest. No memory is taken.
+    pub fn begin(&mut self, table: &Table)
+        requires { MayBegin table.now self.old }
+        ensures { Begins table.now self.old self.new }
     {
-        let places = self.since.len();
-        self.looking = !many_changed(&self.readers, signals);
-        self.left = looks(places);
-        wake(&mut self.readers, places, self.clock, signals);
+        self.truths.take(table);
+        let many = many_changed(&self.readers, table, &self.truths);
+        self.looking = !many;
+        self.left = looks(self.since.len());
+        let all = many || self.clock == u64::MAX;
+        wake(&mut self.readers, table, &self.truths, all);
     }
 
     /// The first place from one on that is due. None exactly where none is.
@@ -125,8 +144,9 @@ impl Schedule {
 
     /// No place rests any longer, and each is due. What they owe is given up.
     pub fn forget(&mut self)
-        ensures { self.new ≡ nothing_owed self.old.readers self.old.clock }
+        ensures { self.new ≡ nothing_owed self.old.readers (forgotten self.old.truths) self.old.clock }
     {
+        self.truths.forget();
         self.since.fill(None);
         self.readers.wake_all();
     }

@@ -1,35 +1,35 @@
 //! Readers that are woken at a frame.
 
-ghost use Rattle.std.specs.Prelude.{◌≡◌, ◌+◌, ◌<◌, ◌/◌, ◌%◌, ◌==◌, ◌&&◌, ◌||◌, not, ℕ, length, nat_lt, slice_index};
-ghost use Rattle.ra_schedule.specs.Waking.{IsWoken, IsWokenAlone};
+ghost use Rattle.std.specs.Prelude.{◌≡◌, ◌+◌, ◌<◌, ◌/◌, ◌%◌, ◌==◌, ◌&&◌, ◌||◌, not, true, false, ℕ, length, nat_lt, slice_index};
+ghost use Rattle.ra_schedule.specs.Readers.{Wakes};
+ghost use Rattle.ra_schedule.specs.Schedules.{all_woken, signals_at};
 
 use crate::readers::Readers;
+use ra_memref::Table;
+use ra_truths::Truths;
 
-// Makes due each of this many readers that reads one of these signals, which changed at a frame. Where many did, or the count of
-// frames is at its end, all are due. No memory is taken.
-pub(crate) fn wake(readers: &mut Readers, count: usize, clock: u64, signals: &[u32])
-    requires count { count ≡ length readers.old.due }
-    requires nodes { (k : ℕ) → k < length signals.now → slice_index signals.now k < length readers.old.rows }
-    ensures woken { IsWoken clock signals.now readers.old readers.new }
-    ensures only { IsWokenAlone clock signals.now readers.old readers.new }
+// Makes due each reader that reads a signal that changed at a frame, or each reader. No memory is taken.
+pub(crate) fn wake(readers: &mut Readers, table: &Table, truths: &Truths, all: bool)
+    requires nodes { (k : ℕ) → k < length table.now.changed
+        → slice_index table.now.changed k < length readers.old.rows }
+    requires comparisons { (k : ℕ) → k < length truths.now.flipped
+        → truths.now.nodes + slice_index truths.now.flipped k < length readers.old.rows }
+    ensures all { all ≡ true → readers.new ≡ all_woken readers.old }
+    ensures wakes { all ≡ false → Wakes (signals_at table.now truths.now) readers.old readers.new }
 {
-    if count == 0 {
-        return;
-    }
-    if clock == u64::MAX {
-        readers.wake_all();
-    } else if many_changed(readers, signals) {
+    if all {
         readers.wake_all();
     } else {
-        readers.wake(signals);
+        readers.wake(0, table.changed());
+        readers.wake(truths.nodes(), truths.flipped());
     }
 }
 
 // More than a quarter of all signals changed at a frame.
-pub(crate) fn many_changed(readers: &Readers, signals: &[u32]) -> bool
-    ensures { result ≡ nat_lt (length readers.now.rows / 4) (length signals.now) }
+pub(crate) fn many_changed(readers: &Readers, table: &Table, truths: &Truths) -> bool
+    ensures { result ≡ nat_lt (length readers.now.rows / 4) (length (signals_at table.now truths.now)) }
 {
-    signals.len() > readers.nodes() / 4
+    table.changed().len() + truths.flipped().len() > readers.nodes() / 4
 }
 
 // How many of this many places are looked at for rest at a frame, whatever their places are.

@@ -42,14 +42,14 @@ fn due_at_rest(readers: &mut Readers) -> [Option<usize>; 3]
     [first, second, readers.next_due(0)]
 }
 
-// Which is due when a node changed that nobody reads, and which are when the last one did.
+// Which is due when a node changed that nobody reads, and which are when the last one did, counted from the second on.
 fn due_of_changed(readers: &mut Readers) -> [Option<usize>; 4]
     requires { length readers.old.rows ≡ 3 }
     ensures { length readers.new.due ≡ length readers.old.due }
 {
-    readers.wake(&[1]);
+    readers.wake(0, &[1]);
     let none = readers.next_due(0);
-    readers.wake(&[1, 2]);
+    readers.wake(1, &[0, 1]);
     let last = readers.next_due(0);
     [none, last, readers.next_due(1), readers.next_due(3)]
 }

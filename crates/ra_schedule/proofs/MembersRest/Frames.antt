@@ -1,23 +1,16 @@
 -- The places that are due, stepped one after the other: what holds of each of them after a frame, due or not.
-use Rattle.std.proofs.Common.{◌≡◌, ◌⊎◌, inl, inr, ℕ, ◌+◌, ◌-◌, ◌<◌, ◌≤◌, not, Bool, true, false, Option, None, Some, IfSome, if◌then◌else◌, List, [], length, slice_index, slice_index_or, refl, sym, ◌∙◌, ap, subst, arith}
+use Rattle.std.proofs.Common.{◌≡◌, ◌⊎◌, inl, inr, ℕ, ◌+◌, ◌-◌, ◌<◌, ◌≤◌, not, Bool, true, false, Option, None, Some, IfSome, if◌then◌else◌, List, length, slice_index_or, refl, sym, ◌∙◌, ap, subst, arith}
 use Rattle.std.specs.Option.{is_some}
 use Rattle.std.proofs.Math.Path.{transport}
 use Rattle.std.proofs.lemmas.List.{get_or-set_same, get_or-set_other, length-set}
-use Rattle.ra_indirect.specs.declared.node.Node.{Node}
 use Rattle.ra_memref.specs.Flags.{NoneSet, IsFirstSet}
 use Rattle.ra_memref.specs.Table.{TableSeen}
-use Rattle.ra_schedule.specs.Inputs.{Instant}
-use Rattle.ra_schedule.specs.Readers.{IsListed, ReadersSeen, Reads}
-use Rattle.ra_schedule.specs.Schedules.{AreAtRest, Begins, ScheduleSeen, frames_since, is_due, next_count, noted_at, owed_at, since_at}
-use Rattle.ra_schedule.specs.Waking.{AreChanged, IsTold}
+use Rattle.ra_schedule.specs.Schedules.{AreAtRest, Begins, IsHeard, MayBegin, ScheduleSeen, frames_since, is_due, next_count, noted_at, owed_at, since_at}
+use Rattle.ra_truths.specs.Comparisons.{AreOver, truths_by}
+use Rattle.ra_truths.specs.Truths.{TruthsSeen}
+use Rattle.ra_schedule.specs.Waking.{Agrees, AreChanged}
 use Rattle.ra_schedule.proofs.MembersRest.Turns.{AreTaken, taken_ends, taken_on}
-use Rattle.ra_schedule.proofs.MembersRest.Woken.{quiet_same}
-
--- a reader is told of the same where the rows of its readers are the same
-pub told_by_rows : (Sees : Instant → Instant → Type 0) (nodes : List Node) (one other : ReadersSeen) (k : ℕ) → other.rows ≡ one.rows
-    → IsTold Sees nodes one k → IsTold Sees nodes other k
-told_by_rows Sees nodes one other k same told values values' now later at at' agree =
-    told values values' now later at at' (λ n reads. agree n (subst (λ (rows : List (List ℕ)). IsListed k (slice_index_or rows n [])) (sym same) reads))
+use Rattle.ra_schedule.proofs.MembersRest.Woken.{quiet_same, was_quiet}
 
 -- a place: what its owner has there, since when it rests, and whether it is due
 pub record Place (Spot : Type 0) : Type 0 where
@@ -39,27 +32,29 @@ pub record IsDone (Spot Kept : Type 0) (seen : Spot → Option ℕ → Kept) (St
 abbrev pub AreUnderWay : (Spot : Type 0) (Done : ℕ → Place Spot → Type 0) (start : ScheduleSeen) (olds : ℕ → Spot) (now : ScheduleSeen) (news : ℕ → Spot) (at : ℕ) → Type 0
 AreUnderWay Spot Done start olds now news at = AreTaken (Place Spot) start.readers.due (place_of Spot start olds) Done (place_of Spot now news) at
 
--- a schedule while its places are stepped: as many places, the same readers and the same count of frames
+-- a schedule while its places are stepped: as many places, the same readers and truths, and the same count of frames
 pub record IsAlong (start now : ScheduleSeen) : Type 0 where
   pub due_many : length now.readers.due ≡ length start.readers.due
   pub since_many : length now.since ≡ length start.since
   pub rows : now.readers.rows ≡ start.readers.rows
+  pub truths : now.truths ≡ start.truths
   pub clock : now.clock ≡ start.clock
 
 pub along_begins : (start : ScheduleSeen) → IsAlong start start
-along_begins start = record { due_many = refl; since_many = refl; rows = refl; clock = refl }
+along_begins start = record { due_many = refl; since_many = refl; rows = refl; truths = refl; clock = refl }
 
 pub along_on : (start now after : ScheduleSeen) (place : ℕ) (rests : Bool) → IsAlong start now → after ≡ noted_at place rests now → IsAlong start after
 along_on start now after place rests along is = record {
   due_many = ap (λ (s : ScheduleSeen). length s.readers.due) is ∙ length-set now.readers.due place (not rests) ∙ along.due_many;
   since_many = ap (λ (s : ScheduleSeen). length s.since) is ∙ length-set now.since place (if rests then Some (next_count now.clock) else None) ∙ along.since_many;
   rows = ap (λ (s : ScheduleSeen). s.readers.rows) is ∙ along.rows;
+  truths = ap (λ (s : ScheduleSeen). s.truths) is ∙ along.truths;
   clock = ap (λ (s : ScheduleSeen). s.clock) is ∙ along.clock;
 }
 
 -- what a place that was not due went on to rest by
 abbrev pub Quiet : TableSeen → (values : List ℕ) → ScheduleSeen → ℕ → Type 0
-Quiet table values old k = (n : ℕ) → Reads old.readers n k → slice_index table.values n ≡ slice_index values n
+Quiet table values old k = Agrees (length table.nodes) old.truths.comparisons old.readers k values table.values
 
 -- a place took a frame
 abbrev pub Took : (old : ScheduleSeen) (Spot Kept : Type 0) (seen : Spot → Option ℕ → Kept) (Steps : ℕ → Kept → Kept → Spot → Type 0) (On : ℕ → Spot → Type 0) (olds : ℕ → Spot) → ℕ → Place Spot → Type 0
@@ -131,7 +126,7 @@ module _ (Spot : Type 0) (Done : ℕ → Place Spot → Type 0) (start : Schedul
         (sym (same_due place first.after) ∙ first.here) (λ k late early. sym (same_due k late) ∙ first.none_before k late early) (subst (Done place) here done) other
 
 -- at the end of a frame at which these signals changed
-module _ (table : TableSeen) (values : List ℕ) (changed : AreChanged table values) (places : ℕ) (old start : ScheduleSeen) (rows : length old.readers.rows ≡ length table.nodes) (begun : Begins table.changed old start)
+module _ (table : TableSeen) (values : List ℕ) (changed : AreChanged table values) (places : ℕ) (old start : ScheduleSeen) (heard : IsHeard table.nodes values old) (begun : Begins table old start)
     (Spot Kept : Type 0) (seen : Spot → Option ℕ → Kept) (Steps : ℕ → Kept → Kept → Spot → Type 0) (On : ℕ → Spot → Type 0) (olds : ℕ → Spot) (Was : ℕ → Type 0) (rests : AreAtRest Was places old)
     (skip : (k : ℕ) → k < places → Was k → Quiet table values old k → (n : ℕ) → Steps k (seen (olds k) (Some n)) (seen (olds k) (Some (n + 1))) (olds k))
     (still : (k : ℕ) → k < places → Was k → Quiet table values old k → On k (olds k))
@@ -144,13 +139,14 @@ module _ (table : TableSeen) (values : List ℕ) (changed : AreChanged table val
   -- a place that was not due is at rest still
   rested : (k : ℕ) → k < places → is_due start k ≡ false → Took old Spot Kept seen Steps On olds k (place_of Spot start olds k)
   rested k within quiet =
-      let woken = quiet_same table values old.clock old.readers start.readers changed rows begun.woken k quiet in
+      let woken = was_quiet table values old start changed heard begun k quiet in
+      let same_still = quiet_same table values old start changed heard begun (rests.known k within woken.0) k quiet in
       let small : old.clock < 18446744073709551615 = woken.1 in
       let same : since_at start k ≡ since_at old k = ap (λ (xs : List (Option ℕ)). slice_index_or xs k None) begun.since in
       subst (λ s. Took old Spot Kept seen Steps On olds k (record { spot = olds k; since = s; due = is_due start k })) (sym same)
       (done_still Spot Kept seen (Steps k) (On k) (next_count old.clock) (seen (olds k) (owed_at old k)) (olds k) old.clock (since_at old k) (is_due start k)
       (omega (arith, small)) refl (rests.rests k within woken.0) (rests.early k within)
-      (skip k within (rests.on k within woken.0) woken.2) (still k within (rests.on k within woken.0) woken.2))
+      (skip k within (rests.on k within woken.0) same_still) (still k within (rests.on k within woken.0) same_still))
 
   pub took_frame : (k : ℕ) → k < places → Took old Spot Kept seen Steps On olds k (place_of Spot now news k)
   took_frame k within =
@@ -159,3 +155,21 @@ module _ (table : TableSeen) (values : List ℕ) (changed : AreChanged table val
       by_end : Took old Spot Kept seen Steps On olds k (place_of Spot now news k) ⊎ ((is_due start k ≡ false) × (place_of Spot now news k ≡ place_of Spot start olds k)) → Took old Spot Kept seen Steps On olds k (place_of Spot now news k)
       by_end (inl done) = done
       by_end (inr same) = subst (Took old Spot Kept seen Steps On olds k) (sym same.1) (rested k within same.0)
+
+-- the comparisons are over the same nodes, and their truths are by the values of the table
+pub heard_after : (table : TableSeen) (values : List ℕ) (old start now : ScheduleSeen) → IsHeard table.nodes values old → Begins table old start → now.truths ≡ start.truths → IsHeard table.nodes table.values now
+heard_after table values old start now heard begun same = subst (λ (t : TruthsSeen). IsHeard table.nodes table.values (record now { truths = t })) (sym same) (record {
+  nodes_too = heard.nodes_too ∙ sym begun.truths.nodes;
+  over = subst (AreOver table.nodes) (sym begun.truths.comparisons) heard.over;
+  truths = λ known. begun.truths.truths ∙ ap (truths_by table.values) (sym begun.truths.comparisons);
+})
+
+-- a frame may begin where the comparisons are over the nodes of the table, and it lists each that changed
+pub may_begin : (table : TableSeen) (values : List ℕ) (s : ScheduleSeen) → AreChanged table values → IsHeard table.nodes values s → table.sampled ≡ true → MayBegin table s
+may_begin table values s changed heard sampled = record {
+  nodes = heard.nodes_too;
+  over = heard.over;
+  sampled = sampled;
+  told = λ known. record { values = values; were = heard.truths known; changed = changed };
+  changed = changed.nodes;
+}

@@ -1,15 +1,16 @@
 -- What is seen of all places, and of each; and the readers of all places, made one by one.
-use Rattle.std.proofs.Common.{◌≡◌, ◌⊎◌, inl, inr, ℕ, zero, suc, ◌+◌, ◌<◌, ◌≤◌, true, false, Option, None, IfSome, List, [], ◌∷◌, length, map, get_or, replicate, slice_index, refl, sym, ◌∙◌, ap, ap₂, subst, arith}
-use Rattle.std.proofs.Math.Path.{transport}
+use Rattle.std.proofs.Common.{◌≡◌, ◌⊎◌, inl, inr, ℕ, zero, suc, ◌+◌, ◌<◌, ◌≤◌, true, false, Option, None, IfSome, List, [], ◌∷◌, length, map, get_or, replicate, refl, sym, ◌∙◌, ap, ap₂, subst, arith}
 use Rattle.std.proofs.lemmas.Bool.{cases_lt}
 use Rattle.std.proofs.lemmas.List.{get_or-replicate, length-replicate}
-use Rattle.ra_schedule.specs.Readers.{ReadersSeen, Reads}
-use Rattle.ra_schedule.specs.Reads.{IsAllRead}
-use Rattle.ra_schedule.specs.Schedules.{AllSteps, AreAtRest, AreReaders, ScheduleSeen, frames_since, is_due, nothing_owed, owed_at, seen_all, since_at}
+use Rattle.ra_indirect.specs.declared.node.Node.{Node}
+use Rattle.ra_truths.specs.Truths.{TruthsSeen}
+use Rattle.ra_schedule.specs.Readers.{ReadersSeen}
+use Rattle.ra_schedule.specs.Schedules.{AllSteps, AreAtRest, IsHeard, ScheduleSeen, forgotten, frames_since, is_due, no_truths, nothing_owed, owed_at, seen_all, since_at}
+use Rattle.ra_schedule.specs.Signals.{AreSignals, KeepsAll, SignalsSeen}
 
 -- where none rests, nothing is owed
-pub nothing_owed_at : (readers : ReadersSeen) (clock k : ℕ) → owed_at (nothing_owed readers clock) k ≡ None
-nothing_owed_at readers clock k = ap (frames_since clock) (all_none (length readers.due) k)
+pub nothing_owed_at : (readers : ReadersSeen) (truths : TruthsSeen) (clock k : ℕ) → owed_at (nothing_owed readers truths clock) k ≡ None
+nothing_owed_at readers truths clock k = ap (frames_since clock) (all_none (length readers.due) k)
   where
     no_count : Option ℕ
     no_count = None
@@ -20,13 +21,14 @@ nothing_owed_at readers clock k = ap (frames_since clock) (all_none (length read
     all_none (suc n) (suc k) = all_none n k
 
 -- and all are due, so of those at rest everything holds
-pub nothing_at_rest : (On : ℕ → Type 0) (places : ℕ) (readers : ReadersSeen) (clock : ℕ) (s : ScheduleSeen) → s ≡ nothing_owed readers clock → length readers.due ≡ places → AreAtRest On places s
-nothing_at_rest On places readers clock s is many = record {
+pub nothing_at_rest : (On : ℕ → Type 0) (places : ℕ) (readers : ReadersSeen) (truths : TruthsSeen) (clock : ℕ) (s : ScheduleSeen) → s ≡ nothing_owed readers truths clock → length readers.due ≡ places → AreAtRest On places s
+nothing_at_rest On places readers truths clock s is many = record {
   due_many = ap (λ (s : ScheduleSeen). length s.readers.due) is ∙ length-replicate (length readers.due) true ∙ many;
   since_many = ap (λ (s : ScheduleSeen). length s.since) is ∙ length-replicate (length readers.due) no_count ∙ many;
   early = λ k within.
       subst (λ c. IfSome c (λ since. since ≤ s.clock)) (sym (ap (λ (s : ScheduleSeen). since_at s k) is ∙ get_or-replicate (length readers.due) k no_count None (omega (arith, within, many)))) tt;
   rests = λ k within quiet. absurd (due k within quiet);
+  known = λ k within quiet. absurd (due k within quiet);
   on = λ k within quiet. absurd (due k within quiet);
 }
   where
@@ -79,17 +81,43 @@ all_steps Thing Kept Said Steps (thing ∷ things) (old ∷ olds) (new ∷ news)
 )
 
 -- the readers of one place more are noted
-pub readers_on : (Run : Type 0) (reads : Run → ℕ → List ℕ) (signals places : ℕ) (readers now : ReadersSeen) (place : ℕ) (here : Run) → AreReaders Run reads signals places readers place
-    → ((run : Run) → reads run place ≡ reads here place) → IsAllRead (reads here place) place readers now → AreReaders Run reads signals places now (place + 1)
-readers_on Run reads signals places readers now place here are same all = record {
-  rows = all.rows ∙ are.rows;
-  due = all.due ∙ are.due;
-  noted = λ run k below j inside. noted run k below j inside (cases_lt k place);
+pub signals_on : (nodes : List Node) (Told : SignalsSeen → ℕ → Type 0) (places : ℕ) (s now : SignalsSeen) (place : ℕ) → AreSignals nodes Told places s place → KeepsAll nodes s now
+    → ((k : ℕ) → Told s k → Told now k) → Told now place → AreSignals nodes Told places now (place + 1)
+signals_on nodes Told places s now place are keeps still told = record {
+  nodes_too = are.nodes_too ∙ sym keeps.nodes_too;
+  over = keeps.over are.over;
+  due = keeps.due ∙ are.due;
+  told = λ k below. at k below (cases_lt k place);
 }
   where
-    noted : (run : Run) (k : ℕ) → k < place + 1 → (j : ℕ) → j < length (reads run k) → (k < place) ⊎ (place ≤ k) → Reads now (slice_index (reads run k) j) k
-    noted run k below j inside (inl early) = all.kept (slice_index (reads run k) j) k (are.noted run k early j inside)
-    noted run k below j inside (inr late) =
-        let at : place ≡ k = omega (arith, below, late) in
-        let rows : reads run k ≡ reads here place = ap (reads run) (sym at) ∙ same run in
-        transport (λ i. Reads now (slice_index (sym rows i) j) (at i)) (all.noted j (subst (λ (xs : List ℕ). j < length xs) rows inside))
+    at : (k : ℕ) → k < place + 1 → (k < place) ⊎ (place ≤ k) → Told now k
+    at k below (inl early) = still k (are.told k early)
+    at k below (inr late) =
+        let here : place ≡ k = omega (arith, below, late) in
+        subst (Told now) here told
+
+-- of no place yet
+pub no_signals : (nodes : List Node) (Told : SignalsSeen → ℕ → Type 0) (places : ℕ) (s : SignalsSeen) → length nodes ≡ s.nodes → s.comparisons ≡ [] → s.readers.due ≡ replicate places true → AreSignals nodes Told places s 0
+no_signals nodes Told places s nodes_too none due = record {
+  nodes_too = nodes_too;
+  over = λ k within. absurd (omega (arith, within, ap length none));
+  due = due;
+  told = λ k below. absurd (omega (arith, below));
+}
+
+-- a new schedule has the comparisons of its signals, and no truths yet
+pub heard_new : (nodes : List Node) (values : List ℕ) (Told : SignalsSeen → ℕ → Type 0) (places place : ℕ) (signals : SignalsSeen) (s : ScheduleSeen) → AreSignals nodes Told places signals place
+    → s ≡ nothing_owed signals.readers (no_truths signals.nodes signals.comparisons) 0 → IsHeard nodes values s
+heard_new nodes values Told places place signals s are is = subst (IsHeard nodes values) (sym is) (record {
+  nodes_too = are.nodes_too;
+  over = are.over;
+  truths = λ known. (let bad : false ≡ true = known in absurd (cc));
+})
+
+-- and so has one of which all is given up
+pub heard_forgotten : (nodes : List Node) (values later : List ℕ) (old new : ScheduleSeen) → IsHeard nodes values old → new ≡ nothing_owed old.readers (forgotten old.truths) old.clock → IsHeard nodes later new
+heard_forgotten nodes values later old new heard is = subst (IsHeard nodes later) (sym is) (record {
+  nodes_too = heard.nodes_too;
+  over = heard.over;
+  truths = λ known. (let bad : false ≡ true = known in absurd (cc));
+})

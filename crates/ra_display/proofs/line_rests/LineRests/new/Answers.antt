@@ -3,6 +3,7 @@ use Rattle.std.proofs.lemmas.List.{length-map, length-replicate}
 use Rattle.ra_richpresence.specs.Contents.{line_contents}
 use Rattle.ra_member.specs.MemberRuns.{kept_by}
 use Rattle.ra_schedule.specs.Before.{kept_before}
+use Rattle.ra_schedule.specs.Schedules.{no_truths}
 use Rattle.ra_display.proofs.NewRests.{all_made, awake_kept}
 use Rattle.ra_display.proofs.line_rests.LineRests.new.Goals as goal
 
@@ -10,11 +11,11 @@ pub returns-clause-rests : goal.returns-clause-rests
 returns-clause-rests c = λ values.
     let contents = map line_contents c.args.lines.now in
     let lines = sym (length-map c.args.lines.now line_contents) in
-    all_made c.args.table.now.nodes values contents c.args.runs.now c.args.nodes c.in_ok-readers.readers _ c.requires.runs c.requires.nodes
-    (rw lines at c.in_ok-readers.ensures) c.in_ok-schedule.ensures c.in_ok-each.ensures (ap length c.in_ok-holds.ensures ∙ length-replicate (length c.args.lines.now) true ∙ lines)
+    all_made c.args.table.now.nodes values contents c.args.runs.now c.in_ok-signals.signals _ c.requires.runs
+    (rw lines at c.in_ok-signals.ensures) c.in_ok-schedule.ensures c.in_ok-each.ensures (ap length c.in_ok-holds.ensures ∙ length-replicate (length c.args.lines.now) true ∙ lines)
 
 pub returns-clause-kept : goal.returns-clause-kept
 returns-clause-kept c =
     let runs = c.args.runs.now in
     let each = c.in_ok-each.each.items in
-    awake_kept runs each c.in_ok-schedule.schedule c.in_ok-readers.readers 0 c.in_ok-schedule.ensures (sym (length-map each kept_before) ∙ ap length c.in_ok-each.ensures ∙ length-map runs kept_by)
+    awake_kept runs each c.in_ok-schedule.schedule c.in_ok-signals.signals.readers (no_truths c.in_ok-signals.signals.nodes c.in_ok-signals.signals.comparisons) 0 c.in_ok-schedule.ensures (sym (length-map each kept_before) ∙ ap length c.in_ok-each.ensures ∙ length-map runs kept_by)

@@ -1,4 +1,5 @@
 use Rattle.std.proofs.Common.{refl, sym}
+use Rattle.ra_schedule.specs.Schedules.{forgotten}
 use Rattle.ra_items.proofs.MadeRests.{awake_kept, forgotten_rests}
 use Rattle.ra_items.proofs.rests.Rests.forget.Goals as goal
 
@@ -8,4 +9,4 @@ returns-clause-each c = λ nodes values later items before runs are.
 
 pub returns-clause-kept : goal.returns-clause-kept
 returns-clause-kept c = λ runs long.
-    awake_kept runs c.args.self.now.each.items c.forget.new.self c.args.self.now.schedule.readers c.args.self.now.schedule.clock c.forget.ensures (sym long)
+    awake_kept runs c.args.self.now.each.items c.forget.new.self c.args.self.now.schedule.readers (forgotten c.args.self.now.schedule.truths) c.args.self.now.schedule.clock c.forget.ensures (sym long)

@@ -1,6 +1,7 @@
 use Rattle.std.proofs.Common.{length, map, refl, sym, subst}
 use Rattle.ra_memref.specs.Flags.{NoneSet, IsFirstSet}
 use Rattle.ra_schedule.specs.Schedules.{ScheduleSeen}
+use Rattle.ra_schedule.proofs.MembersRest.Frames.{may_begin}
 use Rattle.ra_set.specs.Contents.{item_contents}
 use Rattle.ra_items.specs.declared.rests.Rests.{Rests}
 use Rattle.ra_items.specs.Rests.{AreRests, AreSteppedSeen, HasPlace, seen_by}
@@ -11,16 +12,20 @@ use Rattle.ra_items.proofs.rests.Rests.step.Goals as goal
 abbrev with_schedule : Rests → ScheduleSeen → Rests
 with_schedule rests schedule = record { each = rests.each; schedule = schedule; stepped = rests.stepped; count = rests.count }
 
+pub begin-requires : goal.begin-requires
+begin-requires c =
+    may_begin c.args.table.now c.requires.rests.values c.args.self.now.schedule c.requires.rests.changed c.requires.rests.are.heard c.requires.sampled
+
 pub loop-place-init : goal.loop-place-init
 loop-place-init c =
-    far_begins c.args.table.now c.requires.frame (map item_contents c.args.items.now) c.args.runs.now c.args.self.now c.begin.new.self c.requires.rests.values c.requires.rests.are c.requires.runs (rw c.changed.ensures at c.begin.ensures)
+    far_begins c.args.table.now c.requires.frame (map item_contents c.args.items.now) c.args.runs.now c.args.self.now c.begin.new.self c.requires.rests.values c.requires.rests.are c.requires.runs c.begin.ensures
 
 pub step_at-requires-clause-place : goal.step_at-requires-clause-place
 step_at-requires-clause-place c =
     let contents = map item_contents c.args.items.now in
     let p = c.loop-place in
     subst (λ (q : ScheduleSeen). HasPlace contents (with_schedule p.self q) c.in-Some.place) (sym c.next_due.ensures.same)
-    (place_here c.args.table.now c.requires.frame contents c.args.runs.now c.args.self.now c.begin.new.self c.requires.rests.values c.requires.rests.are c.requires.runs (rw c.changed.ensures at c.begin.ensures) p.runs p.self p.at p.invariant c.in-Some.place c.in-Some.ensures.first)
+    (place_here c.args.table.now c.requires.frame contents c.args.runs.now c.args.self.now c.begin.new.self c.requires.rests.values c.requires.rests.are c.requires.runs c.begin.ensures p.runs p.self p.at p.invariant c.in-Some.place c.in-Some.ensures.first)
 
 pub loop-place-preserved : goal.loop-place-preserved
 loop-place-preserved c =
@@ -29,7 +34,7 @@ loop-place-preserved c =
     let same = c.next_due.ensures.same in
     let far = subst (λ (q : ScheduleSeen). IsFar c.args.table.now contents c.args.runs.now c.args.self.now c.begin.new.self p.runs (with_schedule p.self q) p.at) (sym same) p.invariant in
     let first = subst (λ (q : ScheduleSeen). IsFirstSet q.readers.due p.at c.in-Some.place) (sym same) c.in-Some.ensures.first in
-    far_on c.args.table.now c.requires.frame contents c.args.runs.now c.args.self.now c.begin.new.self c.requires.rests.values c.requires.rests.are c.requires.runs (rw c.changed.ensures at c.begin.ensures) p.runs (with_schedule p.self c.next_due.new.self) p.at far c.in-Some.place first c.step_at.new.runs c.step_at.new.self c.step_at.ensures
+    far_on c.args.table.now c.requires.frame contents c.args.runs.now c.args.self.now c.begin.new.self c.requires.rests.values c.requires.rests.are c.requires.runs c.begin.ensures p.runs (with_schedule p.self c.next_due.new.self) p.at far c.in-Some.place first c.step_at.new.runs c.step_at.new.self c.step_at.ensures
 
 pub returns-clause-rests : goal.returns-clause-rests
 returns-clause-rests c =
@@ -40,7 +45,7 @@ returns-clause-rests c =
     let far = subst (λ (q : ScheduleSeen). IsFar table contents c.args.runs.now c.args.self.now c.begin.new.self p.runs (with_schedule p.self q) p.at) (sym same) p.invariant in
     let none = subst (λ (q : ScheduleSeen). NoneSet q.readers.due p.at (length q.readers.due)) (sym same) (c.in_default.ensures.none refl) in
     subst (λ (q : ScheduleSeen). AreRests table.nodes table.values contents p.runs (with_schedule p.self q)) (sym c.end.ensures)
-    (rests_after table c.requires.frame contents c.args.runs.now c.args.self.now c.begin.new.self c.requires.rests.values c.requires.rests.are c.requires.runs (rw c.changed.ensures at c.begin.ensures) p.runs (with_schedule p.self c.next_due.new.self) p.at far c.requires.rests.changed none)
+    (rests_after table c.requires.frame contents c.args.runs.now c.args.self.now c.begin.new.self c.requires.rests.values c.requires.rests.are c.requires.runs c.begin.ensures p.runs (with_schedule p.self c.next_due.new.self) p.at far c.requires.rests.changed none)
 
 pub returns-clause-stepped : goal.returns-clause-stepped
 returns-clause-stepped c =
@@ -52,7 +57,7 @@ returns-clause-stepped c =
     let far = subst (λ (q : ScheduleSeen). IsFar table contents c.args.runs.now c.args.self.now c.begin.new.self p.runs (with_schedule p.self q) p.at) (sym same) p.invariant in
     let none = subst (λ (q : ScheduleSeen). NoneSet q.readers.due p.at (length q.readers.due)) (sym same) (c.in_default.ensures.none refl) in
     subst (λ (q : ScheduleSeen). AreSteppedSeen table contents old (seen_by p.runs (with_schedule p.self q)) p.runs) (sym c.end.ensures)
-    (seen_after table c.requires.frame contents c.args.runs.now c.args.self.now c.begin.new.self c.requires.rests.values c.requires.rests.are c.requires.runs (rw c.changed.ensures at c.begin.ensures) p.runs (with_schedule p.self c.next_due.new.self) p.at far c.requires.rests.changed none)
+    (seen_after table c.requires.frame contents c.args.runs.now c.args.self.now c.begin.new.self c.requires.rests.values c.requires.rests.are c.requires.runs c.begin.ensures p.runs (with_schedule p.self c.next_due.new.self) p.at far c.requires.rests.changed none)
 
 pub returns-clause-told : goal.returns-clause-told
 returns-clause-told c =
@@ -62,4 +67,4 @@ returns-clause-told c =
     let same = c.next_due.ensures.same in
     let far = subst (λ (q : ScheduleSeen). IsFar table contents c.args.runs.now c.args.self.now c.begin.new.self p.runs (with_schedule p.self q) p.at) (sym same) p.invariant in
     let none = subst (λ (q : ScheduleSeen). NoneSet q.readers.due p.at (length q.readers.due)) (sym same) (c.in_default.ensures.none refl) in
-    told_after table c.requires.frame contents c.args.runs.now c.args.self.now c.begin.new.self c.requires.rests.values c.requires.rests.are c.requires.runs (rw c.changed.ensures at c.begin.ensures) p.runs (with_schedule p.self c.next_due.new.self) p.at far c.requires.rests.changed none
+    told_after table c.requires.frame contents c.args.runs.now c.args.self.now c.begin.new.self c.requires.rests.values c.requires.rests.are c.requires.runs c.begin.ensures p.runs (with_schedule p.self c.next_due.new.self) p.at far c.requires.rests.changed none
