@@ -1,12 +1,15 @@
 pub mod Counts
 pub mod DisplayRows
+pub mod KeptDisplay
 pub mod KeptLines
 pub mod LineAt
 pub mod LineReads
 pub mod LineSteps
 pub mod LinesRest
+pub mod MemberRows
 pub mod NewLines
 pub mod NewRests
+pub mod Putting
 pub mod RestoredPresence
 pub mod SavedLines
 pub mod SeenLines

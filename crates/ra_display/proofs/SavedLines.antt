@@ -40,12 +40,12 @@ pub row_of : (f : MemberKept → List ℕ) (old new : List ℕ) (kepts : List Me
 row_of f old new kepts empty put = put.all ∙ ap (λ xs. xs ++ flat_map f kepts) empty ∙ sym (rows_of f kepts)
 
 -- what a line owes changes no count
-hits_long : (run : Member) (b : Before) (owed : Option ℕ) → HaveOneShape (kept_before b) (kept_by run) → length (saved_hits (seen_line run b owed)) ≡ length (saved_hits (kept_by run))
+pub hits_long : (run : Member) (b : Before) (owed : Option ℕ) → HaveOneShape (kept_before b) (kept_by run) → length (saved_hits (seen_line run b owed)) ≡ length (saved_hits (kept_by run))
 hits_long run b None shape = refl
 hits_long run b (Some n) shape =
     sym (ap length (saved_owed n (kept_before b) (kept_by run) shape)) ∙ length-paid n (saved_hits (kept_before b)) (saved_hits (kept_by run))
 
-numbers_same : (run : Member) (b : Before) (owed : Option ℕ) → HaveOneShape (kept_before b) (kept_by run) → saved_numbers (seen_line run b owed) ≡ saved_numbers (kept_by run)
+pub numbers_same : (run : Member) (b : Before) (owed : Option ℕ) → HaveOneShape (kept_before b) (kept_by run) → saved_numbers (seen_line run b owed) ≡ saved_numbers (kept_by run)
 numbers_same run b None shape = refl
 numbers_same run b (Some n) shape = saved_stay n (kept_before b) (kept_by run) shape
 
@@ -61,7 +61,7 @@ seen_hits_long owed (run ∷ runs) (b ∷ befores) fit =
     ∙ ap₂ (λ x y. x + y) one others
     ∙ sym (length-append (saved_hits (kept_by run)) (flat_map saved_hits (map kept_by runs)))
 
-seen_numbers_same : (owed : ℕ → Option ℕ) (runs : List Member) (befores : List Before) → AreLinesFitting runs befores → flat_map saved_numbers (seen_all seen_line owed runs befores) ≡ flat_map saved_numbers (map kept_by runs)
+pub seen_numbers_same : (owed : ℕ → Option ℕ) (runs : List Member) (befores : List Before) → AreLinesFitting runs befores → flat_map saved_numbers (seen_all seen_line owed runs befores) ≡ flat_map saved_numbers (map kept_by runs)
 seen_numbers_same owed [] [] fit = refl
 seen_numbers_same owed [] (b ∷ befores) fit = absurd fit
 seen_numbers_same owed (run ∷ runs) [] fit = absurd fit

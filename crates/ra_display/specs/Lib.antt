@@ -1,4 +1,5 @@
 pub mod Counted
+pub mod Keeping
 pub mod LineRests
 pub mod NewPresence
 pub mod PresenceBack

@@ -2,6 +2,8 @@
 #![tactic(auto)]
 
 mod counted;
+mod keeping;
+mod kept_display;
 mod line_keeps;
 mod line_reads;
 mod line_rests;
@@ -13,6 +15,8 @@ mod shape;
 mod shown;
 
 pub use counted::counted_presence;
+pub use keeping::{put_byte, put_hits, put_member_hits, put_member_numbers, put_word};
+pub use kept_display::keep_display;
 pub use line_rests::LineRests;
 pub use presence_run::{PresenceRun, new_presence, rest_lines, step_presence};
 pub use restored_presence::put_back_presence;

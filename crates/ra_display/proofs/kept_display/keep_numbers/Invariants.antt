@@ -1,0 +1,12 @@
+use Rattle.std.proofs.Common.{map, take}
+use Rattle.std.specs.List.{concat}
+use Rattle.ra_member.specs.Members.{saved_numbers}
+use Rattle.ra_member.specs.MemberRuns.{kept_by}
+use Rattle.ra_display.specs.Keeping.{PutsWords}
+use Rattle.ra_display.proofs.kept_display.keep_numbers.Given as goal
+
+-- the numbers of the lines so far
+abbrev pub invariant-loop-place : goal.invariant-loop-place
+invariant-loop-place l = record {
+  puts : PutsWords l.fn.row l.row l.fn.at l.next (concat (take l.place (map saved_numbers (map kept_by l.lines))));
+}

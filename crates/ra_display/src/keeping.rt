@@ -1,0 +1,162 @@
+//! Numbers that are written over a row of bytes: docs/DEFINITIONS.md, "States kept in memory".
+
+ghost use Rattle.std.specs.Prelude.{◌≡◌, ◌+◌, ◌≤◌, ◌==◌, ◌∷◌, [], if◌then◌else◌, length, map};
+ghost use Rattle.std.specs.List.{concat};
+ghost use Rattle.std.specs.Int.{w32, to_le_bytes};
+ghost use Rattle.ra_member.specs.Members.{saved_hits, saved_numbers};
+ghost use Rattle.ra_member.specs.MemberRuns.{kept_by};
+ghost use Rattle.ra_schedule.specs.Before.{AreAsLong, HaveOneShape, kept_before, value_before};
+ghost use Rattle.ra_schedule.specs.Groups.{paid, plus};
+ghost use Rattle.ra_display.specs.Keeping.{HasWords, PutsOver, PutsWords, seen_hits, seen_rows};
+ghost use Rattle.ra_display.specs.LineRests.{seen_line};
+
+use ra_member::{Member, TriggerRun, ValueRun};
+use ra_schedule::{Before, ValueBefore};
+
+/// Writes a byte over the one at a place, and gives the place after it.
+pub fn put_byte(row: &mut [u8], at: usize, byte: u8) -> usize
+    requires { at + 1 ≤ length row.old }
+    ensures { PutsOver row.old row.new at result (byte ∷ []) }
+{
+    row[at] = byte;
+    at + 1
+}
+
+/// Writes a number over the four bytes from a place on, the least first, and gives the place after them.
+#[inline]
+pub fn put_word(row: &mut [u8], at: usize, number: u32) -> usize
+    requires { at + 4 ≤ length row.old }
+    ensures { PutsOver row.old row.new at result (to_le_bytes w32 number) }
+{
+    let bytes = number.to_le_bytes();
+    row[at] = bytes[0];
+    row[at + 1] = bytes[1];
+    row[at + 2] = bytes[2];
+    row[at + 3] = bytes[3];
+    at + 4
+}
+
+// Writes numbers over the words from a place on, and gives the place after them.
+fn put_row(row: &mut [u8], at: usize, numbers: &[u32]) -> usize
+    requires { HasWords row.old at numbers.now }
+    ensures { PutsWords row.old row.new at result numbers.now }
+{
+    let mut next = at;
+    for place in 0..numbers.len() {
+        next = put_word(row, next, numbers[place]);
+    }
+    next
+}
+
+// A hit with what is owed for so many frames paid, by the one before the frame at which the rest began.
+#[inline]
+fn paid_hit(hit: u32, before: u32, frames: u32) -> u32
+    ensures { result ≡ (if hit == before then hit else plus frames hit) }
+{
+    if hit == before {
+        hit
+    } else {
+        hit.saturating_add(frames)
+    }
+}
+
+// Writes hits over the words from a place on, with what they owe for so many frames paid, and gives the place after them.
+fn put_paid(row: &mut [u8], at: usize, hits: &[u32], before: &[u32], frames: u32) -> usize
+    requires as_many { length before.now ≡ length hits.now }
+    requires room { HasWords row.old at hits.now }
+    ensures { PutsWords row.old row.new at result (paid frames before.now hits.now) }
+{
+    let mut next = at;
+    for place in 0..hits.len() {
+        let hit = paid_hit(hits[place], before[place], frames);
+        next = put_word(row, next, hit);
+    }
+    next
+}
+
+/// Writes hits as they are seen over the words from a place on, and gives the place after them. `before` are the hits
+/// before the frame at which the rest began, and `owed` says for how many frames hits are owed, where they rest.
+pub fn put_hits(row: &mut [u8], at: usize, hits: &[u32], before: &[u32], owed: Option<u32>) -> usize
+    requires as_many { length before.now ≡ length hits.now }
+    requires room { HasWords row.old at hits.now }
+    ensures { PutsWords row.old row.new at result (seen_hits owed before.now hits.now) }
+{
+    match owed {
+        Some(frames) => put_paid(row, at, hits, before, frames),
+        None => put_row(row, at, hits),
+    }
+}
+
+// Writes the hits of tests as they are seen, and gives the place after them.
+fn put_tests(
+    row: &mut [u8],
+    at: usize,
+    tests: &[TriggerRun],
+    rows: &[Vec<u32>],
+    owed: Option<u32>,
+) -> usize
+    requires as_long { AreAsLong (map (λ row. row.items) rows.now) (map (λ test. test.trigger.hits) tests.now) }
+    requires room { HasWords row.old at (concat (map (λ test. test.trigger.hits) tests.now)) }
+    ensures { PutsWords row.old row.new at result
+        (concat (seen_rows owed (map (λ row. row.items) rows.now) (map (λ test. test.trigger.hits) tests.now))) }
+{
+    let mut next = at;
+    for place in 0..tests.len() {
+        next = put_hits(row, next, tests[place].trigger.hits(), &rows[place], owed);
+    }
+    next
+}
+
+// Writes the hits of values as they are seen, and gives the place after them.
+fn put_values(
+    row: &mut [u8],
+    at: usize,
+    values: &[ValueRun],
+    rows: &[ValueBefore],
+    owed: Option<u32>,
+) -> usize
+    requires as_long { AreAsLong (map (λ row. row.hits.items) rows.now) (map (λ value. value.value.hits) values.now) }
+    requires room { HasWords row.old at (concat (map (λ value. value.value.hits) values.now)) }
+    ensures { PutsWords row.old row.new at result
+        (concat (seen_rows owed (map (λ row. row.hits.items) rows.now) (map (λ value. value.value.hits) values.now))) }
+{
+    let mut next = at;
+    for place in 0..values.len() {
+        next = put_hits(
+            row,
+            next,
+            values[place].value.hits(),
+            &rows[place].hits,
+            owed,
+        );
+    }
+    next
+}
+
+/// Writes the hits of a member as they are seen, those of the tests first, and gives the place after them.
+pub fn put_member_hits(
+    row: &mut [u8],
+    at: usize,
+    member: &Member,
+    before: &Before,
+    owed: Option<u32>,
+) -> usize
+    requires shape { HaveOneShape (kept_before before.now) (kept_by member.now) }
+    requires room { HasWords row.old at (saved_hits (kept_by member.now)) }
+    ensures { PutsWords row.old row.new at result (saved_hits (seen_line member.now before.now owed)) }
+{
+    let next = put_tests(row, at, &member.tests, &before.tests, owed);
+    put_values(row, next, &member.values, &before.values, owed)
+}
+
+/// Writes the numbers of a member's values, and gives the place after them.
+pub fn put_member_numbers(row: &mut [u8], at: usize, member: &Member) -> usize
+    requires { HasWords row.old at (saved_numbers (kept_by member.now)) }
+    ensures { PutsWords row.old row.new at result (saved_numbers (kept_by member.now)) }
+{
+    let mut next = at;
+    for place in 0..member.values.len() {
+        next = put_row(row, next, member.values[place].value.kept());
+    }
+    next
+}
