@@ -3,6 +3,7 @@ pub mod EarnedRuns
 pub mod EventLemmas
 pub mod ItemLemmas
 pub mod ItemStates
+pub mod KeptItems
 mod ItemsRest
 mod MadeRests
 mod RestRuns
