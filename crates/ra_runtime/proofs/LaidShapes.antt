@@ -32,7 +32,7 @@ presence_shaped nodes (Some script) (Some run) is =
     (λ i. Some (record { lines = many i; hits = longs.0 i; parts = longs.1 i }))
 
 -- the shape of a display within the limits of a set is small
-presence_small : (script : Option ScriptContents) → OptionalScript script → script_conditions script ≤ 65536 → IsSmallPresence (option_map presence_shape script)
+pub presence_small : (script : Option ScriptContents) → OptionalScript script → script_conditions script ≤ 65536 → IsSmallPresence (option_map presence_shape script)
 presence_small None is few = tt
 presence_small (Some script) is few =
     let within = lines_within script.lines (shown_lines script.lines is.0.lines) in

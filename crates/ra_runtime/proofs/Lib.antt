@@ -2,6 +2,8 @@ pub mod CellLemmas
 pub mod CurrentLemmas
 pub mod EarnedCourses
 pub mod FrameLemmas
+pub mod KeptBlocks
+pub mod KeptRows
 pub mod LaidShapes
 pub mod LineLemmas
 pub mod MadeLemmas
@@ -9,4 +11,6 @@ pub mod MarkedLemmas
 pub mod SavedOpening
 pub mod ShowLemmas
 pub mod TakenNumbers
+pub mod TakenStates
 pub mod TakenUp
+pub mod Zeros

@@ -25,7 +25,7 @@ use Rattle.ra_items.proofs.ShapeLemmas.{runs_shaped}
 use Rattle.ra_display.proofs.SeenLines.{lines_shaped}
 
 -- what is kept of a display is of its script's shape
-presence_kept_fits : (nodes : List Node) (values : List ℕ) (script : Option ScriptContents) (run : Option PresenceRun) (rests : LineRests) → IsOptionalPresence nodes script run → AreOptionalRests nodes values script run rests → FitOptional (optional_presence_seen run rests) → PresenceFits (option_map presence_shape script) (optional_presence_seen run rests)
+pub presence_kept_fits : (nodes : List Node) (values : List ℕ) (script : Option ScriptContents) (run : Option PresenceRun) (rests : LineRests) → IsOptionalPresence nodes script run → AreOptionalRests nodes values script run rests → FitOptional (optional_presence_seen run rests) → PresenceFits (option_map presence_shape script) (optional_presence_seen run rests)
 presence_kept_fits nodes values None None rests is are fit = tt
 presence_kept_fits nodes values None (Some run) rests is are fit = absurd is
 presence_kept_fits nodes values (Some script) None rests is are fit = absurd is

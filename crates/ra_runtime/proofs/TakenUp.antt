@@ -26,7 +26,7 @@ use Rattle.ra_items.proofs.ShapeLemmas.{runs_shaped}
 use Rattle.ra_runtime.proofs.LaidShapes.{presence_shaped}
 
 -- what items keep after a restore is what the bytes say, earned where it was before, or is said to be
-restored_are : (bytes : List ℕ) (runs : List ItemRun) (places : List (Option ℕ))
+pub restored_are : (bytes : List ℕ) (runs : List ItemRun) (places : List (Option ℕ))
     → restored_items bytes runs places ≡ items_with (both_earned (map is_earned (map kept_run runs)) (map is_earned (said_items bytes (map run_shape runs) places))) (said_items bytes (map run_shape runs) places)
 restored_are bytes [] places = refl
 restored_are bytes (run ∷ runs) [] = refl

@@ -1,5 +1,6 @@
 pub mod Cells
 pub mod Courses
+pub mod Keeping
 pub mod Laid
 pub mod Numbers
 pub mod Seen

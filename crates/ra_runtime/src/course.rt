@@ -13,6 +13,7 @@ ghost use Rattle.ra_meaning.specs.Play.{shown};
 ghost use Rattle.ra_meaning.specs.Saving.{IsSaved};
 ghost use Rattle.ra_set.specs.Spelled.{IsSpelled};
 
+use crate::kept::{Kept, OtherSet};
 use crate::numbers::take_numbers;
 use crate::shapes::{at_rest, shape_and_room};
 use crate::written::put_events;
@@ -69,6 +70,7 @@ impl Course {
     ghost use Rattle.ra_meaning.specs.Lines.{IsTextOf};
     ghost use Rattle.ra_meaning.specs.Runtime.{ReadsFew, ShowsKept, TakesFrame, TakesUp};
     ghost use Rattle.ra_runtime.specs.Courses.{over, EarnsToo, IsBegun, IsCurrent, IsTold, LooksAt, ReadsLooked};
+    ghost use Rattle.ra_runtime.specs.Keeping.{IsKeptFor, Takes};
     ghost use Rattle.ra_runtime.specs.Told.{GrewByFront};
 
     /// A set over images of `size` bytes, before the first frame: docs/DEFINITIONS.md, "What a runtime keeps".
@@ -230,6 +232,64 @@ impl Course {
         self.line_rests.forget();
         self.count = frames_at(bytes);
         self.last = None;
+    }
+
+    // Room for a kept state of this set.
+    pub(crate) fn room(&self, alloc: Global) -> Result<Kept, OutOfMemory>
+        ensures { IfOk result (IsKeptFor (shape_of self.now.set)) }
+    {
+        Kept::room(alloc, &self.shape)
+    }
+
+    /// Keeps the present state in memory, numbers alone, in the place of the one that was kept there: docs/DEFINITIONS.md,
+    /// "States kept in memory".
+    ///
+    /// It is refused exactly where the room is for another set, and then it stays as it was. No memory is taken.
+    pub fn keep(&self, kept: &mut Kept) -> Result<(), OtherSet>
+        ensures kept { OnOk result (kept.new ≡ record kept.old { opening = self.now.kept }) }
+        ensures opening { OnOk result (IsOpening (shape_of self.now.set) self.now.kept) }
+        ensures of_set { OnOk result (IsKeptFor (shape_of self.now.set) kept.old) }
+        ensures other { OnErr result (IsKeptFor (shape_of self.now.set) kept.old → ⊥) }
+        ensures err { OnErr result (kept.new ≡ kept.old) }
+    {
+        if !kept.is_for(&self.shape) {
+            return Err(OtherSet);
+        }
+        kept.note_numbers(self.count, self.table.cells(), self.table.priors());
+        kept.note_blocks(&self.runs, &self.rests, &self.presence, &self.line_rests);
+        Ok(())
+    }
+
+    /// Takes up a kept state, as a restore does: docs/DEFINITIONS.md, "States kept in memory".
+    ///
+    /// What was earned stays earned. It is refused exactly where the state is of another set, and then nothing changes. No
+    /// memory is taken.
+    pub fn take(&mut self, kept: &Kept) -> Result<(), OtherSet>
+        ensures taken { OnOk result (Takes self.old self.new kept.now.opening) }
+        ensures of_set { OnOk result (IsKeptFor (shape_of self.old.set) kept.now) }
+        ensures other { OnErr result (IsKeptFor (shape_of self.old.set) kept.now → ⊥) }
+        ensures err { OnErr result (self.new ≡ self.old) }
+    {
+        if !kept.is_for(&self.shape) {
+            return Err(OtherSet);
+        }
+        self.take_kept(kept);
+        Ok(())
+    }
+
+    // Takes up a kept state of the set.
+    fn take_kept(&mut self, kept: &Kept)
+        requires { IsKeptFor (shape_of self.old.set) kept.now }
+        ensures { Takes self.old self.new kept.now.opening }
+    {
+        let (bytes, places, display) = kept.blocks();
+        take_numbers(&mut self.table, kept.cells(), kept.priors());
+        put_back_runs(&mut self.runs, bytes, places);
+        self.rests.forget();
+        put_back_presence(&mut self.presence, &self.shape.presence, bytes, display);
+        self.line_rests.forget();
+        self.count = kept.frames();
+        let _last = self.last.take();
     }
 
     /// Takes one frame of every item from an image of which each change was told or looked for:

@@ -3,6 +3,8 @@
 
 mod cells;
 mod course;
+mod kept;
+mod laws;
 mod numbers;
 mod runtime;
 mod shapes;
@@ -11,6 +13,8 @@ mod written;
 
 pub use cells::{DirectCell, direct_cells};
 pub use course::Course;
+pub use kept::{Kept, OtherSet};
+pub use laws::taken_states_are_restored;
 pub use ra_items::{Events, ItemState};
 pub use ra_meaning::{
     Event, calls_succeed, changed_sets_go_on, earned_achievements_stay_earned, histories_are_folds,
