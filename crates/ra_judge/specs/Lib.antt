@@ -4,3 +4,4 @@ pub mod Importing
 pub mod Judging
 pub mod Places
 pub mod Reasons
+pub mod Texts
