@@ -13,7 +13,9 @@ use Rattle.ra_progress.specs.declared.refused.ProgressRefused.{ProgressRefused}
 use Rattle.ra_meaning.specs.Openings.{plain_opening}
 use Rattle.ra_meaning.specs.Order.{shape_of}
 use Rattle.ra_meaning.specs.Runtime.{TakesFrame, TakesUp}
-use Rattle.ra_runtime.specs.Courses.{CourseSeen, over, IsBegun}
+use Rattle.ra_runtime.specs.Courses.{CourseSeen, over, EarnsToo, IsBegun}
+use Rattle.ra_goals.specs.Goals.{goal_of}
+use Rattle.ra_goals.specs.Named.{is_named}
 use Rattle.ra_judge.specs.Codes.{done, memory, no_progress, out_of_range, empty}
 use Rattle.ra_judge.specs.Giving.{Gives}
 use Rattle.ra_judge.specs.Reasons.{progress_reason, set_reason}
@@ -104,3 +106,11 @@ IsSaveOf course bytes = bytes ≡ progress_bytes (shape_of course.set) course.ke
 -- the length of the progress bytes of the set is told, and the game stays
 abbrev pub AnswersSize : (size code : ℕ) → (old new : CourseSeen) → Type 0
 AnswersSize size code old new = (code ≡ done) × (size ≡ length_of (shape_of old.set)) × (new ≡ old)
+
+-- the achievements of these ids are earned too, and nothing else changes; an id of no achievement does nothing
+abbrev pub EarnsIds : (ids : List ℕ) → (old new : CourseSeen) → Type 0
+EarnsIds ids old new = EarnsToo old new (map (is_named ids) (map goal_of old.set.items))
+
+-- these ids are earned, or there is no memory and nothing changes
+abbrev pub AnswersEarn : (ids : List ℕ) → (code : ℕ) → (old new : CourseSeen) → Type 0
+AnswersEarn ids code old new = ((code ≡ done) × EarnsIds ids old new) ⊎ ((code ≡ memory) × (new ≡ old))

@@ -8,6 +8,7 @@ pub mod RecordingViews
 pub mod Recordings
 pub mod Shows
 pub mod Tellings
+pub mod ToldCells
 pub mod ToldEvents
 pub mod ToldItems
 pub mod ToldUnlocks

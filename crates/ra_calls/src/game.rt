@@ -7,6 +7,7 @@ ghost use Rattle.ra_set.specs.Refusals.{Refuses};
 use crate::choosing::find_trigger;
 use crate::held::Held;
 use crate::recording::{Recorded, Told, follow_too};
+use crate::told_cell::{ToldCell, find_cells};
 use crate::told_event::ToldEvent;
 use crate::told_item::ToldItem;
 use ra_banks::{Bank, Banks, Row, size_of};
@@ -49,10 +50,11 @@ fn copied(alloc: Global, text: &[u8]) -> Result<Vec<u8>, OutOfMemory>
 }
 
 impl Game {
-    ghost use Rattle.ra_calls.specs.Answers.{AnswersFrame, AreEventsOf, AreLinesOf, BeginsAgain, IsLoaded, IsSaveOf, RefusesProgress, TakesImage, TakesProgress};
+    ghost use Rattle.ra_calls.specs.Answers.{AnswersEarn, AnswersFrame, AreEventsOf, AreLinesOf, BeginsAgain, IsLoaded, IsSaveOf, RefusesProgress, TakesImage, TakesProgress};
     ghost use Rattle.ra_calls.specs.Recordings.{AnswersRecord, IsOfId, RecordsCall, RecordsFrame};
     ghost use Rattle.ra_calls.specs.Shows.{IsShownBy};
     ghost use Rattle.ra_calls.specs.Tellings.{TellsRecorded};
+    ghost use Rattle.ra_calls.specs.ToldCells.{AreCellsOf};
     ghost use Rattle.ra_calls.specs.ToldItems.{AreItemsOf, number_in};
 
     /// The game of a set's text over memories of `size` bytes, in a box. Nothing is recorded.
@@ -148,6 +150,24 @@ impl Game {
         ensures { IfOk result (λ told. AreItemsOf self.now.course told.items) }
     {
         self.held.items(alloc)
+    }
+
+    /// The direct cells of the set, and whether each lies whole in the memory.
+    pub fn cells(&self, alloc: Global) -> Result<Vec<ToldCell>, OutOfMemory>
+        ensures { IfOk result (λ told. AreCellsOf self.now.course told.items) }
+    {
+        find_cells(alloc, &self.text, self.held.size())
+    }
+
+    /// Adds the achievements of these ids to what is earned. `MEMORY` where memory runs out, and then nothing changes.
+    pub fn earn(&mut self, alloc: Global, ids: &[u32]) -> u32
+        ensures earned { AnswersEarn ids.now result self.old.course self.new.course }
+        ensures recording { self.new.recording ≡ self.old.recording }
+    {
+        match self.held.earn(alloc, ids) {
+            Ok(()) => DONE,
+            Err(_) => MEMORY,
+        }
     }
 
     /// The number in the format of the leaderboard of an id; none where no leaderboard has it.

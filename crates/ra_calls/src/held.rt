@@ -10,7 +10,7 @@ ghost use Rattle.ra_calls.specs.Answers.{IsLoaded};
 use crate::showing::presence_of;
 use crate::told_event::ToldEvent;
 use crate::told_item::ToldItem;
-use ra_goals::{Goal, format_in, goals_of};
+use ra_goals::{Goal, format_in, goals_of, named_in};
 use ra_memory::Image;
 use ra_progress::ProgressRefused;
 use ra_runtime::Course;
@@ -60,7 +60,7 @@ fn course_of(alloc: Global, text: &[u8], size: u32) -> Result<(Course, Vec<Goal>
 }
 
 impl Held {
-    ghost use Rattle.ra_calls.specs.Answers.{AreEventsOf, AreLinesOf, BeginsAgain, IsSaveOf, RefusesProgress, TakesImage, TakesProgress};
+    ghost use Rattle.ra_calls.specs.Answers.{AreEventsOf, AreLinesOf, BeginsAgain, EarnsIds, IsSaveOf, RefusesProgress, TakesImage, TakesProgress};
     ghost use Rattle.ra_calls.specs.Shows.{IsShownBy};
     ghost use Rattle.ra_calls.specs.ToldItems.{AreItemsOf, number_in};
 
@@ -146,11 +146,21 @@ impl Held {
         let mut rest = self.goals.as_slice();
         let mut place = 0usize;
         while let Some((goal, more)) = rest.split_first() {
-            told.push(ToldItem::of(goal, self.course.item(place)))?;
+            told.push(ToldItem::of(goal, self.course.is_earned(place), self.course.item(place)))?;
             rest = more;
             place += 1;
         }
         Ok(told)
+    }
+
+    /// Adds the achievements of these ids to what is earned. Where memory runs out nothing changes.
+    pub fn earn(&mut self, alloc: Global, ids: &[u32]) -> Result<(), OutOfMemory>
+        ensures earned { OnOk result (EarnsIds ids.now self.old self.new) }
+        ensures kept { OnErr result (self.new ≡ self.old) }
+    {
+        let named = named_in(alloc, &self.goals, ids)?;
+        self.course.earn(&named);
+        Ok(())
     }
 
     /// The number in the format of the leaderboard of an id; none where no leaderboard has it.

@@ -1,11 +1,14 @@
 ghost use Rattle.std.specs.Prelude.{◌≡◌, ◌≢◌, ◌⊎◌, MatchResult, option_map};
 ghost use Rattle.ra_calls.specs.Answers.{AnswersTold, AreEventsOf, AreLinesOf, Calls};
 ghost use Rattle.ra_judge.specs.Codes.{done, memory, no_room, empty};
+ghost use Rattle.ra_judge.specs.Giving.{GivesText};
 ghost use Rattle.ra_calls.specs.Handles.{held_in, recorded_in};
 ghost use Rattle.ra_calls.specs.Shows.{IsShownBy};
-ghost use Rattle.ra_calls.specs.ToldItems.{AnswersNumber, AreItemsOf, GivesText};
+ghost use Rattle.ra_calls.specs.ToldCells.{AreCellsOf};
+ghost use Rattle.ra_calls.specs.ToldItems.{AnswersNumber, AreItemsOf};
 
 use crate::handle::Handle;
+use crate::told_cell::ToldCell;
 use crate::told_event::ToldEvent;
 use crate::told_item::ToldItem;
 use ra_judge::codes::{EMPTY, MEMORY, RANGE};
@@ -64,6 +67,25 @@ pub fn items(alloc: Global, handle: &mut Handle, out: &mut [ToldItem], count: &m
     match handle.take(alloc) {
         Some(game) => {
             let code = give(game.items(alloc), out, count);
+            handle.put(game);
+            code
+        }
+        None => EMPTY,
+    }
+}
+
+/// The direct cells of the set, in order of first occurrence: docs/DEFINITIONS.md, "Calls from C".
+///
+/// `ROOM` where there is too little room; the count is that of all of them. `MEMORY` where memory runs out.
+pub fn cells(alloc: Global, handle: &mut Handle, out: &mut [ToldCell], count: &mut usize) -> u32
+    ensures told { Calls (AnswersTold AreCellsOf out.old out.new count.new result) result (held_in handle.old) (held_in handle.new) }
+    ensures recording { recorded_in handle.new ≡ recorded_in handle.old }
+    ensures unwritten { result ≢ done → out.new ≡ out.old }
+    ensures uncounted { (result ≡ memory) ⊎ (result ≡ empty) → count.new ≡ count.old }
+{
+    match handle.take(alloc) {
+        Some(game) => {
+            let code = give(game.cells(alloc), out, count);
             handle.put(game);
             code
         }

@@ -17,6 +17,8 @@ pub struct ToldItem {
     pub id: u32,
     /// The state, as a progress file has it.
     pub state: u32,
+    /// 1 where an achievement is earned, else 0.
+    pub earned: u32,
     /// The measured number of an achievement.
     pub measured: u32,
     /// The number at which it is complete; 0 where none is known.
@@ -40,9 +42,9 @@ fn kind_number(kind: GoalKind) -> u32
 }
 
 impl ToldItem {
-    // How an item that aims at this stands; one that stands nowhere waits.
-    pub fn of(goal: &Goal, state: Option<ItemState>) -> ToldItem
-        ensures { result ≡ spec.told_item goal.now state }
+    // How an item that aims at this stands, earned or not; one that stands nowhere waits.
+    pub fn of(goal: &Goal, earned: bool, state: Option<ItemState>) -> ToldItem
+        ensures { result ≡ spec.told_item goal.now earned state }
     {
         let (state, measured, running, number) = match state {
             Some(ItemState::Achievement { state, measured }) => {
@@ -60,6 +62,7 @@ impl ToldItem {
             kind: kind_number(goal.kind),
             id: goal.id,
             state,
+            earned: u32::from(earned),
             measured,
             target: goal.target,
             percent: u32::from(goal.percent),
