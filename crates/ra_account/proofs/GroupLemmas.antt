@@ -66,6 +66,12 @@ noted_part cs cs' size start start' count row earlier old new noted same starts 
     (λ before. subst (λ (n : ℕ). IsGroupAccount cs size (cut_row n start row ∷ map (part_of cs start) earlier) new) many (noted (map (part_of cs start) earlier) before)))
     was
 
+-- what is wanted of a group, where it is told by the group's part of a row
+pub wants_part : (cs cs' : List Condition) (start start' count : ℕ) (row : GroupRow) (wants : List Bool) → wants ≡ wants_of cs (cut_row count start row)
+    → cs' ≡ cs → start' ≡ start → count ≡ length cs → wants ≡ wants_of cs' (part_of cs' start' row)
+wants_part cs cs' start start' count row wants is same starts many =
+    is ∙ (λ i. wants_of (sym same i) (cut_row ((many ∙ ap length (sym same)) i) (sym starts i) row))
+
 -- what holds of each account so far, and of one more
 pub each_pushed : {A : Type 0} (P : ℕ → A → Type 0) (accounts : List A) (next : A) (n : ℕ) → length accounts ≡ n
     → ((g : ℕ) → g < length accounts → (d : A) → P g (get_or accounts g d)) → P n next

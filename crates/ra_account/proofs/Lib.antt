@@ -6,3 +6,5 @@ pub mod GroupLemmas
 pub mod NearLemmas
 pub mod RefillLemmas
 pub mod WidthLemmas
+pub mod ToldLemmas
+pub mod WantLemmas

@@ -86,6 +86,13 @@ abbrev pub AllGroupsStandAt : ℕ → List GroupAccount → Type 0
 AllGroupsStandAt count accounts =
     (g : ℕ) → g < length accounts → (d : GroupAccount) → GroupStandsAt count (slice_index_or accounts g d)
 
+-- each tells what the frame of a row wants of its group, of which the conditions of all groups start at a place
+abbrev pub AllWant : List (List Condition) → (from : ℕ) → GroupRow → List GroupAccount → Type 0
+AllWant groups from row accounts =
+    (g : ℕ) → g < length accounts → (d : GroupAccount)
+    → (slice_index_or accounts g d).wants.items
+    ≡ wants_of (group_at groups g) (part_of (group_at groups g) (from + start_at groups g) row)
+
 -- each has an account for each condition of its group
 abbrev pub AllFit : List (List Condition) → List GroupAccount → Type 0
 AllFit groups accounts =

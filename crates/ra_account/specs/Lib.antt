@@ -8,3 +8,4 @@ pub mod Marks
 pub mod Nearness
 pub mod Text
 pub mod Triggers
+pub mod Wanting

@@ -1,6 +1,6 @@
 -- The columns of a timeline: docs/DEFINITIONS.md, "Account of an achievement".
-use Rattle.std.specs.Prelude.{◌≡◌, ℕ, ◌+◌, ◌*◌, ◌^◌, ◌<◌, ◌≤◌, Bool, not, if◌then◌else◌, ◌==◌, List, length, take, drop, reverse, slice_index_or}
-use Rattle.std.specs.List.{list_all}
+use Rattle.std.specs.Prelude.{◌≡◌, ℕ, zero, suc, nat_lt, count_by, map, ◌+◌, ◌*◌, ◌^◌, ◌<◌, ◌≤◌, Bool, not, if◌then◌else◌, ◌==◌, List, length, take, drop, reverse, slice_index_or}
+use Rattle.std.specs.List.{list_all, range_with_len}
 use Rattle.ra_account.specs.declared.columns.Columns.{Columns}
 use Rattle.ra_account.specs.declared.mark.Mark.{Mark}
 use Rattle.ra_account.specs.declared.mark.Mark.TheVariants.{Never, Sometimes, Always}
@@ -55,3 +55,21 @@ pub record IsWidth (frames width : ℕ) : Type 0 where
 pub record IsTimeline (counts : List Bool) (c : Columns) : Type 0 where
   pub columns_too : HasColumns counts c
   pub width_too : IsWidth (length counts) c.width
+
+-- the marks of the columns that have a frame
+abbrev pub marks_in : Columns → List Mark
+marks_in c = take (c.full + (if c.begun == 0 then 0 else 1)) c.marks.items
+
+-- the least power of two with which 60 columns have room for this many frames
+abbrev pub width_of : ℕ → ℕ
+width_of zero = 1
+width_of (suc n) = if nat_lt (60 * width_of n) (suc n) then width_of n + width_of n else width_of n
+
+-- how many of 60 columns of this width have one of this many frames
+abbrev pub columns_with : (width frames : ℕ) → ℕ
+columns_with width frames = count_by (λ k. nat_lt (k * width) frames) (range_with_len 0 60)
+
+-- the marks of the columns of these frames that have one, of the least width
+abbrev pub timeline_of : List Bool → List Mark
+timeline_of counts =
+    let width = width_of (length counts) in map (λ k. column_of width k counts) (range_with_len 0 (columns_with width (length counts)))

@@ -4,12 +4,18 @@ use Rattle.ra_condition.specs.Contents.{TriggerContents, trigger_hits}
 use Rattle.ra_account.specs.declared.moment.Moment.{Moment}
 use Rattle.ra_account.specs.declared.trigger_account.TriggerAccount.{TriggerAccount}
 use Rattle.ra_account.specs.Counting.{times_of}
+use Rattle.ra_account.specs.Nearness.{Lack, IsNearest}
+use Rattle.ra_account.specs.Wanting.{trigger_wants}
 use Rattle.ra_account.specs.Groups.{GroupRow, AllFit, AllGroupsStandAt, AreGroupAccounts, FitsGroup, GroupStandsAt, IsGroupAccount, part_of}
 
 -- what the account of a trigger is told of a frame: the trigger as a whole, and a row over the conditions of all groups
 pub record TriggerRow : Type 0 where
   pub moment : Moment
   pub row : GroupRow
+
+-- what a frame wants, and whether it has a reset
+abbrev pub lack_of : TriggerContents → TriggerRow → Lack
+lack_of t f = record { reset = f.moment.reset; wants = trigger_wants t f.row }
 
 -- an account of the trigger over these frames, with a memory of this many bytes
 pub record IsTriggerAccount (t : TriggerContents) (size : ℕ) (frames : List TriggerRow) (a : TriggerAccount) : Type 0 where
@@ -19,6 +25,7 @@ pub record IsTriggerAccount (t : TriggerContents) (size : ℕ) (frames : List Tr
   pub resets : a.resets ≡ times_of (map (λ f. f.moment.reset) frames)
   pub paused : a.paused ≡ times_of (map (λ f. f.moment.paused) frames)
   pub waited : a.waited ≡ times_of (map (λ f. f.moment.waited) frames)
+  pub nearest : IsNearest (map (lack_of t) frames) a.nearest
 
 -- an account of the trigger over this many frames, whatever they showed
 pub record IsReady (t : TriggerContents) (a : TriggerAccount) : Type 0 where
@@ -31,3 +38,5 @@ pub record IsReady (t : TriggerContents) (a : TriggerAccount) : Type 0 where
   pub resets_few : a.resets.count ≤ a.frames
   pub paused_few : a.paused.count ≤ a.frames
   pub waited_few : a.waited.count ≤ a.frames
+  pub nearest_many : length a.nearest.wants.items ≡ trigger_hits t
+  pub wanted_many : length a.wanted.items ≡ trigger_hits t

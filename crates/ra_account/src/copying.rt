@@ -2,7 +2,7 @@
 
 ghost use Rattle.std.specs.Prelude.{◌≡◌, ℕ, List, length, IfOk};
 ghost use Rattle.ra_account.specs.Conditions.{AllStandAt, AreAccounts, IsAccountOf, StandsAt};
-ghost use Rattle.ra_account.specs.Copies.{AreColumnsOf};
+ghost use Rattle.ra_account.specs.Copies.{AreColumnsOf, IsNearestLike};
 ghost use Rattle.ra_account.specs.Groups.{AllFit, AllGroupsStandAt, AreGroupAccounts, FitsGroup, GroupRow, GroupStandsAt, IsGroupAccount};
 ghost use Rattle.ra_account.specs.Triggers.{IsReady, IsTriggerAccount, TriggerRow};
 ghost use Rattle.ra_account.specs.declared.facts.Facts.{Facts};
@@ -13,6 +13,7 @@ use crate::columns::Columns;
 use crate::condition::ConditionAccount;
 use crate::group_account::{GroupAccount, NO_FACTS, NO_STANDING};
 use crate::mark::Mark;
+use crate::nearest::Nearest;
 use crate::trigger_account::TriggerAccount;
 use ra_text::OutOfMemory;
 use std::alloc::Global;
@@ -112,23 +113,40 @@ pub(crate) fn copy_groups(
     Ok(copy)
 }
 
+// A copy of the nearest of some frames.
+fn copy_nearest(alloc: Global, nearest: &Nearest) -> Result<Nearest, OutOfMemory>
+    ensures { IfOk result (IsNearestLike nearest.now) }
+{
+    Ok(Nearest {
+        at: nearest.at,
+        reset: nearest.reset,
+        count: nearest.count,
+        wants: nearest.wants.to_vec(alloc)?,
+    })
+}
+
 // A copy of the account of a trigger.
 pub(crate) fn copy_trigger(
     alloc: Global,
     account: &TriggerAccount,
 ) -> Result<TriggerAccount, OutOfMemory>
+    ensures frames { IfOk result (λ copy. copy.frames ≡ account.now.frames) }
     ensures ready { (t : TriggerContents) → IsReady t account.now → IfOk result (IsReady t) }
     ensures same { (t : TriggerContents) (size : ℕ) (frames : List TriggerRow)
         → IsTriggerAccount t size frames account.now → IfOk result (IsTriggerAccount t size frames) }
 {
     let core = copy_group(alloc, &account.core)?;
     let alts = copy_groups(alloc, &account.alts)?;
+    let nearest = copy_nearest(alloc, &account.nearest)?;
+    let wanted = account.wanted.to_vec(alloc)?;
     Ok(TriggerAccount {
         core,
         alts,
         resets: account.resets,
         paused: account.paused,
         waited: account.waited,
+        nearest,
+        wanted,
         frames: account.frames,
     })
 }

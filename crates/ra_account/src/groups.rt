@@ -2,7 +2,7 @@
 
 ghost use Rattle.std.specs.Prelude.{◌≡◌, ◌+◌, ◌<◌, ◌≤◌, ◌^◌, ◌∷◌, List, length, map, sum_by};
 ghost use Rattle.ra_condition.specs.Contents.{group_contents};
-ghost use Rattle.ra_account.specs.Groups.{GroupRow, AreGroupAccounts, AreReady, IsRowOf};
+ghost use Rattle.ra_account.specs.Groups.{AllWant, GroupRow, AreGroupAccounts, AreReady, IsRowOf};
 
 use crate::group_account::GroupAccount;
 use ra_condition::Group;
@@ -32,6 +32,8 @@ pub(crate) fn note_groups(
         → AreGroupAccounts (map group_contents groups.now) from size earlier accounts.old
         → AreGroupAccounts (map group_contents groups.now) from size
         (record { truths = truths.now; lefts = lefts.now; rights = rights.now; hits = hits.now } ∷ earlier) accounts.new }
+    ensures wants { AllWant (map group_contents groups.now) from
+        (record { truths = truths.now; lefts = lefts.now; rights = rights.now; hits = hits.now }) accounts.new }
 {
     let mut start = from;
     for place in 0..accounts.len() {

@@ -58,7 +58,7 @@ fn is_nearer(reset: bool, count: u64, other_reset: bool, other_count: u64) -> bo
 }
 
 // How many of them are so.
-fn count_true(wants: &[bool]) -> u64
+pub(crate) fn count_true(wants: &[bool]) -> u64
     ensures { result ≡ count_of wants.now }
 {
     let mut count = 0;

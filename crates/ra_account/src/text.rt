@@ -2,9 +2,9 @@
 
 ghost use Rattle.std.specs.Prelude.{◌≡◌, ◌++◌, ◌≤◌, length, string_bytes, OnOk};
 ghost use Rattle.std.specs.List.{flat_map};
-ghost use Rattle.ra_account.specs.Marks.{IsSound};
+ghost use Rattle.ra_account.specs.Marks.{IsSound, marks_in};
 ghost use Rattle.ra_account.specs.Text as spec;
-ghost use Rattle.ra_account.specs.Text.{account_text, live_text, mark_text, marks_text, past_text, sides_text, span_text, target_text, timeline_text, times_text};
+ghost use Rattle.ra_account.specs.Text.{account_text, live_text, mark_text, marks_text, past_text, sides_text, span_text, target_text, timeline_text, times_text, told_by};
 
 use crate::best::Best;
 use crate::columns::Columns;
@@ -58,7 +58,7 @@ fn write_counts(
     hits: u32,
     account: &ConditionAccount,
 ) -> Result<(), AllocError>
-    ensures { OnOk result (string_bytes text.new ≡ string_bytes text.old ++ spec.counts_text target hits account.now) }
+    ensures { OnOk result (string_bytes text.new ≡ string_bytes text.old ++ spec.counts_text target hits (told_by account.now)) }
 {
     let count = account.counts.count;
     write!(text, " counts {count}")?;
@@ -70,7 +70,7 @@ fn write_counts(
 
 // The least and the greatest value of each side, where the condition counts nowhere and there is a frame.
 fn write_sides(text: &mut String, frames: u64, account: &ConditionAccount) -> Result<(), AllocError>
-    ensures { OnOk result (string_bytes text.new ≡ string_bytes text.old ++ sides_text frames account.now) }
+    ensures { OnOk result (string_bytes text.new ≡ string_bytes text.old ++ sides_text frames (told_by account.now)) }
 {
     if account.counts.count != 0 || frames == 0 {
         return Ok(());
@@ -105,7 +105,7 @@ fn write_marks(text: &mut String, marks: &[Mark]) -> Result<(), AllocError>
 // The columns that have a frame.
 fn write_columns(text: &mut String, columns: &Columns) -> Result<(), AllocError>
     requires { IsSound columns.now }
-    ensures { OnOk result (string_bytes text.new ≡ string_bytes text.old ++ marks_text columns.now) }
+    ensures { OnOk result (string_bytes text.new ≡ string_bytes text.old ++ marks_text (marks_in columns.now)) }
 {
     let some = if columns.begun == 0 { 0 } else { 1 };
     let count = columns.full + some;
@@ -119,7 +119,7 @@ fn write_timeline(
     account: &ConditionAccount,
 ) -> Result<(), AllocError>
     requires { IsSound account.now.columns }
-    ensures { OnOk result (string_bytes text.new ≡ string_bytes text.old ++ timeline_text frames account.now) }
+    ensures { OnOk result (string_bytes text.new ≡ string_bytes text.old ++ timeline_text frames (told_by account.now)) }
 {
     let count = account.counts.count;
     if count == 0 || count == frames {
@@ -132,7 +132,7 @@ fn write_timeline(
 
 // The frames at which an operand is past memory, where there is one.
 fn write_past(text: &mut String, account: &ConditionAccount) -> Result<(), AllocError>
-    ensures { OnOk result (string_bytes text.new ≡ string_bytes text.old ++ past_text account.now) }
+    ensures { OnOk result (string_bytes text.new ≡ string_bytes text.old ++ past_text (told_by account.now)) }
 {
     if account.past.count == 0 {
         return Ok(());
@@ -150,7 +150,7 @@ fn write_live(
 ) -> Result<(), AllocError>
     requires { IsSound account.now.columns }
     ensures { OnOk result (string_bytes text.new
-        ≡ string_bytes text.old ++ live_text target hits frames account.now) }
+        ≡ string_bytes text.old ++ live_text target hits frames (told_by account.now)) }
 {
     write_counts(text, target, hits, account)?;
     write_sides(text, frames, account)?;
@@ -169,7 +169,7 @@ pub fn write_account(
 ) -> Result<(), AllocError>
     requires { IsSound account.now.columns }
     ensures { OnOk result (string_bytes text.new
-        ≡ string_bytes text.old ++ account_text condition.now hits frames account.now) }
+        ≡ string_bytes text.old ++ account_text condition.now hits frames (told_by account.now)) }
 {
     if condition.flag.hands_on() {
         return write_past(text, account);

@@ -4,9 +4,11 @@ ghost use Rattle.ra_account.specs.Groups.{AllFit, AllGroupsStandAt, AreGroupAcco
 ghost use Rattle.ra_account.specs.Triggers.{TriggerRow, IsReady, IsTriggerAccount};
 
 use crate::copying::copy_trigger;
+use crate::gathering::gather_wants;
 use crate::group_account::GroupAccount;
 use crate::groups::note_groups;
 use crate::moment::Moment;
+use crate::nearest::Nearest;
 use crate::times::Times;
 use ra_condition::{Group, TriggerText};
 use ra_text::OutOfMemory;
@@ -26,6 +28,10 @@ pub struct TriggerAccount {
     pub paused: Times,
     /// The frames at which it was waiting and is valid.
     pub waited: Times,
+    /// The frame at which the fewest conditions were missing.
+    pub nearest: Nearest,
+    /// Room for what a frame wants of all conditions.
+    pub wanted: Vec<bool>,
     /// How many frames were noted.
     pub frames: u64,
 }
@@ -40,12 +46,17 @@ impl TriggerAccount {
     {
         let core = GroupAccount::new(alloc, &text.core)?;
         let alts = new_groups(alloc, &text.alts)?;
+        let count = count_of(text);
+        let nearest = Nearest::new(alloc, count)?;
+        let wanted = vec![in alloc; false; count]?;
         Ok(TriggerAccount {
             core,
             alts,
             resets: Times::new(),
             paused: Times::new(),
             waited: Times::new(),
+            nearest,
+            wanted,
             frames: 0,
         })
     }
@@ -102,17 +113,32 @@ impl TriggerAccount {
         self.resets.note(at, now.reset);
         self.paused.note(at, now.paused);
         self.waited.note(at, now.waited);
+        gather_wants(&self.core, &self.alts, &mut self.wanted);
+        self.nearest.note(at, now.reset, &self.wanted);
         self.frames += 1;
     }
 
     /// A copy, as a save slot keeps one: it is an account of the same frames.
     pub fn copy(&self, alloc: Global) -> Result<TriggerAccount, OutOfMemory>
+        ensures frames { IfOk result (λ copy. copy.frames ≡ self.now.frames) }
         ensures ready { (t : TriggerContents) → IsReady t self.now → IfOk result (IsReady t) }
         ensures same { (t : TriggerContents) (size : ℕ) (frames : List TriggerRow)
             → IsTriggerAccount t size frames self.now → IfOk result (IsTriggerAccount t size frames) }
     {
         copy_trigger(alloc, self)
     }
+}
+
+// How many conditions a trigger has.
+fn count_of(text: &TriggerText) -> usize
+    requires { trigger_hits (trigger_contents text.now) ≤ 65536 }
+    ensures { result ≡ trigger_hits (trigger_contents text.now) }
+{
+    let mut count = text.core.conditions.len();
+    for alt in &text.alts {
+        count += alt.conditions.len();
+    }
+    count
 }
 
 // The accounts of some groups before the first frame.

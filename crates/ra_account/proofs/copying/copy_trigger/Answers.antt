@@ -1,7 +1,8 @@
-use Rattle.std.proofs.Common.{List, length, map, sym, ap, ◌∙◌, subst}
+use Rattle.std.proofs.Common.{List, length, map, arith, sym, ap, ◌∙◌, subst}
 use Rattle.ra_account.specs.declared.group_account.GroupAccount.{GroupAccount}
 use Rattle.ra_account.specs.Groups.{AllFit, AllGroupsStandAt, AreGroupAccounts, part_of}
-use Rattle.ra_account.specs.Triggers.{TriggerRow}
+use Rattle.ra_account.specs.Triggers.{TriggerRow, lack_of}
+use Rattle.ra_account.proofs.CopyLemmas.{same_nearest_of}
 use Rattle.ra_account.proofs.copying.copy_trigger.Goals as goal
 
 pub returns-clause-ready : goal.returns-clause-ready
@@ -19,6 +20,8 @@ returns-clause-ready c = λ t ready.
       resets_few = ready.resets_few;
       paused_few = ready.paused_few;
       waited_few = ready.waited_few;
+      nearest_many = ap length c.in_ok-nearest.ensures.wants_too ∙ ready.nearest_many;
+      wanted_many = omega (arith, c.in_ok-wanted.ensures.len, c.in_ok-wanted.wanted.ok.0, ap length c.deref-2.ensures.value, ready.wanted_many);
     }
 
 pub returns-clause-same : goal.returns-clause-same
@@ -31,4 +34,5 @@ returns-clause-same c = λ t size frames known.
       resets = known.resets;
       paused = known.paused;
       waited = known.waited;
+      nearest = same_nearest_of (map (lack_of t) frames) c.args.account.now.nearest c.in_ok-nearest.nearest c.in_ok-nearest.ensures known.nearest;
     }

@@ -1,10 +1,10 @@
-use Rattle.std.proofs.Common.{◌≡◌, ◌+◌, ◌<◌, ◌∷◌, List, length, map, get_or, get_or-set_same, get_or-set_other, sym, ◌∙◌, subst, arith, below_more}
+use Rattle.std.proofs.Common.{◌≡◌, ap, ◌+◌, ◌<◌, ◌∷◌, List, length, map, get_or, get_or-set_same, get_or-set_other, sym, ◌∙◌, subst, arith, below_more}
 use Rattle.std.proofs.lemmas.List.{length-map}
 use Rattle.ra_condition.specs.declared.condition.Condition.{Condition}
 use Rattle.ra_condition.specs.Contents.{group_contents}
 use Rattle.ra_account.specs.declared.group_account.GroupAccount.{GroupAccount}
 use Rattle.ra_account.specs.Groups.{GroupRow, FitsGroup, GroupStandsAt, IsGroupAccount, group_at, part_of, start_at}
-use Rattle.ra_account.proofs.GroupLemmas.{end_within, group_here, noted_part, start_more}
+use Rattle.ra_account.proofs.GroupLemmas.{end_within, group_here, noted_part, start_more, wants_part}
 use Rattle.ra_account.proofs.groups.note_groups.Goals as goal
 
 pub slice_bounds-note-end : goal.slice_bounds-note-end
@@ -42,8 +42,16 @@ loop-place-preserved c =
           (noted_part (group_contents group) (group_at gs place) c.args.size c.loop-place.start (c.args.from + start_at gs place) _ row earlier (get_or olds place c.index-accounts-place.result) new
           c.note.ensures.noted here (sym known.starts) (omega (arith, c.len.ensures, group.conditions.ok.0))
           (subst (λ (a : GroupAccount). IsGroupAccount (group_at gs place) c.args.size (map (part_of (group_at gs place) (c.args.from + start_at gs place)) earlier) a) own (was place first c.index-accounts-place.result))));
+      wants = below_more _ _
+          (λ g below d. ap (λ (a : GroupAccount). a.wants.items) (get_or-set_other olds place g new d (omega arith)) ∙ known.wants g below d)
+          (λ d. ap (λ (a : GroupAccount). a.wants.items) (get_or-set_same olds place new d within)
+          ∙ wants_part (group_contents group) (group_at gs place) c.loop-place.start (c.args.from + start_at gs place) _ row new.wants.items
+          c.note.ensures.wants here (sym known.starts) (omega (arith, c.len.ensures, group.conditions.ok.0)));
       rest = λ g above d. get_or-set_other olds place g new d (omega arith) ∙ known.rest g (omega arith) d;
     }
 
 pub returns-clause-noted : goal.returns-clause-noted
 returns-clause-noted c = λ earlier was g below d. c.loop-place.invariant.noted earlier was g (omega (arith, c.loop-place-test.false, c.loop-place.auto.accounts)) d
+
+pub returns-clause-wants : goal.returns-clause-wants
+returns-clause-wants c = λ g below d. c.loop-place.invariant.wants g (omega (arith, c.loop-place-test.false, c.loop-place.auto.accounts)) d

@@ -1,7 +1,7 @@
 use Rattle.std.proofs.Common.{◌≡◌, ℕ, ◌+◌, ◌<◌, ◌≤◌, ◌∷◌, List, map, get_or}
 use Rattle.ra_condition.specs.Contents.{group_contents}
 use Rattle.ra_account.specs.declared.group_account.GroupAccount.{GroupAccount}
-use Rattle.ra_account.specs.Groups.{GroupRow, AreGroupAccounts, FitsGroup, GroupStandsAt, IsGroupAccount, group_at, part_of, start_at}
+use Rattle.ra_account.specs.Groups.{GroupRow, AreGroupAccounts, FitsGroup, GroupStandsAt, IsGroupAccount, group_at, part_of, start_at, wants_of}
 use Rattle.ra_account.proofs.groups.note_groups.Given as goal
 
 -- the frame is noted in the accounts of the groups so far, and the others are as they were
@@ -15,5 +15,9 @@ invariant-loop-place l = record {
       → IsGroupAccount (group_at (map group_contents l.groups) g) l.size
       (map (part_of (group_at (map group_contents l.groups) g) (l.from + start_at (map group_contents l.groups) g))
       (record { truths = l.truths; lefts = l.lefts; rights = l.rights; hits = l.hits } ∷ earlier)) (get_or l.accounts g d);
+  wants : (g : ℕ) → g < l.place → (d : GroupAccount)
+      → (get_or l.accounts g d).wants.items
+      ≡ wants_of (group_at (map group_contents l.groups) g) (part_of (group_at (map group_contents l.groups) g) (l.from + start_at (map group_contents l.groups) g)
+      (record { truths = l.truths; lefts = l.lefts; rights = l.rights; hits = l.hits }));
   rest : (g : ℕ) → l.place ≤ g → (d : GroupAccount) → get_or l.accounts g d ≡ get_or l.fn.accounts g d;
 }

@@ -1,5 +1,5 @@
 use Rattle.std.proofs.Common.{◌≡◌, ℕ, List, ◌++◌, append_assoc, ap, ◌∙◌}
-use Rattle.ra_account.specs.Text.{counts_text, sides_text, timeline_text}
+use Rattle.ra_account.specs.Text.{counts_text, sides_text, timeline_text, told_by}
 use Rattle.ra_account.proofs.text.write_live.Goals as goal
 
 -- three parts written one behind the other
@@ -9,5 +9,5 @@ three_parts old one two three first second third a b c =
 
 pub returns : goal.returns
 returns c =
-    three_parts _ _ _ _ (counts_text c.args.target c.args.hits c.args.account.now) (sides_text c.args.frames c.args.account.now) (timeline_text c.args.frames c.args.account.now)
+    three_parts _ _ _ _ (counts_text c.args.target c.args.hits (told_by c.args.account.now)) (sides_text c.args.frames (told_by c.args.account.now)) (timeline_text c.args.frames (told_by c.args.account.now))
     c.in_ok-write_counts.ensures c.in_ok-write_sides.ensures c.in_ok-write_timeline.ensures
