@@ -1,0 +1,15 @@
+use Rattle.std.proofs.Common.{◌≡◌, ◌++◌, ℕ, List, map, slice_index}
+use Rattle.std.specs.List.{flat_map, range_with_len}
+use Rattle.ra_account.specs.Groups.{GroupRow, IsGroupAccount, shown}
+use Rattle.ra_account.specs.Text.{told_of}
+use Rattle.ra_condition.specs.Contents.{condition_at, group_contents}
+use Rattle.ra_why.specs.Text.{condition_lines}
+use Rattle.ra_why.proofs.lines.put_group.Given as goal
+
+-- the lines of the conditions so far are written
+abbrev pub invariant-loop-place : goal.invariant-loop-place
+invariant-loop-place l = (size : ℕ) (rows : List GroupRow) → IsGroupAccount (group_contents l.group) size rows l.account
+    → l.text.items ≡ l.fn.text.items ++ flat_map
+    (λ j. condition_lines l.number j (condition_at (group_contents l.group) j) (slice_index l.hits j) l.frames
+        (told_of (map (shown (group_contents l.group) size j) rows)))
+    (range_with_len 0 l.place)
