@@ -9,12 +9,15 @@ use Rattle.ra_trigger.specs.declared.state.State.{State}
 use Rattle.ra_trigger.specs.declared.state.State.TheVariants.{Waiting, Active, Paused, Primed, Triggered}
 use Rattle.ra_trigger.specs.States.{is_triggered}
 use Rattle.ra_trigger.specs.Steps.{TriggerKept}
+use Rattle.ra_memory.specs.Image.{History}
+use Rattle.ra_explain.specs.Recorders.{kept_after}
 use Rattle.ra_account.specs.Counting.{count_of, times_of}
 use Rattle.ra_account.specs.Groups.{GroupRow, part_of, shown}
 use Rattle.ra_account.specs.Marks.{width_of}
 use Rattle.ra_account.specs.Nearness.{Lack, nearest_at, nearest_of}
 use Rattle.ra_account.specs.Text.{Told, account_text, times_text, told_of}
 use Rattle.ra_account.specs.Triggers.{TriggerRow, lack_of}
+use Rattle.ra_why.specs.Frames.{frames_of}
 
 -- the first line: the frame of the unlock, the last one; or that there was none
 abbrev pub first_text : (unlocked : Bool) → (frames id : ℕ) → List ℕ
@@ -104,3 +107,7 @@ text_by id t size kept rows =
     ++ frames_text (length rows) kept
     ++ groups_lines 0 0 (groups_of t) kept.hits (length rows) size (map (λ f. f.row) rows)
     ++ whole_lines t rows
+
+-- the text of `why` of an achievement with this id, over images of this size, after a history
+abbrev pub why_text : (id : ℕ) → TriggerContents → (size : ℕ) → History → List ℕ
+why_text id t size history = text_by id t size (kept_after t history) (frames_of t history)

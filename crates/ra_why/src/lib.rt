@@ -1,7 +1,15 @@
-//! Why an achievement did not unlock: the text of an account.
+//! Why an achievement did not unlock: an achievement over a memory, with the account of its frames, and its text.
 #![tactic(auto)]
 
+mod kept;
 mod lines;
+mod room;
+mod showing;
+mod sides;
+mod watcher;
 mod whole;
 
+pub use kept::Kept;
+pub use room::Room;
+pub use watcher::Watcher;
 pub use whole::account_text;
