@@ -1,3 +1,4 @@
+pub mod FollowLemmas
 pub mod KeptLemmas
 pub mod ReadLemmas
 pub mod TextLemmas

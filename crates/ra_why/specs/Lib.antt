@@ -1,3 +1,4 @@
 pub mod Frames
+pub mod Taking
 pub mod Text
 pub mod Watching

@@ -6,10 +6,12 @@ mod lines;
 mod room;
 mod showing;
 mod sides;
+mod taking;
 mod watcher;
 mod whole;
 
 pub use kept::Kept;
 pub use room::Room;
+pub use taking::{Taken, take_record};
 pub use watcher::Watcher;
 pub use whole::account_text;
