@@ -7,3 +7,5 @@
 mod timeline;
 #[cfg(test)]
 mod told;
+#[cfg(test)]
+mod watched;
