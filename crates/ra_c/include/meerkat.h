@@ -164,12 +164,20 @@ typedef struct meerkat_item {
     uint32_t kind;     /* enum meerkat_kind */
     uint32_t id;
     uint32_t state;    /* enum meerkat_achievement_state or meerkat_leaderboard_state */
+    uint32_t earned;   /* 1 where an achievement is earned, which has no more events then, else 0 */
     uint32_t measured; /* the measured number of an achievement */
     uint32_t target;   /* the number at which it is complete; 0 where the text names none */
     uint32_t percent;  /* 1 where it is meant as a part of the target, else 0 */
     uint32_t running;  /* 1 where an attempt at a leaderboard runs, else 0 */
     int32_t number;    /* the number that the attempt shows */
 } meerkat_item;
+
+/* A cell of the set that no pointer moves. */
+typedef struct meerkat_cell {
+    uint32_t address; /* of its first byte */
+    uint32_t width;   /* 1, 2 or 4 bytes */
+    uint32_t whole;   /* 1 where it lies whole in the memory, else 0: what is past its end reads as 0 */
+} meerkat_cell;
 
 /* The rows of an explanation: frames since the record, from 0. */
 typedef struct meerkat_unlock {
@@ -211,6 +219,16 @@ uint32_t meerkat_lines(const meerkat_game *game, uint8_t *out, size_t room, size
  * there are. The target is that of the first Measured or Measured% of the text: its hit target, else its right number
  * where that is a constant. MEERKAT_ROOM, MEERKAT_MEMORY, MEERKAT_EMPTY. */
 uint32_t meerkat_items(const meerkat_game *game, meerkat_item *out, size_t room, size_t *count);
+
+/* The achievements of these ids are earned, as the service says it: they are silent from the next frame on, also after a
+ * restore and a reset, and nothing else changes, not what the last frame told. An id of no achievement is passed over. To be
+ * called after meerkat_new, with all that the user has earned. MEERKAT_MEMORY, MEERKAT_EMPTY; then nothing changes. */
+uint32_t meerkat_earn(meerkat_game *game, const uint32_t *ids, size_t count);
+
+/* The cells of the set that no pointer moves, each once, in order of first occurrence, and whether they lie in the memory:
+ * where one does not, the set is of another machine or the banks are too few. It reads the set's text again, so it is for the
+ * time after meerkat_new and not for each frame. *count is how many there are. MEERKAT_ROOM, MEERKAT_MEMORY, MEERKAT_EMPTY. */
+uint32_t meerkat_cells(const meerkat_game *game, meerkat_cell *out, size_t room, size_t *count);
 
 /* A number in the format of the leaderboard of this id, as text, not ended by a zero. MEERKAT_RANGE where no leaderboard
  * has the id. MEERKAT_ROOM, MEERKAT_MEMORY, MEERKAT_EMPTY. */
@@ -258,6 +276,13 @@ uint32_t meerkat_judge(uint32_t kind, const uint8_t *text, size_t length, meerka
  * MEERKAT_ROOM, MEERKAT_MEMORY. */
 uint32_t meerkat_import(const uint8_t *document, size_t length, uint32_t flags, uint8_t *out, size_t room, size_t *count,
                         size_t *left, meerkat_refusal *why);
+
+/* What a code says, and what a refusal says, with its line and column or its numbers, as text in English that is not ended by
+ * a zero. A call gives out no pointer, so they fill a room as the other calls do; 128 bytes are enough. They need no
+ * game. MEERKAT_RANGE where the number is no code, or the refusal's kind none of enum meerkat_reason. MEERKAT_ROOM, and
+ * meerkat_refusal_text MEERKAT_MEMORY. */
+uint32_t meerkat_error(uint32_t code, uint8_t *out, size_t room, size_t *count);
+uint32_t meerkat_refusal_text(const meerkat_refusal *why, uint8_t *out, size_t room, size_t *count);
 
 /* The version of the archive, 2. */
 uint32_t meerkat_version(void);

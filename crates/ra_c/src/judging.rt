@@ -1,8 +1,10 @@
 //! Texts that are judged before a game is made of them.
 ghost use Rattle.std.specs.Prelude.{◌≡◌, ◌≢◌, ◌⊎◌, ◌↔◌, None};
 ghost use Rattle.ra_judge.specs.Codes.{done, memory, no_set, no_document, no_room, out_of_range};
+ghost use Rattle.ra_judge.specs.Giving.{GivesText};
 ghost use Rattle.ra_judge.specs.Importing.{AnswersImport};
 ghost use Rattle.ra_judge.specs.Judging.{AcceptsKind, RefusesKind, kind_of};
+ghost use Rattle.ra_judge.specs.Texts.{code_text, reason_text};
 
 use ra_judge::Refusal;
 use std::alloc::Global;
@@ -44,4 +46,34 @@ pub extern "C" fn meerkat_import(
     ensures unsaid { result ≢ no_document → why.new ≡ why.old }
 {
     ra_judge::import(alloc, document, flags, out, count, left, why)
+}
+
+/// What a code says: docs/DEFINITIONS.md, "Calls from C".
+///
+/// `MEERKAT_RANGE` where the number is no code; `MEERKAT_ROOM` where there is too little room; the count is that of the whole.
+#[unsafe(no_mangle)]
+pub extern "C" fn meerkat_error(code: u32, out: &mut [u8], count: &mut usize) -> u32
+    ensures told { GivesText (code_text code) out.old out.new count.new result }
+    ensures unwritten { result ≢ done → out.new ≡ out.old }
+    ensures uncounted { result ≢ done → result ≢ no_room → count.new ≡ count.old }
+{
+    ra_judge::error(code, out, count)
+}
+
+/// What a reason says: docs/DEFINITIONS.md, "Calls from C".
+///
+/// `MEERKAT_RANGE` where its kind is none; `MEERKAT_ROOM` where there is too little room; the count is that of the whole.
+/// `MEERKAT_MEMORY` where memory runs out.
+#[unsafe(no_mangle)]
+pub extern "C" fn meerkat_refusal_text(
+    alloc: Global,
+    why: &Refusal,
+    out: &mut [u8],
+    count: &mut usize,
+) -> u32
+    ensures told { result ≢ memory → GivesText (reason_text why.now) out.old out.new count.new result }
+    ensures unwritten { result ≢ done → out.new ≡ out.old }
+    ensures uncounted { result ≢ done → result ≢ no_room → count.new ≡ count.old }
+{
+    ra_judge::reason(alloc, why, out, count)
 }

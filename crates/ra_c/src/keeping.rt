@@ -1,5 +1,5 @@
 ghost use Rattle.std.specs.Prelude.{◌≡◌, ◌≢◌, ◌⊎◌, None};
-ghost use Rattle.ra_calls.specs.Answers.{AnswersReset, AnswersRestore, AnswersSize, AnswersTold, Calls, IsSaveOf};
+ghost use Rattle.ra_calls.specs.Answers.{AnswersEarn, AnswersReset, AnswersRestore, AnswersSize, AnswersTold, Calls, IsSaveOf};
 ghost use Rattle.ra_judge.specs.Codes.{done, memory, no_progress, empty};
 ghost use Rattle.ra_calls.specs.Handles.{held_in, recorded_in};
 
@@ -64,4 +64,17 @@ pub extern "C" fn meerkat_reset(alloc: Global, handle: &mut Handle) -> u32
     ensures unrecorded { recorded_in handle.new ≡ None }
 {
     ra_calls::reset(alloc, handle)
+}
+
+/// Adds the achievements of these ids to what is earned, as the service says it: docs/DEFINITIONS.md, "Calls from C" and
+/// "Earned achievements".
+///
+/// They are silent from the next frame on, and nothing else changes; an id of no achievement is passed over.
+/// `MEERKAT_MEMORY` where memory runs out, and then nothing changes.
+#[unsafe(no_mangle)]
+pub extern "C" fn meerkat_earn(alloc: Global, handle: &mut Handle, ids: &[u32]) -> u32
+    ensures earned { Calls (AnswersEarn ids.now result) result (held_in handle.old) (held_in handle.new) }
+    ensures recording { recorded_in handle.new ≡ recorded_in handle.old }
+{
+    ra_calls::earn(alloc, handle, ids)
 }

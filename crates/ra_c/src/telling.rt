@@ -3,9 +3,10 @@ ghost use Rattle.ra_calls.specs.Answers.{AnswersTold, AreEventsOf, AreLinesOf, C
 ghost use Rattle.ra_judge.specs.Codes.{done, memory, no_room, empty};
 ghost use Rattle.ra_calls.specs.Handles.{held_in, recorded_in};
 ghost use Rattle.ra_calls.specs.Shows.{IsShownBy};
+ghost use Rattle.ra_calls.specs.ToldCells.{AreCellsOf};
 ghost use Rattle.ra_calls.specs.ToldItems.{AnswersNumber, AreItemsOf};
 
-use ra_calls::{Handle, ToldEvent, ToldItem};
+use ra_calls::{Handle, ToldCell, ToldEvent, ToldItem};
 use std::alloc::Global;
 
 /// The events of the last frame, items in set order: docs/DEFINITIONS.md, "Calls from C" and "Events".
@@ -61,6 +62,24 @@ pub extern "C" fn meerkat_items(
     ensures uncounted { (result ≡ memory) ⊎ (result ≡ empty) → count.new ≡ count.old }
 {
     ra_calls::items(alloc, handle, out, count)
+}
+
+/// The direct cells of the set, in order of first occurrence: docs/DEFINITIONS.md, "Calls from C".
+///
+/// `MEERKAT_ROOM` where there is too little room; the count is that of all of them. `MEERKAT_MEMORY` where memory runs out.
+#[unsafe(no_mangle)]
+pub extern "C" fn meerkat_cells(
+    alloc: Global,
+    handle: &mut Handle,
+    out: &mut [ToldCell],
+    count: &mut usize,
+) -> u32
+    ensures told { Calls (AnswersTold AreCellsOf out.old out.new count.new result) result (held_in handle.old) (held_in handle.new) }
+    ensures recording { recorded_in handle.new ≡ recorded_in handle.old }
+    ensures unwritten { result ≢ done → out.new ≡ out.old }
+    ensures uncounted { (result ≡ memory) ⊎ (result ≡ empty) → count.new ≡ count.old }
+{
+    ra_calls::cells(alloc, handle, out, count)
 }
 
 /// The presence text after the last frame: docs/DEFINITIONS.md, "Calls from C" and "Presence over frames".

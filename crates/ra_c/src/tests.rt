@@ -1,9 +1,9 @@
 //! Worked calls, as an emulator makes them.
 
 use crate::{
-    Bank, Handle, Refusal, ToldEvent, ToldHits, ToldUnlock, meerkat_events, meerkat_explain,
-    meerkat_frame, meerkat_free, meerkat_lines, meerkat_new, meerkat_record, meerkat_reset,
-    meerkat_restore, meerkat_save,
+    Bank, Handle, Refusal, ToldEvent, ToldHits, ToldUnlock, meerkat_earn, meerkat_events,
+    meerkat_explain, meerkat_frame, meerkat_free, meerkat_lines, meerkat_new, meerkat_record,
+    meerkat_reset, meerkat_restore, meerkat_save,
 };
 use ra_judge::codes::{DONE, EMPTY, HELD, NOTHING, PROGRESS, RANGE, ROOM, SET};
 use std::alloc::Global;
@@ -66,6 +66,21 @@ fn unlocks_after(alloc: Global, bytes: &[u8]) -> bool {
 #[test]
 fn the_third_frame_with_five_unlocks(rt: HostRuntime) {
     assert!(rt; unlocks_after(rt.alloc(), &[0, 5, 5, 0]));
+}
+
+// Whether the frame that would unlock says nothing where the service said that it is earned.
+fn is_silent_when_earned(alloc: Global) -> bool {
+    let mut handle = made(alloc);
+    let code = meerkat_earn(alloc, &mut handle, &[7, 1]);
+    play(alloc, &mut handle, &[0, 5, 5, 5]);
+    let silent = prints(alloc, &mut handle, "");
+    let _ = meerkat_free(alloc, &mut handle);
+    code == DONE && silent
+}
+
+#[test]
+fn what_is_earned_is_silent(rt: HostRuntime) {
+    assert!(rt; is_silent_when_earned(rt.alloc()));
 }
 
 // The codes of calls over a handle that is empty, and made, and full, and emptied.
