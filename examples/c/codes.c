@@ -11,7 +11,9 @@ _Static_assert(sizeof(meerkat_bank) == 2 * sizeof(void *) && offsetof(meerkat_ba
 _Static_assert(sizeof(meerkat_refusal) == 48 && offsetof(meerkat_refusal, at) == 8, "meerkat_refusal");
 _Static_assert(offsetof(meerkat_refusal, wanted) == 24 && offsetof(meerkat_refusal, column) == 40, "meerkat_refusal");
 _Static_assert(sizeof(meerkat_event) == 16 && offsetof(meerkat_event, number) == 8, "meerkat_event");
-_Static_assert(sizeof(meerkat_item) == 32 && offsetof(meerkat_item, number) == 28, "meerkat_item");
+_Static_assert(sizeof(meerkat_item) == 36 && offsetof(meerkat_item, earned) == 12, "meerkat_item");
+_Static_assert(offsetof(meerkat_item, measured) == 16 && offsetof(meerkat_item, number) == 32, "meerkat_item");
+_Static_assert(sizeof(meerkat_cell) == 12 && offsetof(meerkat_cell, whole) == 8, "meerkat_cell");
 _Static_assert(sizeof(meerkat_unlock) == 12 && offsetof(meerkat_unlock, waited) == 8, "meerkat_unlock");
 _Static_assert(sizeof(meerkat_hits) == 12 && offsetof(meerkat_hits, hits) == 8, "meerkat_hits");
 
@@ -55,6 +57,8 @@ static void over_nothing(void) {
     meerkat_item items[1] = {{0}};
     meerkat_unlock unlock = {0};
     meerkat_hits hits[1] = {{0}};
+    meerkat_cell cells[1] = {{0}};
+    uint32_t id = 1;
     uint8_t bytes[128] = {0};
     meerkat_bank bank = {bytes, 64};
     size_t count = 7;
@@ -63,6 +67,8 @@ static void over_nothing(void) {
     wants("events of nothing", meerkat_events(&game, events, 1, &count), MEERKAT_EMPTY);
     wants("lines of nothing", meerkat_lines(&game, bytes, 128, &count), MEERKAT_EMPTY);
     wants("items of nothing", meerkat_items(&game, items, 1, &count), MEERKAT_EMPTY);
+    wants("earned of nothing", meerkat_earn(&game, &id, 1), MEERKAT_EMPTY);
+    wants("cells of nothing", meerkat_cells(&game, cells, 1, &count), MEERKAT_EMPTY);
     wants("number of nothing", meerkat_number(&game, 1, 1, bytes, 128, &count), MEERKAT_EMPTY);
     wants("presence of nothing", meerkat_presence(&game, bytes, 128, &count), MEERKAT_EMPTY);
     wants("size of nothing", meerkat_save_size(&game, &count), MEERKAT_EMPTY);
@@ -72,6 +78,44 @@ static void over_nothing(void) {
     wants("record of nothing", meerkat_record(&game, 1), MEERKAT_EMPTY);
     wants("explanation of nothing", meerkat_explain(&game, hits, 1, &count, &unlock), MEERKAT_EMPTY);
     wants("the count stays", (uint32_t)count, 7);
+}
+
+/* Whether a call that gives a text gave this one. */
+static void says(const char *what, uint32_t code, const uint8_t *out, const size_t *count, const char *wanted) {
+    wants(what, code, MEERKAT_DONE);
+    wants(wanted, (uint32_t)(*count == strlen(wanted) && memcmp(out, wanted, *count) == 0), 1);
+}
+
+/* What codes and refusals say. */
+static void texts(void) {
+    static const char *const said[] = {"done", "memory ran out", "the text is no set", "the bytes are no progress of the set",
+        "a size, an id, a kind or a flag is out of range", "there is too little room", "the handle holds no game",
+        "the handle holds a game already", "there is no unlock to explain", "nothing is left of the document"};
+    meerkat_refusal why = {0};
+    uint8_t out[128] = {0};
+    size_t count = 0;
+    uint32_t k;
+    for (k = 0; k < 10; k++)
+        says("an error", meerkat_error(k, out, sizeof out, &count), out, &count, said[k]);
+    wants("no error", meerkat_error(10, out, sizeof out, &count), MEERKAT_RANGE);
+    wants("too little room", meerkat_error(0, out, 3, &count), MEERKAT_ROOM);
+    wants("for this", (uint32_t)count, 4);
+    wants("no refusal", meerkat_refusal_text(&why, out, sizeof out, &count), MEERKAT_RANGE);
+    why.kind = MEERKAT_SYNTAX, why.line = 3, why.column = 14;
+    says("a place", meerkat_refusal_text(&why, out, sizeof out, &count), out, &count, "line 3, column 14: outside the grammar");
+    why.kind = MEERKAT_DUPLICATE_ID, why.id = 7;
+    says("an id", meerkat_refusal_text(&why, out, sizeof out, &count), out, &count, "line 3: the id 7 stands twice");
+    why.kind = MEERKAT_TOO_MANY_CONDITIONS, why.found = 65537, why.wanted = 65536;
+    says("a limit", meerkat_refusal_text(&why, out, sizeof out, &count), out, &count, "65537 conditions, where 65536 are the most");
+    why.kind = MEERKAT_WRONG_LENGTH, why.found = 1, why.wanted = 58;
+    says("a length", meerkat_refusal_text(&why, out, sizeof out, &count), out, &count, "progress of 1 bytes in place of 58");
+    why.kind = MEERKAT_NOT_JSON;
+    says("a document", meerkat_refusal_text(&why, out, sizeof out, &count), out, &count, "the document is no JSON");
+    wants("too little room", meerkat_refusal_text(&why, out, 22, &count), MEERKAT_ROOM);
+    for (why.kind = 0; why.kind < 30; why.kind++) {
+        int is = (why.kind >= 1 && why.kind <= 7) || (why.kind >= 11 && why.kind <= 17) || (why.kind >= 21 && why.kind <= 23);
+        wants("a kind", meerkat_refusal_text(&why, out, sizeof out, &count), is ? MEERKAT_DONE : MEERKAT_RANGE);
+    }
 }
 
 /* Texts that are refused, with what, where, line and column. */
@@ -194,6 +238,75 @@ static void what_happened(const meerkat_game *game) {
     wants("its hits", hits[0].hits, 1);
 }
 
+/* What the service says is earned: silent from then on, and nothing else changes. */
+static void earned(void) {
+    static const uint32_t ids[3] = {2, 77, 9};
+    meerkat_game game = {0};
+    meerkat_refusal why = {0};
+    meerkat_bank bank = {ram, 64};
+    meerkat_item items[3];
+    meerkat_event events[4];
+    uint8_t before[512] = {0}, lines[128] = {0};
+    size_t count = 0, size = 0;
+    memset(ram, 0, sizeof ram);
+    memset(items, 0, sizeof items);
+    memset(events, 0, sizeof events);
+    wants("a set", make(&game, set, 64, &why), MEERKAT_DONE);
+    wants("a frame", meerkat_frame(&game, &bank, 1), MEERKAT_DONE);
+    ram[0x10] = 5;
+    ram[0x11] = 3;
+    wants("a frame", meerkat_frame(&game, &bank, 1), MEERKAT_DONE);
+    keep(&game);
+    wants("none is earned", meerkat_earn(&game, ids + 1, 2), MEERKAT_DONE);
+    wants("none is earned", meerkat_earn(&game, ids, 0), MEERKAT_DONE);
+    stays("after ids of no achievement", &game);
+    wants("one is earned", meerkat_earn(&game, ids, 3), MEERKAT_DONE);
+    wants("lines", meerkat_lines(&game, lines, sizeof lines, &count), MEERKAT_DONE);
+    wants("the last frame's stay", (uint32_t)(count == 26 && memcmp(lines, "unlock 1 1\nmeasured 1 2 3\n", 26) == 0), 1);
+    wants("items", meerkat_items(&game, items, 3, &count), MEERKAT_DONE);
+    wants("the first unlocked", items[0].earned, 1);
+    wants("the second is earned", items[1].earned, 1);
+    wants("a leaderboard is not", items[2].earned, 0);
+    wants("its state stays", items[1].state, MEERKAT_ACTIVE);
+    ram[0x11] = 8;
+    wants("a frame", meerkat_frame(&game, &bank, 1), MEERKAT_DONE);
+    wants("events", meerkat_events(&game, events, 4, &count), MEERKAT_DONE);
+    wants("none of what is earned", (uint32_t)count, 0);
+    wants("items", meerkat_items(&game, items, 3, &count), MEERKAT_DONE);
+    wants("it goes on", items[1].state, MEERKAT_TRIGGERED);
+    wants("a save", meerkat_save(&game, before, sizeof before, &size), MEERKAT_DONE);
+    wants("a reset", meerkat_reset(&game), MEERKAT_DONE);
+    wants("items", meerkat_items(&game, items, 3, &count), MEERKAT_DONE);
+    wants("still earned", items[1].earned, 1);
+    wants("a restore", meerkat_restore(&game, before, size, &why), MEERKAT_DONE);
+    wants("items", meerkat_items(&game, items, 3, &count), MEERKAT_DONE);
+    wants("still earned", items[0].earned + items[1].earned, 2);
+    wants("free", meerkat_free(&game), MEERKAT_DONE);
+}
+
+/* The cells that no pointer moves. */
+static void cells(void) {
+    meerkat_game game = {0};
+    meerkat_refusal why = {0};
+    meerkat_cell out[4];
+    size_t count = 0;
+    memset(out, 0, sizeof out);
+    wants("a set", make(&game, "A 1 0xH0010=5_0x003f=d0x003f_I:0xH0011_0xX0000=1\n", 64, &why), MEERKAT_DONE);
+    keep(&game);
+    wants("too little room", meerkat_cells(&game, out, 2, &count), MEERKAT_ROOM);
+    wants("how many", (uint32_t)count, 3);
+    wants("cells", meerkat_cells(&game, out, 4, &count), MEERKAT_DONE);
+    wants("an address", out[0].address, 0x10);
+    wants("its width", out[0].width, 1);
+    wants("in the memory", out[0].whole, 1);
+    wants("an address", out[1].address, 0x3f);
+    wants("its width", out[1].width, 2);
+    wants("not whole in the memory", out[1].whole, 0);
+    wants("the pointer's cell", out[2].address, 0x11);
+    stays("after cells", &game);
+    wants("free", meerkat_free(&game), MEERKAT_DONE);
+}
+
 /* How the items stand. */
 static void how_items_stand(const char *when, const meerkat_game *game, uint32_t state, uint32_t measured, uint32_t running) {
     meerkat_item items[3];
@@ -245,8 +358,12 @@ int main(void) {
     size_t count = 0;
     wants("version", meerkat_version(), MEERKAT_VERSION);
     over_nothing();
+    texts();
     refusals();
     judged();
+    earned();
+    cells();
+    memset(ram, 0, sizeof ram);
     play(&game);
     what_happened(&game);
     how_items_stand("after a frame", &game, MEERKAT_TRIGGERED, 3, 1);

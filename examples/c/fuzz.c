@@ -84,6 +84,7 @@ typedef uint32_t (*gives)(const meerkat_game *, void *, size_t, size_t *);
 static uint32_t give_events(const meerkat_game *g, void *out, size_t room, size_t *count) { return meerkat_events(g, out, room, count); }
 static uint32_t give_lines(const meerkat_game *g, void *out, size_t room, size_t *count) { return meerkat_lines(g, out, room, count); }
 static uint32_t give_items(const meerkat_game *g, void *out, size_t room, size_t *count) { return meerkat_items(g, out, room, count); }
+static uint32_t give_cells(const meerkat_game *g, void *out, size_t room, size_t *count) { return meerkat_cells(g, out, room, count); }
 static uint32_t give_presence(const meerkat_game *g, void *out, size_t room, size_t *count) { return meerkat_presence(g, out, room, count); }
 static uint32_t give_save(const meerkat_game *g, void *out, size_t room, size_t *count) { return meerkat_save(g, out, room, count); }
 static uint32_t give_number(const meerkat_game *g, void *out, size_t room, size_t *count) { return meerkat_number(g, 7, -5, out, room, count); }
@@ -205,7 +206,7 @@ static void tell(void) {
         {"events", give_events, sizeof(meerkat_event), "015"}, {"lines", give_lines, 1, "015"},
         {"items", give_items, sizeof(meerkat_item), "015"},    {"presence", give_presence, 1, "015"},
         {"save", give_save, 1, "015"},                         {"number", give_number, 1, "0154"},
-        {"explain", give_explain, sizeof(meerkat_hits), "0158"}};
+        {"cells", give_cells, sizeof(meerkat_cell), "015"},    {"explain", give_explain, sizeof(meerkat_hits), "0158"}};
     uint32_t k = below(sizeof rows / sizeof *rows);
     size_t n = call_gives(rows[k].name, rows[k].call, rows[k].width, &game, rows[k].codes, room_a);
     size_t m = call_gives(rows[k].name, rows[k].call, rows[k].width, &twin, rows[k].codes, room_b);
@@ -225,6 +226,30 @@ static void record(void) {
     failing = 0;
     if (code != MEERKAT_MEMORY && meerkat_record(&twin, id) != code) stop("a record is begun by one of two games", code);
     if (code == MEERKAT_MEMORY) meerkat_reset(&game), meerkat_reset(&twin);
+}
+
+/* Ids that are earned, some of no achievement; a game that is told and one that is not differ in this alone. */
+static void earn(void) {
+    uint32_t ids[5], n = below(5), k, code, second;
+    for (k = 0; k < n; k++) ids[k] = below(4) == 0 ? below(4000000000u) : below(9);
+    code = meerkat_earn(&game, ids, n);
+    allow("earn", code, "01");
+    failing = 0;
+    if (code == MEERKAT_DONE && (second = meerkat_earn(&twin, ids, n)) != MEERKAT_DONE) stop("ids are earned in one of two games", second);
+}
+
+/* A text of a code or of a refusal. */
+static void say(void) {
+    meerkat_refusal why = {0};
+    size_t count = 0, again = 0, room = below(100);
+    uint32_t code, number = below(30);
+    memset(room_a, 0xa5, 4096);
+    why.kind = number, why.id = below(4000000000u), why.at = why.found = why.wanted = why.line = why.column = (uint64_t)below(4000000000u) << below(33);
+    code = below(2) ? meerkat_error(number, room_a + GUARD, room, &count) : meerkat_refusal_text(&why, room_a + GUARD, room, &count);
+    allow("a text", code, "0145");
+    for (again = GUARD + (code == MEERKAT_DONE ? count : 0); again < 4096; again++)
+        if (room_a[again] != 0xa5) stop("a byte beyond the count of a text was written", code);
+    if ((code == MEERKAT_ROOM) != (code != MEERKAT_RANGE && code != MEERKAT_MEMORY && count > room)) stop("the room of a text", code);
 }
 
 static void judge(void) {
@@ -261,7 +286,13 @@ int main(int words, char **word) {
                 allow("reset", meerkat_reset(&twin), "0");
                 if (below(2)) record();
                 break;
-            case 2: judge(); break;
+            case 2:
+                if (below(2)) judge();
+                else say();
+                break;
+            case 6:
+                if (below(4) == 0) earn();
+                break;
             case 3: case 4: case 5: tell(); break;
             default: frame();
             }

@@ -1,7 +1,8 @@
 #!/bin/sh
 # Tries the recorder, and records the game again: the trace, the player's lines and rcheevos' lines have to be the committed ones.
 # usage: examples/libretro/check.sh [PLAYER], where PLAYER is the built program; where it is not named it is the one in crates/ra_player/out
-# What needs a package that is missing is left out, with a line that says so: libretro-nestopia, librcheevos-dev and cc65 of Debian.
+# What needs a package that is missing is left out, with a line that says so: libretro-nestopia, librcheevos-dev and cc65 of Debian. So is the
+# library itself, unless an archive of exactly these files lies in crates/ra_c/out, as examples/c/check.sh leaves it there.
 set -eu
 root=$(cd "$(dirname "$0")/../.." && pwd)
 player=${1:-$root/crates/ra_player/out/ra_player}
@@ -87,6 +88,24 @@ if [ -n "$core" ]; then
     same "the trace, recorded again" "$folder/lantern.trace" lantern.trace
 else
     left_out "the game was not recorded again, libretro-nestopia is missing"
+fi
+
+archive=$root/crates/ra_c/out/libra_c
+if [ -f "$archive.a" ] && [ -f "$archive.sum" ] && [ "$(cat "$archive.sum")" = "$(../c/sum.sh)" ]; then
+    cc -std=c99 $flags -DWITH_MEERKAT -I"$root/crates/ra_c/include" frontend.c "$archive.a" "${KIT:-/opt/rattle}/c/liblibc_c.a" -o "$folder/frontend_meerkat" -ldl
+    "$folder/frontend_meerkat" "$folder/stub_core.so" stub.txt stub.txt "$folder/stub.trace" --play stub.set stub_step=A >"$folder/stub.out" 2>"$folder/items.txt"
+    if [ -x "$player" ]; then
+        "$player" run stub.set "$folder/stub.trace" >"$folder/wanted"
+        same "the library's lines over a memory map with pieces, saves, restores and a reset" "$folder/stub.out" "$folder/wanted"
+    fi
+    if [ -n "$core" ]; then
+        "$folder/frontend_meerkat" "$core" game/lantern.nes lantern.txt "$folder/lantern.trace" --play lantern.set >"$folder/lantern.out" 2>"$folder/items.txt"
+        same "the library's lines beside the core, which are the player's" "$folder/lantern.out" lantern.out
+        same "its trace" "$folder/lantern.trace" lantern.trace
+        same "how its items stand at the end" "$folder/items.txt" lantern.items
+    fi
+else
+    left_out "the library beside the core, there is no archive of these files in crates/ra_c/out"
 fi
 
 if [ -x "$player" ]; then

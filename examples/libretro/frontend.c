@@ -1,9 +1,10 @@
 /* Runs a game on a libretro core without a screen, presses what a script says, and records the game's memory as a trace.
  *
- *     frontend CORE GAME SCRIPT TRACE [--ram] [--set SET] [KEY=VALUE ..]
+ *     frontend CORE GAME SCRIPT TRACE [--ram] [--set SET] [--play SET] [KEY=VALUE ..]
  *
  * The memory is the core's memory map where it sets one, each descriptor at its start; else, and with --ram, the system RAM. KEY=VALUE is an
  * option of the core. With --set, where it is built with rcheevos, the lines that rcheevos has for the set go to the standard output.
+ * With --play, where it is built with the library, this library plays the set in the core's own memory; its lines and the presence go there.
  *
  * A line of the script is one of these; what stands behind a '#', and an empty line, is passed over:
  *
@@ -20,17 +21,12 @@
 
 #include "../c/trace_writer.h"
 #include "libretro_part.h"
+#include "meerkat_side.h"
 #include "rc_side.h"
 
 #define SLOTS 16
 #define BEGINNING 15
 #define MOST_PIECES 256
-
-struct piece {
-    unsigned long at;
-    unsigned long count;
-    const unsigned char *bytes;
-};
 
 struct core {
     void (*init)(void);
@@ -55,7 +51,7 @@ struct core {
 };
 
 static struct core core;
-static struct piece pieces[MOST_PIECES];
+static struct meerkat_side_part pieces[MOST_PIECES];
 static unsigned piece_count;
 static int wants_map = 1;
 static unsigned pressed;
@@ -275,6 +271,7 @@ static void run_frame(void)
         trace_bytes(&trace, pieces[i].at, pieces[i].bytes, pieces[i].count);
     trace_frame(&trace);
     rc_side_frame();
+    meerkat_side_frame();
 }
 
 static void save(int slot)
@@ -286,6 +283,7 @@ static void save(int slot)
         fail("no save state of", "the core");
     trace_save(&trace, slot);
     rc_side_save(slot);
+    meerkat_side_save(slot);
 }
 
 static void restore(int slot)
@@ -294,6 +292,7 @@ static void restore(int slot)
         fail("a restore is refused by", "the core");
     trace_restore(&trace, slot);
     rc_side_restore(slot);
+    meerkat_side_restore(slot);
 }
 
 /* The trace begins with a save of the beginning, which a reset takes up. */
@@ -302,12 +301,14 @@ static void reset(void)
     core.reset();
     trace_restore(&trace, BEGINNING);
     rc_side_reset();
+    meerkat_side_reset();
 }
 
 static void show(void)
 {
     trace_show(&trace);
     rc_side_show();
+    meerkat_side_show();
 }
 
 static unsigned button(const char *word)
@@ -366,18 +367,30 @@ static void run_script(const char *path)
     fclose(file);
 }
 
+/* The library plays the set of this file over the core's memory. */
+static void play(const char *path, unsigned long size)
+{
+    size_t length = 0;
+    unsigned char *text = rc_side_read(path, &length);
+    if (!text || !meerkat_side_open(text, length, pieces, piece_count, size))
+        fail("the library is not built in, or there is no set:", path);
+    free(text);
+}
+
 int main(int count, char **words)
 {
-    const char *set = NULL;
+    const char *set = NULL, *played = NULL;
     FILE *file;
     int i;
     if (count < 5)
-        fail("usage:", "frontend CORE GAME SCRIPT TRACE [--ram] [--set SET] [KEY=VALUE ..]");
+        fail("usage:", "frontend CORE GAME SCRIPT TRACE [--ram] [--set SET] [--play SET] [KEY=VALUE ..]");
     for (i = 5; i < count && strncmp(words[i], "--", 2) == 0; i++) {
         if (strcmp(words[i], "--ram") == 0)
             wants_map = 0;
         else if (strcmp(words[i], "--set") == 0 && i + 1 < count)
             set = words[++i];
+        else if (strcmp(words[i], "--play") == 0 && i + 1 < count)
+            played = words[++i];
         else
             fail("no such option:", words[i]);
     }
@@ -390,10 +403,13 @@ int main(int count, char **words)
         fail("no trace:", words[4]);
     if (set && !rc_side_open(set, trace.seen, trace.size))
         fail("rcheevos is not built in, or refuses", set);
+    if (played)
+        play(played, trace.size);
     trace_save(&trace, BEGINNING);
     rc_side_save(BEGINNING);
     run_script(words[3]);
     rc_side_close();
+    meerkat_side_close();
     close_core();
     if (!trace_end(&trace) || fclose(file) != 0)
         fail("the trace was not written whole:", words[4]);
