@@ -1,36 +1,105 @@
-//! Frames of a schedule: which places are due, and what each of them owes.
+//! Frames of a schedule over a table, by hand: which places are due, and what each of them owes.
 
-ghost use Rattle.std.specs.Prelude.{◌≡◌, ◌<◌, ℕ, length, slice_index, IfOk};
+ghost use Rattle.std.specs.Prelude.{◌≡◌, ◌<◌, ◌^◌, length, IfOk};
+ghost use Rattle.ra_schedule.specs.Schedules.{ScheduleSeen};
+ghost use Rattle.ra_truths.specs.Comparisons.{AreOver};
 
-use ra_schedule::{Readers, Schedule};
-use ra_text::OutOfMemory;
+use crate::pools::pool_of;
+use crate::truths::{cell, is_over, view};
+use ra_indirect::{Node, Pool};
+use ra_memory::{Counted, Memory, Steps};
+use ra_memref::Table;
+use ra_operand::Op;
+use ra_schedule::{Schedule, Signals};
+use ra_truths::Comparison;
 use std::alloc::Global;
+use std::marker::{Brand, Model};
+use std::sync::ledger::{Blank, Ledger};
+use std::test::Fail;
 
-// Eight signals and three places. The first signal is read by the place 1, the last one by 2 and by 0.
-fn schedule(alloc: Global) -> Result<Schedule, OutOfMemory>
-    ensures rows { IfOk result (λ s. length s.readers.rows ≡ 8) }
-    ensures due { IfOk result (λ s. length s.readers.due ≡ 3) }
-{
-    let mut readers = Readers::new(alloc, 8, 3)?;
-    note_all(&mut readers)?;
-    Schedule::new(alloc, readers, 3)
+// A table with the memory that it samples, and a schedule of three places over it. It is seen as the schedule.
+#[derive(Drop)]
+struct Watch {
+    table: Table,
+    memory: Memory,
+    schedule: Schedule,
 }
 
-fn note_all(readers: &mut Readers) -> Result<(), OutOfMemory>
-    requires rows { length readers.old.rows ≡ 8 }
-    requires due { length readers.old.due ≡ 3 }
-    ensures rows { length readers.new.rows ≡ 8 }
-    ensures due { length readers.new.due ≡ 3 }
-{
-    readers.note(0, 1)?;
-    readers.note(7, 2)?;
-    readers.note(7, 0)
+impl Model for Watch {
+    ghost use Rattle.std.specs.Prelude.{◌≡◌, length};
+    ghost use Rattle.ra_memref.specs.Table.{Agrees};
+    ghost use Rattle.ra_schedule.specs.Schedules.{IsHeard, ScheduleSeen};
+
+    ghost Value = { ScheduleSeen };
+
+    ghost view = { λ w. w.schedule };
+
+    ghost invariant = { λ w. record {
+      size : w.table.size ≡ length w.memory;
+      agrees : Agrees w.table w.memory;
+      heard : IsHeard w.table.nodes w.table.values w.schedule;
+      due : length w.schedule.readers.due ≡ 3;
+    } };
+}
+
+impl Watch {
+    // A memory of 64 zeros.
+    fn new(alloc: Global, pool: Pool) -> Result<Watch, Fail>
+        requires { length pool < 2 ^ 30 }
+    {
+        let signals = signals_over(alloc, &pool)?;
+        let schedule = Schedule::new(alloc, signals, 3)?;
+        let memory = Memory::new(alloc, 64)?;
+        let table = Table::new(alloc, pool, 64)?;
+        Ok(Watch {
+            table,
+            memory,
+            schedule,
+        })
+    }
+
+    // Writes a byte, and tells the table; what does not fit is left out.
+    fn write(&mut self, at: u32, byte: u8) {
+        let _size = self.memory.size();
+        if let Ok(()) = self.memory.write(at, &[byte]) {
+            self.table.write(at, 1);
+        }
+    }
+
+    // Which places are due at a frame. Each of them rests after it.
+    fn frame<L: Ledger>(&mut self, blank: Blank) -> [bool; 3]
+        requires name { blank.name ≡ L.name }
+        requires parts { blank.parts ≡ L.parts }
+        requires held { 0 < blank.parts }
+    {
+        let mut steps = Steps::<L>::open(blank);
+        let mut image = Counted {
+            memory: &self.memory,
+            steps: &mut steps,
+        };
+        self.table.sample(&mut image);
+        self.schedule.begin(&self.table);
+        let first = step(&mut self.schedule, 0);
+        let second = step(&mut self.schedule, 1);
+        let third = step(&mut self.schedule, 2);
+        self.schedule.end();
+        [first, second, third]
+    }
+
+    // How many frames each place owes.
+    fn owed(&self) -> [Option<u32>; 3] {
+        [
+            self.schedule.owed(0),
+            self.schedule.owed(1),
+            self.schedule.owed(2),
+        ]
+    }
 }
 
 // Whether a place is due. Then it is stepped, and rests.
 fn step(schedule: &mut Schedule, place: usize) -> bool
     requires here { place < length schedule.old.readers.due }
-    ensures rows { length schedule.new.readers.rows ≡ length schedule.old.readers.rows }
+    ensures truths { schedule.new.truths ≡ schedule.old.truths }
     ensures due { length schedule.new.readers.due ≡ length schedule.old.readers.due }
 {
     match schedule.next_due(place) {
@@ -45,62 +114,108 @@ fn step(schedule: &mut Schedule, place: usize) -> bool
     }
 }
 
-// Which places are due at a frame at which these signals changed. Each of them rests after it.
-fn frame(schedule: &mut Schedule, signals: &[u32]) -> [bool; 3]
-    requires rows { (k : ℕ) → k < length signals.now → slice_index signals.now k < length schedule.old.readers.rows }
-    requires due { length schedule.old.readers.due ≡ 3 }
-    ensures rows { length schedule.new.readers.rows ≡ length schedule.old.readers.rows }
-    ensures due { length schedule.new.readers.due ≡ 3 }
+// A byte is five, which the first and the last of three places read, and another is below five, which the last one reads. The
+// second place reads the number of that byte.
+const FIVE: Comparison = Comparison {
+    op: Op::Eq,
+    left: 2,
+    right: 3,
+};
+
+const BELOW: Comparison = Comparison {
+    op: Op::Lt,
+    left: 5,
+    right: 3,
+};
+
+fn signals_over(alloc: Global, pool: &Pool) -> Result<Signals, Fail>
+    requires { length pool.now < 2 ^ 30 }
+    ensures nodes { IfOk result (λ signals. signals.nodes ≡ length pool.now) }
+    ensures over { IfOk result (λ signals. AreOver pool.now signals.comparisons) }
+    ensures due { IfOk result (λ signals. length signals.readers.due ≡ 3) }
 {
-    schedule.begin(signals);
-    let first = step(schedule, 0);
-    let second = step(schedule, 1);
-    let third = step(schedule, 2);
-    schedule.end();
-    [first, second, third]
+    if !is_over(pool, FIVE) || !is_over(pool, BELOW) {
+        return Err(Fail::from("no comparisons"));
+    }
+    let mut signals = Signals::new(alloc, pool.len(), 3)?;
+    signals.note_comparison(FIVE, 0)?;
+    signals.note_comparison(FIVE, 2)?;
+    signals.note_comparison(BELOW, 2)?;
+    signals.note_node(BELOW.left, 1)?;
+    Ok(signals)
 }
 
-// How many frames each place owes.
-fn owed(schedule: &Schedule) -> [Option<u32>; 3] {
-    [schedule.owed(0), schedule.owed(1), schedule.owed(2)]
-}
+// The bytes that are written before a frame, who is due at it, and what is owed after it.
+type Row = (&'static [(u32, u8)], [bool; 3], [Option<u32>; 3]);
 
-fn rests_and_wakes(schedule: &mut Schedule) -> bool
-    requires rows { length schedule.old.readers.rows ≡ 8 }
-    requires due { length schedule.old.readers.due ≡ 3 }
-    ensures rows { length schedule.new.readers.rows ≡ 8 }
-    ensures due { length schedule.new.readers.due ≡ 3 }
-{
-    let at_first = frame(schedule, &[]);
-    let at_rest = frame(schedule, &[]);
-    let all_owe = owed(schedule);
-    let woken = frame(schedule, &[0, 3]);
-    at_first == [true, true, true]
-        && at_rest == [false, false, false]
-        && all_owe == [Some(1), Some(1), Some(1)]
-        && woken == [false, true, false]
-        && owed(schedule) == [Some(2), Some(0), Some(2)]
-}
+const FRAMES: &[Row] = &[
+    (&[], [true, true, true], [Some(0), Some(0), Some(0)]),
+    (&[], [false, false, false], [Some(1), Some(1), Some(1)]),
+    // a number changes, and the comparison of it comes out as before
+    (
+        &[(0x20, 1)],
+        [false, true, false],
+        [Some(2), Some(0), Some(2)],
+    ),
+    // a comparison flips, of a number that nobody reads
+    (
+        &[(0x10, 5)],
+        [true, false, true],
+        [Some(0), Some(1), Some(0)],
+    ),
+    (
+        &[(0x10, 6)],
+        [true, false, true],
+        [Some(0), Some(2), Some(0)],
+    ),
+    // a change that flips nothing
+    (
+        &[(0x10, 7)],
+        [false, false, false],
+        [Some(1), Some(3), Some(1)],
+    ),
+    // more than a quarter of the signals change
+    (
+        &[(0x10, 5), (0x20, 6)],
+        [true, true, true],
+        [Some(0), Some(0), Some(0)],
+    ),
+];
 
-// The last signal changes, then more than a quarter of all signals, and then all rest is given up.
-fn wakes_many(schedule: &mut Schedule) -> bool
-    requires rows { length schedule.old.readers.rows ≡ 8 }
-    requires due { length schedule.old.readers.due ≡ 3 }
-{
-    let last = frame(schedule, &[7]);
-    let owe = owed(schedule);
-    let many = frame(schedule, &[1, 2, 3]);
-    schedule.forget();
-    last == [true, false, true]
-        && owe == [Some(0), Some(1), Some(0)]
-        && many == [true, true, true]
-        && owed(schedule) == [None, None, None]
+// The place of the first frame at which others are due, or after which others are owed.
+fn other_frame(watch: &mut Watch) -> Option<usize> {
+    for (place, (writes, due, owed)) in FRAMES.iter().enumerate() {
+        for (at, byte) in *writes {
+            watch.write(*at, *byte);
+        }
+        let found = watch.frame::<Brand>(Blank::new(1));
+        if found != *due || watch.owed() != *owed {
+            return Some(place);
+        }
+    }
+    None
 }
 
 #[test]
-fn changed_signals_wake_their_places_alone(rt: HostRuntime) -> Result<(), OutOfMemory> {
-    let mut schedule = schedule(rt.alloc())?;
-    let alone = rests_and_wakes(&mut schedule) && wakes_many(&mut schedule);
-    assert!(rt; alone);
+fn changed_signals_wake_their_places_alone(rt: HostRuntime) -> Result<(), Fail> {
+    let nodes = [
+        Node::Const(0),
+        cell(0x10),
+        view(1),
+        Node::Const(5),
+        cell(0x20),
+        view(4),
+        Node::Const(6),
+        Node::Const(7),
+        Node::Const(8),
+        Node::Const(9),
+        Node::Const(10),
+        Node::Const(11),
+        Node::Const(12),
+        Node::Const(13),
+    ];
+    let pool = pool_of(rt.alloc(), &nodes)?;
+    let mut watch = Watch::new(rt.alloc(), pool)?;
+    assert_eq!(rt; other_frame(&mut watch), None);
     Ok(())
 }

@@ -113,7 +113,7 @@ fn compares(op: Op) -> bool
     }
 }
 
-fn is_over(pool: &Pool, comparison: Comparison) -> bool
+pub(crate) fn is_over(pool: &Pool, comparison: Comparison) -> bool
     ensures { IsTrue result → IsOver pool.now comparison }
 {
     compares(comparison.op) && is_valued(pool, comparison.left) && is_valued(pool, comparison.right)
@@ -195,7 +195,7 @@ const FRAMES: &[Row] = &[
     (&[(0x10, 5)], &[true, false, true, false], &[]),
 ];
 
-fn view(cell: u32) -> Node {
+pub(crate) fn view(cell: u32) -> Node {
     Node::View {
         kind: Kind::Mem,
         size: Size::Byte,
@@ -203,7 +203,7 @@ fn view(cell: u32) -> Node {
     }
 }
 
-fn cell(offset: u32) -> Node {
+pub(crate) fn cell(offset: u32) -> Node {
     Node::Cell {
         pointer: 0,
         offset,
