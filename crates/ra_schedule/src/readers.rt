@@ -74,10 +74,7 @@ impl Readers {
         ensures { Wakes (map (λ n. from + n) nodes.now) self.old self.new }
     {
         for node in nodes {
-            wake_row(
-                &self.rows[from as usize + *node as usize],
-                &mut self.due,
-            );
+            wake_row(&self.rows[from as usize + *node as usize], &mut self.due);
         }
     }
 

@@ -79,7 +79,7 @@ module _ (form : Form) where
   give_same (cs ∷ groups) lefts others same = (
     record { at = λ j gives. in_front j gives },
     give_same groups (drop (length cs) lefts) (drop (length cs) others)
-    (λ j given. get_or-drop (length cs) lefts j 0 ∙ same (length cs + j) (there_given cs groups j ∙ given) ∙ sym (get_or-drop (length cs) others j 0)),
+        (λ j given. get_or-drop (length cs) lefts j 0 ∙ same (length cs + j) (there_given cs groups j ∙ given) ∙ sym (get_or-drop (length cs) others j 0)),
   )
     where
       in_front : (j : ℕ) → gives_left form (condition_at cs j) ≡ true → slice_index (take (length cs) lefts) j ≡ slice_index (take (length cs) others) j
