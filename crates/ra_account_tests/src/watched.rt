@@ -84,12 +84,7 @@ fn take(alloc: Global, watcher: &mut Watcher, step: Step, at: u64) -> Result<u64
 }
 
 // Takes some steps, behind at most so many frames.
-fn take_all(
-    alloc: Global,
-    watcher: &mut Watcher,
-    steps: &[Step],
-    before: u64,
-) -> Result<u64, Fail>
+fn take_all(alloc: Global, watcher: &mut Watcher, steps: &[Step], before: u64) -> Result<u64, Fail>
     requires watches { IsWatching before watcher.old }
     requires size { length watcher.old.memory ≡ 64 }
     ensures watches { IfOk result (λ behind. IsWatching behind watcher.new) }
@@ -240,10 +235,7 @@ fn no_frame_has_no_nearest(rt: HostRuntime) -> Result<(), Fail> {
 }
 
 // The second alt wants one condition, and the first one two.
-const ALTS: &[&[Step]] = &[
-    &[Write(0x10, 1)],
-    &[Frame; 1],
-];
+const ALTS: &[&[Step]] = &[&[Write(0x10, 1)], &[Frame; 1]];
 
 #[test]
 fn the_alt_that_wants_least_is_told(rt: HostRuntime) -> Result<(), Fail> {

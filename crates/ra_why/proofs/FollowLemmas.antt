@@ -40,7 +40,7 @@ module _ (old new : Watcher) (m : Moment) (f : Follows old m) where
       slots = λ k. subst (λ (w : Watcher). SlotMeets (trigger_in w) (length w.memory)
           (slice_index_or w.slots.items k None) (slice_index_or m.slots k None)) (sym is)
           (subst (λ n. SlotMeets (trigger_in old) n (slice_index_or old.slots.items k None)
-              (slice_index_or m.slots k None)) (sym long) (f.slots k));
+          (slice_index_or m.slots k None)) (sym long) (f.slots k));
     };
     unlocks = refl;
     other = λ end. absurd (cc);
@@ -54,16 +54,16 @@ module _ (old new : Watcher) (m : Moment) (f : Follows old m) where
     slots_on k = subst (λ (s : _). SlotMeets (trigger_in new) (length new.memory) s (slice_index_or m.slots k None))
         (sym (ap (λ s. slice_index_or s.items k None) rest.slots))
         (subst (λ image. SlotMeets (trigger_in new) (length image) (slice_index_or old.slots.items k None)
-            (slice_index_or m.slots k None)) (sym rest.memory)
+        (slice_index_or m.slots k None)) (sym rest.memory)
         (subst (λ (t : TriggerContents). SlotMeets t (length old.memory) (slice_index_or old.slots.items k None)
-            (slice_index_or m.slots k None))
-            (sym (ap (λ text. Rattle.ra_condition.specs.Contents.trigger_contents text) rest.text)) (f.slots k)))
+        (slice_index_or m.slots k None))
+        (sym (ap (λ text. Rattle.ra_condition.specs.Contents.trigger_contents text) rest.text)) (f.slots k)))
 
     -- ---- a frame
 
     pub framed_on : (unlock : Bool) → ((history : History) → Stands old history → Stands new (old.memory ∷ history))
         → ((history : History) → Stands old history → unlock ≡ unlocks_at (trigger_in old) old.memory history)
-            → GoesTo old new Framed m unlock
+        → GoesTo old new Framed m unlock
     framed_on unlock stands answers = record {
       follows = record {
         image = rest.memory ∙ f.image;
@@ -96,7 +96,7 @@ module _ (old new : Watcher) (m : Moment) (f : Follows old m) where
     pub restored_on : (slot : ℕ) → TakesUp old new slot true → GoesTo old new (Restored slot) m false
     restored_on slot takes =
         let meets = subst (λ (s : Option Kept). SlotMeets (trigger_in old) (length old.memory) s
-            (slice_index_or m.slots slot None)) takes.1.0 (f.slots slot) in
+        (slice_index_or m.slots slot None)) takes.1.0 (f.slots slot) in
         record {
           follows = record {
             image = rest.memory ∙ f.image;
@@ -125,9 +125,9 @@ module _ (old new : Watcher) (m : Moment) (f : Follows old m) where
 set_meets : (t : TriggerContents) (size : ℕ) (slots : List (Option Kept)) (kept_frames : List (Option History))
     (named : ℕ) (kept : Kept) (history : History) → length slots ≡ length kept_frames
     → ((k : ℕ) → SlotMeets t size (slice_index_or slots k None) (slice_index_or kept_frames k None))
-        → SlotStands t size kept history
+    → SlotStands t size kept history
     → (k : ℕ) → SlotMeets t size (slice_index_or (slice_set slots named (Some kept)) k None)
-        (slice_index_or (slice_set kept_frames named (Some history)) k None)
+    (slice_index_or (slice_set kept_frames named (Some history)) k None)
 set_meets t size [] [] named kept history many each stands k = each k
 set_meets t size [] (h ∷ hs) named kept history many each stands k = absurd (omega (arith, many))
 set_meets t size (s ∷ slots) [] named kept history many each stands k = absurd (omega (arith, many))
@@ -145,8 +145,8 @@ saved_on old new m slot most f w saves =
     let t = trigger_in old in
     let size = length old.memory in
     let keeps : SlotStands t size saves.kept m.behind =
-        kept_stands t old.table old.run.trigger old.account saves.kept saves.is w.run_too.hits w.somewhere size m.behind
-        f.stands in
+    kept_stands t old.table old.run.trigger old.account saves.kept saves.is w.run_too.hits w.somewhere size m.behind
+    f.stands in
     record {
       follows = record {
         image = ap (λ (x : Watcher). x.memory) saves.rest ∙ f.image;
@@ -156,9 +156,9 @@ saved_on old new m slot most f w saves =
             (slice_index_or new.slots.items k None) (slice_index_or (slice_set m.slots slot (Some m.behind)) k None))
             (sym saves.rest)
             (subst (λ (items : List (Option Kept)). SlotMeets t size (slice_index_or items k None)
-                (slice_index_or (slice_set m.slots slot (Some m.behind)) k None)) (sym saves.slots)
+            (slice_index_or (slice_set m.slots slot (Some m.behind)) k None)) (sym saves.slots)
             (set_meets t size old.slots.items m.slots slot saves.kept m.behind
-                (w.sixteen ∙ sym f.sixteen) f.slots keeps k));
+            (w.sixteen ∙ sym f.sixteen) f.slots keeps k));
       };
       unlocks = refl;
       other = λ end. absurd (cc);
@@ -168,6 +168,10 @@ saved_on old new m slot most f w saves =
 -- ---- a show
 
 pub shown_on : (w : Watcher) (m : Moment) → Follows w m → GoesTo w w Shown m false
-shown_on w m f = record
-    { follows = record { image = f.image; stands = f.stands; sixteen = f.sixteen; slots = f.slots }; unlocks =
-    refl; other = λ end. absurd (cc); filled = λ empty. empty }
+shown_on w m f = record {
+  follows = record { image = f.image; stands = f.stands; sixteen = f.sixteen; slots = f.slots };
+  unlocks =
+      refl;
+  other = λ end. absurd (cc);
+  filled = λ empty. empty;
+}

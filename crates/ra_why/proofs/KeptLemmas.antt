@@ -43,8 +43,11 @@ module _ (t : TriggerContents) (table : TableSeen) (trigger : TriggerKept) (acco
     };
     hits = (as_slot table trigger account kept is).hits ∙ ap (λ n. 4 * n) counts.hits;
     numbers = (as_slot table trigger account kept is).numbers ∙ ap₂ (λ m n. 4 * (m + n)) counts.cells counts.priors;
-    account = record { ready = is.account_too.0 t goes.ready; few =
-        subst (λ n. n ≤ most) (sym is.account_too.1.1) goes.few };
+    account = record {
+      ready = is.account_too.0 t goes.ready;
+      few =
+          subst (λ n. n ≤ most) (sym is.account_too.1.1) goes.few;
+    };
   }
 
   -- and stands for each history for which it was kept

@@ -36,7 +36,7 @@ module _ (nodes : List Node) (values : List ℕ) (start : Start) (h : History)
   read_one n tree is =
       ap (λ vs. get_or vs n 0) has
       ∙ get_or-map (spelled_value start h) (spelled_by nodes) n (IsTree tree) 0
-          (slice_get_within (spelled_by nodes) n (IsTree tree) is)
+      (slice_get_within (spelled_by nodes) n (IsTree tree) is)
       ∙ ap (spelled_value start h) (get_or_from_slice_get (spelled_by nodes) n (IsTree tree) (IsTree tree) is)
 
   read_all : (ns : List ℕ) (trees : List Tree) → AreSpelled nodes ns trees
@@ -73,13 +73,13 @@ module _ (t : TriggerContents) (old new : TableSeen) (image : List ℕ) (trigger
   pub has_values : HasValues new plain_start (image ∷ history)
   has_values =
       samples.values plain_start history are_kept
-          ∙ ap (λ ns. map (spelled_value plain_start (image ∷ history)) (spelled_by ns)) (sym samples.pool.0)
+      ∙ ap (λ ns. map (spelled_value plain_start (image ∷ history)) (spelled_by ns)) (sym samples.pool.0)
 
   -- what was read is the row of the frame
   pub row_is : (laid : Laid) (row : GroupRow) → IsLaid new.nodes (groups_of t) laid
       → row.truths ≡ truths_laid new.values laid
       → row.lefts ≡ numbers_at new.values laid.plan.lefts.items
-          → row.rights ≡ numbers_at new.values laid.plan.rights.items → row.hits ≡ trigger.hits
+      → row.rights ≡ numbers_at new.values laid.plan.rights.items → row.hits ≡ trigger.hits
       → row ≡ row_at t (image ∷ history) (kept_after t history).hits
   row_is laid row is truths lefts rights hits = (λ i. record {
     truths = (truths ∙ laid_truths new.nodes new.values plain_start (image ∷ history) has_values (groups_of t) laid is)
@@ -93,7 +93,7 @@ module _ (t : TriggerContents) (old new : TableSeen) (image : List ℕ) (trigger
   -- what a frame shows is what was read at it
   pub shown_is : (run : TriggerRun) → run.trigger ≡ trigger → IsLaid new.nodes (groups_of t) run.laid
       → shown_by t run.trigger (row_read new.values run) ≡ shown_by t (kept_after t history)
-          (row_at t (image ∷ history) (kept_after t history).hits)
+      (row_at t (image ∷ history) (kept_after t history).hits)
   shown_is run same laid =
       (λ i. shown_by t ((same ∙ stands.trigger) i)
-          (row_is run.laid (row_read new.values run) laid refl refl refl (ap (λ (k : TriggerKept). k.hits) same) i))
+      (row_is run.laid (row_read new.values run) laid refl refl refl (ap (λ (k : TriggerKept). k.hits) same) i))

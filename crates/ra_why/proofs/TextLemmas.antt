@@ -16,7 +16,7 @@ lines_more f n =
     ∙ ap (flat_map f) (range_more 0 n)
     ∙ flat_map-append f (range_with_len 0 n) ((0 + n) ∷ [])
     ∙ ap (λ ys. flat_map f (range_with_len 0 n) ++ ys)
-        (append-nil (f (0 + n)) ∙ (let same : 0 + n ≡ n = omega arith in ap f same))
+    (append-nil (f (0 + n)) ∙ (let same : 0 + n ≡ n = omega arith in ap f same))
 
 -- a text of four parts, of which two are there first
 pub four_parts : (a b c d start more all : List ℕ) → start ≡ a ++ b → more ≡ start ++ c → all ≡ more ++ d
@@ -28,7 +28,7 @@ pub text_more : (start old new : List ℕ) (f : ℕ → List ℕ) (n : ℕ) → 
     → new ≡ old ++ f n → new ≡ start ++ flat_map f (range_with_len 0 (n + 1))
 text_more start old new f n known more =
     more ∙ ap (λ xs. xs ++ f n) known ∙ append_assoc start (flat_map f (range_with_len 0 n)) (f n)
-        ∙ ap (λ ys. start ++ ys) (sym (lines_more f n))
+    ∙ ap (λ ys. start ++ ys) (sym (lines_more f n))
 
 -- a power of two with which sixty columns have too little room, or just enough
 pub record IsSoFar (frames width : ℕ) : Type 0 where
@@ -53,5 +53,5 @@ twice_so_far frames width known little = record {
 pub enough_so_far : (frames width : ℕ) → IsSoFar frames width → frames ≤ width * 60 → width ≡ width_of frames
 enough_so_far frames width known enough =
     one_width frames width (width_of frames)
-        (record { exponent = known.exponent; power = known.power; enough = omega (arith, enough); least = known.least })
-        (width_is frames)
+    (record { exponent = known.exponent; power = known.power; enough = omega (arith, enough); least = known.least })
+    (width_is frames)

@@ -40,7 +40,7 @@ column_text width = if nat_lt 1 width then codes " column " ++ decimal width els
 abbrev pub frames_text : (frames : ℕ) → TriggerKept → List ℕ
 frames_text frames kept =
     codes "frames " ++ decimal frames ++ codes " state " ++ state_word kept.state ++ codes " measured " ++ decimal
-        kept.measured
+    kept.measured
     ++ column_text (width_of frames) ++ codes "\n"
 
 -- the group and the place of a condition
@@ -56,7 +56,7 @@ condition_lines group place c hits frames told =
 abbrev pub group_lines : (group : ℕ) → List Condition → (hits : List ℕ) → (frames size : ℕ) → List GroupRow → List ℕ
 group_lines group cs hits frames size rows =
     flat_map (λ j. condition_lines group j (condition_at cs j) (slice_index hits j) frames
-        (told_of (map (shown cs size j) rows))) (places cs)
+    (told_of (map (shown cs size j) rows))) (places cs)
 
 -- the lines of groups, from one on; hits and rows run over the conditions of all groups, and those of these start at a place
 abbrev pub groups_lines : (group from : ℕ) → List (List Condition) → (hits : List ℕ) → (frames size : ℕ) → List GroupRow

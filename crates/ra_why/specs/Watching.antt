@@ -32,7 +32,7 @@ abbrev pub IsAccountLike : TriggerAccount → TriggerAccount → Type 0
 IsAccountLike old copy =
     ((t : TriggerContents) → IsReady t old → IsReady t copy)
     × (((t : TriggerContents) (size : ℕ) (frames : List TriggerRow) → IsTriggerAccount t size frames old
-        → IsTriggerAccount t size frames copy)
+    → IsTriggerAccount t size frames copy)
     × (copy.frames ≡ old.frames))
 
 -- what is kept of a table, an achievement and an account

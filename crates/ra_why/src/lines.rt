@@ -24,7 +24,11 @@ pub(crate) fn write_place(text: &mut String, group: usize, place: usize) -> Resu
 }
 
 // The canonical text of a condition, behind the bytes.
-fn put_condition(alloc: Global, text: &mut Vec<u8>, condition: &Condition) -> Result<(), OutOfMemory>
+fn put_condition(
+    alloc: Global,
+    text: &mut Vec<u8>,
+    condition: &Condition,
+) -> Result<(), OutOfMemory>
     requires { IsCondition InTrigger condition.now }
     ensures { OnOk result (text.new.items ≡ text.old.items ++ condition_text condition.now) }
 {

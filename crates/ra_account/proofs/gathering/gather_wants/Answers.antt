@@ -26,15 +26,15 @@ loop-alt-preserved c =
     let behind = drop from xs in
     let far : length behind ≡ length xs - from = length-drop from xs in
     let fits : length part ≡ length alt.wants.items =
-        c.put_wants.auto.wanted ∙ length-take-le (end - from) behind (omega (arith, far, left, long)) ∙ (let span : end - from ≡ length alt.wants.items = omega (arith, long) in span) in
+    c.put_wants.auto.wanted ∙ length-take-le (end - from) behind (omega (arith, far, left, long)) ∙ (let span : end - from ≡ length alt.wants.items = omega (arith, long) in span) in
     let rest' = wants_by (drop (i + 1) alts) in
     let found = c.loop-alt.found in
     let least = c.fewest-least.result in
     let chosen : c.is_first-chosen.result ≡ (not found && (count_of alt.wants.items == least)) = c.is_first-chosen.ensures ∙ ap (λ ws. not found && (count_of ws == least)) c.deref-in-loop-alt.ensures.value in
     let size : length (take from xs ++ (part ++ drop (end - from) behind)) ≡ length xs =
-        length-append (take from xs) (part ++ drop (end - from) behind)
-        ∙ ap₂ (λ m n. m + n) (length-take-le from xs (omega (arith, left))) (length-append part (drop (end - from) behind) ∙ ap (λ n. length part + n) (length-drop (end - from) behind))
-        ∙ omega (arith, far, left, long, fits) in
+    length-append (take from xs) (part ++ drop (end - from) behind)
+    ∙ ap₂ (λ m n. m + n) (length-take-le from xs (omega (arith, left))) (length-append part (drop (end - from) behind) ∙ ap (λ n. length part + n) (length-drop (end - from) behind))
+    ∙ omega (arith, far, left, long, fits) in
     record {
       whole = ap (λ ys. ys ++ to_write (found || c.is_first-chosen.result) least rest')
           (put_part xs part (drop (end - from) behind) from end (omega (arith, left)) (omega (arith, long, fits)))

@@ -17,33 +17,38 @@ loop-place-preserved c = λ size rows known.
     let cs = group_contents c.args.group.now in
     let j = c.loop-place.place in
     let f : ℕ → List ℕ =
-        λ k. condition_lines c.args.number k (condition_at cs k) (slice_index c.args.hits.now k) c.args.frames
-        (told_of (map (shown cs size k) rows)) in
+    λ k. condition_lines c.args.number k (condition_at cs k) (slice_index c.args.hits.now k) c.args.frames
+    (told_of (map (shown cs size k) rows)) in
     let account = c.index-in-loop-place.result.now in
     let below : j < length cs =
-        omega (arith, c.loop-place-test.true, c.len-place-end.ensures, c.args.group.now.conditions.ok.0) in
+    omega (arith, c.loop-place-test.true, c.len-place-end.ensures, c.args.group.now.conditions.ok.0) in
     let there : j < length c.args.account.now.conditions.items = omega (arith, below, c.requires.accounts) in
     let own : IsAccountOf (map (shown cs size j) rows) account =
-        subst (λ (a : ConditionAccount). IsAccountOf (map (shown cs size j) rows) a) (sym c.index-in-loop-place.ensures)
-        (known j there account) in
+    subst (λ (a : ConditionAccount). IsAccountOf (map (shown cs size j) rows) a) (sym c.index-in-loop-place.ensures)
+    (known j there account) in
     let sound : IsSound account.columns =
-        subst (λ (a : ConditionAccount). IsSound a.columns) (sym c.index-in-loop-place.ensures)
-        (c.requires.stands j there account).sound in
+    subst (λ (a : ConditionAccount). IsSound a.columns) (sym c.index-in-loop-place.ensures)
+    (c.requires.stands j there account).sound in
     let here : c.index.result.now ≡ condition_at cs j =
-        get_or_read cs j c.index.result.now below c.index.ensures no_condition in
+    get_or_read cs j c.index.result.now below c.index.ensures no_condition in
     text_more c.args.text.now.items c.loop-place.text.items c.put_lines.new.text.items f j
-        (c.loop-place.invariant size rows known)
+    (c.loop-place.invariant size rows known)
     (c.in_ok-put_lines.ensures
-        ∙ (λ i. c.loop-place.text.items ++ condition_lines c.args.number j (here i)
-        (slice_index c.args.hits.now j) c.args.frames (told_is (map (shown cs size j) rows) account own sound i)))
+    ∙ (λ i. c.loop-place.text.items ++ condition_lines c.args.number j (here i)
+    (slice_index c.args.hits.now j) c.args.frames (told_is (map (shown cs size j) rows) account own sound i)))
 
 pub returns : goal.returns
 returns c = λ size rows known.
     let cs = group_contents c.args.group.now in
     let f : ℕ → List ℕ =
-        λ k. condition_lines c.args.number k (condition_at cs k) (slice_index c.args.hits.now k) c.args.frames
-        (told_of (map (shown cs size k) rows)) in
+    λ k. condition_lines c.args.number k (condition_at cs k) (slice_index c.args.hits.now k) c.args.frames
+    (told_of (map (shown cs size k) rows)) in
     let all : c.loop-place.place ≡ length cs =
-        omega (arith, c.loop-place-test.false, c.loop-place.auto.place-end, c.len-place-end.ensures,
-        c.args.group.now.conditions.ok.0) in
+    omega (
+      arith,
+      c.loop-place-test.false,
+      c.loop-place.auto.place-end,
+      c.len-place-end.ensures,
+      c.args.group.now.conditions.ok.0,
+    ) in
     c.loop-place.invariant size rows known ∙ ap (λ n. c.args.text.now.items ++ flat_map f (range_with_len 0 n)) all

@@ -11,5 +11,5 @@ abbrev pub invariant-loop-place : goal.invariant-loop-place
 invariant-loop-place l = (size : ℕ) (rows : List GroupRow) → IsGroupAccount (group_contents l.group) size rows l.account
     → l.text.items ≡ l.fn.text.items ++ flat_map
     (λ j. condition_lines l.number j (condition_at (group_contents l.group) j) (slice_index l.hits j) l.frames
-        (told_of (map (shown (group_contents l.group) size j) rows)))
+    (told_of (map (shown (group_contents l.group) size j) rows)))
     (range_with_len 0 l.place)

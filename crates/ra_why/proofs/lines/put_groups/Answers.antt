@@ -13,7 +13,7 @@ pub slice_bounds-put_group-end : goal.slice_bounds-put_group-end
 slice_bounds-put_group-end c =
     let group = c.index-groups-place.result in
     let fits = end_within c.args.groups.now c.loop-place.place group
-        (omega (arith, c.loop-place-test.true)) c.index-groups-place.is in
+    (omega (arith, c.loop-place-test.true)) c.index-groups-place.is in
     omega (arith, fits, c.loop-place.invariant.starts, c.len.ensures, group.conditions.ok.0, c.requires.within)
 
 pub loop-place-preserved : goal.loop-place-preserved
@@ -32,8 +32,8 @@ loop-place-preserved c =
     let long : c.len.result ≡ length cs = omega (arith, c.len.ensures, group.conditions.ok.0) in
     let span : start + c.len.result - start ≡ length cs = omega (arith, long) in
     let rest : drop place groups ≡ group ∷ drop (place + 1) groups =
-        drop_more groups place group within
-        ∙ ap (λ (g : Group). g ∷ drop (place + 1) groups) (sym c.index-groups-place.is) in
+    drop_more groups place group within
+    ∙ ap (λ (g : Group). g ∷ drop (place + 1) groups) (sym c.index-groups-place.is) in
     let after = map group_contents (drop (place + 1) groups) in
     let first : place + 1 ≡ 1 + place = omega arith in
     let second : 1 + (place + 1) ≡ 1 + place + 1 = omega arith in
@@ -41,25 +41,25 @@ loop-place-preserved c =
       starts = omega (arith, c.loop-place.invariant.starts, next, long);
       written = λ size rows known.
           let there : IsGroupAccount (group_at gs place) size
-              (map (part_of (group_at gs place) (c.args.from + start_at gs place)) rows) account =
-              subst (λ (a : GroupAccount). IsGroupAccount (group_at gs place) size
-              (map (part_of (group_at gs place) (c.args.from + start_at gs place)) rows) a)
-              (sym c.index-accounts-place.is) (known place (omega (arith, within, c.requires.many)) account) in
+          (map (part_of (group_at gs place) (c.args.from + start_at gs place)) rows) account =
+          subst (λ (a : GroupAccount). IsGroupAccount (group_at gs place) size
+          (map (part_of (group_at gs place) (c.args.from + start_at gs place)) rows) a)
+          (sym c.index-accounts-place.is) (known place (omega (arith, within, c.requires.many)) account) in
           let at : IsGroupAccount (group_at gs place) size (map (part_of (group_at gs place) start) rows) account =
-              subst (λ (s : ℕ). IsGroupAccount (group_at gs place) size
-              (map (part_of (group_at gs place) s) rows) account) (sym c.loop-place.invariant.starts) there in
+          subst (λ (s : ℕ). IsGroupAccount (group_at gs place) size
+          (map (part_of (group_at gs place) s) rows) account) (sym c.loop-place.invariant.starts) there in
           let own : IsGroupAccount cs size (map (part_of cs start) rows) account =
-              subst (λ (xs : List Condition). IsGroupAccount xs size (map (part_of xs start) rows) account) here at in
+          subst (λ (xs : List Condition). IsGroupAccount xs size (map (part_of xs start) rows) account) here at in
           let lines : List ℕ =
-              group_lines (1 + place) cs (take (length cs) (drop start hits)) c.args.frames size
-              (map (part_of cs start) rows) in
+          group_lines (1 + place) cs (take (length cs) (drop start hits)) c.args.frames size
+          (map (part_of cs start) rows) in
           let put = c.in_ok-put_group.ensures size (map (part_of cs start) rows) own
-              ∙ (λ i. c.loop-place.text.items ++ group_lines (first i) cs
-              (take (span i) (drop start hits)) c.args.frames size (map (part_of cs start) rows)) in
+          ∙ (λ i. c.loop-place.text.items ++ group_lines (first i) cs
+          (take (span i) (drop start hits)) c.args.frames size (map (part_of cs start) rows)) in
           (λ i. put i ++ groups_lines (second i) (start + long i) after hits c.args.frames size rows)
           ∙ append_assoc c.loop-place.text.items lines
-              (groups_lines (1 + place + 1) (start + length cs) after hits c.args.frames size rows)
+          (groups_lines (1 + place + 1) (start + length cs) after hits c.args.frames size rows)
           ∙ ap (λ (xs : List Group). c.loop-place.text.items ++ groups_lines (1 + place) start
-              (map group_contents xs) hits c.args.frames size rows) (sym rest)
+          (map group_contents xs) hits c.args.frames size rows) (sym rest)
           ∙ c.loop-place.invariant.written size rows known;
     }

@@ -11,6 +11,6 @@ invariant-loop-place l = record {
   written : (size : ℕ) (rows : List GroupRow)
       → AreGroupAccounts (map group_contents l.groups) l.from size rows l.accounts
       → l.text.items ++ groups_lines (1 + l.place) l.start
-          (map group_contents (drop l.place l.groups)) l.hits l.frames size rows
+      (map group_contents (drop l.place l.groups)) l.hits l.frames size rows
       ≡ l.fn.text.items ++ groups_lines 1 l.from (map group_contents l.groups) l.hits l.frames size rows;
 }

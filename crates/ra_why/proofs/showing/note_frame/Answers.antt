@@ -15,17 +15,17 @@ read_sides-requires-clause-may c =
 pub read_sides-requires-clause-truths : goal.read_sides-requires-clause-truths
 read_sides-requires-clause-truths c =
     ap length c.deref_mut.ensures.value ∙ c.requires.room.truths
-        ∙ sym (ap length c.requires.run.laid.ops ∙ length_ops (groups_of (trigger_contents c.args.text.now)))
+    ∙ sym (ap length c.requires.run.laid.ops ∙ length_ops (groups_of (trigger_contents c.args.text.now)))
 
 pub read_sides-requires-clause-lefts : goal.read_sides-requires-clause-lefts
 read_sides-requires-clause-lefts c =
     ap length c.deref_mut-2.ensures.value ∙ c.requires.room.lefts
-        ∙ sym (ap length c.requires.run.laid.ops ∙ length_ops (groups_of (trigger_contents c.args.text.now)))
+    ∙ sym (ap length c.requires.run.laid.ops ∙ length_ops (groups_of (trigger_contents c.args.text.now)))
 
 pub read_sides-requires-clause-rights : goal.read_sides-requires-clause-rights
 read_sides-requires-clause-rights c =
     ap length c.deref_mut-3.ensures.value ∙ c.requires.room.rights
-        ∙ sym (ap length c.requires.run.laid.ops ∙ length_ops (groups_of (trigger_contents c.args.text.now)))
+    ∙ sym (ap length c.requires.run.laid.ops ∙ length_ops (groups_of (trigger_contents c.args.text.now)))
 
 pub returns-clause-noted : goal.returns-clause-noted
 returns-clause-noted c = λ earlier known.
@@ -42,11 +42,14 @@ returns-clause-noted c = λ earlier known.
     let first = c.deref.ensures.value ∙ truths_are in
     let second = c.deref-2.ensures.value ∙ lefts_are in
     let moment = c.moment_of-moment.ensures
-        ∙ (λ i. moment_by run.trigger (together t (first i) (second i) run.trigger.hits)) in
+    ∙ (λ i. moment_by run.trigger (together t (first i) (second i) run.trigger.hits)) in
     let third = c.deref-3.ensures.value ∙ truths_are in
     let fourth = c.deref-4.ensures.value ∙ lefts_are in
     let fifth = c.deref-5.ensures.value ∙ rights_are in
     subst (λ (r : TriggerRow). IsTriggerAccount t c.args.size (r ∷ earlier) c.note.new.self)
-    (λ i. record { moment = moment i; row =
-        record { truths = third i; lefts = fourth i; rights = fifth i; hits = c.hits.ensures i } })
+    (λ i. record {
+      moment = moment i;
+      row =
+          record { truths = third i; lefts = fourth i; rights = fifth i; hits = c.hits.ensures i };
+    })
     (c.note.ensures.noted earlier known)

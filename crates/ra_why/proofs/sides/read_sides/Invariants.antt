@@ -10,6 +10,6 @@ invariant-loop-place l = record {
   rights : take l.place l.rights ≡ numbers_at l.table.values (take l.place l.laid.plan.rights.items);
   truths : truths_laid l.table.values l.laid
       ≡ take l.place l.truths ++ truths_by (drop l.place l.laid.ops.items)
-          (numbers_at l.table.values (drop l.place l.laid.plan.lefts.items))
-          (numbers_at l.table.values (drop l.place l.laid.plan.rights.items));
+      (numbers_at l.table.values (drop l.place l.laid.plan.lefts.items))
+      (numbers_at l.table.values (drop l.place l.laid.plan.rights.items));
 }

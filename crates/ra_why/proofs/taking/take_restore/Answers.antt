@@ -7,7 +7,7 @@ pub returns-then-branch-clause-taken : goal.returns-then-branch-clause-taken
 returns-then-branch-clause-taken c = λ m follows.
     restored_on c.args.watcher.now c.restore.new.self m follows c.in_ok-restore.ensures.rest c.args.slot
     (subst (λ (b : Bool). TakesUp c.args.watcher.now c.restore.new.self c.args.slot b) c.if-branch.true
-        c.in_ok-restore.ensures.restored)
+    c.in_ok-restore.ensures.restored)
 
 pub returns-then-branch-clause-watches : goal.returns-then-branch-clause-watches
 returns-then-branch-clause-watches c =

@@ -6,7 +6,7 @@ use Rattle.ra_why.proofs.taking.take_save.Goals as goal
 pub returns-clause-goes : goal.returns-clause-goes
 returns-clause-goes c = λ m follows.
     saved_on c.args.watcher.now c.save.new.self m c.args.slot c.requires.watches.most follows c.requires.watches.watches
-        c.in_ok-save.ensures.saved
+    c.in_ok-save.ensures.saved
 
 pub returns-clause-watches : goal.returns-clause-watches
 returns-clause-watches c = λ most w. more_watching most c.save.new.self (c.in_ok-save.ensures.watches most w)

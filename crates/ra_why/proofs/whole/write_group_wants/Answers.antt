@@ -7,4 +7,4 @@ pub loop-place-preserved : goal.loop-place-preserved
 loop-place-preserved c =
     let f : ℕ → List ℕ = λ j. want_text c.args.number j (slice_index_or c.args.wants.now j false) in
     text_more (string_bytes c.args.text.now) (string_bytes c.loop-place.text)
-        (string_bytes c.write_want.new.text) f c.loop-place.place c.loop-place.invariant c.in_ok-write_want.ensures
+    (string_bytes c.write_want.new.text) f c.loop-place.place c.loop-place.invariant c.in_ok-write_want.ensures

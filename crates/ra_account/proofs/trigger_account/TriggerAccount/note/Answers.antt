@@ -68,14 +68,14 @@ returns-clause-noted c = λ earlier known.
     (subst (λ gs. AreGroupAccounts gs (length core) size rows c.deref_mut.result.now) (sym texts) old_alts)) in
     let all : t.alts.len ≡ length c.note_groups.new.accounts = sym (c.note_groups.auto.accounts ∙ c.deref_mut.ensures.len) in
     let wanted : c.deref-3.result.now ≡ trigger_wants (trigger_contents c.args.text.now) row =
-        c.deref-3.ensures.value
-        ∙ refilled t.wanted.len c.gather_wants.new.wanted t.wanted.items (sym (c.gather_wants.auto.wanted ∙ c.deref_mut-2.ensures.len))
-        ∙ c.gather_wants.ensures
-        ∙ ap₂ (λ ws vs. ws ++ of_alts vs)
-        (c.note.ensures.wants ∙ (λ i. wants_of core (cut_row (count i) 0 row)))
-        (ap (map (λ (g : GroupAccount). g.wants.items)) (c.deref-2.ensures.value ∙ refilled t.alts.len c.note_groups.new.accounts t.alts.items all)
-        ∙ wants_alts (map group_contents c.deref.result.now) c.len-count.result row c.note_groups.new.accounts c.note_groups.ensures.ready.as_many c.note_groups.ensures.wants
-        ∙ (λ i. alt_wants (texts i) (count i) row)) in
+    c.deref-3.ensures.value
+    ∙ refilled t.wanted.len c.gather_wants.new.wanted t.wanted.items (sym (c.gather_wants.auto.wanted ∙ c.deref_mut-2.ensures.len))
+    ∙ c.gather_wants.ensures
+    ∙ ap₂ (λ ws vs. ws ++ of_alts vs)
+    (c.note.ensures.wants ∙ (λ i. wants_of core (cut_row (count i) 0 row)))
+    (ap (map (λ (g : GroupAccount). g.wants.items)) (c.deref-2.ensures.value ∙ refilled t.alts.len c.note_groups.new.accounts t.alts.items all)
+    ∙ wants_alts (map group_contents c.deref.result.now) c.len-count.result row c.note_groups.new.accounts c.note_groups.ensures.ready.as_many c.note_groups.ensures.wants
+    ∙ (λ i. alt_wants (texts i) (count i) row)) in
     record {
       count = omega (arith, known.count);
       core = subst (λ (n : ℕ). IsGroupAccount core size (cut_row n 0 row ∷ map (part_of core 0) rows) c.note.new.self) count new_core;

@@ -19,13 +19,16 @@ returns-clause-watches c = λ most w.
     let t = trigger_contents old.text in
     let kept = c.in-Some.kept.now in
     let here : slice_index_or old.slots.items c.args.slot None ≡ Some kept =
-        ap (λ ss. slice_index_or ss c.args.slot None) (sym c.as_slice.ensures.value) ∙ sym c.in-Some.ensures in
+    ap (λ ss. slice_index_or ss c.args.slot None) (sym c.as_slice.ensures.value) ∙ sym c.in-Some.ensures in
     let may : MayTakeUp t most kept = subst (λ (o : Option Kept). MayTakeUpSlot t most o) here (w.slots c.args.slot) in
     let put = c.put_back.ensures in
     record {
       few = w.few;
-      over = record { cells = ap cells_of put.pool.0 ∙ w.over.cells; tracked =
-          ap tracked_of put.pool.0 ∙ w.over.tracked };
+      over = record {
+        cells = ap cells_of put.pool.0 ∙ w.over.cells;
+        tracked =
+            ap tracked_of put.pool.0 ∙ w.over.tracked;
+      };
       run_too = record {
         laid = subst (λ (ns : List Node). IsLaid ns (groups_of t) old.run.laid) (sym put.pool.0) w.run_too.laid;
         hits = ap (λ (k : TriggerKept). length k.hits) c.put_back-2.ensures
@@ -40,8 +43,11 @@ returns-clause-watches c = λ most w.
             (counts_somewhere t old.table old.run.trigger w.run_too.hits w.somewhere) put c.deref.ensures.value
             c.deref-2.ensures.value c.put_back-2.ensures)) may.somewhere.stands;
       };
-      account = record { ready = c.in_ok-account.ensures.ready t may.account.ready; few =
-          subst (λ n. n ≤ most) (sym c.in_ok-account.ensures.frames) may.account.few };
+      account = record {
+        ready = c.in_ok-account.ensures.ready t may.account.ready;
+        few =
+            subst (λ n. n ≤ most) (sym c.in_ok-account.ensures.frames) may.account.few;
+      };
       room = w.room;
       sixteen = w.sixteen;
       slots = w.slots;
@@ -53,13 +59,18 @@ returns-clause-restored c =
     let t = trigger_contents old.text in
     let kept = c.in-Some.kept.now in
     let here : slice_index_or old.slots.items c.args.slot None ≡ Some kept =
-        ap (λ ss. slice_index_or ss c.args.slot None) (sym c.as_slice.ensures.value) ∙ sym c.in-Some.ensures in
-    (kept, (here, λ history stands. record {
-      kept = subst (λ k. StandsFor t k history)
-          (sym (taken_up t old.table c.put_back.new.self old.run.trigger c.put_back-2.new.self
-          (rows_behind t history ∷ []) (slot_in kept) c.deref.result.now c.deref-2.result.now
-          (counts_somewhere t old.table old.run.trigger c.requires.watches.watches.run_too.hits
-          c.requires.watches.watches.somewhere) c.put_back.ensures c.deref.ensures.value c.deref-2.ensures.value
-          c.put_back-2.ensures)) stands.kept_too;
-      account_too = c.in_ok-account.ensures.same t (length old.memory) (frames_of t history) stands.account_too;
-    }))
+    ap (λ ss. slice_index_or ss c.args.slot None) (sym c.as_slice.ensures.value) ∙ sym c.in-Some.ensures in (
+      kept,
+      (
+        here,
+        λ history stands. record {
+          kept = subst (λ k. StandsFor t k history)
+              (sym (taken_up t old.table c.put_back.new.self old.run.trigger c.put_back-2.new.self
+              (rows_behind t history ∷ []) (slot_in kept) c.deref.result.now c.deref-2.result.now
+              (counts_somewhere t old.table old.run.trigger c.requires.watches.watches.run_too.hits
+              c.requires.watches.watches.somewhere) c.put_back.ensures c.deref.ensures.value c.deref-2.ensures.value
+              c.put_back-2.ensures)) stands.kept_too;
+          account_too = c.in_ok-account.ensures.same t (length old.memory) (frames_of t history) stands.account_too;
+        },
+      ),
+    )
