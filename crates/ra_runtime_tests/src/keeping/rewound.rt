@@ -1,6 +1,6 @@
 //! A course whose states are kept and taken, and what that tells.
 
-ghost use Rattle.std.specs.Prelude.{◌≡◌, length};
+ghost use Rattle.std.specs.Prelude.{◌≡◌, ◌<◌, length};
 
 use crate::courses::watched::course_of;
 use ra_memory::{Counted, Memory, Steps};
