@@ -44,6 +44,9 @@ if bare sh -c 'command -v cmake' >/dev/null; then
     cat >fetched/CMakeLists.txt <<CMAKE
 cmake_minimum_required(VERSION 3.14)
 project(fetched C)
+if(POLICY CMP0135)
+  cmake_policy(SET CMP0135 NEW)
+endif()
 include(FetchContent)
 FetchContent_Declare(meerkat URL "file://$archive" URL_HASH SHA256=$sum)
 FetchContent_MakeAvailable(meerkat)
