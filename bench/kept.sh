@@ -2,7 +2,7 @@
 # Counts the instructions of a keep and of a take of a state in memory: of 4,000 achievements of 8 conditions, and of the real-sized set.
 # usage: bench/kept.sh
 # A program of its own is made in a copy of the crates below it, proved and built there. Instructions are the difference of a run of 41 keeps
-# and one of 1, by 40, behind 20 frames over memory of which nothing changes, so that all that can rest does and owes; and of takes the same.
+# and one of 1, by 40, after 20 frames over memory of which nothing changes, so that all that can rest does and owes; and of takes the same.
 set -eu
 . "$(dirname "$0")/player.sh"
 need valgrind python3
