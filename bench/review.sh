@@ -19,6 +19,7 @@ lines() {
             if (kind == "one") line = sprintf("A %d 0xH%04x=%d", id, id * 7 % 65536, id % 256)
             else if (kind == "short") line = "A " id " 0=1"
             else if (kind == "none") line = "A " id " "
+            else if (kind == "high") line = "A " (id + 2000000) " "
             else if (kind == "eight") {
                 line = "A " id " "
                 for (k = 0; k < 8; k++)
@@ -34,7 +35,7 @@ lines() {
     }'
 }
 
-for kind in short none one eight boards comments bad; do
+for kind in short none high one eight boards comments bad; do
     for mebibytes in 2 4; do
         lines "$kind" $((mebibytes * 1048576)) >"$folder/set"
         bytes=$(wc -c <"$folder/set")
