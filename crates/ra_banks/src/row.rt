@@ -115,7 +115,7 @@ impl<'a> Row<'a> {
     }
 }
 
-// How far an address lies past so many bytes from another address on.
+// How far an address lies past this many bytes from another address on.
 #[inline(always)]
 fn past(start: usize, length: usize, at: usize) -> Option<usize>
     ensures { IfSome result (λ left. start + length + left ≡ at) }

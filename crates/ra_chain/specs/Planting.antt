@@ -39,7 +39,7 @@ pub record PlantsSum (old new : List Node) (sum : Option Tree) (number : Option 
   pub grows : GrowsBy old new []
   pub spells : SpellsSum new number sum
 
--- the old nodes stay, and so many are new at most
+-- the old nodes stay, and this many are new at most
 pub record IsKept (old new : List Node) (nodes cells views : ℕ) : Type 0 where
   pub front : IsFront old new
   pub pool : IsPool new

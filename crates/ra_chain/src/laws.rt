@@ -8,7 +8,7 @@ ghost use Rattle.ra_chain.specs.Laws.{EndsInPause, AreChained, StandsBefore};
 /// The pass order names each condition once, the pause chains first, and within a chain in text
 /// order: docs/DEFINITIONS.md, "Chains and pass order".
 ///
-/// A law: it does nothing.
+/// A law; no effect at run time.
 pub fn pass_order_holds()
     ensures pause_chain { (cs : List Condition) (j : ℕ) → (in_pause_chain cs j ≡ true) ↔ EndsInPause cs j }
 

@@ -95,7 +95,7 @@ pub struct Passed {
     pub lefts: Vec<u32>,
     /// The node of the right tree of each condition in text order.
     pub rights: Vec<u32>,
-    /// The node of the sum behind each condition in text order, where there is one.
+    /// The node of the sum after each condition in text order, where there is one.
     pub sums: Vec<Option<u32>>,
     /// The node of the value last remembered, if one was.
     pub recalled: Option<u32>,

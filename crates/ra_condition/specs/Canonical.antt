@@ -53,7 +53,7 @@ op_text Sub = codes "-"
 abbrev pub target_text : ℕ → List ℕ
 target_text n = if n == 0 then [] else codes "." ++ (decimal n ++ codes ".")
 
--- the operator with what stands behind it, and nothing without an operator
+-- the operator with what follows it, and nothing without an operator
 abbrev pub tail_text : Op → Operand → ℕ → List ℕ
 tail_text op right target = if is_bare op then [] else op_text op ++ (operand_text right ++ target_text target)
 
@@ -70,11 +70,11 @@ joined_text separator text (x ∷ xs) = text x ++ flat_map (λ y. separator ∷ 
 abbrev pub group_text : List Condition → List ℕ
 group_text = joined_text 95 condition_text
 
--- the text of a trigger: the core, and each alt group behind an `S`
+-- the text of a trigger: the core, and each alt group after an `S`
 abbrev pub trigger_text : TriggerContents → List ℕ
 trigger_text t = group_text t.core ++ flat_map (λ alt. 83 ∷ group_text alt) t.alts
 
--- a factor behind a `*`, and nothing for none
+-- a factor after a `*`, and nothing for none
 abbrev pub factor_text : Option Operand → List ℕ
 factor_text (Some factor) = 42 ∷ operand_text factor
 factor_text None = []

@@ -111,20 +111,21 @@ abbrev pub stands_bare : Setting → Flag → Bool
 stands_bare InTrigger flag = false
 stands_bare InValue flag = is_measured flag
 
--- what stands behind the left operand: arithmetic or nothing where a value is handed on, else a comparison, or nothing where that may be
+-- what follows the left operand: arithmetic or nothing where a value is handed on, else a comparison, or nothing where
+-- that may be
 abbrev pub tail_of : (hands_on stands_bare : Bool) → Form ℕ Tail
 tail_of true may = ignored or (computed or Spell bare)
 tail_of false true = compared or Spell bare
 tail_of false false = compared
 
--- a condition behind its flag
+-- a condition after its flag
 abbrev pub unflagged : Setting → Flag → Form ℕ Condition
 unflagged setting flag = do
   left ← operand
   tail ← tail_of (hands_on flag) (stands_bare setting flag)
   Spell (record { flag = flag; left = left; op = tail.op; right = tail.right; target = tail.target })
 
--- flag ":" and what stands behind it
+-- flag ":" and what follows it
 abbrev pub flagged : Setting → Form ℕ Condition
 flagged setting = do
   flag ← One (lookup flags)

@@ -123,7 +123,7 @@ tail_at true may = modified_at
 tail_at false true = compared_or_bare_at
 tail_at false false = compared_at
 
--- a condition behind its flag
+-- a condition after its flag
 unfoldable pub unflagged_at : Setting → Flag → List ℕ → Outcome ℕ Condition
 unflagged_at setting flag text = do
   left ← operand_at text

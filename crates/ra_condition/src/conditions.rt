@@ -27,7 +27,7 @@ pub fn take_condition(cursor: &mut Cursor<'_>, setting: Setting) -> Result<Condi
     }
 }
 
-// flag ":" and what stands behind it
+// flag ":" and what follows it
 #[tactic(auto, unfolding(crate::specs::Reading::flagged_at))]
 pub fn take_flagged(cursor: &mut Cursor<'_>, setting: Setting) -> Result<Condition, Stop>
     ensures { Moves result cursor.new.rest.now (flagged_at setting cursor.old.rest.now) }
@@ -37,7 +37,7 @@ pub fn take_flagged(cursor: &mut Cursor<'_>, setting: Setting) -> Result<Conditi
     take_unflagged(cursor, setting, flag)
 }
 
-// A condition behind its flag.
+// A condition after its flag.
 #[tactic(auto, unfolding(crate::specs::Reading::unflagged_at))]
 fn take_unflagged(cursor: &mut Cursor<'_>, setting: Setting, flag: Flag) -> Result<Condition, Stop>
     ensures { Moves result cursor.new.rest.now (unflagged_at setting flag cursor.old.rest.now) }

@@ -57,7 +57,7 @@ pub fn take_trigger(alloc: Global, cursor: &mut Cursor<'_>) -> Result<TriggerTex
     Ok(TriggerText { core, alts })
 }
 
-// Puts an alt group behind others. The first gets room for itself alone, so that a set of many
+// Puts an alt group after others. The first gets room for itself alone, so that a set of many
 // triggers of one empty alt group stays small.
 fn push_alt(alts: &mut Vec<Group>, alt: Group) -> Result<(), Fault>
     ensures put { OnOk result (alts.new.items ≡ alts.old.items ++ alt ∷ []) }

@@ -9,14 +9,14 @@ ghost use Rattle.ra_text.specs.Place.{OneSpelling};
 
 /// A text spells at most one trigger: docs/DEFINITIONS.md, "Triggers".
 ///
-/// A law: it does nothing.
+/// A law; no effect at run time.
 pub fn one_trigger()
     ensures { OneSpelling trigger }
 {}
 
 /// A text spells at most one value: docs/DEFINITIONS.md, "Values".
 ///
-/// A law: it does nothing.
+/// A law; no effect at run time.
 pub fn one_value()
     ensures { OneSpelling value }
 {}
@@ -24,7 +24,7 @@ pub fn one_value()
 /// Some text spells a trigger exactly where the trigger has its structure: docs/DEFINITIONS.md,
 /// "What texts spell".
 ///
-/// A law: it does nothing.
+/// A law; no effect at run time.
 pub fn spelled_triggers()
     ensures { (t : TriggerContents) → IsTrigger t ↔ ((text : List ℕ) × trigger text t) }
 {}
@@ -32,7 +32,7 @@ pub fn spelled_triggers()
 /// Some text spells a value exactly where the value has its structure: docs/DEFINITIONS.md, "What
 /// texts spell".
 ///
-/// A law: it does nothing.
+/// A law; no effect at run time.
 pub fn spelled_values()
     ensures { (v : List PartContents) → IsValue v ↔ ((text : List ℕ) × value text v) }
 {}

@@ -2,7 +2,7 @@ ghost use Rattle.std.specs.Prelude.{◌≡◌};
 
 use ra_operand::{Op, Operand};
 
-/// What stands behind the left operand of a condition, and is kept.
+/// What follows the left operand of a condition, and is kept.
 #[derive(Clone, Copy, Debug, PartialEq, Eq)]
 pub struct Tail {
     /// The operator, `Bare` where nothing is kept.

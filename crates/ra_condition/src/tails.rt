@@ -1,4 +1,4 @@
-//! Targets, and what stands behind a left operand: docs/DEFINITIONS.md, "Conditions".
+//! Targets, and what follows a left operand: docs/DEFINITIONS.md, "Conditions".
 
 ghost use Rattle.std.specs.Prelude.{◌≡◌};
 ghost use Rattle.ra_condition.specs.Reading.{begins_comparison, between_at, compared_at, compared_or_bare_at, computed_at, ignored_at, modified_at, tail_at, target_at};
@@ -13,7 +13,7 @@ use crate::tail::Tail;
 use ra_operand::{Op, take_operand};
 use ra_text::{Cursor, Stop};
 
-// What stands behind the left operand, by what the flag asks for.
+// What follows the left operand, by what the flag asks for.
 pub fn take_tail(cursor: &mut Cursor<'_>, hands_on: bool, stands_bare: bool) -> Result<Tail, Stop>
     ensures { Moves result cursor.new.rest.now (tail_at hands_on stands_bare cursor.old.rest.now) }
 {

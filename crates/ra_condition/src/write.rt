@@ -70,7 +70,7 @@ fn write_target(text: &mut String, target: u32) -> Result<(), AllocError>
     }
 }
 
-// The operator with what stands behind it, and nothing without an operator.
+// The operator with what follows it, and nothing without an operator.
 fn write_tail(text: &mut String, op: Op, right: &Operand, target: u32) -> Result<(), AllocError>
     ensures { OnOk result (string_bytes text.new ≡ string_bytes text.old ++ tail_text op right.now target) }
 {

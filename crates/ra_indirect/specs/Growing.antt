@@ -37,7 +37,7 @@ abbrev pub is_view : Node → Bool
 is_view (View kind size c) = true
 is_view _ = false
 
--- so many nodes are new at most, of them so many cells and so many views
+-- this many nodes are new at most, of them this many cells and this many views
 pub record AddsAtMost (old new : List Node) (nodes cells views : ℕ) : Type 0 where
   pub nodes_too : length new ≤ length old + nodes
   pub cells_too : length (cells_of new) ≤ length (cells_of old) + cells

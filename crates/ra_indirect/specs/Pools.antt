@@ -68,7 +68,7 @@ node_at nodes n = slice_index_or nodes n (Const 0)
 abbrev pub IsWidth : ℕ → Type 0
 IsWidth width = (width ≡ 1) ⊎ ((width ≡ 2) ⊎ (width ≡ 4))
 
--- the node may stand behind these: it names earlier nodes alone, and such as it needs
+-- the node may come after these: it names earlier nodes alone, and such as it needs
 abbrev pub MayFollow : List Node → Node → Type 0
 MayFollow nodes (Const n) = Unit {0}
 MayFollow nodes (CellNode pointer offset width) = (pointer < length nodes) × IsValued (node_at nodes pointer) × IsWidth width

@@ -36,7 +36,7 @@ pub trait Files {
     ///
     /// The place and the room of the buffer together are at most 2^41. With room in the buffer,
     /// none come only at the end of the file or past it. `Failed` comes only where a fault of this
-    /// name was counted. What stands in the buffer behind the bytes that were read is left open,
+    /// name was counted. What stands in the buffer after the bytes that were read is left open,
     /// and so is all of it after an error.
     fn read_at(&mut self, name: &str, at: u64, buf: &mut [u8]) -> Result<usize, Failed>
         requires { at + length buf.old ≤ most_place }
@@ -60,7 +60,7 @@ pub trait Files {
         ensures ok { OnOk result (IfSome (content self.old name.now) (λ _. content self.new name.now ≡ Some bytes.now)) }
         ensures others { SameBut name.now (content self.old) (content self.new) }
 
-        // What a fault shows, and that want of memory leaves everything.
+        // What a fault shows, and that running out of memory leaves everything.
         ensures failed { IsErrOf result PutFailed.Failed → Rose (put_faults self.old name.now) (put_faults self.new name.now) }
         ensures memory { IsErrOf result PutFailed.Memory → SameContent (content self.old) (content self.new) }
 

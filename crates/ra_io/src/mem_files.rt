@@ -36,7 +36,7 @@ impl MemFiles {
         })
     }
 
-    /// Sets the content of one name; no call is counted. On want of memory every name stays as it
+    /// Sets the content of one name; no call is counted. When memory runs out, every name stays as it
     /// was.
     pub fn add(&mut self, name: &str, bytes: &[u8]) -> Result<(), OutOfMemory>
         ensures ok { OnOk result (SetsName (seen self.old).names (seen self.new).names name.now bytes.now) }

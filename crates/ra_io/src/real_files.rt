@@ -8,7 +8,7 @@ use std::io::{Read, Seek, SeekFrom};
 use std::marker::Model;
 use std::{fs, io};
 
-// A file that was read, and the place behind the bytes that it gave.
+// A file that was read, and the place after the bytes that it gave.
 #[derive(Drop)]
 struct Opened<R: std::rt::Files + Alloc> {
     name: String<R::A>,

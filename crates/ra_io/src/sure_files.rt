@@ -29,7 +29,7 @@ impl SureFiles {
         })
     }
 
-    /// Sets the content of one name. On want of memory every name stays as it was.
+    /// Sets the content of one name. When memory runs out, every name stays as it was.
     pub fn add(&mut self, name: &str, bytes: &[u8]) -> Result<(), OutOfMemory>
         ensures ok { OnOk result (SetsName (names_of self.old) (names_of self.new) name.now bytes.now) }
         ensures err { OnErr result (SameContent (names_of self.old) (names_of self.new)) }
@@ -81,7 +81,7 @@ impl Files for SureFiles {
         Ok(self.copy(name, at, buf))
     }
 
-    /// Fails only for want of memory.
+    /// Fails only for running out of memory.
     fn put(&mut self, name: &str, bytes: &[u8]) -> Result<(), PutFailed>
         ensures ok { OnOk result (SetsName (names_of self.old) (names_of self.new) name.now bytes.now) }
         ensures exact { IsOkUnless result PutFailed.Memory }

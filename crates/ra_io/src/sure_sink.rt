@@ -40,7 +40,7 @@ impl Sink for SureSink {
 
     ghost faults = { λ _. 0 };
 
-    /// Takes the whole piece, and fails only for want of memory.
+    /// Takes the whole piece, and fails only for running out of memory.
     fn write(&mut self, bytes: &[u8]) -> Result<usize, SinkFailed>
         ensures bound { IfOk result (λ n. n ≤ length bytes.now) }
         ensures some { 0 < length bytes.now → IfOk result (λ n. 0 < n) }

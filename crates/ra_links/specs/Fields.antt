@@ -1,4 +1,4 @@
--- How the fields of linked lists stand for a row of lists: docs/DEFINITIONS.md, "Linked lists".
+-- How the fields of linked lists stand for a row of lists: docs/INTERNALS.md, "Linked lists".
 use Rattle.std.specs.Prelude.{◌≡◌, ◌≢◌, ℕ, zero, suc, ◌<◌, ◌≤◌, ◌^◌, ◌==◌, if◌then◌else◌, true, List, [], ◌∷◌, length, map, slice_index, slice_set}
 use Rattle.ra_links.specs.Rows.{holds}
 
@@ -12,7 +12,7 @@ pub record Nodes : Type 0 where
   pub befores : List ℕ
   pub afters : List ℕ
 
--- this node and those after it, at most so many
+-- this node and those after it, at most this many
 abbrev pub followed : ℕ → List ℕ → ℕ → List ℕ
 followed zero afters node = []
 followed (suc most) afters node =

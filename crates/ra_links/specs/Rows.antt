@@ -1,4 +1,4 @@
--- A row of lists of numbers: docs/DEFINITIONS.md, "Linked lists".
+-- A row of lists of numbers: docs/INTERNALS.md, "Linked lists".
 use Rattle.std.specs.Prelude.{◌≡◌, ℕ, ◌<◌, Bool, true, not, eqb, ◌+◌, ◌==◌, if◌then◌else◌, Option, None, Some, List, [], ◌∷◌, filter, slice_get, slice_index_or}
 use Rattle.std.specs.List.{list_any, IsDistinct}
 

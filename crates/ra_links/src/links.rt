@@ -9,7 +9,7 @@ use std::marker::Model;
 /// No list, and no node.
 const NONE: u32 = 4294967295;
 
-/// Lists of nodes, each node at most once in all lists together: docs/DEFINITIONS.md, "Linked lists".
+/// Lists of nodes, each node at most once in all lists together: docs/INTERNALS.md, "Linked lists".
 ///
 /// Only `new` takes memory.
 #[derive(Drop)]
@@ -33,7 +33,7 @@ impl Model for Links {
 }
 
 impl Links {
-    /// So many empty lists, and so many nodes that are on no list. Memory is the only refusal.
+    /// This many empty lists, and this many nodes that are on no list. Memory is the only refusal.
     pub fn new(alloc: Global, lists: u32, nodes: u32) -> Result<Links, OutOfMemory>
         requires few_lists { lists ≤ 2 ^ 31 }
         requires few_nodes { nodes ≤ 2 ^ 31 }

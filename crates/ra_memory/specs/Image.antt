@@ -6,12 +6,12 @@ use Rattle.std.specs.List.{AllByRecursion}
 abbrev pub History : Type 0
 History = List (List ℕ)
 
--- the little-endian number of so many bytes from the place on, with 0 for a byte past the end
+-- the little-endian number of this many bytes from the place on, with 0 for a byte past the end
 abbrev pub raw : ℕ → List ℕ → ℕ → ℕ
 raw zero image at = 0
 raw (suc width) image at = slice_index image at + 256 * raw width image (suc at)
 
--- a read takes so many bytes: 1, 2 or 4
+-- a read takes this many bytes: 1, 2 or 4
 abbrev pub IsReadWidth : ℕ → Type 0
 IsReadWidth width = (width ≡ 1) ⊎ ((width ≡ 2) ⊎ (width ≡ 4))
 

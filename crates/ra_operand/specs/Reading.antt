@@ -32,7 +32,7 @@ decimal_constant_at text = do
   n ← signed_at text
   Ok (Const n.0, n.1)
 
--- a constant behind its `v`
+-- a constant after its `v`
 unfoldable pub unsigned_at : List ℕ → Outcome ℕ Operand
 unsigned_at = choice_at (begins (is_in (only_letters (codes "H")))) hex_constant_at decimal_constant_at
 

@@ -36,7 +36,7 @@ mask_of ThreeBig = 0xFFFFFF
 mask_of Four = 0xFFFFFFFF
 mask_of FourBig = 0xFFFFFFFF
 
--- the number of so many lowest bytes of a number, in reverse
+-- the number of this many lowest bytes of a number, in reverse
 abbrev pub reversed : ℕ → ℕ → ℕ
 reversed zero n = 0
 reversed (suc bytes) n = n % 256 * 256 ^ bytes + reversed bytes (n / 256)
@@ -75,7 +75,7 @@ bits_of Four = 32
 bits_of FourBig = 32
 bits_of _ = 1
 
--- so many lowest hexadecimal digits of a number, read as decimal ones
+-- this many lowest hexadecimal digits of a number, read as decimal ones
 abbrev pub as_decimal : ℕ → ℕ → ℕ
 as_decimal zero x = 0
 as_decimal (suc digits) x = x % 16 + 10 * as_decimal digits (x / 16)

@@ -29,7 +29,7 @@ pub fn parse_operand(text: &[u8], at: usize) -> Result<(Operand, usize), Syntax>
 
 /// A text spells at most one operand: docs/DEFINITIONS.md, "Operands".
 ///
-/// A law: it does nothing.
+/// A law; no effect at run time.
 pub fn one_operand()
     ensures { OneSpelling operand }
 {}

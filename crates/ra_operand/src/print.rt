@@ -65,7 +65,7 @@ fn text_of(alloc: Global, operand: &Operand) -> Result<String, AllocError>
 }
 
 /// Writes the canonical text of an operand at the end of a text: docs/DEFINITIONS.md, "Canonical
-/// text". It fails only for want of memory, and then the text stays as it was.
+/// text". It fails only for running out of memory, and then the text stays as it was.
 pub fn write_operand(text: &mut String, operand: &Operand) -> Result<(), AllocError>
     ensures text { OnOk result (string_bytes text.new ≡ string_bytes text.old ++ operand_text operand.now) }
     ensures err { OnErr result (string_bytes text.new ≡ string_bytes text.old) }

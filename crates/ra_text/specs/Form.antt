@@ -20,7 +20,7 @@ pub record One {A V : Type 0} (table : A → Option V) (text : List A) (v : V) :
 pub record Literal {A : Type 0} (symbols text : List A) (v : Unit {0}) : Type 0 where
   pub is : text ≡ symbols
 
--- a text of the first form, and behind it one of the next
+-- a text of the first form, and after it one of the next
 pub record Then {A V W : Type 0} (first : Form A V) (next : V → Form A W) (text : List A) (w : W) : Type 0 where
   pub front : List A
   pub behind : List A
@@ -30,7 +30,7 @@ pub record Then {A V W : Type 0} (first : Form A V) (next : V → Form A W) (tex
   pub of_next : next v behind w
 
 infixl 10 ◌>>=◌
--- a text of the first form, and behind it one of the form that its value gives
+-- a text of the first form, and after it one of the form that its value gives
 abbrev pub ◌>>=◌ : {A V W : Type 0} → Form A V → (V → Form A W) → Form A W
 first >>= next = Then first next
 

@@ -11,7 +11,7 @@ abbrev pub Moves : {V : Type 0} → Result V Stop → List ℕ → Outcome ℕ V
 Moves (Ok v) rest outcome = outcome ≡ Ok (v, rest)
 Moves (Err stop) rest outcome = outcome ≡ Err rest
 
--- the number of the digits behind those of a first number, saturated
+-- the number of the digits after those of a first number, saturated
 pub record SumsDigits (base : Base) (first : ℕ) (old : List ℕ) (number : ℕ) (new : List ℕ) : Type 0 where
   pub all : ℕ
   pub read : digits_at (digit_of base) (base_of base) first old ≡ Ok (all, new)

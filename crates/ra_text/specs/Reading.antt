@@ -2,7 +2,7 @@
 use Rattle.std.specs.Prelude.{◌≡◌, ℕ, ◌==◌, Bool, true, false, if◌then◌else◌, List, [], ◌∷◌, ◌++◌, length, zero, suc, Option, Some, None, Result, Ok, Err}
 use Rattle.ra_text.specs.Form.{Form, Viable}
 
--- a value and what is left behind it, or what is left where no text of the form goes on
+-- a value and what is left after it, or what is left where no text of the form goes on
 abbrev pub Outcome : Type 0 → Type 0 → Type 0
 Outcome A V = Result (V × List A) (List A)
 
@@ -21,7 +21,7 @@ pub record Reads {A V : Type 0} (form : Form A V) (text : List A) (outcome : Out
   pub only : (v : V) → form front v → outcome ≡ Ok (v, rest_of outcome)
 
 infixl 10 ◌>>=◌
--- what stands behind a value is read on, and a refusal stays
+-- what follows a value is read on, and a refusal stays
 abbrev pub ◌>>=◌ : {A V W : Type 0} → Outcome A V → (V × List A → Outcome A W) → Outcome A W
 (Ok x) >>= f = f x
 (Err rest) >>= f = Err rest
@@ -75,7 +75,7 @@ chain_at separator item_at step done (suc most) s (symbol ∷ rest) = elim (sepa
   | None ↦ ends_at (done s) (symbol ∷ rest)
 ]
 
--- a first item, and the others, each behind a separator
+-- a first item, and the others, each after a separator
 abbrev pub joined_at : {A T V : Type 0} → (A → Option T) → (List A → Outcome A V) → List A → Outcome A (List V)
 joined_at separator item_at text =
     item_at text >>= λ first. chain_at {S = Unit {0}} (λ s. separator) (λ s tag. item_at) (λ s v. s) (λ s. true) (length first.1) tt first.1 >>= λ others. Ok (first.0 ∷ others.0, others.1)

@@ -132,7 +132,7 @@ impl<'a> Cursor<'a> {
     }
 
     /// Reads these bytes, one after the other. `Stop` where another byte or the end is next; the
-    /// cursor then stands behind those that were read.
+    /// cursor then comes after those that were read.
     pub fn literal(&mut self, wanted: &[u8]) -> Result<(), Stop>
         ensures { Moves result self.new.rest.now (literal_at wanted.now self.old.rest.now) }
     {
@@ -200,7 +200,7 @@ impl<'a> Cursor<'a> {
     /// Reads one optional sign and digits: docs/DEFINITIONS.md, "Numbers in text".
     ///
     /// A negative number is at least -2147483648, and is given as two's complement of 32 bits.
-    /// `Stop` exactly where no digit is next, behind the sign if there is one.
+    /// `Stop` exactly where no digit is next, after the sign if there is one.
     #[tactic(auto, unfolding(crate::specs::ReadingNumbers::signed_at))]
     pub fn signed(&mut self) -> Result<u32, Stop>
         ensures { Moves result self.new.rest.now (signed_at self.old.rest.now) }

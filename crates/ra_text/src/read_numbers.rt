@@ -7,7 +7,7 @@ ghost use Rattle.ra_text.specs.Table.{lookup};
 
 use crate::cursor::Cursor;
 
-/// The decimal number at a place, and the place behind its last digit, both in bytes from the
+/// The decimal number at a place, and the place after its last digit, both in bytes from the
 /// start: docs/DEFINITIONS.md, "Numbers in text".
 ///
 /// As many digits are read as stand there, and the number is at most 4294967295. `None` exactly
@@ -24,7 +24,7 @@ pub fn read_decimal(text: &[u8], at: usize) -> Option<(u32, usize)>
     }
 }
 
-/// The decimal number with an optional sign at a place, and the place behind its last digit, both
+/// The decimal number with an optional sign at a place, and the place after its last digit, both
 /// in bytes from the start: docs/DEFINITIONS.md, "Numbers in text".
 ///
 /// A negative number is at least -2147483648, and is given as two's complement of 32 bits. `None`
@@ -41,7 +41,7 @@ pub fn read_signed(text: &[u8], at: usize) -> Option<(u32, usize)>
     }
 }
 
-/// The hexadecimal number at a place, and the place behind its last digit, both in bytes from the
+/// The hexadecimal number at a place, and the place after its last digit, both in bytes from the
 /// start: docs/DEFINITIONS.md, "Numbers in text".
 ///
 /// The digits are of either case, and the number is at most 4294967295. `None` exactly where no

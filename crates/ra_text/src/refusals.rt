@@ -2,7 +2,7 @@
 
 use std::alloc::{AllocError, AllocFailed};
 
-/// Want of memory.
+/// Running out of memory.
 #[derive(Clone, Copy, Debug, PartialEq, Eq)]
 pub struct OutOfMemory;
 

@@ -15,7 +15,7 @@ pub fn word_at(bytes: &[u8], at: u64) -> u32
     u32::from_le_bytes([bytes[at], bytes[at + 1], bytes[at + 2], bytes[at + 3]])
 }
 
-/// So many words in a row, the first of which begins at a place counted in bytes.
+/// This many words in a row, the first of which begins at a place counted in bytes.
 pub fn words_at(alloc: Global, bytes: &[u8], at: u64, count: u32) -> Result<Vec<u32>, OutOfMemory>
     requires { at + 4 * count ≤ length bytes.now }
     ensures { IfOk result (λ numbers. numbers.items ≡ spec.words_at bytes.now at count) }
@@ -38,7 +38,7 @@ pub fn read_words(numbers: &mut [u32], bytes: &[u8], at: u64)
     }
 }
 
-/// Writes numbers as words behind the bytes. After `OutOfMemory` some of them may be there.
+/// Writes numbers as words after the bytes. After `OutOfMemory` some of them may be there.
 pub fn write_words(bytes: &mut Vec<u8>, numbers: &[u32]) -> Result<(), OutOfMemory>
     ensures { OnOk result (bytes.new.items ≡ bytes.old.items ++ spec.words numbers.now) }
 {
