@@ -84,7 +84,8 @@ settled c t h prev =
     let total = clamped (pos hit +ℤ add_by prev) in
     record { flag = c.flag; reset = reset; hit = hit; add = add_by prev; total = total; valid = valid_by c.flag c.target total (valid_alone reset m c.target hit) }
 
--- what the next condition sees before it: this one, or what this one sees where it hands a value on, or nothing behind a chain
+-- what the next condition sees before it: this one, or what this one sees where it hands a value on, or nothing after a
+-- chain
 abbrev pub seen_after : Condition → Settled → Option Settled → Option Settled
 seen_after c here prev =
     if hands_on c.flag then prev else (if combines c.flag then Some here else None)

@@ -14,7 +14,7 @@ ghost use Rattle.ra_group.specs.Laws.{IsPrev, HasEquationsAfter, HasEquationsFir
 /// The equations hold of each condition and the one before it: docs/DEFINITIONS.md, "Equations of a
 /// condition".
 ///
-/// A law: it does nothing. The condition before is found by the text alone.
+/// A law; no effect at run time. The condition before is found by the text alone.
 pub fn equations_hold()
     ensures prev { (f : Frame) (j i : ℕ) → IsPrev f.conditions j i → prev_of f j ≡ Some (settled_at f i) }
     ensures no_prev { (f : Frame) (j : ℕ) → ((i : ℕ) → ¬ (IsPrev f.conditions j i)) → prev_of f j ≡ None }
@@ -26,7 +26,7 @@ pub fn equations_hold()
 
 /// What a group says, by its conditions: docs/DEFINITIONS.md, "Group outcome".
 ///
-/// A law: it does nothing.
+/// A law; no effect at run time.
 pub fn outcome_holds()
     ensures paused { (form : Form) (f : Frame) → ((outcome_of form f).paused ≡ true) ↔ SomeValid is_pause f }
     ensures reset { (form : Form) (f : Frame) → ((outcome_of form f).reset ≡ true)
@@ -50,7 +50,7 @@ pub fn outcome_holds()
 /// The comparisons of conditions that only hand a value on do not matter: docs/DEFINITIONS.md,
 /// "Equations of a condition".
 ///
-/// A law: it does nothing.
+/// A law; no effect at run time.
 pub fn handed_on_holds()
     ensures outcome { (form : Form) (cs : List Condition) (truths truths' : List Bool) (lefts hits : List ℕ)
         → AgreeWhereCounted cs truths truths'

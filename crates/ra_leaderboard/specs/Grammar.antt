@@ -23,7 +23,7 @@ in_either_case (upper ∷ others) = do
 abbrev pub tag : Form ℕ Tag
 tag text t = in_either_case (word_of t) text tt
 
--- what stands behind a tag and its colon: a trigger, or a value
+-- what follows a tag and its colon: a trigger, or a value
 abbrev pub held : Tag → Form ℕ FieldContents
 held Start = trigger >>= λ t. Spell (OfStart t)
 held Cancel = trigger >>= λ t. Spell (OfCancel t)

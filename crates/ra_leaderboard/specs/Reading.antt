@@ -19,7 +19,7 @@ tag_at tags text = do
   third ← one_at (narrowed 2 second.0) second.1
   Ok (third.0.0, third.1)
 
--- the trigger or the value behind a tag
+-- the trigger or the value after a tag
 unfoldable pub held_at : Tag → List ℕ → Outcome ℕ FieldContents
 held_at Start text = trigger_at text >>= λ t. Ok (OfStart t.0, t.1)
 held_at Cancel text = trigger_at text >>= λ t. Ok (OfCancel t.0, t.1)
@@ -91,7 +91,7 @@ abbrev pub with_fields : HeldSoFar → List FieldContents → HeldSoFar
 with_fields h [] = h
 with_fields h (f ∷ fs) = with_fields (with_field h f) fs
 
--- the fields that stand behind those so far
+-- the fields that come after those so far
 abbrev pub others_at : HeldSoFar → List ℕ → Outcome ℕ (List FieldContents)
 others_at h text = chain_at separator (λ h tags. next_field_at tags) with_field is_whole (length text) h text
 

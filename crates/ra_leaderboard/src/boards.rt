@@ -33,7 +33,7 @@ pub fn take_board(alloc: Global, cursor: &mut Cursor<'_>) -> Result<BoardText, F
     Ok(fields.board()?)
 }
 
-// The tags of which one may come, behind a colon. Without a colon or a free tag the cursor stays.
+// The tags of which one may come, after a colon. Without a colon or a free tag the cursor stays.
 fn pass_separator(cursor: &mut Cursor<'_>, fields: &Fields) -> Option<TagSet>
     ensures passed { IfSome result (λ tags. cursor.old.rest.now ≡ 58 ∷ cursor.new.rest.now) }
     ensures free { IfSome result (λ tags. separator fields.now 58 ≡ Some tags) }

@@ -8,7 +8,7 @@ ghost use Rattle.ra_text.specs.Place.{OneSpelling};
 
 /// A text spells at most one board: docs/DEFINITIONS.md, "Boards".
 ///
-/// A law: it does nothing.
+/// A law; no effect at run time.
 pub fn one_board()
     ensures { OneSpelling board }
 {}
@@ -16,7 +16,7 @@ pub fn one_board()
 /// Some text spells a board exactly where the board has its structure: docs/DEFINITIONS.md, "What
 /// texts spell".
 ///
-/// A law: it does nothing.
+/// A law; no effect at run time.
 pub fn spelled_boards()
     ensures { (b : BoardContents) → IsBoard b ↔ ((text : List ℕ) × board text b) }
 {}

@@ -67,7 +67,7 @@ own_presence _ _ = []
 abbrev pub own_entries : ShapeContents → List Own
 own_entries shape = own_items shape.item_names shape.items ++ own_presence shape.presence_name shape.presence
 
--- the own entry of a number; behind the last one stands one without a name and without hits
+-- the own entry of a number; after the last one stands one without a name and without hits
 abbrev pub own_at : List Own → ℕ → Own
 own_at owns number = slice_index_or owns number (record { name = []; shape = OfItem (shapes.Achievement 0) })
 

@@ -61,7 +61,7 @@ blocks_at_1 shape = 29 + 4 * (length shape.cells + length shape.priors)
 abbrev pub length_1_of : ShapeContents → ℕ
 length_1_of shape = blocks_at_1 shape + sum_by own_length (own_entries shape) + 16
 
--- ---- versions 2 and 3: each number and each block behind its name
+-- ---- versions 2 and 3: each number and each block after its name
 
 -- how many cells, priors and entries a file has
 abbrev pub cell_count : List ℕ → ℕ
@@ -79,7 +79,7 @@ entry_count bytes = word_at bytes (37 + 20 * (cell_count bytes + prior_count byt
 abbrev pub first_entry : List ℕ → ℕ
 first_entry bytes = 41 + 20 * (cell_count bytes + prior_count bytes)
 
--- where the entry behind one stands
+-- where the entry after one stands
 abbrev pub entry_after : List ℕ → ℕ → ℕ
 entry_after bytes at = at + 20 + word_at bytes (at + 16)
 
@@ -87,7 +87,7 @@ entry_after bytes at = at + 20 + word_at bytes (at + 16)
 abbrev pub up_to : List ℕ → (need further : ℕ) → ℕ
 up_to bytes need further = if nat_lt (length bytes) need then need else further
 
--- the need once the lengths of so many entries were read from a place on
+-- the need once the lengths of this many entries were read from a place on
 abbrev pub need_from : List ℕ → (count at need : ℕ) → ℕ
 need_from bytes zero at need = need
 need_from bytes (suc more) at need =
@@ -108,7 +108,7 @@ pub record Numbered : Type 0 where
   pub name : Name
   pub number : ℕ
 
--- so many names with their numbers, from a place on
+-- this many names with their numbers, from a place on
 abbrev pub numbered_at : List ℕ → (at count : ℕ) → List Numbered
 numbered_at bytes at count =
     map (λ k. record { name = name_at bytes (at + 20 * k); number = word_at bytes (at + 20 * k + 16) }) (range_with_len 0 count)
@@ -131,7 +131,7 @@ pub record Entry : Type 0 where
 abbrev pub entry_at : List ℕ → ℕ → Entry
 entry_at bytes at = record { at = at; name = name_at bytes at; size = word_at bytes (at + 16) }
 
--- so many entries from a place on
+-- this many entries from a place on
 abbrev pub entries_from : List ℕ → (count at : ℕ) → List Entry
 entries_from bytes zero at = []
 entries_from bytes (suc more) at = entry_at bytes at ∷ entries_from bytes more (entry_after bytes at)

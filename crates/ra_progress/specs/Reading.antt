@@ -82,7 +82,7 @@ pub record Block : Type 0 where
   pub at : ℕ
   pub shape : EntryShape
 
--- blocks one behind the other from a place on, as version 1 has them
+-- blocks one after the other from a place on, as version 1 has them
 abbrev pub blocks_from : ℕ → List Own → List Block
 blocks_from at [] = []
 blocks_from at (own ∷ owns) = record { at = at; shape = own.shape } ∷ blocks_from (at + own_length own) owns

@@ -31,12 +31,12 @@ said_presence bytes p at = record {
   numbers = words_at bytes (at + 4 + 4 * p.hits) p.parts;
 }
 
--- the number of the last one of a name, of those that stand behind others; 0 where none has it
+-- the number of the last one of a name, of those that come after others; 0 where none has it
 abbrev pub last_number : Name → List Numbered → (earlier : ℕ) → ℕ
 last_number name [] earlier = earlier
 last_number name (n ∷ more) earlier = last_number name more (if bytes_eq n.name name then n.number else earlier)
 
--- where the block of the last entry of a name stands, of those that stand behind others
+-- where the block of the last entry of a name stands, of those that come after others
 abbrev pub last_block : Name → List Entry → (earlier : Option ℕ) → Option ℕ
 last_block name [] earlier = earlier
 last_block name (entry ∷ more) earlier =
@@ -60,11 +60,11 @@ said_items bytes (shape ∷ shapes) (place ∷ places) =
     said_or (said_item bytes shape) (plain_item shape) place ∷ said_items bytes shapes places
 said_items bytes _ _ = []
 
--- the place of the script's block, which stands behind those of the items
+-- the place of the script's block, which comes after those of the items
 abbrev pub script_place : ShapeContents → List ℕ → Option ℕ
 script_place shape bytes = slice_index_or (own_places shape bytes) (length shape.items) None
 
--- so many words, or the last number of each name
+-- this many words, or the last number of each name
 abbrev pub said_numbers : ShapeContents → List ℕ → (at : ℕ) → List Name → List Numbered → List ℕ
 said_numbers shape bytes at names numbered =
     if version_in bytes == 1 then words_at bytes at (length names)

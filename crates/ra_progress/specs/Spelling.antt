@@ -28,12 +28,12 @@ presence_block (Some p) = presence_bytes p ∷ []
 abbrev pub blocks_of : Opening → List (List ℕ)
 blocks_of o = map item_bytes o.items ++ presence_block o.presence
 
--- numbers behind their names
+-- numbers after their names
 abbrev pub named_words : List Name → List ℕ → List ℕ
 named_words (name ∷ names) (number ∷ numbers) = name ++ (to_le_bytes w32 number ++ named_words names numbers)
 named_words _ _ = []
 
--- blocks behind their names and lengths
+-- blocks after their names and lengths
 abbrev pub named_blocks : List Name → List (List ℕ) → List ℕ
 named_blocks (name ∷ names) (block ∷ blocks) =
     name ++ (to_le_bytes w32 (length block) ++ (block ++ named_blocks names blocks))

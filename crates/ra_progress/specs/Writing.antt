@@ -1,4 +1,4 @@
--- A progress file as it is written, one piece behind the other: docs/DEFINITIONS.md, "Progress file".
+-- A progress file as it is written, one piece after the other: docs/DEFINITIONS.md, "Progress file".
 use Rattle.std.specs.Prelude.{ℕ, ◌+◌, ◌≤◌, Option, None, Some, List, ◌∷◌, ◌++◌, length}
 use Rattle.std.specs.Int.{w32, w64, to_le_bytes}
 use Rattle.ra_progress.specs.declared.shape.ItemShape.{ItemShape}
@@ -15,7 +15,7 @@ front_bytes shape frames cells priors =
     ++ (to_le_bytes w32 (length shape.priors) ++ (named_words shape.priors priors
     ++ to_le_bytes w32 (length (entry_names shape))))))))
 
--- a block behind its name and length
+-- a block after its name and length
 abbrev pub named_block : Name → List ℕ → List ℕ
 named_block name block = name ++ (to_le_bytes w32 (length block) ++ block)
 

@@ -51,7 +51,7 @@ pub fn achievement_block(bytes: &[u8], at: u64) -> AchievementBlock
     }
 }
 
-/// What the block of a leaderboard with so many hits says at a place before its rows, and where these stand.
+/// What the block of a leaderboard with this many hits says at a place before its rows, and where these stand.
 pub fn board_block(bytes: &[u8], at: u64, hits: u64) -> BoardBlock
     requires { at + 1 + 4 * hits ≤ length bytes.now }
     ensures state { result.state ≡ slice_index bytes.now at }
@@ -65,7 +65,7 @@ pub fn board_block(bytes: &[u8], at: u64, hits: u64) -> BoardBlock
     }
 }
 
-/// What the block of the script whose lines keep so many hits says at a place before its rows, and where these stand.
+/// What the block of the script whose lines keep this many hits says at a place before its rows, and where these stand.
 pub fn presence_block(bytes: &[u8], at: u64, hits: u32) -> PresenceBlock
     requires { at + 4 ≤ length bytes.now }
     ensures shown { result.shown ≡ words.word_at bytes.now at }

@@ -13,7 +13,7 @@ ghost use Rattle.ra_progress.specs.Laws.{IsShape, HasLines, ComesBack, IsOwn};
 /// are those of what they say; and what accepted bytes say is an opening, where a script has a line:
 /// docs/DEFINITIONS.md, "Progress file".
 ///
-/// A law: it does nothing.
+/// A law; no effect at run time.
 pub fn both_ways()
     ensures from_openings { (shape : ShapeContents) (o : Opening) → IsShape shape → IsOpening shape o → ComesBack shape o }
     ensures own { (shape : ShapeContents) (o : Opening) → IsShape shape → IsOpening shape o → IsOwn shape (progress_bytes shape o) }

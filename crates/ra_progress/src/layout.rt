@@ -39,7 +39,7 @@ pub fn first_entry(bytes: &[u8]) -> u64
     41 + 20 * (u64::from(cell_count(bytes)) + u64::from(prior_count(bytes)))
 }
 
-/// Where the entry behind one stands.
+/// Where the entry after one stands.
 pub fn entry_after(bytes: &[u8], at: u64) -> u64
     requires { at + 20 ≤ length bytes.now }
     ensures { result ≡ spec.entry_after bytes.now at }
@@ -75,7 +75,7 @@ pub(crate) fn need(bytes: &[u8]) -> u64
     need_of_entries(bytes, entries, 41 + 20 * named)
 }
 
-// The need once the lengths of so many entries were read from a place on.
+// The need once the lengths of this many entries were read from a place on.
 fn need_of_entries(bytes: &[u8], count: u32, first: u64) -> u64
     requires within { first + 20 * count + 16 ≤ length bytes.now }
     requires most { length bytes.now ≤ 8388608 }

@@ -64,7 +64,7 @@ fn read_numbers(numbers: &mut [u32], bytes: &[u8], at: u64)
     }
 }
 
-/// Takes up the number of the last one of each name of the shape, of so many from a place on.
+/// Takes up the number of the last one of each name of the shape, of this many from a place on.
 fn read_named(
     numbers: &mut Vec<u32>,
     shape: &Shape,

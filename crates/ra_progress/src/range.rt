@@ -109,7 +109,7 @@ fn first_not_before(
     low
 }
 
-// The first place whose name stands behind this one.
+// The first place whose name comes after this one.
 fn first_behind(
     names: &[[u8; 16]],
     last: &Option<[u8; 16]>,

@@ -62,7 +62,7 @@ pub fn begin(
     Ok(bytes)
 }
 
-/// Writes the closing sum behind all other bytes of a file: docs/DEFINITIONS.md, "Progress file".
+/// Writes the closing sum after all other bytes of a file: docs/DEFINITIONS.md, "Progress file".
 pub fn close(bytes: &mut Vec<u8>) -> Result<(), OutOfMemory>
     ensures { OnOk result (bytes.new.items ≡ bytes.old.items ++ md5 bytes.old.items) }
 {
@@ -71,7 +71,7 @@ pub fn close(bytes: &mut Vec<u8>) -> Result<(), OutOfMemory>
     Ok(())
 }
 
-/// Writes a count, and so many names with their numbers.
+/// Writes a count, and this many names with their numbers.
 fn put_numbered(bytes: &mut Vec<u8>, names: &[[u8; 16]], numbers: &[u32]) -> Result<(), OutOfMemory>
     requires few { length_of_list names.now < 2 ^ 32 }
     requires paired { length_of_list numbers.now ≡ length_of_list names.now }
@@ -132,7 +132,7 @@ pub fn state_byte(state: u8, earned: bool) -> u8
     if earned { state + 8 } else { state }
 }
 
-/// Writes an achievement with its name and length behind other bytes: docs/DEFINITIONS.md, "Progress
+/// Writes an achievement with its name and length after other bytes: docs/DEFINITIONS.md, "Progress
 /// file".
 ///
 /// `state` is its state byte, as `state_byte` gives it. After `OutOfMemory` some of it may be there.
@@ -155,7 +155,7 @@ pub fn put_achievement(
     Ok(())
 }
 
-/// Writes a leaderboard with its name and length behind other bytes: docs/DEFINITIONS.md, "Progress
+/// Writes a leaderboard with its name and length after other bytes: docs/DEFINITIONS.md, "Progress
 /// file". After `OutOfMemory` some of it may be there.
 pub fn put_board(
     bytes: &mut Vec<u8>,
@@ -193,7 +193,7 @@ fn put_script(
     }
 }
 
-/// Writes a script with its name and length behind other bytes: docs/DEFINITIONS.md, "Progress file".
+/// Writes a script with its name and length after other bytes: docs/DEFINITIONS.md, "Progress file".
 /// After `OutOfMemory` some of it may be there.
 pub fn put_presence(
     bytes: &mut Vec<u8>,
@@ -213,7 +213,7 @@ pub fn put_presence(
     Ok(())
 }
 
-/// Writes a name, and the length of the block behind it.
+/// Writes a name, and the length of the block after it.
 fn put_named(bytes: &mut Vec<u8>, name: &[u8; 16], size: u32) -> Result<(), OutOfMemory>
     ensures { OnOk result (bytes.new.items ≡ bytes.old.items ++ (name.now ++ to_le_bytes w32 size)) }
 {

@@ -48,7 +48,7 @@ abbrev pub is_nothing : List ℕ → Bool
 is_nothing [] = true
 is_nothing (byte ∷ line) = false
 
--- a byte before what is left of the bytes behind it: a blank before nothing goes too
+-- a byte before what is left of the bytes after it: a blank before nothing goes too
 abbrev pub before_trimmed : ℕ → List ℕ → List ℕ
 before_trimmed byte rest = if is_blank byte && is_nothing rest then [] else byte ∷ rest
 

@@ -40,7 +40,7 @@ abbrev pub ends_run : List ℕ → Bool
 ends_run [] = true
 ends_run (byte ∷ rest) = byte == 64
 
--- the text is the characters that stood there up to a macro or to the end, and the new bytes are those behind them
+-- the text is the characters that stood there up to a macro or to the end, and the new bytes are those after them
 pub record Run (old text new : List ℕ) : Type 0 where
   pub reads : all_at piece_at (length old) old ≡ option_map (λ pieces. map (λ byte. Bytes (byte ∷ [])) text ++ pieces) (all_at piece_at (length new) new)
   pub ends : ends_run new ≡ true

@@ -16,7 +16,7 @@ use Rattle.ra_value_format.specs.Formats.{format_of_name}
 
 -- ---- repeated forms
 
--- a text of the item, and what comes behind it
+-- a text of the item, and what comes after it
 pub record Item {A V : Type 0} (item : Form A V) (others : List A → Type 0) (text : List A) (v : V) : Type 0 where
   pub front : List A
   pub behind : List A
@@ -301,7 +301,7 @@ script_of parts = record {
   lines = parts.lines;
 }
 
--- lookups and formats, with one display before, between or behind them
+-- lookups and formats, with one display before, between or after them
 abbrev pub script_lines : Form (List ℕ) ScriptParts
 script_lines = do
   before ← many section

@@ -19,7 +19,7 @@ pub record Keeps (most : ℕ) (sections : List SectionContents) (kept : Kept) : 
   pub long : kept.long ≡ first_over most (map length (texts_kept sections))
   pub names : (name : List ℕ) → list_any (λ taken. bytes_eq name taken.items) kept.names.keys ≡ is_taken (map name_of sections) name
 
--- the sections that were read are kept behind those before, unless memory runs out
+-- the sections that were read are kept after those before, unless memory runs out
 pub record KeepsAlso (most : ℕ) (before : List SectionContents) (kept : Kept) (rest : List ScriptLine) (outcome : Outcome (List ℕ) (List SectionContents)) : Type 0 where
   pub sections : List SectionContents
   pub read : outcome ≡ Ok (sections, bytes_of rest)

@@ -25,7 +25,7 @@ pub record IsFeedAt (text : List ℕ) (at : ℕ) : Type 0 where
   pub clear : has_no_feed (take at text) ≡ true
   pub feed : (behind : List ℕ) (byte : ℕ) → drop at text ≡ byte ∷ behind → byte ≡ 10
 
--- the content of the first line of a text, and what stands behind the line
+-- the content of the first line of a text, and what follows the line
 pub record SplitsLine (text line behind : List ℕ) : Type 0 where
   pub first : List ℕ
   pub parts : text ≡ first ++ behind

@@ -13,7 +13,7 @@ pub record IsFront (lines : List (List ℕ)) : Type 0 where
   pub more : List (List ℕ)
   pub begins : contents_of text ≡ lines ++ more
 
--- where the line of this index starts, and the length for the index behind the last
+-- where the line of this index starts, and the length for the index after the last
 abbrev pub line_start : List ℕ → ℕ → ℕ
 line_start text index = length (flat_map (λ line. line) (take index (lines_of text)))
 

@@ -95,12 +95,12 @@ macro_at text = do
   closing ← one_at (only (codes ")")) shown.1
   Ok (Shows macro_name.0 shown.0, closing.1)
 
--- what a `\` stands for, and what is left behind it
+-- what a `\` stands for, and what is left after it
 abbrev pub escaped : List ℕ → ℕ × List ℕ
 escaped [] = (92, [])
 escaped (byte ∷ rest) = (byte, rest)
 
--- the character that begins with a byte, and what is left behind it
+-- the character that begins with a byte, and what is left after it
 abbrev pub character_of : ℕ → List ℕ → ℕ × List ℕ
 character_of byte rest = if byte == 92 then escaped rest else (byte, rest)
 
@@ -212,7 +212,7 @@ left_only value_of line = if is_left line then value_of line else None
 unfoldable pub entries_at : List (List ℕ) → Outcome (List ℕ) (List EntryContents)
 entries_at = run_at (left_only entry_of)
 
--- what stands behind the first line of a section
+-- what follows the first line of a section
 unfoldable pub section_behind_at : HeadContents → List (List ℕ) → Outcome (List ℕ) SectionContents
 section_behind_at (OpensLookup lookup_name) lines = do
   entries ← entries_at lines

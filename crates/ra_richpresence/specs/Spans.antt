@@ -34,7 +34,7 @@ abbrev pub line_passed : (from : ℕ) → (before : Option ℕ) → List Span �
 line_passed from before [] = before
 line_passed from before (s ∷ ss) = if nat_le s.from from then s.line else before
 
--- the spans behind the next one where it begins at a number or below it, else all of them
+-- the spans after the next one where it begins at a number or below it, else all of them
 abbrev pub left_behind : (from : ℕ) → List Span → List Span
 left_behind from [] = []
 left_behind from (s ∷ ss) = if nat_le s.from from then ss else s ∷ ss

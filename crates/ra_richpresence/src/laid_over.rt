@@ -38,7 +38,7 @@ pub fn laid_over(alloc: Global, over: &[Span], under: &[Span]) -> Result<Vec<Spa
     Ok(spans)
 }
 
-// Puts a span behind others, unless its line is the one before it.
+// Puts a span after others, unless its line is the one before it.
 fn put_span(spans: &mut Vec<Span>, before: Option<usize>, span: Span) -> Result<(), OutOfMemory>
     ensures { OnOk result ((spans.new.items ≡ spans.old.items ++ span ∷ [])
         ⊎ ((before ≡ span.line) × (spans.new.items ≡ spans.old.items))) }

@@ -5,7 +5,7 @@ ghost use Rattle.ra_text.specs.Place.{OneSpelling};
 
 /// A text spells at most one script: docs/DEFINITIONS.md, "Presence scripts".
 ///
-/// A law: it does nothing.
+/// A law; no effect at run time.
 pub fn one_script()
     ensures { OneSpelling script }
 {}

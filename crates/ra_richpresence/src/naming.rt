@@ -88,7 +88,7 @@ fn meanings_of_pieces(
     Ok(meanings)
 }
 
-// Puts what a piece shows behind others, if it is a macro.
+// Puts what a piece shows after others, if it is a macro.
 fn put_meaning(
     meanings: &mut Vec<Meaning>,
     names: &BTreeMap<Vec<u8>, Meaning>,

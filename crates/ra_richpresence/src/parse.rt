@@ -75,7 +75,7 @@ pub fn read_script(alloc: Global, text: &[u8], most: u64) -> Result<ReadScript, 
     }
 }
 
-// Lookups and formats, with one display before, between or behind them.
+// Lookups and formats, with one display before, between or after them.
 fn take_script(alloc: Global, most: u64, lines: &mut Lines<'_>) -> Result<ReadScript, Fault>
     ensures { MovesAsUnlessFull (λ read parts. IsScriptOf most parts read) result lines.new.rest.now (script_at (bytes_of lines.old.rest.now)) }
 {

@@ -23,7 +23,7 @@ pub enum Section {
     Format(Vec<u8>, Format),
 }
 
-/// What stands behind the first line of a section. A text is long where it passes `most` bytes.
+/// What follows the first line of a section. A text is long where it passes `most` bytes.
 #[tactic(auto, unfolding(crate::specs::Reading::section_behind_at))]
 pub fn take_section(
     alloc: Global,

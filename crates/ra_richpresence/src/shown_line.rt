@@ -35,7 +35,7 @@ impl Script {
 
     /// Puts the text of a line of the display behind another text, by what `line` takes.
     ///
-    /// On want of memory a part of it may stand there.
+    /// When memory runs out, a part of it may stand there.
     pub fn put_line(&self, out: &mut Vec<u8>, shown: u32, values: &[i32]) -> Result<(), OutOfMemory>
         requires shown { shown < length self.now.lines.items }
         requires formats { All (λ format. HasDigits format.1) (script_contents self.now).formats }
@@ -130,7 +130,7 @@ fn put_unknown(out: &mut Vec<u8>, name: &[u8]) -> Result<(), OutOfMemory>
     Ok(())
 }
 
-// The values behind those of the macros of these lines.
+// The values after those of the macros of these lines.
 fn behind_lines<'a>(lines: &[Line], values: &'a [i32]) -> &'a [i32]
     ensures { result.now ≡ drop (length (flat_map values_in_line (map line_contents lines.now))) values.now }
 {
@@ -141,7 +141,7 @@ fn behind_lines<'a>(lines: &[Line], values: &'a [i32]) -> &'a [i32]
     left
 }
 
-// The values behind those of the macros of a line.
+// The values after those of the macros of a line.
 fn behind_line<'a>(line: &Line, values: &'a [i32]) -> &'a [i32]
     ensures { result.now ≡ drop (length (values_in_line (line_contents line.now))) values.now }
 {
@@ -152,7 +152,7 @@ fn behind_line<'a>(line: &Line, values: &'a [i32]) -> &'a [i32]
     left
 }
 
-// The values behind that of a piece, if it has one.
+// The values after that of a piece, if it has one.
 fn behind_piece<'a>(piece: &Piece, values: &'a [i32]) -> &'a [i32]
     ensures { result.now ≡ drop (values_of (piece_contents piece.now)) values.now }
 {
@@ -162,7 +162,7 @@ fn behind_piece<'a>(piece: &Piece, values: &'a [i32]) -> &'a [i32]
     }
 }
 
-// The meanings behind that of a piece, if it has one.
+// The meanings after that of a piece, if it has one.
 fn behind_meaning<'a>(piece: &Piece, meanings: &'a [Meaning]) -> &'a [Meaning]
     ensures { result.now ≡ drop (values_of (piece_contents piece.now)) meanings.now }
 {

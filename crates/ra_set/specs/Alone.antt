@@ -42,11 +42,11 @@ pub record ReadsAlone (line : List ℕ) (l : Line) : Type 0 where
   pub read : lines_in (front_at line) ≡ Ok ((lines, false), [])
   pub items : items_of lines ≡ option_to_list l
 
--- an LF stands behind a row, or the file ends there
+-- an LF comes after a row, or the file ends there
 abbrev pub EndsRow : Bool → List ℕ → List ℕ → Type 0
 EndsRow wants old new = (old ≡ 10 ∷ new) ⊎ ((begins (is_in (only (codes "\n"))) old ≡ false) × (end_at wants old ≡ Ok (tt, new)))
 
--- no LF stands behind a row, and the file does not end there
+-- no LF comes after a row, and the file does not end there
 abbrev pub StopsRow : Bool → List ℕ → List ℕ → Type 0
 StopsRow wants old new = (begins (is_in (only (codes "\n"))) old ≡ false) × (end_at wants old ≡ Err new)
 

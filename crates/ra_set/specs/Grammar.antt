@@ -90,14 +90,14 @@ set_lines = do
 abbrev pub items_of : List Line → List ItemContents
 items_of lines = flat_map option_to_list lines
 
--- lines that each have their end, and behind them the letter of a line "P"
+-- lines that each have their end, and after them the letter of a line "P"
 abbrev pub last_head : Form ℕ (List Line)
 last_head = do
   ended ← many ended_line
   letter ← One (only (codes "P"))
   Spell ended
 
--- lines that each have their end, and a line "P" with its end, behind which a presence script begins
+-- lines that each have their end, and a line "P" with its end, after which a presence script begins
 abbrev pub script_head : Form ℕ (List Line)
 script_head = do
   ended ← last_head
@@ -109,7 +109,7 @@ pub record FileContents : Type 0 where
   pub lines : List Line
   pub script : Option ScriptParts
 
--- a file with a presence script, which is all that stands behind the line "P"
+-- a file with a presence script, which is all that comes after the line "P"
 abbrev pub scripted : Form ℕ FileContents
 scripted = do
   ended ← script_head

@@ -55,7 +55,7 @@ pub record NotesId (old : KeptLines) (x : ItemContents) (new : KeptLines) : Type
   pub ids : (y : ItemContents) → has_id new.ids y ≡ (repeats x y || has_id old.ids y)
   pub repeat : new.repeat ≡ earlier_repeat old.repeat (repeat_now old x)
 
--- the lines that reading gives are kept, and whether a script stands behind them, unless memory runs out
+-- the lines that reading gives are kept, and whether a script comes after them, unless memory runs out
 abbrev pub KeepsUnlessFull : Result FileLines Fault → List ℕ → Outcome ℕ (List Line × Bool) → Type 0
 KeepsUnlessFull (Ok found) rest outcome = (lines : List Line) × (outcome ≡ Ok ((lines, found.has_script), rest)) × Keeps found.kept lines
 KeepsUnlessFull (Err Stop) rest outcome = outcome ≡ Err rest

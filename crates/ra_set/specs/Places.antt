@@ -4,13 +4,14 @@ use Rattle.ra_richpresence.specs.Places.{IsFirstBad}
 use Rattle.ra_set.specs.Grammar.{FileContents, Line, script_head, last_head, set_file}
 use Rattle.ra_text.specs.Place.{IsBadPlace}
 
--- the file has a line "P" behind lines that each have their end, the front goes up to its end, and this text stands behind it
+-- the file has a line "P" after lines that each have their end, the front goes up to its end, and this text comes after
+-- it
 pub record HasScript (file front text : List ℕ) : Type 0 where
   pub parts : file ≡ front ++ text
   pub lines : List Line
   pub opens : script_head front lines ⊎ ((text ≡ []) × last_head front lines)
 
--- the place is that of the script behind a line "P", counted from the start of the file
+-- the place is that of the script after a line "P", counted from the start of the file
 pub record IsScriptPlace (file : List ℕ) (at : ℕ) : Type 0 where
   pub front : List ℕ
   pub text : List ℕ

@@ -17,7 +17,7 @@ use Rattle.ra_set.specs.ScriptLimits.{IsReadOf}
 abbrev pub script_read : Option ReadScript → Option ScriptContents
 script_read read = option_map (λ r. script_contents r.script) read
 
--- the text behind a line "P" was read as a script, or there is no such line
+-- the text after a line "P" was read as a script, or there is no such line
 abbrev pub IsReadBehind : Bool → List ℕ → Option ReadScript → Type 0
 IsReadBehind true text (Some read) = IsRead text most_text read
 IsReadBehind false text None = Unit {0}
@@ -27,7 +27,7 @@ IsReadBehind _ text _ = ⊥
 abbrev pub IsBadText : List ℕ → ℕ → SetRefused → Type 0
 IsBadText text start why = (place : ℕ) × IsOutside text place × (why ≡ Syntax (start + place))
 
--- there is a line "P", and the text behind it is no script
+-- there is a line "P", and the text after it is no script
 abbrev pub IsBadScript : Bool → List ℕ → ℕ → SetRefused → Type 0
 IsBadScript true text start why = IsBadText text start why
 IsBadScript false text start why = ⊥

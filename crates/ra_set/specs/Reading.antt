@@ -87,7 +87,7 @@ comment_row_at text = do
   l ← comment_at text
   Ok ((l.0, false), l.1)
 
--- a line that is no comment, and whether a CR stands behind it
+-- a line that is no comment, and whether a CR comes after it
 unfoldable pub item_row_at : List ℕ → Outcome ℕ (Line × Bool)
 item_row_at text = do
   l ← item_line_at text
@@ -98,18 +98,19 @@ item_row_at text = do
 unfoldable pub row_at : List ℕ → Outcome ℕ (Line × Bool)
 row_at = choice_at (begins (is_in (only (codes "#")))) comment_row_at item_row_at
 
--- how the lines of a file end: with a last line, at the letter of a line "P", or with a line "P" that has this text behind it
+-- how the lines of a file end: with a last line, at the letter of a line "P", or with a line "P" that has this text
+-- after it
 pub data Tail : Type 0 where
   Ends : Line → Tail
   Letter : Tail
   Opens : List ℕ → Tail
 
--- what stands behind the CR of a line "P"
+-- what follows the CR of a line "P"
 abbrev pub feed_at : List ℕ → Outcome ℕ Tail
 feed_at [] = Err []
 feed_at (byte ∷ rest) = if byte == 10 then Ok (Opens rest, []) else Err (byte ∷ rest)
 
--- what stands behind the letter of a line "P"
+-- what follows the letter of a line "P"
 abbrev pub opens_at : List ℕ → Outcome ℕ Tail
 opens_at [] = Ok (Letter, [])
 opens_at (byte ∷ rest) = if byte == 10 then Ok (Opens rest, []) else if byte == 13 then feed_at rest else Ok (Letter, byte ∷ rest)
@@ -134,7 +135,7 @@ script_line_at text = do
   letter ← one_at (only (codes "P")) text
   script_end_at letter.1
 
--- the end of the file, behind a row that wants no LF
+-- the end of the file, after a row that wants no LF
 abbrev pub end_at : Bool → List ℕ → Outcome ℕ (Unit {0})
 end_at true text = Err text
 end_at false [] = Ok (tt, [])
@@ -151,12 +152,12 @@ abbrev pub last_at : Line → Bool → List ℕ → Outcome ℕ (List Line × Ta
 last_at l true text = Err text
 last_at l false text = Ok (([], Ends l), text)
 
--- what stands behind a row: an LF and other lines, or the end of the lines
+-- what follows a row: an LF and other lines, or the end of the lines
 abbrev pub behind_row_at : (List ℕ → Outcome ℕ (List Line × Tail)) → Line → Bool → List ℕ → Outcome ℕ (List Line × Tail)
 behind_row_at others l wants [] = last_at l wants []
 behind_row_at others l wants (byte ∷ rest) = if byte == 10 then with_lines (l ∷ []) (others rest) else last_at l wants (byte ∷ rest)
 
--- the next line of a file and those behind it
+-- the next line of a file and those after it
 abbrev pub row_and_others_at : (List ℕ → Outcome ℕ (List Line × Tail)) → List ℕ → Outcome ℕ (List Line × Tail)
 row_and_others_at others text = do
   row ← row_at text
@@ -171,7 +172,7 @@ front_from (suc most) text = choice_at (begins (is_in (only (codes "P")))) lette
 unfoldable pub front_at : List ℕ → Outcome ℕ (List Line × Tail)
 front_at text = front_from (suc (length text)) text
 
--- the lines of a file, and whether its script stands behind them, which is what is left
+-- the lines of a file, and whether its script comes after them, which is what is left
 abbrev pub lines_in : Outcome ℕ (List Line × Tail) → Outcome ℕ (List Line × Bool)
 lines_in (Ok ((ended, Ends l), [])) = Ok ((ended ++ l ∷ [], false), [])
 lines_in (Ok ((ended, Ends l), byte ∷ rest)) = Err (byte ∷ rest)

@@ -43,7 +43,8 @@ pub record HasDistinct (file : List ℕ) (contents : FileContents) : Type 0 wher
   pub has : HasContents file contents
   pub ids : IsDistinct repeats (items_of contents.lines)
 
--- how a file is refused: the first of these that comes, in the order of the cases; want of memory is no refusal of a file
+-- how a file is refused: the first of these that comes, in the order of the cases; running out of memory is no refusal
+-- of a file
 abbrev pub Refuses : List ℕ → SetRefused → Type 0
 Refuses file (Limit Bytes found) = (most_bytes < length file) × (found ≡ length file)
 Refuses file (Syntax at) = (length file ≤ most_bytes) × IsFileOutside file at

@@ -12,7 +12,7 @@ pub record Both {A : Type 0} (first next : List A → Type 0) (text : List A) : 
   pub of_first : first front
   pub of_next : next behind
 
--- any number of texts of a form, one behind the other
+-- any number of texts of a form, one after the other
 abbrev pub many : {A V : Type 0} → Form A V → Form A (List V)
 many form text [] = text ≡ []
 many form text (v ∷ vs) = Both (λ t. form t v) (λ t. many form t vs) text

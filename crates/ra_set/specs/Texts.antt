@@ -4,7 +4,7 @@ use Rattle.std.specs.List.{filter}
 use Rattle.ra_text.specs.Reading.{begins}
 use Rattle.ra_text.specs.Table.{is_in, only}
 
--- a line, and what stands behind its LF, where there is one
+-- a line, and what follows its LF, where there is one
 pub record FirstLine : Type 0 where
   pub line : List ℕ
   pub rest : Option (List ℕ)
@@ -33,11 +33,11 @@ text_of first = elim first.rest [ None ↦ first.line | Some rest ↦ without_re
 abbrev pub is_item : List ℕ → Bool
 is_item = begins (is_in (only (codes "AL")))
 
--- whether a line is the line "P", behind which the script stands
+-- whether a line is the line "P", after which the script stands
 abbrev pub is_script : List ℕ → Bool
 is_script = begins (is_in (only (codes "P")))
 
--- the texts of the lines before the line "P", and what stands behind it; the number bounds how many lines
+-- the texts of the lines before the line "P", and what follows it; the number bounds how many lines
 abbrev pub lines_from : ℕ → List ℕ → List (List ℕ) × Option (List ℕ)
 lines_from zero text = ([], None)
 lines_from (suc most) text =

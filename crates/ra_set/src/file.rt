@@ -40,7 +40,7 @@ pub fn read_file(alloc: Global, bytes: &[u8]) -> Result<ReadFile, SetRefused>
     }
 }
 
-// The script that what is left of a file is, where it stands behind a line `P`.
+// The script that what is left of a file is, where it comes after a line `P`.
 fn read_behind(
     alloc: Global,
     bytes: &[u8],

@@ -5,6 +5,6 @@ use crate::kept_lines::KeptLines;
 pub struct FileLines {
     /// What is kept of the lines.
     pub kept: KeptLines,
-    /// A line `P` stands behind them.
+    /// A line `P` comes after them.
     pub has_script: bool,
 }

@@ -12,7 +12,7 @@ ghost use Rattle.ra_text.specs.Place.{OneSpelling};
 
 /// A file has its contents in one way at most: docs/DEFINITIONS.md, "Set file".
 ///
-/// A law: it does nothing.
+/// A law; no effect at run time.
 pub fn one_file()
     ensures { OneSpelling set_file }
 {}
@@ -20,7 +20,7 @@ pub fn one_file()
 /// A file is at most one set, or is refused for one reason, and never both: docs/DEFINITIONS.md,
 /// "Limits of a set".
 ///
-/// A law: it does nothing.
+/// A law; no effect at run time.
 pub fn one_answer()
     ensures set { (file : List ℕ) (a b : SetContents) → IsSet file a → IsSet file b → a ≡ b }
     ensures refusal { (file : List ℕ) (a b : SetRefused) → Refuses file a → Refuses file b → a ≡ b }
@@ -30,7 +30,7 @@ pub fn one_answer()
 /// Some file without a presence script spells a set exactly where its items have their structure
 /// and its ids are of 32 bits: docs/DEFINITIONS.md, "What texts spell".
 ///
-/// A law: it does nothing.
+/// A law; no effect at run time.
 pub fn spelled_sets()
     ensures { (set : SetContents) → set.script ≡ None
         → (IsSpelled set × All HasSmallId set.items) ↔ ((file : List ℕ) × SetFile file set) }
@@ -40,7 +40,7 @@ pub fn spelled_sets()
 /// item its item, and the text of the script the script: docs/DEFINITIONS.md, "Names of items and
 /// scripts".
 ///
-/// A law: it does nothing.
+/// A law; no effect at run time.
 pub fn item_lines()
     ensures { (file : List ℕ) (contents : FileContents) → set_file file contents → SpellsTexts file contents }
 {}

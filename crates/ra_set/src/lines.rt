@@ -37,7 +37,7 @@ pub fn take_lines(alloc: Global, cursor: &mut Cursor<'_>) -> Result<FileLines, F
     })
 }
 
-// The end of the file, behind a row that wants no LF.
+// The end of the file, after a row that wants no LF.
 pub fn take_end(cursor: &Cursor<'_>, wants_end: bool) -> Result<(), Stop>
     ensures { Moves result cursor.now.rest.now (end_at wants_end cursor.now.rest.now) }
 {

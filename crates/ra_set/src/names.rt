@@ -50,7 +50,7 @@ fn add_name(names: &mut Vec<[u8; 16]>, text: &[u8]) -> Result<(), OutOfMemory>
     Ok(())
 }
 
-// The line "P", behind which the script stands.
+// The line "P", after which the script stands.
 fn is_script(text: &[u8]) -> bool
     ensures { result ≡ is_script text.now }
 {
@@ -64,7 +64,7 @@ fn is_item(text: &[u8]) -> bool
     matches!(text, [b'A' | b'L', ..])
 }
 
-// The first line of a text, and what stands behind its LF, where there is one.
+// The first line of a text, and what follows its LF, where there is one.
 fn first_line(text: &[u8]) -> (&[u8], Option<&[u8]>)
     ensures line { result.0.now ≡ (first_line text.now).line }
     ensures rest { option_map (λ rest. rest.now) result.1 ≡ (first_line text.now).rest }

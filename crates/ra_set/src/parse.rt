@@ -22,7 +22,7 @@ use std::alloc::Global;
 /// Of several reasons why the file is none the first is told, in this order ("Limits of a set"):
 /// its bytes pass their limit; it is outside the grammar, with the first bad place; a line repeats
 /// an id of its own letter, with the first such line; its items pass their limit, or else its
-/// conditions, the macros of a display line, a lookup text. `Memory` comes for want of memory
+/// conditions, the macros of a display line, a lookup text. `Memory` comes for running out of memory
 /// alone.
 pub fn parse_set(alloc: Global, bytes: &[u8]) -> Result<Set, SetRefused>
     ensures ok { IfOk result (λ set. IsSet bytes.now (set_contents set)) }
@@ -30,7 +30,7 @@ pub fn parse_set(alloc: Global, bytes: &[u8]) -> Result<Set, SetRefused>
     ensures named { IfOk result (λ set. IsNamed (set_contents set)) }
     ensures err { IfErr result (λ why. why ≡ SetRefused.Memory ⊎ Refuses bytes.now why) }
 
-    // No other answer is given, want of memory aside.
+    // No other answer is given, running out of memory aside.
     ensures accepted { (set : SetContents) → IsSet bytes.now set
         → MatchResult result (λ s. set_contents s ≡ set) (λ why. why ≡ SetRefused.Memory) }
     ensures refused { (why : SetRefused) → Refuses bytes.now why → IsErrAnd result (λ e. e ≡ SetRefused.Memory ⊎ e ≡ why) }

@@ -64,7 +64,7 @@ pub enum SetRefused {
     Memory,
 }
 
-/// Want of memory is told as it is.
+/// Running out of memory is reported as such.
 impl From<OutOfMemory> for SetRefused {
     ghost use Rattle.std.specs.Prelude.{◌≡◌};
     ghost use Rattle.ra_set.specs.declared.refused.SetRefused.TheVariants.{Memory};

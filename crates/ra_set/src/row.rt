@@ -38,7 +38,7 @@ fn take_comment_row(cursor: &mut Cursor<'_>) -> Result<(Option<Item>, bool), Fau
     Ok((None, false))
 }
 
-// A line that is no comment, and whether a CR stands behind it.
+// A line that is no comment, and whether a CR comes after it.
 #[tactic(auto, unfolding(crate::specs::Reading::item_row_at))]
 fn take_item_row(alloc: Global, cursor: &mut Cursor<'_>) -> Result<(Option<Item>, bool), Fault>
     ensures { GivesUnlessFull (λ row. (option_map item_contents row.0, row.1)) result cursor.new.rest.now (item_row_at cursor.old.rest.now) }

@@ -8,7 +8,7 @@ ghost use Rattle.ra_trigger.specs.Laws.{IsFrame, AreCleared, state_after_reset};
 
 /// What a frame does to an achievement: docs/DEFINITIONS.md, "Achievement states".
 ///
-/// A law: it does nothing. Whether a number comes from hits does not depend on the frame.
+/// A law; no effect at run time. Whether a number comes from hits does not depend on the frame.
 pub fn achievement_holds()
     ensures triggered { (t : TriggerContents) (truths : List Bool) (lefts : List ℕ) (old : TriggerKept)
         → old.state ≡ Triggered → step t truths lefts old ≡ old }

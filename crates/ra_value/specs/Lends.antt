@@ -1,4 +1,4 @@
--- What a value keeps once its hits were changed in place: docs/DEFINITIONS.md, "Rest".
+-- What a value keeps once its hits were changed in place: docs/INTERNALS.md, "Rest".
 use Rattle.std.specs.Prelude.{ℕ, List, length}
 use Rattle.std.specs.List.{refill}
 use Rattle.std.specs.Borrow.{Lends, Fml, MutBor, Array, u32}

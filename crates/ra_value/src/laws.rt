@@ -12,7 +12,7 @@ ghost use Rattle.ra_value.specs.Steps.{ValueKept, part_step, part_steps, step, s
 
 /// What a frame does to a value: docs/DEFINITIONS.md, "Values over frames".
 ///
-/// A law: it does nothing.
+/// A law; no effect at run time.
 pub fn value_holds()
     ensures greatest { (numbers : List ℕ) → AreWords numbers → 0 < length numbers
         → IsSignedGreatest numbers (signed_greatest numbers) }

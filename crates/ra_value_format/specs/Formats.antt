@@ -5,7 +5,7 @@ use Rattle.std.specs.Int.{w32, cast_unsigned}
 use Rattle.ra_value_format.specs.declared.format.Format.{Format}
 use Rattle.ra_value_format.specs.declared.format.Format.TheVariants.{Value, Score, Frames, Secs, Hundredths, Minutes, SecsAsMins, Unsigned, Tens, Hundreds, Thousands, Fixed, Float}
 
--- a number in decimal, with zeros before it to so many digits
+-- a number in decimal, with zeros before it to this many digits
 abbrev pub with_zeros : ℕ → ℕ → List ℕ
 with_zeros digits n = replicate (digits - length (decimal n)) 48 ++ decimal n
 
@@ -28,11 +28,11 @@ hundredths_text c = seconds_text (c / 100) ++ 46 ∷ with_zeros 2 (c % 100)
 abbrev pub minutes_text : ℕ → List ℕ
 minutes_text n = decimal (n / 60) ++ 104 ∷ with_zeros 2 (n % 60)
 
--- a number without sign, with so many of its digits as decimals
+-- a number without sign, with this many of its digits as decimals
 abbrev pub decimals_text : ℕ → ℕ → List ℕ
 decimals_text digits n = decimal (n / 10 ^ digits) ++ 46 ∷ with_zeros digits (n % 10 ^ digits)
 
--- a signed number with so many of its digits as decimals, after its sign where it is negative
+-- a signed number with this many of its digits as decimals, after its sign where it is negative
 abbrev pub fixed_text : ℕ → ℤ → List ℕ
 fixed_text digits (pos n) = decimals_text digits n
 fixed_text digits (negsuc n) = 45 ∷ decimals_text digits (suc n)
@@ -53,13 +53,13 @@ formatted Thousands v = signed_decimal (v *ℤ pos 1000)
 formatted (Fixed digits) v = fixed_text digits v
 formatted (Float zeros) v = signed_decimal v ++ 46 ∷ replicate zeros 48
 
--- the formats with zeros behind the point, by name
+-- the formats with zeros after the point, by name
 abbrev pub float_names : List (List ℕ × Format)
 float_names =
     (codes "FLOAT1", Float 1) ∷ (codes "FLOAT2", Float 2) ∷ (codes "FLOAT3", Float 3)
     ∷ (codes "FLOAT4", Float 4) ∷ (codes "FLOAT5", Float 5) ∷ (codes "FLOAT6", Float 6) ∷ []
 
--- the formats that move the point or put zeros behind it, by name
+-- the formats that move the point or put zeros after it, by name
 abbrev pub scaled_names : List (List ℕ × Format)
 scaled_names =
     (codes "TENS", Tens) ∷ (codes "HUNDREDS", Hundreds) ∷ (codes "THOUSANDS", Thousands)

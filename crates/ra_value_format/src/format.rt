@@ -28,7 +28,7 @@ pub enum Format {
     Thousands,
     /// With 1 to 3 of its digits as decimals.
     Fixed(u8),
-    /// With 1 to 6 zeros behind a point.
+    /// With 1 to 6 zeros after a point.
     Float(u8),
 }
 

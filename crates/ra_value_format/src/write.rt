@@ -22,9 +22,9 @@ pub fn format_value(alloc: Global, format: Format, value: i32) -> Result<Vec<u8>
     Ok(text)
 }
 
-/// Puts the text of a number behind another text: docs/DEFINITIONS.md, "Formats".
+/// Puts the text of a number after another text: docs/DEFINITIONS.md, "Formats".
 ///
-/// The format is as for `format_value`. On want of memory a part of it may stand there.
+/// The format is as for `format_value`. When memory runs out, a part of it may stand there.
 pub fn put_value(out: &mut Vec<u8>, format: Format, value: i32) -> Result<(), OutOfMemory>
     requires { HasDigits format }
     ensures { OnOk result (out.new.items ≡ out.old.items ++ formatted format value) }
@@ -47,7 +47,7 @@ pub fn put_value(out: &mut Vec<u8>, format: Format, value: i32) -> Result<(), Ou
     }
 }
 
-/// Puts a number without sign in decimal behind a text.
+/// Puts a number without sign in decimal after a text.
 pub fn put_unsigned(out: &mut Vec<u8>, number: u64) -> Result<(), OutOfMemory>
     ensures { OnOk result (out.new.items ≡ out.old.items ++ decimal number) }
 {
@@ -56,7 +56,7 @@ pub fn put_unsigned(out: &mut Vec<u8>, number: u64) -> Result<(), OutOfMemory>
     Ok(())
 }
 
-/// Puts a signed number in decimal behind a text.
+/// Puts a signed number in decimal after a text.
 pub fn put_signed(out: &mut Vec<u8>, number: i64) -> Result<(), OutOfMemory>
     ensures { OnOk result (out.new.items ≡ out.old.items ++ signed_decimal number) }
 {
@@ -65,7 +65,7 @@ pub fn put_signed(out: &mut Vec<u8>, number: i64) -> Result<(), OutOfMemory>
     Ok(())
 }
 
-/// Puts the bytes that a value shows behind a text.
+/// Puts the bytes that a value shows after a text.
 fn put_shown<T: fmt::Display>(out: &mut Vec<u8>, value: &T) -> Result<(), OutOfMemory>
     ensures { OnOk result (IfSome (T.output value.now) (λ bytes. out.new.items ≡ out.old.items ++ bytes)) }
 {
