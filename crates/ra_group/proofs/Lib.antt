@@ -6,6 +6,7 @@ pub mod HandedLemmas
 mod LawLemmas
 mod OutcomeLemmas
 mod PassLemmas
+mod PlainLemmas
 pub mod TallyLemmas
 mod TextOrder
 mod TurnLemmas

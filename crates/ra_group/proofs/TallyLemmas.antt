@@ -71,7 +71,7 @@ greatest_push form f js j = greatest-append form f js (j ∷ []) ∙ ap (larger 
 abbrev tally : (paused reset valid primed counting : Bool) → Option ℕ → Bool → Tally
 tally paused reset valid primed counting greatest from_hits = record { paused = paused; reset = reset; valid = valid; primed = primed; counting = counting; greatest = greatest; from_hits = from_hits }
 
-same_tally : {a b c d e h a' b' c' d' e' h' : Bool} {g g' : Option ℕ} → a ≡ a' → b ≡ b' → c ≡ c' → d ≡ d' → e ≡ e' → g ≡ g' → h ≡ h' → tally a b c d e g h ≡ tally a' b' c' d' e' g' h'
+pub same_tally : {a b c d e h a' b' c' d' e' h' : Bool} {g g' : Option ℕ} → a ≡ a' → b ≡ b' → c ≡ c' → d ≡ d' → e ≡ e' → g ≡ g' → h ≡ h' → tally a b c d e g h ≡ tally a' b' c' d' e' g' h'
 same_tally p q r s t u v = cc
 
 -- one place more is noted

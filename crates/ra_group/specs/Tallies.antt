@@ -1,6 +1,7 @@
 -- What the conditions visited so far say together, and the outcome that it comes to: the step between the code and docs/DEFINITIONS.md, "Group outcome".
-use Rattle.std.specs.Prelude.{ℕ, true, false, if◌then◌else◌, not, ◌&&◌, ◌||◌, Option, None, Some}
+use Rattle.std.specs.Prelude.{◌≡◌, ℕ, true, false, if◌then◌else◌, not, ◌&&◌, ◌||◌, Option, None, Some}
 use Rattle.ra_condition.specs.declared.condition.Condition.{Condition}
+use Rattle.ra_condition.specs.declared.flag.Flag.TheVariants.{Plain}
 use Rattle.ra_condition.specs.Flags.{is_pause, is_reset, is_measured, is_measured_if, is_wanted, is_required}
 use Rattle.ra_group.specs.declared.form.Form.{Form}
 use Rattle.ra_group.specs.declared.outcome.Outcome.{Outcome}
@@ -38,3 +39,9 @@ outcome_by tally = record {
   measured = if tally.paused then None else option_if tally.counting tally.greatest;
   from_hits = tally.from_hits;
 }
+
+-- a plain condition without a target, with nothing before it in its chain
+pub record StandsPlain (c : Condition) (before : Option Settled) : Type 0 where
+  pub plain : c.flag ≡ Plain
+  pub free : c.target ≡ 0
+  pub alone : before ≡ None

@@ -98,7 +98,7 @@ fn in_pass_order(
         // Past the pause chains it is known whether the group is paused, and then its hits stay.
         let frozen = pass.tally.paused && turn >= pauses as usize;
         let condition = &conditions[place];
-        let next = pass.visit(form, condition, truths[place], lefts[place], hits[place]);
+        let next = pass.visit_any(form, condition, truths[place], lefts[place], hits[place]);
         if !frozen {
             hits[place] = next;
         }

@@ -74,8 +74,8 @@ impl Tally {
         }
     }
 
-    // Takes a condition that has to be valid for the group to be valid and to be primed.
-    fn want(&mut self, valid: bool)
+    /// Takes a condition that has to be valid for the group to be valid and to be primed.
+    pub fn want(&mut self, valid: bool)
         ensures { self.new ≡ record self.old {
           valid = self.old.valid && valid;
           primed = self.old.primed && valid;

@@ -1,13 +1,14 @@
-ghost use Rattle.std.specs.Prelude.{◌≡◌, ◌^◌, if◌then◌else◌, None};
+ghost use Rattle.std.specs.Prelude.{◌≡◌, ◌^◌, if◌then◌else◌, true, None};
 ghost use Rattle.ra_condition.specs.Flags.{hands_on};
 ghost use Rattle.ra_group.specs.Bounds.{AddWithin};
 ghost use Rattle.ra_group.specs.Equations.{settled, seen_after};
-ghost use Rattle.ra_group.specs.Tallies.{noted, no_tally};
+ghost use Rattle.ra_group.specs.Tallies.{StandsPlain, noted, no_tally};
 
+use crate::equations::hits_after;
 use crate::form::Form;
 use crate::settled::Settled;
 use crate::tally::Tally;
-use ra_condition::Condition;
+use ra_condition::{Condition, Flag};
 
 /// What a pass over a group carries from condition to condition.
 #[derive(Drop)]
@@ -30,11 +31,42 @@ impl Pass {
         }
     }
 
+    /// Visits one condition more as `visit_any` does. Most are plain ones without a target, and alone.
+    // The inner loop of most groups: what is seldom stands in `visit_any`.
+    pub fn visit(
+        &mut self,
+        form: Form,
+        condition: &Condition,
+        truth: bool,
+        left: u32,
+        hits: u32,
+    ) -> u32
+        requires { AddWithin (2 ^ 65) self.old.before }
+        ensures carries { self.new.before ≡ seen_after condition.now
+            (settled condition.now truth hits self.old.before) self.old.before }
+        ensures tallies { self.new.tally ≡ noted form condition.now
+            (settled condition.now truth hits self.old.before) left self.old.tally }
+        ensures hits { result ≡ (if hands_on condition.now.flag then hits
+            else (settled condition.now truth hits self.old.before).hit) }
+    {
+        if self.is_plain(condition) {
+            self.tally.want(truth);
+            hits_after(false, truth, 0, hits)
+        } else {
+            self.visit_any(form, condition, truth, left, hits)
+        }
+    }
+
+    // Whether a condition is a plain one without a target, and alone.
+    fn is_plain(&self, condition: &Condition) -> bool
+        ensures { result ≡ true → StandsPlain condition.now self.now.before }
+    {
+        matches!(condition.flag, Flag::Plain) && condition.target == 0 && self.before.is_none()
+    }
+
     /// Visits one condition more, and gives its hits after the frame. Those of a condition that only
     /// hands a value on stay.
-    // Two loops call it, and each is the inner loop of a frame.
-    #[inline(always)]
-    pub fn visit(
+    pub fn visit_any(
         &mut self,
         form: Form,
         condition: &Condition,

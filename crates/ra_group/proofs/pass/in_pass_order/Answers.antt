@@ -23,8 +23,8 @@ bounds-hits-place c = omega (arith, place_below c.args.conditions.now c.args.ord
 pub bounds-hits-place-then-not-frozen : goal.bounds-hits-place-then-not-frozen
 bounds-hits-place-then-not-frozen c = omega (arith, place_below c.args.conditions.now c.args.order.now c.loop-turn.turn c.requires.order c.loop-turn-test.true)
 
-pub visit-next-requires : goal.visit-next-requires
-visit-next-requires c =
+pub visit_any-next-requires : goal.visit_any-next-requires
+visit_any-next-requires c =
     let f : Frame = frame_of c.args.conditions.now c.args.truths.now c.args.lefts.now c.args.hits.now in
     let fits = c.type_inv.order c.loop-turn.turn in
     turn_bound c.args.form f c.args.order.now c.loop-turn.turn c.requires.order c.loop-turn-test.true c.loop-turn.pass.before c.loop-turn.pass.tally c.loop-turn.hits c.loop-turn.invariant.small (omega arith) c.loop-turn.invariant.passed
@@ -48,18 +48,18 @@ loop-turn-preserved c =
       | then-pass w ↦ frozen_paused _ _ late w.if-pass.true (w.frozen-is ∙ same_late)
       | else-pass w ↦ frozen_open _ _ late w.if-pass.false w.frozen-is
     ] in
-    let is_hits : c.if-not-frozen.hits ≡ cond c.if-pass.frozen c.loop-turn.hits (set c.loop-turn.hits place c.visit-next.result) =
+    let is_hits : c.if-not-frozen.hits ≡ cond c.if-pass.frozen c.loop-turn.hits (set c.loop-turn.hits place c.visit_any-next.result) =
     elim c.if-not-frozen.branch [
       | then-not-frozen w ↦ w.hits-is ∙ sym (cond-false _ _ _ w.if-not-frozen.true)
       | else-not-frozen w ↦ w.hits-is ∙ sym (cond-true _ _ _ w.if-not-frozen.false)
     ] in
-    let visited : IsVisited c.args.form f place c.if-pass.frozen c.loop-turn.pass.before c.visit-next.new.self.before c.loop-turn.pass.tally c.visit-next.new.self.tally c.loop-turn.hits c.if-not-frozen.hits = record {
-      carries = c.visit-next.ensures.carries;
-      tallies = c.visit-next.ensures.tallies;
-      writes = is_hits ∙ ap (λ n. cond c.if-pass.frozen c.loop-turn.hits (set c.loop-turn.hits place n)) c.visit-next.ensures.hits;
+    let visited : IsVisited c.args.form f place c.if-pass.frozen c.loop-turn.pass.before c.visit_any-next.new.self.before c.loop-turn.pass.tally c.visit_any-next.new.self.tally c.loop-turn.hits c.if-not-frozen.hits = record {
+      carries = c.visit_any-next.ensures.carries;
+      tallies = c.visit_any-next.ensures.tallies;
+      writes = is_hits ∙ ap (λ n. cond c.if-pass.frozen c.loop-turn.hits (set c.loop-turn.hits place n)) c.visit_any-next.ensures.hits;
     } in
     record {
-      passed = turn_visited c.args.form f c.args.order.now turn c.requires.order c.loop-turn-test.true c.if-pass.frozen c.loop-turn.pass.before c.visit-next.new.self.before c.loop-turn.pass.tally c.visit-next.new.self.tally c.loop-turn.hits c.if-not-frozen.hits (omega arith) is_frozen visited c.loop-turn.invariant.passed;
+      passed = turn_visited c.args.form f c.args.order.now turn c.requires.order c.loop-turn-test.true c.if-pass.frozen c.loop-turn.pass.before c.visit_any-next.new.self.before c.loop-turn.pass.tally c.visit_any-next.new.self.tally c.loop-turn.hits c.if-not-frozen.hits (omega arith) is_frozen visited c.loop-turn.invariant.passed;
       small = c.loop-turn.invariant.small;
     }
 
