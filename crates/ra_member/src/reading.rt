@@ -28,11 +28,31 @@ pub(crate) fn read_conditions(
     ensures truths { truths.new ≡ truths_by ops.now (numbers_at table.now.values left_nodes.now)
         (numbers_at table.now.values right_nodes.now) }
 {
-    for (place, op) in ops.iter().enumerate() {
+    for place in 0..least(ops, left_nodes, right_nodes, lefts, truths) {
         let left = table.value(left_nodes[place]);
         lefts[place] = left;
-        truths[place] = holds(*op, left, table.value(right_nodes[place]));
+        truths[place] = holds(ops[place], left, table.value(right_nodes[place]));
     }
+}
+
+// The least of the lengths of these rows, which are as long as each other: it tells the compiler so, and then no place
+// of a row is asked whether it is one.
+fn least(
+    ops: &[Op],
+    left_nodes: &[u32],
+    right_nodes: &[u32],
+    lefts: &[u32],
+    truths: &[bool],
+) -> usize
+    requires left_nodes { length left_nodes.now ≡ length ops.now }
+    requires right_nodes { length right_nodes.now ≡ length ops.now }
+    requires lefts { length lefts.now ≡ length ops.now }
+    requires truths { length truths.now ≡ length ops.now }
+    ensures { result ≡ length ops.now }
+{
+    let nodes = left_nodes.len().min(right_nodes.len());
+    let read = lefts.len().min(truths.len());
+    ops.len().min(nodes).min(read)
 }
 
 // Whether a comparison holds; arithmetic compares nothing.
