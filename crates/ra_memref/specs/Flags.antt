@@ -1,16 +1,26 @@
 -- Rows of flags.
-use Rattle.std.specs.Prelude.{◌≡◌, ℕ, ◌+◌, ◌*◌, ◌/◌, ◌<◌, ◌≤◌, Bool, true, false, List, length, slice_index_or}
+use Rattle.std.specs.Prelude.{◌≡◌, ◌≢◌, ℕ, ◌+◌, ◌*◌, ◌/◌, ◌%◌, ◌<◌, ◌≤◌, Bool, true, false, List, length, slice_index, slice_index_or}
+use Rattle.std.specs.Int.{bit_at}
+
+-- a flag that is set has its bit in its word, of 64 flags each
+pub record AreWorded (flags : List Bool) (words : List ℕ) : Type 0 where
+  pub enough : length flags < 64 * length words
+  pub covered : (k : ℕ) → k < length flags → slice_index_or flags k true ≡ true → bit_at (slice_index words (k / 64)) (k % 64) ≡ 1
+
+-- a word has one of its 64 bits as it is to be, if that is set, and of the others those that the old one has
+pub record SetsBit (bit : ℕ) (set : Bool) (old new : ℕ) : Type 0 where
+  pub here : set ≡ true → bit_at new bit ≡ 1
+  pub others : (k : ℕ) → k < 64 → k ≢ bit → bit_at new k ≡ bit_at old k
 
 -- a flag that is set stands in a block that is, of 64 flags each
 pub record AreBlocked (flags blocks : List Bool) : Type 0 where
   pub enough : length flags < 64 * length blocks
   pub covered : (k : ℕ) → k < length flags → slice_index_or flags k true ≡ true → slice_index_or blocks (k / 64) true ≡ true
 
--- a flag that is set stands in a block that is, and such a block in a region of 64 blocks that is
-pub record AreRegioned (flags blocks regions : List Bool) : Type 0 where
+-- the same where there are no more blocks than flags take, and one
+pub record AreInBlocks (flags blocks : List Bool) : Type 0 where
   pub tight : length blocks ≤ length flags / 64 + 1
   pub blocked : AreBlocked flags blocks
-  pub regioned : AreBlocked blocks regions
 
 -- no flag from the place on and before the other is set
 abbrev pub NoneSet : List Bool → (from to : ℕ) → Type 0

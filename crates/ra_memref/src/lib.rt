@@ -5,6 +5,7 @@
 
 mod agenda;
 mod changes;
+mod flag_row;
 mod flags;
 mod laws;
 mod layout;

@@ -1,12 +1,12 @@
-use Rattle.std.proofs.Common.{◌-◌, ◌^◌, ◌<◌, ◌≤◌}
+use Rattle.std.proofs.Common.{◌≡◌, ◌-◌, ◌≤◌}
 use Rattle.ra_memref.specs.Flags.{NoneSet}
-use Rattle.ra_memref.proofs.flags.past_clear.Given as goal
+use Rattle.ra_memref.proofs.flag_row.FlagRow.next_in.Given as goal
 
 abbrev pub invariant-loop-at : goal.invariant-loop-at
 invariant-loop-at l = record {
-  none : NoneSet l.flags l.from l.at;
+  same : l.self ≡ l.fn.self;
+  none : NoneSet l.fn.self l.from l.at;
   after : l.from ≤ l.at;
-  few : l.at < 2 ^ 63;
 }
 
 abbrev pub decreases-loop-at : goal.decreases-loop-at
