@@ -33,12 +33,12 @@ pub record IsNewMember (old new : List Node) (m : MemberContents) (member : Memb
   pub member_too : IsMember new m member
   pub plain : kept_by member ≡ no_member m
 
--- a new member with one test more, behind the others and before all values
+-- a new member with one test more, after the others and before all values
 abbrev pub AddsTest : (old new : List Node) → TriggerContents → (before after : Member) → Type 0
 AddsTest old new t before after =
     (first : List Node) (tests : List TriggerContents) → IsNewMember first old (record { tests = tests; values = [] }) before → IsNewMember first new (record { tests = tests ++ t ∷ []; values = [] }) after
 
--- a new member with one value more, behind all others
+-- a new member with one value more, after all others
 abbrev pub AddsValue : (old new : List Node) → List PartContents → (before after : Member) → Type 0
 AddsValue old new parts before after =
     (first : List Node) (m : MemberContents) → IsNewMember first old m before → IsNewMember first new (record m { values = m.values ++ parts ∷ [] }) after
@@ -83,7 +83,7 @@ StaysMember old new = (nodes : List Node) (m : MemberContents) → IsMember node
 abbrev pub FitWords : List ℕ → Type 0
 FitWords numbers = AllByRecursion (λ n. n < 2 ^ 32) numbers
 
--- the numbers stand behind the others, and each is of 32 bits
+-- the numbers come after the others, and each is of 32 bits
 pub record PutsBehind (old new numbers : List ℕ) : Type 0 where
   pub all : new ≡ old ++ numbers
   pub fit : FitWords numbers

@@ -126,7 +126,7 @@ member_hits m = sum (hit_lengths m)
 abbrev pub member_numbers : MemberContents → ℕ
 member_numbers m = sum (number_lengths m)
 
--- what an opening keeps for members one behind the other, from the hits and the numbers of all of them
+-- what an opening keeps for members one after the other, from the hits and the numbers of all of them
 abbrev pub opened_members : List MemberContents → (hits numbers : List ℕ) → List MemberKept
 opened_members members hits numbers =
     map (λ m. opened_member m.0 m.1.0 m.1.1)

@@ -38,7 +38,8 @@ pub record IsValuePlan (nodes : List Node) (parts : List PartContents) (plan : V
   pub groups : IsPlan nodes (map counted_in parts) plan.groups
   pub sums : AreSums nodes parts plan.sums.items
 
--- the pool grows by the trees of so many conditions: by thirteen nodes, two cells and two views for each of them at most
+-- the pool grows by the trees of this many conditions: by thirteen nodes, two cells and two views for each of them at
+-- most
 pub record GrowsWithin (old new : List Node) (trees : List Tree) (conditions : ℕ) : Type 0 where
   pub grows : GrowsBy old new trees
   pub few : length new ≤ length old + 13 * conditions

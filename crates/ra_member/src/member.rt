@@ -35,7 +35,7 @@ impl Member {
         }
     }
 
-    /// Puts a test behind the others, of which nothing is kept yet, with its trees in the pool. A
+    /// Puts a test after the others, of which nothing is kept yet, with its trees in the pool. A
     /// member's tests come before its values.
     pub fn add_test(
         &mut self,
@@ -52,7 +52,7 @@ impl Member {
         Ok(())
     }
 
-    /// Puts a value behind the others, with all numbers 0, and its trees in the pool.
+    /// Puts a value after the others, with all numbers 0, and its trees in the pool.
     pub fn add_value(
         &mut self,
         alloc: Global,
@@ -110,7 +110,7 @@ impl Member {
     }
 }
 
-// Puts one behind others. The first gets room for itself alone, since most lines of a display have
+// Puts one after others. The first gets room for itself alone, since most lines of a display have
 // one test and one value.
 fn push_alone<T: Drop>(row: &mut Vec<T>, last: T) -> Result<(), OutOfMemory>
     ensures { OnOk result (row.new.items ≡ row.old.items ++ last ∷ []) }

@@ -70,7 +70,7 @@ fn group_plan(alloc: Global, group: &Group, pool: &mut Pool) -> Result<GroupPlan
     Ok(plan)
 }
 
-// Puts the plan of a group behind that of the groups before it.
+// Puts the plan of a group after that of the groups before it.
 fn put_group(
     alloc: Global,
     plan: &mut GroupPlan,
@@ -116,7 +116,7 @@ pub(crate) fn value_plan(
     Ok(plan)
 }
 
-// Puts the plan of a part behind that of the parts before it.
+// Puts the plan of a part after that of the parts before it.
 fn put_part(
     alloc: Global,
     plan: &mut ValuePlan,

@@ -14,7 +14,7 @@ use ra_trigger::State;
 
 impl Member {
     /// Puts back the hits and the numbers that stand from two places on, as little-endian words of four
-    /// bytes, the hits of the tests first, and gives the places behind: docs/DEFINITIONS.md, "Progress
+    /// bytes, the hits of the tests first, and gives the places after: docs/DEFINITIONS.md, "Progress
     /// file".
     pub fn put_back(&mut self, bytes: &[u8], at: Places) -> Places
         requires hits { at.hits + 4 * length (saved_hits (kept_by self.old)) ≤ length bytes.now }
@@ -26,7 +26,7 @@ impl Member {
         ensures numbers { saved_numbers (kept_by self.new)
             ≡ words_at bytes.now at.numbers (length (saved_numbers (kept_by self.old))) }
 
-        // The places behind.
+        // The places after.
         ensures next_hits { result.hits ≡ at.hits + 4 * length (saved_hits (kept_by self.old)) }
         ensures next_numbers { result.numbers ≡ at.numbers + 4 * length (saved_numbers (kept_by self.old)) }
     {
@@ -36,7 +36,7 @@ impl Member {
     }
 }
 
-// Puts back the hits of tests, and gives the place behind.
+// Puts back the hits of tests, and gives the place after.
 fn put_back_tests(tests: &mut [TriggerRun], bytes: &[u8], from: usize) -> usize
     requires { from + 4 * length (flat_map (λ t. t.trigger.hits) tests.old) ≤ length bytes.now }
     ensures stay { StayTests tests.old tests.new }
@@ -51,7 +51,7 @@ fn put_back_tests(tests: &mut [TriggerRun], bytes: &[u8], from: usize) -> usize
     at
 }
 
-// Puts back the hits of a test, and gives the place behind.
+// Puts back the hits of a test, and gives the place after.
 fn put_back_test(run: &mut TriggerRun, bytes: &[u8], at: usize) -> usize
     requires { at + 4 * length run.old.trigger.hits ≤ length bytes.now }
     ensures test { PutsBackTest bytes.now at run.old run.new }
@@ -62,7 +62,7 @@ fn put_back_test(run: &mut TriggerRun, bytes: &[u8], at: usize) -> usize
     end
 }
 
-// Puts back what the bytes from two places on say of values, and gives the places behind.
+// Puts back what the bytes from two places on say of values, and gives the places after.
 fn put_back_values(values: &mut [ValueRun], bytes: &[u8], from: Places) -> Places
     requires hits { from.hits + 4 * length (flat_map (λ v. v.value.hits) values.old) ≤ length bytes.now }
     requires numbers { from.numbers + 4 * length (flat_map (λ v. v.value.numbers) values.old) ≤ length bytes.now }
@@ -82,7 +82,7 @@ fn put_back_values(values: &mut [ValueRun], bytes: &[u8], from: Places) -> Place
     at
 }
 
-// Puts back the hits and the numbers of a value, and gives the places behind.
+// Puts back the hits and the numbers of a value, and gives the places after.
 fn put_back_value(run: &mut ValueRun, bytes: &[u8], at: Places) -> Places
     requires hits { at.hits + 4 * length run.old.value.hits ≤ length bytes.now }
     requires numbers { at.numbers + 4 * length run.old.value.numbers ≤ length bytes.now }

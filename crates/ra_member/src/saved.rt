@@ -11,7 +11,7 @@ use crate::value_run::ValueRun;
 use ra_text::OutOfMemory;
 
 impl Member {
-    /// Puts what is kept behind other hits and other numbers, the hits of the tests first:
+    /// Puts what is kept after other hits and other numbers, the hits of the tests first:
     /// docs/DEFINITIONS.md, "Progress file".
     pub fn save(&self, hits: &mut Vec<u32>, numbers: &mut Vec<u32>) -> Result<(), OutOfMemory>
         ensures hits { OnOk result
@@ -25,7 +25,7 @@ impl Member {
     }
 }
 
-// Puts the hits of tests behind others.
+// Puts the hits of tests after others.
 fn put_tests(hits: &mut Vec<u32>, tests: &[TriggerRun]) -> Result<(), OutOfMemory>
     ensures { OnOk result
         (PutsBehind hits.old.items hits.new.items (flat_map (λ t. t.trigger.hits) tests.now)) }
@@ -36,7 +36,7 @@ fn put_tests(hits: &mut Vec<u32>, tests: &[TriggerRun]) -> Result<(), OutOfMemor
     Ok(())
 }
 
-// Puts what is kept of values behind other hits and other numbers.
+// Puts what is kept of values after other hits and other numbers.
 fn put_values(
     hits: &mut Vec<u32>,
     numbers: &mut Vec<u32>,
@@ -54,7 +54,7 @@ fn put_values(
     Ok(())
 }
 
-/// Puts numbers behind others.
+/// Puts numbers after others.
 pub fn put_numbers(words: &mut Vec<u32>, numbers: &[u32]) -> Result<(), OutOfMemory>
     ensures { OnOk result (PutsBehind words.old.items words.new.items numbers.now) }
 {

@@ -1,4 +1,4 @@
--- Which nodes a pass has to take: docs/DEFINITIONS.md, "Due nodes".
+-- Which nodes a pass has to take: docs/INTERNALS.md, "Due nodes".
 use Rattle.std.specs.Prelude.{◌≡◌, ◌⊎◌, ℕ, ◌+◌, ◌*◌, ◌<◌, Bool, true, false, List, length, slice_index, slice_index_or, Some}
 use Rattle.ra_operand.specs.declared.kind.Kind.TheVariants.{Prior}
 use Rattle.ra_operand.specs.Views.{mask_of, view_of, transformed}
@@ -62,7 +62,7 @@ StandsOn lists n (CellNode pointer offset width) = holder_of lists (2 * n) ≡ S
 StandsOn lists n (View kind size c) = holder_of lists (2 * n) ≡ Some c
 StandsOn lists n (Arith op left right) = (holder_of lists (2 * n) ≡ Some left) × (holder_of lists (2 * n + 1) ≡ Some right)
 
--- there is a list for each node, of those that name it, of the first so many
+-- there is a list for each node, of those that name it, of the first this many
 pub record AreDependents (nodes : List Node) (count : ℕ) (rows : Rows) : Type 0 where
   pub lists : length rows.lists ≡ length nodes
   pub nodes_too : rows.nodes ≡ 2 * length nodes
@@ -73,7 +73,7 @@ abbrev pub HasCellNode : Node → List ℕ → ℕ → ℕ → Type 0
 HasCellNode (CellNode pointer offset width) cell_nodes slot n = slice_index cell_nodes slot ≡ n
 HasCellNode _ cell_nodes slot n = Unit {0}
 
--- these are the nodes of the cells that the first so many nodes spell, in order of first occurrence
+-- these are the nodes of the cells that the first this many nodes spell, in order of first occurrence
 pub record AreCellNodes (nodes : List Node) (count : ℕ) (cell_nodes : List ℕ) : Type 0 where
   pub long : length cell_nodes ≡ length (cells_before (spelled_by nodes) count)
   pub within : (k : ℕ) → k < length cell_nodes → slice_index cell_nodes k < count

@@ -12,11 +12,11 @@ use Rattle.ra_indirect.specs.Interned.{Interns}
 use Rattle.ra_memref.specs.declared.layout.TrackedMask.{TrackedMask}
 use Rattle.ra_memref.specs.Table.{no_cell}
 
--- the cells that the first so many nodes spell, in order of first occurrence
+-- the cells that the first this many nodes spell, in order of first occurrence
 abbrev pub cells_before : List Spelled → ℕ → List Cell
 cells_before spelled n = flat_map cell_in (take n spelled)
 
--- the masks that the first so many nodes track, in order of first occurrence
+-- the masks that the first this many nodes track, in order of first occurrence
 abbrev pub tracked_before : List Spelled → ℕ → List Tracked
 tracked_before spelled n = firsts same_tracked (flat_map tracked_at (take n spelled))
 

@@ -1,4 +1,4 @@
--- Which cells a write marks, page by page: docs/DEFINITIONS.md, "Marked and moved cells".
+-- Which cells a write marks, page by page: docs/INTERNALS.md, "Marked and moved cells".
 use Rattle.std.specs.Prelude.{ℕ, ◌/◌, ◌==◌, Bool, false, not, ◌&&◌, nat_le, nat_lt, Option, None, Some, List}
 use Rattle.std.specs.List.{list_any}
 use Rattle.ra_memory.specs.Image.{raw}

@@ -1,4 +1,4 @@
--- Which cells a table has to read at the next frame: docs/DEFINITIONS.md, "Marked and moved cells".
+-- Which cells a table has to read at the next frame: docs/INTERNALS.md, "Marked and moved cells".
 use Rattle.std.specs.Prelude.{ℕ, ◌+◌, ◌-◌, ◌/◌, ◌==◌, Bool, not, ◌&&◌, ◌||◌, if◌then◌else◌, nat_lt, nat_le, List, [], ◌∷◌}
 use Rattle.std.specs.List.{list_any, range_with_len}
 use Rattle.ra_indirect.specs.Trees.{Cell}
@@ -8,7 +8,7 @@ use Rattle.ra_memref.specs.Marking.{is_other}
 abbrev pub page_of : ℕ → ℕ
 page_of at = at / 16
 
--- one of so many bytes from the place on stands on the page
+-- one of this many bytes from the place on stands on the page
 abbrev pub touches : ℕ → ℕ → ℕ → Bool
 touches at count page =
     nat_lt 0 count && (nat_le (page_of at) page && nat_le page (page_of (at + count - 1)))

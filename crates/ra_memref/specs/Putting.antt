@@ -1,4 +1,4 @@
--- What a table is after one of its kept numbers was set: docs/DEFINITIONS.md, "Marked and moved cells".
+-- What a table is after one of its kept numbers was set: docs/INTERNALS.md, "Marked and moved cells".
 use Rattle.std.specs.Prelude.{◌≡◌, ℕ, true, false, List, length, replicate, slice_set}
 use Rattle.ra_memref.specs.Table.{TableSeen, Agrees}
 

@@ -1,4 +1,4 @@
--- Which cells watch which pages, by lists of nodes: docs/DEFINITIONS.md, "Marked and moved cells".
+-- Which cells watch which pages, by lists of nodes: docs/INTERNALS.md, "Marked and moved cells".
 use Rattle.std.specs.Prelude.{◌≡◌, ℕ, ◌+◌, ◌-◌, ◌*◌, ◌/◌, ◌<◌, ◌≤◌, ◌^◌, ◌==◌, Bool, not, ◌&&◌, ◌||◌, if◌then◌else◌, nat_lt, Option, None, Some, List, length, replicate, true, false, slice_index, slice_index_or}
 use Rattle.std.specs.List.{range_with_len}
 use Rattle.std.specs.List.Sorted.{IsPermutation}
@@ -53,7 +53,7 @@ pub record IsIndexed (size : ℕ) (widths places : List ℕ) (marks : List Bool)
   pub nodes : pages.nodes ≡ 2 * length places
   pub stands : (k : ℕ) → k < length places → StandsAt pages.lists size k (slice_index places k) (slice_index widths k)
 
--- each of so many cells stands in a row once
+-- each of this many cells stands in a row once
 abbrev pub IsOrder : ℕ → List ℕ → Type 0
 IsOrder count order = IsPermutation (range_with_len 0 count) order
 

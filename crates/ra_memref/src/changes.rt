@@ -24,7 +24,7 @@ impl Model for Changes {
 }
 
 impl Changes {
-    /// Room for so many nodes, of which none is listed. Memory is the only refusal.
+    /// Room for this many nodes, of which none is listed. Memory is the only refusal.
     pub fn new(alloc: Global, room: usize) -> Result<Changes, OutOfMemory>
         ensures { IfOk result (λ c. c ≡ record { listed = []; room = room }) }
     {
@@ -39,7 +39,7 @@ impl Changes {
         self.count = 0;
     }
 
-    /// Lists a node behind the others where it changed.
+    /// Lists a node after the others where it changed.
     pub fn note(&mut self, node: u32, changed: bool)
         requires { length self.old.listed < self.old.room }
         ensures { self.new ≡ record self.old { listed = noted self.old.listed node changed } }

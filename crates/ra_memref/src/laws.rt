@@ -9,7 +9,7 @@ ghost use Rattle.ra_memref.specs.Laws.{IsPrior};
 /// A prior is the number before the greatest frame of change, and what stands after a front of a
 /// history is a new beginning for the rest of it: docs/DEFINITIONS.md, "Values at a frame".
 ///
-/// A law: it does nothing.
+/// A law; no effect at run time.
 pub fn looking_back_holds()
     ensures prior { (number : History → ℕ) (opened : ℕ) (history : History)
         → IsPrior number opened history (prior_of number opened history) }

@@ -59,7 +59,7 @@ impl Model for Numbers {
 }
 
 impl Numbers {
-    /// Zeros for so many tracked masks and nodes, and for the cells of these watches.
+    /// Zeros for this many tracked masks and nodes, and for the cells of these watches.
     pub fn new(
         alloc: Global,
         watches: Watches,

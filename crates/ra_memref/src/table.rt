@@ -95,7 +95,7 @@ impl Table {
     }
 
     /// Tells the table that `count` bytes from the address `at` on may have changed:
-    /// docs/DEFINITIONS.md, "Marked and moved cells".
+    /// docs/INTERNALS.md, "Marked and moved cells".
     ///
     /// The bytes lie within the size. The cells that watch a page of one of them are marked, and no kept
     /// number changes. A table that is made to be told looks at the lists of these pages alone.
@@ -106,7 +106,7 @@ impl Table {
         self.numbers.tell(at, count);
     }
 
-    /// Looks at the image for what no write told: docs/DEFINITIONS.md, "Marked and moved cells".
+    /// Looks at the image for what no write told: docs/INTERNALS.md, "Marked and moved cells".
     ///
     /// It reads each cell that is not marked, once, at the place where it lay, and no other, and marks those
     /// that have another number there than the kept one. No kept number changes. A sample of this image may
@@ -191,7 +191,7 @@ impl Table {
         self.numbers.value(node as usize)
     }
 
-    /// The nodes that the last sample gave another number, and maybe others: docs/DEFINITIONS.md, "Due nodes".
+    /// The nodes that the last sample gave another number, and maybe others: docs/INTERNALS.md, "Due nodes".
     ///
     /// They come as numbers of nodes, at most as many as there are. A node that is not among them has the
     /// number that it had before that sample. No other call changes them.

@@ -18,7 +18,7 @@ use std::marker::Model;
 const PAGE: u32 = 16;
 
 /// Where the cells lie, which are marked, and by lists which of them watch each page:
-/// docs/DEFINITIONS.md, "Marked and moved cells".
+/// docs/INTERNALS.md, "Marked and moved cells".
 ///
 /// A cell has two nodes: one for the page of its first byte, one for that of its last. The lists are those
 /// of an image of `listed` bytes: of the whole one, or of none. Where the flag `all` stands each cell is

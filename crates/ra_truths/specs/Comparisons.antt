@@ -1,4 +1,4 @@
--- The distinct comparisons of a set, and when each holds: docs/DEFINITIONS.md, "Truths of comparisons".
+-- The distinct comparisons of a set, and when each holds: docs/INTERNALS.md, "Truths of comparisons".
 use Rattle.std.specs.Prelude.{◌≡◌, ◌≢◌, ℕ, ◌<◌, Bool, false, List, length, map, slice_index, slice_index_or}
 use Rattle.ra_operand.specs.declared.op.Op.TheVariants.{Bare}
 use Rattle.ra_operand.specs.Operators.{compared, is_arithmetic}

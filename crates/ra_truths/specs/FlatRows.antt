@@ -1,4 +1,4 @@
--- Rows of numbers in one vector, and the comparisons that each node has: docs/DEFINITIONS.md, "Truths of comparisons".
+-- Rows of numbers in one vector, and the comparisons that each node has: docs/INTERNALS.md, "Truths of comparisons".
 use Rattle.std.specs.Prelude.{◌≡◌, ℕ, ◌+◌, ◌<◌, ◌≤◌, List, length, slice_index, slice_range}
 use Rattle.ra_memref.specs.Table.{IsListed}
 use Rattle.ra_truths.specs.declared.comparison.Comparison.{Comparison}

@@ -1,4 +1,4 @@
--- Truths, and which of them flipped: docs/DEFINITIONS.md, "Truths of comparisons".
+-- Truths, and which of them flipped: docs/INTERNALS.md, "Truths of comparisons".
 use Rattle.std.specs.Prelude.{ℕ, Bool, true, false, not, if◌then◌else◌, List, [], ◌∷◌, ◌++◌, slice_index_or, slice_set}
 
 -- the truths, and the places of those that flipped

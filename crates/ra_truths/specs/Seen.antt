@@ -1,4 +1,4 @@
--- What truths are seen as, by their fields, and what these always have: docs/DEFINITIONS.md, "Truths of comparisons".
+-- What truths are seen as, by their fields, and what these always have: docs/INTERNALS.md, "Truths of comparisons".
 use Rattle.std.specs.Prelude.{◌≡◌, ◌^◌, ◌≤◌, length}
 use Rattle.ra_truths.specs.declared.truths.Truths.TheInside.{Inside}
 use Rattle.ra_truths.specs.FlatRows.{AreUses}

@@ -1,4 +1,4 @@
--- Truths that are computed anew one after another: docs/DEFINITIONS.md, "Truths of comparisons".
+-- Truths that are computed anew one after another: docs/INTERNALS.md, "Truths of comparisons".
 use Rattle.std.specs.Prelude.{◌≡◌, ◌≢◌, ◌⊎◌, ℕ, ◌+◌, ◌<◌, ◌≤◌, Bool, false, if◌then◌else◌, List, [], ◌∷◌, length, slice_index_or}
 use Rattle.ra_memref.specs.Table.{IsListed}
 use Rattle.ra_truths.specs.Kept.{KeptSeen, differ}

@@ -1,4 +1,4 @@
--- What truths are seen as, and what a frame makes of them: docs/DEFINITIONS.md, "Truths of comparisons".
+-- What truths are seen as, and what a frame makes of them: docs/INTERNALS.md, "Truths of comparisons".
 use Rattle.std.specs.Prelude.{◌≡◌, ◌≢◌, ℕ, ◌<◌, ◌≤◌, Bool, true, false, List, length, slice_index, slice_index_or}
 use Rattle.ra_memref.specs.Table.{TableSeen, IsListed}
 use Rattle.ra_truths.specs.declared.comparison.Comparison.{Comparison}

@@ -1,7 +1,7 @@
 use ra_operand::Op;
 
 /// A comparison of the values of two nodes of a pool, by their numbers:
-/// docs/DEFINITIONS.md, "Truths of comparisons".
+/// docs/INTERNALS.md, "Truths of comparisons".
 #[derive(Clone, Copy, Debug, PartialEq, Eq, Hash)]
 pub struct Comparison {
     pub op: Op,

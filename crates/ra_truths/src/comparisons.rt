@@ -7,7 +7,7 @@ use std::alloc::Global;
 use std::marker::Model;
 
 /// Distinct comparisons, each with a number of its own, counted from 0:
-/// docs/DEFINITIONS.md, "Truths of comparisons".
+/// docs/INTERNALS.md, "Truths of comparisons".
 #[derive(Drop)]
 pub struct Comparisons {
     comparisons: IndexSet<Comparison>,

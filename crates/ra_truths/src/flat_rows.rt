@@ -32,7 +32,7 @@ impl Model for FlatRows {
 }
 
 impl FlatRows {
-    /// For each node the numbers of the comparisons that it has: docs/DEFINITIONS.md, "Truths of comparisons".
+    /// For each node the numbers of the comparisons that it has: docs/INTERNALS.md, "Truths of comparisons".
     ///
     /// Memory is the only refusal.
     pub fn of_nodes(

@@ -5,7 +5,7 @@ ghost use Rattle.ra_memref.specs.Table.{TableSeen};
 ghost use Rattle.ra_truths.specs.Truths.{HasNone, Takes, TruthsSeen};
 
 /// Whoever reads comparisons of which none flipped at a frame sees the truths that it saw before:
-/// docs/DEFINITIONS.md, "Truths of comparisons".
+/// docs/INTERNALS.md, "Truths of comparisons".
 ///
 /// A law; no effect at run time.
 pub fn unflipped_truths_stay()
