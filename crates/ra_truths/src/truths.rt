@@ -18,7 +18,7 @@ use std::marker::Model;
 /// Above one in this many nodes that changed, all comparisons are computed.
 const SHARE: usize = 2;
 
-/// The truths of distinct comparisons by the values of a table: docs/DEFINITIONS.md, "Truths of comparisons".
+/// The truths of distinct comparisons by the values of a table: docs/INTERNALS.md, "Truths of comparisons".
 ///
 /// Before the first frame is taken each truth is false and counts for nothing. Only `new` takes memory.
 #[derive(Drop)]
@@ -81,7 +81,7 @@ impl Truths {
         self.nodes
     }
 
-    /// Takes up one frame: docs/DEFINITIONS.md, "Truths of comparisons".
+    /// Takes up one frame: docs/INTERNALS.md, "Truths of comparisons".
     ///
     /// The table was sampled, and has the nodes of the comparisons. From the second frame on it lists each
     /// node whose value is another than at the last frame that was taken. Each truth is then that of its
@@ -152,7 +152,8 @@ fn settle_all(kept: &mut Kept, comparisons: &[Comparison], table: &Table)
     ensures settles { Settles (truths_by table.now.values comparisons.now) kept.old kept.new }
 {
     for number in 0..comparisons.len() {
-        settle(kept, comparisons, table, number as u32);
+        let truth = holds(comparisons, table, number);
+        kept.put(number as u32, truth);
     }
 }
 
@@ -175,6 +176,7 @@ fn settle_changed(kept: &mut Kept, comparisons: &[Comparison], rows: &FlatRows, 
 }
 
 // Computes the truth of a comparison, which is listed where it flipped.
+// It has one caller alone, so that the compiler puts it in line there: a frame computes here what it computes anew.
 fn settle(kept: &mut Kept, comparisons: &[Comparison], table: &Table, number: u32)
     requires number { number < length comparisons.now }
     requires over { IsOver table.now.nodes (comparison_at comparisons.now number) }
@@ -185,8 +187,19 @@ fn settle(kept: &mut Kept, comparisons: &[Comparison], table: &Table, number: u3
         → length kept.old.flipped < length kept.old.truths }
     ensures { kept.new ≡ put_in kept.old number (holds_by table.now.values (comparison_at comparisons.now number)) }
 {
-    let comparison = comparisons[number as usize];
+    let truth = holds(comparisons, table, number as usize);
+    kept.put(number, truth);
+}
+
+// Whether the comparison of a number holds by the values of the table.
+fn holds(comparisons: &[Comparison], table: &Table, number: usize) -> bool
+    requires number { number < length comparisons.now }
+    requires over { IsOver table.now.nodes (comparison_at comparisons.now number) }
+    requires sampled { table.now.sampled ≡ true }
+    ensures { result ≡ holds_by table.now.values (comparison_at comparisons.now number) }
+{
+    let comparison = comparisons[number];
     let left = table.value(comparison.left);
     let right = table.value(comparison.right);
-    kept.put(number, compare(comparison.op, left, right));
+    compare(comparison.op, left, right)
 }

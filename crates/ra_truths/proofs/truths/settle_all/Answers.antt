@@ -12,10 +12,11 @@ loop-number-init c = record {
   done = λ k below. absurd (omega (arith, below));
 }
 
-pub settle-requires-clause-room : goal.settle-requires-clause-room
-settle-requires-clause-room c =
-    room_one c.args.table.now.values c.args.comparisons.now c.args.kept.now c.loop-number.kept
-    c.loop-number.invariant.settles c.loop-number.number c.loop-number-test.true
+pub put-requires-clause-room : goal.put-requires-clause-room
+put-requires-clause-room c =
+    rw c.holds-truth.ensures
+    (room_one c.args.table.now.values c.args.comparisons.now c.args.kept.now c.loop-number.kept
+    c.loop-number.invariant.settles c.loop-number.number c.loop-number-test.true)
 
 pub loop-number-preserved : goal.loop-number-preserved
 loop-number-preserved c =
@@ -24,7 +25,7 @@ loop-number-preserved c =
     let settles = c.loop-number.invariant.settles in
     let number : ℕ = c.loop-number.number in
     let below : number < length comparisons = c.loop-number-test.true in
-    rw c.settle.ensures (record {
+    rw (c.put.ensures, c.holds-truth.ensures) (record {
       settles = settles_one values comparisons c.args.kept.now c.loop-number.kept settles number below;
       done = front_more values comparisons c.args.kept.now c.loop-number.kept settles number below
           c.loop-number.invariant.done;
