@@ -5,14 +5,14 @@ ghost use Rattle.ra_schedule.specs.Schedules.{Begins, MayBegin, ScheduleSeen, as
 use crate::paying::owed;
 use crate::readers::Readers;
 use crate::signals::Signals;
-use crate::waking::{is_looked_at, looks, many_changed, wake};
+use crate::waking::{is_looked_at, many_changed, wake, with_look, with_vain};
 use ra_memref::Table;
 use ra_text::OutOfMemory;
 use ra_truths::Truths;
 use std::alloc::Global;
 use std::marker::Model;
 
-/// Which places are due at a frame, and since when each other one rests: docs/DEFINITIONS.md, "Schedules".
+/// Which places are due at a frame, and since when each other one rests: docs/INTERNALS.md, "Schedules".
 ///
 /// Its owner lets a frame begin by a table, takes the places that are due one by one, pays what
 /// each owes, steps it and notes whether it rests, and ends the frame. Only `new` takes memory.
@@ -24,9 +24,10 @@ pub struct Schedule {
     since: Vec<Option<u64>>,
     // a count of frames that only goes on
     clock: u64,
-    // whether any place is looked at for rest at this frame, and how many still are, whatever their places are
-    looking: bool,
-    left: usize,
+    // whether the place that was stepped last was looked at for rest
+    looked: bool,
+    // looks for rest in vain, as far as others did not make up for them
+    in_vain: u32,
 }
 
 impl Model for Schedule {
@@ -63,22 +64,20 @@ impl Schedule {
             truths,
             since,
             clock: 0,
-            looking: false,
-            left: 0,
+            looked: false,
+            in_vain: 0,
         })
     }
 
     /// Begins a frame by the table's last sample: who reads a comparison that came out otherwise, or a node that
-    /// changed, is due. Where more than a quarter of all signals did, or the count of frames is at its end, all are due,
-    /// and where many did none is looked at for rest. No memory is taken.
+    /// changed, is due. Where more than a quarter of all signals did, or the count of frames is at its end, all are.
+    /// No memory is taken.
     pub fn begin(&mut self, table: &Table)
         requires { MayBegin table.now self.old }
         ensures { Begins table.now self.old self.new }
     {
         self.truths.take(table);
         let many = many_changed(&self.readers, table, &self.truths);
-        self.looking = !many;
-        self.left = looks(self.since.len());
         let all = many || self.clock == u64::MAX;
         wake(&mut self.readers, table, &self.truths, all);
     }
@@ -104,20 +103,24 @@ impl Schedule {
 
     /// Whether the place that is stepped next is looked at for rest. Any answer is right.
     ///
-    /// Where many signals changed none is, and where many places are due some are.
+    /// Where many looks were in vain some places are, and else each: who was looked at did not rest, or was due again
+    /// at the next frame.
     pub fn looks_at(&mut self, place: usize) -> bool
         ensures { self.new ≡ self.old }
     {
-        let left = self.left;
-        self.left = left.saturating_sub(1);
-        self.looking && is_looked_at(left, self.rests(place), place, self.clock)
+        if self.rested_in_vain(place) {
+            // What the look took back, and the look itself.
+            self.in_vain = with_vain(self.in_vain, 5);
+        }
+        self.looked = is_looked_at(self.in_vain, place, self.clock);
+        self.looked
     }
 
-    // Whether a place rested until now.
-    fn rests(&self, place: usize) -> bool {
+    // Whether a place rests since this count of frames, at which it is due.
+    fn rested_in_vain(&self, place: usize) -> bool {
         match self.since.get(place) {
-            Some(since) => since.is_some(),
-            None => false,
+            Some(Some(since)) => *since >= self.clock,
+            _ => false,
         }
     }
 
@@ -127,6 +130,9 @@ impl Schedule {
         requires due { slice_index_or self.old.readers.due place true ≡ true }
         ensures { self.new ≡ noted_at place rests self.old }
     {
+        if self.looked {
+            self.in_vain = with_look(self.in_vain, rests);
+        }
         if rests {
             self.since[place] = Some(self.clock.saturating_add(1));
             self.readers.put(place, false);

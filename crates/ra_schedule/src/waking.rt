@@ -1,6 +1,6 @@
 //! Readers that are woken at a frame.
 
-ghost use Rattle.std.specs.Prelude.{◌≡◌, ◌+◌, ◌<◌, ◌/◌, ◌%◌, ◌==◌, ◌&&◌, ◌||◌, not, true, false, ℕ, length, nat_lt, slice_index};
+ghost use Rattle.std.specs.Prelude.{◌≡◌, ◌+◌, ◌-◌, ◌<◌, ◌/◌, ◌%◌, ◌==◌, ◌||◌, if◌then◌else◌, true, false, ℕ, length, min, nat_lt, slice_index};
 ghost use Rattle.ra_schedule.specs.Readers.{Wakes};
 ghost use Rattle.ra_schedule.specs.Schedules.{all_woken, signals_at};
 
@@ -32,17 +32,31 @@ pub(crate) fn many_changed(readers: &Readers, table: &Table, truths: &Truths) ->
     table.changed().len() + truths.flipped().len() > readers.nodes() / 4
 }
 
-// How many of this many places are looked at for rest at a frame, whatever their places are.
-pub(crate) fn looks(count: usize) -> usize
-    ensures { result ≡ count / 64 + 4 }
+// How many looks for rest in vain are let pass before only some places are looked at.
+const MANY: u32 = 64;
+
+// The looks for rest in vain with some more, at most that many.
+pub(crate) fn with_vain(in_vain: u32, more: u32) -> u32
+    ensures { result ≡ min (in_vain + more) 64 }
 {
-    count / 64 + 4
+    in_vain.saturating_add(more).min(MANY)
 }
 
-// Whether the one at a place is looked at for rest: where this many may still be, and else one of eight, others at each count
-// of frames, unless it has rested until now.
-pub(crate) fn is_looked_at(left: usize, rested: bool, place: usize, clock: u64) -> bool
-    ensures { result ≡ (not (left == 0) || not rested && place % 8 == clock % 8) }
+// The looks for rest in vain after one look more: one that found rest takes four of them back.
+pub(crate) fn with_look(in_vain: u32, rests: bool) -> u32
+    ensures { result ≡ (if rests then in_vain - 4 else min (in_vain + 1) 64) }
 {
-    left > 0 || !rested && place % 8 == (clock % 8) as usize
+    if rests {
+        in_vain.saturating_sub(4)
+    } else {
+        with_vain(in_vain, 1)
+    }
+}
+
+// Whether the one at a place is looked at for rest: each where few looks were in vain, and else one of eight, others at
+// each count of frames.
+pub(crate) fn is_looked_at(in_vain: u32, place: usize, clock: u64) -> bool
+    ensures { result ≡ (nat_lt in_vain 64 || place % 8 == clock % 8) }
+{
+    in_vain < MANY || place % 8 == (clock % 8) as usize
 }
