@@ -15,7 +15,7 @@ pub record IsBare (line : LineContents) : Type 0 where
   pub test : optional_trigger line.test ≡ 0
   pub macros : values_in_line line ≡ []
 
--- the pool grows by the trees of a line, and so many numbers are kept of it
+-- the pool grows by the trees of a line, and this many numbers are kept of it
 pub record CountsLine (old new : List Node) (line : LineContents) (kept : Places) : Type 0 where
   pub grows : GrowsWithin old new (trees_in_line line) (line_conditions line)
   pub hits : kept.hits ≡ member_hits (line_member line)
@@ -23,7 +23,7 @@ pub record CountsLine (old new : List Node) (line : LineContents) (kept : Places
   pub few_hits : kept.hits ≤ line_conditions line
   pub few_numbers : kept.numbers ≤ line_conditions line
 
--- the pool grows by the trees of all lines, and so many numbers are kept of them
+-- the pool grows by the trees of all lines, and this many numbers are kept of them
 pub record CountsLines (old new : List Node) (lines : List LineContents) (hits numbers : ℕ) : Type 0 where
   pub grows : GrowsWithin old new (flat_map trees_in_line lines) (sum_by line_conditions lines)
   pub all_hits : hits ≡ sum (map member_hits (map line_member lines))

@@ -1,4 +1,4 @@
--- The lines of a display, of which those that rest are not stepped: docs/DEFINITIONS.md, "Lines at rest".
+-- The lines of a display, of which those that rest are not stepped: docs/INTERNALS.md, "Lines at rest".
 use Rattle.std.specs.Prelude.{◌≡◌, ℕ, ◌+◌, ◌<◌, Bool, true, Option, None, Some, option_map, List, [], ◌∷◌, length, map, get_or, set, slice_index_or, slice_set}
 use Rattle.ra_indirect.specs.declared.node.Node.{Node}
 use Rattle.ra_memref.specs.Table.{TableSeen}

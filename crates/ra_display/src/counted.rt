@@ -1,4 +1,4 @@
-//! How many numbers lines keep, each of which is made by itself and let go.
+//! How many numbers lines keep, each of which is made by itself and dropped.
 
 ghost use Rattle.std.specs.Prelude.{◌≡◌, ◌+◌, ◌*◌, ◌≤◌, ◌^◌, [], true, is_some, length, map, option_map, sum_by, All, IfOk};
 ghost use Rattle.std.specs.List.{filter_map};
@@ -19,7 +19,7 @@ use ra_text::OutOfMemory;
 use std::alloc::Global;
 
 /// The shape of the display of a script that may be missing, with all its trees in the pool. Its lines are made one by
-/// one and let go. Memory is the only refusal.
+/// one and dropped. Memory is the only refusal.
 pub fn counted_presence(
     alloc: Global,
     script: &Option<Script>,

@@ -48,7 +48,7 @@ fn put_row(row: &mut [u8], at: usize, numbers: &[u32]) -> usize
     next
 }
 
-// A hit with what is owed for so many frames paid, by the one before the frame at which the rest began.
+// A hit with what is owed for this many frames paid, by the one before the frame at which the rest began.
 #[inline]
 fn paid_hit(hit: u32, before: u32, frames: u32) -> u32
     ensures { result ≡ (if hit == before then hit else plus frames hit) }
@@ -60,7 +60,8 @@ fn paid_hit(hit: u32, before: u32, frames: u32) -> u32
     }
 }
 
-// Writes hits over the words from a place on, with what they owe for so many frames paid, and gives the place after them.
+// Writes hits over the words from a place on, with what they owe for this many frames paid, and gives the place after
+// them.
 fn put_paid(row: &mut [u8], at: usize, hits: &[u32], before: &[u32], frames: u32) -> usize
     requires as_many { length before.now ≡ length hits.now }
     requires room { HasWords row.old at hits.now }

@@ -1,4 +1,4 @@
-//! What a line is woken by, noted for a reader: docs/DEFINITIONS.md, "Signals".
+//! What a line is woken by, noted for a reader: docs/INTERNALS.md, "Signals".
 
 ghost use Rattle.std.specs.Prelude.{◌≡◌, ◌<◌, length, map, OnOk};
 ghost use Rattle.std.specs.List.{filter_map};

@@ -1,4 +1,4 @@
-//! The lines of a display, of which those that rest are not stepped: docs/DEFINITIONS.md, "Lines at rest".
+//! The lines of a display, of which those that rest are not stepped: docs/INTERNALS.md, "Lines at rest".
 
 ghost use Rattle.std.specs.Prelude.{◌≡◌, ◌≤◌, ◌<◌, ◌^◌, ℕ, true, None, List, length, map, replicate, slice_index_or, IfOk};
 ghost use Rattle.ra_indirect.specs.declared.node.Node.{Node};

@@ -58,7 +58,7 @@ fn tested(alloc: Global, text: &Option<TriggerText>, pool: &mut Pool) -> Result<
     }
 }
 
-// Puts the value of a macro behind those before it. Text has none.
+// Puts the value of a macro after those before it. Text has none.
 fn put_piece(
     alloc: Global,
     member: &mut Member,

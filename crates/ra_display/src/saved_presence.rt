@@ -65,7 +65,7 @@ fn put_display_run(
     }
 }
 
-// Puts what is kept of lines behind other hits and other numbers, line by line, and what they owe with it.
+// Puts what is kept of lines after other hits and other numbers, line by line, and what they owe with it.
 fn put_lines(
     alloc: Global,
     hits: &mut Vec<u32>,
@@ -91,7 +91,7 @@ fn put_lines(
     Ok(())
 }
 
-// Puts what is kept of a line behind other hits and other numbers, and what it owes with it.
+// Puts what is kept of a line after other hits and other numbers, and what it owes with it.
 fn put_line(
     alloc: Global,
     hits: &mut Vec<u32>,
@@ -110,7 +110,7 @@ fn put_line(
     }
 }
 
-// Puts what is kept of a line that owes hits for so many frames behind other hits and other numbers.
+// Puts what is kept of a line that owes hits for this many frames after other hits and other numbers.
 fn put_owed(
     alloc: Global,
     hits: &mut Vec<u32>,

@@ -70,7 +70,7 @@ fn numbers_of(alloc: Global, run: &PresenceRun) -> Result<Vec<i32>, OutOfMemory>
     Ok(numbers)
 }
 
-// Puts the numbers of the values of a line behind others.
+// Puts the numbers of the values of a line after others.
 fn put_line_numbers(numbers: &mut Vec<i32>, line: &Member) -> Result<(), OutOfMemory>
     ensures { OnOk result
         (numbers.new.items ≡ numbers.old.items ++ line_numbers (kept_by line.now)) }

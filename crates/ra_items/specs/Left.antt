@@ -6,6 +6,6 @@ use Rattle.ra_items.specs.declared.events.Events.TheInside.{Inside}
 use Rattle.ra_items.specs.Rests.{events_of}
 use Rattle.ra_items.specs.RunEvents.{told_events}
 
--- what is left of one item, and then the events of the items at the places behind it
+-- what is left of one item, and then the events of the items at the places after it
 abbrev pub events_left : Inside → List Event
 events_left t = told_events t.told ++ events_of (map item_contents t.items.now) t.runs.now t.places.now

@@ -1,4 +1,4 @@
--- What items kept before a frame, what they owe while they rest, and when they do: docs/DEFINITIONS.md, "Items at rest".
+-- What items kept before a frame, what they owe while they rest, and when they do: docs/INTERNALS.md, "Items at rest".
 use Rattle.std.specs.Prelude.{◌≡◌, ℕ, ◌+◌, Bool, true, Option, None, Some, List, [], ◌∷◌, length}
 use Rattle.ra_condition.specs.Contents.{TriggerContents, groups_of, trigger_hits}
 use Rattle.ra_group.specs.declared.form.Form.TheVariants.{InTrigger}

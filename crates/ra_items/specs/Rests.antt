@@ -1,4 +1,4 @@
--- All items of a set, of which those that rest are not stepped: docs/DEFINITIONS.md, "Items at rest".
+-- All items of a set, of which those that rest are not stepped: docs/INTERNALS.md, "Items at rest".
 use Rattle.std.specs.Prelude.{◌≡◌, ℕ, zero, suc, ◌<◌, ◌≤◌, Bool, true, if◌then◌else◌, Option, Some, List, [], ◌∷◌, ◌++◌, length, take, get_or, set, ◌+◌, slice_get, slice_index_or, slice_set}
 use Rattle.std.specs.List.{flat_map}
 use Rattle.ra_indirect.specs.declared.node.Node.{Node}

@@ -24,7 +24,7 @@ use std::alloc::Global;
 /// A leaderboard: what is kept of it, its plans, and what its last frame did.
 #[derive(Drop)]
 pub struct BoardRun {
-    /// Start, cancel and submit, and the value with the progress behind it where there is one.
+    /// Start, cancel and submit, and the value with the progress after it where there is one.
     pub member: Member,
     pub board: Board,
     pub change: BoardChange,
@@ -111,7 +111,7 @@ fn tested(alloc: Global, text: &BoardText, pool: &mut Pool) -> Result<Member, Ou
     Ok(member)
 }
 
-// Puts the progress of a board behind its value, where it has one.
+// Puts the progress of a board after its value, where it has one.
 fn put_progress(
     alloc: Global,
     member: &mut Member,

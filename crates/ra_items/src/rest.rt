@@ -1,4 +1,4 @@
-//! What an item kept before a frame, and whether it rests: docs/DEFINITIONS.md, "Items at rest".
+//! What an item kept before a frame, and whether it rests: docs/INTERNALS.md, "Items at rest".
 
 ghost use Rattle.std.specs.Prelude.{◌≡◌, ◌<◌, true, length, IfOk, OnOk};
 ghost use Rattle.ra_schedule.specs.Inputs.{TestsSeeSame, ValuesSeeSame};
@@ -208,7 +208,7 @@ fn values_rest(before: &Before, text: &BoardText, member: &Member) -> bool
     }
 }
 
-// Adds what an item owes for so many frames.
+// Adds what an item owes for this many frames.
 fn pay_run(run: &mut ItemRun, before: &ItemBefore, frames: u32)
     requires { FitsRun before.now run.old }
     ensures kept { kept_run run.new ≡ owed_run frames before.now run.old }
@@ -221,7 +221,7 @@ fn pay_run(run: &mut ItemRun, before: &ItemBefore, frames: u32)
     }
 }
 
-// Adds what an achievement owes for so many frames.
+// Adds what an achievement owes for this many frames.
 fn pay_achievement(run: &mut AchievementRun, before: &ItemBefore, frames: u32)
     requires { FitsRun before.now (Achievement run.old) }
     ensures kept { kept_run (Achievement run.new) ≡ owed_run frames before.now (Achievement run.old) }
@@ -236,7 +236,7 @@ fn pay_achievement(run: &mut AchievementRun, before: &ItemBefore, frames: u32)
     }
 }
 
-// Adds what a board owes for so many frames.
+// Adds what a board owes for this many frames.
 fn pay_board(run: &mut BoardRun, before: &ItemBefore, frames: u32)
     requires { FitsRun before.now (Leaderboard run.old) }
     ensures kept { kept_run (Leaderboard run.new) ≡ owed_run frames before.now (Leaderboard run.old) }

@@ -1,4 +1,4 @@
-//! All items of a set, of which those that rest are not stepped: docs/DEFINITIONS.md, "Items at rest".
+//! All items of a set, of which those that rest are not stepped: docs/INTERNALS.md, "Items at rest".
 
 ghost use Rattle.std.specs.Prelude.{◌≡◌, ◌≤◌, ◌<◌, ◌^◌, ℕ, true, List, take, length, map, slice_index_or, IfOk};
 ghost use Rattle.ra_indirect.specs.declared.node.Node.{Node};
@@ -55,8 +55,8 @@ impl Rests {
         })
     }
 
-    /// Steps each item that is due or reads what changed, by the frame of the table's last sample. Where much
-    /// changed it looks at none for rest, and where many items are due at some of them.
+    /// Steps each item that is due or reads what changed, by the frame of the table's last sample. It looks at each of
+    /// them for rest, and where many looks were in vain at some of them.
     pub fn step(&mut self, runs: &mut [ItemRun], items: &[Item], table: &Table)
         requires runs { AreItemRuns table.now.nodes (map item_contents items.now) runs.old }
         requires rests { WereRests table.now (map item_contents items.now) runs.old self.old }

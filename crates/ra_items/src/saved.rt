@@ -27,7 +27,7 @@ use ra_schedule::{hits_before, pay, row_of};
 use ra_text::OutOfMemory;
 use std::alloc::Global;
 
-/// Writes what is kept of all items behind other bytes, each with its name, and what they owe with it.
+/// Writes what is kept of all items after other bytes, each with its name, and what they owe with it.
 pub fn put_runs(
     alloc: Global,
     bytes: &mut Vec<u8>,
@@ -50,7 +50,7 @@ pub fn put_runs(
     Ok(())
 }
 
-// Writes what is kept of an item behind other bytes, with its name, and what it owes with it.
+// Writes what is kept of an item after other bytes, with its name, and what it owes with it.
 fn put_run(
     alloc: Global,
     bytes: &mut Vec<u8>,
@@ -70,7 +70,7 @@ fn put_run(
     }
 }
 
-// Writes what is kept of an item that owes nothing behind other bytes, with its name.
+// Writes what is kept of an item that owes nothing after other bytes, with its name.
 fn put_kept(
     alloc: Global,
     bytes: &mut Vec<u8>,
@@ -92,7 +92,7 @@ fn put_kept(
     }
 }
 
-// Writes what is kept of an item that owes hits for so many frames behind other bytes, with its name.
+// Writes what is kept of an item that owes hits for this many frames after other bytes, with its name.
 fn put_owed(
     alloc: Global,
     bytes: &mut Vec<u8>,
@@ -124,7 +124,7 @@ fn put_owed(
     }
 }
 
-// Writes an achievement with these hits behind other bytes, with its name.
+// Writes an achievement with these hits after other bytes, with its name.
 fn put_achievement_run(
     bytes: &mut Vec<u8>,
     name: &[u8; 16],
@@ -144,7 +144,7 @@ fn put_achievement_run(
     Ok(())
 }
 
-// Writes a board with these hits of its fields in a row, and these numbers of its values, behind other bytes, with its
+// Writes a board with these hits of its fields in a row, and these numbers of its values, after other bytes, with its
 // name.
 fn put_board_run(
     bytes: &mut Vec<u8>,

@@ -94,7 +94,7 @@ pub record IsItemByItem (set : SetContents) : Type 0 where
 
 -- ---- what goes on
 
--- the opening that is kept behind some frames, with exactly these achievements earned
+-- the opening that is kept after some frames, with exactly these achievements earned
 abbrev pub kept_behind : SetContents → Opening → History → Earned → Opening
 kept_behind set o behind earned = with_earned (snapshot set o behind) earned
 

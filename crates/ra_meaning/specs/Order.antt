@@ -18,7 +18,8 @@ abbrev pub progress_in : Option (List PartContents) → List (List PartContents)
 progress_in None = []
 progress_in (Some parts) = parts ∷ []
 
--- the tests and the values of a board: start, cancel and submit, and its value with the progress behind it where it has one
+-- the tests and the values of a board: start, cancel and submit, and its value with the progress after it where it has
+-- one
 abbrev pub board_member : BoardContents → MemberContents
 board_member b = record {
   tests = b.start ∷ b.cancel ∷ b.submit ∷ [];

@@ -97,7 +97,7 @@ abbrev pub earned_next : SetContents → Opening → Entry → Moment → Earned
 earned_next set o Framed m earned = earns set o m.behind earned
 earned_next set o _ m earned = earned
 
--- the moment before the first record: an image of zeros, empty slots, and these frames behind
+-- the moment before the first record: an image of zeros, empty slots, and these frames before
 abbrev pub first_moment : ℕ → History → Moment
 first_moment size behind = record { image = replicate size 0; behind = behind; slots = replicate 16 None }
 
@@ -123,7 +123,7 @@ pieces_from set o m earned (entry ∷ entries) =
 abbrev pub text_of : SetContents → Opening → History → Earned → ℕ → List Entry → List ℕ
 text_of set o behind earned size entries = concat (pieces_from set o (first_moment size behind) earned entries)
 
--- the frames behind the end of a trace
+-- the frames that count at the end of a trace
 abbrev pub behind_end : History → ℕ → List Entry → History
 behind_end behind size entries = (moment_after (first_moment size behind) entries).behind
 
@@ -131,7 +131,7 @@ behind_end behind size entries = (moment_after (first_moment size behind) entrie
 abbrev pub earned_end : SetContents → Opening → History → Earned → ℕ → List Entry → Earned
 earned_end set o behind earned size entries = earned_after set o (first_moment size behind) earned entries
 
--- the opening that is saved behind the end of a trace
+-- the opening that is saved after the end of a trace
 abbrev pub saved_end : SetContents → Opening → History → Earned → ℕ → List Entry → Opening
 saved_end set o behind earned size entries =
     with_earned (snapshot set o (behind_end behind size entries)) (earned_end set o behind earned size entries)

@@ -26,7 +26,7 @@ abbrev pub direct_with : (offset width : ℕ) → Node → List DirectCell
 direct_with offset width (Const n) = record { place = moved_by offset n; width = width } ∷ []
 direct_with offset width pointer = []
 
--- the direct cell that a node behind these is, if it is one
+-- the direct cell that a node after these is, if it is one
 abbrev pub direct_in : List Node → Node → List DirectCell
 direct_in nodes (CellNode pointer offset width) = direct_with offset width (node_at nodes pointer)
 direct_in nodes node = []

@@ -1,4 +1,4 @@
--- What a member kept before a frame, beside the member: docs/DEFINITIONS.md, "Members at rest".
+-- What a member kept before a frame, beside the member: docs/INTERNALS.md, "Members at rest".
 use Rattle.std.specs.Prelude.{◌≡◌, ℕ, List, length, map}
 use Rattle.ra_value.specs.Steps.{ValueKept}
 use Rattle.ra_member.specs.Members.{MemberKept}

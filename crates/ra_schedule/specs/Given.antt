@@ -1,4 +1,4 @@
--- Which left values a step needs as numbers: docs/DEFINITIONS.md, "Numbers that a step needs".
+-- Which left values a step needs as numbers: docs/INTERNALS.md, "Numbers that a step needs".
 use Rattle.std.specs.Prelude.{◌≡◌, ℕ, Bool, true, not, ◌&&◌, List, [], ◌∷◌, length, map, take, drop, slice_index}
 use Rattle.std.specs.List.{flat_map}
 use Rattle.ra_condition.specs.declared.condition.Condition.{Condition}

@@ -1,4 +1,4 @@
--- A group at rest: a frame adds a hit to some conditions at whose hits nothing looks, and changes nothing else: docs/DEFINITIONS.md, "Rest".
+-- A group at rest: a frame adds a hit to some conditions at whose hits nothing looks, and changes nothing else: docs/INTERNALS.md, "Rest".
 use Rattle.std.specs.Prelude.{◌≡◌, ℕ, ◌+◌, min, Bool, true, false, if◌then◌else◌, not, ◌&&◌, ◌||◌, ◌==◌, List, [], ◌∷◌, length, take, drop, map, slice_index, slice_index_or}
 use Rattle.std.specs.List.{list_all, range_with_len}
 use Rattle.ra_condition.specs.declared.flag.Flag.{Flag}

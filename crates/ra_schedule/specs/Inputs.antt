@@ -1,4 +1,4 @@
--- What tests and values see at the last frame of a history, and when they see the same at another: docs/DEFINITIONS.md, "Members at rest".
+-- What tests and values see at the last frame of a history, and when they see the same at another: docs/INTERNALS.md, "Members at rest".
 use Rattle.std.specs.Prelude.{◌≡◌, List, [], ◌∷◌, map}
 use Rattle.ra_condition.specs.declared.condition.Condition.{Condition}
 use Rattle.ra_condition.specs.Contents.{TriggerContents, groups_of, PartContents, counted_in}

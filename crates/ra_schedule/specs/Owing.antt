@@ -1,4 +1,4 @@
--- What members keep that owe hits, and when they rest: docs/DEFINITIONS.md, "Members at rest".
+-- What members keep that owe hits, and when they rest: docs/INTERNALS.md, "Members at rest".
 use Rattle.std.specs.Prelude.{◌≡◌, ℕ, ◌≤◌, min, true, List, [], ◌∷◌, map, zip, slice_index}
 use Rattle.std.specs.List.{AllByRecursion}
 use Rattle.ra_condition.specs.Contents.{TriggerContents, groups_of, PartContents, counted_in}
@@ -58,6 +58,6 @@ ValuesKeep [] [] [] = Unit {0}
 ValuesKeep (parts ∷ values) (old ∷ before) (new ∷ after) = ValueKeeps parts old new × ValuesKeep values before after
 ValuesKeep _ _ _ = ⊥
 
--- so many frames are owed as far as hits can tell: all of them, or the most that a hit can count
+-- this many frames are owed as far as hits can tell: all of them, or the most that a hit can count
 abbrev pub AreFramesOwed : (frames owed : ℕ) → Type 0
 AreFramesOwed frames owed = owed ≡ min frames 4294967295

@@ -1,4 +1,4 @@
--- Who reads a node, and who is due: docs/DEFINITIONS.md, "Readers of nodes".
+-- Who reads a node, and who is due: docs/INTERNALS.md, "Readers of nodes".
 use Rattle.std.specs.Prelude.{◌≡◌, ◌≢◌, ◌⊎◌, ℕ, ◌-◌, ◌<◌, Bool, true, false, Some, List, [], map, length, slice_get, slice_index_or, Vec}
 use Rattle.std.specs.Global.{Global}
 pub use Rattle.ra_memref.specs.Table.{IsListed}

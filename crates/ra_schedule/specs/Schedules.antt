@@ -1,4 +1,4 @@
--- Who is due at a frame, and what those at rest owe: docs/DEFINITIONS.md, "Schedules".
+-- Who is due at a frame, and what those at rest owe: docs/INTERNALS.md, "Schedules".
 use Rattle.std.specs.Prelude.{◌≡◌, ℕ, suc, ◌+◌, ◌-◌, ◌<◌, ◌≤◌, min, not, Bool, true, false, if◌then◌else◌, Option, None, Some, IfSome, List, [], ◌∷◌, ◌++◌, length, map, replicate, slice_index, slice_index_or, slice_set}
 use Rattle.std.specs.Option.{is_some}
 use Rattle.ra_indirect.specs.declared.node.Node.{Node}

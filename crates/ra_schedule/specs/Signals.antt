@@ -1,4 +1,4 @@
--- What readers are woken by, nodes and comparisons, and who reads which: docs/DEFINITIONS.md, "Signals".
+-- What readers are woken by, nodes and comparisons, and who reads which: docs/INTERNALS.md, "Signals".
 use Rattle.std.specs.Prelude.{◌≡◌, ℕ, ◌+◌, ◌<◌, ◌≤◌, Bool, true, false, Option, None, Some, List, length, replicate, slice_index, slice_index_or}
 use Rattle.ra_operand.specs.declared.op.Op.{Op}
 use Rattle.ra_operand.specs.declared.op.Op.TheVariants.{Bare, Eq, Ne, Lt, Le, Gt, Ge}
@@ -8,7 +8,8 @@ use Rattle.ra_truths.specs.Comparisons.{AreOver, IsOver, comparison_at}
 use Rattle.ra_member.specs.declared.laid.Laid.{Laid}
 use Rattle.ra_schedule.specs.Readers.{ReadersSeen, Reads}
 
--- how many nodes there are, the distinct comparisons that are read, and who reads which signal: the nodes by their numbers, and the comparisons behind them
+-- how many nodes there are, the distinct comparisons that are read, and who reads which signal: the nodes by their
+-- numbers, and the comparisons after them
 pub record SignalsSeen : Type 0 where
   pub nodes : ℕ
   pub comparisons : List Comparison
@@ -24,7 +25,7 @@ is_comparing Gt = true
 is_comparing Ge = true
 is_comparing _ = false
 
--- the comparisons stand where they stood, and maybe others behind them
+-- the comparisons stand where they stood, and maybe others after them
 pub record AreFront (old new : List Comparison) : Type 0 where
   pub long : length old ≤ length new
   pub same : (k : ℕ) → k < length old → comparison_at new k ≡ comparison_at old k

@@ -1,4 +1,4 @@
--- Achievements and tests at rest: docs/DEFINITIONS.md, "Rest".
+-- Achievements and tests at rest: docs/INTERNALS.md, "Rest".
 use Rattle.std.specs.Prelude.{ℕ, Bool, if◌then◌else◌, ◌||◌, List}
 use Rattle.std.specs.List.{flat_map}
 use Rattle.ra_condition.specs.Contents.{TriggerContents, groups_of}

@@ -1,4 +1,4 @@
--- Values at rest: docs/DEFINITIONS.md, "Rest".
+-- Values at rest: docs/INTERNALS.md, "Rest".
 use Rattle.std.specs.Prelude.{ℕ, Bool, if◌then◌else◌, List, map}
 use Rattle.std.specs.List.{flat_map, list_any}
 use Rattle.ra_condition.specs.declared.condition.Condition.{Condition}

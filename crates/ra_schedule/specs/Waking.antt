@@ -1,4 +1,4 @@
--- When readers are woken at a frame, and what they see of its values: docs/DEFINITIONS.md, "Members at rest".
+-- When readers are woken at a frame, and what they see of its values: docs/INTERNALS.md, "Members at rest".
 use Rattle.std.specs.Prelude.{◌≡◌, ℕ, ◌+◌, ◌/◌, ◌<◌, ◌≤◌, true, false, List, [], ◌∷◌, length, map, slice_index, slice_index_or}
 use Rattle.ra_indirect.specs.declared.node.Node.{Node}
 use Rattle.ra_indirect.specs.Pools.{spelled_by}
@@ -11,7 +11,7 @@ use Rattle.ra_truths.specs.declared.comparison.Comparison.{Comparison}
 use Rattle.ra_truths.specs.Comparisons.{comparison_at, holds_by}
 pub use Rattle.ra_truths.specs.Truths.{AreChanged}
 
--- the first frame behind a start
+-- the first frame after a start
 abbrev pub first_frame : Start → (image : List ℕ) → Instant
 first_frame start image = record { start = start; history = image ∷ [] }
 

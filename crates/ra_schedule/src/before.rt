@@ -1,4 +1,4 @@
-//! What a member kept before a frame: docs/DEFINITIONS.md, "Members at rest".
+//! What a member kept before a frame: docs/INTERNALS.md, "Members at rest".
 
 ghost use Rattle.std.specs.Prelude.{◌≡◌, length, map, IfOk, ◌++◌};
 ghost use Rattle.std.specs.List.{flat_map};
@@ -83,7 +83,7 @@ pub fn hits_before(alloc: Global, before: &Before) -> Result<Vec<u32>, OutOfMemo
     Ok(row)
 }
 
-// Puts the hits that tests kept behind others.
+// Puts the hits that tests kept after others.
 fn put_tests(row: &mut Vec<u32>, tests: &[Vec<u32>]) -> Result<(), OutOfMemory>
     ensures { OnOk result (row.new.items ≡ row.old.items ++ flat_map (λ test. test.items) tests.now) }
 {
@@ -93,7 +93,7 @@ fn put_tests(row: &mut Vec<u32>, tests: &[Vec<u32>]) -> Result<(), OutOfMemory>
     Ok(())
 }
 
-// Puts the hits that values kept behind others.
+// Puts the hits that values kept after others.
 fn put_values(row: &mut Vec<u32>, values: &[ValueBefore]) -> Result<(), OutOfMemory>
     ensures { OnOk result (row.new.items ≡ row.old.items ++ flat_map (λ value. value.hits.items) values.now) }
 {

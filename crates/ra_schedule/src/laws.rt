@@ -1,4 +1,4 @@
-//! Laws on rest: docs/DEFINITIONS.md, "Rest". They do nothing.
+//! Laws on rest: docs/INTERNALS.md, "Rest". They do nothing.
 
 ghost use Rattle.std.specs.Prelude.{◌≡◌, ◌+◌, ◌≤◌, ℕ, Bool, List, length, map, slice_index, true};
 ghost use Rattle.ra_condition.specs.Contents.{PartContents, TriggerContents, counted_in, groups_of, trigger_hits, value_hits};

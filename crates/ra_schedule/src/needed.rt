@@ -1,4 +1,4 @@
-//! Laws on the numbers that a step needs: docs/DEFINITIONS.md, "Numbers that a step needs". They do nothing.
+//! Laws on the numbers that a step needs: docs/INTERNALS.md, "Numbers that a step needs". They do nothing.
 
 ghost use Rattle.std.specs.Prelude.{◌≡◌, ℕ, Bool, List, map};
 ghost use Rattle.ra_condition.specs.Contents.{PartContents, TriggerContents, counted_in, groups_of};

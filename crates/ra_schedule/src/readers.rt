@@ -7,7 +7,7 @@ use ra_text::OutOfMemory;
 use std::alloc::Global;
 use std::marker::Model;
 
-/// Which readers read each node of a table, and which of them are due: docs/DEFINITIONS.md, "Readers of nodes".
+/// Which readers read each node of a table, and which of them are due: docs/INTERNALS.md, "Readers of nodes".
 ///
 /// Nodes and readers go by their numbers, from 0 on. Only `new` and `note` take memory.
 #[derive(Drop)]
@@ -59,7 +59,7 @@ impl Readers {
         put_last(&mut self.rows[node as usize], reader)
     }
 
-    /// Adds a node behind the others, which no reader reads. Memory is the only refusal.
+    /// Adds a node after the others, which no reader reads. Memory is the only refusal.
     pub fn add(&mut self, alloc: Global) -> Result<(), OutOfMemory>
         ensures added { OnOk result (self.new ≡ record self.old { rows = self.old.rows ++ [] ∷ [] }) }
         ensures err { OnErr result (self.new ≡ self.old) }

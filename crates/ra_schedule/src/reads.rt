@@ -1,4 +1,4 @@
-//! What triggers and values are woken by, noted for a reader: docs/DEFINITIONS.md, "Signals".
+//! What triggers and values are woken by, noted for a reader: docs/INTERNALS.md, "Signals".
 
 ghost use Rattle.std.specs.Prelude.{◌≡◌, ◌++◌, ◌<◌, true, length, map, slice_index_or, IfOk, OnOk};
 ghost use Rattle.ra_operand.specs.declared.op.Op.TheVariants.{Bare};
@@ -182,7 +182,7 @@ fn put_given(given: &mut Vec<bool>, form: Form, group: &Group) -> Result<(), Out
     Ok(())
 }
 
-// Whether a condition gives its left value as a number: docs/DEFINITIONS.md, "Numbers that a step needs".
+// Whether a condition gives its left value as a number: docs/INTERNALS.md, "Numbers that a step needs".
 fn gives_left(form: Form, condition: &Condition) -> bool
     ensures { result ≡ spec.gives_left form condition.now }
 {

@@ -13,7 +13,7 @@ use ra_condition::{Condition, Flag, Group, Part, TriggerText, ValueText};
 use ra_group::Form;
 use ra_operand::Op;
 
-/// Whether nothing looks at the hits of a condition but a save: docs/DEFINITIONS.md, "Rest".
+/// Whether nothing looks at the hits of a condition but a save: docs/INTERNALS.md, "Rest".
 pub fn is_free(form: Form, condition: &Condition) -> bool
     ensures { result ≡ spec.is_free form condition.now }
 {

@@ -11,9 +11,9 @@ use std::marker::Model;
 /// The most comparisons that are told apart.
 const MOST: u32 = 1 << 30;
 
-/// What readers are woken by, while they are noted: docs/DEFINITIONS.md, "Signals".
+/// What readers are woken by, while they are noted: docs/INTERNALS.md, "Signals".
 ///
-/// The signals are the nodes of a table, by their numbers, and behind them the distinct comparisons that are read.
+/// The signals are the nodes of a table, by their numbers, and after them the distinct comparisons that are read.
 #[derive(Drop)]
 pub struct Signals {
     pub(crate) nodes: u32,
