@@ -21,3 +21,12 @@ pub written_head : (rest : List ℕ) → 6 + count_in rest ≤ length rest
 written_head rest long =
     let there : length (take (count_in rest) (drop 6 rest)) ≡ count_in rest = length-take-le (count_in rest) (drop 6 rest) (omega (arith, long, length-drop 6 rest)) in
     ap (heads.Write (place_in rest)) (sym there)
+
+-- the head of a frame is of no other record
+pub framed_head : (entry : Entry) → heads.Frame ≡ head_of entry → entry ≡ Framed
+framed_head Framed is = refl
+framed_head (Written at bytes) is = let bad : heads.Frame ≡ heads.Write at (length bytes) = is in absurd (cc)
+framed_head (Saved slot) is = let bad : heads.Frame ≡ heads.Save slot = is in absurd (cc)
+framed_head (Restored slot) is = let bad : heads.Frame ≡ heads.Restore slot = is in absurd (cc)
+framed_head Shown is = let bad : heads.Frame ≡ heads.Show = is in absurd (cc)
+framed_head Ended is = let bad : heads.Frame ≡ heads.End = is in absurd (cc)

@@ -6,10 +6,13 @@ use Rattle.std.proofs.lemmas.List.{length-take, length-take-le, length-drop, len
 use Rattle.ra_trace.specs.declared.error.Why.{Why}
 use Rattle.ra_trace.specs.declared.error.Why.TheVariants.{Header, Kind, Cut, PastMemory, Slot, EmptySlot}
 use Rattle.ra_trace.specs.declared.error.TraceError.TheVariants as errors
+use Rattle.ra_trace.specs.declared.head.Head.{Head}
+use Rattle.ra_trace.specs.Heads.{head_length, head_of}
 use Rattle.ra_trace.specs.Entries.{entry_bytes}
 use Rattle.ra_trace.specs.Cutting.{RefusedAt, header_size, refusal, front, stop_within}
 use Rattle.ra_trace.specs.Window.{ReadsBehind}
-use Rattle.ra_trace.specs.Reading.{ReaderSeen, SameReader, IsInside, IsWhole, Found, Holds, Knows, ReadsOn, IsStop, ByFault, opened, unanswered, refused_as, seen_from, header_stop, next_stop}
+use Rattle.ra_trace.specs.Reading.{ReaderSeen, SameReader, IsInside, IsWhole, Found, Holds, Knows, ReadsOn, IsStop, ByFault, opened, unanswered, passed, refused_as, seen_from, header_stop, next_stop}
+use Rattle.ra_trace.proofs.HeadLemmas.{entry_length}
 use Rattle.ra_trace.proofs.Longer.{refusal_stays, front_stays}
 use Rattle.ra_trace.proofs.Lying.{front_lies}
 
@@ -242,6 +245,24 @@ found_by content size why old new at count knows none is_size place long within 
             is = ap front place ∙ knows.entry bytes told holds none;
           };
     }
+
+-- a reader that holds a whole record knows it
+pub knows_here : (content : Option (List ℕ)) (size : ℕ) (why : Option Why) (old : ReaderSeen) → IsInside (length old.held) old.limit old.taken old.next
+    → why ≡ refusal size (replicate 16 true) (unanswered old) → why ≡ None → Knows content size why old old
+knows_here content size why old inside here none =
+    knows_by content size true why old old inside (record { name = refl; limit = refl }) refl refl refl here (λ bytes told holds. holds)
+    (λ bytes told holds stopped. let bad : true ≡ false = stopped in absurd (cc))
+    (λ cut. let bad : ◌≡◌ {A = Option Why} None (Some Cut) = sym none ∙ cut in absurd (cc))
+
+-- a reader that knows its next record is past it once it has passed its head's length
+pub found_past : (content : Option (List ℕ)) (size : ℕ) (why : Option Why) (head : Head) (old looked new : ReaderSeen) (at count : ℕ)
+    → Knows content size why old looked → why ≡ None → ((known : ℕ) → old.size ≡ Some known → size ≡ known)
+    → head ≡ head_of (front (unanswered looked)) → drop at looked.held ≡ unanswered looked → count ≡ head_length head → new ≡ passed count looked → new.next ≤ new.limit
+    → Found content at old new
+found_past content size why head old looked new at count knows none is_size is_head place is_count past within =
+    let long : count ≡ length (entry_bytes (front (drop at looked.held)))
+    = is_count ∙ ap head_length (is_head ∙ ap (λ xs. head_of (front xs)) (sym place)) ∙ entry_length (front (drop at looked.held)) in
+    subst (Found content at old) (sym past) (found_by content size why old looked at count knows none is_size place long (subst (λ r. r.next ≤ r.limit) past within))
 
 pub if_some : {T : Type 0} (o : Option T) (P : T → Type 0) → ((x : T) → o ≡ Some x → P x) → IfSome o P
 if_some None P h = tt

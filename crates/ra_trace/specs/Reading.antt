@@ -1,4 +1,4 @@
--- What a reader of a trace is seen as, and what stands next in a file: docs/DEFINITIONS.md, "Reading a trace".
+-- What a reader of a trace is seen as, and what stands next in a file: docs/INTERNALS.md, "Reading a trace".
 use Rattle.std.specs.Prelude.{◌≡◌, ℕ, ◌+◌, ◌-◌, ◌^◌, ◌<◌, ◌≤◌, ◌⊎◌, ⊤, Bool, true, false, if◌then◌else◌, nat_le, ◌==◌, min, Option, option_map, is_some, None, Some, List, [], length, take, drop, replicate}
 use Rattle.ra_io.specs.Causes.{Rose}
 use Rattle.ra_trace.specs.declared.error.Why.{Why}
@@ -40,6 +40,10 @@ pub record IsInside (held limit taken next : ℕ) : Type 0 where
 -- the bytes that a reader holds of what it has not answered yet
 abbrev pub unanswered : ReaderSeen → List ℕ
 unanswered reader = drop (length reader.held - (reader.taken - reader.next)) reader.held
+
+-- a reader that has moved past a next record of this many bytes
+abbrev pub passed : ℕ → ReaderSeen → ReaderSeen
+passed count reader = record reader { last = reader.next; next = reader.next + count }
 
 -- the bytes that the reader holds are those of the file at their places
 pub record Holds (reader : ReaderSeen) (bytes : List ℕ) : Type 0 where
@@ -125,14 +129,14 @@ pub record StaysBefore (old new : ReaderSeen) : Type 0 where
   pub sized : new.size ≡ old.size
   pub last : new.last ≡ old.last
 
--- the reader is behind a header of this size
+-- the reader is after a header of this size
 pub record IsBehindHeader (size : ℕ) (old new : ReaderSeen) : Type 0 where
   pub same : SameReader old new
   pub sized : new.size ≡ Some size
   pub last : new.last ≡ 0
   pub next : new.next ≡ 9
 
--- the reader is behind one record more, which ends within the limit
+-- the reader is after one record more, which ends within the limit
 pub record IsBehindRecord (entry : Entry) (old new : ReaderSeen) : Type 0 where
   pub same : SameReader old new
   pub sized : new.size ≡ old.size
@@ -157,7 +161,7 @@ pub record Knows (content : Option (List ℕ)) (size : ℕ) (why : Option Why) (
   pub entry : (bytes : List ℕ) → content ≡ Some bytes → Holds old bytes → why ≡ None → front (unanswered new) ≡ next_entry old.limit old.next bytes
   pub cut : (bytes : List ℕ) → content ≡ Some bytes → Holds old bytes → why ≡ Some Cut → new.taken ≡ min old.limit (length bytes)
 
--- before a record is lent the reader is behind it, and holds its bytes from this one of those that it holds on
+-- before a record is lent the reader is after it, and holds its bytes from this one of those that it holds on
 pub record Found (content : Option (List ℕ)) (at : ℕ) (old new : ReaderSeen) : Type 0 where
   pub whole : IsWhole (drop at new.held)
   pub moved : IsBehindRecord (front (drop at new.held)) old new

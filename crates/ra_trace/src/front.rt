@@ -28,7 +28,8 @@ pub fn read_header(bytes: &[u8]) -> Option<u32>
     if size <= SIZE_LIMIT { Some(size) } else { None }
 }
 
-// The head of the write behind its first byte, or why none stands there.
+// The head of the write after its first byte, or why none stands there.
+#[inline(always)]
 fn write_head(size: u32, rest: &[u8]) -> Result<Head, Why>
     ensures why { why_of result ≡ write_refusal size rest.now }
     ensures head { IfOk result (λ head. head ≡ heads.Write (place_in rest.now) (count_in rest.now)) }
@@ -49,7 +50,7 @@ fn write_head(size: u32, rest: &[u8]) -> Result<Head, Why>
     }
 }
 
-// The slot behind the first byte of a save or a restore, or why none stands there.
+// The slot after the first byte of a save or a restore, or why none stands there.
 fn slot_at(rest: &[u8]) -> Result<u8, Why>
     ensures save { why_of result ≡ save_refusal rest.now }
     ensures restore { why_of result ≡ restore_refusal (replicate 16 true) rest.now }
@@ -66,6 +67,7 @@ fn slot_at(rest: &[u8]) -> Result<u8, Why>
 
 /// The head of the record at the front, every slot taken as filled, or why none stands there. What is cut is shorter
 /// than the longest record.
+#[inline(always)]
 pub fn front_head(size: u32, bytes: &[u8]) -> Result<Head, Why>
     ensures why { why_of result ≡ refusal size (replicate 16 true) bytes.now }
     ensures head { IfOk result (λ head. head ≡ head_of (front bytes.now)) }

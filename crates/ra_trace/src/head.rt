@@ -10,7 +10,7 @@ use crate::record::Record;
 /// A record without the bytes of its write: docs/DEFINITIONS.md, "Trace file".
 #[derive(Clone, Copy)]
 pub enum Head {
-    /// A write of so many bytes.
+    /// A write of this many bytes.
     Write { at: u32, count: u16 },
     Frame,
     Save { slot: u8 },
@@ -21,6 +21,7 @@ pub enum Head {
 
 impl Head {
     /// How many bytes the record takes.
+    #[inline(always)]
     pub fn length(self) -> usize
         ensures { result ≡ head_length self }
     {
@@ -32,6 +33,7 @@ impl Head {
     }
 
     /// The record that stands at the front of these bytes, of which this is the head.
+    #[inline(always)]
     pub fn record<'a>(self, bytes: &'a [u8]) -> Record<'a>
         requires head { self ≡ head_of (front bytes.now) }
         requires long { head_length self ≤ length bytes.now }

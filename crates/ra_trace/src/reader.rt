@@ -13,7 +13,7 @@ use std::marker::Model;
 // The length of a header.
 const HEADER_LENGTH: usize = 9;
 
-/// A trace file that is read record by record: docs/DEFINITIONS.md, "Reading a trace".
+/// A trace file that is read record by record: docs/INTERNALS.md, "Reading a trace".
 ///
 /// It is seen as its name, its limit of bytes, the memory size once the header was read, the places of its last and
 /// its next record, the place up to which it has read, and the bytes that it holds, which end there. Only `open`
@@ -58,7 +58,7 @@ impl Reader {
     ghost use Rattle.ra_trace.specs.Cutting.{header_size, refusal, front};
     ghost use Rattle.ra_trace.specs.Heads.{head_length, head_of, why_of};
     ghost use Rattle.ra_trace.specs.declared.error.Why.TheVariants.{Cut};
-    ghost use Rattle.ra_trace.specs.Reading.{Holds, ReadsFront, ReadsOn, Knows, Found, Stands, LiesWithin, StaysBefore, IsBehindHeader, IsInside, refused_as, opened, most_bytes, unanswered, header_stop, next_stop, IsStop, ByFault};
+    ghost use Rattle.ra_trace.specs.Reading.{Holds, ReadsFront, ReadsOn, Knows, Found, Stands, LiesWithin, StaysBefore, IsBehindHeader, IsInside, refused_as, opened, passed, most_bytes, unanswered, header_stop, next_stop, IsStop, ByFault};
     ghost use Rattle.ra_trace.specs.Ending.{EndsAs};
 
     /// A reader of the file of this name that takes no more bytes than the limit, which is 9 to
@@ -125,6 +125,7 @@ impl Reader {
     }
 
     // Where the next record starts among the bytes that are held.
+    #[inline(always)]
     fn front(&self) -> usize
         ensures front { drop result self.now.held ≡ unanswered self.now }
         ensures within { result ≤ length self.now.held }
@@ -134,6 +135,7 @@ impl Reader {
     }
 
     // The head of the next record among the bytes that are held, or why none stands there.
+    #[inline(always)]
     fn next_head(&self, size: u32) -> Result<Head, Why>
         ensures why { why_of result ≡ refusal size (replicate 16 true) (unanswered self.now) }
         ensures head { IfOk result (λ head. head ≡ head_of (front (unanswered self.now))) }
@@ -196,7 +198,22 @@ impl Reader {
         }
     }
 
+    // Moves past the next record, which takes this many bytes, and answers where it starts among the bytes that are held.
+    #[inline(always)]
+    fn pass(&mut self, count: usize) -> usize
+        requires { count ≤ length (unanswered self.old) }
+        ensures front { drop result self.old.held ≡ unanswered self.old }
+        ensures passed { self.new ≡ passed count self.old }
+        ensures within { self.new.next ≤ self.new.limit }
+    {
+        let at = self.front();
+        self.last = self.next;
+        self.next += count as u64;
+        at
+    }
+
     // Moves to the next record, and answers where it starts among the bytes that are held, and its head.
+    #[inline(never)]
     fn step<F: Files>(&mut self, files: &mut F) -> Result<(usize, Head), TraceError>
         requires { IsSome self.old.size }
         ensures found { IfOk result (λ next. Found (F.content files.old self.old.name) next.0 self.old self.new) }
@@ -210,9 +227,7 @@ impl Reader {
         let size = self.size.unwrap_or(0);
         match self.look(size, files)? {
             Ok(head) => {
-                let at = self.front();
-                self.last = self.next;
-                self.next += head.length() as u64;
+                let at = self.pass(head.length());
                 Ok((at, head))
             }
             Err(why) => Err(self.refused(why)),
@@ -223,6 +238,7 @@ impl Reader {
     ///
     /// `Refused` with the place and the reason, or `TooLong`, exactly as "Reading a trace" says of
     /// a told file, and `Read` only where a fault was counted. An error leaves the place.
+    #[inline(always)]
     pub fn next_record<'a, F: Files>(&'a mut self, files: &mut F) -> Result<Record<'a>, TraceError>
         requires { IsSome self.old.size }
         ensures ok { IfOk result (λ found. IfSome (F.content files.old self.old.name) (λ bytes. Holds self.old bytes → IfSome self.old.size (λ size. Stands self.old.limit size self.old.next (entry_of found) bytes))) }
@@ -232,8 +248,22 @@ impl Reader {
         ensures stays { OnlyRead F.content F.read_faults F.put_faults files.old files.new }
         ensures* after { sem 𝓛 (EndsAs (F.content files.old self.old.name) self.entry result) }
     {
-        let (at, head) = self.step(files)?;
-        Ok(head.record(self.window.bytes_from(at)))
+        let size = self.size.unwrap_or(0);
+        // frames and writes, which most records are, are matched once
+        match self.next_head(size) {
+            Ok(Head::Frame) => {
+                let _ = self.pass(1);
+                Ok(Record::Frame)
+            }
+            Ok(head @ Head::Write { .. }) => {
+                let at = self.pass(head.length());
+                Ok(head.record(self.window.bytes_from(at)))
+            }
+            _ => {
+                let (at, head) = self.step(files)?;
+                Ok(head.record(self.window.bytes_from(at)))
+            }
+        }
     }
 
     /// The place where the last record starts, in bytes from 0, and 0 where none was read.

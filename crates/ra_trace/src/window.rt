@@ -15,7 +15,7 @@ const ROOM: usize = 131_072;
 
 const PIECE: usize = 65_536;
 
-/// Some bytes of a file, one behind the other. It is seen as these bytes.
+/// Some bytes of a file, one after the other. It is seen as these bytes.
 #[derive(Drop)]
 pub struct Window {
     buffer: Vec<u8>,
@@ -43,6 +43,7 @@ impl Window {
     }
 
     /// How many bytes it holds.
+    #[inline(always)]
     pub fn len(&self) -> usize
         ensures length { result ≡ length self.now }
         ensures most { result ≤ room_of }
@@ -51,6 +52,7 @@ impl Window {
     }
 
     /// The bytes from a place of it on.
+    #[inline(always)]
     pub fn bytes_from(&self, at: usize) -> &[u8]
         requires { at ≤ length self.now }
         ensures { result.now ≡ drop at self.now }
@@ -58,7 +60,7 @@ impl Window {
         &self.buffer[at..self.held]
     }
 
-    /// Lets so many bytes at the front go.
+    /// Lets this many bytes at the front go.
     pub fn drop_front(&mut self, count: usize)
         requires { count ≤ length self.old }
         ensures { self.new ≡ drop count self.old }
@@ -69,7 +71,7 @@ impl Window {
         }
     }
 
-    /// Reads on behind its bytes what stands at a place of the file, at most so many bytes, and says how many came.
+    /// Reads on after its bytes what stands at a place of the file, at most this many bytes, and says how many came.
     ///
     /// Without room, or where none may come, an empty buffer is read into.
     pub fn read_on<F: Files>(
