@@ -14,7 +14,7 @@ pub record CountAlike (a b : TriggerKept) : Type 0 where
   pub state : a.state ≡ b.state
   pub hits : a.hits ≡ b.hits
 
--- an achievement after so many rows, from the plain opening; no left value counts for its state and its hits
+-- an achievement after this many rows, from the plain opening; no left value counts for its state and its hits
 abbrev pub replayed : TriggerContents → List Bool → ℕ → TriggerKept
 replayed t rows zero = no_trigger t
 replayed t rows (suc row) = step t (row_at t rows row) [] (replayed t rows row)

@@ -20,7 +20,7 @@ pub record ExplanationContents : Type 0 where
 abbrev pub explanation_contents : Explanation → ExplanationContents
 explanation_contents e = record { last = e.last; since = e.since; waited = e.waited; events = map (λ own. own.list.items) e.events.items }
 
--- the comparisons of a row, of rows that stand one behind the other
+-- the comparisons of a row, of rows that stand one after the other
 abbrev pub row_at : TriggerContents → List Bool → ℕ → List Bool
 row_at t rows row = take (trigger_hits t) (drop (row * trigger_hits t) rows)
 
@@ -57,7 +57,7 @@ pub record Explains (t : TriggerContents) (rows : List Bool) (e : ExplanationCon
   pub earlier : (row : ℕ) → e.since ≤ row → row < e.last → (says_at t rows e row).valid ≡ false
   pub waited : (e.waited ≡ false) ⊎ (e.since < e.last)
 
--- an achievement after so many rows from one on, with any left values
+-- an achievement after this many rows from one on, with any left values
 abbrev pub kept_through : TriggerContents → List Bool → (ℕ → List ℕ) → TriggerKept → (from count : ℕ) → TriggerKept
 kept_through t rows lefts kept from zero = kept
 kept_through t rows lefts kept from (suc count) =
@@ -72,7 +72,7 @@ BeginsIn false state = (is_waiting state ≡ false) × (is_triggered state ≡ f
 abbrev pub clears_at : TriggerContents → List Bool → List ℕ → TriggerKept → Bool
 clears_at t row lefts old = is_cleared old.state (together t row lefts old.hits).reset (together t row lefts old.hits).valid
 
--- an achievement goes through one row: it clears nothing, has these hits behind it, and is triggered or not
+-- an achievement goes through one row: it clears nothing, has these hits after it, and is triggered or not
 pub record PassesRow (t : TriggerContents) (row : List Bool) (lefts : List ℕ) (old : TriggerKept) (hits : List ℕ) (triggered : Bool) : Type 0 where
   pub clears : clears_at t row lefts old ≡ false
   pub hits_too : (step t row lefts old).hits ≡ hits

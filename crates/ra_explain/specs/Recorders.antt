@@ -96,7 +96,7 @@ abbrev pub KeepsOtherSlots : (old new : RecorderSeen) → ℕ → Type 0
 KeepsOtherSlots old new named =
     (slot : ℕ) (history : History) → slot ≢ named → SlotStands old slot history → SlotStands new slot history
 
--- the achievement unlocks at this image behind a history: its line is printed there
+-- the achievement unlocks at this image after a history: its line is printed there
 abbrev pub unlocks_at : TriggerContents → List ℕ → History → Bool
 unlocks_at t image earlier =
     not (is_triggered (kept_after t earlier).state) && is_triggered (kept_after t (image ∷ earlier)).state
@@ -129,7 +129,7 @@ pub record TakesFrame (old new : RecorderSeen) (unlock : Bool) : Type 0 where
   pub stands : (history : History) → Stands old history → Stands new (old.image ∷ history)
   pub answers : (history : History) → Stands old history → unlock ≡ unlocks_at old.trigger old.image history
 
--- The rows of one frame more are too many, and how many they are; or memory is wanting.
+-- The rows of one frame more are too many, and how many they are; or memory runs out.
 abbrev pub RefusesFrame : RecorderSeen → ExplainRefused → Type 0
 RefusesFrame r (Rows found) = (most_rows < product_of r) × (found ≡ product_of r)
 RefusesFrame r Memory = product_of r ≤ most_rows
@@ -147,6 +147,6 @@ IsRestored old new slot =
 abbrev pub TakesUpSlot : (old new : RecorderSeen) → ℕ → Type 0
 TakesUpSlot old new slot = (history : History) → SlotStands old slot history → Stands new history
 
--- the rows of the history behind, the oldest first
+-- the rows of the history so far, the oldest first
 abbrev pub rows_in_order : KeptRows → List Bool
 rows_in_order kept = flat_map (λ row. row) (reverse kept.rows)

@@ -34,7 +34,7 @@ pub record StepsRow (t : TriggerContents) (row : List Bool) (old new : Replay) (
 abbrev pub said_by : TriggerContents → List Bool → ℕ → List ℕ → Together
 said_by t rows row hits = together t (row_at t rows row) [] hits
 
--- the hits after so many rows from one on, before which all were 0
+-- the hits after this many rows from one on, before which all were 0
 abbrev pub hits_through : TriggerContents → List Bool → (since count : ℕ) → List ℕ
 hits_through t rows since zero = replicate (trigger_hits t) 0
 hits_through t rows since (suc count) = (said_by t rows (since + count) (hits_through t rows since count)).hits
@@ -49,7 +49,7 @@ noted row (own ∷ events) (b ∷ before) (a ∷ after) =
     noted_one row own b a ∷ noted row events before after
 noted row _ _ _ = []
 
--- the events of so many rows from one on
+-- the events of this many rows from one on
 abbrev pub events_through : TriggerContents → List Bool → (since count : ℕ) → List (List Event)
 events_through t rows since zero = replicate (trigger_hits t) []
 events_through t rows since (suc count) =

@@ -17,7 +17,7 @@ rows_from behind place = slice_index_or behind place []
 abbrev pub with_row : List (List (List Bool)) → List Bool → ℕ → List (List (List Bool))
 with_row behind row before = behind ++ (row ∷ rows_from behind before) ∷ []
 
--- the last place with another row, and with the rows that stood behind its row
+-- the last place with another row, and with the rows that came after its row
 abbrev pub refilled : List (List (List Bool)) → List Bool → List (List (List Bool))
 refilled behind row =
     take (length behind - 1) behind ++ (row ∷ drop 1 (rows_from behind (length behind - 1))) ∷ []
@@ -32,7 +32,7 @@ behind_by width known truths (before ∷ links) =
 abbrev pub behind_each : (width : ℕ) → List Bool → List ℕ → List (List (List Bool))
 behind_each width truths links = behind_by width ([] ∷ []) truths links
 
--- each row comes behind a place that was there before it
+-- each row comes after a place that was there before it
 abbrev pub AreEarlier : List ℕ → Type 0
 AreEarlier links = (k : ℕ) → k < length links → slice_index links k ≤ k
 

@@ -7,7 +7,7 @@ use Rattle.ra_explain.specs.RowLists.{RowsSeen, AreEarlier, behind_each}
 abbrev pub rows_seen : Inside → RowsSeen
 rows_seen t = record { width = t.width; behind = behind_each t.width t.truths.items t.links.items }
 
--- each row has its comparisons, and comes behind a place that was there before it
+-- each row has its comparisons, and comes after a place that was there before it
 pub record IsRowList (t : Inside) : Type 0 where
   pub whole : length t.truths.items ≡ length t.links.items * t.width
   pub earlier : AreEarlier t.links.items

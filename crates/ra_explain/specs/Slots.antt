@@ -19,7 +19,7 @@ pub record Counts : Type 0 where
 abbrev pub counts_of : TriggerContents → Counts
 counts_of t = record { cells = length (trigger_cells t); priors = length (trigger_tracked t); hits = trigger_hits t }
 
--- a table and an achievement keep so many
+-- a table and an achievement keep this many
 pub record HaveCounts (n : Counts) (table : TableSeen) (trigger : TriggerKept) : Type 0 where
   pub cells : length table.cells ≡ n.cells
   pub priors : length table.priors ≡ n.priors

@@ -1,4 +1,4 @@
--- Why an unlock came, by the history behind: docs/DEFINITIONS.md, "Explanations".
+-- Why an unlock came, by the history so far: docs/DEFINITIONS.md, "Explanations".
 use Rattle.std.specs.Prelude.{◌≡◌, ℕ, ◌+◌, ◌-◌, ◌*◌, ◌≤◌, Bool, if◌then◌else◌, List, [], ◌∷◌, length, drop, reverse}
 use Rattle.std.specs.List.{flat_map}
 use Rattle.ra_condition.specs.Contents.{TriggerContents, groups_of, trigger_hits}
@@ -12,12 +12,12 @@ use Rattle.ra_explain.specs.Recorders.{plain_start, kept_after, row_of, rows_beh
 abbrev pub rows_along : TriggerContents → History → List Bool
 rows_along t history = flat_map (λ row. row) (reverse (rows_behind t history))
 
--- the hits are cleared at this image behind a history
+-- the hits are cleared at this image after a history
 abbrev pub clears_last : TriggerContents → List ℕ → History → Bool
 clears_last t image earlier =
     clears_at t (row_of t (image ∷ earlier)) (lefts_at plain_start (image ∷ earlier) (groups_of t)) (kept_after t earlier)
 
--- the row behind the latest frame at which the hits are cleared, or 0
+-- the row after the latest frame at which the hits are cleared, or 0
 abbrev pub after_clear : TriggerContents → History → ℕ
 after_clear t [] = 0
 after_clear t (image ∷ earlier) = if clears_last t image earlier then length (image ∷ earlier) else after_clear t earlier

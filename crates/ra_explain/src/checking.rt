@@ -13,7 +13,7 @@ use std::alloc::Global;
 
 /// Whether rows are explained: docs/DEFINITIONS.md, "Explanations".
 ///
-/// There are `last` + 1 rows, one behind the other, `since` is one of them, and there is a list of events for each
+/// There are `last` + 1 rows, one after the other, `since` is one of them, and there is a list of events for each
 /// condition.
 pub fn verify(
     alloc: Global,

@@ -13,7 +13,7 @@ use ra_memref::Table;
 use ra_text::OutOfMemory;
 use std::alloc::Global;
 
-// A table over the trees of a trigger and images of so many bytes, made to look at them or to be told of writes, and
+// A table over the trees of a trigger and images of this many bytes, made to look at them or to be told of writes, and
 // the trigger's plan.
 pub(crate) fn laid_out(
     alloc: Global,

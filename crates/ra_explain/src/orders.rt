@@ -34,7 +34,7 @@ pub(crate) fn orders_of(alloc: Global, text: &TriggerText) -> Result<Orders, Out
     Ok(orders)
 }
 
-// Puts the pass order of a group behind the others.
+// Puts the pass order of a group after the others.
 fn put_group(alloc: Global, orders: &mut Orders, group: &Group) -> Result<(), OutOfMemory>
     ensures order { OnOk result (orders.new.order.items
         ≡ orders.old.order.items ++ pass_order (group_contents group.now)) }

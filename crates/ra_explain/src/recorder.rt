@@ -16,7 +16,7 @@ use std::sync::ledger::Ledger;
 /// An achievement over a memory, with the comparisons of its conditions at each frame: docs/DEFINITIONS.md,
 /// "Recorders".
 ///
-/// It is seen as its trigger, the image, how many frames it has taken, what it keeps of the history behind,
+/// It is seen as its trigger, the image, how many frames it has taken, what it keeps of the history so far,
 /// what each slot keeps, and whether the last frame was an unlock.
 #[derive(Drop)]
 pub struct Recorder {
@@ -43,7 +43,7 @@ impl Recorder {
 
     /// An achievement over a memory of `size` bytes, all 0, before the first frame.
     ///
-    /// At most 65,536 conditions and 134,217,728 bytes. On want of memory the text is given up.
+    /// At most 65,536 conditions and 134,217,728 bytes. When memory runs out, the text is given up.
     pub fn new(alloc: Global, text: TriggerText, size: u32) -> Result<Recorder, OutOfMemory>
         requires few { trigger_hits (trigger_contents text) ≤ 65536 }
         requires spelled { IsTrigger (trigger_contents text) }
@@ -84,7 +84,7 @@ impl Recorder {
         })
     }
 
-    /// Keeps the present moment in a slot, from 0 to 15. On want of memory the recorder is unchanged.
+    /// Keeps the present moment in a slot, from 0 to 15. When memory runs out, the recorder is unchanged.
     pub fn save(&mut self, slot: u8) -> Result<(), OutOfMemory>
         requires { slot < 16 }
         ensures saved { OnOk result (IsSaved self.old self.new slot) }
@@ -113,7 +113,7 @@ impl Recorder {
         self.recording.restore(slot);
     }
 
-    /// The comparisons at all frames of the history behind, row by row, core first.
+    /// The comparisons at all frames of the history so far, row by row, core first.
     pub fn rows(&self, alloc: Global) -> Result<Vec<bool>, OutOfMemory>
         ensures { IfOk result (λ rows. rows.items ≡ rows_in_order self.now.kept) }
     {

@@ -37,7 +37,7 @@ pub struct Recording {
     table: Table,
     run: TriggerRun,
     rows: RowList,
-    // the place of the latest row of the history behind
+    // the place of the latest row of the history so far
     latest: u32,
     slots: Vec<Option<Slot>>,
     unlocked: bool,
@@ -64,7 +64,7 @@ impl Recording {
     /// An achievement over images of `size` bytes, before the first frame.
     ///
     /// At most 65,536 conditions and 134,217,728 bytes. It is made to be told of writes: it has a list for each page
-    /// of the image. On want of memory the text is given up.
+    /// of the image. When memory runs out, the text is given up.
     pub fn new(alloc: Global, text: TriggerText, size: u32) -> Result<Recording, OutOfMemory>
         requires few { trigger_hits (trigger_contents text) ≤ 65536 }
         requires spelled { IsTrigger (trigger_contents text) }
@@ -214,7 +214,7 @@ impl Recording {
         self.frame(image)
     }
 
-    /// Keeps the present moment in a slot, from 0 to 15. On want of memory the recording is unchanged.
+    /// Keeps the present moment in a slot, from 0 to 15. When memory runs out, the recording is unchanged.
     pub fn save(&mut self, slot: u8) -> Result<(), OutOfMemory>
         requires { slot < 16 }
         ensures saved { OnOk result (SavesIn self.old self.new slot) }
@@ -254,7 +254,7 @@ impl Recording {
         self.unlocked = false;
     }
 
-    /// The comparisons at all frames of the history behind, row by row, core first.
+    /// The comparisons at all frames of the history so far, row by row, core first.
     pub fn rows(&self, alloc: Global) -> Result<Vec<bool>, OutOfMemory>
         ensures { IfOk result (λ rows. rows.items ≡ rows_in_order self.now.kept) }
     {

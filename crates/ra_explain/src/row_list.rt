@@ -22,9 +22,9 @@ use std::marker::Model;
 #[derive(Drop)]
 pub(crate) struct RowList {
     width: usize,
-    // the comparisons of all rows, one row behind the other
+    // the comparisons of all rows, one row after the other
     truths: Vec<bool>,
-    // for each row the place that it comes behind
+    // for each row the place that it comes after
     links: Vec<u32>,
 }
 
@@ -41,7 +41,7 @@ impl Model for RowList {
 }
 
 impl RowList {
-    // No rows, of so many comparisons each.
+    // No rows, of this many comparisons each.
     pub(crate) fn new(alloc: Global, width: usize) -> RowList
         ensures { result ≡ record { width = width; behind = [] ∷ [] } }
     {
@@ -59,7 +59,7 @@ impl RowList {
         self.links.len()
     }
 
-    // Adds a row in which no comparison holds, behind a place.
+    // Adds a row in which no comparison holds, after a place.
     pub(crate) fn add(&mut self, before: u32) -> Result<(), OutOfMemory>
         requires there { before < length self.old.behind }
         requires few { length self.old.behind * (self.old.width + 1) ≤ 67108864 }

@@ -52,7 +52,7 @@ impl Slot {
     }
 }
 
-// Puts numbers as words behind the bytes.
+// Puts numbers as words after the bytes.
 fn put_words(bytes: &mut Vec<u8>, numbers: &[u32]) -> Result<(), OutOfMemory>
     ensures words { OnOk result (bytes.new.items ≡ bytes.old.items ++ words numbers.now) }
     ensures fit { FitWords numbers.now }

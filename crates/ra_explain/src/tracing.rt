@@ -42,7 +42,7 @@ pub(crate) fn trace(
     Ok(Some(events))
 }
 
-// So many conditions without events.
+// This many conditions without events.
 fn no_events(alloc: Global, count: usize) -> Result<Vec<Events>, OutOfMemory>
     ensures { IfOk result (λ events. contents_of events.items ≡ replicate count []) }
 {

@@ -20,7 +20,7 @@ ghost use Rattle.ra_lint.specs.Verdicts.{all_meet, some_meet};
 
 /// What warnings say holds after every history: docs/DEFINITIONS.md, "Warnings".
 ///
-/// A law: it does nothing.
+/// A law; no effect at run time.
 pub fn warnings_hold()
     ensures { (place : Place) (t : TriggerContents) → IsTrigger t → AreSound place t }
 {}
@@ -28,7 +28,7 @@ pub fn warnings_hold()
 /// The value of each tree whose constants are numbers of 32 bits lies in its range, whatever stands before the first
 /// frame and after every history: docs/DEFINITIONS.md, "Ranges".
 ///
-/// A law: it does nothing.
+/// A law; no effect at run time.
 pub fn ranges_hold()
     ensures { (start : Start) (history : History) (tree : Tree) → HasSmallConstants tree
         → IsIn (value_of start tree history) (range_of tree) }
@@ -36,7 +36,7 @@ pub fn ranges_hold()
 
 /// Ranges are judged by all numbers in them: docs/DEFINITIONS.md, "Comparisons that never or always hold".
 ///
-/// A law: it does nothing.
+/// A law; no effect at run time.
 pub fn verdicts_hold()
     ensures some { (op : Op) (left right : Range) → IsOrdered left → IsOrdered right
         → (some_meet op left right ≡ true) ↔ SomeMeet op left right }
@@ -47,7 +47,7 @@ pub fn verdicts_hold()
 /// A set that a file spells has fewer than 2^32 alt groups, so each has a number of 32 bits:
 /// docs/DEFINITIONS.md, "Warnings".
 ///
-/// A law: it does nothing.
+/// A law; no effect at run time.
 pub fn accepted_sets_have_few_alts()
     ensures { (file : List ℕ) (set : SetContents) → IsSet file set → HasFewAlts set }
 {}

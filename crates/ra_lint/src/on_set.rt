@@ -17,7 +17,7 @@ use std::alloc::Global;
 ///
 /// They stand by items, then by triggers, then by groups, then by conditions, then by words; the word of an item is
 /// its last. The set is one that `parse_set` accepts: it is within the limits, some file spells it, and it has fewer
-/// than 2^32 alt groups. `OutOfMemory` comes for want of memory alone. It goes over each condition once.
+/// than 2^32 alt groups. `OutOfMemory` comes for running out of memory alone. It goes over each condition once.
 pub fn lint(alloc: Global, set: &Set) -> Result<Vec<Warning>, OutOfMemory>
     requires limits { IsWithinLimits (set_contents set.now) }
     requires spelled { IsSpelled (set_contents set.now) }

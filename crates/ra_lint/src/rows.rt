@@ -1,4 +1,4 @@
-//! Warnings put one behind the other.
+//! Warnings put one after the other.
 
 ghost use Rattle.std.specs.Prelude.{◌≡◌, ◌++◌, OnOk};
 ghost use Rattle.ra_lint.specs.Passing.{warning_at, warnings_by};

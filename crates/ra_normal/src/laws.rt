@@ -12,7 +12,7 @@ ghost use Rattle.ra_normal.specs.Laws.{IsAlike, condition_step};
 /// the first one and whatever hits the conditions have; the condition part resets nothing, and its number does not
 /// come from hits: docs/DEFINITIONS.md, "Normal text".
 ///
-/// A law: it does nothing.
+/// A law; no effect at run time.
 pub fn legacy_parts_are_condition_parts()
     ensures { (start : Start) (history : History) (terms : List Term) (hits : List ℕ) (old : ℕ)
         → IsPart (Legacy terms) → IsAlike start history terms (condition_step start history terms hits old) }

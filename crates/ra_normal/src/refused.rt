@@ -14,7 +14,7 @@ pub enum NormalRefused {
     Memory,
 }
 
-/// Want of memory is told as it is.
+/// Running out of memory is reported as such.
 impl From<OutOfMemory> for NormalRefused {
     ghost use Rattle.std.specs.Prelude.{◌≡◌};
     ghost use Rattle.ra_normal.specs.declared.refused.NormalRefused.TheVariants.{Memory};

@@ -23,11 +23,11 @@ use Rattle.ra_notices.specs.declared.notice.Word.TheVariants.{OpenChain, Twice, 
 
 -- ---- one condition
 
--- the chain goes on behind the condition at j, and the group ends there
+-- the chain goes on after the condition at j, and the group ends there
 abbrev pub is_open : List Condition → ℕ → Bool
 is_open cs j = combines (flag_at cs j) && (suc j == length cs)
 
--- the chain goes on behind the condition before j
+-- the chain goes on after the condition before j
 abbrev pub is_chained : List Condition → ℕ → Bool
 is_chained cs zero = false
 is_chained cs (suc i) = combines (flag_at cs i)

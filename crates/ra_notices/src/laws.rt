@@ -14,7 +14,7 @@ ghost use Rattle.ra_notices.specs.Notices.{is_locked};
 /// An achievement with `no-unlock` is not triggered at any frame of any history, from any opening in
 /// which it is not triggered: docs/DEFINITIONS.md, "Review of a set".
 ///
-/// A law: it does nothing.
+/// A law; no effect at run time.
 pub fn no_unlock()
     ensures { (start : Start) (t : TriggerContents) (kept : TriggerKept) (history : History)
         → IsTrigger t → is_locked t ≡ true → is_triggered kept.state ≡ false

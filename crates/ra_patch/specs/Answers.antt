@@ -53,7 +53,7 @@ pub record RefusesRead (bytes : List ℕ) (why : PatchRefused) : Type 0 where
   pub document : IsDocument bytes value
   pub refuses : RefusesValue value why
 
--- how a document is refused, by the first of these that comes; want of memory is no refusal of a document
+-- how a document is refused, by the first of these that comes; running out of memory is no refusal of a document
 abbrev pub RefusesDocument : List ℕ → PatchRefused → Type 0
 RefusesDocument bytes (Bytes found) = (document_limit < length bytes) × (found ≡ length bytes)
 RefusesDocument bytes NotJson = (length bytes ≤ document_limit) × ((d : Data) → Reads bytes d → ⊥)

@@ -19,7 +19,7 @@ board_line d =
     codes "L " ++ id_text d ++ codes " " ++ text_or_empty (codes "Format") d
     ++ codes " " ++ text_or_empty (codes "Mem") d ++ codes "\n"
 
--- a presence script behind a line "P", and nothing for the empty one
+-- a presence script after a line "P", and nothing for the empty one
 abbrev pub presence_lines : List ℕ → List ℕ
 presence_lines [] = []
 presence_lines (c ∷ cs) = codes "P\n" ++ c ∷ cs

@@ -92,7 +92,7 @@ wrong_field d = wrong_patch (patch_in d)
 abbrev pub holders_of : Data → List Data
 holders_of d = unwrap_or (option_and_then holders_in (patch_in d)) []
 
--- the items of a kind of these objects, those of one behind those of another
+-- the items of a kind of these objects, those of one after those of another
 abbrev pub items_of : ItemKind → List Data → List Data
 items_of kind holders = flat_map (own_items kind) holders
 

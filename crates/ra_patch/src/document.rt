@@ -24,14 +24,14 @@ use std::alloc::Global;
 /// Of several reasons why the document gives none the first is told, in this order: its bytes
 /// pass their limit; it is no JSON; a field is missing or wrong, with the first such; a text of an
 /// item would end its line or its word, with the first such item; the set file is refused, as
-/// `parse_set` refuses it. `Memory` comes for want of memory alone.
+/// `parse_set` refuses it. `Memory` comes for running out of memory alone.
 pub fn import(alloc: Global, bytes: &[u8]) -> Result<Imported, PatchRefused>
     ensures ok { IfOk result (λ given. Imports bytes.now given.text.items) }
     ensures set { IfOk result (λ given. IsSet given.text.items (set_contents given.set)) }
     ensures structure { IfOk result (λ given. IsSpelled (set_contents given.set)) }
     ensures err { IfErr result (λ why. why ≡ PatchRefused.Memory ⊎ RefusesDocument bytes.now why) }
 
-    // No other answer is given, want of memory aside.
+    // No other answer is given, running out of memory aside.
     ensures imported { (text : List ℕ) → Imports bytes.now text
         → MatchResult result (λ given. given.text.items ≡ text) (λ why. why ≡ PatchRefused.Memory) }
     ensures refused { (why : PatchRefused) → RefusesDocument bytes.now why
@@ -54,7 +54,7 @@ pub fn set_of(alloc: Global, bytes: &[u8]) -> Result<Vec<u8>, PatchRefused>
     ensures ok { IfOk result (λ text. Imports bytes.now text.items) }
     ensures err { IfErr result (λ why. why ≡ PatchRefused.Memory ⊎ RefusesDocument bytes.now why) }
 
-    // No other answer is given, want of memory aside.
+    // No other answer is given, running out of memory aside.
     ensures imported { (text : List ℕ) → Imports bytes.now text
         → MatchResult result (λ given. given.items ≡ text) (λ why. why ≡ PatchRefused.Memory) }
     ensures refused { (why : PatchRefused) → RefusesDocument bytes.now why

@@ -11,7 +11,7 @@ ghost use Rattle.ra_patch.specs.declared.refused.PatchRefused.{PatchRefused};
 /// A document gives at most one set file, or is refused for one reason, and never both:
 /// docs/DEFINITIONS.md, "Sets from JSON".
 ///
-/// A law: it does nothing.
+/// A law; no effect at run time.
 pub fn one_document_answer()
     ensures text { (bytes a b : List ℕ) → Imports bytes a → Imports bytes b → a ≡ b }
     ensures refusal { (bytes : List ℕ) (a b : PatchRefused)
@@ -23,7 +23,7 @@ pub fn one_document_answer()
 /// The text of an item without faults is bad exactly where its line alone, with its end, is no set
 /// file, and at the same place: docs/DEFINITIONS.md, "What is left of a document".
 ///
-/// A law: it does nothing.
+/// A law; no effect at run time.
 pub fn bad_texts()
     ensures { (kind : ItemKind) (d : Data) (at : ℕ) → fault_of kind d ≡ None
         → IsItemPlace kind (item_text kind d) (Some at)

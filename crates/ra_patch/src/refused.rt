@@ -98,7 +98,7 @@ pub enum PatchRefused {
         list: PatchList,
         index: u32,
     },
-    /// The set file is refused, never for want of memory.
+    /// The set file is refused, never for running out of memory.
     Set(SetRefused),
     /// There was no memory.
     Memory,

@@ -65,7 +65,7 @@ pub fn write_board(text: &mut String, item: &Value) -> Result<(), AllocError>
     writeln!(text, "L {id} {format} {board}")
 }
 
-// The presence script behind a line `P`, at the end of a text, and nothing for the empty one.
+// The presence script after a line `P`, at the end of a text, and nothing for the empty one.
 pub fn write_presence(text: &mut String, script: &str) -> Result<(), AllocError>
     ensures { OnOk result
         (string_bytes text.new ≡ string_bytes text.old ++ presence_lines script.now) }

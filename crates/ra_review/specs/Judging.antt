@@ -23,7 +23,7 @@ display_after opening.Open left =
     if is_nothing left then opening.Open else if begins (is_in (only (codes "?"))) left then opening.Open else opening.Closed
 display_after opening.Closed left = opening.Closed
 
--- whether the display is open behind more lines of which this remains
+-- whether the display is open after more lines of which this remains
 abbrev pub opens : Display → List (List ℕ) → Bool
 opens opening.Before lines = is_open_after false lines
 opens opening.Open lines = is_open_after true lines

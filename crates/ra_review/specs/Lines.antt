@@ -18,7 +18,7 @@ use Rattle.ra_review.specs.Shown.{refusal, again, notice_line, format_line}
 abbrev pub is_space : ℕ → Bool
 is_space byte = (byte == 32) || (byte == 9) || (byte == 13)
 
--- `P` or `p` with nothing but spaces, tabs and carriage returns behind: the script stands behind the first such line
+-- `P` or `p` with nothing but spaces, tabs and carriage returns after: the script comes after the first such line
 abbrev pub opens_script : List ℕ → Bool
 opens_script [] = false
 opens_script (byte ∷ line) = ((byte == 80) || (byte == 112)) && list_all is_space line
@@ -28,7 +28,7 @@ abbrev pub front_lines : List (List ℕ) → List (List ℕ)
 front_lines [] = []
 front_lines (line ∷ lines) = if opens_script (content_of line) then line ∷ [] else line ∷ front_lines lines
 
--- the lines behind the line P, where there is one
+-- the lines after the line P, where there is one
 abbrev pub script_lines : List (List ℕ) → Option (List (List ℕ))
 script_lines [] = None
 script_lines (line ∷ lines) = if opens_script (content_of line) then Some lines else script_lines lines
@@ -63,7 +63,7 @@ abbrev pub before_space : List ℕ → List ℕ
 before_space [] = []
 before_space (byte ∷ text) = if byte == 32 then [] else byte ∷ before_space text
 
--- what stands behind the first space
+-- what follows the first space
 abbrev pub behind_space : List ℕ → List ℕ
 behind_space [] = []
 behind_space (byte ∷ text) = if byte == 32 then text else behind_space text
@@ -97,7 +97,7 @@ pub record Findings : Type 0 where
 abbrev pub nothing : Findings
 nothing = record { refusals = []; notices = []; items = [] }
 
--- what was found, and what comes behind it
+-- what was found, and what comes after it
 abbrev pub then_more : Findings → Findings → Findings
 then_more f g = record {
   refusals = f.refusals ++ g.refusals;

@@ -18,7 +18,7 @@ use Rattle.ra_review.specs.Reviews.{Said}
 use Rattle.ra_review.specs.Scripts.{ScriptVerdict, IsScriptVerdict, script_refusals, script_notices, parts_in}
 use Rattle.ra_review.specs.Lines.{Verdict, IsVerdict, row_of, first_with, Findings, then_more, item_findings, line_findings, FindsIn, front_lines, script_lines}
 
--- the lines stand one behind the other, and are counted
+-- the lines stand one after the other, and are counted
 pub record AreEntries (entries : Entries) (lines : List (List ℕ)) : Type 0 where
   pub text : entries.text.items ≡ flat_map (λ line. line) lines
   pub count : entries.count ≡ length lines
@@ -71,7 +71,8 @@ pub record AddsLine (line : List ℕ) (rows : List Line) (found : Findings) (rep
   pub is : IsVerdict line verdict
   pub reports : Reports report (rows ++ row_of verdict ∷ []) (then_more found (line_findings (suc (length rows)) rows line verdict))
 
--- the lines before the script were judged, and what they give was added; the script stands behind them, where there is one
+-- the lines before the script were judged, and what they give was added; the script comes after them, where there is
+-- one
 pub record ReportsFront (file : List ℕ) (report : Report) (script : Option (List ℕ)) : Type 0 where
   pub rows : List Line
   pub found : Findings
@@ -80,7 +81,7 @@ pub record ReportsFront (file : List ℕ) (report : Report) (script : Option (Li
   pub many : length rows ≡ length (front_lines (lines_of file))
   pub behind : script_lines (lines_of file) ≡ option_map lines_of script
 
--- the script behind the lines was judged, whose first line has this number, and what it gives was added
+-- the script after the lines was judged, whose first line has this number, and what it gives was added
 pub record ReviewsScript (number : ℕ) (text : List ℕ) (old new : Report) (read : Option ReadScript) : Type 0 where
   pub verdict : ScriptVerdict
   pub judged : IsScriptVerdict (Some (lines_of text)) verdict

@@ -20,7 +20,8 @@ use Rattle.ra_review.specs.Shown.{refusal, macro_line}
 abbrev pub display_line : Form ℕ LineContents
 display_line text line = tested_line text line ⊎ ((text ≡ [] → ⊥) × last_line text line)
 
--- whether a display is open behind lines of which this remains: a line `Display:`, and behind it only lines that begin with `?`
+-- whether a display is open after lines of which this remains: a line `Display:`, and after it only lines that begin
+-- with `?`
 abbrev pub is_open_after : Bool → List (List ℕ) → Bool
 is_open_after shown [] = shown
 is_open_after true (line ∷ lines) =
@@ -28,7 +29,7 @@ is_open_after true (line ∷ lines) =
     else begins (is_in (only (codes "?"))) line && is_open_after true lines
 is_open_after false (line ∷ lines) = is_open_after (bytes_eq (codes "Display:") line) lines
 
--- a display is open behind the first lines of a script
+-- a display is open after the first lines of a script
 abbrev pub is_open : List (List ℕ) → Bool
 is_open contents = is_open_after false (map left_of contents)
 
@@ -37,7 +38,7 @@ abbrev pub IsPlaceIn : (shows : Bool) → List ℕ → ℕ → Type 0
 IsPlaceIn true line place = IsBadPlace display_line (left_of line) place
 IsPlaceIn false line place = place ≡ 0
 
--- the script is refused at a line, counted from 0, and at a place in it; behind the last line one counts that is empty
+-- the script is refused at a line, counted from 0, and at a place in it; after the last line one counts that is empty
 pub record IsBadLine (text : List ℕ) (index place : ℕ) : Type 0 where
   pub start : ℕ
   pub outside : IsOutside text start
@@ -52,7 +53,8 @@ kept_numbers number [] = []
 kept_numbers number (line ∷ lines) =
     if is_nothing (left_of line) then kept_numbers (suc number) lines else number ∷ kept_numbers (suc number) lines
 
--- the numbers of the lines of the display: those of which something remains, behind the first of which `Display:` remains
+-- the numbers of the lines of the display: those of which something remains, after the first of which `Display:`
+-- remains
 abbrev pub display_numbers : ℕ → List (List ℕ) → List ℕ
 display_numbers number [] = []
 display_numbers number (line ∷ lines) =

@@ -150,7 +150,7 @@ fn is_unknown(meaning: Meaning) -> bool
     matches!(meaning, Meaning::Unknown)
 }
 
-// The meanings behind that of a piece, if it has one.
+// The meanings after that of a piece, if it has one.
 fn behind_meaning<'a>(piece: &Piece, meanings: &'a [Meaning]) -> &'a [Meaning]
     ensures { result.now ≡ drop (values_of (piece_contents piece.now)) meanings.now }
 {

@@ -81,7 +81,7 @@ impl Display {
     ghost use Rattle.std.specs.Prelude.{◌≡◌};
     ghost use Rattle.ra_review.specs.Judging.{display_after};
 
-    /// Behind a line of which this remains.
+    /// After a line of which this remains.
     pub fn after(self, left: &[u8]) -> Display
         ensures { result ≡ display_after self left.now }
     {
@@ -93,7 +93,7 @@ impl Display {
     }
 }
 
-// Behind a line before the display.
+// After a line before the display.
 fn after_head(left: &[u8]) -> Display
     ensures { result ≡ display_after opening.Before left.now }
 {
@@ -104,7 +104,7 @@ fn after_head(left: &[u8]) -> Display
     }
 }
 
-// Behind a line of an open display.
+// After a line of an open display.
 fn after_line(left: &[u8]) -> Display
     ensures { result ≡ display_after opening.Open left.now }
 {

@@ -24,15 +24,15 @@ header_size bytes =
     then Some (from_le_bytes w32 (take 4 (drop 5 bytes)))
     else None
 
--- the place that a write record says, in the bytes behind its letter
+-- the place that a write record says, in the bytes after its letter
 abbrev pub place_in : List ℕ → ℕ
 place_in rest = from_le_bytes w32 (take 4 rest)
 
--- how many bytes a write record says that it has, in the bytes behind its letter
+-- how many bytes a write record says that it has, in the bytes after its letter
 abbrev pub count_in : List ℕ → ℕ
 count_in rest = from_le_bytes w16 (take 2 (drop 4 rest))
 
--- why no write record stands here, behind its letter, in a memory of this size
+-- why no write record stands here, after its letter, in a memory of this size
 abbrev pub write_refusal : ℕ → List ℕ → Option Why
 write_refusal size rest =
     if nat_lt (length rest) 6 then Some Cut
@@ -40,12 +40,12 @@ write_refusal size rest =
     else if nat_lt size (place_in rest + count_in rest) then Some PastMemory
     else None
 
--- why no save record stands here, behind its letter
+-- why no save record stands here, after its letter
 abbrev pub save_refusal : List ℕ → Option Why
 save_refusal [] = Some Cut
 save_refusal (slot ∷ rest) = if nat_lt last_slot slot then Some Slot else None
 
--- why no restore record stands here, behind its letter, by the slots that are filled
+-- why no restore record stands here, after its letter, by the slots that are filled
 abbrev pub restore_refusal : List Bool → List ℕ → Option Why
 restore_refusal filled [] = Some Cut
 restore_refusal filled (slot ∷ rest) =
@@ -84,18 +84,18 @@ pub record Pieces : Type 0 where
   pub entries : List Entry
   pub stop : Stop
 
--- a record in front of what is cut behind it
+-- a record in front of what is cut after it
 abbrev pub with_entry : Entry → Pieces → Pieces
 with_entry entry cut = record { entries = entry ∷ cut.entries; stop = cut.stop }
 
--- a record and what stands behind it, which `next` cuts on; nothing behind the end record is looked at
+-- a record and what follows it, which `next` cuts on; nothing after the end record is looked at
 abbrev pub cut_behind : (List Bool → ℕ → List ℕ → Pieces) → Entry → List Bool → ℕ → List ℕ → Pieces
 cut_behind next Ended filled at bytes = record { entries = Ended ∷ []; stop = Reached at }
 cut_behind next entry filled at bytes =
     let count = length (entry_bytes entry) in
     with_entry entry (next (filled_after entry filled) (at + count) (drop count bytes))
 
--- what is cut from here: the refusal, or the record and what stands behind it
+-- what is cut from here: the refusal, or the record and what follows it
 abbrev pub cut_unless : (List Bool → ℕ → List ℕ → Pieces) → Option Why → List Bool → ℕ → List ℕ → Pieces
 cut_unless next (Some why) filled at bytes = record { entries = []; stop = RefusedAt at why }
 cut_unless next None filled at bytes = cut_behind next (front bytes) filled at bytes

@@ -1,4 +1,4 @@
--- What a reader ends as once the record that it lent has ended: docs/DEFINITIONS.md, "Reading a trace".
+-- What a reader ends as once the record that it lent has ended: docs/INTERNALS.md, "Reading a trace".
 use Rattle.std.specs.Prelude.{◌≡◌, ℕ, Option, Some, Result, IfOk, OnErr, List}
 use Rattle.std.specs.Borrow.{Fml, MutBor}
 use Rattle.std.specs.Io.BufRead.{Rests}
@@ -8,7 +8,7 @@ use Rattle.ra_trace.specs.contracts.reader.Reader.{the_row}
 use Rattle.ra_trace.specs.Entries.{entry_of}
 use Rattle.ra_trace.specs.Reading.{ReaderSeen, Holds, StaysBefore, IsBehindRecord}
 
--- a record moved the reader behind it, which goes on to hold bytes of the file; an error leaves size and place
+-- a record moved the reader after it, which goes on to hold bytes of the file; an error leaves size and place
 pub record Ends (content : Option (List ℕ)) (result : Result Record TraceError) (old new : ReaderSeen) : Type 0 where
   pub sized : new.size ≡ old.size
   pub moved : IfOk result (λ found. IsBehindRecord (entry_of found) old new)

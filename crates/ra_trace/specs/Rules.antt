@@ -22,6 +22,6 @@ abbrev pub AllTakeFilled : List Bool → List Entry → Type 0
 AllTakeFilled filled [] = ⊤
 AllTakeFilled filled (entry ∷ more) = TakesFilled filled entry × AllTakeFilled (filled_after entry filled) more
 
--- the trace of these records and the end record behind them
+-- the trace of these records and the end record after them
 abbrev pub whole_trace : ℕ → List Entry → Trace
 whole_trace size entries = record { size = size; entries = entries ++ Ended ∷ []; stop = Reached (length (trace_bytes size entries)) }

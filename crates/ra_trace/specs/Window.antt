@@ -1,4 +1,4 @@
--- The bytes that a reader of a trace holds of its file: docs/DEFINITIONS.md, "Reading a trace".
+-- The bytes that a reader of a trace holds of its file: docs/INTERNALS.md, "Reading a trace".
 use Rattle.std.specs.Prelude.{◌≡◌, ℕ, ◌+◌, ◌<◌, ◌≤◌, Option, Some, List, ◌++◌, length, take, drop}
 
 -- how many bytes a window has room for
@@ -10,7 +10,8 @@ pub record IsWindow (room held : ℕ) : Type 0 where
   pub buffer : room ≡ room_of
   pub within : held ≤ room
 
--- n bytes were read behind those that were held, from a place of the file on, and none only at its end where some might have come
+-- n bytes were read after those that were held, from a place of the file on, and none only at its end where some might
+-- have come
 pub record ReadsBehind (content : Option (List ℕ)) (at most n : ℕ) (old new : List ℕ) : Type 0 where
   pub fewer : n ≤ most
   pub long : length new ≡ length old + n

@@ -10,7 +10,7 @@ drawn x = (x * 1664525 + 1013904223) % 2 ^ 32
 abbrev pub given : ℕ → ℕ
 given x = x / 65536
 
--- the number after so many draws
+-- the number after this many draws
 abbrev pub drawn_times : ℕ → ℕ → ℕ
 drawn_times zero x = x
 drawn_times (suc n) x = drawn_times n (drawn x)
@@ -34,7 +34,7 @@ unfoldable pub drawn_line : ℕ → ℕ → List ℕ
 drawn_line id x =
     achievement_line id (given (drawn x)) (given (drawn_times 2 x)) (given (drawn_times 3 x)) (1 + given (drawn_times 4 x) % 8)
 
--- the lines of so many achievements, from this id on
+-- the lines of this many achievements, from this id on
 unfoldable pub achievement_lines : ℕ → ℕ → ℕ → List ℕ
 achievement_lines zero id x = []
 achievement_lines (suc more) id x = drawn_line id x ++ achievement_lines more (id + 1) (drawn_times 4 x)
@@ -45,18 +45,18 @@ made_set number =
     achievement_lines 256 1 number
     ++ codes "L 1 VALUE STA:0xH0000>d0xH0000::CAN:0xH0001=0::SUB:0xH0002>d0xH0002::VAL:0x 0000\nP\nDisplay:\n@Number(0xX0000)\n"
 
--- so many writes of one drawn byte each, before the records behind them
+-- this many writes of one drawn byte each, before the records after them
 unfoldable pub writes : ℕ → ℕ → List Entry → List Entry
 writes zero x after = after
 writes (suc more) x after =
     Written (given (drawn x)) (given (drawn_times 2 x) % 256 ∷ []) ∷ writes more (drawn_times 2 x) after
 
--- the records behind a frame: every 64 frames a save, every 512 a show and a restore, and then those behind
+-- the records after a frame: every 64 frames a save, every 512 a show and a restore, and then those after
 abbrev pub after_frame : ℕ → List Entry → List Entry
 after_frame f after =
     (if f % 64 == 63 then Saved (f / 64 % 16) ∷ [] else []) ++ (if f % 512 == 511 then Shown ∷ Restored 0 ∷ [] else []) ++ after
 
--- the records of so many frames, from this one on, and the end
+-- the records of this many frames, from this one on, and the end
 unfoldable pub frames : ℕ → ℕ → ℕ → List Entry
 frames zero f x = Ended ∷ []
 frames (suc more) f x = writes 8 x (Framed ∷ after_frame f (frames more (f + 1) (drawn_times 16 x)))

@@ -41,7 +41,7 @@ impl fmt::Display for Why {
 
 impl Error for Why {}
 
-/// Why no record is answered: docs/DEFINITIONS.md, "Reading a trace".
+/// Why no record is answered: docs/INTERNALS.md, "Reading a trace".
 #[derive(Clone, Copy, Debug, PartialEq, Eq)]
 pub enum TraceError {
     /// The place of the header or of the first bad record, in bytes from 0, and the reason.

@@ -12,7 +12,7 @@ use std::fmt::Write;
 // How many achievements a set has.
 const ACHIEVEMENTS: u32 = 256;
 
-// The lines behind the achievements.
+// The lines after the achievements.
 const LEADERBOARD_AND_PRESENCE: &str =
     "L 1 VALUE STA:0xH0000>d0xH0000::CAN:0xH0001=0::SUB:0xH0002>d0xH0002::VAL:0x 0000\nP\nDisplay:\n@Number(0xX0000)\n";
 
@@ -30,7 +30,7 @@ fn write_achievement(text: &mut String, id: u32, draws: &mut Draws) -> Result<()
     write!(text, ".{target}._R:0xH{c}=255\n")
 }
 
-// Writes so many achievements, from the id 1 on.
+// Writes this many achievements, from the id 1 on.
 fn write_achievements(text: &mut String, count: u32, draws: &mut Draws) -> Result<(), AllocError>
     requires { count < 65536 }
     ensures { OnOk result (string_bytes text.new ≡ string_bytes text.old ++ achievement_lines count 1 draws.old) }

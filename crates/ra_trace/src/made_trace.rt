@@ -19,7 +19,7 @@ const WRITES: u32 = 8;
 // How many frames a trace has.
 const FRAMES: u32 = 4_096;
 
-// Writes so many drawn bytes.
+// Writes this many drawn bytes.
 fn write_bytes(writer: &mut Writer, count: u32, draws: &mut Draws) -> Result<(), OutOfMemory>
     requires { writer.old.size ≡ made_size }
     ensures records { OnOk result (writer.new ≡ with_records writer.old (writes count draws.old [])) }

@@ -104,8 +104,8 @@ impl Writer {
         Ok(())
     }
 
-    /// The bytes, with the end record behind them: they are cut into the records that were written, and the end. On
-    /// want of memory they are given up.
+    /// The bytes, with the end record after them: they are cut into the records that were written, and the end. On
+    /// running out of memory they are given up.
     #[tactic(auto, using(crate::proofs::Writes::wrote_all))]
     pub fn finish(self) -> Result<Vec<u8>, OutOfMemory>
         ensures ok { IfOk result (λ bytes. bytes.items ≡ self.bytes ++ entry_bytes Ended) }
