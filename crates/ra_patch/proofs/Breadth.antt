@@ -276,18 +276,18 @@ all-items kind (d ∷ ds) n h =
     omega (arith, sum, product)
 
 few-holders : (o : Option (List Data)) → Holders 16777217 o → (kind : ItemKind) (ds : List Data) → o ≡ Some ds
-    → length (items_of kind ds) < 2 ^ 64
+    → length (items_of kind ds) < 2 ^ 49
 few-holders None h kind ds e = absurd (cc e)
 few-holders (Some es) h kind ds e =
-    let same : es ≡ ds = cc e in subst (λ x. length (items_of kind x) < 2 ^ 64) same
+    let same : es ≡ ds = cc e in subst (λ x. length (items_of kind x) < 2 ^ 49) same
     (bound (all-items kind es 16777217 h.1)) where
-      bound : length (items_of kind es) ≤ length es * 16777217 → length (items_of kind es) < 2 ^ 64
+      bound : length (items_of kind es) ≤ length es * 16777217 → length (items_of kind es) < 2 ^ 49
       bound le = omega (arith, mul-le-mul_right 16777217 h.0)
 
--- the objects that have the lists of a document have fewer items together than a word can count
+-- the objects that have the lists of a document have few items together
 pub few-items : (d : Data) → (bytes : List ℕ) × IsDocument bytes d
     → (kind : ItemKind) (patch : Data) (holders : List Data)
-    → patch_in d ≡ Some patch → holders_in patch ≡ Some holders → length (items_of kind holders) < 2 ^ 64
+    → patch_in d ≡ Some patch → holders_in patch ≡ Some holders → length (items_of kind holders) < 2 ^ 49
 few-items d document kind patch holders is of_patch =
     let broad : breadth d ≤ 16777217 = omega (arith, breadth-read document.0 d document.1.reads.1, document.1.few) in
     let within : AtMost breadth 16777217 (Some patch) =

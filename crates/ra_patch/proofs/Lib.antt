@@ -9,6 +9,7 @@ pub mod KeptLemmas
 pub mod LeavingLemmas
 pub mod LeftLemmas
 pub mod LineLemmas
+pub mod OfficialLemmas
 pub mod SiftLemmas
 pub mod TokenBreadth
 pub mod WholeLemmas

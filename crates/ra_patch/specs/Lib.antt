@@ -5,6 +5,7 @@ pub mod Fields
 pub mod Leaving
 pub mod LeftAnswers
 pub mod Lines
+pub mod Official
 pub mod Patches
 pub mod Sifting
 pub mod Words

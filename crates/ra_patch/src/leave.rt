@@ -5,7 +5,9 @@ ghost use Rattle.serde_json.specs.View.{view};
 ghost use Rattle.ra_set.specs.Accepted.{IsSet};
 ghost use Rattle.ra_set.specs.Contents.{SetContents};
 ghost use Rattle.ra_patch.specs.Answers.{Imports, IsDocument};
-ghost use Rattle.ra_patch.specs.LeftAnswers.{HasOwnLists, KeepsGrammar, LeavesDocument, LeavesLists, LeavesNothing, LeavesValue};
+ghost use Rattle.ra_patch.specs.LeftAnswers.{HasOwnLists, KeepsGrammar, LeavesDocument};
+ghost use Rattle.ra_patch.specs.LeftAnswers.{LeavesLists, LeavesNothing, LeavesWanted};
+ghost use Rattle.ra_patch.specs.Official.{wanted};
 ghost use Rattle.ra_patch.specs.Patches as spec;
 ghost use Rattle.ra_patch.specs.declared.left_out.LeftOut.{LeftOut};
 
@@ -15,6 +17,7 @@ use crate::left::Left;
 use crate::patches::{holders_of, patch_of, wrong_list};
 use crate::read::read_document;
 use crate::refused::{MOST_BYTES, PatchRefused};
+use crate::scope::Scope;
 use crate::sifted::Sifted;
 use ra_text::OutOfMemory;
 use serde_json::Value;
@@ -51,23 +54,36 @@ pub fn left_of(alloc: Global, bytes: &[u8]) -> Result<Left, DocumentRefused>
     ensures whole { IfOk result (λ left. left.left_out.items ≡ [] → HasOwnLists bytes.now
         → (set : SetContents) → IsSet left.text.items set → Imports bytes.now left.text.items) }
 {
+    let document = document_of(alloc, bytes)?;
+    left_of_value(alloc, Scope::All, &document)
+}
+
+// The value of a document.
+pub(crate) fn document_of(alloc: Global, bytes: &[u8]) -> Result<Value, DocumentRefused>
+    ensures ok { IfOk result (λ value. IsDocument bytes.now (view value)) }
+    ensures err { IfErr result (λ why. why ≡ DocumentRefused.Memory ⊎ LeavesNothing bytes.now why) }
+{
     if bytes.len() > MOST_BYTES {
         return Err(DocumentRefused::Bytes {
             found: bytes.len() as u64,
         });
     }
     match read_document(alloc, bytes) {
-        Ok(document) => left_of_value(alloc, &document),
+        Ok(document) => Ok(document),
         Err(PatchRefused::Memory) => Err(DocumentRefused::Memory),
         Err(_) => Err(DocumentRefused::NotJson),
     }
 }
 
-// What is left of a document's value.
-fn left_of_value(alloc: Global, document: &Value) -> Result<Left, DocumentRefused>
+// What is left of a document's value, as far as its achievements are looked at.
+pub(crate) fn left_of_value(
+    alloc: Global,
+    scope: Scope,
+    document: &Value,
+) -> Result<Left, DocumentRefused>
     requires { (bytes : List ℕ) × IsDocument bytes (view document.now) }
     ensures ok { IfOk result
-        (λ left. LeavesValue (view document.now) left.text.items left.left_out.items) }
+        (λ left. LeavesWanted scope (view document.now) left.text.items left.left_out.items) }
     ensures err { IfErr result (λ why. why ≡ DocumentRefused.Memory
         ⊎ ((field : RootField) × (why ≡ DocumentRefused.Root field)
         × (spec.wrong_field (view document.now) ≡ Some field))) }
@@ -80,7 +96,7 @@ fn left_of_value(alloc: Global, document: &Value) -> Result<Left, DocumentRefuse
     };
     match wrong_list(holders) {
         Some(field) => Err(wrong(field)),
-        None => Ok(sift(alloc, patch, holders)?),
+        None => Ok(sift(alloc, scope, patch, holders)?),
     }
 }
 
@@ -91,18 +107,18 @@ fn wrong(field: RootField) -> DocumentRefused
     DocumentRefused::Root { field }
 }
 
-// What is left of a patch whose lists these objects have.
-fn sift(alloc: Global, patch: &Value, holders: &[Value]) -> Result<Left, OutOfMemory>
+// What is left of a patch whose lists these objects have, as far as the achievements are looked at.
+fn sift(alloc: Global, scope: Scope, patch: &Value, holders: &[Value]) -> Result<Left, OutOfMemory>
     requires achievements { length (spec.items_of ItemKind.Achievement (map view holders.now)) < 2 ^ 64 }
     requires boards { length (spec.items_of ItemKind.Leaderboard (map view holders.now)) < 2 ^ 64 }
     ensures { IfOk result (λ left. LeavesLists
-        (spec.items_of ItemKind.Achievement (map view holders.now))
+        (wanted scope (spec.items_of ItemKind.Achievement (map view holders.now)))
         (spec.items_of ItemKind.Leaderboard (map view holders.now))
         (spec.script_in (view patch.now)) left.text.items left.left_out.items) }
 {
     let mut sifted = Sifted::new(alloc);
-    sifted.take_list(alloc, ItemKind::Achievement, holders)?;
-    sifted.take_list(alloc, ItemKind::Leaderboard, holders)?;
+    sifted.take_list(alloc, ItemKind::Achievement, scope, holders)?;
+    sifted.take_list(alloc, ItemKind::Leaderboard, Scope::All, holders)?;
     sifted.take_script(alloc, patch)?;
     Ok(sifted.left())
 }

@@ -8,6 +8,7 @@ use crate::left::Left;
 use crate::left_out::{LeftCause, LeftList, LeftOut};
 use crate::patches::{items_or_none, script_of};
 use crate::refused::PatchField;
+use crate::scope::{Scope, is_wanted};
 use crate::text::{write_achievement, write_board, write_presence};
 use crate::verdict::{script_place, verdict};
 use ra_text::OutOfMemory;
@@ -27,11 +28,13 @@ pub struct Sifted {
 }
 
 impl Sifted {
+    ghost use Rattle.std.specs.Prelude.{◌≤◌};
     ghost use Rattle.std.specs.Prelude.{◌≡◌, ◌+◌, ◌<◌, ◌^◌, ◌++◌, ◌∷◌, [], ℕ, false, List, None, Some, OnOk, length, map, string_bytes};
     ghost use Rattle.serde_json.specs.Data.{Data};
     ghost use Rattle.serde_json.specs.View.{view};
     ghost use Rattle.ra_patch.specs.Leaving as spec;
     ghost use Rattle.ra_patch.specs.Leaving.{script_row};
+    ghost use Rattle.ra_patch.specs.Official.{wanted};
     ghost use Rattle.ra_patch.specs.Patches.{items_of, script_in};
     ghost use Rattle.ra_patch.specs.Sifting.{Puts, Sifts, SiftsScript, holds};
 
@@ -48,20 +51,21 @@ impl Sifted {
         }
     }
 
-    /// Reads a whole list: the items of a kind of each of these objects.
+    /// Reads a whole list: the items of a kind of each of these objects, as far as they are looked at.
     pub fn take_list(
         &mut self,
         alloc: Global,
         kind: ItemKind,
+        scope: Scope,
         holders: &[Value],
     ) -> Result<(), OutOfMemory>
         requires { length (items_of kind (map view holders.now)) < 2 ^ 64 }
         ensures { OnOk result
-            (Sifts kind self.old (items_of kind (map view holders.now)) self.new) }
+            (Sifts kind self.old (wanted scope (items_of kind (map view holders.now))) self.new) }
     {
         self.restart(alloc);
         for holder in holders {
-            self.take_items(alloc, kind, items_or_none(kind, holder))?;
+            self.take_items(alloc, kind, scope, items_or_none(kind, holder))?;
         }
         Ok(())
     }
@@ -77,22 +81,44 @@ impl Sifted {
         self.count = 0;
     }
 
-    // Reads items behind others of the list.
+    // Reads items after others of the list, as far as they are looked at.
     fn take_items(
         &mut self,
         alloc: Global,
         kind: ItemKind,
+        scope: Scope,
         items: &[Value],
     ) -> Result<(), OutOfMemory>
         requires { self.old.count + length items.now < 2 ^ 64 }
         ensures { OnOk result ((start : Sifted) (before : List Data)
             → Sifts kind start before self.old
-            → Sifts kind start (before ++ map view items.now) self.new) }
+            → Sifts kind start (before ++ wanted scope (map view items.now)) self.new) }
     {
         for item in items {
-            self.take_item(alloc, kind, item)?;
+            self.take_wanted(alloc, kind, scope, item)?;
         }
         Ok(())
+    }
+
+    // Reads one item more of the list where it is looked at.
+    fn take_wanted(
+        &mut self,
+        alloc: Global,
+        kind: ItemKind,
+        scope: Scope,
+        item: &Value,
+    ) -> Result<(), OutOfMemory>
+        requires { self.old.count + 1 < 2 ^ 64 }
+        ensures sifts { OnOk result ((start : Sifted) (before : List Data)
+            → Sifts kind start before self.old
+            → Sifts kind start (before ++ wanted scope (view item.now ∷ [])) self.new) }
+        ensures count { OnOk result (self.new.count ≤ self.old.count + 1) }
+    {
+        if is_wanted(scope, item) {
+            self.take_item(alloc, kind, item)
+        } else {
+            Ok(())
+        }
     }
 
     // Reads one item more of the list.
