@@ -8,6 +8,7 @@ pub mod LaidShapes
 pub mod LineLemmas
 pub mod MadeLemmas
 pub mod MarkedLemmas
+pub mod Results
 pub mod SavedOpening
 pub mod ShowLemmas
 pub mod TakenNumbers

@@ -14,7 +14,7 @@ use Rattle.ra_items.specs.Restoring.{HasItem}
 use Rattle.ra_display.specs.PresenceBack.{HasDisplay}
 use Rattle.ra_meaning.specs.Earned.{both_earned, earned_in, with_earned}
 use Rattle.ra_meaning.specs.Order.{set_cells, shape_of}
-use Rattle.ra_meaning.specs.Runtime.{StandsAfter, TakesUp}
+use Rattle.ra_meaning.specs.Runtime.{RuntimeSeen, StandsAfter, TakesUp}
 use Rattle.ra_runtime.specs.Courses.{CourseSeen, over, IsCurrent}
 use Rattle.ra_runtime.specs.declared.kept.Kept.TheInside.{Inside}
 
@@ -92,6 +92,18 @@ pub record Takes (old new : CourseSeen) (opening : Opening) : Type 0 where
   pub marked : new.marked ≡ replicate (length (set_cells old.set)) true
   pub places : new.places ≡ old.places
   pub current : (image : List ℕ) → IsCurrent (over new image)
+
+-- what is seen of a runtime without its image, as a course is seen
+abbrev pub course_of : RuntimeSeen → CourseSeen
+course_of runtime = record {
+  set = runtime.set;
+  size = length runtime.image;
+  kept = runtime.kept;
+  events = runtime.events;
+  lines = runtime.lines;
+  marked = runtime.marked;
+  places = runtime.places;
+}
 
 -- A taken state is a restored one: the course stands after each history after which the one that was kept stood, and is what a restore of that one's own bytes makes of it.
 pub record TakesAsRestored (set : SetContents) : Type 0 where

@@ -75,7 +75,7 @@ impl Course {
 
     /// A set over images of `size` bytes, before the first frame: docs/DEFINITIONS.md, "What a runtime keeps".
     ///
-    /// It is made to be told of writes: it has a list for each page of the image. On want of memory the set is
+    /// It is made to be told of writes: it has a list for each page of the image. When memory runs out, the set is
     /// given up.
     pub fn new(alloc: Global, set: Set, size: u32) -> Result<Course, OutOfMemory>
         requires limits { IsWithinLimits (set_contents set) }
@@ -349,15 +349,15 @@ impl Course {
     }
 
     /// Puts the lines of the events of the last frame, where one came, at the end of a text; they are the text of
-    /// its events. On want of memory the text grew by a front of them.
+    /// its events. When memory runs out, the text grew by a front of them.
     pub fn tell_lines(&self, text: &mut Vec<u8>) -> Result<(), OutOfMemory>
         ensures put { OnOk result (text.new.items ≡ text.old.items ++ self.now.lines) }
         ensures front { OnErr result (GrewByFront text.old.items text.new.items self.now.lines) }
         ensures of_events { IsTextOf self.now.lines self.now.events }
     {
         match self.last {
-            Some(frame) => put_events(text, frame, self.events()),
-            None => Ok(()),
+            Some(frame) if self.rests.count > 0 => put_events(text, frame, self.events()),
+            _ => Ok(()),
         }
     }
 

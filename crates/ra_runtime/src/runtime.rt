@@ -14,6 +14,7 @@ ghost use Rattle.ra_meaning.specs.Saving.{IsSaved};
 ghost use Rattle.ra_set.specs.Spelled.{IsSpelled};
 
 use crate::course::Course;
+use crate::kept::{Kept, OtherSet};
 use crate::tallied::Tallied;
 use ra_items::{Events, ItemState};
 use ra_memory::{Counted, Memory, Steps};
@@ -48,12 +49,13 @@ impl Model for Runtime {
 impl Runtime {
     ghost use Rattle.ra_meaning.specs.Lines.{IsTextOf};
     ghost use Rattle.ra_meaning.specs.Runtime.{IsMade, IsWritten, ReadsFew, ShowsKept, TakesFrame, TakesUp};
+    ghost use Rattle.ra_runtime.specs.Keeping.{IsKeptFor, Takes, course_of};
     ghost use Rattle.ra_runtime.specs.Told.{CountsReads, GrewByFront};
 
     /// A set over a memory of `size` bytes, all 0, before the first frame: docs/DEFINITIONS.md, "What a
     /// runtime keeps".
     ///
-    /// On want of memory the set is given up.
+    /// When memory runs out, the set is given up.
     pub fn new(alloc: Global, set: Set, size: u32) -> Result<Runtime, OutOfMemory>
         requires limits { IsWithinLimits (set_contents set) }
         requires spelled { IsSpelled (set_contents set) }
@@ -104,6 +106,41 @@ impl Runtime {
         ensures err { OnErr result (self.new ≡ self.old) }
     {
         self.course.restore(bytes)
+    }
+
+    /// The state that it keeps now, with room for each later one of its set: docs/DEFINITIONS.md, "States kept in
+    /// memory".
+    pub fn kept(&self, alloc: Global) -> Result<Kept, OutOfMemory>
+        ensures holds { IfOk result (λ kept. kept.opening ≡ self.now.kept) }
+        ensures set { IfOk result (λ kept. IsKeptFor (shape_of self.now.set) kept) }
+    {
+        Kept::new(alloc, &self.course)
+    }
+
+    /// Keeps the present state in memory, in the place of the one that was kept there: docs/DEFINITIONS.md, "States kept in
+    /// memory".
+    ///
+    /// It is refused exactly where the room is for another set, and then it stays as it was. No memory is taken.
+    pub fn keep(&self, kept: &mut Kept) -> Result<(), OtherSet>
+        ensures kept { OnOk result (kept.new ≡ record kept.old { opening = self.now.kept }) }
+        ensures of_set { OnOk result (IsKeptFor (shape_of self.now.set) kept.old) }
+        ensures other { OnErr result (IsKeptFor (shape_of self.now.set) kept.old → ⊥) }
+        ensures err { OnErr result (kept.new ≡ kept.old) }
+    {
+        self.course.keep(kept)
+    }
+
+    /// Takes up a kept state, as a restore does: docs/DEFINITIONS.md, "States kept in memory". The image stays.
+    ///
+    /// What was earned stays earned. It is refused exactly where the state is of another set, and then nothing changes. No
+    /// memory is taken.
+    pub fn take(&mut self, kept: &Kept) -> Result<(), OtherSet>
+        ensures taken { OnOk result (Takes (course_of self.old) (course_of self.new) kept.now.opening) }
+        ensures image { self.new.image ≡ self.old.image }
+        ensures other { OnErr result (IsKeptFor (shape_of self.old.set) kept.now → ⊥) }
+        ensures err { OnErr result (self.new ≡ self.old) }
+    {
+        self.course.take(kept)
     }
 
     /// Takes one frame of every item: docs/DEFINITIONS.md, "What a runtime keeps". No memory is taken.
@@ -167,7 +204,8 @@ impl Runtime {
     }
 
     /// Puts the lines of the events of the last frame at the end of a text, in the room that it has:
-    /// docs/DEFINITIONS.md, "Printed lines". None where no frame came. On want of memory the text grew by a front of them.
+    /// docs/DEFINITIONS.md, "Printed lines". None where no frame came. When memory runs out, the text grew by a front
+    /// of them.
     pub fn put_lines(&self, text: &mut Vec<u8>) -> Result<(), OutOfMemory>
         ensures put { OnOk result (text.new.items ≡ text.old.items ++ self.now.lines) }
         ensures front { OnErr result (GrewByFront text.old.items text.new.items self.now.lines) }

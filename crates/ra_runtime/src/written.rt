@@ -24,6 +24,7 @@ pub(crate) struct Subject {
 }
 
 // Puts the lines of events at the end of a text, one after the other as each is whole.
+#[inline(never)]
 pub(crate) fn put_events(
     out: &mut Vec<u8>,
     frame: u64,
