@@ -17,6 +17,7 @@ use Rattle.ra_trace.specs.Reading.{ReaderSeen, Holds, Stands, IsBehindRecord, Is
 use Rattle.ra_meaning.specs.Runtime.{RuntimeSeen}
 use Rattle.ra_meaning.specs.Earned.{Earned}
 use Rattle.ra_meaning.specs.Play.{Moment, moved, printed, pieces_from, earned_next}
+use Rattle.ra_runtime.specs.Keeping.{KeptSeen}
 use Rattle.ra_session.specs.Endings.{ending_of}
 use Rattle.ra_session.specs.declared.ending.Ending.TheVariants.{BadTrace}
 use Rattle.ra_session.specs.Expected.{trace_limit}
@@ -67,7 +68,7 @@ module _ (bytes : List ℕ) (set : SetContents) (o : Opening) (m : Moment) (earn
       (refused.1, sym (grown-nil old) ∙ ap (λ es. grown old (concat (pieces_from set o m earned es))) (sym refused.0))
 
   -- no record was read
-  pub next_refused : (content : Option (List ℕ)) (new : ReaderSeen) (runtime : RuntimeSeen) (slots : List (Option (List ℕ))) (old : Option (List ℕ)) (why : TraceError) (r : Result Bool TraceFailed) → content ≡ Some bytes
+  pub next_refused : (content : Option (List ℕ)) (new : ReaderSeen) (runtime : RuntimeSeen) (slots : List (Option KeptSeen)) (old : Option (List ℕ)) (why : TraceError) (r : Result Bool TraceFailed) → content ≡ Some bytes
       → IfSome content (λ bytes. Holds reader bytes → IfSome reader.size (λ size. IsStop why (next_stop reader.limit size reader.next bytes))) → IsErrAnd r (λ e. e ≡ trace_failed why) → TakesNext bytes set o m earned left new runtime slots old old r
   next_refused content new runtime slots old why (Ok end) is_told err res = absurd res
   next_refused content new runtime slots old why (Err e) is_told err res =
@@ -88,7 +89,7 @@ module _ (bytes : List ℕ) (set : SetContents) (o : Opening) (m : Moment) (earn
           sym (grown-nil old) ∙ ap (λ (p : Pieces). grown old (concat (pieces_from set o m earned p.entries))) (sym end),
         )
 
-    module _ (runtime : RuntimeSeen) (slots : List (Option (List ℕ))) (text : List ℕ) (plays : Plays set o entry m earned runtime slots text) where
+    module _ (runtime : RuntimeSeen) (slots : List (Option KeptSeen)) (text : List ℕ) (plays : Plays set o entry m earned runtime slots text) where
       -- the record was the end
       pub next_ends : (old now : Option (List ℕ)) → entry ≡ Ended → now ≡ grown old text → IsAtEnd set o m earned left runtime slots old now
       next_ends old now end grew =

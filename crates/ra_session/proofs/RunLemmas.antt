@@ -26,6 +26,7 @@ use Rattle.ra_trace.specs.Reading.{IsStop, header_stop}
 use Rattle.ra_meaning.specs.Runtime.{RuntimeSeen}
 use Rattle.ra_meaning.specs.Earned.{Earned}
 use Rattle.ra_meaning.specs.Play.{first_moment, moment_after, earned_after, pieces_from, saved_end}
+use Rattle.ra_runtime.specs.Keeping.{KeptSeen}
 use Rattle.ra_session.specs.Endings.{ending_of}
 use Rattle.ra_session.specs.declared.ending.Ending.{Ending}
 use Rattle.ra_session.specs.declared.ending.Ending.TheVariants.{Done, NoMemory, NoJob, BadSet, ReadFault, SinkFault, BadProgress, BadTrace, LongTrace, SaveFault, BadDocument, LongNormal, NoAchievement, ManyRows}
@@ -112,7 +113,7 @@ bad_header set o behind earned bytes why old stop = by_header why (header_size (
     by_header errors.TooLong (Some size) is stop = absurd (cc)
 
 -- at the end of a good trace the bytes are those that a run saves
-pub saved_behind : (set : SetContents) (o : Opening) (behind : History) (earned : Earned) (bytes : List ℕ) (size : ℕ) (slots : List (Option (List ℕ))) (runtime : RuntimeSeen) → header_size (take trace_limit bytes) ≡ Some size
+pub saved_behind : (set : SetContents) (o : Opening) (behind : History) (earned : Earned) (bytes : List ℕ) (size : ℕ) (slots : List (Option KeptSeen)) (runtime : RuntimeSeen) → header_size (take trace_limit bytes) ≡ Some size
     → StandsAt set o (moment_after (first_moment size behind) (pieces_of size bytes).entries) (earned_after set o (first_moment size behind) earned (pieces_of size bytes).entries) runtime slots → kept_bytes runtime ≡ (played set o behind earned bytes).saved
 saved_behind set o behind earned bytes size slots runtime is stands =
     let seen = take trace_limit bytes in

@@ -14,6 +14,7 @@ use Rattle.ra_trace.specs.Reading.{ReaderSeen}
 use Rattle.ra_meaning.specs.Runtime.{RuntimeSeen}
 use Rattle.ra_meaning.specs.Earned.{Earned}
 use Rattle.ra_meaning.specs.Play.{Moment, moved, moment_after, printed, pieces_from, earned_next, earned_after}
+use Rattle.ra_runtime.specs.Keeping.{KeptSeen}
 use Rattle.ra_session.specs.Endings.{ending_of}
 use Rattle.ra_session.specs.declared.ending.Ending.{Ending}
 use Rattle.ra_session.specs.declared.ending.Ending.TheVariants.{Done, NoMemory, ReadFault, SinkFault, SaveFault}
@@ -27,7 +28,7 @@ use Rattle.ra_jobs.proofs.Pieces.{grown-grown, grown-nil}
 use Rattle.ra_jobs.proofs.Parts.{part_after}
 
 -- The records so far have printed the first pieces, and those that are left print the rest.
-pub record PlayedTo (bytes : List ℕ) (set : SetContents) (o : Opening) (m : Moment) (earned : Earned) (all : Pieces) (reader : ReaderSeen) (runtime : RuntimeSeen) (slots : List (Option (List ℕ))) (first now : Option (List ℕ)) : Type 0 where
+pub record PlayedTo (bytes : List ℕ) (set : SetContents) (o : Opening) (m : Moment) (earned : Earned) (all : Pieces) (reader : ReaderSeen) (runtime : RuntimeSeen) (slots : List (Option KeptSeen)) (first now : Option (List ℕ)) : Type 0 where
   pub moment : Moment
   pub now_earned : Earned
   pub rest : Pieces
@@ -41,11 +42,11 @@ pub record PlayedTo (bytes : List ℕ) (set : SetContents) (o : Opening) (m : Mo
   pub last_earned : earned_after set o moment now_earned rest.entries ≡ earned_after set o m earned all.entries
 
 -- before the first record nothing is printed
-pub played_none : (bytes : List ℕ) (set : SetContents) (o : Opening) (m : Moment) (earned : Earned) (all : Pieces) (reader : ReaderSeen) (runtime : RuntimeSeen) (slots : List (Option (List ℕ))) (first : Option (List ℕ))
+pub played_none : (bytes : List ℕ) (set : SetContents) (o : Opening) (m : Moment) (earned : Earned) (all : Pieces) (reader : ReaderSeen) (runtime : RuntimeSeen) (slots : List (Option KeptSeen)) (first : Option (List ℕ))
     → StandsAt set o m earned runtime slots → IsLeft bytes m reader all → PlayedTo bytes set o m earned all reader runtime slots first first
 played_none bytes set o m earned all reader runtime slots first stands left = record { moment = m; now_earned = earned; rest = all; left = left; stands = stands; before = []; pieces = refl; text = sym (grown-nil first); stop = refl; last = refl; last_earned = refl }
 
-module _ (bytes : List ℕ) (set : SetContents) (o : Opening) (m : Moment) (earned : Earned) (all : Pieces) (reader : ReaderSeen) (runtime : RuntimeSeen) (slots : List (Option (List ℕ))) (first now : Option (List ℕ)) (to : PlayedTo bytes set o m earned all reader runtime slots first now) where
+module _ (bytes : List ℕ) (set : SetContents) (o : Opening) (m : Moment) (earned : Earned) (all : Pieces) (reader : ReaderSeen) (runtime : RuntimeSeen) (slots : List (Option KeptSeen)) (first now : Option (List ℕ)) (to : PlayedTo bytes set o m earned all reader runtime slots first now) where
   abbrev more : List (List ℕ)
   more = pieces_from set o to.moment to.now_earned to.rest.entries
 
@@ -87,20 +88,20 @@ module _ (bytes : List ℕ) (set : SetContents) (o : Opening) (m : Moment) (earn
   ends_after _ new before = (same_ending ∙ before.0, all_text new before.1)
 
   -- at the end record all is printed
-  pub ends_at_end : (runtime' : RuntimeSeen) (slots' : List (Option (List ℕ))) (new : Option (List ℕ)) → IsAtEnd set o to.moment to.now_earned to.rest runtime' slots' now new → EndsBefore (says_from bytes set o m earned all) ⊤ ⊤ ⊤ Done first new
+  pub ends_at_end : (runtime' : RuntimeSeen) (slots' : List (Option KeptSeen)) (new : Option (List ℕ)) → IsAtEnd set o to.moment to.now_earned to.rest runtime' slots' now new → EndsBefore (says_from bytes set o m earned all) ⊤ ⊤ ⊤ Done first new
   ends_at_end runtime' slots' new end =
       let says : says_from bytes set o to.moment to.now_earned to.rest ≡ says_from bytes set o to.moment to.now_earned (record { entries = Ended ∷ []; stop = Reached end.at }) = ap (says_from bytes set o to.moment to.now_earned) end.last in
       ends_after Done new (ap (λ (e : Expected). e.ending) says, end.text ∙ sym (grown-nil now) ∙ ap (λ (e : Expected). grown now (concat e.pieces)) (sym says))
 
   -- and the player stands at the last moment
-  stands_at_end : (runtime' : RuntimeSeen) (slots' : List (Option (List ℕ))) (new : Option (List ℕ)) → IsAtEnd set o to.moment to.now_earned to.rest runtime' slots' now new → StandsAt set o (moment_after m all.entries) (earned_after set o m earned all.entries) runtime' slots'
+  stands_at_end : (runtime' : RuntimeSeen) (slots' : List (Option KeptSeen)) (new : Option (List ℕ)) → IsAtEnd set o to.moment to.now_earned to.rest runtime' slots' now new → StandsAt set o (moment_after m all.entries) (earned_after set o m earned all.entries) runtime' slots'
   stands_at_end runtime' slots' new end =
       let there : to.moment ≡ moment_after m all.entries = ap (λ (p : Pieces). moment_after to.moment p.entries) (sym end.last) ∙ to.last in
       let earned_there : to.now_earned ≡ earned_after set o m earned all.entries = ap (λ (p : Pieces). earned_after set o to.moment to.now_earned p.entries) (sym end.last) ∙ to.last_earned in
       subst (λ (n : Moment). StandsAt set o n (earned_after set o m earned all.entries) runtime' slots') there (subst (λ (e : Earned). StandsAt set o to.moment e runtime' slots') earned_there end.stands)
 
   -- a record more
-  pub played_more : (reader' : ReaderSeen) (runtime' : RuntimeSeen) (slots' : List (Option (List ℕ))) (new : Option (List ℕ)) → GoesOn bytes set o to.moment to.now_earned to.rest reader' runtime' slots' now new → PlayedTo bytes set o m earned all reader' runtime' slots' first new
+  pub played_more : (reader' : ReaderSeen) (runtime' : RuntimeSeen) (slots' : List (Option KeptSeen)) (new : Option (List ℕ)) → GoesOn bytes set o to.moment to.now_earned to.rest reader' runtime' slots' now new → PlayedTo bytes set o m earned all reader' runtime' slots' first new
   played_more reader' runtime' slots' new on =
       let piece = printed set o on.entry (moved on.entry to.moment) to.now_earned in
       let next = earned_next set o on.entry (moved on.entry to.moment) to.now_earned in
@@ -119,15 +120,15 @@ module _ (bytes : List ℕ) (set : SetContents) (o : Opening) (m : Moment) (earn
       }
 
   -- the next record was played, by whether it was the end
-  pub goes_on_with : (reader' : ReaderSeen) (runtime' : RuntimeSeen) (slots' : List (Option (List ℕ))) (new : Option (List ℕ)) (end : Bool) → end ≡ false → TakesNext bytes set o to.moment to.now_earned to.rest reader' runtime' slots' now new (Ok end) → PlayedTo bytes set o m earned all reader' runtime' slots' first new
+  pub goes_on_with : (reader' : ReaderSeen) (runtime' : RuntimeSeen) (slots' : List (Option KeptSeen)) (new : Option (List ℕ)) (end : Bool) → end ≡ false → TakesNext bytes set o to.moment to.now_earned to.rest reader' runtime' slots' now new (Ok end) → PlayedTo bytes set o m earned all reader' runtime' slots' first new
   goes_on_with reader' runtime' slots' new false is next = played_more reader' runtime' slots' new next
   goes_on_with reader' runtime' slots' new true is next = let bad : true ≡ false = is in absurd (cc)
 
-  pub ends_with : (reader' : ReaderSeen) (runtime' : RuntimeSeen) (slots' : List (Option (List ℕ))) (new : Option (List ℕ)) (end : Bool) → end ≡ true → TakesNext bytes set o to.moment to.now_earned to.rest reader' runtime' slots' now new (Ok end) → EndsBefore (says_from bytes set o m earned all) ⊤ ⊤ ⊤ Done first new
+  pub ends_with : (reader' : ReaderSeen) (runtime' : RuntimeSeen) (slots' : List (Option KeptSeen)) (new : Option (List ℕ)) (end : Bool) → end ≡ true → TakesNext bytes set o to.moment to.now_earned to.rest reader' runtime' slots' now new (Ok end) → EndsBefore (says_from bytes set o m earned all) ⊤ ⊤ ⊤ Done first new
   ends_with reader' runtime' slots' new true is next = ends_at_end runtime' slots' new next
   ends_with reader' runtime' slots' new false is next = let bad : false ≡ true = is in absurd (cc)
 
-  pub stands_with : (reader' : ReaderSeen) (runtime' : RuntimeSeen) (slots' : List (Option (List ℕ))) (new : Option (List ℕ)) (end : Bool) → end ≡ true → TakesNext bytes set o to.moment to.now_earned to.rest reader' runtime' slots' now new (Ok end) → StandsAt set o (moment_after m all.entries) (earned_after set o m earned all.entries) runtime' slots'
+  pub stands_with : (reader' : ReaderSeen) (runtime' : RuntimeSeen) (slots' : List (Option KeptSeen)) (new : Option (List ℕ)) (end : Bool) → end ≡ true → TakesNext bytes set o to.moment to.now_earned to.rest reader' runtime' slots' now new (Ok end) → StandsAt set o (moment_after m all.entries) (earned_after set o m earned all.entries) runtime' slots'
   stands_with reader' runtime' slots' new true is next = stands_at_end runtime' slots' new next
   stands_with reader' runtime' slots' new false is next = let bad : false ≡ true = is in absurd (cc)
 

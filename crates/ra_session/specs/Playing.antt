@@ -1,6 +1,5 @@
 -- What a player keeps at a moment of a trace: docs/DEFINITIONS.md, "Save slots".
 use Rattle.std.specs.Prelude.{◌≡◌, ℕ, suc, ◌≤◌, ⊤, nat_le, Bool, true, false, Result, Ok, Err, Option, None, Some, is_some, option_map, List, [], ◌∷◌, length, map, slice_index_or}
-use Rattle.std.specs.Global.{Vec}
 use Rattle.ra_io.specs.Sink.{grown}
 use Rattle.ra_memory.specs.Image.{History, AreBytes, AreImages}
 use Rattle.ra_progress.specs.Contents.{Opening, IsOpening}
@@ -20,6 +19,7 @@ use Rattle.ra_meaning.specs.OpeningLaws.{HasDigests}
 use Rattle.ra_meaning.specs.Earned.{Earned, HoldTriggered, IsEarnedToo, with_earned}
 use Rattle.ra_meaning.specs.Openings.{snapshot}
 use Rattle.ra_meaning.specs.Play.{Moment, moved, printed, pieces_from, earned_next}
+use Rattle.ra_runtime.specs.Keeping.{KeptSeen, IsKeptFor}
 use Rattle.ra_session.specs.Endings.{ending_of}
 use Rattle.ra_session.specs.Expected.{Expected, trace_limit}
 use Rattle.ra_session.specs.Closing.{EndsBefore}
@@ -34,30 +34,31 @@ pub record IsPlayable (set : SetContents) : Type 0 where
   pub digests : HasDigests set
   pub alts : HasFewAlts set
 
--- The bytes are those of frames that were kept, with what was earned at their save and is earned still.
-pub record IsSaveOf (set : SetContents) (o : Opening) (kept : History) (earned : Earned) (bytes : List ℕ) : Type 0 where
+-- The state is that of frames that were kept, with what was earned at their save and is earned still.
+pub record IsSaveOf (set : SetContents) (o : Opening) (kept : History) (earned : Earned) (state : KeptSeen) : Type 0 where
   pub before : Earned
   pub images : AreImages kept
   pub holds : HoldTriggered before (snapshot set o kept).items
   pub still : IsEarnedToo before earned
-  pub is : bytes ≡ progress_bytes (shape_of set) (with_earned (snapshot set o kept) before)
+  pub of_set : IsKeptFor (shape_of set) state
+  pub is : state.opening ≡ with_earned (snapshot set o kept) before
 
--- a slot holds the progress bytes of the frames that it has kept, and nothing where it is empty
-abbrev pub HoldsKept : SetContents → Opening → Earned → Option History → Option (List ℕ) → Type 0
+-- a slot holds the state of the frames that it has kept, and nothing where it is empty
+abbrev pub HoldsKept : SetContents → Opening → Earned → Option History → Option KeptSeen → Type 0
 HoldsKept set o earned None None = Unit {0}
-HoldsKept set o earned (Some kept) (Some bytes) = IsSaveOf set o kept earned bytes
+HoldsKept set o earned (Some kept) (Some state) = IsSaveOf set o kept earned state
 HoldsKept set o earned _ _ = ⊥
 
 -- each slot holds what it has kept
-abbrev pub HoldEachKept : SetContents → Opening → Earned → List (Option History) → List (Option (List ℕ)) → Type 0
+abbrev pub HoldEachKept : SetContents → Opening → Earned → List (Option History) → List (Option KeptSeen) → Type 0
 HoldEachKept set o earned [] [] = Unit {0}
-HoldEachKept set o earned (kept ∷ more) (bytes ∷ slots) =
-    HoldsKept set o earned kept bytes × HoldEachKept set o earned more slots
+HoldEachKept set o earned (kept ∷ more) (state ∷ slots) =
+    HoldsKept set o earned kept state × HoldEachKept set o earned more slots
 HoldEachKept set o earned _ _ = ⊥
 
--- A runtime and the slots stand at a moment: the image is the moment's, and what is kept is what the frames behind it
+-- A runtime and the slots stand at a moment: the image is the moment's, and what is kept is what the frames so far
 -- leave, with what is earned at the moment, which is all that is triggered and was earned at the save of a slot.
-pub record StandsAt (set : SetContents) (o : Opening) (m : Moment) (earned : Earned) (runtime : RuntimeSeen) (slots : List (Option (List ℕ))) : Type 0 where
+pub record StandsAt (set : SetContents) (o : Opening) (m : Moment) (earned : Earned) (runtime : RuntimeSeen) (slots : List (Option KeptSeen)) : Type 0 where
   pub same : runtime.set ≡ set
   pub playable : IsPlayable set
   pub shape : IsShape (shape_of set)
@@ -70,7 +71,7 @@ pub record StandsAt (set : SetContents) (o : Opening) (m : Moment) (earned : Ear
   pub held : HoldEachKept set o earned m.slots slots
 
 -- A runtime and the slots stand at some moment of a set and an opening, at which some achievements are earned.
-pub record StandsSomewhere (runtime : RuntimeSeen) (slots : List (Option (List ℕ))) : Type 0 where
+pub record StandsSomewhere (runtime : RuntimeSeen) (slots : List (Option KeptSeen)) : Type 0 where
   pub set : SetContents
   pub opening : Opening
   pub moment : Moment
@@ -86,9 +87,10 @@ TakesUpFrom (Some bytes) old new = TakesUp old new bytes
 abbrev pub kept_bytes : RuntimeSeen → List ℕ
 kept_bytes runtime = progress_bytes (shape_of runtime.set) runtime.kept
 
--- the bytes in each slot
-abbrev pub slots_of : List (Option (Vec ℕ)) → List (Option (List ℕ))
-slots_of slots = map (option_map (λ bytes. bytes.items)) slots
+-- a slot holds the state that a runtime keeps
+abbrev pub HoldsState : RuntimeSeen → Option KeptSeen → Type 0
+HoldsState runtime None = ⊥
+HoldsState runtime (Some state) = IsKeptFor (shape_of runtime.set) state × (state.opening ≡ runtime.kept)
 
 -- the record is a restore of a slot that is empty at the moment
 abbrev pub TakesEmpty : Entry → Moment → Type 0
@@ -96,7 +98,7 @@ TakesEmpty (Restored slot) m = slice_index_or m.slots slot None ≡ None
 TakesEmpty _ m = ⊥
 
 -- A record takes the player to the moment after it, and prints what the set does there.
-pub record Plays (set : SetContents) (o : Opening) (entry : Entry) (m : Moment) (earned : Earned) (runtime : RuntimeSeen) (slots : List (Option (List ℕ))) (text : List ℕ) : Type 0 where
+pub record Plays (set : SetContents) (o : Opening) (entry : Entry) (m : Moment) (earned : Earned) (runtime : RuntimeSeen) (slots : List (Option KeptSeen)) (text : List ℕ) : Type 0 where
   pub filled : TakesEmpty entry m → ⊥
   pub stands : StandsAt set o (moved entry m) (earned_next set o entry (moved entry m) earned) runtime slots
   pub prints : text ≡ printed set o entry (moved entry m) earned
@@ -121,7 +123,7 @@ pub record IsLeft (bytes : List ℕ) (m : Moment) (reader : ReaderSeen) (left : 
   pub is : left ≡ cut (suc more) size (map is_some m.slots) reader.next (seen_from trace_limit reader.next bytes)
 
 -- One record of those that are left was played, and it was not the end.
-pub record GoesOn (bytes : List ℕ) (set : SetContents) (o : Opening) (m : Moment) (earned : Earned) (left : Pieces) (reader : ReaderSeen) (runtime : RuntimeSeen) (slots : List (Option (List ℕ))) (old new : Option (List ℕ)) : Type 0 where
+pub record GoesOn (bytes : List ℕ) (set : SetContents) (o : Opening) (m : Moment) (earned : Earned) (left : Pieces) (reader : ReaderSeen) (runtime : RuntimeSeen) (slots : List (Option KeptSeen)) (old new : Option (List ℕ)) : Type 0 where
   pub entry : Entry
   pub rest : Pieces
   pub first : left ≡ with_entry entry rest
@@ -129,15 +131,15 @@ pub record GoesOn (bytes : List ℕ) (set : SetContents) (o : Opening) (m : Mome
   pub stands : StandsAt set o (moved entry m) (earned_next set o entry (moved entry m) earned) runtime slots
   pub text : new ≡ grown old (printed set o entry (moved entry m) earned)
 
--- The end record was played: nothing is left behind it.
-pub record IsAtEnd (set : SetContents) (o : Opening) (m : Moment) (earned : Earned) (left : Pieces) (runtime : RuntimeSeen) (slots : List (Option (List ℕ))) (old new : Option (List ℕ)) : Type 0 where
+-- The end record was played: nothing is left after it.
+pub record IsAtEnd (set : SetContents) (o : Opening) (m : Moment) (earned : Earned) (left : Pieces) (runtime : RuntimeSeen) (slots : List (Option KeptSeen)) (old new : Option (List ℕ)) : Type 0 where
   pub at : ℕ
   pub last : left ≡ record { entries = Ended ∷ []; stop = Reached at }
   pub stands : StandsAt set o m earned runtime slots
   pub text : new ≡ old
 
 -- what reading and playing the next record does: it goes on, it was the end, or it stops as the trace says
-abbrev pub TakesNext : (bytes : List ℕ) → SetContents → Opening → Moment → Earned → Pieces → ReaderSeen → RuntimeSeen → List (Option (List ℕ)) → (old new : Option (List ℕ)) → Result Bool TraceFailed → Type 0
+abbrev pub TakesNext : (bytes : List ℕ) → SetContents → Opening → Moment → Earned → Pieces → ReaderSeen → RuntimeSeen → List (Option KeptSeen) → (old new : Option (List ℕ)) → Result Bool TraceFailed → Type 0
 TakesNext bytes set o m earned left reader runtime slots old new (Ok true) = IsAtEnd set o m earned left runtime slots old new
 TakesNext bytes set o m earned left reader runtime slots old new (Ok false) = GoesOn bytes set o m earned left reader runtime slots old new
 TakesNext bytes set o m earned left reader runtime slots old new (Err failed) = EndsBefore (says_from bytes set o m earned left) ⊤ ⊤ ⊤ (ending_of_trace failed) old new

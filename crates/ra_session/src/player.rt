@@ -1,8 +1,8 @@
 //! A runtime that plays the records of a trace.
 
-ghost use Rattle.std.specs.Prelude.{◌≡◌, ◌≤◌, ◌<◌, ◌+◌, ◌^◌, None, Some, length, option_map, slice_index_or, IfSome, IfOk, IfErr, OnOk, OnErr};
+ghost use Rattle.std.specs.Prelude.{◌≡◌, ◌≤◌, ◌<◌, ◌+◌, ◌^◌, [], None, Some, length, option_map, slice_index_or, IfSome, IfOk, IfErr, OnOk, OnErr};
 ghost use Rattle.ra_memory.specs.Image.{AreBytes, History};
-ghost use Rattle.ra_progress.specs.Contents.{Opening};
+ghost use Rattle.ra_progress.specs.Contents.{IsOpening, Opening};
 ghost use Rattle.ra_progress.specs.Layout.{length_of};
 ghost use Rattle.ra_progress.specs.Reading.{refusal};
 ghost use Rattle.ra_set.specs.Contents.{SetContents, set_contents};
@@ -11,13 +11,14 @@ ghost use Rattle.ra_trace.specs.Reading.{LiesWithin};
 ghost use Rattle.ra_meaning.specs.Earned.{Earned};
 ghost use Rattle.ra_meaning.specs.Order.{shape_of};
 ghost use Rattle.ra_meaning.specs.Play.{Moment, moved, first_moment};
-ghost use Rattle.ra_meaning.specs.Runtime.{IsWritten, TakesFrame};
+ghost use Rattle.ra_meaning.specs.Runtime.{IsWritten, ShowsKept, TakesFrame};
+ghost use Rattle.ra_runtime.specs.Keeping.{IsKeptFor};
 ghost use Rattle.ra_session.specs.Loading.{AreAccepted, BeginsAt, progress_in};
-ghost use Rattle.ra_session.specs.Playing.{StandsAt, StandsSomewhere, IsPlayable, TakesEmpty, TakesUpFrom, Plays, kept_bytes, slots_of};
+ghost use Rattle.ra_session.specs.Playing.{HoldsState, StandsAt, StandsSomewhere, IsPlayable, TakesEmpty, TakesUpFrom, Plays, kept_bytes};
 
 use crate::beginning::Beginning;
 use ra_memory::Steps;
-use ra_runtime::Runtime;
+use ra_runtime::{Kept, OtherSet, Runtime};
 use ra_text::OutOfMemory;
 use ra_trace::Record;
 use std::alloc::Global;
@@ -34,11 +35,11 @@ pub enum Unplayed {
     Memory,
 }
 
-/// A runtime, and the progress bytes in each save slot: docs/DEFINITIONS.md, "Save slots".
+/// A runtime, and the state that is kept in each save slot: docs/DEFINITIONS.md, "Save slots".
 #[derive(Drop)]
 pub struct Player {
     runtime: Runtime,
-    slots: Vec<Option<Vec<u8>>>,
+    slots: Vec<Option<Kept>>,
 }
 
 impl From<OutOfMemory> for Unplayed {
@@ -52,6 +53,7 @@ impl From<OutOfMemory> for Unplayed {
 }
 
 // Takes one frame, and counts no steps.
+#[inline(always)]
 fn take_frame<L: Ledger>(runtime: &mut Runtime, blank: Blank)
     requires name { blank.name ≡ L.name }
     requires parts { blank.parts ≡ L.parts }
@@ -74,26 +76,39 @@ fn take_up(runtime: &mut Runtime, progress: &Option<Vec<u8>>)
     }
 }
 
-// The progress bytes in a slot; none where it is empty.
-fn bytes_in(slots: &[Option<Vec<u8>>], slot: u8) -> Option<&[u8]>
-    ensures { option_map (λ bytes. bytes.now) result ≡ slice_index_or (slots_of slots.now) slot None }
+// The state in a slot; none where it is empty.
+fn state_in(slots: &[Option<Kept>], slot: u8) -> Option<&Kept>
+    ensures { option_map (λ state. state.now) result ≡ slice_index_or slots.now slot None }
 {
     match slots.get(usize::from(slot)) {
-        Some(Some(bytes)) => Some(bytes.as_slice()),
+        Some(Some(state)) => Some(state),
         _ => None,
     }
+}
+
+// Keeps the state of a runtime in a slot, in the room that stands there, or in a new one where it is empty.
+fn fill(alloc: Global, runtime: &Runtime, slot: &mut Option<Kept>) -> Result<(), OutOfMemory>
+    ensures { OnOk result (IsOpening (shape_of runtime.now.set) runtime.now.kept → IfSome slot.old (IsKeptFor (shape_of runtime.now.set)) → HoldsState runtime.now slot.new) }
+{
+    match slot {
+        Some(state) => {
+            let _ = runtime.keep(state);
+        }
+        None => *slot = Some(runtime.kept(alloc)?),
+    }
+    Ok(())
 }
 
 impl Player {
     /// The moment before the first record, over an image of zeros; every slot is empty.
     ///
-    /// Behind it lie the frames whose progress bytes the run goes on from, where there are some.
+    /// Before it came the frames whose progress bytes the run goes on from, where there are some.
     pub fn new(alloc: Global, beginning: Beginning, size: u32) -> Result<Player, OutOfMemory>
         requires playable { IsPlayable (set_contents beginning.set) }
         requires accepted { AreAccepted (set_contents beginning.set) (progress_in beginning) }
         requires size { size ≤ 2 ^ 27 }
         ensures stands { IfOk result (λ p. (o : Opening) (behind : History) (earned : Earned) → BeginsAt (set_contents beginning.set) (progress_in beginning) o behind earned
-            → StandsAt (set_contents beginning.set) o (first_moment size behind) earned p.runtime (slots_of p.slots.items)) }
+            → StandsAt (set_contents beginning.set) o (first_moment size behind) earned p.runtime p.slots.items) }
         ensures image { IfOk result (λ p. length p.runtime.image ≡ size) }
     {
         let mut slots = Vec::new(alloc);
@@ -122,40 +137,51 @@ impl Player {
         self.runtime.write(at, bytes);
     }
 
-    // Keeps the progress bytes in a slot.
+    // Keeps the state in a slot.
+    #[inline(never)]
     fn save(&mut self, alloc: Global, slot: u8) -> Result<(), Unplayed>
-        ensures saved { OnOk result ((set : SetContents) (o : Opening) (m : Moment) (earned : Earned) → StandsAt set o m earned self.old.runtime (slots_of self.old.slots.items)
-            → StandsAt set o (moved (Saved slot) m) earned self.new.runtime (slots_of self.new.slots.items)) }
+        ensures saved { OnOk result ((set : SetContents) (o : Opening) (m : Moment) (earned : Earned) → StandsAt set o m earned self.old.runtime self.old.slots.items
+            → StandsAt set o (moved (Saved slot) m) earned self.new.runtime self.new.slots.items) }
         ensures image { self.new.runtime.image ≡ self.old.runtime.image }
         ensures only { IfErr result (λ e. e ≡ Unplayed.Memory) }
     {
-        let bytes = self.runtime.save(alloc)?;
-        if let Some(kept) = self.slots.get_mut(usize::from(slot)) {
-            *kept = Some(bytes);
+        if let Some(state) = self.slots.get_mut(usize::from(slot)) {
+            fill(alloc, &self.runtime, state)?;
         }
         Ok(())
     }
 
-    // Takes up the progress bytes of a slot. The runtime never refuses them, since it gave them out itself.
+    // Takes up the state of a slot. The runtime never refuses it, since it is of its set.
+    #[inline(never)]
     fn restore(&mut self, slot: u8) -> Result<(), Unplayed>
-        requires { StandsSomewhere self.old.runtime (slots_of self.old.slots.items) }
-        ensures restored { OnOk result ((set : SetContents) (o : Opening) (m : Moment) (earned : Earned) → StandsAt set o m earned self.old.runtime (slots_of self.old.slots.items)
-            → StandsAt set o (moved (Restored slot) m) earned self.new.runtime (slots_of self.new.slots.items) × (TakesEmpty (Restored slot) m → ⊥)) }
-        ensures empty { OnErr result ((set : SetContents) (o : Opening) (m : Moment) (earned : Earned) → StandsAt set o m earned self.old.runtime (slots_of self.old.slots.items) → TakesEmpty (Restored slot) m) }
+        requires { StandsSomewhere self.old.runtime self.old.slots.items }
+        ensures restored { OnOk result ((set : SetContents) (o : Opening) (m : Moment) (earned : Earned) → StandsAt set o m earned self.old.runtime self.old.slots.items
+            → StandsAt set o (moved (Restored slot) m) earned self.new.runtime self.new.slots.items × (TakesEmpty (Restored slot) m → ⊥)) }
+        ensures empty { OnErr result ((set : SetContents) (o : Opening) (m : Moment) (earned : Earned) → StandsAt set o m earned self.old.runtime self.old.slots.items → TakesEmpty (Restored slot) m) }
         ensures image { self.new.runtime.image ≡ self.old.runtime.image }
         ensures only { IfErr result (λ e. e ≡ Unplayed.EmptySlot) }
     {
-        let Some(bytes) = bytes_in(self.slots.as_slice(), slot) else {
+        let Some(state) = state_in(self.slots.as_slice(), slot) else {
             return Err(Unplayed::EmptySlot);
         };
-        match self.runtime.restore(bytes) {
+        match self.runtime.take(state) {
             Ok(()) => Ok(()),
-            Err(_) => unreachable!(),
+            Err(OtherSet) => unreachable!(),
         }
     }
 
-    /// Plays a record, and leaves in the text what it prints, in the room that the text has. `EmptySlot` where it restores
-    /// an empty slot.
+    // Puts the presence line in the place of a text.
+    #[inline(never)]
+    fn show(&self, alloc: Global, text: &mut Vec<u8>) -> Result<(), OutOfMemory>
+        ensures { OnOk result (ShowsKept self.now.runtime text.new.items) }
+    {
+        *text = self.runtime.show(alloc)?;
+        Ok(())
+    }
+
+    /// Plays a record, and puts what it prints into an empty text, in the room that the text has. `EmptySlot` where it
+    /// restores an empty slot.
+    #[inline(always)]
     pub fn play(
         &mut self,
         alloc: Global,
@@ -163,13 +189,13 @@ impl Player {
         text: &mut Vec<u8>,
     ) -> Result<(), Unplayed>
         requires lies { LiesWithin (length self.old.runtime.image) (entry_of entry.now) }
-        requires stands { StandsSomewhere self.old.runtime (slots_of self.old.slots.items) }
-        ensures played { OnOk result ((set : SetContents) (o : Opening) (m : Moment) (earned : Earned) → StandsAt set o m earned self.old.runtime (slots_of self.old.slots.items)
-            → Plays set o (entry_of entry.now) m earned self.new.runtime (slots_of self.new.slots.items) text.new.items) }
-        ensures empty { IfErr result (λ e. e ≡ Unplayed.EmptySlot → (set : SetContents) (o : Opening) (m : Moment) (earned : Earned) → StandsAt set o m earned self.old.runtime (slots_of self.old.slots.items) → TakesEmpty (entry_of entry.now) m) }
+        requires stands { StandsSomewhere self.old.runtime self.old.slots.items }
+        requires empty { text.old.items ≡ [] }
+        ensures played { OnOk result ((set : SetContents) (o : Opening) (m : Moment) (earned : Earned) → StandsAt set o m earned self.old.runtime self.old.slots.items
+            → Plays set o (entry_of entry.now) m earned self.new.runtime self.new.slots.items text.new.items) }
+        ensures empty { IfErr result (λ e. e ≡ Unplayed.EmptySlot → (set : SetContents) (o : Opening) (m : Moment) (earned : Earned) → StandsAt set o m earned self.old.runtime self.old.slots.items → TakesEmpty (entry_of entry.now) m) }
         ensures image { length self.new.runtime.image ≡ length self.old.runtime.image }
     {
-        text.clear();
         match entry {
             Record::Write { at, bytes } => self.write(*at, bytes),
             Record::Frame => {
@@ -178,7 +204,7 @@ impl Player {
             }
             Record::Save { slot } => self.save(alloc, *slot)?,
             Record::Restore { slot } => self.restore(*slot)?,
-            Record::Show => *text = self.runtime.show(alloc)?,
+            Record::Show => self.show(alloc, text)?,
             Record::End => {}
         }
         Ok(())

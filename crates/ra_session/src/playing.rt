@@ -10,7 +10,7 @@ ghost use Rattle.ra_meaning.specs.Earned.{Earned};
 ghost use Rattle.ra_meaning.specs.Play.{Moment, earned_after, moment_after};
 ghost use Rattle.ra_session.specs.Closing.{EndsBefore};
 ghost use Rattle.ra_session.specs.Failures.{ending_at};
-ghost use Rattle.ra_session.specs.Playing.{StandsAt, StandsSomewhere, IsLeft, TakesNext, says_from, slots_of};
+ghost use Rattle.ra_session.specs.Playing.{StandsAt, StandsSomewhere, IsLeft, TakesNext, says_from};
 
 use crate::failures::TraceFailed;
 use crate::player::{Player, Unplayed};
@@ -21,6 +21,7 @@ use std::alloc::Global;
 
 // Reads and plays the next record, and writes what it prints, which is left in the text. Answers whether it is the end
 // record.
+#[inline(always)]
 fn play_next<F: Files, K: Sink>(
     alloc: Global,
     reader: &mut Reader,
@@ -30,16 +31,16 @@ fn play_next<F: Files, K: Sink>(
     out: &mut K,
 ) -> Result<bool, TraceFailed>
     requires size { reader.old.size ≡ Some (length player.old.runtime.image) }
-    requires stands { StandsSomewhere player.old.runtime (slots_of player.old.slots.items) }
+    requires stands { StandsSomewhere player.old.runtime player.old.slots.items }
 
     // What was played and printed, where the bytes of the trace are told.
     ensures next { (bytes : List ℕ) (set : SetContents) (o : Opening) (m : Moment) (earned : Earned) (left : Pieces) → F.content files.old reader.old.name ≡ Some bytes
-        → StandsAt set o m earned player.old.runtime (slots_of player.old.slots.items) → IsLeft bytes m reader.old left
-        → TakesNext bytes set o m earned left reader.new player.new.runtime (slots_of player.new.slots.items) (K.text out.old) (K.text out.new) result }
+        → StandsAt set o m earned player.old.runtime player.old.slots.items → IsLeft bytes m reader.old left
+        → TakesNext bytes set o m earned left reader.new player.new.runtime player.new.slots.items (K.text out.old) (K.text out.new) result }
 
     // What stays, and why it stops.
     ensures size { IfOk result (λ end. reader.new.size ≡ Some (length player.new.runtime.image)) }
-    ensures stands { IfOk result (λ end. StandsSomewhere player.new.runtime (slots_of player.new.slots.items)) }
+    ensures stands { IfOk result (λ end. StandsSomewhere player.new.runtime player.new.slots.items) }
     ensures name { reader.new.name ≡ reader.old.name }
     ensures further { IfOk result (λ end. (reader.old.next < reader.new.next) × (reader.new.next ≤ reader.new.limit) × (reader.new.limit ≡ reader.old.limit)) }
     ensures read { IsErrOf result TraceFailed.Read → Rose (F.read_faults files.old reader.old.name) (F.read_faults files.new reader.old.name) }
@@ -47,10 +48,11 @@ fn play_next<F: Files, K: Sink>(
     ensures stays { OnlyRead F.content F.read_faults F.put_faults files.old files.new }
     ensures later { K.faults out.old ≤ K.faults out.new }
 {
+    text.clear();
     let record = reader.next_record(files)?;
-    let end = matches!(record, Record::End);
     match player.play(alloc, &record, text) {
         Ok(()) => {
+            let end = matches!(record, Record::End);
             write_all(text.as_slice(), out)?;
             Ok(end)
         }
@@ -64,8 +66,9 @@ fn play_next<F: Files, K: Sink>(
 
 /// Plays the records up to the end record, and writes what each prints before the next is read.
 ///
-/// It stops at a record that is refused, behind the last byte that the limit lets be read, at a read or a write that
-/// failed, and for want of memory. No file changes.
+/// It stops at a record that is refused, after the last byte that the limit lets be read, at a read or a write that
+/// failed, and where memory ran out. No file changes.
+#[inline(never)]
 pub fn play_records<F: Files, K: Sink>(
     alloc: Global,
     reader: &mut Reader,
@@ -74,15 +77,15 @@ pub fn play_records<F: Files, K: Sink>(
     out: &mut K,
 ) -> Result<(), TraceFailed>
     requires size { reader.old.size ≡ Some (length player.old.runtime.image) }
-    requires stands { StandsSomewhere player.old.runtime (slots_of player.old.slots.items) }
+    requires stands { StandsSomewhere player.old.runtime player.old.slots.items }
 
     // What was printed, where the bytes of the trace are told.
     ensures printed { (bytes : List ℕ) (set : SetContents) (o : Opening) (m : Moment) (earned : Earned) (left : Pieces) → F.content files.old reader.old.name ≡ Some bytes
-        → StandsAt set o m earned player.old.runtime (slots_of player.old.slots.items) → IsLeft bytes m reader.old left
+        → StandsAt set o m earned player.old.runtime player.old.slots.items → IsLeft bytes m reader.old left
         → EndsBefore (says_from bytes set o m earned left) ⊤ ⊤ ⊤ (ending_at result) (K.text out.old) (K.text out.new) }
     ensures ends { OnOk result ((bytes : List ℕ) (set : SetContents) (o : Opening) (m : Moment) (earned : Earned) (left : Pieces) → F.content files.old reader.old.name ≡ Some bytes
-        → StandsAt set o m earned player.old.runtime (slots_of player.old.slots.items) → IsLeft bytes m reader.old left
-        → StandsAt set o (moment_after m left.entries) (earned_after set o m earned left.entries) player.new.runtime (slots_of player.new.slots.items)) }
+        → StandsAt set o m earned player.old.runtime player.old.slots.items → IsLeft bytes m reader.old left
+        → StandsAt set o (moment_after m left.entries) (earned_after set o m earned left.entries) player.new.runtime player.new.slots.items) }
 
     // Why it stops, and what stays.
     ensures read { IsErrOf result TraceFailed.Read → Rose (F.read_faults files.old reader.old.name) (F.read_faults files.new reader.old.name) }

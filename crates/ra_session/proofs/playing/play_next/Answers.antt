@@ -1,8 +1,9 @@
-use Rattle.std.proofs.Common.{◌∙◌, ap, sym, subst}
+use Rattle.std.proofs.Common.{◌≡◌, ◌∙◌, Ok, ap, sym, subst}
 use Rattle.ra_io.specs.Sink.{grown}
 use Rattle.ra_trace.specs.Entries.{entry_of}
 use Rattle.ra_meaning.specs.Play.{moved, earned_next}
 use Rattle.ra_jobs.specs.Writing.{GrewByPart}
+use Rattle.ra_session.specs.Playing.{TakesNext}
 use Rattle.ra_session.proofs.NextLemmas.{next_refused, next_empty, next_played, next_cut, ok_at, end_is, other_is}
 use Rattle.ra_session.proofs.playing.play_next.Goals as goal
 use Rattle.ra_session.proofs.playing.play_next.Goals.{in-End, in_default}
@@ -14,18 +15,22 @@ returns-in_err-record-clause-next g c = λ bytes set o m earned left is_told sta
 pub returns-in_err-write_all-in-Ok-clause-next : goal.returns-in_err-write_all-in-Ok-clause-next
 returns-in_err-write_all-in-Ok-clause-next g c = λ bytes set o m earned left is_told stands is.
     let ends = c.next_record.follows.holds-at-none in
-    next_cut bytes set o m earned left c.args.reader.now is (entry_of c.in_ok-record.record) (g.F.Files.content c.args.files.now c.args.reader.now.name) is_told c.in_ok-record.ensures.ok c.play.new.self.runtime _ c.play.new.text.items (c.in-Ok.ensures.played set o m earned stands)
+    let now : c.match-matches.reader ≡ c.next_record.follows.lender-at-none = elim c.match-matches.branch [ in-End w ↦ w.reader-is | in_default w ↦ w.reader-is ] in
+    subst (λ reader. TakesNext bytes set o m earned left reader c.play.new.self.runtime c.play.new.self.slots.items (g.K.Sink.text c.args.out.now) (g.K.Sink.text c.write_all.new.out) c.from_residual-in_err-write_all-in-Ok.result) (sym now)
+    (next_cut bytes set o m earned left c.args.reader.now is (entry_of c.in_ok-record.record) (g.F.Files.content c.args.files.now c.args.reader.now.name) is_told c.in_ok-record.ensures.ok c.play.new.self.runtime _ c.play.new.text.items (c.in-Ok.ensures.played set o m earned stands)
     c.next_record.follows.lender-at-none (g.K.Sink.text c.args.out.now) (g.K.Sink.text c.write_all.new.out) (ok_at _ _ c.in_ok-record.record c.in_ok-record.was ends.moved) (ok_at _ _ c.in_ok-record.record c.in_ok-record.was ends.holds bytes is_told is.holds)
     (subst (GrewByPart (g.K.Sink.text c.args.out.now) (g.K.Sink.text c.write_all.new.out)) c.as_slice.ensures.value c.in_err-write_all-in-Ok.ensures.part)
-    c.in_err-write_all-in-Ok.field-0.0 c.from_residual-in_err-write_all-in-Ok.result c.from_residual-in_err-write_all-in-Ok.ensures.1
+    c.in_err-write_all-in-Ok.field-0.0 c.from_residual-in_err-write_all-in-Ok.result c.from_residual-in_err-write_all-in-Ok.ensures.1)
 
 pub returns-in_ok-write_all-in-Ok-clause-next : goal.returns-in_ok-write_all-in-Ok-clause-next
 returns-in_ok-write_all-in-Ok-clause-next g c = λ bytes set o m earned left is_told stands is.
     let ends = c.next_record.follows.holds-at-none in
-    next_played bytes set o m earned left c.args.reader.now is (entry_of c.in_ok-record.record) (g.F.Files.content c.args.files.now c.args.reader.now.name) is_told c.in_ok-record.ensures.ok c.play.new.self.runtime _ c.play.new.text.items (c.in-Ok.ensures.played set o m earned stands)
+    let now : c.match-matches.reader ≡ c.next_record.follows.lender-at-none = elim c.match-matches.branch [ in-End w ↦ w.reader-is | in_default w ↦ w.reader-is ] in
+    subst (λ reader. TakesNext bytes set o m earned left reader c.play.new.self.runtime c.play.new.self.slots.items (g.K.Sink.text c.args.out.now) (g.K.Sink.text c.write_all.new.out) (Ok c.match-matches.matches)) (sym now)
+    (next_played bytes set o m earned left c.args.reader.now is (entry_of c.in_ok-record.record) (g.F.Files.content c.args.files.now c.args.reader.now.name) is_told c.in_ok-record.ensures.ok c.play.new.self.runtime _ c.play.new.text.items (c.in-Ok.ensures.played set o m earned stands)
     c.next_record.follows.lender-at-none (g.K.Sink.text c.args.out.now) (g.K.Sink.text c.write_all.new.out) (ok_at _ _ c.in_ok-record.record c.in_ok-record.was ends.moved) (ok_at _ _ c.in_ok-record.record c.in_ok-record.was ends.holds bytes is_told is.holds)
     (c.in_ok-write_all-in-Ok.ensures.ok ∙ ap (grown (g.K.Sink.text c.args.out.now)) c.as_slice.ensures.value) c.match-matches.matches
-    (elim c.match-matches.branch [ in-End w ↦ w.matches-is ∙ sym (end_is c.in_ok-record.record w.in-End.is) | in_default w ↦ w.matches-is ∙ sym (other_is c.in_ok-record.record w.in_default.not-End) ])
+    (elim c.match-matches.branch [ in-End w ↦ w.matches-is ∙ sym (end_is c.in_ok-record.record w.in-End.is) | in_default w ↦ w.matches-is ∙ sym (other_is c.in_ok-record.record w.in_default.not-End) ]))
 
 pub returns-in-Err-EmptySlot-clause-next : goal.returns-in-Err-EmptySlot-clause-next
 returns-in-Err-EmptySlot-clause-next g c = λ bytes set o m earned left is_told stands is.

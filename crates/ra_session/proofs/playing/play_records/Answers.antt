@@ -1,5 +1,4 @@
 use Rattle.std.proofs.Common.{arith, ◌∙◌, ap}
-use Rattle.ra_session.specs.Playing.{slots_of}
 use Rattle.ra_jobs.proofs.Stays.{stays_after}
 use Rattle.ra_session.proofs.TraceLemmas.{stops_with, goes_on_with, ends_with, stands_with}
 use Rattle.ra_session.proofs.playing.play_records.Goals as goal
@@ -32,5 +31,5 @@ returns-clause-printed g c = λ bytes set o m earned left told stands is.
 pub returns-clause-ends : goal.returns-clause-ends
 returns-clause-ends g c = λ bytes set o m earned left told stands is.
     let to = c.loop-text.invariant.to bytes set o m earned left told stands is in
-    stands_with bytes set o m earned left c.loop-text.reader c.loop-text.player.runtime (slots_of c.loop-text.player.slots.items) (g.K.Sink.text c.args.out.now) (g.K.Sink.text c.loop-text.out) to c.play_next.new.reader c.play_next.new.player.runtime (slots_of c.play_next.new.player.slots.items) (g.K.Sink.text c.play_next.new.out) c.in_ok-play_next.field-0 c.if-not-branch.false
+    stands_with bytes set o m earned left c.loop-text.reader c.loop-text.player.runtime c.loop-text.player.slots.items (g.K.Sink.text c.args.out.now) (g.K.Sink.text c.loop-text.out) to c.play_next.new.reader c.play_next.new.player.runtime c.play_next.new.player.slots.items (g.K.Sink.text c.play_next.new.out) c.in_ok-play_next.field-0 c.if-not-branch.false
     (c.in_ok-play_next.ensures.next bytes set o to.moment to.now_earned to.rest (c.loop-text.invariant.stays.same.each c.loop-text.reader.name ∙ ap (g.F.Files.content c.args.files.now) c.loop-text.invariant.name ∙ told) to.stands to.left)

@@ -7,7 +7,6 @@ use Rattle.ra_trace.specs.Reading.{IsStop, header_stop}
 use Rattle.ra_session.specs.Failures.{ending_of_trace, trace_failed}
 use Rattle.ra_session.specs.declared.ending.Ending.TheVariants.{Done}
 use Rattle.ra_session.specs.Expected.{played, trace_limit}
-use Rattle.ra_session.specs.Playing.{slots_of}
 use Rattle.ra_session.specs.Loading.{progress_in}
 use Rattle.ra_session.proofs.LoadLemmas.{begins_somewhere}
 use Rattle.ra_session.proofs.NextLemmas.{told}
@@ -60,7 +59,7 @@ returns-in-Ok-clause-kept g c = λ bytes o behind earned is_told at.
     let there : g.F.Files.content c.args.files.now c.in_ok-reader.reader.name ≡ Some bytes = ap (g.F.Files.content c.args.files.now) name ∙ is_told in
     let header = told _ _ bytes there c.in_ok-size.ensures.ok in
     let left = left_whole bytes c.in_ok-size.size behind c.in_ok-reader.reader c.header.new.self limit c.in_ok-size.ensures.seen (told _ _ bytes there c.in_ok-size.ensures.held) in
-    saved_behind set o behind earned bytes c.in_ok-size.size (slots_of c.play_records.new.player.slots.items) c.play_records.new.player.runtime (subst (λ l. header_size (take l bytes) ≡ Some c.in_ok-size.size) limit header)
+    saved_behind set o behind earned bytes c.in_ok-size.size c.play_records.new.player.slots.items c.play_records.new.player.runtime (subst (λ l. header_size (take l bytes) ≡ Some c.in_ok-size.size) limit header)
     (c.in-Ok.ensures.ends bytes set o (first_moment c.in_ok-size.size behind) earned (pieces_of c.in_ok-size.size bytes)
     (ap (g.F.Files.content c.header.new.files) c.in_ok-size.ensures.seen.same.name ∙ c.in_ok-size.ensures.stays.same.each c.in_ok-reader.reader.name ∙ there) (c.in_ok-player.ensures.stands o behind earned at) left)
 
