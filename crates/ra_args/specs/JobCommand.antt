@@ -19,11 +19,11 @@ run_app =
     with_rule (with_rule (with_rule (with_rule (new_app (codes "run")) (required_rule (codes "SET"))) (required_rule (codes "TRACE")))
     (option_rule (codes "restore"))) (option_rule (codes "save"))
 
--- a command with one word behind its name
+-- a command with one word after its name
 abbrev pub short_app : Text → Text → App
 short_app name id = with_rule (new_app name) (required_rule id)
 
--- a command with two words behind its name
+-- a command with two words after its name
 abbrev pub pair_app : Text → Text → Text → App
 pair_app name first second = with_rule (with_rule (new_app name) (required_rule first)) (required_rule second)
 

@@ -30,38 +30,38 @@ options_of (first ∷ restore ∷ second ∷ save ∷ []) =
     else None
 options_of _ = None
 
--- the words behind `run`: a set, a trace, and options
+-- the words after `run`: a set, a trace, and options
 abbrev pub run_of : List (List ℕ) → Option Job
 run_of (set ∷ trace ∷ options) =
     if is_name set && is_name trace then option_map (λ files. Run set trace files.0 files.1) (options_of options) else None
 run_of _ = None
 
--- the words behind `check`: a set
+-- the words after `check`: a set
 abbrev pub check_of : List (List ℕ) → Option Job
 check_of (set ∷ []) = if is_name set then Some (Check set) else None
 check_of _ = None
 
--- the words behind `make`: a number
+-- the words after `make`: a number
 abbrev pub make_of : List (List ℕ) → Option Job
 make_of (number ∷ []) = option_map Make (number_of number)
 make_of _ = None
 
--- the words behind `import`: a document and a set
+-- the words after `import`: a document and a set
 abbrev pub import_of : List (List ℕ) → Option Job
 import_of (file ∷ set ∷ []) = if is_name file && is_name set then Some (Import file set) else None
 import_of _ = None
 
--- the words behind `lint`: a set
+-- the words after `lint`: a set
 abbrev pub lint_of : List (List ℕ) → Option Job
 lint_of (set ∷ []) = if is_name set then Some (Lint set) else None
 lint_of _ = None
 
--- the words behind `normal`: a set and the file of its normal text
+-- the words after `normal`: a set and the file of its normal text
 abbrev pub normal_of : List (List ℕ) → Option Job
 normal_of (set ∷ out ∷ []) = if is_name set && is_name out then Some (Normal set out) else None
 normal_of _ = None
 
--- the words behind `explain`: a set, a trace and the id of an achievement
+-- the words after `explain`: a set, a trace and the id of an achievement
 abbrev pub explain_of : List (List ℕ) → Option Job
 explain_of (set ∷ trace ∷ id ∷ []) = if is_name set && is_name trace then option_map (Explain set trace) (number_of id) else None
 explain_of _ = None

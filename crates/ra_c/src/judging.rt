@@ -27,8 +27,9 @@ pub extern "C" fn meerkat_judge(alloc: Global, kind: u32, text: &[u8], why: &mut
 /// The set file of what is left of a document in JSON: docs/DEFINITIONS.md, "Calls from C" and "What is left of a
 /// document".
 ///
-/// `MEERKAT_RANGE` where a flag is set, since there is none yet; `MEERKAT_DOCUMENT` where nothing is left, with the reason; `MEERKAT_ROOM` where
-/// there is too little room; `MEERKAT_MEMORY` where memory runs out.
+/// The flag 1 leaves out the unofficial achievements too, and counts them. `MEERKAT_RANGE` where another flag is set;
+/// `MEERKAT_DOCUMENT` where nothing is left, with the reason; `MEERKAT_ROOM` where there is too little room;
+/// `MEERKAT_MEMORY` where memory runs out.
 #[unsafe(no_mangle)]
 pub extern "C" fn meerkat_import(
     alloc: Global,

@@ -211,7 +211,7 @@ fn an_unlock_is_explained_by_its_hits(rt: HostRuntime) {
     );
 }
 
-// The codes of records and of explanations: over nothing, of another id, before an unlock, behind it, and after a reset.
+// The codes of records and of explanations: over nothing, of another id, before an unlock, after it, and after a reset.
 fn record_codes(alloc: Global) -> [u32; 7] {
     let mut handle = Handle::empty(alloc);
     let empty = meerkat_record(alloc, &mut handle, 1);

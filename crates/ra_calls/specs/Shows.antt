@@ -25,6 +25,6 @@ IsShownBy course text =
 abbrev pub head_of : (count : ℕ) → List ℕ
 head_of count = (codes "presence " ++ decimal count) ++ 32 ∷ []
 
--- the text of a presence line, which stands behind this many bytes and before a line feed; nothing of an empty line
+-- the text of a presence line, which comes after this many bytes and before a line feed; nothing of an empty line
 abbrev pub text_in : (head : ℕ) → (line : List ℕ) → List ℕ
 text_in head line = if nat_lt head (length line) then slice_range line head (length line - 1) else []

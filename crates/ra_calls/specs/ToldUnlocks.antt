@@ -9,7 +9,7 @@ use Rattle.ra_calls.specs.declared.told_unlock.ToldUnlock.{ToldUnlock}
 abbrev pub told_hits : ℕ → Event → ToldHits
 told_hits place e = record { condition = place; row = e.row; hits = e.hits }
 
--- the events of all conditions from a place on, one condition behind the other
+-- the events of all conditions from a place on, one condition after the other
 abbrev pub all_hits : ℕ → List (List Event) → List ToldHits
 all_hits place [] = []
 all_hits place (own ∷ rest) = map (told_hits place) own ++ all_hits (place + 1) rest

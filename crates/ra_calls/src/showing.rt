@@ -20,7 +20,7 @@ fn head_of(alloc: Global, count: u64) -> Result<Vec<u8>, OutOfMemory>
     Ok(head)
 }
 
-// The text of a presence line, which stands behind this many bytes and before a line feed; nothing of an empty line.
+// The text of a presence line, which comes after this many bytes and before a line feed; nothing of an empty line.
 fn text_in(alloc: Global, line: &[u8], head: usize) -> Result<Vec<u8>, OutOfMemory>
     ensures { IfOk result (λ text. text.items ≡ spec.text_in head line.now) }
 {

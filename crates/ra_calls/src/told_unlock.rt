@@ -47,7 +47,7 @@ pub fn head_of(explanation: &Explanation) -> ToldUnlock
     }
 }
 
-// Tells the events of the condition at a place behind others.
+// Tells the events of the condition at a place after others.
 fn put_hits(told: &mut Vec<ToldHits>, place: u32, list: &[Event]) -> Result<(), AllocError>
     ensures { OnOk result (told.new.items ≡ told.old.items ++ map (spec.told_hits place) list.now) }
 {
@@ -61,7 +61,7 @@ fn put_hits(told: &mut Vec<ToldHits>, place: u32, list: &[Event]) -> Result<(), 
     Ok(())
 }
 
-// The events of all conditions, one condition behind the other.
+// The events of all conditions, one condition after the other.
 pub fn hits_of(alloc: Global, events: &[Events]) -> Result<Vec<ToldHits>, OutOfMemory>
     requires { length events.now ≤ 65536 }
     ensures { IfOk result (λ told. told.items ≡ spec.all_hits 0 (contents_of events.now)) }

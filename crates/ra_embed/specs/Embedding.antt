@@ -15,7 +15,8 @@ pub record IsLoaded (text : List ℕ) (size : ℕ) (runtime : RuntimeSeen) : Typ
   pub spelled : IsSet text runtime.set
   pub made : IsMade runtime.set size runtime
 
--- a frame over the image with these bytes written: what is kept, earned, told and printed goes on over each history behind it
+-- a frame over the image with these bytes written: what is kept, earned, told and printed goes on over each history so
+-- far
 pub record PlaysFrame (old new : RuntimeSeen) (at : ℕ) (bytes : List ℕ) : Type 0 where
   pub set : new.set ≡ old.set
   pub image : new.image ≡ written old.image at bytes

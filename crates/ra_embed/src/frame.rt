@@ -10,15 +10,15 @@ use std::alloc::Global;
 pub struct Told {
     /// What happened: docs/DEFINITIONS.md, "Events".
     pub events: Vec<Event>,
-    /// The presence line behind it, as bytes; empty where the set has no script.
+    /// The presence line after it, as bytes; empty where the set has no script.
     pub presence: Vec<u8>,
-    /// The progress file of what is kept behind it, as bytes.
+    /// The progress file of what is kept after it, as bytes.
     pub progress: Vec<u8>,
 }
 
 /// Writes the bytes from the address `at` on, takes a frame, and tells what happened.
 ///
-/// Only memory can be wanting, and then the frame was taken all the same.
+/// Only memory can run out, and then the frame was taken all the same.
 pub fn play_frame(
     alloc: Global,
     runtime: &mut Runtime,

@@ -10,7 +10,7 @@ use std::alloc::Global;
 /// keeps".
 ///
 /// All bytes of the memory are 0, and no frame came. A text that is no set is refused for the first
-/// reason that comes; `Memory` tells want of memory.
+/// reason that comes; `Memory` reports running out of memory.
 pub fn load(alloc: Global, text: &[u8], size: u32) -> Result<Runtime, SetRefused>
     requires { size ≤ 2 ^ 27 }
     ensures loaded { IfOk result (IsLoaded text.now size) }

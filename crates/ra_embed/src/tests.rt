@@ -12,7 +12,7 @@ Display:
 Lives @Number(0xH0010)
 ";
 
-// Whether a frame behind one write of this byte tells these events and this line.
+// Whether a frame after one write of this byte tells these events and this line.
 fn tells(alloc: Global, runtime: &mut Runtime, byte: u8, events: &[Event], line: &str) -> bool
     requires { length runtime.old.image ≡ 64 }
     ensures { length runtime.new.image ≡ 64 }

@@ -10,7 +10,7 @@ use Rattle.ra_session.specs.Explaining.{explanation_text, no_unlock_text}
 use Rattle.ra_session.specs.declared.ending.Ending.{Ending}
 use Rattle.ra_session.specs.declared.ending.Ending.TheVariants.{Done, NoMemory, SinkFault}
 
--- a text is written whole, or memory is wanting, or a write fails
+-- a text is written whole, or memory runs out, or a write fails
 abbrev pub EndsText : (sink : Type 0) → Ending → Type 0
 EndsText sink Done = ⊤
 EndsText sink NoMemory = ⊤

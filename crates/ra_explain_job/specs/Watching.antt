@@ -22,7 +22,7 @@ use Rattle.ra_explain_job.specs.declared.taking.Taken.{Taken}
 use Rattle.ra_explain_job.specs.declared.taking.Taken.TheVariants.{On, Unlock, End}
 use Rattle.ra_explain_job.specs.declared.watch.Watch.{Watch}
 
--- The recorder has the image of a moment and stands for the frames behind it, and so do its slots for those that each has
+-- The recorder has the image of a moment and stands for the frames so far, and so do its slots for those that each has
 -- kept.
 pub record Follows (r : RecorderSeen) (m : Moment) : Type 0 where
   pub image : r.image ≡ m.image
@@ -36,7 +36,7 @@ pub record Follows (r : RecorderSeen) (m : Moment) : Type 0 where
 abbrev pub reason_at : RecorderSeen → Moment → List Entry → Reason
 reason_at r m entries = (decided_from r.trigger m r.frames entries).reason
 
--- A record decides nothing: the recorder follows the moment after it, and what the records behind it decide is decided.
+-- A record decides nothing: the recorder follows the moment after it, and what the records after it decide is decided.
 pub record GoesOn (old new : RecorderSeen) (entry : Entry) (m : Moment) : Type 0 where
   pub follows : Follows new (moved entry m)
   pub other : entry ≡ Ended → ⊥
@@ -66,7 +66,7 @@ RefusesEntry old entry m untaken.EmptySlot = TakesEmpty entry m
 RefusesEntry old entry m (untaken.Rows found) = PassesRows old entry m found
 RefusesEntry old entry m untaken.Memory = ⊤
 
--- why a trace is watched no further is why it is decided so, but for want of memory and for a read that failed
+-- why a trace is watched no further is why it is decided so, unless memory ran out or a read failed
 abbrev pub IsReason : Reason → (stop : Ending) → WatchFailed → Type 0
 IsReason reason stop (watch.Rows found) = reason ≡ AtRows found
 IsReason reason stop watch.Memory = ⊤

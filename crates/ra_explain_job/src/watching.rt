@@ -84,10 +84,10 @@ fn watch<F: Files>(
     }
 }
 
-/// Watches a trace for an achievement from the plain opening on, up to its first unlock. Nothing behind it is read.
+/// Watches a trace for an achievement from the plain opening on, up to its first unlock. Nothing after it is read.
 ///
 /// It stops where the trace is refused or has no end within the limit, where the rows are too many, at a read that
-/// failed, and for want of memory. No file changes.
+/// failed, and where memory ran out. No file changes.
 pub(crate) fn watch_trace<F: Files>(
     alloc: Global,
     text: TriggerText,

@@ -1,9 +1,9 @@
--- What a last line adds, and the status behind it: docs/DEFINITIONS.md, "Statuses".
+-- What a last line adds, and the status after it: docs/DEFINITIONS.md, "Statuses".
 use Rattle.std.specs.Prelude.{◌≡◌, ◌⊎◌, ℕ, Option, List}
 use Rattle.ra_io.specs.Sink.{grown}
 use Rattle.ra_jobs.specs.Writing.{GrewByPart}
 
--- a line was written whole, and the status is its own; or a write wanted memory or failed behind a front of it
+-- a line was written whole, and the status is its own; or a write wanted memory or failed after a front of it
 abbrev pub Closes : (own : ℕ) → (line : List ℕ) → (old new : Option (List ℕ)) → (sink : Type 0) → (status : ℕ) → Type 0
 Closes own line old new sink status =
     ((status ≡ own) × (new ≡ grown old line))

@@ -29,7 +29,7 @@ impl From<AllocError> for ReadFailed {
 // The most bytes of one read.
 const CHUNK: usize = 4096;
 
-// Reads on behind the bytes that are there, and says whether more may come.
+// Reads on after the bytes that are there, and says whether more may come.
 fn read_on<F: Files>(
     name: &str,
     limit: usize,
@@ -54,7 +54,7 @@ fn read_on<F: Files>(
     }
 }
 
-/// The bytes of a file, up to a limit. It stops at a read that failed, and for want of memory; no file changes.
+/// The bytes of a file, up to a limit. It stops at a read that failed, and where memory ran out; no file changes.
 pub fn read_whole<F: Files>(
     alloc: Global,
     name: &str,

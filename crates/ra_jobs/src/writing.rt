@@ -29,7 +29,7 @@ pub fn write_all<K: Sink>(bytes: &[u8], out: &mut K) -> Result<(), SinkFailed>
 
 /// Writes a last line, and answers its status: docs/DEFINITIONS.md, "Statuses".
 ///
-/// Where a write fails it answers 5, and where memory is wanting 1; a front of the line is written then.
+/// Where a write fails it answers 5, and where memory runs out 1; a front of the line is written then.
 pub fn put_last<K: Sink>(status: u8, line: &[u8], out: &mut K) -> u8
     ensures closes { Closes status line.now (K.text out.old) (K.text out.new) (Rose (K.faults out.old) (K.faults out.new)) result }
     ensures later { K.faults out.old ≤ K.faults out.new }

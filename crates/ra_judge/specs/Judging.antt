@@ -21,7 +21,7 @@ head_of Achievement = codes "A 1 "
 head_of Leaderboard = codes "L 1 VALUE "
 head_of Presence = 80 ∷ 10 ∷ []
 
--- what stands behind it
+-- what follows it
 abbrev pub tail_of : Kind → List ℕ
 tail_of Achievement = 10 ∷ []
 tail_of Leaderboard = 10 ∷ []

@@ -6,12 +6,12 @@ use Rattle.ra_judge.specs.declared.place.Place.{Place}
 abbrev pub first_place : Place
 first_place = record { line = 1; column = 1 }
 
--- the place behind a byte: a line feed ends the line
+-- the place after a byte: a line feed ends the line
 abbrev pub place_behind : ℕ → Place → Place
 place_behind byte place =
     if byte == 10 then record { line = place.line + 1; column = 1 } else record { line = place.line; column = place.column + 1 }
 
--- the place behind some bytes
+-- the place after some bytes
 abbrev pub place_after : List ℕ → Place → Place
 place_after [] place = place
 place_after (byte ∷ bytes) place = place_after bytes (place_behind byte place)

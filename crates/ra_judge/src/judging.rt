@@ -47,7 +47,7 @@ impl Kind {
         }
     }
 
-    // What stands behind it.
+    // What follows it.
     fn tail(self) -> &'static [u8]
         ensures { result.now ≡ spec.tail_of self }
     {

@@ -19,7 +19,7 @@ pub fn place_in(text: &[u8], at: usize) -> Place
     place_after(&text[..at.min(text.len()).min(MOST)])
 }
 
-// The line and the column behind a text.
+// The line and the column after a text.
 fn place_after(text: &[u8]) -> Place
     requires { length text.now ≤ most_before }
     ensures { result ≡ spec.place_after text.now spec.first_place }

@@ -30,7 +30,7 @@ pub data Ends (e : Expected) (reads trace puts sink : Type 0) : ℕ → List ℕ
   no_memory : {text : List ℕ} → (ending : Ending) (all : List ℕ) → Decides e reads trace puts ending all → IsFront text all → Ends e reads trace puts sink 1 text
 
 -- A job over told files says this: its text is that of one of its endings. A read decides where it is one of these files,
--- and one behind a record is of the trace.
+-- and one after a record is of the trace.
 abbrev pub PlaysAs : (deciding : Ending → Job → List (List ℕ)) → Job → Expected → Outside → Outside → ℕ → Type 0
 PlaysAs deciding job e old new status =
     (more : List ℕ) × GrewBy old new more

@@ -99,7 +99,7 @@ module _ (words : List (List ℕ)) (old new : Outside) where
     pub cause : Cause ending
     pub printed : PlaysWords deciding status
 
-  -- The line behind the put was not written whole: the job would be done, and the file has what it says.
+  -- The line after the put was not written whole: the job would be done, and the file has what it says.
   pub record PutsBeforeLine (status : ℕ) : Type 0 where
     pub job : Job
     pub is_job : job_of words ≡ Some job
@@ -110,7 +110,7 @@ module _ (words : List (List ℕ)) (old new : Outside) where
 
   -- What a call that answers this status leaves of the files: no name changes but the one that the words put, and that
   -- one only where the job was done, and then it has the bytes that the job says; where a put of it failed; or where the
-  -- line behind the put was not written whole.
+  -- line after the put was not written whole.
   pub record LeavesFiles (status : ℕ) : Type 0 where
     pub others : (name : List ℕ) → AllByRecursion (λ put. name ≢ put) (puts_in (job_of words)) → new.content name ≡ old.content name
     pub only : (status ≡ 0) ⊎ (PutsRose (puts_in (job_of words)) old new ⊎ (SameContent old.content new.content ⊎ PutsBeforeLine status))

@@ -54,7 +54,7 @@ fn do_job<F: Files, K: Sink>(alloc: Global, job: &Job<'_>, files: &mut F, out: &
 /// docs/DEFINITIONS.md, "Statuses".
 ///
 /// What was printed, and why, is said by the status. No file changes but the one that the words put,
-/// and that one only with status 0, where a put of it failed, or where the line behind it was not
+/// and that one only with status 0, where a put of it failed, or where the line after it was not
 /// written whole.
 pub fn play<F: Files, K: Sink>(alloc: Global, words: &[String], files: &mut F, out: &mut K) -> u8
     ensures answers { Answers (map string_bytes words.now)

@@ -21,7 +21,7 @@ EndsBefore e reads puts sink ReadFault old new = reads × ((records : ℕ) × Is
 EndsBefore e reads puts sink SaveFault old new = puts × (e.ending ≡ Done) × (new ≡ grown old (concat (before_put e)))
 EndsBefore e reads puts sink ending old new = (e.ending ≡ ending) × (new ≡ grown old (concat e.pieces))
 
--- where a read failed: one of a file that decides before anything was printed, or also one of the trace behind some
+-- where a read failed: one of a file that decides before anything was printed, or also one of the trace after some
 -- records
 abbrev pub EndsAtRead : Expected → (reads trace : Type 0) → (old new : Option (List ℕ)) → Type 0
 EndsAtRead e reads trace old new =

@@ -47,7 +47,7 @@ pub record Expected : Type 0 where
   -- the file is put before anything is printed
   pub puts_first : Bool
 
--- Behind so many records a read may come: there are as many, and the end record, behind which nothing is read, is not
+-- After this many records a read may come: there are as many, and the end record, after which nothing is read, is not
 -- among them.
 pub record IsReadBehind (e : Expected) (records : ℕ) : Type 0 where
   pub there : records ≤ length e.pieces
@@ -65,7 +65,7 @@ prints_nothing ending = record { pieces = []; ending = ending; saved = []; puts_
 abbrev pub prints_line : List ℕ → Expected
 prints_line line = record { pieces = line ∷ []; ending = Done; saved = []; puts_first = false }
 
--- a job that puts a file, and prints a line behind it
+-- a job that puts a file, and prints a line after it
 abbrev pub puts_then_prints : (file line : List ℕ) → Expected
 puts_then_prints file line = record { pieces = line ∷ []; ending = Done; saved = file; puts_first = true }
 
@@ -160,7 +160,7 @@ pub data ImportSays (content : List ℕ → Option (List ℕ)) (file : List ℕ)
   imports : (bytes text : List ℕ) (s : SetContents) → content file ≡ Some bytes → Imports bytes text → IsSet text s
       → ImportSays content file (puts_then_prints text (import_line s))
 
--- the line of `normal`, of a set whose normal text has so many bytes
+-- the line of `normal`, of a set whose normal text has this many bytes
 abbrev pub normal_line : SetContents → (bytes : ℕ) → List ℕ
 normal_line set bytes =
     join_with_byte 32 (codes "normal" ∷ codes "bytes" ∷ decimal bytes ∷ codes "conditions" ∷ decimal (normal_conditions set) ∷ []) ++ 10 ∷ []
@@ -173,7 +173,7 @@ pub data NormalSays (content : List ℕ → Option (List ℕ)) (set : List ℕ) 
   puts_text : (file : List ℕ) (s : SetContents) (text : List ℕ) → content set ≡ Some file → IsSet file s → IsNormal file s text
       → NormalSays content set (puts_then_prints text (normal_line s (length text)))
 
--- a job that prints nothing at so many records, and then this
+-- a job that prints nothing at this many records, and then this
 abbrev pub prints_behind : (records : ℕ) → List (List ℕ) → Ending → Expected
 prints_behind records pieces ending = record { pieces = replicate records [] ++ pieces; ending = ending; saved = []; puts_first = false }
 

@@ -11,7 +11,7 @@ use Rattle.ra_explain.specs.Explains.{ExplanationContents}
 use Rattle.ra_explain.specs.Recorders.{unlocks_at, most_rows}
 use Rattle.ra_explain.specs.declared.explanation.Event.{Event}
 
--- the row of an event and the hits after it, behind a blank
+-- the row of an event and the hits after it, after a blank
 abbrev pub event_text : Event → List ℕ
 event_text e = codes " " ++ decimal e.row ++ codes ":" ++ decimal e.hits
 
@@ -54,8 +54,8 @@ trigger_of id [] = None
 trigger_of id (Unlocks other t ∷ items) = if other == id then Some t else trigger_of id items
 trigger_of id (Ranks other format b ∷ items) = trigger_of id items
 
--- why a trace is read no further: an unlock, at an image behind a history; a frame too many; the end record; or where the
--- trace stops before it
+-- why a trace is read no further: an unlock, at an image after a history; a frame too many; the end record; or where
+-- the trace stops before it
 pub data Reason : Type 0 where
   AtUnlock : (image : List ℕ) → (earlier : History) → Reason
   AtRows : (found : ℕ) → Reason
@@ -79,7 +79,7 @@ behind_record d = record { records = d.records + 1; reason = d.reason }
 abbrev pub rows_with : TriggerContents → (frames : ℕ) → ℕ
 rows_with t frames = (frames + 1) * (trigger_hits t + 1)
 
--- what decides, of records from a moment on, where so many frames were taken
+-- what decides, of records from a moment on, where this many frames were taken
 abbrev pub decided_from : TriggerContents → Moment → (frames : ℕ) → List Entry → Decided
 decided_from t m frames [] = decided AtStop
 decided_from t m frames (Ended ∷ entries) = decided AtEnd

@@ -40,7 +40,7 @@ document_unread read.Failed = document.Read
 abbrev pub normal_unread : ReadFailed → NormalFailed
 normal_unread why = no_normal.Set (set_unread why)
 
--- a document that is refused; want of memory is no refusal of it
+-- a document that is refused; running out of memory is no refusal of it
 abbrev pub document_refused : PatchRefused → DocumentFailed
 document_refused patch.Memory = document.Memory
 document_refused why = document.Refused why

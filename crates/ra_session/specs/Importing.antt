@@ -15,7 +15,7 @@ pub record IsDocument (file : Option (List ℕ)) (d : Document) : Type 0 where
   pub line : string_bytes d.line ≡ import_line set
   pub imports : (bytes : List ℕ) → file ≡ Some bytes → Imports bytes d.text.items
 
--- why there is no document: memory was wanting, a read of its file failed, or it is refused, where its bytes are told
+-- why there is no document: memory ran out, a read of its file failed, or it is refused, where its bytes are told
 abbrev pub HasNoDocument : (file : Option (List ℕ)) → (rose : Type 0) → DocumentFailed → Type 0
 HasNoDocument file rose document.Memory = ⊤
 HasNoDocument file rose document.Read = rose

@@ -29,7 +29,8 @@ use Rattle.ra_session.specs.declared.failures.LoadFailed.TheVariants as load
 abbrev pub progress_in : Beginning → Option (List ℕ)
 progress_in beginning = option_map (λ bytes. bytes.items) beginning.progress
 
--- an opening, the frames behind it and what is earned that a run begins with: the plain one, none and nothing, or those after which is kept what its bytes say
+-- an opening, the frames after it and what is earned that a run begins with: the plain one, none and nothing, or those
+-- after which is kept what its bytes say
 abbrev pub BeginsAt : SetContents → Option (List ℕ) → Opening → History → Earned → Type 0
 BeginsAt set None o behind earned = (o ≡ plain_opening set) × (behind ≡ []) × (earned ≡ none_earned set)
 BeginsAt set (Some bytes) o behind earned =
@@ -58,13 +59,13 @@ pub record IsTaken (file : Option (List ℕ)) (c : SetContents) : Type 0 where
   pub playable : IsPlayable c
   pub is_set : (bytes : List ℕ) → file ≡ Some bytes → IsSet bytes c
 
--- why there is no set: memory was wanting, a read of its file failed, or the file is refused, where its bytes are told
+-- why there is no set: memory ran out, a read of its file failed, or the file is refused, where its bytes are told
 abbrev pub HasNoSet : (file : Option (List ℕ)) → (rose : Type 0) → SetFailed → Type 0
 HasNoSet file rose set.Memory = ⊤
 HasNoSet file rose set.Read = rose
 HasNoSet file rose (set.Refused why) = (bytes : List ℕ) → file ≡ Some bytes → Refuses (take (set_limit + 1) bytes) why
 
--- why there are no progress bytes of a set: memory was wanting, a read of their file failed, or the file is refused
+-- why there are no progress bytes of a set: memory ran out, a read of their file failed, or the file is refused
 abbrev pub HasNoProgress : SetContents → (content : List ℕ → Option (List ℕ)) → (restore : Option (List ℕ)) → (rose : Type 0) → ProgressFailed → Type 0
 HasNoProgress c content restore rose progress.Memory = ⊤
 HasNoProgress c content restore rose progress.Read = rose

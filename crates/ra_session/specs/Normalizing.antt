@@ -13,7 +13,7 @@ use Rattle.ra_session.specs.declared.failures.SetFailed.{SetFailed}
 use Rattle.ra_session.specs.declared.failures.SetFailed.TheVariants as set
 use Rattle.ra_session.specs.declared.failures.NormalFailed.TheVariants as failed
 
--- why bytes give no set: memory was wanting, or they are refused
+-- why bytes give no set: memory ran out, or they are refused
 abbrev pub IsUnset : List ℕ → SetFailed → Type 0
 IsUnset bytes set.Memory = ⊤
 IsUnset bytes set.Read = ⊥
@@ -26,7 +26,7 @@ pub record IsNormalized (file : Option (List ℕ)) (d : Document) : Type 0 where
   pub accepted : (bytes : List ℕ) → file ≡ Some bytes → IsSet bytes set
   pub normal : (bytes : List ℕ) → file ≡ Some bytes → IsNormal bytes set d.text.items
 
--- why there is no normal text: there is no set, memory was wanting, or the text passes a limit, where the bytes are told
+-- why there is no normal text: there is no set, memory ran out, or the text passes a limit, where the bytes are told
 abbrev pub HasNoNormal : (file : Option (List ℕ)) → (rose : Type 0) → NormalFailed → Type 0
 HasNoNormal file rose (failed.Set why) = HasNoSet file rose why
 HasNoNormal file rose (failed.Refused normal.Memory) = ⊤

@@ -61,7 +61,7 @@ HasBytes bytes old new name = is_some (old name) ≡ true → new name ≡ Some 
 abbrev pub HasSaved : Job → Expected → (old new : List ℕ → Option (List ℕ)) → Type 0
 HasSaved job e old new = AllByRecursion (HasBytes e.saved old new) (puts_of job)
 
--- the job prints its line behind its put
+-- the job prints its line after its put
 abbrev pub PrintsBehindPut : Job → Type 0
 PrintsBehindPut (Import file set) = Unit {0}
 PrintsBehindPut (Normal set out) = Unit {0}
@@ -72,14 +72,14 @@ module _ (job : Job) (old new : Outside) where
   abbrev pub IsSaved : Type 0
   IsSaved = (e : Expected) → JobSays old.content job e → HasSaved job e old.content new.content
 
-  -- The line behind the put was not written whole: the job would be done, and the file has what it says.
+  -- The line after the put was not written whole: the job would be done, and the file has what it says.
   pub record PutBeforeLine (ending : Ending) : Type 0 where
     pub behind : PrintsBehindPut job
     pub cut : (ending ≡ NoMemory) ⊎ (ending ≡ SinkFault)
     pub done : (e : Expected) → JobSays old.content job e → e.ending ≡ Done
     pub saved : IsSaved
 
-  -- where a job that ended so may have changed the file that it puts: it is done, a put of it failed, or the line behind
+  -- where a job that ended so may have changed the file that it puts: it is done, a put of it failed, or the line after
   -- the put was not written whole
   abbrev pub OnlyThen : Ending → Type 0
   OnlyThen ending = (ending ≡ Done) ⊎ (PutsRose (puts_of job) old new ⊎ (SameContent old.content new.content ⊎ PutBeforeLine ending))

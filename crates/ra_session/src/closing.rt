@@ -84,7 +84,7 @@ fn status_of(ending: Ending) -> u8
 /// Writes the last line of a job that ended so, and answers the status: docs/DEFINITIONS.md, "Statuses".
 ///
 /// A job that is done has no last line, and the status 0. Where a write of the line fails the status is 5, and where
-/// memory is wanting 1.
+/// memory runs out 1.
 pub fn finish<K: Sink>(alloc: Global, ending: Ending, out: &mut K) -> u8
     ensures finishes { Finishes ending (K.text out.old) (K.text out.new) (Rose (K.faults out.old) (K.faults out.new)) result }
     ensures done { ending ≡ Ending.Done → result ≡ 0 }

@@ -1,4 +1,4 @@
-/// What a job puts, and the line that it prints behind it.
+/// What a job puts, and the line that it prints after it.
 #[derive(Drop)]
 pub(crate) struct Document {
     /// The file.

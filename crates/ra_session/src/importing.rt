@@ -71,8 +71,8 @@ fn load_document<F: Files>(
 
 /// Takes a set of a document and puts it, up to the last line: docs/DEFINITIONS.md, "Sets from JSON".
 ///
-/// The line is printed behind the put. No file changes but the one that is put, and that one only where the document gives
-/// a set: it has the set file then, unless its put failed.
+/// The line is printed after the put. No file changes but the one that is put, and that one only where the document
+/// gives a set: it has the set file then, unless its put failed.
 pub fn import_job<F: Files, K: Sink>(
     alloc: Global,
     file: &str,

@@ -41,7 +41,7 @@ fn is_on_item(word: Word) -> bool
     matches!(word, Word::NoUnlock | Word::NoStart)
 }
 
-// The field of a board that a warning is on, with a blank behind it.
+// The field of a board that a warning is on, with a blank after it.
 fn place_of(place: Place) -> &'static str
     ensures { result.now ≡ place_text place }
 {

@@ -41,7 +41,7 @@ fn made_files(alloc: Global, number: u32) -> Result<SureFiles, OutOfMemory>
     Ok(files)
 }
 
-// What a run of the set of a number over its trace prints. It fails for want of memory alone.
+// What a run of the set of a number over its trace prints. It fails for running out of memory alone.
 fn made_text(alloc: Global, number: u32) -> Result<SureSink, Ending>
     ensures text { IfOk result (λ text. IsMadeText number text) }
     ensures memory { IfErr result (λ e. e ≡ Ending.NoMemory) }
@@ -75,7 +75,7 @@ fn made_line(alloc: Global, number: u32, text: &[u8]) -> Result<String, OutOfMem
 
 /// Makes the workload of a number, plays it, and tells the text in one line.
 ///
-/// It is done whole, or ends for want of memory or at a write that failed.
+/// It is done whole, or ends for running out of memory or at a write that failed.
 pub fn make_job<K: Sink>(alloc: Global, number: u32, out: &mut K) -> Ending
     ensures ran { (content : List ℕ → Option (List ℕ)) (reads puts : List ℕ → ℕ) → Ran (Make number)
         (outside_of content reads puts (K.text out.old) (K.faults out.old))

@@ -26,7 +26,7 @@ use ra_text::OutOfMemory;
 use std::alloc::Global;
 use std::fmt::Write;
 
-// The counts of a normal text with so many bytes, in the line of `normal`.
+// The counts of a normal text with this many bytes, in the line of `normal`.
 fn normal_line(alloc: Global, set: &Set, bytes: usize) -> Result<String, OutOfMemory>
     requires { text.normal_conditions (set_contents set.now) < 2 ^ 64 }
     ensures { IfOk result (λ line. string_bytes line ≡ spec.normal_line (set_contents set.now) bytes) }
@@ -76,7 +76,7 @@ fn load_normal<F: Files>(alloc: Global, name: &str, files: &mut F) -> Result<Doc
 
 /// Puts the normal text of a set, up to the last line: docs/DEFINITIONS.md, "Normal text".
 ///
-/// The line is printed behind the put. No file changes but the one that is put, and that one only where the set has a
+/// The line is printed after the put. No file changes but the one that is put, and that one only where the set has a
 /// normal text: it has that text then, unless its put failed.
 pub fn normal_job<F: Files, K: Sink>(
     alloc: Global,
