@@ -1,3 +1,4 @@
+pub mod AloneLemmas
 pub mod ColumnLemmas
 pub mod CopyLemmas
 pub mod CountingLemmas

@@ -16,10 +16,6 @@ use Rattle.ra_group.specs.Standings.{standing_at}
 use Rattle.ra_account.specs.declared.facts.Facts.{Facts}
 use Rattle.ra_account.specs.declared.facts.Around.{Around}
 
--- what is taken for a condition past the end, where no clause looks
-abbrev pub no_facts : Facts
-no_facts = record { counts = false; total = 0; past = false; left = 0; right = 0 }
-
 -- how many bytes a size looks at: three of the four of a cell of 24 bits
 abbrev pub bytes_of : Size → ℕ
 bytes_of Two = 2
@@ -58,7 +54,7 @@ wanted_by flag paused valid = (is_required flag && (paused || not valid)) || (is
 abbrev pub is_paused : Frame → Bool
 is_paused f = some_valid is_pause f (places f.conditions)
 
--- the value of the pointer of the condition behind one, by its flag and its left value
+-- the value of the pointer of the condition after one, by its flag and its left value
 abbrev pub pointer_by : Flag → ℕ → ℕ
 pointer_by flag left = if is_address flag then left else 0
 

@@ -55,7 +55,6 @@ pub record FitsGroup (cs : List Condition) (g : GroupAccount) : Type 0 where
   pub pausings : length g.pausing.items ≡ length cs
   pub pausing : (j : ℕ) → j < length cs → slice_index_or g.pausing.items j false ≡ in_pause_chain cs j
   pub room : length g.room.items ≡ length cs
-  pub facts : length g.facts.items ≡ length cs
 
 -- the part of a row that has the conditions of a group, which start at a place
 abbrev pub part_of : List Condition → ℕ → GroupRow → GroupRow
@@ -70,7 +69,7 @@ part_of cs start r = record {
 abbrev pub group_at : List (List Condition) → ℕ → List Condition
 group_at groups g = slice_index_or groups g []
 
--- the place at which the conditions of a group start, behind those of the groups before it
+-- the place at which the conditions of a group start, after those of the groups before it
 abbrev pub start_at : List (List Condition) → ℕ → ℕ
 start_at groups g = sum_by length (take g groups)
 

@@ -1,3 +1,4 @@
+pub mod Alone
 pub mod Conditions
 pub mod Copies
 pub mod Counting

@@ -43,7 +43,7 @@ abbrev pub span_text : Times → List ℕ
 span_text t =
     if t.count == 0 then [] else codes " first " ++ decimal t.first ++ codes " last " ++ decimal t.last
 
--- how many frames there are, the first and the last, behind a word
+-- how many frames there are, the first and the last, after a word
 abbrev pub times_text : (word : List ℕ) → Times → List ℕ
 times_text word t = word ++ codes " " ++ decimal t.count ++ span_text t ++ codes "\n"
 
@@ -56,7 +56,7 @@ abbrev pub target_text : ℕ → Best → List ℕ
 target_text target best =
     if target == 0 then [] else codes " of " ++ decimal target ++ codes " best " ++ best_text best
 
--- at how many frames it counts, its hits behind the last one, and its best
+-- at how many frames it counts, its hits after the last one, and its best
 abbrev pub counts_text : (target hits : ℕ) → Told → List ℕ
 counts_text target hits a =
     codes " counts " ++ decimal a.counts.count ++ span_text a.counts
@@ -92,7 +92,7 @@ past_text a = if a.past.count == 0 then [] else times_text (codes " past memory"
 abbrev pub live_text : (target hits frames : ℕ) → Told → List ℕ
 live_text target hits frames a = counts_text target hits a ++ sides_text frames a ++ timeline_text frames a
 
--- the lines of a condition behind the one that names it; one that only hands a value on has no hits to tell of
+-- the lines of a condition after the one that names it; one that only hands a value on has no hits to tell of
 abbrev pub account_text : Condition → (hits frames : ℕ) → Told → List ℕ
 account_text c hits frames a =
     if hands_on c.flag then past_text a else live_text c.target hits frames a ++ past_text a

@@ -19,7 +19,7 @@ impl Best {
         Best { total: 0, at: 0 }
     }
 
-    /// Notes the number of the frame `at`, behind all frames before it.
+    /// Notes the number of the frame `at`, after all frames before it.
     pub fn note(&mut self, at: u64, now: u32)
         ensures { (earlier : List ℕ) → length earlier ≡ at → self.old ≡ best_of earlier
             → self.new ≡ best_of (now ∷ earlier) }

@@ -17,7 +17,7 @@ pub struct Columns {
     pub width: u64,
     /// How many columns have all their frames.
     pub full: u64,
-    /// How many frames there are behind these, in a column that is begun.
+    /// How many frames there are after these, in a column that is begun.
     pub begun: u64,
     /// The mark of each column that has a frame, and room for the others.
     pub marks: Vec<Mark>,

@@ -43,7 +43,7 @@ impl ConditionAccount {
         })
     }
 
-    /// Notes what the frame `at` shows, behind all frames before it.
+    /// Notes what the frame `at` shows, after all frames before it.
     pub fn note(&mut self, at: u64, now: Facts)
         requires stands { StandsAt at self.old }
         requires few { at < 2 ^ 60 }

@@ -11,7 +11,7 @@ ghost use Rattle.ra_condition.specs.declared.condition.Condition.{Condition};
 
 use crate::columns::Columns;
 use crate::condition::ConditionAccount;
-use crate::group_account::{GroupAccount, NO_FACTS, NO_STANDING};
+use crate::group_account::{GroupAccount, NO_STANDING};
 use crate::mark::Mark;
 use crate::nearest::Nearest;
 use crate::trigger_account::TriggerAccount;
@@ -89,7 +89,6 @@ fn copy_group(alloc: Global, group: &GroupAccount) -> Result<GroupAccount, OutOf
         wants: group.wants.to_vec(alloc)?,
         pausing: group.pausing.to_vec(alloc)?,
         room: vec![in alloc; NO_STANDING; count]?,
-        facts: vec![in alloc; NO_FACTS; count]?,
     })
 }
 

@@ -1,61 +1,94 @@
-//! What a frame shows of the conditions of a group.
+//! A frame noted in the accounts of the conditions of a group.
 
-ghost use Rattle.std.specs.Prelude.{◌≡◌, ℕ, ◌<◌, ◌≤◌, ◌^◌, ◌&&◌, [], length, false, slice_index_or};
-ghost use Rattle.ra_condition.specs.Flags.{is_pause};
+ghost use Rattle.std.specs.Prelude.{◌≡◌, ℕ, ◌+◌, ◌<◌, ◌≤◌, ◌^◌, ◌∷◌, List, length, false, slice_index_or};
 ghost use Rattle.ra_group.specs.Equations.{frame_of};
-ghost use Rattle.ra_group.specs.Standings.{no_standing, standing_at};
 ghost use Rattle.ra_account.specs.Groups.{ArePausing, IsRowOf};
-ghost use Rattle.ra_account.specs.Facts.{facts_at, is_paused, no_facts, pointer_by, wanted_at};
+ghost use Rattle.ra_account.specs.Conditions.{AllStandAt, AreAccounts};
+ghost use Rattle.ra_account.specs.Facts.{facts_at, pointer_by, wanted_at};
+ghost use Rattle.ra_account.specs.declared.facts.Facts.{Facts};
 
-use crate::facts::{Around, Facts, facts_of, is_wanted};
+use crate::condition::ConditionAccount;
+use crate::facts::{Around, facts_of, is_wanted};
+use crate::stands::stand_group;
 use ra_condition::{Condition, Flag};
-use ra_group::{Standing, stand};
+use ra_group::Standing;
 
-// Tells what a frame shows of each condition of a group, and which of them it wants, over a memory of `size` bytes.
+// Notes in the account of each condition of a group what the frame `at` shows of it, after all frames before it, and
+// tells which of them the frame wants, over a memory of `size` bytes.
 //
 // All slices have an entry for each condition; what is in `room` is overwritten.
-pub(crate) fn show_group(
+pub(crate) fn note_group(
     conditions: &[Condition],
     size: u32,
+    at: u64,
     pausing: &[bool],
     truths: &[bool],
     lefts: &[u32],
     rights: &[u32],
     hits: &[u32],
     room: &mut [Standing],
-    facts: &mut [Facts],
     wants: &mut [bool],
+    accounts: &mut [ConditionAccount],
 )
     requires few { length conditions.now ≤ 2 ^ 32 }
+    requires frames { at < 2 ^ 60 }
     requires pausing { ArePausing conditions.now pausing.now }
     requires row { IsRowOf (length conditions.now)
         (record { truths = truths.now; lefts = lefts.now; rights = rights.now; hits = hits.now }) }
     requires room { length room.old ≡ length conditions.now }
-    requires facts { length facts.old ≡ length conditions.now }
     requires wants { length wants.old ≡ length conditions.now }
+    requires many { length accounts.old ≡ length conditions.now }
+    requires stand { AllStandAt at accounts.old }
 
-    ensures shown { (j : ℕ) → j < length conditions.now → slice_index_or facts.new j no_facts
-        ≡ facts_at (frame_of conditions.now truths.now lefts.now hits.now) rights.now size j }
+    ensures noted { (earlier : ℕ → List Facts) → AreAccounts earlier accounts.old → AreAccounts
+        (λ j. facts_at (frame_of conditions.now truths.now lefts.now hits.now) rights.now size j ∷ earlier j)
+        accounts.new }
+    ensures stand { AllStandAt (at + 1) accounts.new }
     ensures wanted { (j : ℕ) → j < length conditions.now → slice_index_or wants.new j false
         ≡ wanted_at (frame_of conditions.now truths.now lefts.now hits.now) j }
 {
-    stand(conditions, truths, hits, room);
-    let paused = some_pause(conditions, truths, hits, room);
+    let paused = stand_group(conditions, truths, hits, room);
     let mut pointer = 0;
-    for (place, condition) in conditions.iter().enumerate() {
+    for place in 0..least(conditions, pausing, lefts, rights, room, wants, accounts) {
+        let condition = &conditions[place];
         let around = Around {
             paused,
             in_pause_chain: pausing[place],
             pointer,
             size,
         };
-        facts[place] = facts_of(condition, room[place], around, lefts[place], rights[place]);
+        let fact = facts_of(condition, room[place], around, lefts[place], rights[place]);
+        accounts[place].note(at, fact);
         wants[place] = is_wanted(condition, paused, room[place].valid);
         pointer = pointer_behind(condition, lefts[place]);
     }
 }
 
-// The value of the pointer of the condition behind this one.
+// The least of the lengths of these rows, which are as long as each other: it tells the compiler so, and then no place
+// of a row is asked whether it is one.
+fn least(
+    conditions: &[Condition],
+    pausing: &[bool],
+    lefts: &[u32],
+    rights: &[u32],
+    room: &[Standing],
+    wants: &[bool],
+    accounts: &[ConditionAccount],
+) -> usize
+    requires pausing { length pausing.now ≡ length conditions.now }
+    requires lefts { length lefts.now ≡ length conditions.now }
+    requires rights { length rights.now ≡ length conditions.now }
+    requires room { length room.now ≡ length conditions.now }
+    requires wants { length wants.now ≡ length conditions.now }
+    requires accounts { length accounts.now ≡ length conditions.now }
+    ensures { result ≡ length conditions.now }
+{
+    let read = lefts.len().min(rights.len()).min(pausing.len());
+    let written = room.len().min(wants.len()).min(accounts.len());
+    conditions.len().min(read).min(written)
+}
+
+// The value of the pointer of the condition after this one.
 fn pointer_behind(condition: &Condition, left: u32) -> u32
     ensures { result ≡ pointer_by condition.now.flag left }
 {
@@ -64,30 +97,4 @@ fn pointer_behind(condition: &Condition, left: u32) -> u32
     } else {
         0
     }
-}
-
-// Whether some PauseIf of a group is valid, by how its conditions stand.
-fn some_pause(
-    conditions: &[Condition],
-    truths: &[bool],
-    hits: &[u32],
-    standings: &[Standing],
-) -> bool
-    requires standings { (j : ℕ) → j < length conditions.now → slice_index_or standings.now j no_standing
-        ≡ standing_at (frame_of conditions.now truths.now [] hits.now) j }
-    requires many { length standings.now ≡ length conditions.now }
-    ensures { result ≡ is_paused (frame_of conditions.now truths.now [] hits.now) }
-{
-    let mut paused = false;
-    for (place, condition) in conditions.iter().enumerate() {
-        paused |= is_valid_pause(condition, standings[place]);
-    }
-    paused
-}
-
-// Whether a condition is a PauseIf that is valid.
-fn is_valid_pause(condition: &Condition, standing: Standing) -> bool
-    ensures { result ≡ (is_pause condition.now.flag && standing.valid) }
-{
-    condition.flag.is_pause() && standing.valid
 }

@@ -4,16 +4,14 @@ ghost use Rattle.ra_account.specs.Conditions.{AllStandAt, AreAccounts};
 ghost use Rattle.ra_account.specs.Groups.{GroupRow, IsGroupAccount, GroupStandsAt, FitsGroup, IsRowOf, wants_of};
 
 use crate::condition::ConditionAccount;
-use crate::facts::Facts;
-use crate::group::show_group;
-use crate::noting::note_all;
+use crate::group::note_group;
 use ra_chain::pausing_of;
 use ra_condition::Group;
 use ra_group::Standing;
 use ra_text::OutOfMemory;
 use std::alloc::Global;
 
-/// The accounts of a group's conditions, with room for what a frame shows of them: docs/DEFINITIONS.md, "Account of
+/// The accounts of a group's conditions, with room for how they stand at a frame: docs/DEFINITIONS.md, "Account of
 /// an achievement".
 #[derive(Drop)]
 pub struct GroupAccount {
@@ -25,8 +23,6 @@ pub struct GroupAccount {
     pub pausing: Vec<bool>,
     /// Room for how the conditions stand.
     pub room: Vec<Standing>,
-    /// Room for what a frame shows of the conditions.
-    pub facts: Vec<Facts>,
 }
 
 impl GroupAccount {
@@ -45,11 +41,10 @@ impl GroupAccount {
             wants: vec![in alloc; false; count]?,
             pausing,
             room: vec![in alloc; NO_STANDING; count]?,
-            facts: vec![in alloc; NO_FACTS; count]?,
         })
     }
 
-    /// Notes what the frame `at` shows of the group's conditions over a memory of `size` bytes, behind all frames
+    /// Notes what the frame `at` shows of the group's conditions over a memory of `size` bytes, after all frames
     /// before it.
     ///
     /// The slices have the comparison, the left and the right value and the hits before the frame of each condition.
@@ -77,19 +72,19 @@ impl GroupAccount {
         ensures wants { self.new.wants.items ≡ wants_of (group_contents group.now)
             (record { truths = truths.now; lefts = lefts.now; rights = rights.now; hits = hits.now }) }
     {
-        show_group(
+        note_group(
             &group.conditions,
             size,
+            at,
             &self.pausing,
             truths,
             lefts,
             rights,
             hits,
             &mut self.room,
-            &mut self.facts,
             &mut self.wants,
+            &mut self.conditions,
         );
-        note_all(&mut self.conditions, at, &self.facts);
     }
 }
 
@@ -101,16 +96,7 @@ pub(crate) const NO_STANDING: Standing = Standing {
     valid: false,
 };
 
-// What is shown before any frame.
-pub(crate) const NO_FACTS: Facts = Facts {
-    counts: false,
-    total: 0,
-    past: false,
-    left: 0,
-    right: 0,
-};
-
-// So many accounts before the first frame.
+// This many accounts before the first frame.
 fn new_accounts(alloc: Global, count: usize) -> Result<Vec<ConditionAccount>, OutOfMemory>
     ensures many { IfOk result (λ accounts. length accounts.items ≡ count) }
     ensures begun { IfOk result (λ accounts. AreAccounts (λ j. []) accounts.items) }

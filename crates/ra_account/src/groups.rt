@@ -7,7 +7,7 @@ ghost use Rattle.ra_account.specs.Groups.{AllWant, GroupRow, AreGroupAccounts, A
 use crate::group_account::GroupAccount;
 use ra_condition::Group;
 
-// Notes in the account of each group what the frame `at` shows of its conditions, behind all frames before it.
+// Notes in the account of each group what the frame `at` shows of its conditions, after all frames before it.
 //
 // The last four slices run over the conditions of all groups of a trigger, and those of these groups start at `from`.
 pub(crate) fn note_groups(

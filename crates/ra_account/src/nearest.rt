@@ -33,7 +33,7 @@ impl Nearest {
         })
     }
 
-    /// Notes the frame `at`, behind all frames before it: whether it has a reset, and which conditions it wants.
+    /// Notes the frame `at`, after all frames before it: whether it has a reset, and which conditions it wants.
     pub fn note(&mut self, at: u64, reset: bool, wants: &[bool])
         requires many { length wants.now ≡ length self.old.wants.items }
         ensures noted { (earlier : List Lack) → length earlier ≡ at → IsNearest earlier self.old

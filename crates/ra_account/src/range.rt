@@ -25,7 +25,11 @@ impl Range {
     pub fn note(&mut self, now: u32)
         ensures { (earlier : List ℕ) → self.old ≡ range_of earlier → self.new ≡ range_of (now ∷ earlier) }
     {
-        self.least = self.least.min(now);
-        self.greatest = self.greatest.max(now);
+        if now < self.least {
+            self.least = now;
+        }
+        if self.greatest < now {
+            self.greatest = now;
+        }
     }
 }

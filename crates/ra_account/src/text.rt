@@ -1,4 +1,4 @@
-//! The lines of an account, behind the line that names the condition.
+//! The lines of an account, after the line that names the condition.
 
 ghost use Rattle.std.specs.Prelude.{◌≡◌, ◌++◌, ◌≤◌, length, string_bytes, OnOk};
 ghost use Rattle.std.specs.List.{flat_map};
@@ -26,7 +26,7 @@ fn write_span(text: &mut String, times: Times) -> Result<(), AllocError>
     write!(text, " first {first} last {last}")
 }
 
-/// Writes how many frames there are, the first and the last, behind a word: docs/DEFINITIONS.md, "Account of an
+/// Writes how many frames there are, the first and the last, after a word: docs/DEFINITIONS.md, "Account of an
 /// achievement".
 pub fn write_times(text: &mut String, word: &str, times: Times) -> Result<(), AllocError>
     ensures { OnOk result (string_bytes text.new ≡ string_bytes text.old ++ times_text word.now times) }
@@ -51,7 +51,7 @@ fn write_target(text: &mut String, target: u32, best: Best) -> Result<(), AllocE
     write!(text, " of {target} best {total} at {at}")
 }
 
-// How often the condition counts, its hits behind the last frame, and its best.
+// How often the condition counts, its hits after the last frame, and its best.
 fn write_counts(
     text: &mut String,
     target: u32,
@@ -158,7 +158,7 @@ fn write_live(
     Ok(())
 }
 
-/// Writes the lines of a condition's account over this many frames, with its hits behind the last one, behind the line
+/// Writes the lines of a condition's account over this many frames, with its hits after the last one, after the line
 /// that names it: docs/DEFINITIONS.md, "Account of an achievement".
 pub fn write_account(
     text: &mut String,

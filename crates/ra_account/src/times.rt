@@ -27,7 +27,7 @@ impl Times {
         }
     }
 
-    /// Notes whether it is so at the frame `at`, behind all frames before it.
+    /// Notes whether it is so at the frame `at`, after all frames before it.
     pub fn note(&mut self, at: u64, now: bool)
         requires within { self.old.count ≤ at }
         requires few { at < 2 ^ 60 }

@@ -17,5 +17,4 @@ returns-clause-fits c =
       pausings = ap length pausing ∙ length-map-range_with_len (in_pause_chain cs) 0 (length cs);
       pausing = λ j below. ap (λ (xs : List Bool). get_or xs j false) pausing ∙ get_or-map-range_with_len (in_pause_chain cs) 0 (length cs) j j false below (omega arith);
       room = omega (arith, c.in_ok-vec-2.ensures.len, c.in_ok-vec-2.field-0.ok.0, count);
-      facts = omega (arith, c.in_ok-vec-3.ensures.len, c.in_ok-vec-3.field-0.ok.0, count);
     }

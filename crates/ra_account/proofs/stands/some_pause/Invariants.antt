@@ -3,7 +3,7 @@ use Rattle.std.specs.List.{list_any, range_with_len}
 use Rattle.ra_condition.specs.Contents.{flag_at}
 use Rattle.ra_condition.specs.Flags.{is_pause}
 use Rattle.ra_group.specs.Equations.{frame_of, settled_at}
-use Rattle.ra_account.proofs.group.some_pause.Given as goal
+use Rattle.ra_account.proofs.stands.some_pause.Given as goal
 
 -- some PauseIf so far is valid
 abbrev pub invariant-loop-place : goal.invariant-loop-place

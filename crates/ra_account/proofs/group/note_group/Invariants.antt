@@ -1,0 +1,18 @@
+use Rattle.std.proofs.Common.{◌≡◌, ℕ, ◌+◌, ◌<◌, ◌≤◌, ◌∷◌, List, false, get_or}
+use Rattle.ra_group.specs.Equations.{frame_of}
+use Rattle.ra_account.specs.declared.facts.Facts.{Facts}
+use Rattle.ra_account.specs.declared.condition.ConditionAccount.{ConditionAccount}
+use Rattle.ra_account.specs.Conditions.{AreAccounts, IsAccountOf, StandsAt}
+use Rattle.ra_account.specs.Facts.{facts_at, wanted_at, pointer_at}
+use Rattle.ra_account.proofs.group.note_group.Given as goal
+
+-- the frame is noted in the accounts so far, and the others are as they were; the pointer is that of the next condition
+abbrev pub invariant-loop-place : goal.invariant-loop-place
+invariant-loop-place l = record {
+  pointer_too : l.pointer ≡ pointer_at (frame_of l.conditions l.truths l.lefts l.hits) l.place;
+  wanted : (j : ℕ) → j < l.place → get_or l.wants j false ≡ wanted_at (frame_of l.conditions l.truths l.lefts l.hits) j;
+  stand : (j : ℕ) → j < l.place → (d : ConditionAccount) → StandsAt (l.at + 1) (get_or l.accounts j d);
+  noted : (earlier : ℕ → List Facts) → AreAccounts earlier l.fn.accounts → (j : ℕ) → j < l.place → (d : ConditionAccount)
+      → IsAccountOf (facts_at (frame_of l.conditions l.truths l.lefts l.hits) l.rights l.size j ∷ earlier j) (get_or l.accounts j d);
+  rest : (j : ℕ) → l.place ≤ j → (d : ConditionAccount) → get_or l.accounts j d ≡ get_or l.fn.accounts j d;
+}

@@ -1,0 +1,154 @@
+//! How the conditions of a group stand at a frame, and whether it pauses.
+
+ghost use Rattle.std.specs.List.{list_any};
+ghost use Rattle.std.specs.Prelude.{◌≡◌, Bool, ℕ, ◌<◌, ◌≤◌, ◌^◌, ◌&&◌, [], length, false, not, slice_index_or};
+ghost use Rattle.ra_condition.specs.Chains.{places};
+ghost use Rattle.ra_condition.specs.Contents.{flag_at};
+ghost use Rattle.ra_condition.specs.Flags.{combines, hands_on, is_pause};
+ghost use Rattle.ra_group.specs.Equations.{frame_of};
+ghost use Rattle.ra_group.specs.Standings.{no_standing, standing_at};
+ghost use Rattle.ra_account.specs.Facts.{is_paused};
+ghost use Rattle.ra_account.specs.Alone.{StandAlone, stands_alone};
+
+use ra_condition::{Condition, Flag};
+use ra_group::{Standing, stand};
+
+// Tells how each condition of a group stands, and whether some PauseIf of it is valid.
+pub(crate) fn stand_group(
+    conditions: &[Condition],
+    truths: &[bool],
+    hits: &[u32],
+    standings: &mut [Standing],
+) -> bool
+    requires few { length conditions.now ≤ 2 ^ 32 }
+    requires truths { length truths.now ≡ length conditions.now }
+    requires hits { length hits.now ≡ length conditions.now }
+    requires standings { length standings.old ≡ length conditions.now }
+    ensures stand { (j : ℕ) → j < length conditions.now → slice_index_or standings.new j no_standing
+        ≡ standing_at (frame_of conditions.now truths.now [] hits.now) j }
+    ensures paused { result ≡ is_paused (frame_of conditions.now truths.now [] hits.now) }
+{
+    // Most groups have no chains, and then what a condition leaves for the next one need not be carried.
+    if is_chained(conditions) {
+        stand(conditions, truths, hits, standings);
+        if may_pause(conditions) {
+            some_pause(conditions, truths, hits, standings)
+        } else {
+            false
+        }
+    } else {
+        stand_apart(conditions, truths, hits, standings)
+    }
+}
+
+// Whether some condition of a group leaves something for the next one in its chain.
+fn is_chained(conditions: &[Condition]) -> bool
+    ensures { result ≡ false → StandAlone conditions.now }
+{
+    for place in 0..conditions.len() {
+        if leaves(&conditions[place]) {
+            return true;
+        }
+    }
+    false
+}
+
+// Whether a condition leaves something for the next one in its chain.
+fn leaves(condition: &Condition) -> bool
+    ensures { result ≡ (combines condition.now.flag && not (hands_on condition.now.flag)) }
+{
+    condition.flag.combines() && !condition.flag.hands_on()
+}
+
+// Whether a group has a PauseIf.
+fn may_pause(conditions: &[Condition]) -> bool
+    ensures { result ≡ false → (valid : ℕ → Bool)
+        → list_any (λ j. is_pause (flag_at conditions.now j) && valid j) (places conditions.now) ≡ false }
+{
+    for place in 0..conditions.len() {
+        if conditions[place].flag.is_pause() {
+            return true;
+        }
+    }
+    false
+}
+
+// The same of a group in which none leaves anything for the next one.
+fn stand_apart(
+    conditions: &[Condition],
+    truths: &[bool],
+    hits: &[u32],
+    standings: &mut [Standing],
+) -> bool
+    requires alone { StandAlone conditions.now }
+    requires truths { length truths.now ≡ length conditions.now }
+    requires hits { length hits.now ≡ length conditions.now }
+    requires standings { length standings.old ≡ length conditions.now }
+    ensures stand { (j : ℕ) → j < length conditions.now → slice_index_or standings.new j no_standing
+        ≡ standing_at (frame_of conditions.now truths.now [] hits.now) j }
+    ensures paused { result ≡ is_paused (frame_of conditions.now truths.now [] hits.now) }
+{
+    let mut paused = false;
+    for place in 0..least(conditions, truths, hits, standings) {
+        let standing = stand_alone(&conditions[place], truths[place], hits[place]);
+        paused |= is_valid_pause(&conditions[place], standing);
+        standings[place] = standing;
+    }
+    paused
+}
+
+// The least of the lengths of these rows, which are as long as each other: it tells the compiler so, and then no place
+// of a row is asked whether it is one.
+fn least(conditions: &[Condition], truths: &[bool], hits: &[u32], standings: &[Standing]) -> usize
+    requires truths { length truths.now ≡ length conditions.now }
+    requires hits { length hits.now ≡ length conditions.now }
+    requires standings { length standings.now ≡ length conditions.now }
+    ensures { result ≡ length conditions.now }
+{
+    let told = hits.len().min(truths.len());
+    conditions.len().min(told).min(standings.len())
+}
+
+// How a condition with none before it in its chain stands.
+fn stand_alone(condition: &Condition, truth: bool, hits: u32) -> Standing
+    ensures { result ≡ stands_alone condition.now truth hits }
+{
+    let target = condition.target;
+    let total = if truth && (target == 0 || hits < target) {
+        hits.saturating_add(1)
+    } else {
+        hits
+    };
+    Standing {
+        met: truth,
+        reset: false,
+        total,
+        valid: if target == 0 { truth } else { target <= total },
+    }
+}
+
+// Whether some PauseIf of a group is valid, by how its conditions stand.
+fn some_pause(
+    conditions: &[Condition],
+    truths: &[bool],
+    hits: &[u32],
+    standings: &[Standing],
+) -> bool
+    requires standings { (j : ℕ) → j < length conditions.now → slice_index_or standings.now j no_standing
+        ≡ standing_at (frame_of conditions.now truths.now [] hits.now) j }
+    requires many { length standings.now ≡ length conditions.now }
+    ensures { result ≡ is_paused (frame_of conditions.now truths.now [] hits.now) }
+{
+    let mut paused = false;
+    for (place, condition) in conditions.iter().enumerate() {
+        paused |= is_valid_pause(condition, standings[place]);
+    }
+    paused
+}
+
+// Whether a condition is a PauseIf that is valid.
+fn is_valid_pause(condition: &Condition, standing: Standing) -> bool
+    ensures { result ≡ (is_pause condition.now.flag && standing.valid) }
+{
+    condition.flag.is_pause() && standing.valid
+}
