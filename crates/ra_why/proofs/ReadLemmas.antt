@@ -1,5 +1,5 @@
 -- What a laid plan reads at a frame is what the definitions say over the whole history.
-use Rattle.std.proofs.Common.{◌≡◌, ℕ, List, [], ◌∷◌, ◌++◌, map, get_or, slice_index, refl, sym, ◌∙◌, ap, ap₂}
+use Rattle.std.proofs.Common.{◌≡◌, ℕ, Bool, List, [], ◌∷◌, ◌++◌, map, get_or, slice_index, refl, sym, ◌∙◌, ap, ap₂}
 use Rattle.std.specs.List.{flat_map}
 use Rattle.std.proofs.lemmas.Option.{slice_get_within, get_or_from_slice_get}
 use Rattle.std.proofs.lemmas.List.{map-append, get_or-map}
@@ -17,9 +17,11 @@ use Rattle.ra_memref.specs.Table.{TableSeen, AreKept, Samples, spelled_value}
 use Rattle.ra_member.specs.declared.laid.Laid.{Laid}
 use Rattle.ra_member.specs.Plans.{AreSpelled}
 use Rattle.ra_member.specs.Readings.{numbers_at}
-use Rattle.ra_member.specs.Runs.{HasValues, IsLaid}
+use Rattle.ra_member.specs.Runs.{HasValues, IsLaid, StepsAchievement}
 use Rattle.ra_member.proofs.LaidLemmas.{laid_lefts, laid_truths}
-use Rattle.ra_trigger.specs.Steps.{TriggerKept}
+use Rattle.ra_trigger.specs.declared.change.Change.{Change}
+use Rattle.ra_trigger.specs.Kept.{change_between}
+use Rattle.ra_trigger.specs.Steps.{TriggerKept, step}
 use Rattle.ra_explain.specs.Making.{IsOver}
 use Rattle.ra_explain.specs.Recorders.{StandsFor, kept_after, plain_start, rows_behind}
 use Rattle.ra_explain.specs.RowLists.{truths_laid}
@@ -97,3 +99,17 @@ module _ (t : TriggerContents) (old new : TableSeen) (image : List ℕ) (trigger
   shown_is run same laid =
       (λ i. shown_by t ((same ∙ stands.trigger) i)
       (row_is run.laid (row_read new.values run) laid refl refl refl (ap (λ (k : TriggerKept). k.hits) same) i))
+
+-- a step by what was read is a frame of the achievement
+pub steps_read : (t : TriggerContents) (table : TableSeen) (old new : TriggerRun) (change : Change)
+    (truths : List Bool) (lefts : List ℕ) → IsLaid table.nodes (groups_of t) old.laid
+    → truths ≡ truths_laid table.values old.laid → lefts ≡ numbers_at table.values old.laid.plan.lefts.items
+    → new.trigger ≡ step t truths lefts old.trigger → change ≡ change_between old.trigger new.trigger
+    → StepsAchievement table t old new change
+steps_read t table old new change truths lefts laid truths_are lefts_are next told = record {
+  kept = λ start h has.
+      let holds = truths_are ∙ laid_truths table.nodes table.values start h has (groups_of t) old.laid laid in
+      let numbers = lefts_are ∙ laid_lefts table.nodes table.values start h has (groups_of t) old.laid laid in
+      next ∙ (λ i. step t (holds i) (numbers i) old.trigger);
+  told = told;
+}

@@ -9,7 +9,7 @@ use Rattle.ra_why.specs.declared.taking.Taken.{Taken}
 use Rattle.ra_why.specs.declared.taking.Taken.TheVariants.{On, Unlock, Empty, End}
 use Rattle.ra_why.specs.declared.watcher.Watcher.{Watcher}
 
--- The watcher has the image of a moment and stands for the frames behind it, and each slot for those that it has kept.
+-- The watcher has the image of a moment and stands for the frames so far, and each slot for those that it has kept.
 pub record Follows (w : Watcher) (m : Moment) : Type 0 where
   pub image : w.memory ≡ m.image
   pub stands : Stands w m.behind
@@ -34,9 +34,9 @@ pub record GoesTo (old new : Watcher) (entry : Entry) (m : Moment) (unlock : Boo
   pub other : entry ≡ Ended → ⊥
   pub filled : IsEmptySlot entry m → ⊥
 
--- what a record that is taken did
+-- what a record that is taken did; the end record changes nothing
 abbrev pub TakesRecord : (old new : Watcher) → Entry → Moment → Taken → Type 0
 TakesRecord old new entry m On = GoesTo old new entry m false
 TakesRecord old new entry m Unlock = GoesTo old new entry m true
 TakesRecord old new entry m Empty = IsEmptySlot entry m
-TakesRecord old new entry m End = entry ≡ Ended
+TakesRecord old new entry m End = (entry ≡ Ended) × (new ≡ old)

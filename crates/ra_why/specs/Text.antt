@@ -36,7 +36,7 @@ state_word Triggered = codes "triggered"
 abbrev pub column_text : (width : ℕ) → List ℕ
 column_text width = if nat_lt 1 width then codes " column " ++ decimal width else []
 
--- how many frames there are, what is kept behind the last of them, and how wide a column is
+-- how many frames there are, what is kept after the last of them, and how wide a column is
 abbrev pub frames_text : (frames : ℕ) → TriggerKept → List ℕ
 frames_text frames kept =
     codes "frames " ++ decimal frames ++ codes " state " ++ state_word kept.state ++ codes " measured " ++ decimal
@@ -52,7 +52,7 @@ abbrev pub condition_lines : (group place : ℕ) → Condition → (hits frames 
 condition_lines group place c hits frames told =
     place_text group place ++ codes " " ++ condition_text c ++ codes "\n" ++ account_text c hits frames told
 
--- the lines of the conditions of a group, with their hits behind the last frame, by what each frame shows of the group
+-- the lines of the conditions of a group, with their hits after the last frame, by what each frame shows of the group
 abbrev pub group_lines : (group : ℕ) → List Condition → (hits : List ℕ) → (frames size : ℕ) → List GroupRow → List ℕ
 group_lines group cs hits frames size rows =
     flat_map (λ j. condition_lines group j (condition_at cs j) (slice_index hits j) frames
@@ -100,7 +100,7 @@ whole_lines t rows =
     ++ times_text (codes "waited") (times_of (map (λ f. f.moment.waited) rows))
     ++ nearest_text (groups_of t) (nearest_at (map (lack_of t) rows)) (nearest_of (map (lack_of t) rows))
 
--- the text by what is kept behind the last frame and what each frame shows
+-- the text by what is kept after the last frame and what each frame shows
 abbrev pub text_by : (id : ℕ) → TriggerContents → (size : ℕ) → TriggerKept → List TriggerRow → List ℕ
 text_by id t size kept rows =
     first_text (is_triggered kept.state) (length rows) id

@@ -24,7 +24,7 @@ pub struct Kept {
     pub hits: Vec<u8>,
     /// Four bytes for each cell, and then for each tracked mask.
     pub numbers: Vec<u8>,
-    /// The account of the frames behind.
+    /// The account of the frames so far.
     pub account: TriggerAccount,
 }
 
@@ -54,7 +54,7 @@ impl Kept {
     }
 }
 
-// Puts numbers as words behind the bytes.
+// Puts numbers as words after the bytes.
 fn put_words(bytes: &mut Vec<u8>, numbers: &[u32]) -> Result<(), OutOfMemory>
     ensures words { OnOk result (bytes.new.items ≡ bytes.old.items ++ words numbers.now) }
     ensures fit { FitWords numbers.now }

@@ -23,7 +23,7 @@ pub(crate) fn write_place(text: &mut String, group: usize, place: usize) -> Resu
     write!(text, "{group}.{place}")
 }
 
-// The canonical text of a condition, behind the bytes.
+// The canonical text of a condition, after the bytes.
 fn put_condition(
     alloc: Global,
     text: &mut Vec<u8>,
@@ -53,7 +53,7 @@ fn before(alloc: Global, group: usize, place: usize) -> Result<String, OutOfMemo
     Ok(line)
 }
 
-// What stands behind it.
+// What follows it.
 fn behind(
     alloc: Global,
     condition: &Condition,
@@ -71,7 +71,7 @@ fn behind(
     Ok(lines)
 }
 
-// The lines of the condition at a group and a place, with its hits behind the last of so many frames.
+// The lines of the condition at a group and a place, with its hits after the last frame and the count of frames.
 fn put_lines(
     alloc: Global,
     text: &mut Vec<u8>,

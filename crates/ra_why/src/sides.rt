@@ -2,7 +2,7 @@
 
 ghost use Rattle.std.specs.Prelude.{◌≡◌, true, length};
 ghost use Rattle.ra_operand.specs.Operators.{compared};
-ghost use Rattle.ra_member.specs.Readings.{numbers_at};
+ghost use Rattle.ra_member.specs.Readings.{AreValued, numbers_at, truths_by};
 ghost use Rattle.ra_member.specs.Runs.{MayFill};
 ghost use Rattle.ra_explain.specs.RowLists.{truths_laid};
 
@@ -28,13 +28,71 @@ pub(crate) fn read_sides(
     ensures lefts { lefts.new ≡ numbers_at table.now.values laid.now.plan.lefts.items }
     ensures rights { rights.new ≡ numbers_at table.now.values laid.now.plan.rights.items }
 {
-    for (place, op) in laid.ops.iter().enumerate() {
-        let left = table.value(laid.plan.lefts[place]);
-        let right = table.value(laid.plan.rights[place]);
+    let plan = &laid.plan;
+    read_rows(
+        table,
+        &laid.ops,
+        &plan.lefts,
+        &plan.rights,
+        truths,
+        lefts,
+        rights,
+    );
+}
+
+// The same by the operators and the nodes of both sides.
+fn read_rows(
+    table: &Table,
+    ops: &[Op],
+    left_nodes: &[u32],
+    right_nodes: &[u32],
+    truths: &mut [bool],
+    lefts: &mut [u32],
+    rights: &mut [u32],
+)
+    requires left_nodes { AreValued table.now.nodes left_nodes.now }
+    requires right_nodes { AreValued table.now.nodes right_nodes.now }
+    requires sampled { table.now.sampled ≡ true }
+    requires left_count { length left_nodes.now ≡ length ops.now }
+    requires right_count { length right_nodes.now ≡ length ops.now }
+    requires truths { length truths.old ≡ length ops.now }
+    requires lefts { length lefts.old ≡ length ops.now }
+    requires rights { length rights.old ≡ length ops.now }
+
+    ensures truths { truths.new ≡ truths_by ops.now (numbers_at table.now.values left_nodes.now)
+        (numbers_at table.now.values right_nodes.now) }
+    ensures lefts { lefts.new ≡ numbers_at table.now.values left_nodes.now }
+    ensures rights { rights.new ≡ numbers_at table.now.values right_nodes.now }
+{
+    for place in 0..least(ops, left_nodes, right_nodes, truths, lefts, rights) {
+        let left = table.value(left_nodes[place]);
+        let right = table.value(right_nodes[place]);
         lefts[place] = left;
         rights[place] = right;
-        truths[place] = holds(*op, left, right);
+        truths[place] = holds(ops[place], left, right);
     }
+}
+
+// The least of the lengths of these rows, which are as long as each other: it tells the compiler so, and then no place
+// of a row is asked whether it is one.
+fn least(
+    ops: &[Op],
+    left_nodes: &[u32],
+    right_nodes: &[u32],
+    truths: &[bool],
+    lefts: &[u32],
+    rights: &[u32],
+) -> usize
+    requires left_nodes { length left_nodes.now ≡ length ops.now }
+    requires right_nodes { length right_nodes.now ≡ length ops.now }
+    requires truths { length truths.now ≡ length ops.now }
+    requires lefts { length lefts.now ≡ length ops.now }
+    requires rights { length rights.now ≡ length ops.now }
+    ensures { result ≡ length ops.now }
+{
+    let nodes = left_nodes.len().min(right_nodes.len());
+    let read = lefts.len().min(rights.len()).min(truths.len());
+    ops.len().min(nodes).min(read)
 }
 
 // Whether a comparison holds; arithmetic compares nothing.

@@ -19,7 +19,7 @@ use std::sync::ledger::{Blank, Ledger};
 /// What a record did.
 #[derive(Clone, Copy, Debug, PartialEq, Eq)]
 pub enum Taken {
-    /// The watcher goes on behind it.
+    /// The watcher goes on after it.
     On,
     /// It is the frame of an unlock.
     Unlock,

@@ -10,7 +10,7 @@ ghost use Rattle.ra_why.specs.Watching.{IsFirst, IsMade, IsRoom, IsWatching, May
 
 use crate::kept::Kept;
 use crate::room::Room;
-use crate::showing::note_frame;
+use crate::showing::take_frame;
 use ra_account::TriggerAccount;
 use ra_condition::TriggerText;
 use ra_indirect::Pool;
@@ -37,7 +37,7 @@ pub struct Watcher {
     pub table: Table,
     /// The achievement.
     pub run: TriggerRun,
-    /// The account of the frames behind.
+    /// The account of the frames so far.
     pub account: TriggerAccount,
     /// Room for what a frame shows.
     pub room: Room,
@@ -96,15 +96,14 @@ impl Watcher {
             memory: &self.memory,
             steps,
         });
-        note_frame(
+        unlocks(take_frame(
             &self.text,
             size,
             &self.table,
-            &self.run,
+            &mut self.run,
             &mut self.room,
             &mut self.account,
-        );
-        unlocks(self.run.step(&self.text, &self.table))
+        ))
     }
 
     /// Keeps the present moment in a slot, from 0 to 15. Where memory runs out nothing changes.

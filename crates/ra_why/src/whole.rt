@@ -186,7 +186,7 @@ fn head(alloc: Global, id: u32, trigger: &Trigger, frames: u64) -> Result<String
     Ok(lines)
 }
 
-// The lines of all conditions, behind the bytes.
+// The lines of all conditions, after the bytes.
 fn put_conditions(
     alloc: Global,
     text: &mut Vec<u8>,
@@ -225,8 +225,8 @@ fn put_conditions(
     Ok(())
 }
 
-/// The text of the account of an achievement with what is kept of it behind the last frame: docs/DEFINITIONS.md, "Account
-/// of an achievement".
+/// The text of the account of an achievement with what is kept of it after the last frame: docs/DEFINITIONS.md,
+/// "Account of an achievement".
 ///
 /// Fewer than 2^60 frames were noted.
 pub fn account_text(

@@ -27,17 +27,29 @@ read_sides-requires-clause-rights c =
     ap length c.deref_mut-3.ensures.value ∙ c.requires.room.rights
     ∙ sym (ap length c.requires.run.laid.ops ∙ length_ops (groups_of (trigger_contents c.args.text.now)))
 
+pub returns-clause-truths : goal.returns-clause-truths
+returns-clause-truths c =
+    let room = c.args.room.now in
+    let new = c.read_sides.new in
+    let many : room.truths.len ≡ length new.truths = sym (c.read_sides.auto.truths ∙ c.deref_mut.ensures.len) in
+    refilled room.truths.len new.truths room.truths.items many ∙ c.read_sides.ensures.truths
+
+pub returns-clause-lefts : goal.returns-clause-lefts
+returns-clause-lefts c =
+    let room = c.args.room.now in
+    let new = c.read_sides.new in
+    let many : room.lefts.len ≡ length new.lefts = sym (c.read_sides.auto.lefts ∙ c.deref_mut-2.ensures.len) in
+    refilled room.lefts.len new.lefts room.lefts.items many ∙ c.read_sides.ensures.lefts
+
 pub returns-clause-noted : goal.returns-clause-noted
 returns-clause-noted c = λ earlier known.
     let t = trigger_contents c.args.text.now in
     let room = c.args.room.now in
     let run = c.args.run.now in
     let new = c.read_sides.new in
-    let truths : room.truths.len ≡ length new.truths = sym (c.read_sides.auto.truths ∙ c.deref_mut.ensures.len) in
-    let lefts : room.lefts.len ≡ length new.lefts = sym (c.read_sides.auto.lefts ∙ c.deref_mut-2.ensures.len) in
     let rights : room.rights.len ≡ length new.rights = sym (c.read_sides.auto.rights ∙ c.deref_mut-3.ensures.len) in
-    let truths_are = refilled room.truths.len new.truths room.truths.items truths ∙ c.read_sides.ensures.truths in
-    let lefts_are = refilled room.lefts.len new.lefts room.lefts.items lefts ∙ c.read_sides.ensures.lefts in
+    let truths_are = returns-clause-truths c in
+    let lefts_are = returns-clause-lefts c in
     let rights_are = refilled room.rights.len new.rights room.rights.items rights ∙ c.read_sides.ensures.rights in
     let first = c.deref.ensures.value ∙ truths_are in
     let second = c.deref-2.ensures.value ∙ lefts_are in
