@@ -1,0 +1,4 @@
+pub mod Choosing
+pub mod Left
+pub mod Says
+pub mod Watching
