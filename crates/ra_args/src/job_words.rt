@@ -64,8 +64,8 @@ pub(crate) fn is_name(word: &str) -> bool
     }
 }
 
-// The number of 32 bits of which a word is the decimal text.
-fn number_of(word: &str) -> Option<u32>
+/// The number of 32 bits of which a word is the decimal text.
+pub(crate) fn number_of(word: &str) -> Option<u32>
     ensures { result ≡ spec.number_of word.now }
 {
     let [first, more @ ..] = word.as_bytes() else {
@@ -77,7 +77,7 @@ fn number_of(word: &str) -> Option<u32>
     word.parse::<u32>().ok()
 }
 
-// Whether the words behind the trace are options.
+// Whether the words after the trace are options.
 fn are_options(words: &[String]) -> bool
     ensures { result ≡ is_some (spec.options_of (map string_bytes words.now)) }
 {
@@ -97,7 +97,7 @@ fn are_options(words: &[String]) -> bool
     }
 }
 
-// Whether the words behind `run` are a set, a trace, and options.
+// Whether the words after `run` are a set, a trace, and options.
 fn is_run(words: &[String]) -> bool
     ensures { result ≡ is_some (spec.run_of (map string_bytes words.now)) }
 {
@@ -109,7 +109,7 @@ fn is_run(words: &[String]) -> bool
     }
 }
 
-// Whether the words behind `check` are a set.
+// Whether the words after `check` are a set.
 fn is_check(words: &[String]) -> bool
     ensures { result ≡ is_some (spec.check_of (map string_bytes words.now)) }
 {
@@ -119,7 +119,7 @@ fn is_check(words: &[String]) -> bool
     }
 }
 
-// Whether the words behind `make` are a number.
+// Whether the words after `make` are a number.
 fn is_make(words: &[String]) -> bool
     ensures { result ≡ is_some (spec.make_of (map string_bytes words.now)) }
 {
@@ -129,7 +129,7 @@ fn is_make(words: &[String]) -> bool
     }
 }
 
-// Whether the words behind `import` are a document and a set.
+// Whether the words after `import` are a document and a set.
 fn is_import(words: &[String]) -> bool
     ensures { result ≡ is_some (spec.import_of (map string_bytes words.now)) }
 {
@@ -139,7 +139,7 @@ fn is_import(words: &[String]) -> bool
     }
 }
 
-// Whether the words behind `lint` are a set.
+// Whether the words after `lint` are a set.
 fn is_lint(words: &[String]) -> bool
     ensures { result ≡ is_some (spec.lint_of (map string_bytes words.now)) }
 {
@@ -149,7 +149,7 @@ fn is_lint(words: &[String]) -> bool
     }
 }
 
-// Whether the words behind `normal` are a set and a file to put.
+// Whether the words after `normal` are a set and a file to put.
 fn is_normal(words: &[String]) -> bool
     ensures { result ≡ is_some (spec.normal_of (map string_bytes words.now)) }
 {
@@ -159,7 +159,7 @@ fn is_normal(words: &[String]) -> bool
     }
 }
 
-// Whether the words behind `explain` are a set, a trace and an id.
+// Whether the words after `explain` are a set, a trace and an id.
 fn is_explain(words: &[String]) -> bool
     ensures { result ≡ is_some (spec.explain_of (map string_bytes words.now)) }
 {
@@ -218,7 +218,7 @@ fn run_command<'a>(alloc: Global) -> Result<Command<'a>, AllocError>
         .arg(optional(alloc, "save"))
 }
 
-// A command with one word behind its name.
+// A command with one word after its name.
 fn short_command<'a>(alloc: Global, name: &'a str, id: &'a str) -> Result<Command<'a>, AllocError>
     ensures app { IfOk result (λ c. app_of c ≡ short_app name.entry.now id.entry.now) }
     ensures local { IfOk result (λ c. (out-Command c).has_globals ≡ false) }
@@ -226,7 +226,7 @@ fn short_command<'a>(alloc: Global, name: &'a str, id: &'a str) -> Result<Comman
     Command::new(alloc, name).arg(required(alloc, id))
 }
 
-// A command with two words behind its name.
+// A command with two words after its name.
 fn pair_command<'a>(
     alloc: Global,
     name: &'a str,
