@@ -4,12 +4,12 @@ use Rattle.std.specs.List.{AllByRecursion}
 use Rattle.std.specs.Result.{IsErrOf}
 use Rattle.ra_io.specs.Causes.{NoneFell, Rose}
 use Rattle.ra_io.specs.Files.{SameContent}
-use Rattle.ra_args.specs.AuthorWords.{AuthorJob, author_puts, author_reads}
+use Rattle.ra_args.specs.AuthorWords.{AuthorJob, author_puts}
 use Rattle.ra_author.specs.Endings.{AnswerEnds, Prints, unsaved, unput, answered, JobEnds, read_failed, save_failed, no_memory, as_said}
-use Rattle.ra_author_jobs.specs.Expected.{Expected, HasBytes, HasSaved, IsOwn, IsPut, JobSays}
+use Rattle.ra_author_jobs.specs.Expected.{Expected, HasBytes, HasSaved, IsAnswer, IsOwn, IsPut}
 use Rattle.ra_author_jobs.specs.Texts.{save_line}
 use Rattle.ra_jobs.specs.Closing.{Closes}
-use Rattle.ra_jobs.specs.Outside.{AnyRose, AreTold, Outside, PutsRose}
+use Rattle.ra_jobs.specs.Outside.{AnyRose, Outside, PutsRose}
 use Rattle.ra_jobs.proofs.Stays.{same_after}
 
 -- a count that rose in the second of two calls rose in both
@@ -39,7 +39,7 @@ prints_after old mid new own line status same still prints =
 
 -- a job ends as its answer does, where the files were read before
 pub answer_ends : (old mid new : Outside) (job : AuthorJob) (e : Expected) (status : ℕ) → mid.text ≡ old.text → mid.faults ≡ old.faults
-    → SameContent old.content mid.content → NoneFell old.put_faults mid.put_faults → IsOwn e → (AreTold old.content (author_reads job) → JobSays old.content job e)
+    → SameContent old.content mid.content → NoneFell old.put_faults mid.put_faults → IsOwn e → IsAnswer old.content job e
     → AnswerEnds mid new job e status → JobEnds old new job status
 answer_ends old mid new job e status text faults same puts own told (unsaved rose prints) =
     save_failed (rose_after old.put_faults mid.put_faults new.put_faults (author_puts job) puts rose) (prints_after old mid new 9 save_line status text faults prints)

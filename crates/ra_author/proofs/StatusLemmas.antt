@@ -1,12 +1,11 @@
 -- What each status says.
-use Rattle.std.proofs.Common.{arith, ◌≡◌, ◌≤◌, ◌⊎◌, ◌∙◌, inl, inr, ap, sym, subst, refl, ℕ, List, Option, Some, None, is_some}
+use Rattle.std.proofs.Common.{arith, ◌≡◌, ◌≤◌, ◌⊎◌, ◌∙◌, inl, inr, ap, sym, subst, refl, ℕ, List, Option, Some, None, true, false}
 use Rattle.ra_io.specs.Files.{SameContent}
-use Rattle.ra_args.specs.AuthorWords.{AuthorJob, Review, Import, Help, Version, author_job_of, author_puts, author_reads}
+use Rattle.ra_args.specs.AuthorWords.{AuthorJob, author_job_of, author_puts, author_reads}
 use Rattle.ra_author.specs.Endings.{Ends, JobEnds, Prints, as_said, no_job, no_memory, of_job, puts_in, read_failed, save_failed}
 use Rattle.ra_author.specs.Statuses.{EndsAsSaid, IsNoJob, IsStatus, IsWhole, LeavesFiles, MeetsReadFault, MeetsSaveFault, PutsBeforeText, SaysEachStatus}
-use Rattle.ra_author_jobs.specs.Expected.{Expected, HasSaved, IsOwn, IsPut, JobSays, of_bytes, reviews}
+use Rattle.ra_author_jobs.specs.Expected.{Expected, HasSaved, IsAnswer, IsOwn, IsOwnStatus, IsPut, JobSays, deciding, is_refusal}
 use Rattle.ra_author_jobs.specs.Texts.{read_line, save_line, usage_line}
-use Rattle.ra_author_jobs.proofs.OneAnswer.{one_answer}
 use Rattle.ra_jobs.specs.Outside.{AreTold, GrewBy, Outside, PutsRose, ReadsRose, SinkRose}
 
 same_job : (words : List (List ℕ)) (job other : AuthorJob) → author_job_of words ≡ Some job → author_job_of words ≡ Some other → job ≡ other
@@ -40,7 +39,7 @@ module _ (old new : Outside) where
   printed_five own status text (inr (inl memory)) other five = absurd (let one = memory.0 in omega (arith, one, five))
   printed_five own status text (inr (inr fault)) other five = fault.1
 
-own_status : (e : Expected) → IsOwn e → (e.status ≡ 0) ⊎ ((e.status ≡ 3) ⊎ (e.status ≡ 10))
+own_status : (e : Expected) → IsOwn e → IsOwnStatus e.status
 own_status e (inl zero) = inl zero
 own_status e (inr other) = inr other.0
 
@@ -49,42 +48,13 @@ known_of own status known (inl same) = subst IsStatus (sym same) known
 known_of own status known (inr (inl one)) = inl (omega (arith, one))
 known_of own status known (inr (inr five)) = inl (omega (arith, five))
 
-own_known : (own : ℕ) → (own ≡ 0) ⊎ ((own ≡ 3) ⊎ (own ≡ 10)) → IsStatus own
-own_known own (inl zero) = inl (omega (arith, zero))
-own_known own (inr (inl three)) = inl (omega (arith, three))
-own_known own (inr (inr ten)) = inr (inr ten)
+own_known : (own : ℕ) → IsOwnStatus own → IsStatus own
+own_known own of = inr (inr of)
 
-own_not_one : (own : ℕ) → (own ≡ 0) ⊎ ((own ≡ 3) ⊎ (own ≡ 10)) → own ≡ 1 → ⊥
-own_not_one own (inl zero) one = omega (arith, zero, one)
-own_not_one own (inr (inl three)) one = omega (arith, three, one)
-own_not_one own (inr (inr ten)) one = omega (arith, ten, one)
-
-own_not_two : (own : ℕ) → (own ≡ 0) ⊎ ((own ≡ 3) ⊎ (own ≡ 10)) → own ≡ 2 → ⊥
-own_not_two own (inl zero) two = omega (arith, zero, two)
-own_not_two own (inr (inl three)) two = omega (arith, three, two)
-own_not_two own (inr (inr ten)) two = omega (arith, ten, two)
-
-own_not_four : (own : ℕ) → (own ≡ 0) ⊎ ((own ≡ 3) ⊎ (own ≡ 10)) → own ≡ 4 → ⊥
-own_not_four own (inl zero) four = omega (arith, zero, four)
-own_not_four own (inr (inl three)) four = omega (arith, three, four)
-own_not_four own (inr (inr ten)) four = omega (arith, ten, four)
-
-own_not_five : (own : ℕ) → (own ≡ 0) ⊎ ((own ≡ 3) ⊎ (own ≡ 10)) → own ≡ 5 → ⊥
-own_not_five own (inl zero) five = omega (arith, zero, five)
-own_not_five own (inr (inl three)) five = omega (arith, three, five)
-own_not_five own (inr (inr ten)) five = omega (arith, ten, five)
-
-own_not_nine : (own : ℕ) → (own ≡ 0) ⊎ ((own ≡ 3) ⊎ (own ≡ 10)) → own ≡ 9 → ⊥
-own_not_nine own (inl zero) nine = omega (arith, zero, nine)
-own_not_nine own (inr (inl three)) nine = omega (arith, three, nine)
-own_not_nine own (inr (inr ten)) nine = omega (arith, ten, nine)
-
--- over files that say something, what a job reads is told
-said_told : (content : List ℕ → Option (List ℕ)) (job : AuthorJob) (e : Expected) → JobSays content job e → AreTold content (author_reads job)
-said_told content (Review set) e (reviews file said told is) = (ap is_some told, tt)
-said_told content (Import file set) e (of_bytes bytes x told is) = (ap is_some told, tt)
-said_told content Help e is = tt
-said_told content Version e is = tt
+-- a status that no job gives by itself is no such status
+own_not : (own other : ℕ) → IsOwnStatus own → (other ≡ 0 → ⊥) → is_refusal other ≡ false → own ≡ other → ⊥
+own_not own other (inl zero) some never is = some (sym is ∙ zero)
+own_not own other (inr listed) some never is = let bad : true ≡ false = sym listed ∙ ap is_refusal is ∙ never in absurd (cc bad)
 
 module _ (words : List (List ℕ)) (old new : Outside) (status : ℕ) where
   -- a text that is printed has no other status than its own, but that of memory and of a fault
@@ -108,8 +78,8 @@ module _ (words : List (List ℕ)) (old new : Outside) (status : ℕ) where
 
   -- a job whose answer was that of another answer of it
   module _ (job : AuthorJob) (e : Expected) (says : JobSays old.content job e) where
-    same_answer : (other : Expected) → (AreTold old.content (author_reads job) → JobSays old.content job other) → other ≡ e
-    same_answer other is = one_answer old.content job other e (is (said_told old.content job e says)) says
+    same_answer : (other : Expected) → IsAnswer old.content job other → other ≡ e
+    same_answer other is = is.one e says
 
     whole_job : (ReadsRose (author_reads job) old new → ⊥) → (PutsRose (author_puts job) old new → ⊥) → (SinkRose old new → ⊥)
         → JobEnds old new job status → (status ≡ 1) ⊎ ((status ≡ e.status) × GrewBy old new e.text)
@@ -121,7 +91,7 @@ module _ (words : List (List ℕ)) (old new : Outside) (status : ℕ) where
         (printed_so old new other.status status other.text prints no_write)
 
     -- the file that is put has what the job says
-    has_said : (other : Expected) → (AreTold old.content (author_reads job) → JobSays old.content job other) → IsPut job other.saved old.content new.content
+    has_said : (other : Expected) → IsAnswer old.content job other → IsPut job other.saved old.content new.content
         → HasSaved job e.saved old.content new.content
     has_said other is put = subst (λ (x : Expected). HasSaved job x.saved old.content new.content) (same_answer other is) put.has
 
@@ -131,14 +101,15 @@ module _ (words : List (List ℕ)) (old new : Outside) (status : ℕ) where
       whole_job job e says met.read met.put met.write (subst (λ j. JobEnds old new j status) (same_job words other job there is) ends)
 
   -- a status of its own is that of a job that is done as it says
-  as_own : (own : ℕ) → (own ≡ 0) ⊎ ((own ≡ 3) ⊎ (own ≡ 10)) → Ends old new words status → status ≡ own → EndsAsSaid words old new own
-  as_own own of (no_job none same prints) is = absurd (not_status 2 usage_line own prints is (own_not_two own of) (own_not_one own of) (own_not_five own of))
-  as_own own of (of_job job is_job (read_failed rose same prints)) is = absurd (not_status 4 read_line own prints is (own_not_four own of) (own_not_one own of) (own_not_five own of))
-  as_own own of (of_job job is_job (save_failed rose prints)) is = absurd (not_status 9 save_line own prints is (own_not_nine own of) (own_not_one own of) (own_not_five own of))
-  as_own own of (of_job job is_job (no_memory same text one)) is = absurd (own_not_one own of (sym is ∙ one))
+  as_own : (own : ℕ) → IsOwnStatus own → Ends old new words status → status ≡ own → EndsAsSaid words old new own
+  as_own own of (no_job none same prints) is = absurd (not_status 2 usage_line own prints is (own_not own 2 of (λ n. omega (arith, n)) refl) (own_not own 1 of (λ n. omega (arith, n)) refl) (own_not own 5 of (λ n. omega (arith, n)) refl))
+  as_own own of (of_job job is_job (read_failed rose same prints)) is = absurd (not_status 4 read_line own prints is (own_not own 4 of (λ n. omega (arith, n)) refl) (own_not own 1 of (λ n. omega (arith, n)) refl) (own_not own 5 of (λ n. omega (arith, n)) refl))
+  as_own own of (of_job job is_job (save_failed rose prints)) is = absurd (not_status 9 save_line own prints is (own_not own 9 of (λ n. omega (arith, n)) refl) (own_not own 1 of (λ n. omega (arith, n)) refl) (own_not own 5 of (λ n. omega (arith, n)) refl))
+  as_own own of (of_job job is_job (no_memory same text one)) is = absurd (own_not own 1 of (λ n. omega (arith, n)) refl (sym is ∙ one))
   as_own own of (of_job job is_job (as_said e owned told put prints)) is =
-      let whole = printed_whole old new e.status status e.text prints (λ one. own_not_one own of (sym is ∙ one)) (λ five. own_not_five own of (sym is ∙ five)) in
-      record { job = job; is_job = is_job; said = λ tell. (e, told tell, sym whole.0 ∙ is, whole.1) }
+      let whole = printed_whole old new e.status status e.text prints (λ one. own_not own 1 of (λ n. omega (arith, n)) refl (sym is ∙ one)) (λ five. own_not own 5 of (λ n. omega (arith, n)) refl (sym is ∙ five)) in
+      let same : e.status ≡ own = sym whole.0 ∙ is in
+      record { job = job; is_job = is_job; said = λ tell. (e, told.said (subst (λ n. AreTold old.content (deciding job n)) (sym same) tell), same, whole.1) }
 
   no_words : Ends old new words status → status ≡ 2 → IsNoJob words old new
   no_words (no_job none same prints) two =
@@ -147,7 +118,7 @@ module _ (words : List (List ℕ)) (old new : Outside) (status : ℕ) where
   no_words (of_job job is (save_failed rose prints)) two = absurd (not_status 9 save_line 2 prints two (λ same. omega (arith, same)) (λ one. omega (arith, one)) (λ five. omega (arith, five)))
   no_words (of_job job is (no_memory same text one)) two = absurd (omega (arith, one, two))
   no_words (of_job job is (as_said e own told put prints)) two =
-      absurd (not_status e.status e.text 2 prints two (λ same. own_not_two e.status (own_status e own) (sym same)) (λ one. omega (arith, one)) (λ five. omega (arith, five)))
+      absurd (not_status e.status e.text 2 prints two (λ same. own_not e.status 2 (own_status e own) (λ n. omega (arith, n)) refl (sym same)) (λ one. omega (arith, one)) (λ five. omega (arith, five)))
 
   read_fault : Ends old new words status → status ≡ 4 → MeetsReadFault words old new
   read_fault (no_job none same prints) four = absurd (not_status 2 usage_line 4 prints four (λ same. omega (arith, same)) (λ one. omega (arith, one)) (λ five. omega (arith, five)))
@@ -160,7 +131,7 @@ module _ (words : List (List ℕ)) (old new : Outside) (status : ℕ) where
   read_fault (of_job job is (save_failed rose prints)) four = absurd (not_status 9 save_line 4 prints four (λ same. omega (arith, same)) (λ one. omega (arith, one)) (λ five. omega (arith, five)))
   read_fault (of_job job is (no_memory same text one)) four = absurd (omega (arith, one, four))
   read_fault (of_job job is (as_said e own told put prints)) four =
-      absurd (not_status e.status e.text 4 prints four (λ same. own_not_four e.status (own_status e own) (sym same)) (λ one. omega (arith, one)) (λ five. omega (arith, five)))
+      absurd (not_status e.status e.text 4 prints four (λ same. own_not e.status 4 (own_status e own) (λ n. omega (arith, n)) refl (sym same)) (λ one. omega (arith, one)) (λ five. omega (arith, five)))
 
   save_fault : Ends old new words status → status ≡ 9 → MeetsSaveFault words old new
   save_fault (no_job none same prints) nine = absurd (not_status 2 usage_line 9 prints nine (λ same. omega (arith, same)) (λ one. omega (arith, one)) (λ five. omega (arith, five)))
@@ -173,14 +144,14 @@ module _ (words : List (List ℕ)) (old new : Outside) (status : ℕ) where
   }
   save_fault (of_job job is (no_memory same text one)) nine = absurd (omega (arith, one, nine))
   save_fault (of_job job is (as_said e own told put prints)) nine =
-      absurd (not_status e.status e.text 9 prints nine (λ same. own_not_nine e.status (own_status e own) (sym same)) (λ one. omega (arith, one)) (λ five. omega (arith, five)))
+      absurd (not_status e.status e.text 9 prints nine (λ same. own_not e.status 9 (own_status e own) (λ n. omega (arith, n)) refl (sym same)) (λ one. omega (arith, one)) (λ five. omega (arith, five)))
 
   sink_fault : Ends old new words status → status ≡ 5 → SinkRose old new
   sink_fault (no_job none same prints) five = printed_five old new 2 status usage_line prints (λ n. omega (arith, n)) five
   sink_fault (of_job job is (read_failed rose same prints)) five = printed_five old new 4 status read_line prints (λ n. omega (arith, n)) five
   sink_fault (of_job job is (save_failed rose prints)) five = printed_five old new 9 status save_line prints (λ n. omega (arith, n)) five
   sink_fault (of_job job is (no_memory same text one)) five = absurd (omega (arith, one, five))
-  sink_fault (of_job job is (as_said e own told put prints)) five = printed_five old new e.status status e.text prints (own_not_five e.status (own_status e own)) five
+  sink_fault (of_job job is (as_said e own told put prints)) five = printed_five old new e.status status e.text prints (own_not e.status 5 (own_status e own) (λ n. omega (arith, n)) refl) five
 
   -- each status says its cause
   pub says_each : Ends old new words status → SaysEachStatus words old new status
@@ -190,11 +161,14 @@ module _ (words : List (List ℕ)) (old new : Outside) (status : ℕ) where
     whole = whole ends;
     done = as_own 0 (inl refl) ends;
     no_job = no_words ends;
-    set = as_own 3 (inr (inl refl)) ends;
+    set = as_own 3 (inr refl) ends;
     read = read_fault ends;
     write = sink_fault ends;
+    trace = as_own 7 (inr refl) ends;
+    long = as_own 8 (inr refl) ends;
     save = save_fault ends;
-    document = as_own 10 (inr (inr refl)) ends;
+    document = as_own 10 (inr refl) ends;
+    lacks = as_own 12 (inr refl) ends;
   }
 
   -- the file that a job puts, where it is done

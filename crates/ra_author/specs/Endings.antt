@@ -4,8 +4,8 @@ use Rattle.std.specs.List.{AllByRecursion}
 use Rattle.ra_io.specs.Files.{SameContent}
 use Rattle.ra_args.specs.AuthorWords.{AuthorJob, author_job_of, author_puts, author_reads}
 use Rattle.ra_jobs.specs.Closing.{Closes}
-use Rattle.ra_jobs.specs.Outside.{Outside, ReadsRose, PutsRose, SinkRose, AreTold}
-use Rattle.ra_author_jobs.specs.Expected.{Expected, JobSays, IsOwn, IsPut}
+use Rattle.ra_jobs.specs.Outside.{Outside, ReadsRose, PutsRose, SinkRose}
+use Rattle.ra_author_jobs.specs.Expected.{Expected, IsAnswer, IsOwn, IsPut}
 use Rattle.ra_author_jobs.specs.Texts.{usage_line, read_line, save_line}
 
 -- the file that words put, where they are a job that puts one
@@ -32,8 +32,8 @@ module _ (old new : Outside) where
         → JobEnds job status
     save_failed : PutsRose (author_puts job) old new → Prints 9 save_line status → JobEnds job status
     no_memory : SameContent old.content new.content → new.text ≡ old.text → status ≡ 1 → JobEnds job status
-    as_said : (e : Expected) → IsOwn e → (AreTold old.content (author_reads job) → JobSays old.content job e)
-        → IsPut job e.saved old.content new.content → Prints e.status e.text status → JobEnds job status
+    as_said : (e : Expected) → IsOwn e → IsAnswer old.content job e → IsPut job e.saved old.content new.content
+        → Prints e.status e.text status → JobEnds job status
 
   -- How a call ends: the words are no job, or as their job ends.
   pub data Ends (words : List (List ℕ)) (status : ℕ) : Type 0 where

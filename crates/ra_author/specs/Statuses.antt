@@ -3,21 +3,21 @@ use Rattle.std.specs.Prelude.{◌≡◌, ◌⊎◌, ℕ, ◌≤◌, Option, None
 use Rattle.ra_io.specs.Files.{SameContent}
 use Rattle.ra_args.specs.AuthorWords.{AuthorJob, author_job_of, author_puts, author_reads}
 use Rattle.ra_jobs.specs.Outside.{Outside, GrewBy, ReadsRose, PutsRose, SinkRose, AreTold}
-use Rattle.ra_author_jobs.specs.Expected.{Expected, JobSays, HasSaved}
+use Rattle.ra_author_jobs.specs.Expected.{Expected, HasSaved, IsOwnStatus, JobSays, deciding}
 use Rattle.ra_author_jobs.specs.Texts.{usage_line, read_line, save_line}
 use Rattle.ra_author.specs.Endings.{AnswerEnds, puts_in}
 
 -- the statuses that a call of `author` may answer
 abbrev pub IsStatus : ℕ → Type 0
-IsStatus status = (status ≤ 5) ⊎ ((status ≡ 9) ⊎ (status ≡ 10))
+IsStatus status = (status ≤ 5) ⊎ ((status ≡ 9) ⊎ IsOwnStatus status)
 
 module _ (words : List (List ℕ)) (old new : Outside) where
-  -- The words are a job, and where the files that it reads are told, it says this status, and the text grew by all that it
-  -- says.
+  -- The words are a job, and where the files that decide this status are told, it says this status, and the text grew
+  -- by all that it says.
   pub record EndsAsSaid (status : ℕ) : Type 0 where
     pub job : AuthorJob
     pub is_job : author_job_of words ≡ Some job
-    pub said : AreTold old.content (author_reads job)
+    pub said : AreTold old.content (deciding job status)
         → (e : Expected) × JobSays old.content job e × (e.status ≡ status) × GrewBy old new e.text
 
   -- The words are no job.
@@ -64,8 +64,11 @@ module _ (words : List (List ℕ)) (old new : Outside) where
     pub set : status ≡ 3 → EndsAsSaid 3
     pub read : status ≡ 4 → MeetsReadFault
     pub write : status ≡ 5 → SinkRose old new
+    pub trace : status ≡ 7 → EndsAsSaid 7
+    pub long : status ≡ 8 → EndsAsSaid 8
     pub save : status ≡ 9 → MeetsSaveFault
     pub document : status ≡ 10 → EndsAsSaid 10
+    pub lacks : status ≡ 12 → EndsAsSaid 12
 
   -- The text was not written whole after the put: the file has what the job says.
   pub record PutsBeforeText (status : ℕ) : Type 0 where

@@ -18,7 +18,7 @@ use std::alloc::Global;
 fn usage() -> &'static [u8]
     ensures { result.now ≡ usage_line }
 {
-    b"usage: ra_author review SET | import FILE SET | help | version\n"
+    b"usage: ra_author review SET | why SET TRACE ID | import FILE SET | help | version\n"
 }
 
 // Puts the file of an answer and prints its text.

@@ -1,10 +1,12 @@
-//! The program for those who write sets: reviews a set, and makes one from JSON.
+//! The program for those who write sets: reviews a set, tells why an achievement did not unlock, and makes a set from JSON.
 #![tactic(auto)]
 
 mod author;
 mod laws;
 #[cfg(test)]
 mod tests;
+#[cfg(test)]
+mod why_tests;
 
 use author::author;
 use ra_io::{RealFiles, RealSink};

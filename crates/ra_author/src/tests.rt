@@ -5,7 +5,7 @@ use ra_io::{Files, MemFiles, MemSink, SureFiles, SureSink};
 use ra_text::OutOfMemory;
 use std::alloc::Global;
 
-fn words(alloc: Global, words: &[&str]) -> Result<Vec<String>, OutOfMemory> {
+pub(crate) fn words(alloc: Global, words: &[&str]) -> Result<Vec<String>, OutOfMemory> {
     let mut all = Vec::new(alloc);
     for word in words {
         all.push(String::from_str(alloc, word)?)?;
@@ -30,11 +30,12 @@ fn says(
     Ok(author(alloc, given.as_slice(), &mut files, &mut out) == status && out.taken() == text)
 }
 
-const USAGE: &[u8] = b"usage: ra_author review SET | import FILE SET | help | version\n";
+const USAGE: &[u8] =
+    b"usage: ra_author review SET | why SET TRACE ID | import FILE SET | help | version\n";
 
 #[test]
 fn other_words_have_the_usage(rt: HostRuntime) -> Result<(), OutOfMemory> {
-    let rows: [&[&str]; 12] = [
+    let rows: [&[&str]; 15] = [
         &["review"],
         &["review", ""],
         &["review", "-S"],
@@ -45,7 +46,10 @@ fn other_words_have_the_usage(rt: HostRuntime) -> Result<(), OutOfMemory> {
         &["help", "S"],
         &["--help", "-h"],
         &["version", "1"],
-        &["why", "S", "T", "1"],
+        &["why", "S", "T"],
+        &["why", "S", "T", "01"],
+        &["why", "S", "-T", "1"],
+        &["why", "S", "T", "4294967296"],
         &[""],
     ];
     for texts in rows {
@@ -415,6 +419,7 @@ fn faults_leave_a_front_and_their_status(rt: HostRuntime) -> Result<(), OutOfMem
 const HELP: &[u8] = b"ra_author: for those who write achievement sets
 
   ra_author review SET          shows what is refused, with the place, and what looks like a slip
+  ra_author why SET TRACE ID    tells why an achievement did or did not unlock over a trace
   ra_author import FILE SET     makes a set file from JSON and names what it leaves out
   ra_author help                this text
   ra_author version             the version
@@ -425,6 +430,14 @@ ra_author review game.set
                 ^
   notice A 1 0.1 open-chain     achievement 1, group 0 (the core), condition 1 (from 0)
   reviewed lines 2 refused 1 notices 1
+
+ra_author why game.set play.trace 1
+  frames 300 state active measured 0 column 8
+  0.0 0xH0010=5.3.
+   counts 2 first 40 last 41 hits 2 of 3 best 2 at 41
+   .....+................................    8 frames a column: # at all, + at some, . at none
+  waited 0                      frames at which all was true from the start on, as it waits
+  nearest 299 wants 0.0         the frame at which the fewest conditions were missing
 
 ra_author import 1234.json game.set
   left out achievements 4 7 syntax at 12

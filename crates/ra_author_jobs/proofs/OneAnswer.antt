@@ -1,10 +1,11 @@
 -- A job says one thing over told files.
 use Rattle.std.proofs.Common.{◌≡◌, ◌∙◌, ℕ, ◌+◌, List, take, length, Option, Some, refl, sym, ap, subst}
-use Rattle.ra_args.specs.AuthorWords.{AuthorJob, Review, Import, Help, Version}
+use Rattle.ra_args.specs.AuthorWords.{AuthorJob, Review, Why, Import, Help, Version}
 use Rattle.ra_author_jobs.specs.Expected.{Expected, ImportSays, JobSays, ReviewSays, SaysOfBytes, SaysOfLeft, imported, imports, leaves, prints, refuses_document, refuses_set, review_status, reviews, of_bytes}
 use Rattle.ra_author_jobs.specs.Importing.{refused_document}
 use Rattle.ra_author_jobs.proofs.OneReview.{one_review}
 use Rattle.ra_patch.specs.Answers.{document_limit}
+use Rattle.ra_why_job.proofs.SayLemmas.{one_why}
 use Rattle.ra_patch.specs.declared.left_out.LeftOut.{LeftOut}
 use Rattle.ra_patch.proofs.LeftLemmas.{left-not_refused, one-left, one-refusal as one-document}
 use Rattle.ra_review.specs.Reviews.{IsReview, Said, refused_line}
@@ -41,9 +42,19 @@ one_of_import content file a b (of_bytes bytes e told is) (of_bytes bytes' e' to
     let same = same_some bytes' bytes (sym told' ∙ told) in
     one_of_bytes (take (document_limit + 1) bytes) a b is (subst (λ f. SaysOfBytes (take (document_limit + 1) f) b) same is')
 
+-- what is said in the same words is the same
+pub same_expected : (n m : ℕ) (s t : List ℕ) (x y : Option (List ℕ)) → n ≡ m → s ≡ t → x ≡ y → ◌≡◌ {A = Expected} (record { status = n; text = s; saved = x }) (record { status = m; text = t; saved = y })
+same_expected n m s t x y status text saved = (λ i. record { status = status i; text = text i; saved = saved i })
+
+one_of_why : (content : List ℕ → Option (List ℕ)) (set trace : List ℕ) (id : ℕ) (a b : Expected) → JobSays content (Why set trace id) a → JobSays content (Why set trace id) b → a ≡ b
+one_of_why content set trace id a b x y =
+    let same = one_why content set trace id a.status b.status a.text b.text x.0 y.0 in
+    same_expected a.status b.status a.text b.text a.saved b.saved same.0 same.1 (x.1 ∙ sym y.1)
+
 -- a job says one thing
 pub one_answer : (content : List ℕ → Option (List ℕ)) (job : AuthorJob) (a b : Expected) → JobSays content job a → JobSays content job b → a ≡ b
 one_answer content (Review set) a b x y = one_of_review content set a b x y
+one_answer content (Why set trace id) a b x y = one_of_why content set trace id a b x y
 one_answer content (Import file set) a b x y = one_of_import content file a b x y
 one_answer content Help a b x y = x ∙ sym y
 one_answer content Version a b x y = x ∙ sym y

@@ -1,8 +1,8 @@
 -- What a job of the program for authors says over files: docs/DEFINITIONS.md, "Jobs for authors".
-use Rattle.std.specs.Prelude.{◌≡◌, ◌⊎◌, ℕ, zero, suc, ◌+◌, Option, None, Some, option_map, List, ◌++◌, take, codes, is_some, true}
+use Rattle.std.specs.Prelude.{◌≡◌, ◌⊎◌, ℕ, zero, suc, ◌+◌, ◌==◌, ◌||◌, Bool, Option, None, Some, option_map, List, ◌++◌, take, codes, is_some, true}
 use Rattle.std.specs.List.{AllByRecursion}
 use Rattle.ra_io.specs.Files.{SameContent}
-use Rattle.ra_args.specs.AuthorWords.{AuthorJob, Review, Import, Help, Version, author_puts}
+use Rattle.ra_args.specs.AuthorWords.{AuthorJob, Review, Why, Import, Help, Version, author_puts, author_reads}
 use Rattle.ra_patch.specs.Answers.{document_limit}
 use Rattle.ra_patch.specs.LeftAnswers.{LeavesDocument, LeavesNothing}
 use Rattle.ra_patch.specs.declared.document_refused.DocumentRefused.{DocumentRefused}
@@ -14,6 +14,8 @@ use Rattle.ra_set.specs.Contents.{SetContents}
 use Rattle.ra_set.specs.Limits.{most_bytes}
 use Rattle.ra_set.specs.Refusals.{Refuses}
 use Rattle.ra_set.specs.declared.refused.SetRefused.{SetRefused}
+use Rattle.ra_jobs.specs.Outside.{AreTold}
+use Rattle.ra_why_job.specs.Says.{WhySays, decided_by}
 use Rattle.ra_author_jobs.specs.Importing.{import_text, refused_document}
 use Rattle.ra_author_jobs.specs.Texts.{help_text, version_text}
 use Rattle.ra_author_jobs.specs.declared.answer.Answer.{Answer}
@@ -72,13 +74,33 @@ pub data ImportSays (content : List ℕ → Option (List ℕ)) (file : List ℕ)
 -- what a job says over files whose bytes are told
 abbrev pub JobSays : (content : List ℕ → Option (List ℕ)) → AuthorJob → Expected → Type 0
 JobSays content (Review set) e = ReviewSays content set e
+JobSays content (Why set trace id) e = WhySays content set trace id e.status e.text × (e.saved ≡ None)
 JobSays content (Import file set) e = ImportSays content file e
 JobSays content Help e = e ≡ prints 0 help_text
 JobSays content Version e = e ≡ prints 0 version_text
 
+-- the files that decide that a job says something with this status: those that it reads; of `why` the set alone, where it is
+-- refused or has no such achievement
+abbrev pub deciding : AuthorJob → (status : ℕ) → List (List ℕ)
+deciding (Why set trace id) status = decided_by set trace status
+deciding job status = author_reads job
+
+-- What is answered is what the job says, where the files that decide it are told, and the job says nothing else.
+pub record IsAnswer (content : List ℕ → Option (List ℕ)) (job : AuthorJob) (e : Expected) : Type 0 where
+  pub said : AreTold content (deciding job e.status) → JobSays content job e
+  pub one : (other : Expected) → JobSays content job other → e ≡ other
+
+-- whether a job gives this status where it is not done
+abbrev pub is_refusal : ℕ → Bool
+is_refusal status = status == 3 || (status == 7 || (status == 8 || (status == 10 || status == 12)))
+
+-- the status is one that a job gives by itself
+abbrev pub IsOwnStatus : ℕ → Type 0
+IsOwnStatus status = (status ≡ 0) ⊎ (is_refusal status ≡ true)
+
 -- the status is one that a job gives by itself, and a file is put with status 0 alone
 abbrev pub IsOwn : Expected → Type 0
-IsOwn e = (e.status ≡ 0) ⊎ (((e.status ≡ 3) ⊎ (e.status ≡ 10)) × (e.saved ≡ None))
+IsOwn e = (e.status ≡ 0) ⊎ ((is_refusal e.status ≡ true) × (e.saved ≡ None))
 
 -- the name has these bytes, where its bytes were told before
 abbrev pub HasBytes : (bytes : List ℕ) → (old new : List ℕ → Option (List ℕ)) → (name : List ℕ) → Type 0

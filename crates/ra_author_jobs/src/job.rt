@@ -3,15 +3,16 @@
 ghost use Rattle.std.specs.Prelude.{◌≡◌, ◌≢◌, ℕ, List, Ok, IfOk, IsErrOf, OnOk, option_map};
 ghost use Rattle.std.specs.List.{AllByRecursion};
 ghost use Rattle.ra_args.specs.AuthorWords.{author_contents, author_puts, author_reads};
-ghost use Rattle.ra_author_jobs.specs.Expected.{IsOwn, IsPut, JobSays, expected_of};
+ghost use Rattle.ra_author_jobs.specs.Expected.{IsAnswer, IsOwn, IsPut, expected_of};
 ghost use Rattle.ra_io.specs.Causes.{NoneFell};
 ghost use Rattle.ra_io.specs.Files.{OnlyRead, SameContent};
-ghost use Rattle.ra_jobs.specs.Outside.{AnyRose, AreTold};
+ghost use Rattle.ra_jobs.specs.Outside.{AnyRose};
 
 use crate::answer::Answer;
 use crate::importing::import_answer;
 use crate::reviewing::review_answer;
 use crate::texts::{help_answer, version_answer};
+use crate::why::why_answer;
 use ra_args::AuthorJob;
 use ra_io::{Files, PutFailed};
 use ra_jobs::ReadFailed;
@@ -37,13 +38,14 @@ pub fn answer_job<F: Files>(
     job: &AuthorJob<'_>,
     files: &mut F,
 ) -> Result<Answer, ReadFailed>
-    ensures says { IfOk result (λ a. AreTold (F.content files.old) (author_reads (author_contents job.now)) → JobSays (F.content files.old) (author_contents job.now) (expected_of a)) }
+    ensures says { IfOk result (λ a. IsAnswer (F.content files.old) (author_contents job.now) (expected_of a)) }
     ensures own { IfOk result (λ a. IsOwn (expected_of a)) }
     ensures stays { OnlyRead F.content F.read_faults F.put_faults files.old files.new }
     ensures failed { IsErrOf result ReadFailed.Failed → AnyRose (F.read_faults files.old) (F.read_faults files.new) (author_reads (author_contents job.now)) }
 {
     match *job {
         AuthorJob::Review { set } => review_answer(alloc, set, files),
+        AuthorJob::Why { set, trace, id } => why_answer(alloc, set, trace, id, files),
         AuthorJob::Import { file, .. } => import_answer(alloc, file, files),
         AuthorJob::Help => unread(help_answer(alloc)),
         AuthorJob::Version => unread(version_answer(alloc)),

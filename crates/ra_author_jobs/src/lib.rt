@@ -1,4 +1,5 @@
-//! The jobs of the program for authors, up to their texts: a set is reviewed, and what is left of a document is put.
+//! The jobs of the program for authors, up to their texts: a set is reviewed, an achievement accounted for, and what is left
+//! of a document is put.
 #![tactic(auto)]
 
 mod answer;
@@ -8,6 +9,7 @@ mod laws;
 mod left_lines;
 mod reviewing;
 mod texts;
+mod why;
 
 pub use answer::Answer;
 pub use job::{answer_job, put_saved};
