@@ -1,5 +1,5 @@
 -- The progress of a set before its first frame is accepted.
-use Rattle.std.proofs.Common.{◌≡◌, ◌≤◌, ℕ, List, [], ◌∷◌, map, Option, None, Some, option_map, ap, subst, sym, ◌∙◌}
+use Rattle.std.proofs.Common.{◌≡◌, ◌≤◌, ℕ, List, [], ◌∷◌, map, Option, None, Some, option_map, Result, Ok, Err, IfOk, OnOk, ap, subst, sym, ◌∙◌}
 use Rattle.std.specs.Prelude.{IfSome, length}
 use Rattle.std.specs.List.{AllByRecursion}
 use Rattle.md5.specs.Md5.{md5}
@@ -19,7 +19,8 @@ use Rattle.ra_runtime.specs.Courses.{CourseSeen, IsBegun}
 use Rattle.ra_meaning.specs.Order.{shape_of}
 use Rattle.ra_meaning.proofs.Digests.{md5_bytes}
 use Rattle.ra_meaning.proofs.Openings.Snapshots.{is_shape, opening_comes_back, plain_is_opening}
-use Rattle.ra_progress.specs.Laws.{ComesBack}
+use Rattle.ra_progress.specs.Contents.{IsOpening}
+use Rattle.ra_progress.specs.Laws.{ComesBack, IsShape}
 use Rattle.ra_progress.proofs.ComesBack.{comes_back}
 use Rattle.ra_value_format.specs.Formats.{HasDigits}
 use Rattle.ra_value_format.specs.declared.format.Format.{Format}
@@ -65,6 +66,18 @@ pub of_save : (course : CourseSeen) (bytes : List ℕ) → IsSaveOf course bytes
 unfolding IsSaveOf
 of_save course bytes is = is
 
+-- a save is as long as each save of its set
+pub long_save : {V E : Type 0} (items : V → List ℕ) (course : CourseSeen) (r : Result V E)
+    → IsShape (shape_of course.set)
+    → IfOk r (λ v. items v ≡ progress_bytes (shape_of course.set) course.kept)
+    → OnOk r (IsOpening (shape_of course.set) course.kept)
+    → IfOk r (λ v. length (items v) ≡ length_of (shape_of course.set))
+long_save items course (Ok v) shape is opening =
+    let back : ComesBack (shape_of course.set) course.kept =
+    comes_back (shape_of course.set) course.kept shape opening in
+    ap length is ∙ back.long
+long_save items course (Err why) shape is opening = tt
+
 -- a save right after a course was begun
 first_saved : (set : SetContents) (size : ℕ) (course : CourseSeen) (bytes : List ℕ) → IsBegun set size course → IsSaveOf course bytes → IsFirst course.set bytes
 first_saved set size course bytes begun saved = record {
@@ -73,6 +86,7 @@ first_saved set size course bytes begun saved = record {
 
 -- what is held right after a course was begun
 pub record IsFresh (course : CourseSeen) (first : List ℕ) : Type 0 where
+  pub shape : IsShape (shape_of course.set)
   pub first_too : IsFirst course.set first
   pub accepted : refusal (shape_of course.set) first ≡ None
   pub long : length first ≡ length_of (shape_of course.set)
@@ -82,7 +96,7 @@ is_fresh text set size course first is spelled named begun saved short =
     let begins = first_saved set size course first begun saved in
     let shape = is_shape course.set is.limits spelled named (digests_of text course.set is) short in
     let back : ComesBack (shape_of course.set) (plain_opening course.set) = comes_back (shape_of course.set) (plain_opening course.set) shape (plain_is_opening course.set spelled) in
-    record { first_too = begins; accepted = first_accepted text course.set first begins is spelled named short; long = ap length begins.is ∙ back.long }
+    record { shape = shape; first_too = begins; accepted = first_accepted text course.set first begins is spelled named short; long = ap length begins.is ∙ back.long }
 
 -- the goals of a new course are those of its set, and each format that they have has digits
 pub has_digits : (set : SetContents) (goals : List Goal) → goals ≡ map goal_of set.items → IsSpelled set → (id : ℕ) (format : Format) → format_in id goals ≡ Some format → HasDigits format

@@ -1,10 +1,13 @@
 -- A recording that is begun, and an explanation that is given.
 use Rattle.std.proofs.Common.{◌≡◌, inl, inr, sym, ap, subst, ◌∙◌, ℕ, ◌≤◌, ◌^◌, Bool, true, List, Option, None, Some, option_map}
-use Rattle.std.specs.Prelude.{IfOk, IfErr, IfSome, IsSomeAnd}
+use Rattle.std.specs.Prelude.{All, IfOk, IfErr, IfSome, IsSomeAnd}
 use Rattle.std.specs.declared.result.Result.{Result}
 use Rattle.std.specs.declared.result.Result.TheVariants.{Ok, Err}
 use Rattle.ra_condition.specs.Contents.{TriggerContents}
+use Rattle.ra_meaning.specs.Order.{shape_of}
 use Rattle.ra_runtime.specs.Courses.{CourseSeen}
+use Rattle.ra_runtime.specs.Keeping.{IsKeptFor, KeptSeen}
+use Rattle.ra_set.specs.Contents.{SetContents}
 use Rattle.ra_explain.specs.Recordings.{RecordingSeen, IsBegun}
 use Rattle.ra_calls.specs.Answers.{Calls}
 use Rattle.ra_judge.specs.Giving.{Gives}
@@ -52,10 +55,21 @@ answers_full P code game old new taken put holds =
     subst (λ (o : Option GameSeen). Calls (λ _ _. P (recording_of o)) code (option_map (λ (g : GameSeen). g.course) o) (option_map (λ (g : GameSeen). g.course) new)) taken
     (subst (λ (n : Option GameSeen). Calls (λ _ _. P game.recording) code (Some game.course) (option_map (λ (g : GameSeen). g.course) n)) (sym put) holds)
 
+-- kept states are for the set where it stays
+pub still_kept : (set set' : SetContents) (slots slots' : List KeptSeen) → set ≡ set' → slots ≡ slots'
+    → All (IsKeptFor (shape_of set)) slots
+    → All (IsKeptFor (shape_of set')) slots'
+still_kept set set' slots slots' same_set same_slots all =
+    subst (λ (s : SetContents). All (IsKeptFor (shape_of s)) slots') same_set
+    (subst (λ (ks : List KeptSeen). All (IsKeptFor (shape_of set)) ks) same_slots all)
+
 -- a game goes on as one without a recording, where its set and its size stay
-pub still_game : (old new : Inside) → IsGame old → new.held.set ≡ old.held.set → new.held.size ≡ old.held.size → new.text.items ≡ old.text.items → new.recording ≡ None → IsGame new
-still_game old new is set size text none = record {
+pub still_game : (old new : Inside) → IsGame old → new.held.set ≡ old.held.set → new.held.size ≡ old.held.size
+    → new.text.items ≡ old.text.items → new.recording ≡ None → new.slots.items ≡ old.slots.items
+    → IsGame new
+still_game old new is set size text none slots = record {
   spelled = subst (λ (bytes : List ℕ). IsSet bytes new.held.set) (sym text) (subst (IsSet old.text.items) (sym set) is.spelled);
   small = subst (λ n. n ≤ 2 ^ 27) (sym size) is.small;
   alike = subst (λ (o : Option RecordingSeen). IfSome o (λ r. r.size ≡ new.held.size)) (sym none) tt;
+  kept = still_kept old.held.set new.held.set old.slots.items new.slots.items (sym set) (sym slots) is.kept;
 }

@@ -3,5 +3,7 @@ mod ChooseLemmas
 mod Fresh
 mod GameLemmas
 mod GoalLemmas
+mod MostLemmas
 mod Taken
 mod ShownTexts
+mod SlotLemmas

@@ -8,6 +8,7 @@ use Rattle.ra_meaning.specs.Runtime.{TakesUp}
 use Rattle.ra_runtime.specs.Courses.{CourseSeen, over}
 use Rattle.ra_set.specs.Contents.{SetContents}
 use Rattle.ra_goals.specs.Goals.{goal_of, format_in}
+use Rattle.ra_progress.specs.Laws.{IsShape}
 use Rattle.ra_progress.specs.Layout.{length_of}
 use Rattle.ra_progress.specs.Reading.{refusal}
 use Rattle.ra_progress.specs.declared.refused.ProgressRefused.{ProgressRefused}
@@ -19,6 +20,7 @@ use Rattle.ra_calls.specs.Views.{IsHeld}
 -- what is held stays held, where the set stays
 pub still_held : (old new : Inside) → IsHeld old → new.course.set ≡ old.course.set → new.first.items ≡ old.first.items → new.goals.items ≡ old.goals.items → IsHeld new
 still_held old new held same first goals = record {
+  shape = subst (λ (s : SetContents). IsShape (shape_of s)) (sym same) held.shape;
   first = subst (IsFirst new.course.set) (sym first) (subst (λ (s : SetContents). IsFirst s old.first.items) (sym same) held.first);
   accepted = subst (λ (bytes : List ℕ). refusal (shape_of new.course.set) bytes ≡ None) (sym first) (subst (λ (s : SetContents). refusal (shape_of s) old.first.items ≡ None) (sym same) held.accepted);
   long = ap length first ∙ held.long ∙ ap (λ (s : SetContents). length_of (shape_of s)) (sym same);

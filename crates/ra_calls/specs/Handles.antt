@@ -1,5 +1,6 @@
 -- What a handle holds: docs/DEFINITIONS.md, "Calls from C".
-use Rattle.std.specs.Prelude.{Option, None, Some, option_map}
+use Rattle.std.specs.Prelude.{Option, None, Some, option_map, List, []}
+use Rattle.ra_progress.specs.Contents.{Opening}
 use Rattle.ra_runtime.specs.Courses.{CourseSeen}
 use Rattle.ra_explain.specs.Recordings.{RecordingSeen}
 use Rattle.ra_calls.specs.Games.{GameSeen}
@@ -21,3 +22,12 @@ recording_of (Some game) = game.recording
 -- the recording that a handle holds, or nothing
 abbrev pub recorded_in : Handle → Option RecordingSeen
 recorded_in handle = recording_of (whole_in handle)
+
+-- the states that are kept in the slots of what is held
+abbrev pub slots_of : Option GameSeen → List Opening
+slots_of None = []
+slots_of (Some game) = game.slots
+
+-- the states that are kept in the slots of what a handle holds
+abbrev pub slots_in : Handle → List Opening
+slots_in handle = slots_of (whole_in handle)

@@ -3,10 +3,13 @@ pub mod Choosing
 pub mod Games
 pub mod GameViews
 pub mod Handles
+pub mod Lengths
+pub mod Most
 pub mod Owned
 pub mod RecordingViews
 pub mod Recordings
 pub mod Shows
+pub mod Slots
 pub mod Tellings
 pub mod ToldCells
 pub mod ToldEvents

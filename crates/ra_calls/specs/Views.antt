@@ -3,6 +3,7 @@ use Rattle.std.specs.Prelude.{◌≡◌, ℕ, None, Some, length, map}
 use Rattle.ra_progress.specs.Reading.{refusal}
 use Rattle.ra_meaning.specs.Order.{shape_of}
 use Rattle.ra_runtime.specs.Courses.{CourseSeen}
+use Rattle.ra_progress.specs.Laws.{IsShape}
 use Rattle.ra_progress.specs.Layout.{length_of}
 use Rattle.ra_value_format.specs.Formats.{HasDigits}
 use Rattle.ra_value_format.specs.declared.format.Format.{Format}
@@ -14,8 +15,10 @@ use Rattle.ra_calls.specs.declared.held.Held.TheInside.{Inside}
 abbrev pub held_seen : Inside → CourseSeen
 held_seen t = t.course
 
--- the first bytes are those of the set before its first frame, which are accepted, and as long as each save; the goals are those of the set's items, whose formats have digits
+-- the shape of the set is one, and the first bytes are those of the set before its first frame, which are accepted, and
+-- as long as each save; the goals are those of the set's items, whose formats have digits
 pub record IsHeld (t : Inside) : Type 0 where
+  pub shape : IsShape (shape_of t.course.set)
   pub first : IsFirst t.course.set t.first.items
   pub accepted : refusal (shape_of t.course.set) t.first.items ≡ None
   pub long : length t.first.items ≡ length_of (shape_of t.course.set)

@@ -55,3 +55,6 @@ impl Cell {
         }
     }
 }
+
+// What it owns is a box of plain data, which any thread may free.
+unsafe impl Send for Cell {}

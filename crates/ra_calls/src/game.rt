@@ -1,8 +1,11 @@
-ghost use Rattle.std.specs.Prelude.{◌≡◌, ◌⊎◌, ◌<◌, ◌≤◌, ◌^◌, true, None, Some, IsSomeAnd, IfOk, IfErr, OnOk, OnErr, length, option_map};
+ghost use Rattle.std.specs.Prelude.{◌≡◌, ◌≢◌, ◌⊎◌, ◌<◌, ◌≤◌, ◌^◌};
+ghost use Rattle.std.specs.Prelude.{[], All, slice_set, true, None, Some, IsSomeAnd, IfOk, IfErr, OnOk, OnErr, length, option_map};
 ghost use Rattle.ra_banks.specs.Banks.{bytes_of};
 ghost use Rattle.ra_progress.specs.Layout.{length_of};
 ghost use Rattle.ra_meaning.specs.Order.{shape_of};
+ghost use Rattle.ra_runtime.specs.Keeping.{IsKeptFor};
 ghost use Rattle.ra_set.specs.Refusals.{Refuses};
+ghost use Rattle.ra_calls.specs.GameViews.{openings_of};
 
 use crate::choosing::find_trigger;
 use crate::held::Held;
@@ -14,19 +17,24 @@ use ra_banks::{Bank, Banks, Row, size_of};
 use ra_judge::codes::{DONE, MEMORY, RANGE};
 use ra_memory::Steps;
 use ra_progress::ProgressRefused;
+use ra_runtime::Kept;
 use ra_set::SetRefused;
 use ra_text::OutOfMemory;
 use std::alloc::Global;
 use std::marker::{Brand, Model};
 use std::sync::ledger::{Blank, Ledger};
 
-/// What a full handle holds: a course, and a recording where an achievement is recorded.
+// The most slots of a game.
+const MOST_SLOTS: u32 = 65_536;
+
+/// What a full handle holds: a course, a recording where an achievement is recorded, and states that are kept in slots.
 #[derive(Drop)]
 pub struct Game {
     held: Held,
     // the set's text, from which an achievement that is recorded is read once more
     text: Vec<u8>,
     recording: Option<Recorded>,
+    slots: Vec<Kept>,
 }
 
 impl Model for Game {
@@ -53,6 +61,8 @@ impl Game {
     ghost use Rattle.ra_calls.specs.Answers.{AnswersEarn, AnswersFrame, AreEventsOf, AreLinesOf, BeginsAgain, IsLoaded, IsSaveOf, RefusesProgress, TakesImage, TakesProgress};
     ghost use Rattle.ra_calls.specs.Recordings.{AnswersRecord, IsOfId, RecordsCall, RecordsFrame};
     ghost use Rattle.ra_calls.specs.Shows.{IsShownBy};
+    ghost use Rattle.ra_calls.specs.Slots.{AnswersKeep, AnswersSlots, AnswersTake};
+    ghost use Rattle.ra_judge.specs.Codes.{done};
     ghost use Rattle.ra_calls.specs.Tellings.{TellsRecorded};
     ghost use Rattle.ra_calls.specs.ToldCells.{AreCellsOf};
     ghost use Rattle.ra_calls.specs.ToldItems.{AreItemsOf, number_in};
@@ -65,6 +75,7 @@ impl Game {
         requires { size ≤ 2 ^ 27 }
         ensures loaded { IfOk result (λ game. IsLoaded text.now size game.value.course) }
         ensures unrecorded { IfOk result (λ game. game.value.recording ≡ None) }
+        ensures slotless { IfOk result (λ game. game.value.slots ≡ []) }
         ensures refused { IfErr result (λ why. why ≡ SetRefused.Memory ⊎ Refuses text.now why) }
     {
         let game = Game::made(alloc, text, size)?;
@@ -82,6 +93,7 @@ impl Game {
         requires { size ≤ 2 ^ 27 }
         ensures loaded { IfOk result (λ game. IsLoaded text.now size game.course) }
         ensures unrecorded { IfOk result (λ game. game.recording ≡ None) }
+        ensures slotless { IfOk result (λ game. game.slots ≡ []) }
         ensures refused { IfErr result (λ why. why ≡ SetRefused.Memory ⊎ Refuses text.now why) }
     {
         let held = Held::new(alloc, text, size)?;
@@ -90,6 +102,7 @@ impl Game {
                 held,
                 text,
                 recording: None,
+                slots: Vec::new(alloc),
             }),
             Err(_) => {
                 drop(held);
@@ -102,6 +115,7 @@ impl Game {
     pub fn frame(&mut self, banks: &[Bank<'_>]) -> u32
         ensures played { AnswersFrame banks.now result self.old.course self.new.course }
         ensures recorded { RecordsCall (bytes_of banks.now) result self.old.recording self.new.recording }
+        ensures slots { self.new.slots ≡ self.old.slots }
     {
         let own = self.held.size();
         match size_of(banks) {
@@ -121,6 +135,7 @@ impl Game {
         requires held { 0 < blank.parts }
         ensures played { TakesImage (bytes_of banks.now) self.old.course self.new.course }
         ensures recorded { RecordsFrame (bytes_of banks.now) self.old.recording self.new.recording }
+        ensures slots { self.new.slots ≡ self.old.slots }
     {
         let mut steps = Steps::<L>::open(blank);
         let mut image = Banks {
@@ -163,6 +178,7 @@ impl Game {
     pub fn earn(&mut self, alloc: Global, ids: &[u32]) -> u32
         ensures earned { AnswersEarn ids.now result self.old.course self.new.course }
         ensures recording { self.new.recording ≡ self.old.recording }
+        ensures slots { self.new.slots ≡ self.old.slots }
     {
         match self.held.earn(alloc, ids) {
             Ok(()) => DONE,
@@ -198,7 +214,8 @@ impl Game {
 
     /// The progress bytes.
     pub fn save(&self, alloc: Global) -> Result<Vec<u8>, OutOfMemory>
-        ensures { IfOk result (λ bytes. IsSaveOf self.now.course bytes.items) }
+        ensures saved { IfOk result (λ bytes. IsSaveOf self.now.course bytes.items) }
+        ensures long { IfOk result (λ bytes. length bytes.items ≡ length_of (shape_of self.now.course.set)) }
     {
         self.held.save(alloc)
     }
@@ -209,6 +226,7 @@ impl Game {
         ensures err { IfErr result (λ why. RefusesProgress bytes.now why self.old.course self.new.course) }
         ensures unrecorded { OnOk result (self.new.recording ≡ None) }
         ensures kept { OnErr result (self.new.recording ≡ self.old.recording) }
+        ensures slots { self.new.slots ≡ self.old.slots }
     {
         match self.held.restore(bytes) {
             Ok(()) => {
@@ -223,6 +241,7 @@ impl Game {
     pub fn reset(&mut self)
         ensures played { BeginsAgain self.old.course self.new.course }
         ensures unrecorded { self.new.recording ≡ None }
+        ensures slots { self.new.slots ≡ self.old.slots }
     {
         self.held.reset();
         drop(self.recording.take());
@@ -232,6 +251,7 @@ impl Game {
     pub fn record(&mut self, alloc: Global, id: u32) -> u32
         ensures stays { self.new.course ≡ self.old.course }
         ensures recorded { AnswersRecord id self.old.course result self.old.recording self.new.recording }
+        ensures slots { self.new.slots ≡ self.old.slots }
     {
         if !self.held.is_unplayed() {
             return RANGE;
@@ -269,4 +289,65 @@ impl Game {
             None => Ok(None),
         }
     }
+
+    /// Makes this many slots in the place of those that were there, each with the present state. `RANGE` where they are
+    /// too many; `MEMORY` where memory runs out, and then nothing changes.
+    pub fn make_slots(&mut self, alloc: Global, count: u32) -> u32
+        ensures stays { self.new.course ≡ self.old.course }
+        ensures recording { self.new.recording ≡ self.old.recording }
+        ensures made { AnswersSlots count self.old.course result self.old.slots self.new.slots }
+    {
+        if count > MOST_SLOTS {
+            return RANGE;
+        }
+        match self.held.slots(alloc, count) {
+            Ok(slots) => {
+                self.slots = slots;
+                DONE
+            }
+            Err(_) => MEMORY,
+        }
+    }
+
+    /// Keeps the present state in a slot. `RANGE` where there is no such slot.
+    pub fn keep(&mut self, slot: u32) -> u32
+        ensures stays { self.new.course ≡ self.old.course }
+        ensures recording { self.new.recording ≡ self.old.recording }
+        ensures kept { AnswersKeep slot self.old.course result self.old.slots self.new.slots }
+    {
+        let place = slot as usize;
+        if place < self.slots.len() {
+            keep_at(&self.held, &mut self.slots, place);
+            DONE
+        } else {
+            RANGE
+        }
+    }
+
+    /// Takes up what was kept in a slot, and then nothing is recorded. `RANGE` where there is no such slot.
+    pub fn take(&mut self, slot: u32) -> u32
+        ensures taken { AnswersTake slot self.old.slots result self.old.course self.new.course }
+        ensures slots { self.new.slots ≡ self.old.slots }
+        ensures unrecorded { result ≡ done → self.new.recording ≡ None }
+        ensures recording { result ≢ done → self.new.recording ≡ self.old.recording }
+    {
+        match self.slots.get(slot as usize) {
+            Some(kept) => {
+                self.held.take(kept);
+                drop(self.recording.take());
+                DONE
+            }
+            None => RANGE,
+        }
+    }
+}
+
+// Keeps the present state in one of these slots.
+fn keep_at(held: &Held, slots: &mut [Kept], place: usize)
+    requires within { place < length slots.old }
+    requires of_set { All (IsKeptFor (shape_of held.now.set)) slots.old }
+    ensures kept { openings_of slots.new ≡ slice_set (openings_of slots.old) place held.now.kept }
+    ensures of_set { All (IsKeptFor (shape_of held.now.set)) slots.new }
+{
+    held.keep(&mut slots[place]);
 }

@@ -1,4 +1,5 @@
-ghost use Rattle.std.specs.Prelude.{◌≡◌, ◌⊎◌, ◌↔◌, true, ◌≤◌, ◌^◌, length, map, IfOk, IfErr, OnOk, OnErr, option_map};
+ghost use Rattle.std.specs.Prelude.{◌≡◌, ◌⊎◌, ◌↔◌, ◌≤◌, ◌^◌};
+ghost use Rattle.std.specs.Prelude.{true, All, replicate, length, map, IfOk, IfErr, OnOk, OnErr, option_map};
 ghost use Rattle.ra_set.specs.Names.{IsNamed};
 ghost use Rattle.ra_set.specs.Refusals.{Refuses};
 ghost use Rattle.ra_set.specs.Spelled.{IsSpelled};
@@ -7,13 +8,14 @@ ghost use Rattle.ra_meaning.specs.Order.{shape_of};
 ghost use Rattle.ra_goals.specs.Goals.{goal_of};
 ghost use Rattle.ra_calls.specs.Answers.{IsLoaded};
 
+use crate::kept_slots::{keep_in, slots_of, take_from};
 use crate::showing::presence_of;
 use crate::told_event::ToldEvent;
 use crate::told_item::ToldItem;
 use ra_goals::{Goal, format_in, goals_of, named_in};
 use ra_memory::Image;
 use ra_progress::ProgressRefused;
-use ra_runtime::Course;
+use ra_runtime::{Course, Kept};
 use ra_set::{SetRefused, parse_set};
 use ra_text::OutOfMemory;
 use ra_value_format::format_value;
@@ -61,7 +63,9 @@ fn course_of(alloc: Global, text: &[u8], size: u32) -> Result<(Course, Vec<Goal>
 
 impl Held {
     ghost use Rattle.ra_calls.specs.Answers.{AreEventsOf, AreLinesOf, BeginsAgain, EarnsIds, IsSaveOf, RefusesProgress, TakesImage, TakesProgress};
+    ghost use Rattle.ra_calls.specs.GameViews.{openings_of};
     ghost use Rattle.ra_calls.specs.Shows.{IsShownBy};
+    ghost use Rattle.ra_runtime.specs.Keeping.{IsKeptFor, Takes};
     ghost use Rattle.ra_calls.specs.ToldItems.{AreItemsOf, number_in};
 
     /// The course of a set's text over memories of `size` bytes.
@@ -197,7 +201,8 @@ impl Held {
 
     /// The progress bytes.
     pub fn save(&self, alloc: Global) -> Result<Vec<u8>, OutOfMemory>
-        ensures { IfOk result (λ bytes. IsSaveOf self.now bytes.items) }
+        ensures saved { IfOk result (λ bytes. IsSaveOf self.now bytes.items) }
+        ensures long { IfOk result (λ bytes. length bytes.items ≡ length_of (shape_of self.now.set)) }
     {
         self.course.save(alloc)
     }
@@ -216,5 +221,30 @@ impl Held {
         ensures { BeginsAgain self.old self.new }
     {
         let _ = self.course.restore(self.first.as_slice());
+    }
+
+    /// This many kept states, each the present one.
+    pub fn slots(&self, alloc: Global, count: u32) -> Result<Vec<Kept>, OutOfMemory>
+        ensures present { IfOk result (λ slots. openings_of slots.items ≡ replicate count self.now.kept) }
+        ensures of_set { IfOk result (λ slots. All (IsKeptFor (shape_of self.now.set)) slots.items) }
+    {
+        slots_of(alloc, &self.course, count)
+    }
+
+    /// Keeps the present state in the place of a kept one of this set.
+    pub fn keep(&self, kept: &mut Kept)
+        requires { IsKeptFor (shape_of self.now.set) kept.old }
+        ensures opening { kept.new.opening ≡ self.now.kept }
+        ensures of_set { IsKeptFor (shape_of self.now.set) kept.new }
+    {
+        keep_in(&self.course, kept);
+    }
+
+    /// Takes up a kept state of this set.
+    pub fn take(&mut self, kept: &Kept)
+        requires { IsKeptFor (shape_of self.old.set) kept.now }
+        ensures { Takes self.old self.new kept.now.opening }
+    {
+        take_from(&mut self.course, kept);
     }
 }

@@ -1,7 +1,8 @@
-ghost use Rattle.std.specs.Prelude.{◌≡◌, ◌≢◌, ◌⊎◌, None};
+ghost use Rattle.std.specs.Prelude.{◌≡◌, ◌≢◌, ◌⊎◌, None, IsSomeAnd};
 ghost use Rattle.ra_calls.specs.Answers.{AnswersEarn, AnswersReset, AnswersRestore, AnswersSize, AnswersTold, Calls, IsSaveOf};
-ghost use Rattle.ra_judge.specs.Codes.{done, memory, no_progress, empty};
-ghost use Rattle.ra_calls.specs.Handles.{held_in, recorded_in};
+ghost use Rattle.ra_judge.specs.Codes.{done, memory, no_progress, no_room, empty};
+ghost use Rattle.ra_calls.specs.Lengths.{IsSaveLength};
+ghost use Rattle.ra_calls.specs.Handles.{held_in, recorded_in, slots_in};
 
 use crate::handle::Handle;
 use ra_judge::codes::{DONE, EMPTY, PROGRESS};
@@ -10,10 +11,14 @@ use std::alloc::Global;
 
 /// The progress bytes of the present state: docs/DEFINITIONS.md, "Calls from C" and "Progress file".
 ///
-/// `ROOM` where there is too little room; the count is that of the whole. `MEMORY` where memory runs out.
+/// They are as many as `save_size` tells. `ROOM` where there is too little room; the count is that of the whole.
+/// `MEMORY` where memory runs out.
 pub fn save(alloc: Global, handle: &mut Handle, out: &mut [u8], count: &mut usize) -> u32
     ensures told { Calls (AnswersTold IsSaveOf out.old out.new count.new result) result (held_in handle.old) (held_in handle.new) }
     ensures recording { recorded_in handle.new ≡ recorded_in handle.old }
+    ensures slots { slots_in handle.new ≡ slots_in handle.old }
+    ensures long { (result ≡ done) ⊎ (result ≡ no_room)
+        → IsSomeAnd (held_in handle.old) (IsSaveLength count.new) }
     ensures unwritten { result ≢ done → out.new ≡ out.old }
     ensures uncounted { (result ≡ memory) ⊎ (result ≡ empty) → count.new ≡ count.old }
 {
@@ -31,6 +36,7 @@ pub fn save(alloc: Global, handle: &mut Handle, out: &mut [u8], count: &mut usiz
 pub fn save_size(alloc: Global, handle: &mut Handle, size: &mut usize) -> u32
     ensures told { Calls (AnswersSize size.new result) result (held_in handle.old) (held_in handle.new) }
     ensures recording { recorded_in handle.new ≡ recorded_in handle.old }
+    ensures slots { slots_in handle.new ≡ slots_in handle.old }
     ensures untold { result ≢ done → size.new ≡ size.old }
 {
     match handle.take(alloc) {
@@ -51,6 +57,7 @@ pub fn restore(alloc: Global, handle: &mut Handle, bytes: &[u8], why: &mut Refus
     ensures taken { Calls (AnswersRestore bytes.now why.new result) result (held_in handle.old) (held_in handle.new) }
     ensures unrecorded { result ≡ done → recorded_in handle.new ≡ None }
     ensures recording { result ≢ done → recorded_in handle.new ≡ recorded_in handle.old }
+    ensures slots { slots_in handle.new ≡ slots_in handle.old }
     ensures unsaid { result ≢ no_progress → why.new ≡ why.old }
 {
     match handle.take(alloc) {
@@ -76,6 +83,7 @@ pub fn restore(alloc: Global, handle: &mut Handle, bytes: &[u8], why: &mut Refus
 pub fn reset(alloc: Global, handle: &mut Handle) -> u32
     ensures begun { Calls (AnswersReset result) result (held_in handle.old) (held_in handle.new) }
     ensures unrecorded { recorded_in handle.new ≡ None }
+    ensures slots { slots_in handle.new ≡ slots_in handle.old }
 {
     match handle.take(alloc) {
         Some(mut game) => {
@@ -95,6 +103,7 @@ pub fn reset(alloc: Global, handle: &mut Handle) -> u32
 pub fn earn(alloc: Global, handle: &mut Handle, ids: &[u32]) -> u32
     ensures earned { Calls (AnswersEarn ids.now result) result (held_in handle.old) (held_in handle.new) }
     ensures recording { recorded_in handle.new ≡ recorded_in handle.old }
+    ensures slots { slots_in handle.new ≡ slots_in handle.old }
 {
     match handle.take(alloc) {
         Some(mut game) => {

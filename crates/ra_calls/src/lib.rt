@@ -1,6 +1,6 @@
 //! What a call from C does: a handle that owns a game, or nothing.
 //!
-//! `ra_c` exports these calls; each does one thing that an emulator does, and states the clause of the call behind it.
+//! `ra_c` exports these calls; each does one thing that an emulator does, and states the clause of the call below it.
 #![tactic(auto)]
 
 mod cell;
@@ -10,10 +10,13 @@ mod game;
 mod handle;
 mod held;
 mod keeping;
+mod kept_slots;
+mod laws;
 mod making;
 mod parts;
 mod playing;
 mod recording;
+mod rewinding;
 mod showing;
 mod telling;
 mod told_cell;
@@ -24,8 +27,10 @@ mod told_unlock;
 pub use explaining::{explain, record};
 pub use handle::Handle;
 pub use keeping::{earn, reset, restore, save, save_size};
+pub use laws::{events_are_few, handles_cross, sets_stay};
 pub use making::{free, make};
 pub use playing::frame;
+pub use rewinding::{keep, slots, take};
 pub use telling::{cells, events, items, lines, number, presence};
 pub use told_cell::ToldCell;
 pub use told_event::ToldEvent;

@@ -1,7 +1,7 @@
-ghost use Rattle.std.specs.Prelude.{◌≡◌, ◌≢◌, ◌⊎◌, ◌↔◌, ◌<◌, ◌^◌, None, IsSomeAnd};
+ghost use Rattle.std.specs.Prelude.{◌≡◌, ◌≢◌, ◌⊎◌, ◌↔◌, ◌<◌, ◌^◌, [], None, IsSomeAnd};
 ghost use Rattle.ra_calls.specs.Answers.{IsLoaded, IsRefusedText};
 ghost use Rattle.ra_judge.specs.Codes.{done, memory, no_set, out_of_range, empty, full};
-ghost use Rattle.ra_calls.specs.Handles.{held_in, recorded_in};
+ghost use Rattle.ra_calls.specs.Handles.{held_in, recorded_in, slots_in};
 
 use crate::game::Game;
 use crate::handle::Handle;
@@ -22,6 +22,8 @@ pub fn make(alloc: Global, text: &[u8], size: u32, handle: &mut Handle, why: &mu
     ensures refused { result ≡ no_set → IsRefusedText text.now why.new }
     ensures kept { result ≢ done → held_in handle.new ≡ held_in handle.old }
     ensures recording { result ≢ done → recorded_in handle.new ≡ recorded_in handle.old }
+    ensures slotless { result ≡ done → slots_in handle.new ≡ [] }
+    ensures slots { result ≢ done → slots_in handle.new ≡ slots_in handle.old }
     ensures unsaid { result ≢ no_set → why.new ≡ why.old }
     ensures other { (result ≡ done) ⊎ ((result ≡ memory) ⊎ ((result ≡ no_set) ⊎ ((result ≡ out_of_range) ⊎ (result ≡ full)))) }
 {

@@ -2,7 +2,7 @@ ghost use Rattle.std.specs.Prelude.{◌≡◌, ◌≢◌, ◌⊎◌, MatchResult
 ghost use Rattle.ra_calls.specs.Answers.{AnswersTold, AreEventsOf, AreLinesOf, Calls};
 ghost use Rattle.ra_judge.specs.Codes.{done, memory, no_room, empty};
 ghost use Rattle.ra_judge.specs.Giving.{GivesText};
-ghost use Rattle.ra_calls.specs.Handles.{held_in, recorded_in};
+ghost use Rattle.ra_calls.specs.Handles.{held_in, recorded_in, slots_in};
 ghost use Rattle.ra_calls.specs.Shows.{IsShownBy};
 ghost use Rattle.ra_calls.specs.ToldCells.{AreCellsOf};
 ghost use Rattle.ra_calls.specs.ToldItems.{AnswersNumber, AreItemsOf};
@@ -19,10 +19,11 @@ use std::alloc::Global;
 /// The events of the last frame, items in set order: docs/DEFINITIONS.md, "Calls from C" and "Events".
 ///
 /// None where no frame came. `ROOM` where there is too little room; the count is that of all of them. `MEMORY` for
-/// want of memory.
+/// running out of memory.
 pub fn events(alloc: Global, handle: &mut Handle, out: &mut [ToldEvent], count: &mut usize) -> u32
     ensures told { Calls (AnswersTold AreEventsOf out.old out.new count.new result) result (held_in handle.old) (held_in handle.new) }
     ensures recording { recorded_in handle.new ≡ recorded_in handle.old }
+    ensures slots { slots_in handle.new ≡ slots_in handle.old }
     ensures unwritten { result ≢ done → out.new ≡ out.old }
     ensures uncounted { (result ≡ memory) ⊎ (result ≡ empty) → count.new ≡ count.old }
 {
@@ -42,6 +43,7 @@ pub fn events(alloc: Global, handle: &mut Handle, out: &mut [ToldEvent], count: 
 pub fn lines(alloc: Global, handle: &mut Handle, out: &mut [u8], count: &mut usize) -> u32
     ensures told { Calls (AnswersTold AreLinesOf out.old out.new count.new result) result (held_in handle.old) (held_in handle.new) }
     ensures recording { recorded_in handle.new ≡ recorded_in handle.old }
+    ensures slots { slots_in handle.new ≡ slots_in handle.old }
     ensures unwritten { result ≢ done → out.new ≡ out.old }
     ensures uncounted { (result ≡ memory) ⊎ (result ≡ empty) → count.new ≡ count.old }
 {
@@ -61,6 +63,7 @@ pub fn lines(alloc: Global, handle: &mut Handle, out: &mut [u8], count: &mut usi
 pub fn items(alloc: Global, handle: &mut Handle, out: &mut [ToldItem], count: &mut usize) -> u32
     ensures told { Calls (AnswersTold AreItemsOf out.old out.new count.new result) result (held_in handle.old) (held_in handle.new) }
     ensures recording { recorded_in handle.new ≡ recorded_in handle.old }
+    ensures slots { slots_in handle.new ≡ slots_in handle.old }
     ensures unwritten { result ≢ done → out.new ≡ out.old }
     ensures uncounted { (result ≡ memory) ⊎ (result ≡ empty) → count.new ≡ count.old }
 {
@@ -80,6 +83,7 @@ pub fn items(alloc: Global, handle: &mut Handle, out: &mut [ToldItem], count: &m
 pub fn cells(alloc: Global, handle: &mut Handle, out: &mut [ToldCell], count: &mut usize) -> u32
     ensures told { Calls (AnswersTold AreCellsOf out.old out.new count.new result) result (held_in handle.old) (held_in handle.new) }
     ensures recording { recorded_in handle.new ≡ recorded_in handle.old }
+    ensures slots { slots_in handle.new ≡ slots_in handle.old }
     ensures unwritten { result ≢ done → out.new ≡ out.old }
     ensures uncounted { (result ≡ memory) ⊎ (result ≡ empty) → count.new ≡ count.old }
 {
@@ -100,6 +104,7 @@ pub fn cells(alloc: Global, handle: &mut Handle, out: &mut [ToldCell], count: &m
 pub fn presence(alloc: Global, handle: &mut Handle, out: &mut [u8], count: &mut usize) -> u32
     ensures told { Calls (AnswersTold IsShownBy out.old out.new count.new result) result (held_in handle.old) (held_in handle.new) }
     ensures recording { recorded_in handle.new ≡ recorded_in handle.old }
+    ensures slots { slots_in handle.new ≡ slots_in handle.old }
     ensures unwritten { result ≢ done → out.new ≡ out.old }
     ensures uncounted { (result ≡ memory) ⊎ (result ≡ empty) → count.new ≡ count.old }
 {
@@ -127,6 +132,7 @@ pub fn number(
 ) -> u32
     ensures told { Calls (AnswersNumber id number out.old out.new count.new result) result (held_in handle.old) (held_in handle.new) }
     ensures recording { recorded_in handle.new ≡ recorded_in handle.old }
+    ensures slots { slots_in handle.new ≡ slots_in handle.old }
     ensures unwritten { result ≢ done → out.new ≡ out.old }
     ensures uncounted { result ≢ done → result ≢ no_room → count.new ≡ count.old }
 {

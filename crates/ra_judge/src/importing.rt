@@ -1,18 +1,22 @@
-ghost use Rattle.std.specs.Prelude.{◌≡◌, ◌≢◌};
+ghost use Rattle.std.specs.Prelude.{◌≡◌, ◌≢◌, ◌⊎◌, ◌≤◌, IfErr, IfOk};
+ghost use Rattle.ra_patch.specs.LeftAnswers.{LeavesNothing};
 ghost use Rattle.ra_judge.specs.Codes.{done, no_document, no_room};
-ghost use Rattle.ra_judge.specs.Importing.{AnswersImport};
+ghost use Rattle.ra_judge.specs.Importing.{AnswersImport, LeavesBy};
 
 use crate::codes::{DOCUMENT, MEMORY, RANGE};
 use crate::given::give_whole;
 use crate::refusal::{Refusal, of_document};
-use ra_patch::{DocumentRefused, left_of};
+use ra_patch::{CountedLeft, DocumentRefused, left_of, official_of};
 use std::alloc::Global;
+
+// The flag that leaves out the unofficial achievements.
+const OFFICIAL: u32 = 1;
 
 /// The set file of what is left of a document in JSON: docs/DEFINITIONS.md, "Calls from C" and "What is left of a
 /// document".
 ///
-/// `RANGE` where a flag is set, since there is none yet; `DOCUMENT` where nothing is left, with the reason; `ROOM` where
-/// there is too little room; `MEMORY` where memory runs out.
+/// The flag 1 leaves out the unofficial achievements too, and counts them. `RANGE` where another flag is set;
+/// `DOCUMENT` where nothing is left, with the reason; `ROOM` where there is too little room; `MEMORY` where memory runs out.
 pub fn import(
     alloc: Global,
     document: &[u8],
@@ -28,12 +32,12 @@ pub fn import(
     ensures left_uncounted { result ≢ done → result ≢ no_room → left.new ≡ left.old }
     ensures unsaid { result ≢ no_document → why.new ≡ why.old }
 {
-    if flags != 0 {
+    if flags > OFFICIAL {
         return RANGE;
     }
-    match left_of(alloc, document) {
+    match left_by(alloc, document, flags) {
         Ok(whole) => {
-            *left = whole.left_out.len();
+            *left = whole.left_out;
             give_whole(whole.text.as_slice(), out, count)
         }
         Err(DocumentRefused::Memory) => MEMORY,
@@ -41,5 +45,23 @@ pub fn import(
             *why = of_document(reason);
             DOCUMENT
         }
+    }
+}
+
+// What is left of a document by these flags.
+fn left_by(alloc: Global, document: &[u8], flags: u32) -> Result<CountedLeft, DocumentRefused>
+    requires { flags ≤ 1 }
+    ensures ok { IfOk result (λ left. LeavesBy flags document.now left.text.items left.left_out) }
+    ensures err { IfErr result (λ why. why ≡ DocumentRefused.Memory ⊎ LeavesNothing document.now why) }
+{
+    if flags == OFFICIAL {
+        return official_of(alloc, document);
+    }
+    match left_of(alloc, document) {
+        Ok(left) => Ok(CountedLeft {
+            left_out: left.left_out.len(),
+            text: left.text,
+        }),
+        Err(why) => Err(why),
     }
 }

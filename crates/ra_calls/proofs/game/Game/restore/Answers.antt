@@ -5,4 +5,4 @@ use Rattle.ra_calls.proofs.game.Game.restore.Goals as goal
 pub invariant_of-self : goal.invariant_of-self
 invariant_of-self c =
     let taken = c.in-Ok.ensures.ok.taken in
-    still_game c.self.inside _ c.self.invariant (taken.taken []).set taken.size refl c.take.ensures.after
+    still_game c.self.inside _ c.self.invariant (taken.taken []).set taken.size refl c.take.ensures.after refl

@@ -7,6 +7,7 @@ invariant_of-result c =
     let course = c.in_ok-course.course in
     let fresh = is_fresh c.args.text.now _ c.args.size course c.in-Ok.first.items read.loaded.spelled read.spelled read.named read.loaded.begun c.in-Ok.ensures.first c.in-Ok.ensures.short in
     record {
+      shape = fresh.shape;
       first = fresh.first_too;
       accepted = fresh.accepted;
       long = fresh.long;
