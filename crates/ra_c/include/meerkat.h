@@ -26,9 +26,9 @@
  *     unlock or the handle then. These do not overlap each other or what is read.
  *   - A meerkat_game is all zero before the first meerkat_new, and is changed by these calls alone. It is not copied: a
  *     copy that is used after the game was freed through the other one is a use after free, which no call can see.
- *   - One call at a time on one game, and always on the thread that made it: that a handle may go to another thread is not
- *     proved of the Rattle types behind it. Two games share nothing. No call in the child of a process that had several
- *     threads when it was forked.
+ *   - One call at a time on one game, on any thread, where a lock or a join orders them: what a handle holds may go from one
+ *     thread to another, which is proved of its type. Two games share nothing, and may be called at once. No call in the
+ *     child of a process that had several threads when it was forked.
  *   - A call whose handle is const leaves the game as it was. It still takes it out of the handle and puts it back, so a
  *     handle does not lie in memory that cannot be written, and two such calls are not made at once.
  *   - malloc, realloc and free belong together, and align as the C library does. No call from a signal handler.
@@ -54,6 +54,9 @@ extern "C" {
 /* The most events of one frame, by how many achievements and leaderboards the set has: three an achievement (measured,
  * primed or unprimed, unlock), and two a leaderboard (start or track, and what ends it or tracks on). */
 #define MEERKAT_MOST_EVENTS(achievements, leaderboards) (3 * (achievements) + 2 * (leaderboards))
+
+/* The most slots of a game for states that are kept in memory. */
+#define MEERKAT_MOST_SLOTS 65536u
 
 /* A pointer to bytes that may be null where its length is 0, and then one that is not. */
 #define MEERKAT_PLACE(bytes) ((bytes) ? (bytes) : (const uint8_t *)"")
@@ -179,6 +182,11 @@ typedef struct meerkat_cell {
     uint32_t whole;   /* 1 where it lies whole in the memory, else 0: what is past its end reads as 0 */
 } meerkat_cell;
 
+/* The flags of meerkat_import. */
+enum meerkat_flag {
+    MEERKAT_OFFICIAL = 1 /* without the achievements that are not official: their field Flags is 5 */
+};
+
 /* The rows of an explanation: frames since the record, from 0. */
 typedef struct meerkat_unlock {
     uint32_t last;   /* the row of the unlock */
@@ -206,7 +214,7 @@ uint32_t meerkat_free(meerkat_game *game);
  * MEERKAT_RANGE where the banks have not size bytes together, and then nothing changes. MEERKAT_EMPTY. */
 uint32_t meerkat_frame(meerkat_game *game, const meerkat_bank *banks, size_t count);
 
-/* The events of the last frame, in the order of the set. None before the first frame, and none after a restore or a reset.
+/* The events of the last frame, in the order of the set. None before the first frame, and none after a restore, a take or a reset.
  * *count is how many there are, MEERKAT_MOST_EVENTS at most. MEERKAT_ROOM, MEERKAT_MEMORY, MEERKAT_EMPTY. */
 uint32_t meerkat_events(const meerkat_game *game, meerkat_event *out, size_t room, size_t *count);
 
@@ -215,13 +223,13 @@ uint32_t meerkat_events(const meerkat_game *game, meerkat_event *out, size_t roo
  * MEERKAT_MEMORY, MEERKAT_EMPTY. */
 uint32_t meerkat_lines(const meerkat_game *game, uint8_t *out, size_t room, size_t *count);
 
-/* How each item stands, in the order of the set: after meerkat_new, a frame, a restore or a reset. *count is how many items
+/* How each item stands, in the order of the set: after meerkat_new, a frame, a restore, a take or a reset. *count is how many items
  * there are. The target is that of the first Measured or Measured% of the text: its hit target, else its right number
  * where that is a constant. MEERKAT_ROOM, MEERKAT_MEMORY, MEERKAT_EMPTY. */
 uint32_t meerkat_items(const meerkat_game *game, meerkat_item *out, size_t room, size_t *count);
 
 /* The achievements of these ids are earned, as the service says it: they are silent from the next frame on, also after a
- * restore and a reset, and nothing else changes, not what the last frame told. An id of no achievement is passed over. To be
+ * restore, a take and a reset, and nothing else changes, not what the last frame told. An id of no achievement is passed over. To be
  * called after meerkat_new, with all that the user has earned. MEERKAT_MEMORY, MEERKAT_EMPTY; then nothing changes. */
 uint32_t meerkat_earn(meerkat_game *game, const uint32_t *ids, size_t count);
 
@@ -238,7 +246,7 @@ uint32_t meerkat_number(const meerkat_game *game, uint32_t id, int32_t number, u
  * MEERKAT_EMPTY. */
 uint32_t meerkat_presence(const meerkat_game *game, uint8_t *out, size_t room, size_t *count);
 
-/* How many bytes meerkat_save gives, which stays so as long as the game is held. MEERKAT_EMPTY. */
+/* How many bytes meerkat_save gives, each time, as long as the game is held. MEERKAT_EMPTY. */
 uint32_t meerkat_save_size(const meerkat_game *game, size_t *size);
 
 /* The progress bytes of the present state, for a save state or a file. They do not have the memory in them. MEERKAT_ROOM,
@@ -253,6 +261,21 @@ uint32_t meerkat_restore(meerkat_game *game, const uint8_t *bytes, size_t length
  * states, deltas and priors are those of a new game, and what was earned stays earned. Nothing is recorded then. It takes
  * no memory. MEERKAT_EMPTY. */
 uint32_t meerkat_reset(meerkat_game *game);
+
+/* Makes count slots for states that are kept in memory, at most MEERKAT_MOST_SLOTS, in place of those that were there, and
+ * keeps the present state in each. They go when the game is freed. Slots are for rewind and run-ahead: a state in a slot costs a
+ * fraction of meerkat_save, and neither meerkat_keep nor meerkat_take takes memory. MEERKAT_RANGE, MEERKAT_MEMORY,
+ * MEERKAT_EMPTY; then the slots stay as they were. */
+uint32_t meerkat_slots(meerkat_game *game, uint32_t count);
+
+/* Keeps the present state in a slot, from 0, in place of the one that was kept there. MEERKAT_RANGE where there is no such
+ * slot, MEERKAT_EMPTY. */
+uint32_t meerkat_keep(meerkat_game *game, uint32_t slot);
+
+/* Takes up the state that was kept in a slot, as meerkat_restore takes up progress bytes: what was earned stays earned, there
+ * are no events, and nothing is recorded then. The slot stays as it is. MEERKAT_RANGE where there is no such slot,
+ * MEERKAT_EMPTY. */
+uint32_t meerkat_take(meerkat_game *game, uint32_t slot);
 
 /* Records the achievement of this id from now on, frame by frame, in place of one that was recorded: right after
  * meerkat_new or meerkat_reset. It begins as one that was never played or earned. A frame that finds no memory for its
@@ -272,7 +295,8 @@ uint32_t meerkat_explain(const meerkat_game *game, meerkat_hits *out, size_t roo
 uint32_t meerkat_judge(uint32_t kind, const uint8_t *text, size_t length, meerkat_refusal *why);
 
 /* The set file of a document in JSON as the service sends it, without the items and the script that it would be refused
- * for; *left is how many were left out. flags is 0. It needs no game. MEERKAT_RANGE (flags), MEERKAT_DOCUMENT (why),
+ * for; *left is how many were left out. flags is 0, or MEERKAT_OFFICIAL for a set without unofficial achievements, which are
+ * counted in *left and take no id from an official one. It needs no game. MEERKAT_RANGE (flags), MEERKAT_DOCUMENT (why),
  * MEERKAT_ROOM, MEERKAT_MEMORY. */
 uint32_t meerkat_import(const uint8_t *document, size_t length, uint32_t flags, uint8_t *out, size_t room, size_t *count,
                         size_t *left, meerkat_refusal *why);

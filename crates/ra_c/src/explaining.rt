@@ -2,7 +2,7 @@
 ghost use Rattle.std.specs.Prelude.{◌≡◌, ◌≢◌, ◌⊎◌};
 ghost use Rattle.ra_calls.specs.Answers.{Calls};
 ghost use Rattle.ra_judge.specs.Codes.{done, no_room};
-ghost use Rattle.ra_calls.specs.Handles.{held_in, recorded_in};
+ghost use Rattle.ra_calls.specs.Handles.{held_in, recorded_in, slots_in};
 ghost use Rattle.ra_calls.specs.Recordings.{AnswersExplain, AnswersRecord};
 
 use ra_calls::{Handle, ToldHits, ToldUnlock};
@@ -16,6 +16,7 @@ use std::alloc::Global;
 pub extern "C" fn meerkat_record(alloc: Global, handle: &mut Handle, id: u32) -> u32
     ensures stays { Calls (λ old new. new ≡ old) result (held_in handle.old) (held_in handle.new) }
     ensures recorded { Calls (λ old _. AnswersRecord id old result (recorded_in handle.old) (recorded_in handle.new)) result (held_in handle.old) (held_in handle.new) }
+    ensures slots { slots_in handle.new ≡ slots_in handle.old }
 {
     ra_calls::record(alloc, handle, id)
 }
@@ -34,6 +35,7 @@ pub extern "C" fn meerkat_explain(
 ) -> u32
     ensures stays { Calls (λ old new. new ≡ old) result (held_in handle.old) (held_in handle.new) }
     ensures recording { recorded_in handle.new ≡ recorded_in handle.old }
+    ensures slots { slots_in handle.new ≡ slots_in handle.old }
     ensures told { Calls (λ _ _. AnswersExplain (recorded_in handle.old) out.old out.new count.new unlock.new result) result (held_in handle.old) (held_in handle.new) }
     ensures unwritten { result ≢ done → out.new ≡ out.old }
     ensures unheaded { result ≢ done → unlock.new ≡ unlock.old }

@@ -1,7 +1,8 @@
-ghost use Rattle.std.specs.Prelude.{◌≡◌, ◌≢◌, ◌⊎◌, None};
+ghost use Rattle.std.specs.Prelude.{◌≡◌, ◌≢◌, ◌⊎◌, None, IsSomeAnd};
 ghost use Rattle.ra_calls.specs.Answers.{AnswersEarn, AnswersReset, AnswersRestore, AnswersSize, AnswersTold, Calls, IsSaveOf};
-ghost use Rattle.ra_judge.specs.Codes.{done, memory, no_progress, empty};
-ghost use Rattle.ra_calls.specs.Handles.{held_in, recorded_in};
+ghost use Rattle.ra_judge.specs.Codes.{done, memory, no_progress, no_room, empty};
+ghost use Rattle.ra_calls.specs.Lengths.{IsSaveLength};
+ghost use Rattle.ra_calls.specs.Handles.{held_in, recorded_in, slots_in};
 
 use ra_calls::Handle;
 use ra_judge::Refusal;
@@ -9,7 +10,8 @@ use std::alloc::Global;
 
 /// The progress bytes of the present state: docs/DEFINITIONS.md, "Calls from C" and "Progress file".
 ///
-/// `MEERKAT_ROOM` where there is too little room; the count is that of the whole. `MEERKAT_MEMORY` where memory runs out.
+/// They are as many as `meerkat_save_size` tells. `MEERKAT_ROOM` where there is too little room; the count is that of
+/// the whole. `MEERKAT_MEMORY` where memory runs out.
 #[unsafe(no_mangle)]
 pub extern "C" fn meerkat_save(
     alloc: Global,
@@ -19,6 +21,9 @@ pub extern "C" fn meerkat_save(
 ) -> u32
     ensures told { Calls (AnswersTold IsSaveOf out.old out.new count.new result) result (held_in handle.old) (held_in handle.new) }
     ensures recording { recorded_in handle.new ≡ recorded_in handle.old }
+    ensures slots { slots_in handle.new ≡ slots_in handle.old }
+    ensures long { (result ≡ done) ⊎ (result ≡ no_room)
+        → IsSomeAnd (held_in handle.old) (IsSaveLength count.new) }
     ensures unwritten { result ≢ done → out.new ≡ out.old }
     ensures uncounted { (result ≡ memory) ⊎ (result ≡ empty) → count.new ≡ count.old }
 {
@@ -30,6 +35,7 @@ pub extern "C" fn meerkat_save(
 pub extern "C" fn meerkat_save_size(alloc: Global, handle: &mut Handle, size: &mut usize) -> u32
     ensures told { Calls (AnswersSize size.new result) result (held_in handle.old) (held_in handle.new) }
     ensures recording { recorded_in handle.new ≡ recorded_in handle.old }
+    ensures slots { slots_in handle.new ≡ slots_in handle.old }
     ensures untold { result ≢ done → size.new ≡ size.old }
 {
     ra_calls::save_size(alloc, handle, size)
@@ -49,6 +55,7 @@ pub extern "C" fn meerkat_restore(
     ensures taken { Calls (AnswersRestore bytes.now why.new result) result (held_in handle.old) (held_in handle.new) }
     ensures unrecorded { result ≡ done → recorded_in handle.new ≡ None }
     ensures recording { result ≢ done → recorded_in handle.new ≡ recorded_in handle.old }
+    ensures slots { slots_in handle.new ≡ slots_in handle.old }
     ensures unsaid { result ≢ no_progress → why.new ≡ why.old }
 {
     ra_calls::restore(alloc, handle, bytes, why)
@@ -62,6 +69,7 @@ pub extern "C" fn meerkat_restore(
 pub extern "C" fn meerkat_reset(alloc: Global, handle: &mut Handle) -> u32
     ensures begun { Calls (AnswersReset result) result (held_in handle.old) (held_in handle.new) }
     ensures unrecorded { recorded_in handle.new ≡ None }
+    ensures slots { slots_in handle.new ≡ slots_in handle.old }
 {
     ra_calls::reset(alloc, handle)
 }
@@ -75,6 +83,7 @@ pub extern "C" fn meerkat_reset(alloc: Global, handle: &mut Handle) -> u32
 pub extern "C" fn meerkat_earn(alloc: Global, handle: &mut Handle, ids: &[u32]) -> u32
     ensures earned { Calls (AnswersEarn ids.now result) result (held_in handle.old) (held_in handle.new) }
     ensures recording { recorded_in handle.new ≡ recorded_in handle.old }
+    ensures slots { slots_in handle.new ≡ slots_in handle.old }
 {
     ra_calls::earn(alloc, handle, ids)
 }

@@ -8,6 +8,7 @@ mod judging;
 mod keeping;
 mod making;
 mod playing;
+mod rewinding;
 mod telling;
 #[cfg(test)]
 mod tests;
@@ -20,6 +21,7 @@ pub use playing::meerkat_frame;
 pub use ra_banks::Bank;
 pub use ra_calls::{Handle, ToldCell, ToldEvent, ToldHits, ToldItem, ToldUnlock};
 pub use ra_judge::Refusal;
+pub use rewinding::{meerkat_keep, meerkat_slots, meerkat_take};
 pub use telling::{
     meerkat_cells, meerkat_events, meerkat_items, meerkat_lines, meerkat_number, meerkat_presence,
 };

@@ -1,7 +1,7 @@
-ghost use Rattle.std.specs.Prelude.{◌≡◌, ◌≢◌, ◌⊎◌, ◌↔◌, ◌<◌, ◌^◌, None, IsSomeAnd};
+ghost use Rattle.std.specs.Prelude.{◌≡◌, ◌≢◌, ◌⊎◌, ◌↔◌, ◌<◌, ◌^◌, [], None, IsSomeAnd};
 ghost use Rattle.ra_calls.specs.Answers.{IsLoaded, IsRefusedText};
 ghost use Rattle.ra_judge.specs.Codes.{done, memory, no_set, out_of_range, empty, full};
-ghost use Rattle.ra_calls.specs.Handles.{held_in, recorded_in};
+ghost use Rattle.ra_calls.specs.Handles.{held_in, recorded_in, slots_in};
 
 use ra_calls::Handle;
 use ra_judge::Refusal;
@@ -26,6 +26,8 @@ pub extern "C" fn meerkat_new(
     ensures refused { result ≡ no_set → IsRefusedText text.now why.new }
     ensures kept { result ≢ done → held_in handle.new ≡ held_in handle.old }
     ensures recording { result ≢ done → recorded_in handle.new ≡ recorded_in handle.old }
+    ensures slotless { result ≡ done → slots_in handle.new ≡ [] }
+    ensures slots { result ≢ done → slots_in handle.new ≡ slots_in handle.old }
     ensures unsaid { result ≢ no_set → why.new ≡ why.old }
     ensures other { (result ≡ done) ⊎ ((result ≡ memory) ⊎ ((result ≡ no_set) ⊎ ((result ≡ out_of_range) ⊎ (result ≡ full)))) }
 {

@@ -1,7 +1,7 @@
 ghost use Rattle.std.specs.Prelude.{◌≡◌, ◌≢◌, ◌⊎◌};
 ghost use Rattle.ra_calls.specs.Answers.{AnswersTold, AreEventsOf, AreLinesOf, Calls};
 ghost use Rattle.ra_judge.specs.Codes.{done, memory, no_room, empty};
-ghost use Rattle.ra_calls.specs.Handles.{held_in, recorded_in};
+ghost use Rattle.ra_calls.specs.Handles.{held_in, recorded_in, slots_in};
 ghost use Rattle.ra_calls.specs.Shows.{IsShownBy};
 ghost use Rattle.ra_calls.specs.ToldCells.{AreCellsOf};
 ghost use Rattle.ra_calls.specs.ToldItems.{AnswersNumber, AreItemsOf};
@@ -12,7 +12,7 @@ use std::alloc::Global;
 /// The events of the last frame, items in set order: docs/DEFINITIONS.md, "Calls from C" and "Events".
 ///
 /// None where no frame came. `MEERKAT_ROOM` where there is too little room; the count is that of all of them. `MEERKAT_MEMORY` for
-/// want of memory.
+/// running out of memory.
 #[unsafe(no_mangle)]
 pub extern "C" fn meerkat_events(
     alloc: Global,
@@ -22,6 +22,7 @@ pub extern "C" fn meerkat_events(
 ) -> u32
     ensures told { Calls (AnswersTold AreEventsOf out.old out.new count.new result) result (held_in handle.old) (held_in handle.new) }
     ensures recording { recorded_in handle.new ≡ recorded_in handle.old }
+    ensures slots { slots_in handle.new ≡ slots_in handle.old }
     ensures unwritten { result ≢ done → out.new ≡ out.old }
     ensures uncounted { (result ≡ memory) ⊎ (result ≡ empty) → count.new ≡ count.old }
 {
@@ -40,6 +41,7 @@ pub extern "C" fn meerkat_lines(
 ) -> u32
     ensures told { Calls (AnswersTold AreLinesOf out.old out.new count.new result) result (held_in handle.old) (held_in handle.new) }
     ensures recording { recorded_in handle.new ≡ recorded_in handle.old }
+    ensures slots { slots_in handle.new ≡ slots_in handle.old }
     ensures unwritten { result ≢ done → out.new ≡ out.old }
     ensures uncounted { (result ≡ memory) ⊎ (result ≡ empty) → count.new ≡ count.old }
 {
@@ -58,6 +60,7 @@ pub extern "C" fn meerkat_items(
 ) -> u32
     ensures told { Calls (AnswersTold AreItemsOf out.old out.new count.new result) result (held_in handle.old) (held_in handle.new) }
     ensures recording { recorded_in handle.new ≡ recorded_in handle.old }
+    ensures slots { slots_in handle.new ≡ slots_in handle.old }
     ensures unwritten { result ≢ done → out.new ≡ out.old }
     ensures uncounted { (result ≡ memory) ⊎ (result ≡ empty) → count.new ≡ count.old }
 {
@@ -76,6 +79,7 @@ pub extern "C" fn meerkat_cells(
 ) -> u32
     ensures told { Calls (AnswersTold AreCellsOf out.old out.new count.new result) result (held_in handle.old) (held_in handle.new) }
     ensures recording { recorded_in handle.new ≡ recorded_in handle.old }
+    ensures slots { slots_in handle.new ≡ slots_in handle.old }
     ensures unwritten { result ≢ done → out.new ≡ out.old }
     ensures uncounted { (result ≡ memory) ⊎ (result ≡ empty) → count.new ≡ count.old }
 {
@@ -95,6 +99,7 @@ pub extern "C" fn meerkat_presence(
 ) -> u32
     ensures told { Calls (AnswersTold IsShownBy out.old out.new count.new result) result (held_in handle.old) (held_in handle.new) }
     ensures recording { recorded_in handle.new ≡ recorded_in handle.old }
+    ensures slots { slots_in handle.new ≡ slots_in handle.old }
     ensures unwritten { result ≢ done → out.new ≡ out.old }
     ensures uncounted { (result ≡ memory) ⊎ (result ≡ empty) → count.new ≡ count.old }
 {
@@ -116,6 +121,7 @@ pub extern "C" fn meerkat_number(
 ) -> u32
     ensures told { Calls (AnswersNumber id number out.old out.new count.new result) result (held_in handle.old) (held_in handle.new) }
     ensures recording { recorded_in handle.new ≡ recorded_in handle.old }
+    ensures slots { slots_in handle.new ≡ slots_in handle.old }
     ensures unwritten { result ≢ done → out.new ≡ out.old }
     ensures uncounted { result ≢ done → result ≢ no_room → count.new ≡ count.old }
 {
