@@ -10,6 +10,8 @@ mod files;
 #[cfg(test)]
 mod left;
 #[cfg(test)]
+mod official;
+#[cfg(test)]
 mod progress;
 #[cfg(test)]
 mod traces;

@@ -1,7 +1,7 @@
 //! Courses over a memory that is written behind their back: docs/DEFINITIONS.md, "A frame that looks".
 
 mod banked;
-mod watched;
+pub(crate) mod watched;
 
 use crate::courses::banked::{lines_over, other_banks};
 use crate::courses::watched::Step::{Filled, Looked, Told};

@@ -16,6 +16,8 @@ mod events;
 #[cfg(test)]
 mod items;
 #[cfg(test)]
+mod keeping;
+#[cfg(test)]
 mod played;
 #[cfg(test)]
 mod progress;
