@@ -20,7 +20,7 @@ fn after(alloc: Global, frames: u64) -> Result<Columns, OutOfMemory>
     Ok(columns)
 }
 
-// How wide a column is, how many are full, and how many frames are behind these.
+// How wide a column is, how many are full, and how many frames are after these.
 fn shape(alloc: Global, frames: u64) -> Result<(u64, u64, u64), OutOfMemory>
     requires { frames ≤ 1000 }
 {

@@ -59,7 +59,7 @@ fn take_frame<L: Ledger>(watcher: &mut Watcher, at: u64, blank: Blank)
     watcher.frame(&mut steps);
 }
 
-// Takes a step, behind at most so many frames.
+// Takes a step, after at most this many frames.
 fn take(alloc: Global, watcher: &mut Watcher, step: Step, at: u64) -> Result<u64, Fail>
     requires watches { IsWatching at watcher.old }
     requires few { at ≤ 1000000 }
@@ -83,7 +83,7 @@ fn take(alloc: Global, watcher: &mut Watcher, step: Step, at: u64) -> Result<u64
     Ok(at)
 }
 
-// Takes some steps, behind at most so many frames.
+// Takes some steps, after at most this many frames.
 fn take_all(alloc: Global, watcher: &mut Watcher, steps: &[Step], before: u64) -> Result<u64, Fail>
     requires watches { IsWatching before watcher.old }
     requires size { length watcher.old.memory ≡ 64 }
@@ -199,7 +199,7 @@ fn a_target_that_is_not_reached_is_told(rt: HostRuntime) -> Result<(), Fail> {
     Ok(())
 }
 
-// Two frames count behind a save, and one behind the restore that cuts them off.
+// Two frames count after a save, and one after the restore that cuts them off.
 const CUT: &[&[Step]] = &[
     &[Frame; 1],
     &[Save(3)],

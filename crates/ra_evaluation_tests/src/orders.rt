@@ -16,7 +16,7 @@ fn group_of(alloc: Global, flags: &[Flag]) -> Result<Group, AllocError> {
     Ok(Group { conditions })
 }
 
-// Whether a group of so many conditions has this pass order.
+// Whether a group of this many conditions has this pass order.
 fn has_order(alloc: Global, group: &Group, count: usize, wanted: &[u32]) -> bool {
     if count > 3 || group.conditions.len() != count {
         return false;

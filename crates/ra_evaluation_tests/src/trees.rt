@@ -67,7 +67,7 @@ fn has_nodes(plan: &GroupPlan, order: &[u32], lefts: &[u32], rights: &[u32]) -> 
         && plan.rights.as_slice() == rights
 }
 
-// Whether a group has this pass order, these nodes for its left and right sides, and so many in all.
+// Whether a group has this pass order, these nodes for its left and right sides, and this many in all.
 fn is_planned(
     alloc: Global,
     rows: &[Row],
@@ -165,7 +165,7 @@ fn has_last_nodes(plan: &GroupPlan, left: u32, right: Option<u32>) -> bool {
 }
 
 // Whether the last condition has this node on its left and, where it is asked, this one on its right,
-// and there are so many in all.
+// and there are this many in all.
 fn ends_at(
     alloc: Global,
     conditions: Vec<Condition>,

@@ -83,7 +83,7 @@ const SIGNED: &[Frame<'static>] = &[
     },
 ];
 
-// The place of the first frame that a value tells otherwise, which is 0 before them, and behind them once it is reset.
+// The place of the first frame that a value tells otherwise, which is 0 before them, and after them once it is reset.
 fn other_signed(value: &mut Value, text: &ValueText) -> Option<usize>
     requires text { value_contents text.now ≡ Legacy [] ∷ Legacy [] ∷ [] }
     requires hits { length value.old.hits ≡ 0 }

@@ -94,7 +94,7 @@ fn digit(holds: bool) -> u8 {
     if holds { b'1' } else { b'0' }
 }
 
-/// What is told of the steps, and then the rows of the history behind.
+/// What is told of the steps, and then the rows of the history so far.
 pub(crate) fn told(
     alloc: Global,
     recorded: &mut Recorded,

@@ -24,7 +24,7 @@ fn tells_each_row_and_the_unlock(rt: HostRuntime) -> Result<(), Fail> {
     Ok(())
 }
 
-// Two hits are wanted. The slot is filled behind the first frame, and each restore takes up that history.
+// Two hits are wanted. The slot is filled after the first frame, and each restore takes up that history.
 const TWICE: [Step; 13] = [
     Frame,
     Save(3),

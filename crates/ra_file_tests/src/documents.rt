@@ -13,7 +13,7 @@ fn gives(alloc: Global, document: &str, text: &str) -> bool {
     }
 }
 
-// Whether the document gives a set of so many items, with a presence script or without.
+// Whether the document gives a set of this many items, with a presence script or without.
 fn gives_set(alloc: Global, document: &str, items: usize, has_script: bool) -> bool {
     match import(alloc, document.as_bytes()) {
         Ok(given) => given.set.items.len() == items && given.set.script.is_some() == has_script,
@@ -357,7 +357,7 @@ fn a_set_file_that_is_refused_is_told(rt: HostRuntime) {
     assert_eq!(rt; other_cause(rt.alloc(), CAUSES), None);
 }
 
-// The document of so many achievements with an empty trigger.
+// The document of this many achievements with an empty trigger.
 fn achievements(alloc: Global, count: u32) -> Result<String, Fail> {
     let mut document = String::from_str(alloc, "{\"PatchData\":{\"Achievements\":[")?;
     for id in 0..count {

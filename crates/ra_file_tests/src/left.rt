@@ -449,7 +449,7 @@ fn what_set_of_gives_is_left_whole(rt: HostRuntime) {
     assert!(rt; is_given(rt.alloc(), document));
 }
 
-// The document of so many achievements with an empty trigger, and one more that is left out.
+// The document of this many achievements with an empty trigger, and one more that is left out.
 fn achievements(alloc: Global, count: u32) -> Result<String, Fail> {
     let mut document = String::from_str(alloc, "{\"Achievements\":[")?;
     for id in 0..count {

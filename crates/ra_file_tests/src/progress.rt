@@ -279,7 +279,7 @@ const NEEDS: &[Need] = &[
     (105, 106),
 ];
 
-// Why so many first bytes of the worked file are refused.
+// Why this many first bytes of the worked file are refused.
 fn refused_front(shape: &Shape, count: usize) -> Option<ProgressRefused>
     requires { IsUsable shape.now }
 {
@@ -516,7 +516,7 @@ fn places_where_the_file_is_of_this_set_and_names_else(rt: HostRuntime) -> Resul
     Ok(())
 }
 
-// A shape of two cells of one name, and of two achievements of one, the second with so many hits.
+// A shape of two cells of one name, and of two achievements of one, the second with this many hits.
 fn forced(alloc: Global, second: u32) -> Result<Shape, OutOfMemory>
     requires { second ≤ 2 }
     ensures { IfOk result (λ shape. IsUsable shape) }

@@ -92,7 +92,7 @@ impl Files for SlowFiles {
     }
 }
 
-// Files in which t has these bytes, of which a read gives so many at most.
+// Files in which t has these bytes, of which a read gives this many at most.
 fn slow(alloc: Global, trace: &[u8], most: usize) -> Result<SlowFiles, OutOfMemory> {
     let mut files = SureFiles::new(alloc)?;
     files.add("t", trace)?;
@@ -184,7 +184,7 @@ const WORKED_RECORDS: &[(Record<'static>, u64)] = &[
     (Record::End, 38),
 ];
 
-// Whether the worked trace is read as its size and its records, each at its place, from so many bytes a read.
+// Whether the worked trace is read as its size and its records, each at its place, from this many bytes a read.
 fn reads_worked(alloc: Global, most: usize) -> Result<bool, OutOfMemory> {
     let mut files = slow(alloc, &WORKED, most)?;
     let mut reader = Reader::open(alloc, "t", 39)?;
@@ -198,7 +198,7 @@ fn the_worked_trace_is_read_in_any_pieces(rt: HostRuntime) -> Result<(), OutOfMe
     Ok(())
 }
 
-// Three writes of the most bytes, a frame behind the first and the second.
+// Three writes of the most bytes, a frame after the first and the second.
 fn write_long(writer: &mut Writer, filling: &[u8]) -> Result<(), OutOfMemory>
     requires size { writer.old.size ≡ 131072 }
     requires filling { length filling.now ≡ 65535 }
@@ -235,7 +235,7 @@ fn stands_so(reader: &mut Reader, files: &mut SlowFiles, places: &[u64]) -> bool
     true
 }
 
-// Whether the records of a long trace stand at their places, from so many bytes a read.
+// Whether the records of a long trace stand at their places, from this many bytes a read.
 fn reads_long(alloc: Global, trace: &[u8], most: usize) -> Result<bool, OutOfMemory> {
     let mut files = slow(alloc, trace, most)?;
     let mut reader = Reader::open(alloc, "t", 1_099_511_627_776)?;
@@ -256,7 +256,7 @@ fn other_pieces(
     Ok(None)
 }
 
-// What is left of a record and a piece behind it may be more than there is room for.
+// What is left of a record and a piece after it may be more than there is room for.
 #[test]
 fn each_long_record_passes_the_front(rt: HostRuntime) -> Result<(), OutOfMemory> {
     let trace = long_trace(rt.alloc())?;
@@ -265,7 +265,7 @@ fn each_long_record_passes_the_front(rt: HostRuntime) -> Result<(), OutOfMemory>
     Ok(())
 }
 
-// The first answer of a new reader that is no record, behind this many frames.
+// The first answer of a new reader that is no record, after this many frames.
 fn stop_of(reader: &mut Reader, files: &mut SlowFiles, frames: u32) -> Option<TraceError>
     requires { reader.old ≡ opened reader.old.name reader.old.limit }
 {
@@ -281,7 +281,7 @@ fn stop_of(reader: &mut Reader, files: &mut SlowFiles, frames: u32) -> Option<Tr
     reader.next_record(files).err()
 }
 
-// The same of a trace within a limit of so many bytes behind the header.
+// The same of a trace within a limit of this many bytes after the header.
 fn stops(
     alloc: Global,
     trace: &[u8],
@@ -293,7 +293,7 @@ fn stops(
     Ok(stop_of(&mut reader, &mut files, frames))
 }
 
-// A trace, how far it is read behind the header, and why it stops behind so many frames.
+// A trace, how far it is read after the header, and why it stops after this many frames.
 type Stop = (&'static [u8], u8, u32, TraceError);
 
 const STOPS: &[Stop] = &[
@@ -416,7 +416,7 @@ fn refusals_with_their_places(rt: HostRuntime) -> Result<(), OutOfMemory> {
 }
 
 // Whether the set of a number begins with these bytes, and has its length and its end. It has 47 bytes a line and its id,
-// and 109 bytes behind the achievements.
+// and 109 bytes after the achievements.
 fn makes_set(alloc: Global, number: u32, first: &[u8]) -> Result<bool, OutOfMemory> {
     let last = b"::VAL:0x 0000\nP\nDisplay:\n@Number(0xX0000)\n";
     let text = make_set(alloc, number)?;

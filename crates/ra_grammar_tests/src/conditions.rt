@@ -240,7 +240,7 @@ fn values_are_read_from_a_place(rt: HostRuntime) {
     assert!(rt; read && parts_from(rt.alloc(), b"@N(A:0=1)", 3) == refused);
 }
 
-// A text of 65,535 conditions, and what stands behind them.
+// A text of 65,535 conditions, and what follows them.
 fn long_text(alloc: Global, end: &[u8]) -> Result<Vec<u8>, OutOfMemory> {
     let condition = b"M:d0xH0000000000000010=99999999999999999999999.000000000000010._";
     repeated(alloc, &[], condition, 65_535, end)

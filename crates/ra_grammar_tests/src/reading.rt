@@ -71,7 +71,7 @@ pub(crate) fn is_refused(alloc: Global, text: &[u8], why: SetRefused) -> bool {
     parse_set(alloc, text).err() == Some(why)
 }
 
-/// The file is a set of so many items and conditions.
+/// The file is a set of this many items and conditions.
 pub(crate) fn counts(alloc: Global, text: &[u8], items: usize, count: u64) -> bool {
     match parse_set(alloc, text) {
         Ok(set) => set.items.len() == items && conditions(&set) == count,
@@ -94,7 +94,7 @@ fn push_all(
     Ok(())
 }
 
-/// These texts one behind the other, the middle one so many times.
+/// These texts one after the other, the middle one this many times.
 pub(crate) fn repeated(
     alloc: Global,
     front: &[u8],

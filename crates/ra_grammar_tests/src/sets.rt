@@ -87,7 +87,7 @@ const FILES: &[(&str, usize, u64)] = &[
     ("L 1 \r\r STA:::CAN:::SUB:::VAL:1*2_3$4::PRO:M:5", 1, 4),
 ];
 
-// The file is a set of so many items and conditions, and without a script.
+// The file is a set of this many items and conditions, and without a script.
 fn has_items(alloc: Global, text: &str, items: usize, count: u64) -> bool {
     match parse_set(alloc, text.as_bytes()) {
         Ok(set) => set.items.len() == items && conditions(&set) == count && set.script.is_none(),
@@ -198,7 +198,7 @@ fn a_set_has_at_most_so_many_bytes(rt: HostRuntime) -> Result<(), Fail> {
     Ok(())
 }
 
-// A file of so many achievements with an empty trigger.
+// A file of this many achievements with an empty trigger.
 fn achievements(alloc: Global, count: u32) -> Result<String, Fail> {
     let mut text = String::new(alloc);
     for id in 0..count {
@@ -207,13 +207,13 @@ fn achievements(alloc: Global, count: u32) -> Result<String, Fail> {
     Ok(text)
 }
 
-// Whether so many achievements are a set.
+// Whether this many achievements are a set.
 fn are_a_set(alloc: Global, count: u32) -> Result<bool, Fail> {
     let text = achievements(alloc, count)?;
     Ok(counts(alloc, text.as_bytes(), count as usize, 0))
 }
 
-// Whether so many achievements are too many.
+// Whether this many achievements are too many.
 fn are_too_many(alloc: Global, count: u32) -> Result<bool, Fail> {
     let text = achievements(alloc, count)?;
     Ok(passes(alloc, text.as_bytes(), Which::Items, u64::from(count)))
@@ -225,7 +225,7 @@ fn a_set_has_at_most_so_many_items(rt: HostRuntime) -> Result<(), Fail> {
     Ok(())
 }
 
-// Whether so many achievements are refused since a line behind them repeats an id.
+// Whether this many achievements are refused since a line after them repeats an id.
 fn are_repeated(alloc: Global, count: u32, id: u32, line: u32) -> Result<bool, Fail> {
     let mut text = achievements(alloc, count)?;
     write!(text, "A {id} ")?;
@@ -239,18 +239,18 @@ fn a_repeated_id_is_told_before_too_many_items(rt: HostRuntime) -> Result<(), Fa
     Ok(())
 }
 
-// A file of an achievement of so many conditions more than one, and what stands behind it.
+// A file of an achievement of this many conditions more than one, and what follows it.
 fn conditions_of_one(alloc: Global, more: u32, end: &[u8]) -> Result<Vec<u8>, OutOfMemory> {
     repeated(alloc, b"A 1 0=1", b"_0=1", more, end)
 }
 
-// Whether an achievement of so many conditions more than one is a set of so many.
+// Whether an achievement of this many conditions more than one is a set of this many.
 fn are_conditions(alloc: Global, more: u32, count: u64) -> Result<bool, OutOfMemory> {
     let text = conditions_of_one(alloc, more, &[])?;
     Ok(counts(alloc, &text, 1, count))
 }
 
-// Whether it is refused for so many with one condition more in the next line.
+// Whether it is refused for this many with one condition more in the next line.
 fn are_too_many_conditions(alloc: Global, more: u32, found: u64) -> Result<bool, OutOfMemory> {
     let text = conditions_of_one(alloc, more, b"\nA 2 0=1")?;
     Ok(passes(alloc, &text, Which::Conditions, found))

@@ -49,7 +49,7 @@ fn script_ends_with(set: &Set, pieces: &[Shown<'_>]) -> bool {
     }
 }
 
-// The file has so many items, and a script whose last line is this text.
+// The file has this many items, and a script whose last line is this text.
 fn shows(alloc: Global, text: &[u8], items: usize, shown: &[u8]) -> bool {
     match parse_set(alloc, text) {
         Ok(set) => set.items.len() == items && script_ends_with(&set, &[Shown::Text(shown)]),
@@ -86,7 +86,7 @@ const WHOLE_DIGEST: [u8; 16] = [
     0x0a, 0xad, 0xc1, 0x4d, 0x38, 0xe8, 0x70, 0x4b, 0x2a, 0x74, 0x95, 0x0a, 0x27, 0x91, 0x3b, 0x31,
 ];
 
-// The set has so many lookups, formats and lines.
+// The set has this many lookups, formats and lines.
 fn has_sections(set: &Set, lookups: usize, formats: usize, lines: usize) -> bool {
     match &set.script {
         Some(script) => {
@@ -132,13 +132,13 @@ fn escapes_and_macros_stand_in_a_line(rt: HostRuntime) {
     assert!(rt; reads_escapes(rt.alloc()));
 }
 
-// Whether a display line of so many macros is in a set of so many conditions.
+// Whether a display line of this many macros is in a set of this many conditions.
 fn are_macros(alloc: Global, macros: u32, count: u64) -> Result<bool, OutOfMemory> {
     let text = repeated(alloc, MACROS, b"@N(1)", macros, &[])?;
     Ok(counts(alloc, &text, 0, count))
 }
 
-// Whether a display line of so many macros is refused for them.
+// Whether a display line of this many macros is refused for them.
 fn are_too_many_macros(alloc: Global, macros: u32) -> Result<bool, OutOfMemory> {
     let text = repeated(alloc, MACROS, b"@N(1)", macros, &[])?;
     let limit = SetRefused::Limit {
@@ -166,7 +166,7 @@ fn is_judged(alloc: Global, text: &[u8], long: bool) -> bool {
     counts(alloc, text, 0, 0)
 }
 
-// The same of a file with a lookup text of so many bytes behind this front.
+// The same of a file with a lookup text of this many bytes after this front.
 fn judges(alloc: Global, front: &[u8], count: u32, long: bool) -> Result<bool, OutOfMemory> {
     let text = repeated(alloc, front, b"x", count, b"\nDisplay:\nx")?;
     Ok(is_judged(alloc, &text, long))
@@ -196,7 +196,7 @@ fn a_kept_lookup_text_has_at_most_so_many_bytes(rt: HostRuntime) -> Result<(), O
     Ok(())
 }
 
-// A file of so many conditions more than two, of which one is in its script.
+// A file of this many conditions more than two, of which one is in its script.
 fn conditions_of_both(alloc: Global, more: u32) -> Result<Vec<u8>, OutOfMemory> {
     repeated(
         alloc,
@@ -207,13 +207,13 @@ fn conditions_of_both(alloc: Global, more: u32) -> Result<Vec<u8>, OutOfMemory> 
     )
 }
 
-// Whether it is a set of so many.
+// Whether it is a set of this many.
 fn are_conditions(alloc: Global, more: u32, count: u64) -> Result<bool, OutOfMemory> {
     let text = conditions_of_both(alloc, more)?;
     Ok(counts(alloc, &text, 1, count))
 }
 
-// Whether it is refused for so many.
+// Whether it is refused for this many.
 fn are_too_many_conditions(alloc: Global, more: u32, found: u64) -> Result<bool, OutOfMemory> {
     let text = conditions_of_both(alloc, more)?;
     let limit = SetRefused::Limit {

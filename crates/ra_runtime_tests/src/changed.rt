@@ -64,7 +64,8 @@ fn each_version_is_read_and_the_third_is_written(rt: HostRuntime) -> Result<(), 
 }
 
 const ROWS: &[Row] = &[
-    // Before the restore the new achievement is triggered and its cell is 1. It stays earned, and the hits go on behind it.
+    // Before the restore the new achievement is triggered and its cell is 1. It stays earned, and the hits go on after
+    // it.
     (
         "what_a_file_does_not_name_begins_anew",
         WITH_ANOTHER,

@@ -1,4 +1,4 @@
-//! Damaged progress files are refused, and what is played behind a refusal goes on as without it.
+//! Damaged progress files are refused, and what is played after a refusal goes on as without it.
 
 use crate::played::Played;
 use crate::steps::put_word;
@@ -47,7 +47,7 @@ impl Pair {
         Ok(())
     }
 
-    // Takes a frame, and tells these numbers of a save behind it, and whether both agree.
+    // Takes a frame, and tells these numbers of a save after it, and whether both agree.
     fn tell_frame(
         &mut self,
         alloc: Global,
@@ -72,12 +72,12 @@ impl Pair {
 enum Damage {
     // It is cut to each shorter length, one after the other.
     Cut,
-    // The lowest bit of each byte is turned, and turned back behind its refusal.
+    // The lowest bit of each byte is turned, and turned back after its refusal.
     Flip,
 }
 
 // What is told of a progress file of the moment after a frame at which the byte is 5, damaged in each of these ways: the
-// refusal, and a frame behind it, at which the byte is 6 and 5 by turns.
+// refusal, and a frame after it, at which the byte is 6 and 5 by turns.
 fn damaged(
     alloc: Global,
     file: &str,
@@ -166,7 +166,7 @@ const THREE_HITS_NAMED: &[u8] =
 // How long the first version has to be, once its first 45 bytes are there.
 const THREE_HITS_NEEDS: &[usize] = &[45, 58];
 
-// How long the third has to be, once so many bytes tell it: the counts of cells, priors and entries, and the length.
+// How long the third has to be, once this many bytes tell it: the counts of cells, priors and entries, and the length.
 const THREE_HITS_NAMED_NEEDS: &[usize] = &[45, 49, 73, 77, 97, 106];
 
 // A count, a prior and the shown line move at each frame at which the byte is 6 and 5 by turns.
@@ -177,8 +177,8 @@ Display:
 Six
 ";
 
-// What is kept of it in the first version: as above, with the prior 0 behind the cell, 2 hits, and the shown line 0 with its
-// hit.
+// What is kept of it in the first version: as above, with the prior 0 after the cell, 2 hits, and the shown line 0 with
+// its hit.
 const MOVING_KEPT: &[u8] =
     b"RAPG\x01\xc5\x07\x12\x6f\xc7\xcd\xbd\x79\xfa\xef\xa3\x37\x27\xb4\xcd\0\x01\0\0\0\0\0\0\0\x05\0\0\0\0\0\0\0\x01\0\0\0\0\x01\0\0\0\0\0\0\0\0\0\0\0\x01\0\0\0\x7a\xb6\xbd\x1e\x71\xf4\x89\xac\xfd\x06\xe5\x30\xc7\x53\x48\x9a";
 
@@ -187,7 +187,7 @@ const MOVING_NEEDS: &[usize] = &[45, 74];
 // The prior, the count and the shown line in a save of it.
 const PLACES: [usize; 3] = [73, 106, 134];
 
-// Each of them behind the row of this number, counted from 0.
+// Each of them after the row of this number, counted from 0.
 fn put_moved(alloc: Global, row: usize, out: &mut Vec<u8>) -> Result<(), OutOfMemory> {
     let (prior, shown) = if row % 2 == 0 { (5, 1) } else { (6, 0) };
     let count = row.saturating_add(2);
@@ -196,12 +196,12 @@ fn put_moved(alloc: Global, row: usize, out: &mut Vec<u8>) -> Result<(), OutOfMe
     Ok(())
 }
 
-// The first of these lengths that so many bytes do not have.
+// The first of these lengths that this many bytes do not have.
 fn need(left: usize, needs: &[usize]) -> usize {
     needs.iter().copied().find(|need| left < *need).unwrap_or(0)
 }
 
-// The words of each cut of a file of so many bytes, by the lengths that it has to have.
+// The words of each cut of a file of this many bytes, by the lengths that it has to have.
 fn wanted_cuts(
     alloc: Global,
     length: usize,

@@ -183,7 +183,7 @@ fn steps_of(alloc: Global, parts: &[&[Step]]) -> Result<Vec<Step>, OutOfMemory> 
     Ok(steps)
 }
 
-// Whether the set goes on behind its restore as the uncut one did.
+// Whether the set goes on after its restore as the uncut one did.
 fn goes_on(alloc: Global) -> Result<bool, Fail> {
     let steps = steps_of(alloc, &[&BEGIN, &END, &BACK, &END])?;
     let back = "taken\npresence 3 Forest with 000000 points\n";
@@ -197,7 +197,7 @@ fn a_restored_set_goes_on_as_the_uncut_one(rt: HostRuntime) -> Result<(), Fail> 
     Ok(())
 }
 
-// Whether this is shown at a frame behind a save, behind the restore of it, and a write that is not seen before the next
+// Whether this is shown at a frame after a save, after the restore of it, and a write that is not seen before the next
 // frame, and at that frame.
 fn shows_twice(alloc: Global, byte: u8, shown: &str) -> Result<bool, Fail> {
     let steps = [

@@ -100,7 +100,7 @@ impl Played {
         }
     }
 
-    /// Keeps so many of the kept bytes.
+    /// Keeps this many of the kept bytes.
     pub(crate) fn cut(&mut self, count: usize) {
         self.kept.truncate(count);
     }

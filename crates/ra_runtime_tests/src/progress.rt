@@ -30,7 +30,7 @@ taken
 const LAST_NUMBERS: &str = "A 1 0xH0010=1S0xH0010=0_0xH0011=1.2.\n";
 
 const ROWS: &[Row] = &[
-    // What was earned behind the save is earned still: its state byte is 9.
+    // What was earned after the save is earned still: its state byte is 9.
     (
         "refused_bytes_change_nothing",
         THREE_HITS,

@@ -152,7 +152,7 @@ const ROWS: &[Row] = &[
         ],
         MEASURED_IF_LINES,
     ),
-    // Both hits of the achievement behind that of eight cells. The first began three frames later.
+    // Both hits of the achievement after that of eight cells. The first began three frames later.
     (
         "a_restore_ends_what_is_owed",
         COUNTED,
@@ -174,7 +174,8 @@ const ROWS: &[Row] = &[
         ],
         "5 8 \ntaken\n3 6 \n4 7 \n",
     ),
-    // The hits are restored as 4294967294 and 4294967290, and rest from there on. Behind the last write only the second is met.
+    // The hits are restored as 4294967294 and 4294967290, and rest from there on. After the last write only the second
+    // is met.
     (
         "owed_hits_stop_at_the_last_number",
         COUNTED,

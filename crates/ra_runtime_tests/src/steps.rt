@@ -25,7 +25,7 @@ pub enum Step {
     Numbers,
     /// The presence line.
     Show,
-    /// Numbers of a save, from a place on, each with a blank behind it.
+    /// Numbers of a save, from a place on, each with a blank after it.
     Words(usize, usize),
     /// Keeps a save.
     Save,
@@ -33,7 +33,7 @@ pub enum Step {
     Keep(&'static [u8]),
     /// Replaces one byte of the kept save.
     Put(usize, u8),
-    /// Keeps so many bytes of the kept save.
+    /// Keeps this many bytes of the kept save.
     Cut(usize),
     /// Closes the kept save anew with its sum.
     Close,
@@ -246,7 +246,7 @@ fn tell_words(
     put(out, b"\n")
 }
 
-/// The number at a place of bytes, with a blank behind it.
+/// The number at a place of bytes, with a blank after it.
 pub(crate) fn put_word(
     alloc: Global,
     bytes: &[u8],

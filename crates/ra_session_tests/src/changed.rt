@@ -52,7 +52,7 @@ fn a_changed_set_goes_on_with_what_it_still_has(rt: HostRuntime) -> Result<(), O
     Ok(())
 }
 
-// A run whose progress file has so many bytes, all of them 0.
+// A run whose progress file has this many bytes, all of them 0.
 fn ends_long(alloc: Global, size: usize, text: &[u8]) -> Result<bool, OutOfMemory> {
     let mut kept = Vec::new(alloc);
     kept.resize(size, 0)?;

@@ -7,7 +7,7 @@ use ra_text::OutOfMemory;
 pub const FOREST: &[u8] =
     b"A 101 0xH00fe=3_d0xH0010=4_0xH0010=5S0xH0020=1S0xH0020=2\nL 9 FRAMES STA:0xH0010=1_d0xH0010=0::CAN:0xH00fe=0::SUB:0xH0010=2_d0xH0010=1::VAL:M:0xH00fe=3\nP\nLookup:Stage\n0=Title\n1-4=Forest\n*=Castle\n\nFormat:Pts\nFormatType=SCORE\n\nDisplay:\n?0xH00fe=0?In the menu\n@Stage(0xH0010) with @Pts(0x 0030) points // stage and points\n";
 
-/// Its six frames, with a show behind the first and the last.
+/// Its six frames, with a show after the first and the last.
 pub const FOREST_TRACE: &[u8] =
     b"RATR\x01\0\0 \0FPW\xfe\0\0\0\x01\0\x03W\x10\0\0\0\x01\0\x01W \0\0\0\x01\0\x02FFW\x10\0\0\0\x01\0\x02FW\x10\0\0\0\x01\0\x04FW\x10\0\0\0\x01\0\x05W0\0\0\0\x02\0\xe8\x03FPE";
 

@@ -115,7 +115,7 @@ fn each_unlock_has_its_events(rt: HostRuntime) -> Result<(), OutOfMemory> {
     Ok(())
 }
 
-// A byte that is no record stands behind the second frame.
+// A byte that is no record comes after the second frame.
 const CUT: &[u8] = b"RATR\x01@\0\0\0FW\x10\0\0\0\x01\0\x05F\0";
 
 const BOARD: &[u8] = b"L 2 VALUE STA:0=1::CAN:0=1::SUB:0=1::VAL:0\n";
@@ -218,14 +218,15 @@ fn other_read(alloc: Global, rows: &[Reading]) -> Result<Option<usize>, OutOfMem
     Ok(None)
 }
 
-// The trace of fives is read a byte at a time. Its unlock is the frame at 37, and the record behind it is never asked for.
+// The trace of fives is read a byte at a time. Its unlock is the frame at 37, and the record after it is never asked
+// for.
 #[test]
 fn no_record_behind_the_unlock_is_read(rt: HostRuntime) -> Result<(), OutOfMemory> {
     assert_eq!(rt; other_read(rt.alloc(), &READS)?, None);
     Ok(())
 }
 
-// An achievement of 65,535 conditions that never hold, and so many frames.
+// An achievement of 65,535 conditions that never hold, and this many frames.
 fn wide(alloc: Global, frames: u32) -> Result<(Vec<u8>, Vec<u8>), OutOfMemory> {
     let mut set = b"A 1 0=1".to_vec(alloc)?;
     for _ in 1..65_535 {
@@ -240,13 +241,13 @@ fn wide(alloc: Global, frames: u32) -> Result<(Vec<u8>, Vec<u8>), OutOfMemory> {
     Ok((set, trace))
 }
 
-// Whether the explanation of a wide achievement over so many frames is refused so.
+// Whether the explanation of a wide achievement over this many frames is refused so.
 fn wide_is_refused(alloc: Global, frames: u32, text: &[u8]) -> Result<bool, OutOfMemory> {
     let (set, trace) = wide(alloc, frames)?;
     explained(alloc, 1, (set.as_slice(), trace.as_slice()), 12, text)
 }
 
-// The frame behind 1,024 others is one too many.
+// The frame after 1,024 others is one too many.
 #[test]
 fn rows_past_the_most_are_refused(rt: HostRuntime) -> Result<(), OutOfMemory> {
     let text = b"explain refused: rows 67174400 over 67108864\n";

@@ -75,7 +75,7 @@ fn other_ending(alloc: Global, rows: &[Row<'_>]) -> Result<Option<usize>, OutOfM
     Ok(None)
 }
 
-// The set is read once, and once more at its end, and the trace once: nothing behind its end record is asked for. A
+// The set is read once, and once more at its end, and the trace once: nothing after its end record is asked for. A
 // progress file that is not there is a fault. Of a read and a write that fail the line of the one is not written.
 #[test]
 fn a_fault_ends_a_run(rt: HostRuntime) -> Result<(), OutOfMemory> {

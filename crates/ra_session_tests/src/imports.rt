@@ -205,15 +205,15 @@ fn other_fault(alloc: Global, rows: &[FaultRow]) -> Result<Option<usize>, OutOfM
     Ok(None)
 }
 
-// The put comes before the line, so of a put and a write that fail the status is that of the put, and behind a put a write
-// that fails leaves the set. A refused document puts nothing, whatever becomes of its line.
+// The put comes before the line, so of a put and a write that fail the status is that of the put, and after a put a
+// write that fails leaves the set. A refused document puts nothing, whatever becomes of its line.
 #[test]
 fn a_fault_ends_an_import(rt: HostRuntime) -> Result<(), OutOfMemory> {
     assert_eq!(rt; other_fault(rt.alloc(), &FAULTS)?, None);
     Ok(())
 }
 
-// A document of a byte more than there may be, and of as many: white space behind a value is no part of it.
+// A document of a byte more than there may be, and of as many: white space after a value is no part of it.
 fn long_document(alloc: Global, len: usize) -> Result<Vec<u8>, OutOfMemory> {
     let mut document = br#"{"PatchData":{"Achievements":[]}}"#.to_vec(alloc)?;
     for _ in document.len()..len {

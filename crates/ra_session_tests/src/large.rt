@@ -65,7 +65,7 @@ fn plays_a_deep_chain_of_values(rt: HostRuntime) -> Result<(), OutOfMemory> {
     Ok(())
 }
 
-// Each slot is saved a frame behind the one before it, and the first before any frame. They are restored the other way
+// Each slot is saved a frame after the one before it, and the first before any frame. They are restored the other way
 // round.
 fn all_slots(alloc: Global) -> Result<Vec<u8>, OutOfMemory> {
     let mut trace = b"RATR\x01\0\0\0\0S\0R\0P".to_vec(alloc)?;
@@ -79,7 +79,7 @@ fn all_slots(alloc: Global) -> Result<Vec<u8>, OutOfMemory> {
     Ok(trace)
 }
 
-// The display at each of these restores: the frames behind it.
+// The display at each of these restores: the frames that count.
 fn slot_lines(alloc: Global) -> Result<String, OutOfMemory> {
     let mut text = String::from_str(alloc, "presence 0 0\n")?;
     for back in 0..16u8 {

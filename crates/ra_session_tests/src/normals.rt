@@ -99,7 +99,7 @@ fn a_normal_text_is_put_and_told(rt: HostRuntime) -> Result<(), OutOfMemory> {
     Ok(())
 }
 
-// Whether the normal text of a set has so many conditions, or passes the limit so, and nothing is put then.
+// Whether the normal text of a set has this many conditions, or passes the limit so, and nothing is put then.
 fn long_normal_is(alloc: Global, set: &[u8], status: u8, text: &[u8]) -> Result<bool, OutOfMemory> {
     let mut files = files_with(alloc, &[("S", set), ("N", BEFORE)])?;
     let mut out = SureSink::new(alloc);
@@ -108,7 +108,7 @@ fn long_normal_is(alloc: Global, set: &[u8], status: u8, text: &[u8]) -> Result<
     Ok(ends && holds(&mut files, BEFORE) == (status == 11))
 }
 
-// A leaderboard whose value is so many times the term 1.
+// A leaderboard whose value is this many times the term 1.
 fn ones(alloc: Global, count: usize, separator: u8) -> Result<Vec<u8>, OutOfMemory> {
     let mut set = b"L 1 VALUE STA:::CAN:::SUB:::VAL:1".to_vec(alloc)?;
     for _ in 1..count {
@@ -118,7 +118,7 @@ fn ones(alloc: Global, count: usize, separator: u8) -> Result<Vec<u8>, OutOfMemo
     Ok(set)
 }
 
-// Whether the normal text of so many ones ends so.
+// Whether the normal text of this many ones ends so.
 fn ones_normal_is(
     alloc: Global,
     count: usize,

@@ -5,7 +5,7 @@ use ra_io::{Failed, Files, PutFailed, SureFiles, SureSink};
 use ra_text::OutOfMemory;
 use std::alloc::Global;
 
-// Files that give so many bytes a read at most, and of which the read of the trace at one place fails.
+// Files that give this many bytes a read at most, and of which the read of the trace at one place fails.
 #[derive(Drop)]
 pub(crate) struct PiecedFiles {
     files: SureFiles,
@@ -39,7 +39,7 @@ impl Files for PiecedFiles {
     }
 }
 
-/// Files of a set and a trace that give so many bytes a read, of which the read of the trace at one place fails.
+/// Files of a set and a trace that give this many bytes a read, of which the read of the trace at one place fails.
 pub(crate) fn pieced(
     alloc: Global,
     given: (&[u8], &[u8]),
@@ -54,7 +54,7 @@ pub(crate) fn pieced(
     })
 }
 
-// Whether a run over so many bytes a read, of which one may fail, ends so.
+// Whether a run over this many bytes a read, of which one may fail, ends so.
 fn pieces_end_so(
     alloc: Global,
     given: (&[u8], &[u8]),
@@ -116,7 +116,7 @@ fn filled_twice(alloc: Global) -> Result<Vec<u8>, OutOfMemory> {
     Ok(trace)
 }
 
-// Whether a run over the longest writes, so many bytes a read, unlocks.
+// Whether a run over the longest writes, this many bytes a read, unlocks.
 fn longest_unlocks(alloc: Global, trace: &[u8], most: usize) -> Result<bool, OutOfMemory> {
     let set = b"A 1 d0xH0010=5\n";
     pieces_end_so(alloc, (set, trace), (most, NOWHERE), 0, b"unlock 1 1\n")

@@ -44,7 +44,7 @@ const BAD_STATE: &[u8] =
 // What the file p has before a run.
 const OLDER: &[u8] = b"an older file";
 
-// Two texts, one behind the other.
+// Two texts, one after the other.
 fn joined(alloc: Global, front: &[u8], back: &[u8]) -> Result<Vec<u8>, OutOfMemory> {
     let mut text = front.to_vec(alloc)?;
     text.extend_from_slice(back)?;
@@ -217,7 +217,7 @@ const FIRST: &[u8] = b"RATR\x01\x40\0\0\0W\x01\0\0\0\x01\0\x01FW\x02\0\0\0\x01\0
 const LATER: &[u8] =
     b"RATR\x01\x40\0\0\0W\x01\0\0\0\x02\0\x01\0FW\x03\0\0\0\x01\0\x01FW\x03\0\0\0\x01\0\0FE";
 
-// The first three frames of the forest, and the others behind writes of what the image had.
+// The first three frames of the forest, and the others after writes of what the image had.
 const FOREST_FIRST: &[u8] =
     b"RATR\x01\0\0 \0FPW\xfe\0\0\0\x01\0\x03W\x10\0\0\0\x01\0\x01W \0\0\0\x01\0\x02FFE";
 

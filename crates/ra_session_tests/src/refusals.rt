@@ -61,7 +61,7 @@ fn repeated(
     Ok(all)
 }
 
-// A set of so many achievements.
+// A set of this many achievements.
 fn items(alloc: Global, count: u32) -> Result<String, OutOfMemory> {
     let mut set = String::new(alloc);
     for id in 1..=count {

@@ -35,7 +35,7 @@ fn other_numbers(memory: &Memory, rows: &[(u32, (u32, u32, u32))]) -> Option<usi
     None
 }
 
-// The same of a memory of so many bytes with these written at an address; where they do not fit, all are other.
+// The same of a memory of this many bytes with these written at an address; where they do not fit, all are other.
 fn other_behind(
     alloc: Global,
     size: u32,
@@ -67,7 +67,7 @@ fn reads_zeros_past_the_end(rt: HostRuntime) -> Result<(), OutOfMemory> {
     Ok(())
 }
 
-// Whether these bytes fit into a memory of so many.
+// Whether these bytes fit into a memory of this many.
 fn fit(alloc: Global, size: u8, at: u32, bytes: &[u8]) -> Result<bool, OutOfMemory> {
     let mut memory = Memory::new(alloc, u32::from(size))?;
     Ok(memory.write(at, bytes) != Err(OutOfRange))

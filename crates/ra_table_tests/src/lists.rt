@@ -15,7 +15,7 @@ enum Move {
     Unlink(u32),
     // The first node of a list.
     First(u32, Option<u32>),
-    // The node behind a node.
+    // The node after a node.
     Next(u32, Option<u32>),
     // The list of a node.
     Place(u32, Option<u32>),
@@ -83,7 +83,7 @@ impl Few {
     }
 }
 
-// The same over so many lists and nodes.
+// The same over this many lists and nodes.
 fn other_of(
     alloc: Global,
     lists: u8,

@@ -1,4 +1,4 @@
-//! Truths of comparisons over frames, by hand: docs/DEFINITIONS.md, "Truths of comparisons".
+//! Truths of comparisons over frames, by hand: docs/INTERNALS.md, "Truths of comparisons".
 
 ghost use Rattle.std.specs.Prelude.{◌≡◌, ◌<◌, ◌^◌, false, length, true, IfOk, IsTrue};
 ghost use Rattle.ra_operand.specs.Operators.{is_arithmetic};

@@ -54,7 +54,7 @@ fn due_of_changed(readers: &mut Readers) -> [Option<usize>; 4]
     [none, last, readers.next_due(1), readers.next_due(3)]
 }
 
-// Which is due behind the first when the first rests and then all are due.
+// Which is due after the first when the first rests and then all are due.
 fn due_of_all(readers: &mut Readers) -> Option<usize>
     requires { length readers.old.due ≡ 3 }
 {

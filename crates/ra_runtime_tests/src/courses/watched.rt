@@ -88,7 +88,7 @@ impl Watched {
         image.reads
     }
 
-    // Writes bytes behind the back of the course, takes a frame that looks, and tells how often it reads; what does
+    // Writes bytes after the back of the course, takes a frame that looks, and tells how often it reads; what does
     // not fit is left out.
     fn follow<L: Ledger>(&mut self, blank: Blank, at: u32, bytes: &[u8]) -> u32
         requires name { blank.name ≡ L.name }
@@ -123,7 +123,7 @@ pub(crate) fn course_of(alloc: Global, file: &str, size: u32, looks: bool) -> Re
     }
 }
 
-/// The place of the first row that goes otherwise over a memory of so many bytes: the step that it does, how often
+/// The place of the first row that goes otherwise over a memory of this many bytes: the step that it does, how often
 /// its frame reads, and the lines of the frame.
 pub(crate) fn other_step(
     alloc: Global,

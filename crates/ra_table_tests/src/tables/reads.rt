@@ -1,4 +1,4 @@
-//! How often a frame reads the image: docs/DEFINITIONS.md, "Marked and moved cells".
+//! How often a frame reads the image: docs/INTERNALS.md, "Marked and moved cells".
 
 use crate::tables::steps::Step::{PutBack, Reads, Write, Writes};
 use crate::tables::steps::{Step, other_step};

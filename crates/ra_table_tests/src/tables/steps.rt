@@ -16,7 +16,7 @@ use std::test::Fail;
 pub(crate) enum Step<'a> {
     /// Writes these bytes at an address.
     Write(u32, &'a [u8]),
-    /// Writes a byte at an address, so many times.
+    /// Writes a byte at an address, this many times.
     Writes(u32, u32),
     /// Puts these kept numbers back, and whether they fit.
     PutBack(&'a [u8], bool),
@@ -36,7 +36,7 @@ pub(crate) enum Step<'a> {
     Changed(&'a [u32]),
 }
 
-/// The place of the first step that a machine over these nodes, with a memory of so many bytes, answers otherwise.
+/// The place of the first step that a machine over these nodes, with a memory of this many bytes, answers otherwise.
 pub(crate) fn other_step(
     alloc: Global,
     size: u32,
