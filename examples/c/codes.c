@@ -75,6 +75,9 @@ static void over_nothing(void) {
     wants("save of nothing", meerkat_save(&game, bytes, 128, &count), MEERKAT_EMPTY);
     wants("restore of nothing", meerkat_restore(&game, bytes, 1, &why), MEERKAT_EMPTY);
     wants("reset of nothing", meerkat_reset(&game), MEERKAT_EMPTY);
+    wants("slots of nothing", meerkat_slots(&game, 1), MEERKAT_EMPTY);
+    wants("keep of nothing", meerkat_keep(&game, 0), MEERKAT_EMPTY);
+    wants("take of nothing", meerkat_take(&game, 0), MEERKAT_EMPTY);
     wants("record of nothing", meerkat_record(&game, 1), MEERKAT_EMPTY);
     wants("explanation of nothing", meerkat_explain(&game, hits, 1, &count, &unlock), MEERKAT_EMPTY);
     wants("the count stays", (uint32_t)count, 7);
@@ -164,10 +167,33 @@ static void judged(void) {
     wants("one left out", (uint32_t)left, 1);
     wants("its set", (uint32_t)(count == 12 && memcmp(out, "A 1 0xH10=5\n", 12) == 0), 1);
     wants("too little room", meerkat_import((const uint8_t *)document, strlen(document), 0, out, 11, &count, &left, &why), MEERKAT_ROOM);
-    wants("a flag", meerkat_import((const uint8_t *)document, strlen(document), 1, out, sizeof out, &count, &left, &why), MEERKAT_RANGE);
+    wants("no such flag", meerkat_import((const uint8_t *)document, strlen(document), 2, out, sizeof out, &count, &left, &why), MEERKAT_RANGE);
+    wants("two flags", meerkat_import((const uint8_t *)document, strlen(document), 3, out, sizeof out, &count, &left, &why), MEERKAT_RANGE);
+    wants("the count stays", (uint32_t)count, 12);
     wants("no document", meerkat_import((const uint8_t *)"{", 1, 0, out, sizeof out, &count, &left, &why), MEERKAT_DOCUMENT);
     wants("its kind", why.kind, MEERKAT_NOT_JSON);
     wants("no patch", meerkat_import((const uint8_t *)"{}", 2, 0, out, sizeof out, &count, &left, &why), MEERKAT_DOCUMENT);
+    wants("its field", why.id, 1);
+}
+
+/* A document with an unofficial achievement that has the id of an official one behind it. */
+static void official(void) {
+    static const char document[] =
+        "{\"PatchData\":{\"Achievements\":[{\"ID\":1,\"MemAddr\":\"0xH10=1\",\"Flags\":5},{\"ID\":1,\"MemAddr\":\"0xH10=2\",\"Flags\":3},"
+        "{\"ID\":2,\"MemAddr\":\"?\",\"Flags\":5},{\"ID\":3,\"MemAddr\":\"0xH10=3\",\"Flags\":\"5\"},{\"ID\":1,\"MemAddr\":\"0xH10=4\"}],"
+        "\"Leaderboards\":[]}}";
+    const uint8_t *bytes = (const uint8_t *)document;
+    meerkat_refusal why = {0};
+    uint8_t out[128] = {0};
+    size_t count = 0, left = 9;
+    says("all", meerkat_import(bytes, strlen(document), 0, out, sizeof out, &count, &left, &why), out, &count, "A 1 0xH10=1\nA 3 0xH10=3\n");
+    wants("two ids that are taken and a bad text", (uint32_t)left, 3);
+    says("the official ones", meerkat_import(bytes, strlen(document), MEERKAT_OFFICIAL, out, sizeof out, &count, &left, &why), out, &count,
+        "A 1 0xH10=2\nA 3 0xH10=3\n");
+    wants("two unofficial ones and an id that is taken", (uint32_t)left, 3);
+    wants("too little room", meerkat_import(bytes, strlen(document), MEERKAT_OFFICIAL, out, 23, &count, &left, &why), MEERKAT_ROOM);
+    wants("how much there has to be", (uint32_t)count, 24);
+    wants("no document", meerkat_import((const uint8_t *)"{}", 2, MEERKAT_OFFICIAL, out, sizeof out, &count, &left, &why), MEERKAT_DOCUMENT);
     wants("its field", why.id, 1);
 }
 
@@ -284,6 +310,73 @@ static void earned(void) {
     wants("free", meerkat_free(&game), MEERKAT_DONE);
 }
 
+/* How the items stand. */
+static void how_items_stand(const char *when, const meerkat_game *game, uint32_t state, uint32_t measured, uint32_t running) {
+    meerkat_item items[3];
+    size_t count = 0;
+    memset(items, 0, sizeof items);
+    wants("too little room", meerkat_items(game, items, 2, &count), MEERKAT_ROOM);
+    wants("items", meerkat_items(game, items, 3, &count), MEERKAT_DONE);
+    wants("how many", (uint32_t)count, 3);
+    wants(when, items[0].state, state);
+    wants("an achievement", items[1].kind, MEERKAT_ACHIEVEMENT);
+    wants("its id", items[1].id, 2);
+    wants("its measured number", items[1].measured, measured);
+    wants("its target", items[1].target, 8);
+    wants("in percent", items[1].percent, 1);
+    wants("a leaderboard", items[2].kind, MEERKAT_LEADERBOARD);
+    wants("that runs", items[2].running, running);
+}
+
+/* States that are kept in slots, and taken up. */
+static void slots(void) {
+    meerkat_game game = {0};
+    meerkat_refusal why = {0};
+    meerkat_bank bank = {ram, 64};
+    meerkat_event events[1] = {{0}};
+    meerkat_hits hits[1] = {{0}};
+    meerkat_unlock unlock = {0};
+    size_t count = 0;
+    memset(ram, 0, sizeof ram);
+    wants("a set", make(&game, set, 64, &why), MEERKAT_DONE);
+    keep(&game);
+    wants("no slot yet", meerkat_keep(&game, 0), MEERKAT_RANGE);
+    wants("no slot yet", meerkat_take(&game, 0), MEERKAT_RANGE);
+    wants("too many", meerkat_slots(&game, MEERKAT_MOST_SLOTS + 1), MEERKAT_RANGE);
+    wants("two slots", meerkat_slots(&game, 2), MEERKAT_DONE);
+    stays("after slots", &game);
+    wants("a record", meerkat_record(&game, 1), MEERKAT_DONE);
+    wants("a frame", meerkat_frame(&game, &bank, 1), MEERKAT_DONE);
+    ram[0x11] = 3;
+    wants("a frame", meerkat_frame(&game, &bank, 1), MEERKAT_DONE);
+    wants("a third slot", meerkat_keep(&game, 2), MEERKAT_RANGE);
+    wants("a third slot", meerkat_take(&game, 2), MEERKAT_RANGE);
+    wants("the second slot", meerkat_keep(&game, 1), MEERKAT_DONE);
+    ram[0x10] = 5;
+    wants("a frame", meerkat_frame(&game, &bank, 1), MEERKAT_DONE);
+    wants("an explanation", meerkat_explain(&game, hits, 1, &count, &unlock), MEERKAT_DONE);
+    wants("none is kept anew", meerkat_slots(&game, MEERKAT_MOST_SLOTS + 1), MEERKAT_RANGE);
+    wants("the first slot has the state before the first frame", meerkat_take(&game, 0), MEERKAT_DONE);
+    wants("no events", meerkat_events(&game, events, 1, &count), MEERKAT_DONE);
+    wants("how many", (uint32_t)count, 0);
+    wants("nothing is recorded", meerkat_explain(&game, hits, 1, &count, &unlock), MEERKAT_NOTHING);
+    how_items_stand("after a take of the first state", &game, MEERKAT_WAITING, 0, 0);
+    wants("the second slot", meerkat_take(&game, 1), MEERKAT_DONE);
+    how_items_stand("after a take of the second state", &game, MEERKAT_ACTIVE, 3, 0);
+    wants("it unlocked before and stays earned", meerkat_frame(&game, &bank, 1), MEERKAT_DONE);
+    wants("events", meerkat_events(&game, events, 1, &count), MEERKAT_DONE);
+    wants("none of what is earned", (uint32_t)count, 0);
+    how_items_stand("it goes on", &game, MEERKAT_TRIGGERED, 3, 0);
+    wants("one slot", meerkat_slots(&game, 1), MEERKAT_DONE);
+    wants("the second slot is gone", meerkat_take(&game, 1), MEERKAT_RANGE);
+    wants("a reset", meerkat_reset(&game), MEERKAT_DONE);
+    wants("slots stay", meerkat_take(&game, 0), MEERKAT_DONE);
+    how_items_stand("after a take", &game, MEERKAT_TRIGGERED, 3, 0);
+    wants("no slots", meerkat_slots(&game, 0), MEERKAT_DONE);
+    wants("none is left", meerkat_take(&game, 0), MEERKAT_RANGE);
+    wants("free", meerkat_free(&game), MEERKAT_DONE);
+}
+
 /* The cells that no pointer moves. */
 static void cells(void) {
     meerkat_game game = {0};
@@ -305,24 +398,6 @@ static void cells(void) {
     wants("the pointer's cell", out[2].address, 0x11);
     stays("after cells", &game);
     wants("free", meerkat_free(&game), MEERKAT_DONE);
-}
-
-/* How the items stand. */
-static void how_items_stand(const char *when, const meerkat_game *game, uint32_t state, uint32_t measured, uint32_t running) {
-    meerkat_item items[3];
-    size_t count = 0;
-    memset(items, 0, sizeof items);
-    wants("too little room", meerkat_items(game, items, 2, &count), MEERKAT_ROOM);
-    wants("items", meerkat_items(game, items, 3, &count), MEERKAT_DONE);
-    wants("how many", (uint32_t)count, 3);
-    wants(when, items[0].state, state);
-    wants("an achievement", items[1].kind, MEERKAT_ACHIEVEMENT);
-    wants("its id", items[1].id, 2);
-    wants("its measured number", items[1].measured, measured);
-    wants("its target", items[1].target, 8);
-    wants("in percent", items[1].percent, 1);
-    wants("a leaderboard", items[2].kind, MEERKAT_LEADERBOARD);
-    wants("that runs", items[2].running, running);
 }
 
 /* Progress that is taken up and refused. */
@@ -361,7 +436,9 @@ int main(void) {
     texts();
     refusals();
     judged();
+    official();
     earned();
+    slots();
     cells();
     memset(ram, 0, sizeof ram);
     play(&game);

@@ -2,7 +2,8 @@
  * usage: fuzz [CALLS [SEED [FAIL]]], where CALLS is 100000, SEED 1, and FAIL 1 to let every so many allocations fail.
  *
  * What is watched: each code is one that the header allows, *count is exact, nothing is written beyond it, a refusal leaves
- * the progress bytes as they were, and two games with the same calls give the same. It prints one line, and ends with
+ * the progress bytes as they were, a frame has no more events than the header says, two games with the same calls give the
+ * same, and a state that is taken from a slot is what a restore of the bytes makes that were saved there. It prints one line, and ends with
  * status 1 at the first violation, after a line that tells it. Linked with -Wl,--wrap=malloc,--wrap=realloc. */
 #include "meerkat.h"
 
@@ -141,6 +142,8 @@ static void same_state(const char *when) {
     if (n != m || memcmp(a, b, n) != 0) stop(when, (uint32_t)n);
 }
 
+static uint32_t slots; /* how many the games have */
+
 static void make(void) {
     static char text[8192];
     size_t length = text_of(text, sizeof text);
@@ -155,6 +158,7 @@ static void make(void) {
     if (code == MEERKAT_DONE && second != MEERKAT_DONE) stop("the second game of a text is refused", second);
     if (code == MEERKAT_SET && (second != code || memcmp(&why, &other, sizeof why) != 0)) stop("a text is refused in two ways", second);
     if (code == MEERKAT_MEMORY && second == MEERKAT_DONE) meerkat_free(&twin);
+    slots = 0;
 }
 
 static void drop(void) {
@@ -201,6 +205,15 @@ static void restore(void) {
     }
 }
 
+/* Whether there are as many events as the header allows at most. */
+static void few_events(size_t n) {
+    static meerkat_item items[4096];
+    size_t count = 0, most = 0, k;
+    allow("items", meerkat_items(&game, items, 4096, &count), "0");
+    for (k = 0; k < count; k++) most += items[k].kind == MEERKAT_ACHIEVEMENT ? MEERKAT_MOST_EVENTS(1, 0) : MEERKAT_MOST_EVENTS(0, 1);
+    if (n > most) stop("more events than the most", (uint32_t)n);
+}
+
 static void tell(void) {
     static const struct { const char *name; gives call; size_t width; const char *codes; } rows[] = {
         {"events", give_events, sizeof(meerkat_event), "015"}, {"lines", give_lines, 1, "015"},
@@ -212,11 +225,54 @@ static void tell(void) {
     size_t m = call_gives(rows[k].name, rows[k].call, rows[k].width, &twin, rows[k].codes, room_b);
     /* where memory ran out at a frame, one of the two may be recorded no longer */
     if (failing == 0 && !(fails && rows[k].call == give_explain) && (n != m || memcmp(room_a + GUARD, room_b + GUARD, n) != 0)) stop(rows[k].name, k);
+    if (rows[k].call == give_events && failing == 0) few_events(n / sizeof(meerkat_event));
     if (rows[k].call == give_save && n > 0) {
         size_t stated = 0;
         allow("save_size", meerkat_save_size(&game, &stated), "0");
         if (stated != n) stop("save_size is not what a save gives", (uint32_t)n);
         memcpy(kept, room_a + GUARD, n), kept_length = n;
+    }
+}
+
+/* ---- states in slots */
+
+#define MOST_SLOTS 5
+static unsigned char slot_bytes[MOST_SLOTS][ROOM_BYTES];
+static size_t slot_length[MOST_SLOTS];
+
+/* New slots, each with the present state; where memory ran out the old ones stay. */
+static void make_slots(void) {
+    uint32_t wanted = below(20) == 0 ? MEERKAT_MOST_SLOTS + 1 + below(9) : below(MOST_SLOTS + 1), k;
+    uint32_t code = meerkat_slots(&game, wanted);
+    allow("slots", code, "014");
+    failing = 0;
+    if ((code == MEERKAT_RANGE) != (wanted > MEERKAT_MOST_SLOTS)) stop("how many slots are in range", code);
+    if (code != MEERKAT_DONE) return;
+    if (meerkat_slots(&twin, wanted) != code) stop("slots of one of two games", wanted);
+    slots = wanted;
+    for (k = 0; k < slots; k++) slot_length[k] = saved(&game, slot_bytes[k]);
+}
+
+static void keep(void) {
+    uint32_t slot = below(MOST_SLOTS + 1), code;
+    failing = 0;
+    code = meerkat_keep(&game, slot);
+    allow("keep", code, slot < slots ? "0" : "4");
+    if (meerkat_keep(&twin, slot) != code) stop("a state is kept in one of two games", code);
+    if (slot < slots) slot_length[slot] = saved(&game, slot_bytes[slot]);
+}
+
+/* What is taken from a slot is what a restore of the bytes makes that were saved where it was kept. */
+static void take(void) {
+    uint32_t slot = below(MOST_SLOTS + 1), code;
+    meerkat_refusal why = {0};
+    failing = 0;
+    code = meerkat_take(&game, slot);
+    allow("take", code, slot < slots ? "0" : "4");
+    if (below(2)) {
+        if (meerkat_take(&twin, slot) != code) stop("a state is taken in one of two games", code);
+    } else if (slot < slots) {
+        allow("restore", meerkat_restore(&twin, slot_bytes[slot], slot_length[slot], &why), "0");
     }
 }
 
@@ -254,7 +310,7 @@ static void say(void) {
 
 static void judge(void) {
     static char text[8192];
-    static const char document[] = "{\"PatchData\":{\"Achievements\":[{\"ID\":7,\"MemAddr\":\"0xH0010=5\"},{\"ID\":8,\"MemAddr\":\"fF0000=1\"}],\"Leaderboards\":[]}}";
+    static const char document[] = "{\"PatchData\":{\"Achievements\":[{\"ID\":7,\"Flags\":5,\"MemAddr\":\"0xH0010=5\"},{\"ID\":8,\"MemAddr\":\"fF0000=1\"}],\"Leaderboards\":[]}}";
     meerkat_refusal why = {0};
     size_t length = text_of(text, sizeof text), count = 0, left = 0;
     uint32_t kind = below(5), code = meerkat_judge(kind, (const uint8_t *)text, length, &why);
@@ -262,8 +318,9 @@ static void judge(void) {
     if ((code == MEERKAT_RANGE) != (kind < 1 || kind > 3)) stop("a kind that is in range", kind);
     memcpy(text, document, length = sizeof document - 1);
     for (kind = below(4); kind > 0; kind--) text[below((uint32_t)length)] = bytes_of[below(sizeof bytes_of - 1)];
-    code = meerkat_import((const uint8_t *)text, length, 0, room_a + GUARD, below(2) ? ROOM_BYTES : below(30), &count, &left, &why);
-    allow("import", code, "0159");
+    kind = below(4);
+    code = meerkat_import((const uint8_t *)text, length, kind, room_a + GUARD, below(2) ? ROOM_BYTES : below(30), &count, &left, &why);
+    allow("import", code, kind > MEERKAT_OFFICIAL ? "4" : "0159");
 }
 
 int main(int words, char **word) {
@@ -292,6 +349,9 @@ int main(int words, char **word) {
                 break;
             case 6:
                 if (below(4) == 0) earn();
+                else if (below(4) == 0) make_slots();
+                else if (below(2)) keep();
+                else take();
                 break;
             case 3: case 4: case 5: tell(); break;
             default: frame();
