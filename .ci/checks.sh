@@ -83,6 +83,7 @@ if has "examples/trace.py" python3; then
         check "examples/trace.py on $name" both_ways "examples/$name"
     done
     check "300 random rounds" python3 bench/rests.py "$player" 300
+    check "100 random accounts" python3 bench/why_rounds.py "$author" 100
 fi
 if has "C programs" cc; then
     check "C programs: compiled" compiles cc

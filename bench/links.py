@@ -15,7 +15,8 @@ LINK = re.compile(r"\[[^]]*\]\(([^)\s]+)\)")
 PATH = re.compile(r"`((?:[\w.-]+/)+[\w.-]*)`")
 # What is there only after a build or an installation.
 BUILT = re.compile(r"(^|/)out(/|$)|^(bin|lib|share|include)/")
-CITED = re.compile(r"docs/(\w+)\.md[,:]?\s+(?://+!?\s*|--\s*)?\"([^\"]+)\"")
+DOCUMENT = r"(?:docs/)?\b(README|ARCHITECTURE|CONTRIBUTING|DECISIONS|DEFINITIONS|EMBEDDING|GLOSSARY|INTERNALS|PROVED|SETS)\b(?:\.md)?"
+CITED = re.compile(DOCUMENT + r"(?:\]\([^)]*\))?[,:]?\s+(?://+!?\s*|--\s*)?\"([^\"]+)\"")
 
 
 def text(path):
@@ -62,10 +63,11 @@ def main():
             if not BUILT.search(found) and not is_there(found.rstrip("/"), near):
                 wrong.append(f"{here}: no path {found}")
     known = {name[:-3]: headings(f"{ROOT}/docs/{name}") for name in os.listdir(f"{ROOT}/docs") if name.endswith(".md")}
+    known["README"] = headings(f"{ROOT}/README.md")
     for path in files(".md", ".rt", ".antt", ".h", ".c", ".py", ".sh"):
         for document, heading in CITED.findall(re.sub(r"\n\s*(?:///?!?|--|\*|#)?\s*", " ", text(path))):
             if heading not in known.get(document, []):
-                wrong.append(f"{os.path.relpath(path, ROOT)}: no heading \"{heading}\" in docs/{document}.md")
+                wrong.append(f"{os.path.relpath(path, ROOT)}: no heading \"{heading}\" in {document}.md")
     print("\n".join(sorted(set(wrong))) if wrong else "links, paths and headings are there")
     return 1 if wrong else 0
 

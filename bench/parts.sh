@@ -24,7 +24,7 @@ row() {
 made() {
     valgrind --tool=callgrind --callgrind-out-file="$folder/made" "$player" make 0 >/dev/null 2>&1
     callgrind_annotate --inclusive=yes --threshold=100 "$folder/made" | awk '{ gsub(",", "", $1) }
-        /Player::play/ { play = $1 } /Runtime::save/ { save = $1 } /Runtime::restore/ { restore = $1 }
+        /play_records/ { play = $1 } /Player::save/ { save = $1 } /Player::restore/ { restore = $1 }
         END { printf "| a frame of `make 0` with its 8 writes | %.0f |\n", (play - save - restore) / 4096 }'
 }
 
@@ -50,6 +50,7 @@ for count in 1 4 10 40 400; do
     done
 done
 row 'a frame of no items' $((frames - 10)) none.set still.trace none.set still-ten.trace
+row 'a write of one byte, with no items' $((frames - 10)) none.set some-writes.trace none.set ten-writes.trace
 row 'a frame of a real-sized set' $((frames - 1)) real.set real.trace real.set real-one.trace
 row 'a save of 4,000 achievements of 8 conditions' 100 many.set saves.trace many.set saved.trace
 row 'a restore of them' 100 many.set restores.trace many.set saved.trace

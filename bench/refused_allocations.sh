@@ -77,7 +77,7 @@ open(place("l"), "w").write(left)
 jobs = [(player, words) for words in
         ["run s t --save p", "run s t --restore old", "run s t --restore old --save p", "check s", "import j p", "lint s"]]
 if os.path.exists(author):
-    jobs += [(author, words) for words in ["review s", "review b", "import l p", "help"]]
+    jobs += [(author, words) for words in ["review s", "review b", "why s t 1", "import l p", "help"]]
 else:
     print("ra_author is not built: its jobs are left out")
 for program, words in jobs:

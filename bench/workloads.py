@@ -5,6 +5,7 @@ large.set    4 MiB with 8,192 achievements of 8 conditions
 many.set     4,000 achievements of 8 conditions, over many.trace: FRAMES frames, each behind 4 writes of one byte
              and over still.trace: FRAMES frames and no write
 none.set     no items, over great.trace: one frame over an image of 128 MiB
+             over some-writes.trace: FRAMES writes of one byte, and over ten-writes.trace: ten of them
              over frames.trace: 1,048,576 frames, and over writes.trace: 1,048,576 writes of one byte
              over long.trace: 16 MiB of frames; bench/long.sh plays a trace of 1 GiB
 
@@ -226,6 +227,8 @@ def main(folder, frames):
         "great.trace": header(134_217_728) + b"FE",
         "frames.trace": header(65536) + b"F" * 1_048_576 + b"E",
         "writes.trace": header(65536) + write(16, 5) * 1_048_576 + b"E",
+        "some-writes.trace": header(65536) + write(16, 5) * frames + b"E",
+        "ten-writes.trace": header(65536) + write(16, 5) * 10 + b"E",
         "long.trace": header(0) + b"F" * 16_777_216 + b"E",
         "real.set": real_set().encode(),
         "real.trace": real_trace(frames),
