@@ -88,7 +88,7 @@ impl Watched {
         image.reads
     }
 
-    // Writes bytes after the back of the course, takes a frame that looks, and tells how often it reads; what does
+    // Writes bytes without telling the course, takes a frame that looks, and tells how often it reads; what does
     // not fit is left out.
     fn follow<L: Ledger>(&mut self, blank: Blank, at: u32, bytes: &[u8]) -> u32
         requires name { blank.name ≡ L.name }
