@@ -16,7 +16,8 @@ use Rattle.ra_set.specs.Accepted.{IsSet}
 use Rattle.ra_calls.specs.GameViews.{IsGame}
 use Rattle.ra_calls.specs.declared.game.Game.TheInside.{Inside}
 use Rattle.ra_calls.specs.Handles.{recording_of}
-use Rattle.ra_calls.specs.Recordings.{trigger_of, AnswersExplain, ExplainsWhere, IsOfId}
+use Rattle.ra_goals.specs.Choosing.{trigger_of}
+use Rattle.ra_calls.specs.Recordings.{AnswersExplain, ExplainsWhere, IsOfId}
 use Rattle.ra_calls.specs.Tellings.{GivesTold, TellsRecorded}
 use Rattle.ra_calls.specs.declared.recording.Told.{Told}
 use Rattle.ra_calls.specs.declared.told_unlock.ToldHits.{ToldHits}

@@ -4,7 +4,7 @@ use Rattle.ra_condition.specs.Contents.{TriggerContents, trigger_contents, trigg
 use Rattle.ra_condition.specs.Spelled.{IsTrigger}
 use Rattle.ra_condition.specs.declared.trigger_text.TriggerText.{TriggerText}
 use Rattle.ra_set.specs.Contents.{SetContents}
-use Rattle.ra_calls.specs.Recordings.{trigger_of}
+use Rattle.ra_goals.specs.Choosing.{trigger_of}
 
 -- a trigger that may be recorded: some text spells it, and it is no larger than that of a set
 pub record MayBeRecorded (t : TriggerContents) : Type 0 where

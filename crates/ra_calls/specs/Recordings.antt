@@ -1,24 +1,18 @@
 -- What calls do to a recording: docs/DEFINITIONS.md, "Calls from C" and "Recorders".
-use Rattle.std.specs.Prelude.{◌≡◌, ◌≢◌, ◌⊎◌, ℕ, ◌==◌, Bool, true, false, if◌then◌else◌, Option, None, Some, List, [], ◌∷◌}
-use Rattle.ra_condition.specs.Contents.{TriggerContents}
-use Rattle.ra_set.specs.Contents.{ItemContents, Unlocks, Ranks}
+use Rattle.std.specs.Prelude.{◌≡◌, ◌≢◌, ◌⊎◌, ℕ, Bool, true, false, Option, None, Some, List}
+use Rattle.ra_set.specs.Contents.{Unlocks}
 use Rattle.ra_runtime.specs.Courses.{CourseSeen}
 use Rattle.ra_explain.specs.declared.refused.ExplainRefused.{ExplainRefused}
 use Rattle.ra_explain.specs.Explains.{ExplanationContents}
 use Rattle.ra_explain.specs.Recorders.{TakesFrame, RefusesFrame}
 use Rattle.ra_explain.specs.Recordings.{RecordingSeen, over, IsBegun as IsNew}
 use Rattle.ra_explain.specs.Unlocks.{ExplainsBehind}
+use Rattle.ra_goals.specs.Choosing.{trigger_of}
 use Rattle.ra_judge.specs.Giving.{Gives}
 use Rattle.ra_judge.specs.Codes.{done, memory, out_of_range, nothing}
 use Rattle.ra_calls.specs.ToldUnlocks.{all_hits, told_unlock}
 use Rattle.ra_calls.specs.declared.told_unlock.ToldHits.{ToldHits}
 use Rattle.ra_calls.specs.declared.told_unlock.ToldUnlock.{ToldUnlock}
-
--- the trigger of the achievement of an id, where there is one
-abbrev pub trigger_of : (id : ℕ) → List ItemContents → Option TriggerContents
-trigger_of id [] = None
-trigger_of id (Unlocks other t ∷ items) = if other == id then Some t else trigger_of id items
-trigger_of id (Ranks other format b ∷ items) = trigger_of id items
 
 -- the frame of this memory is recorded, and the size stays
 pub record RecordsImage (image : List ℕ) (old new : RecordingSeen) : Type 0 where

@@ -9,8 +9,8 @@ use Rattle.ra_trace.specs.Entries.{Entry, Written, Framed, Saved, Restored, Show
 use Rattle.ra_meaning.specs.Play.{Moment, moved, kept_in}
 use Rattle.ra_explain.specs.Recorders.{RecorderSeen, StandsFor, Stands, SlotStands, IsFilled, KeepsHistories, KeepsSlots, KeepsOtherSlots, IsWritten, TakesFrame, RefusesFrame, IsSaved, IsRestored, TakesUpSlot, unlocks_at, most_rows, product_of}
 use Rattle.ra_explain.specs.declared.refused.ExplainRefused.TheVariants.{Rows}
+use Rattle.ra_replay.specs.Left.{IsEmptySlot}
 use Rattle.ra_session.specs.Explaining.{Reason, Decided, AtUnlock, AtRows, decided_from, rows_with}
-use Rattle.ra_session.specs.Playing.{TakesEmpty}
 use Rattle.ra_explain_job.specs.Watching.{Follows, reason_at, GoesOn, UnlocksHere, PassesRows}
 
 -- what a recorder of the same trigger and count decides
@@ -170,7 +170,7 @@ module _ (old new : RecorderSeen) (m : Moment) (f : Follows old m) where
       }
 
 -- an empty slot is empty at the moment
-pub unfilled : (old : RecorderSeen) (m : Moment) (slot : ℕ) → Follows old m → (IsFilled old slot → ⊥) → TakesEmpty (Restored slot) m
+pub unfilled : (old : RecorderSeen) (m : Moment) (slot : ℕ) → Follows old m → (IsFilled old slot → ⊥) → IsEmptySlot (Restored slot) m
 unfilled old m slot f none = by_kept (slice_index_or m.slots slot None) refl
   where
     by_kept : (kept : Option History) → slice_index_or m.slots slot None ≡ kept → slice_index_or m.slots slot None ≡ None

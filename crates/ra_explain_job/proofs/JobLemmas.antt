@@ -24,7 +24,8 @@ use Rattle.ra_explain.specs.Unlocks.{IsExplanation}
 use Rattle.ra_args.specs.Words.{Job, Explain}
 use Rattle.ra_session.specs.Endings.{ending_of}
 use Rattle.ra_session.specs.Expected.{Expected, IsReadBehind, JobSays, ExplainSays, refuses_set, lacks, explains, TraceSays, ReasonSays, at_unlock, at_rows, at_end, at_stop, prints_behind, prints_line, prints_nothing, trace_in, decided_in}
-use Rattle.ra_session.specs.Explaining.{Reason, AtUnlock, AtRows, AtEnd, AtStop, Decided, decided, behind_record, rows_with, decided_from, trigger_of, explanation_text, no_unlock_text}
+use Rattle.ra_goals.specs.Choosing.{trigger_of}
+use Rattle.ra_session.specs.Explaining.{Reason, AtUnlock, AtRows, AtEnd, AtStop, Decided, decided, behind_record, rows_with, decided_from, explanation_text, no_unlock_text}
 use Rattle.ra_session.specs.Closing.{EndsBefore, EndsJob}
 use Rattle.ra_session.specs.Failures.{ending_of_set}
 use Rattle.ra_session.specs.Loading.{HasNoSet, IsTaken}

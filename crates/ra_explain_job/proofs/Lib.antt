@@ -1,4 +1,3 @@
-pub mod ChooseLemmas
 pub mod FollowLemmas
 pub mod JobLemmas
 pub mod NextLemmas

@@ -9,12 +9,12 @@ use Rattle.ra_trace.specs.Cutting.{Pieces, RefusedAt, stop_within}
 use Rattle.ra_trace.specs.Reading.{ReaderSeen, Holds, Stands, IsBehindRecord, IsStop, next_stop}
 use Rattle.ra_meaning.specs.Play.{Moment, moved}
 use Rattle.ra_explain.specs.Recorders.{RecorderSeen}
+use Rattle.ra_replay.specs.Left.{IsEmptySlot, IsLeft, trace_limit}
 use Rattle.ra_session.specs.Endings.{ending_of}
-use Rattle.ra_session.specs.Expected.{trace_limit}
 use Rattle.ra_session.specs.Explaining.{Reason, AtRows}
-use Rattle.ra_session.specs.Playing.{IsLeft, TakesEmpty}
 use Rattle.ra_session.specs.declared.ending.Ending.{Ending}
-use Rattle.ra_session.proofs.LeftLemmas.{left_refused, left_empty, left_ends, left_behind}
+use Rattle.ra_replay.proofs.LeftLemmas.{left_empty, left_ends, left_behind}
+use Rattle.ra_session.proofs.LeftLemmas.{left_refused}
 use Rattle.ra_session.proofs.NextLemmas.{told}
 use Rattle.ra_explain_job.specs.Watching.{Follows, TakesEntry, PassesRows, reason_at, stop_of, IsReason, TakesNext, EndsFor}
 use Rattle.ra_explain_job.specs.declared.failed.WatchFailed.{WatchFailed}
@@ -49,14 +49,14 @@ module _ (bytes : List ℕ) (m : Moment) (left : Pieces) (reader : ReaderSeen) (
     stands_there = subst (λ limit. Stands limit is.size reader.next entry bytes) is.limit (told reader.size (λ size. Stands reader.limit size reader.next entry bytes) is.size is.sized (told content _ bytes is_told ok is.holds))
 
     -- the record restores an empty slot
-    pub next_empty : (at : ℕ) → at ≡ reader.next → TakesEmpty entry m → IsReason reason (stop_of bytes left) (watch.Trace (errors.Refused at EmptySlot))
+    pub next_empty : (at : ℕ) → at ≡ reader.next → IsEmptySlot entry m → IsReason reason (stop_of bytes left) (watch.Trace (errors.Refused at EmptySlot))
     next_empty at place empty =
         let full = nat_le trace_limit (length bytes) in
         let end = left_empty bytes m reader left is entry stands_there empty in
         (ap (λ (p : Pieces). reason_at old m p.entries) end, ap (stop_of bytes) end ∙ ap (λ n. ending_of (stop_within full (RefusedAt n EmptySlot))) (sym place))
 
-    framed_filled : entry ≡ Framed → TakesEmpty entry m → ⊥
-    framed_filled framed empty = subst (λ (e : Entry). TakesEmpty e m) framed empty
+    framed_filled : entry ≡ Framed → IsEmptySlot entry m → ⊥
+    framed_filled framed empty = subst (λ (e : Entry). IsEmptySlot e m) framed empty
 
     framed_other : entry ≡ Framed → entry ≡ Ended → ⊥
     framed_other framed end = let bad : Framed ≡ Ended = sym framed ∙ end in absurd (cc)
@@ -77,7 +77,7 @@ module _ (bytes : List ℕ) (m : Moment) (left : Pieces) (reader : ReaderSeen) (
           let (rest, first, is_rest) = left_behind bytes m reader left is entry stands_there (framed_filled unlocks.framed) new (framed_other unlocks.framed) behind holds in
           record { image = m.image; earlier = m.behind; stands = unlocks.stands; is = ap (λ (p : Pieces). reason_at old m p.entries) first ∙ unlocks.decides rest.entries }
       next_taken End now end =
-          ap (λ (p : Pieces). reason_at old m p.entries) (left_ends bytes m reader left is entry stands_there (λ empty. subst (λ (e : Entry). TakesEmpty e m) end empty) end)
+          ap (λ (p : Pieces). reason_at old m p.entries) (left_ends bytes m reader left is entry stands_there (λ empty. subst (λ (e : Entry). IsEmptySlot e m) end empty) end)
 
 -- ---- the records so far
 

@@ -1,5 +1,5 @@
 -- The unlock of an achievement is told where it unlocks by itself.
-use Rattle.std.proofs.Common.{◌≡◌, ℕ, zero, suc, ◌==◌, ◌||◌, ◌&&◌, not, Bool, true, false, if◌then◌else◌, Option, None, Some, List, [], ◌∷◌, ◌++◌, length, map, replicate, drop, slice_index, zip, refl, sym, ◌∙◌, ap, ap₂, subst}
+use Rattle.std.proofs.Common.{◌≡◌, ℕ, zero, suc, ◌==◌, ◌||◌, ◌&&◌, not, Bool, true, false, if◌then◌else◌, None, Some, List, [], ◌∷◌, ◌++◌, length, map, replicate, drop, slice_index, zip, refl, sym, ◌∙◌, ap, ap₂, subst}
 use Rattle.std.specs.List.{AllByRecursion, IsDistinct, flat_map}
 use Rattle.std.proofs.lemmas.Bool.{eq-eqb, eqb-true}
 use Rattle.std.proofs.lemmas.Map.Keys.{IsDistinct-head, IsDistinct-tail}
@@ -27,8 +27,8 @@ use Rattle.ra_meaning.specs.Play.{item_events, unless_earned}
 use Rattle.ra_meaning.specs.declared.event.Event.{Event}
 use Rattle.ra_meaning.specs.declared.event.Event.TheVariants.{Measured, Primed, Unprimed, Unlock, Start as Began, Track, Cancel, Submit}
 use Rattle.ra_meaning.proofs.Folded.Lines.{are_folds}
-use Rattle.ra_explain.specs.Recorders.{plain_start, kept_after, unlocks_at}
-use Rattle.ra_session.specs.Explaining.{trigger_of}
+use Rattle.ra_explain.specs.Recorders.{plain_start, kept_after}
+use Rattle.ra_goals.specs.Choosing.{trigger_of}
 use Rattle.ra_explain_job.specs.Told.{is_unlock, tells_unlock, earned_of, UnlocksAreTold}
 
 -- ---- the plain opening gives each cell and each mask the number 0

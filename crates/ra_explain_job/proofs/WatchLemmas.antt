@@ -12,11 +12,12 @@ use Rattle.ra_trace.specs.Cutting.{Stop, RefusedAt, header_size, no_slots, trace
 use Rattle.ra_trace.specs.Reading.{IsStop, header_stop}
 use Rattle.ra_meaning.specs.Play.{first_moment}
 use Rattle.ra_explain.specs.Recorders.{RecorderSeen, KeptRows, IsNew}
+use Rattle.ra_replay.specs.Left.{trace_limit}
 use Rattle.ra_session.specs.Endings.{ending_of}
-use Rattle.ra_session.specs.Expected.{decided_in, trace_in, trace_limit}
+use Rattle.ra_session.specs.Expected.{decided_in, trace_in}
 use Rattle.ra_session.specs.Explaining.{Reason, decided_from}
 use Rattle.ra_session.specs.declared.ending.Ending.{Ending}
-use Rattle.ra_session.proofs.LeftLemmas.{pieces_of}
+use Rattle.ra_replay.proofs.LeftLemmas.{pieces_of}
 use Rattle.ra_explain_job.specs.Watching.{Follows, IsReason, EndsFor, EndsWatch, WatchedTo, reason_at, stop_of}
 use Rattle.ra_explain_job.specs.declared.failed.WatchFailed.{WatchFailed}
 use Rattle.ra_explain_job.specs.declared.failed.WatchFailed.TheVariants as watch

@@ -11,7 +11,7 @@ use Rattle.ra_meaning.specs.Play.{events}
 use Rattle.ra_meaning.specs.declared.event.Event.{Event}
 use Rattle.ra_meaning.specs.declared.event.Event.TheVariants.{Unlock}
 use Rattle.ra_explain.specs.Recorders.{unlocks_at}
-use Rattle.ra_session.specs.Explaining.{trigger_of}
+use Rattle.ra_goals.specs.Choosing.{trigger_of}
 
 -- whether an event is the unlock of this achievement
 abbrev pub is_unlock : (id : ℕ) → Event → Bool

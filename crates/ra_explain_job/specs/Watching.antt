@@ -8,11 +8,11 @@ use Rattle.ra_trace.specs.Cutting.{Pieces, stop_within, with_entry}
 use Rattle.ra_trace.specs.Reading.{ReaderSeen}
 use Rattle.ra_meaning.specs.Play.{Moment, moved}
 use Rattle.ra_explain.specs.Recorders.{RecorderSeen, Stands, SlotStands}
+use Rattle.ra_replay.specs.Left.{IsEmptySlot, IsLeft, trace_limit}
 use Rattle.ra_session.specs.Endings.{ending_of}
-use Rattle.ra_session.specs.Expected.{decided_in, trace_in, trace_limit}
+use Rattle.ra_session.specs.Expected.{decided_in, trace_in}
 use Rattle.ra_session.specs.Explaining.{Reason, AtUnlock, AtRows, AtEnd, AtStop, decided_from}
 use Rattle.ra_session.specs.Failures.{ending_of_trace, trace_failed}
-use Rattle.ra_session.specs.Playing.{IsLeft, TakesEmpty}
 use Rattle.ra_session.specs.declared.ending.Ending.{Ending}
 use Rattle.ra_explain_job.specs.declared.failed.Untaken.{Untaken}
 use Rattle.ra_explain_job.specs.declared.failed.Untaken.TheVariants as untaken
@@ -40,7 +40,7 @@ reason_at r m entries = (decided_from r.trigger m r.frames entries).reason
 pub record GoesOn (old new : RecorderSeen) (entry : Entry) (m : Moment) : Type 0 where
   pub follows : Follows new (moved entry m)
   pub other : entry ≡ Ended → ⊥
-  pub filled : TakesEmpty entry m → ⊥
+  pub filled : IsEmptySlot entry m → ⊥
   pub decides : (entries : List Entry) → reason_at old m (entry ∷ entries) ≡ reason_at new (moved entry m) entries
 
 -- A record is the frame of the unlock.
@@ -62,7 +62,7 @@ pub record PassesRows (old : RecorderSeen) (entry : Entry) (m : Moment) (found :
 
 -- why a record is not taken
 abbrev pub RefusesEntry : RecorderSeen → Entry → Moment → Untaken → Type 0
-RefusesEntry old entry m untaken.EmptySlot = TakesEmpty entry m
+RefusesEntry old entry m untaken.EmptySlot = IsEmptySlot entry m
 RefusesEntry old entry m (untaken.Rows found) = PassesRows old entry m found
 RefusesEntry old entry m untaken.Memory = ⊤
 

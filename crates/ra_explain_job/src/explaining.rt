@@ -6,9 +6,9 @@ ghost use Rattle.ra_args.specs.Words.{Explain};
 ghost use Rattle.ra_jobs.specs.Outside.{outside_of};
 ghost use Rattle.ra_session.specs.Running.{Ran};
 
-use crate::choosing::trigger_of;
 use crate::printing::print_watched;
 use crate::watching::watch_trace;
+use ra_goals::trigger_of;
 use ra_io::{Files, Sink};
 use ra_session::{Ending, load_set};
 use std::alloc::Global;

@@ -1,7 +1,6 @@
 //! The job `explain`: a trace is watched for one achievement up to its first unlock, and why it came is printed.
 #![tactic(auto)]
 
-mod choosing;
 mod explaining;
 mod failed;
 mod laws;

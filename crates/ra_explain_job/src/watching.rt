@@ -1,14 +1,14 @@
 //! The records of a trace, taken one after the other up to the first unlock.
 
-ghost use Rattle.std.specs.Prelude.{◌≡◌, ◌≤◌, ◌<◌, ◌^◌, ℕ, List, Some, true, length, IfOk, IsErrOf};
+ghost use Rattle.std.specs.Prelude.{◌≡◌, ◌≤◌, ◌<◌, ℕ, List, Some, true, length, IfOk, IsErrOf};
 ghost use Rattle.ra_condition.specs.Contents.{trigger_contents, trigger_hits};
 ghost use Rattle.ra_condition.specs.Spelled.{IsTrigger};
 ghost use Rattle.ra_io.specs.Causes.{Rose};
 ghost use Rattle.ra_io.specs.Files.{OnlyRead};
 ghost use Rattle.ra_trace.specs.Cutting.{Pieces};
 ghost use Rattle.ra_meaning.specs.Play.{Moment};
-ghost use Rattle.ra_session.specs.Playing.{IsLeft};
 ghost use Rattle.ra_trace.specs.declared.error.TraceError.TheVariants as error;
+ghost use Rattle.ra_replay.specs.Left.{IsLeft};
 ghost use Rattle.ra_explain_job.specs.Watching.{EndsFor, EndsWatch, Follows, TakesNext, reason_at, stop_of};
 ghost use Rattle.ra_explain_job.specs.declared.failed.WatchFailed.TheVariants as failed;
 
@@ -18,11 +18,9 @@ use crate::watch::Watch;
 use ra_condition::TriggerText;
 use ra_explain::Recorder;
 use ra_io::Files;
+use ra_replay::TRACE_LIMIT;
 use ra_trace::{Reader, TraceError, Why};
 use std::alloc::Global;
-
-// The most bytes of a trace.
-const TRACE_LIMIT: u64 = 1_099_511_627_776;
 
 // Reads and takes the next record.
 fn watch_next<F: Files>(

@@ -1,5 +1,4 @@
 pub mod NormalLemmas
-pub mod SlotRefusals
 pub mod LeftLemmas
 pub mod TraceLemmas
 pub mod StandLemmas

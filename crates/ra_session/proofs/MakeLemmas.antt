@@ -15,8 +15,9 @@ use Rattle.ra_trace.proofs.MadeTrace.{made_cut, made_short}
 use Rattle.ra_meaning.specs.Openings.{plain_opening}
 use Rattle.ra_args.specs.Words.{Make}
 use Rattle.ra_meaning.specs.Earned.{none_earned}
+use Rattle.ra_replay.specs.Left.{trace_limit}
 use Rattle.ra_session.specs.Endings.{ending_of}
-use Rattle.ra_session.specs.Expected.{Expected, MakeSays, made, make_line, played, prints_line, trace_limit}
+use Rattle.ra_session.specs.Expected.{Expected, MakeSays, made, make_line, played, prints_line}
 use Rattle.ra_session.specs.Closing.{EndsBefore}
 use Rattle.ra_session.specs.Failures.{ending_of_set, ending_of_trace}
 use Rattle.ra_session.specs.Loading.{HasNoSet}

@@ -18,20 +18,21 @@ use Rattle.ra_meaning.specs.Runtime.{RuntimeSeen}
 use Rattle.ra_meaning.specs.Earned.{Earned}
 use Rattle.ra_meaning.specs.Play.{Moment, moved, printed, pieces_from, earned_next}
 use Rattle.ra_runtime.specs.Keeping.{KeptSeen}
+use Rattle.ra_replay.specs.Left.{IsEmptySlot, IsLeft, trace_limit}
 use Rattle.ra_session.specs.Endings.{ending_of}
 use Rattle.ra_session.specs.declared.ending.Ending.TheVariants.{BadTrace}
-use Rattle.ra_session.specs.Expected.{trace_limit}
 use Rattle.ra_session.specs.Closing.{EndsBefore}
 use Rattle.ra_session.specs.Failures.{ending_of_trace, trace_failed, trace_unwritten}
 use Rattle.ra_io.specs.declared.sink.SinkFailed.{SinkFailed}
 use Rattle.ra_io.specs.declared.sink.SinkFailed.TheVariants as write
-use Rattle.ra_session.specs.Playing.{StandsAt, IsLeft, Plays, TakesEmpty, TakesNext, GoesOn, IsAtEnd, says_from}
+use Rattle.ra_session.specs.Playing.{StandsAt, Plays, TakesNext, GoesOn, IsAtEnd, says_from}
 use Rattle.ra_jobs.specs.Writing.{GrewByPart}
 use Rattle.ra_session.specs.declared.failures.TraceFailed.{TraceFailed}
 use Rattle.ra_jobs.proofs.Pieces.{grown-nil}
 use Rattle.ra_jobs.proofs.Parts.{part_after}
 use Rattle.ra_session.proofs.ReadLemmas.{left_read}
-use Rattle.ra_session.proofs.LeftLemmas.{left_refused, left_empty, left_ends, left_behind}
+use Rattle.ra_replay.proofs.LeftLemmas.{left_empty, left_ends, left_behind}
+use Rattle.ra_session.proofs.LeftLemmas.{left_refused}
 
 pub told : {T : Type 0} (o : Option T) (P : T → Type 0) (x : T) → o ≡ Some x → IfSome o P → P x
 told {T} o P x is h = subst (λ (o : Option T). IfSome o P) is h
@@ -81,7 +82,7 @@ module _ (bytes : List ℕ) (set : SetContents) (o : Opening) (m : Moment) (earn
     stands_there = subst (λ limit. Stands limit is.size reader.next entry bytes) is.limit (told reader.size (λ size. Stands reader.limit size reader.next entry bytes) is.size is.sized (told content _ bytes is_told ok is.holds))
 
     -- the record restores an empty slot
-    pub next_empty : (old : Option (List ℕ)) (at : ℕ) → at ≡ reader.next → TakesEmpty entry m
+    pub next_empty : (old : Option (List ℕ)) (at : ℕ) → at ≡ reader.next → IsEmptySlot entry m
         → (ending_of (stop_within full left.stop) ≡ BadTrace at EmptySlot) × (old ≡ grown old (concat (pieces_from set o m earned left.entries)))
     next_empty old at place empty =
         let end = left_empty bytes m reader left is entry stands_there empty in (

@@ -13,10 +13,11 @@ use Rattle.ra_trace.specs.Reading.{ReaderSeen, seen_from}
 use Rattle.ra_meaning.specs.Earned.{Earned, earned_in, none_earned}
 use Rattle.ra_meaning.specs.Openings.{plain_opening}
 use Rattle.ra_meaning.specs.Play.{Moment, first_moment, pieces_from}
+use Rattle.ra_replay.specs.Left.{IsLeft, trace_limit}
 use Rattle.ra_session.specs.Endings.{ending_of}
 use Rattle.ra_session.specs.declared.ending.Ending.TheVariants.{Done, BadTrace, LongTrace}
-use Rattle.ra_session.specs.Expected.{Expected, IsReadBehind, RunSays, refuses_set, refuses_file, begins, goes_on, SetSays, tells, ImportSays, refuses_document, imports, NormalSays, passes_limit, puts_text, played, trace_limit, takes_up}
-use Rattle.ra_session.specs.Playing.{IsLeft, says_from}
+use Rattle.ra_session.specs.Expected.{Expected, IsReadBehind, RunSays, refuses_set, refuses_file, begins, goes_on, SetSays, tells, ImportSays, refuses_document, imports, NormalSays, passes_limit, puts_text, played, takes_up}
+use Rattle.ra_session.specs.Playing.{says_from}
 
 -- a trace that is refused is not at its end
 never_done : (full : Bool) (at : ℕ) (why : Why) → ending_of (stop_within full (RefusedAt at why)) ≡ Done → ⊥

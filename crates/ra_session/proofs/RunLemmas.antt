@@ -27,10 +27,11 @@ use Rattle.ra_meaning.specs.Runtime.{RuntimeSeen}
 use Rattle.ra_meaning.specs.Earned.{Earned}
 use Rattle.ra_meaning.specs.Play.{first_moment, moment_after, earned_after, pieces_from, saved_end}
 use Rattle.ra_runtime.specs.Keeping.{KeptSeen}
+use Rattle.ra_replay.specs.Left.{trace_limit}
 use Rattle.ra_session.specs.Endings.{ending_of}
 use Rattle.ra_session.specs.declared.ending.Ending.{Ending}
 use Rattle.ra_session.specs.declared.ending.Ending.TheVariants.{Done, NoMemory, NoJob, BadSet, ReadFault, SinkFault, BadProgress, BadTrace, LongTrace, SaveFault, BadDocument, LongNormal, NoAchievement, ManyRows}
-use Rattle.ra_session.specs.Expected.{Expected, played, trace_limit}
+use Rattle.ra_session.specs.Expected.{Expected, played}
 use Rattle.ra_session.specs.Closing.{EndsBefore}
 use Rattle.ra_session.specs.Failures.{ending_at, ending_of_trace, trace_failed}
 use Rattle.ra_session.specs.declared.failures.TraceFailed.{TraceFailed}
@@ -39,7 +40,7 @@ use Rattle.ra_session.specs.Playing.{StandsAt, kept_bytes, says_from}
 use Rattle.ra_jobs.specs.Outside.{AnyRose}
 use Rattle.ra_jobs.proofs.Pieces.{grown-nil}
 use Rattle.ra_jobs.proofs.Parts.{part_none}
-use Rattle.ra_session.proofs.LeftLemmas.{pieces_of}
+use Rattle.ra_replay.proofs.LeftLemmas.{pieces_of}
 use Rattle.ra_session.proofs.ReadLemmas.{played_read}
 
 -- a set that is not too long was read whole

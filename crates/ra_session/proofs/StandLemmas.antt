@@ -16,13 +16,14 @@ use Rattle.ra_meaning.specs.Order.{shape_of}
 use Rattle.ra_meaning.specs.Earned.{Earned, HoldTriggered, both_earned, earned_in, none_earned, with_earned}
 use Rattle.ra_meaning.specs.Openings.{start_of, snapshot, plain_opening}
 use Rattle.ra_meaning.specs.Play.{Moment, moved, lines, unlocks, earns, shown, first_moment, kept_in}
+use Rattle.ra_replay.specs.Left.{IsEmptySlot}
 use Rattle.ra_session.specs.declared.player.Player.{Player}
 use Rattle.ra_runtime.specs.Keeping.{KeptSeen, IsKeptFor, Takes, course_of}
 use Rattle.ra_meaning.proofs.Earned.Items.{opening_with}
 use Rattle.ra_meaning.proofs.Openings.Snapshots.{plain_is_opening, opening_comes_back, snapshot_fits}
 use Rattle.ra_session.specs.Loading.{AreAccepted, BeginsAt}
 use Rattle.ra_session.proofs.EarnedLemmas.{earned_self, earned_later, kept_earned, earns_hold, save_holds, restored_with, none_and_file, opened_with, opened_holds, plain_earned}
-use Rattle.ra_session.specs.Playing.{StandsAt, IsPlayable, IsSaveOf, HoldsKept, HoldEachKept, TakesEmpty, TakesUpFrom, Plays, HoldsState}
+use Rattle.ra_session.specs.Playing.{StandsAt, IsPlayable, IsSaveOf, HoldsKept, HoldEachKept, TakesUpFrom, Plays, HoldsState}
 
 -- bytes of parts are bytes of the whole
 append_bytes : (a b : List ℕ) → AreBytes a → AreBytes b → AreBytes (a ++ b)
@@ -215,7 +216,7 @@ empty_by : (set : SetContents) (o : Opening) (earned : Earned) (kept : Option Hi
 empty_by set o earned None holds = refl
 empty_by set o earned (Some kept) holds = absurd holds
 
-pub slot_empty : (set : SetContents) (o : Opening) (m : Moment) (earned : Earned) (runtime : RuntimeSeen) (slots : List (Option KeptSeen)) (k : ℕ) → slice_index_or slots k None ≡ None → StandsAt set o m earned runtime slots → TakesEmpty (Restored k) m
+pub slot_empty : (set : SetContents) (o : Opening) (m : Moment) (earned : Earned) (runtime : RuntimeSeen) (slots : List (Option KeptSeen)) (k : ℕ) → slice_index_or slots k None ≡ None → StandsAt set o m earned runtime slots → IsEmptySlot (Restored k) m
 slot_empty set o m earned runtime slots k none stands = empty_by set o earned _ (subst (HoldsKept set o earned (slice_index_or m.slots k None)) none (hold_at set o earned m.slots slots stands.held k))
 
 -- a restore takes the frames of its slot up, and what is earned stays so
@@ -240,11 +241,11 @@ own_restore old new o m earned slots k state keep takes image stands =
     }
 
 pub stands_restored : (set : SetContents) (o : Opening) (m : Moment) (earned : Earned) (old new : RuntimeSeen) (slots : List (Option KeptSeen)) (k : ℕ) (state : KeptSeen) → slice_index_or slots k None ≡ Some state
-    → Takes (course_of old) (course_of new) state.opening → new.image ≡ old.image → StandsAt set o m earned old slots → StandsAt set o (moved (Restored k) m) earned new slots × (TakesEmpty (Restored k) m → ⊥)
+    → Takes (course_of old) (course_of new) state.opening → new.image ≡ old.image → StandsAt set o m earned old slots → StandsAt set o (moved (Restored k) m) earned new slots × (IsEmptySlot (Restored k) m → ⊥)
 stands_restored set o m earned old new slots k state some takes image stands =
     let keep = keeps set o m earned old slots k state some stands in
     let own = subst (λ (s : SetContents). Keeps s o m earned k state → StandsAt s o m earned old slots → StandsAt s o (moved (Restored k) m) earned new slots) stands.same (λ keep stands. own_restore old new o m earned slots k state keep takes image stands) in
-    let other : TakesEmpty (Restored k) m → ⊥ = λ no. let bad : None ≡ Some keep.kept = sym no ∙ keep.is in absurd (cc) in
+    let other : IsEmptySlot (Restored k) m → ⊥ = λ no. let bad : None ≡ Some keep.kept = sym no ∙ keep.is in absurd (cc) in
     (own keep stands, other)
 
 -- the state of a slot is of the runtime's set
@@ -337,5 +338,5 @@ plays_by set o m earned record_read e old new text told is same one plays =
 pub plays_saved : (set : SetContents) (o : Opening) (m : Moment) (earned : Earned) (k : ℕ) (runtime : RuntimeSeen) (slots : List (Option KeptSeen)) → StandsAt set o (moved (Saved k) m) earned runtime slots → Plays set o (Saved k) m earned runtime slots []
 plays_saved set o m earned k runtime slots stands = record { filled = λ empty. empty; stands = stands; prints = refl }
 
-pub plays_restored : (set : SetContents) (o : Opening) (m : Moment) (earned : Earned) (k : ℕ) (runtime : RuntimeSeen) (slots : List (Option KeptSeen)) → StandsAt set o (moved (Restored k) m) earned runtime slots × (TakesEmpty (Restored k) m → ⊥) → Plays set o (Restored k) m earned runtime slots []
+pub plays_restored : (set : SetContents) (o : Opening) (m : Moment) (earned : Earned) (k : ℕ) (runtime : RuntimeSeen) (slots : List (Option KeptSeen)) → StandsAt set o (moved (Restored k) m) earned runtime slots × (IsEmptySlot (Restored k) m → ⊥) → Plays set o (Restored k) m earned runtime slots []
 plays_restored set o m earned k runtime slots stands = record { filled = stands.1; stands = stands.0; prints = refl }

@@ -15,13 +15,14 @@ use Rattle.ra_meaning.specs.Runtime.{RuntimeSeen}
 use Rattle.ra_meaning.specs.Earned.{Earned}
 use Rattle.ra_meaning.specs.Play.{Moment, moved, moment_after, printed, pieces_from, earned_next, earned_after}
 use Rattle.ra_runtime.specs.Keeping.{KeptSeen}
+use Rattle.ra_replay.specs.Left.{IsLeft, trace_limit}
 use Rattle.ra_session.specs.Endings.{ending_of}
 use Rattle.ra_session.specs.declared.ending.Ending.{Ending}
 use Rattle.ra_session.specs.declared.ending.Ending.TheVariants.{Done, NoMemory, ReadFault, SinkFault, SaveFault}
-use Rattle.ra_session.specs.Expected.{Expected, IsReadBehind, trace_limit}
+use Rattle.ra_session.specs.Expected.{Expected, IsReadBehind}
 use Rattle.ra_session.specs.Closing.{EndsBefore}
 use Rattle.ra_session.specs.Failures.{ending_at, ending_of_trace}
-use Rattle.ra_session.specs.Playing.{StandsAt, IsLeft, GoesOn, IsAtEnd, TakesNext, says_from}
+use Rattle.ra_session.specs.Playing.{StandsAt, GoesOn, IsAtEnd, TakesNext, says_from}
 use Rattle.ra_jobs.specs.Writing.{GrewByPart}
 use Rattle.ra_session.specs.declared.failures.TraceFailed.{TraceFailed}
 use Rattle.ra_jobs.proofs.Pieces.{grown-grown, grown-nil}

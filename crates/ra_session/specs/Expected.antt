@@ -1,5 +1,5 @@
 -- What a job prints, how it ends and what it saves, where nothing fails: docs/DEFINITIONS.md, "A run".
-use Rattle.std.specs.Prelude.{◌≡◌, ℕ, ◌+◌, ◌^◌, ◌<◌, ◌≤◌, ◌==◌, Bool, true, false, if◌then◌else◌, Option, None, Some, List, [], ◌∷◌, ◌++◌, length, take, replicate, codes, decimal, count_by, bytes_eq}
+use Rattle.std.specs.Prelude.{◌≡◌, ℕ, ◌+◌, ◌<◌, ◌≤◌, ◌==◌, Bool, true, false, if◌then◌else◌, Option, None, Some, List, [], ◌∷◌, ◌++◌, length, take, replicate, codes, decimal, count_by, bytes_eq}
 use Rattle.std.specs.List.{join_with_byte, slice_split, concat}
 use Rattle.md5.specs.Md5.{md5}
 use Rattle.ra_set.specs.declared.refused.SetRefused.{SetRefused}
@@ -31,8 +31,10 @@ use Rattle.ra_args.specs.Words.{Job, Run, Check, Make, Import, Lint, Normal, Exp
 use Rattle.ra_condition.specs.Contents.{TriggerContents}
 use Rattle.ra_explain.specs.Explains.{ExplanationContents}
 use Rattle.ra_explain.specs.Unlocks.{IsExplanation}
+use Rattle.ra_replay.specs.Left.{trace_limit}
 use Rattle.ra_session.specs.Endings.{ending_of}
-use Rattle.ra_session.specs.Explaining.{Decided, Reason, AtUnlock, AtRows, AtEnd, AtStop, decided_from, explanation_text, no_unlock_text, trigger_of}
+use Rattle.ra_goals.specs.Choosing.{trigger_of}
+use Rattle.ra_session.specs.Explaining.{Decided, Reason, AtUnlock, AtRows, AtEnd, AtStop, decided_from, explanation_text, no_unlock_text}
 use Rattle.ra_session.specs.Linting.{lint_text}
 use Rattle.ra_session.specs.declared.ending.Ending.{Ending}
 use Rattle.ra_session.specs.declared.ending.Ending.TheVariants.{Done, BadSet, BadProgress, BadDocument, LongNormal, NoAchievement, ManyRows}
@@ -68,10 +70,6 @@ prints_line line = record { pieces = line ∷ []; ending = Done; saved = []; put
 -- a job that puts a file, and prints a line after it
 abbrev pub puts_then_prints : (file line : List ℕ) → Expected
 puts_then_prints file line = record { pieces = line ∷ []; ending = Done; saved = file; puts_first = true }
-
--- the most bytes that a run takes of a trace
-abbrev pub trace_limit : ℕ
-trace_limit = 2 ^ 40
 
 -- the most bytes of a set
 abbrev pub set_limit : ℕ

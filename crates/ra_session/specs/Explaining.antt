@@ -1,10 +1,9 @@
 -- The text of an explanation, and the record of a trace that decides it: docs/DEFINITIONS.md, "Explanations".
-use Rattle.std.specs.Prelude.{ℕ, ◌+◌, ◌*◌, ◌==◌, nat_lt, if◌then◌else◌, Option, None, Some, List, [], ◌∷◌, ◌++◌, length, take, drop, codes, decimal}
+use Rattle.std.specs.Prelude.{ℕ, ◌+◌, ◌*◌, nat_lt, if◌then◌else◌, List, [], ◌∷◌, ◌++◌, length, take, drop, codes, decimal}
 use Rattle.std.specs.List.{flat_map}
 use Rattle.ra_condition.specs.declared.condition.Condition.{Condition}
 use Rattle.ra_condition.specs.Contents.{TriggerContents, groups_of, trigger_hits}
 use Rattle.ra_memory.specs.Image.{History}
-use Rattle.ra_set.specs.Contents.{ItemContents, Unlocks, Ranks}
 use Rattle.ra_trace.specs.Entries.{Entry, Framed, Ended}
 use Rattle.ra_meaning.specs.Play.{Moment, moved}
 use Rattle.ra_explain.specs.Explains.{ExplanationContents}
@@ -47,12 +46,6 @@ explanation_text id t e = unlock_text id e ++ groups_text 0 (groups_of t) e.even
 -- the line where no unlock came up to the end record
 abbrev pub no_unlock_text : (id : ℕ) → List ℕ
 no_unlock_text id = codes "no unlock " ++ decimal id ++ codes "\n"
-
--- the trigger of the achievement of an id, where a set has one; a leaderboard of that id is none
-abbrev pub trigger_of : (id : ℕ) → List ItemContents → Option TriggerContents
-trigger_of id [] = None
-trigger_of id (Unlocks other t ∷ items) = if other == id then Some t else trigger_of id items
-trigger_of id (Ranks other format b ∷ items) = trigger_of id items
 
 -- why a trace is read no further: an unlock, at an image after a history; a frame too many; the end record; or where
 -- the trace stops before it

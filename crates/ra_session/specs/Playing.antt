@@ -1,5 +1,5 @@
 -- What a player keeps at a moment of a trace: docs/DEFINITIONS.md, "Save slots".
-use Rattle.std.specs.Prelude.{◌≡◌, ℕ, suc, ◌≤◌, ⊤, nat_le, Bool, true, false, Result, Ok, Err, Option, None, Some, is_some, option_map, List, [], ◌∷◌, length, map, slice_index_or}
+use Rattle.std.specs.Prelude.{◌≡◌, ℕ, ⊤, nat_le, Bool, true, false, Result, Ok, Err, Option, None, Some, List, [], ◌∷◌, length}
 use Rattle.ra_io.specs.Sink.{grown}
 use Rattle.ra_memory.specs.Image.{History, AreBytes, AreImages}
 use Rattle.ra_progress.specs.Contents.{Opening, IsOpening}
@@ -10,9 +10,9 @@ use Rattle.ra_set.specs.Limits.{IsWithinLimits}
 use Rattle.ra_set.specs.Names.{IsNamed}
 use Rattle.ra_set.specs.Spelled.{IsSpelled}
 use Rattle.ra_lint.specs.Fewness.{HasFewAlts}
-use Rattle.ra_trace.specs.Entries.{Entry, Restored, Ended}
-use Rattle.ra_trace.specs.Cutting.{Pieces, Reached, cut, with_entry, stop_within}
-use Rattle.ra_trace.specs.Reading.{ReaderSeen, Holds, seen_from}
+use Rattle.ra_trace.specs.Entries.{Entry, Ended}
+use Rattle.ra_trace.specs.Cutting.{Pieces, Reached, with_entry, stop_within}
+use Rattle.ra_trace.specs.Reading.{ReaderSeen}
 use Rattle.ra_meaning.specs.Runtime.{RuntimeSeen, TakesUp}
 use Rattle.ra_meaning.specs.Order.{shape_of}
 use Rattle.ra_meaning.specs.OpeningLaws.{HasDigests}
@@ -20,8 +20,9 @@ use Rattle.ra_meaning.specs.Earned.{Earned, HoldTriggered, IsEarnedToo, with_ear
 use Rattle.ra_meaning.specs.Openings.{snapshot}
 use Rattle.ra_meaning.specs.Play.{Moment, moved, printed, pieces_from, earned_next}
 use Rattle.ra_runtime.specs.Keeping.{KeptSeen, IsKeptFor}
+use Rattle.ra_replay.specs.Left.{IsEmptySlot, IsLeft, trace_limit}
 use Rattle.ra_session.specs.Endings.{ending_of}
-use Rattle.ra_session.specs.Expected.{Expected, trace_limit}
+use Rattle.ra_session.specs.Expected.{Expected}
 use Rattle.ra_session.specs.Closing.{EndsBefore}
 use Rattle.ra_session.specs.Failures.{ending_of_trace}
 use Rattle.ra_session.specs.declared.failures.TraceFailed.{TraceFailed}
@@ -92,14 +93,9 @@ abbrev pub HoldsState : RuntimeSeen → Option KeptSeen → Type 0
 HoldsState runtime None = ⊥
 HoldsState runtime (Some state) = IsKeptFor (shape_of runtime.set) state × (state.opening ≡ runtime.kept)
 
--- the record is a restore of a slot that is empty at the moment
-abbrev pub TakesEmpty : Entry → Moment → Type 0
-TakesEmpty (Restored slot) m = slice_index_or m.slots slot None ≡ None
-TakesEmpty _ m = ⊥
-
 -- A record takes the player to the moment after it, and prints what the set does there.
 pub record Plays (set : SetContents) (o : Opening) (entry : Entry) (m : Moment) (earned : Earned) (runtime : RuntimeSeen) (slots : List (Option KeptSeen)) (text : List ℕ) : Type 0 where
-  pub filled : TakesEmpty entry m → ⊥
+  pub filled : IsEmptySlot entry m → ⊥
   pub stands : StandsAt set o (moved entry m) (earned_next set o entry (moved entry m) earned) runtime slots
   pub prints : text ≡ printed set o entry (moved entry m) earned
 
@@ -111,16 +107,6 @@ says_from bytes set o m earned left = record {
   saved = [];
   puts_first = false;
 }
-
--- These records are left of the trace at a moment, from where the reader stands.
-pub record IsLeft (bytes : List ℕ) (m : Moment) (reader : ReaderSeen) (left : Pieces) : Type 0 where
-  pub size : ℕ
-  pub sized : reader.size ≡ Some size
-  pub limit : reader.limit ≡ trace_limit
-  pub holds : Holds reader bytes
-  pub more : ℕ
-  pub enough : length (seen_from trace_limit reader.next bytes) ≤ more
-  pub is : left ≡ cut (suc more) size (map is_some m.slots) reader.next (seen_from trace_limit reader.next bytes)
 
 -- One record of those that are left was played, and it was not the end.
 pub record GoesOn (bytes : List ℕ) (set : SetContents) (o : Opening) (m : Moment) (earned : Earned) (left : Pieces) (reader : ReaderSeen) (runtime : RuntimeSeen) (slots : List (Option KeptSeen)) (old new : Option (List ℕ)) : Type 0 where

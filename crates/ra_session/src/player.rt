@@ -13,8 +13,9 @@ ghost use Rattle.ra_meaning.specs.Order.{shape_of};
 ghost use Rattle.ra_meaning.specs.Play.{Moment, moved, first_moment};
 ghost use Rattle.ra_meaning.specs.Runtime.{IsWritten, ShowsKept, TakesFrame};
 ghost use Rattle.ra_runtime.specs.Keeping.{IsKeptFor};
+ghost use Rattle.ra_replay.specs.Left.{IsEmptySlot};
 ghost use Rattle.ra_session.specs.Loading.{AreAccepted, BeginsAt, progress_in};
-ghost use Rattle.ra_session.specs.Playing.{HoldsState, StandsAt, StandsSomewhere, IsPlayable, TakesEmpty, TakesUpFrom, Plays, kept_bytes};
+ghost use Rattle.ra_session.specs.Playing.{HoldsState, StandsAt, StandsSomewhere, IsPlayable, TakesUpFrom, Plays, kept_bytes};
 
 use crate::beginning::Beginning;
 use ra_memory::Steps;
@@ -156,8 +157,8 @@ impl Player {
     fn restore(&mut self, slot: u8) -> Result<(), Unplayed>
         requires { StandsSomewhere self.old.runtime self.old.slots.items }
         ensures restored { OnOk result ((set : SetContents) (o : Opening) (m : Moment) (earned : Earned) → StandsAt set o m earned self.old.runtime self.old.slots.items
-            → StandsAt set o (moved (Restored slot) m) earned self.new.runtime self.new.slots.items × (TakesEmpty (Restored slot) m → ⊥)) }
-        ensures empty { OnErr result ((set : SetContents) (o : Opening) (m : Moment) (earned : Earned) → StandsAt set o m earned self.old.runtime self.old.slots.items → TakesEmpty (Restored slot) m) }
+            → StandsAt set o (moved (Restored slot) m) earned self.new.runtime self.new.slots.items × (IsEmptySlot (Restored slot) m → ⊥)) }
+        ensures empty { OnErr result ((set : SetContents) (o : Opening) (m : Moment) (earned : Earned) → StandsAt set o m earned self.old.runtime self.old.slots.items → IsEmptySlot (Restored slot) m) }
         ensures image { self.new.runtime.image ≡ self.old.runtime.image }
         ensures only { IfErr result (λ e. e ≡ Unplayed.EmptySlot) }
     {
@@ -193,7 +194,7 @@ impl Player {
         requires empty { text.old.items ≡ [] }
         ensures played { OnOk result ((set : SetContents) (o : Opening) (m : Moment) (earned : Earned) → StandsAt set o m earned self.old.runtime self.old.slots.items
             → Plays set o (entry_of entry.now) m earned self.new.runtime self.new.slots.items text.new.items) }
-        ensures empty { IfErr result (λ e. e ≡ Unplayed.EmptySlot → (set : SetContents) (o : Opening) (m : Moment) (earned : Earned) → StandsAt set o m earned self.old.runtime self.old.slots.items → TakesEmpty (entry_of entry.now) m) }
+        ensures empty { IfErr result (λ e. e ≡ Unplayed.EmptySlot → (set : SetContents) (o : Opening) (m : Moment) (earned : Earned) → StandsAt set o m earned self.old.runtime self.old.slots.items → IsEmptySlot (entry_of entry.now) m) }
         ensures image { length self.new.runtime.image ≡ length self.old.runtime.image }
     {
         match entry {

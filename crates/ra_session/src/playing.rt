@@ -8,9 +8,10 @@ ghost use Rattle.ra_progress.specs.Contents.{Opening};
 ghost use Rattle.ra_trace.specs.Cutting.{Pieces};
 ghost use Rattle.ra_meaning.specs.Earned.{Earned};
 ghost use Rattle.ra_meaning.specs.Play.{Moment, earned_after, moment_after};
+ghost use Rattle.ra_replay.specs.Left.{IsLeft};
 ghost use Rattle.ra_session.specs.Closing.{EndsBefore};
 ghost use Rattle.ra_session.specs.Failures.{ending_at};
-ghost use Rattle.ra_session.specs.Playing.{StandsAt, StandsSomewhere, IsLeft, TakesNext, says_from};
+ghost use Rattle.ra_session.specs.Playing.{StandsAt, StandsSomewhere, TakesNext, says_from};
 
 use crate::failures::TraceFailed;
 use crate::player::{Player, Unplayed};

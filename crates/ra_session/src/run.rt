@@ -28,11 +28,9 @@ use crate::playing::play_records;
 use crate::run_files::RunFiles;
 use crate::writing::print_line;
 use ra_io::{Files, PutFailed, Sink};
+use ra_replay::TRACE_LIMIT;
 use ra_trace::Reader;
 use std::alloc::Global;
-
-// The most bytes of a trace.
-const TRACE_LIMIT: u64 = 1_099_511_627_776;
 
 /// Plays a trace from what a run begins with, and answers the player at its end.
 ///

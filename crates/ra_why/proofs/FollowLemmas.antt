@@ -1,12 +1,13 @@
 -- A watcher that follows a moment follows the moment after a record.
 use Rattle.std.proofs.Common.{◌≡◌, ℕ, zero, suc, ◌+◌, Bool, true, false, Option, None, Some, List, [], ◌∷◌, length, slice_set, slice_index_or, refl, sym, ap, subst, ◌∙◌, arith}
 use Rattle.std.proofs.lemmas.List.{length-set}
-use Rattle.ra_condition.specs.Contents.{TriggerContents, trigger_hits}
+use Rattle.ra_condition.specs.Contents.{TriggerContents}
 use Rattle.ra_memory.specs.Image.{History, written}
 use Rattle.ra_trace.specs.Entries.{Written, Framed, Saved, Restored, Shown}
 use Rattle.ra_meaning.specs.Play.{Moment, kept_in}
 use Rattle.ra_explain.specs.Recorders.{unlocks_at}
-use Rattle.ra_why.specs.Taking.{Follows, GoesTo, IsEmptySlot}
+use Rattle.ra_why.specs.Taking.{Follows, GoesTo}
+use Rattle.ra_replay.specs.Left.{IsEmptySlot}
 use Rattle.ra_why.specs.Watching.{IsWatching, Saves, SlotMeets, SlotStands, Stands, StaysOut, TakesUp, trigger_in}
 use Rattle.ra_why.specs.declared.kept.Kept.{Kept}
 use Rattle.ra_why.specs.declared.watcher.Watcher.{Watcher}

@@ -1,9 +1,10 @@
 -- A watcher that takes the records of a trace: docs/DEFINITIONS.md, "Account of an achievement" and "Frames that lie behind".
 use Rattle.std.specs.Prelude.{◌≡◌, ℕ, Bool, true, false, None, length, slice_index_or}
 use Rattle.ra_condition.specs.Contents.{TriggerContents}
-use Rattle.ra_trace.specs.Entries.{Entry, Framed, Restored, Ended}
+use Rattle.ra_trace.specs.Entries.{Entry, Framed, Ended}
 use Rattle.ra_meaning.specs.Play.{Moment, moved}
 use Rattle.ra_explain.specs.Recorders.{unlocks_at}
+use Rattle.ra_replay.specs.Left.{IsEmptySlot}
 use Rattle.ra_why.specs.Watching.{SlotMeets, Stands, trigger_in}
 use Rattle.ra_why.specs.declared.taking.Taken.{Taken}
 use Rattle.ra_why.specs.declared.taking.Taken.TheVariants.{On, Unlock, Empty, End}
@@ -21,11 +22,6 @@ pub record Follows (w : Watcher) (m : Moment) : Type 0 where
 abbrev pub is_unlock : TriggerContents → Entry → Moment → Bool
 is_unlock t Framed m = unlocks_at t m.image m.behind
 is_unlock t _ m = false
-
--- the record is a restore of a slot that is empty at the moment
-abbrev pub IsEmptySlot : Entry → Moment → Type 0
-IsEmptySlot (Restored slot) m = slice_index_or m.slots slot None ≡ None
-IsEmptySlot _ m = ⊥
 
 -- A record is taken that is not the end: the watcher follows the moment after it.
 pub record GoesTo (old new : Watcher) (entry : Entry) (m : Moment) (unlock : Bool) : Type 0 where

@@ -1,5 +1,5 @@
 -- What reading and taking the next record does, and where the records so far have led.
-use Rattle.std.proofs.Common.{◌≡◌, ◌+◌, ◌≤◌, ◌<◌, ℕ, zero, suc, length, Bool, true, false, cond, Option, None, Some, IfSome, IfOk, Result, Ok, Err, List, ◌∷◌, refl, sym, ap, subst, ◌∙◌, arith}
+use Rattle.std.proofs.Common.{◌≡◌, ◌+◌, ◌≤◌, ◌<◌, ℕ, zero, suc, length, Bool, true, false, cond, Option, Some, IfSome, IfOk, Result, Ok, Err, List, ◌∷◌, refl, sym, ap, subst, ◌∙◌, arith}
 use Rattle.std.specs.Result.{IsErrAnd, IsErrOf}
 use Rattle.ra_condition.specs.Contents.{TriggerContents, trigger_contents}
 use Rattle.ra_memory.specs.Image.{History}
@@ -10,18 +10,16 @@ use Rattle.ra_trace.specs.Cutting.{Pieces, RefusedAt, Stop}
 use Rattle.ra_trace.specs.Entries.{Entry, Written, Framed, Saved, Restored, Shown, Ended}
 use Rattle.ra_trace.specs.Reading.{ReaderSeen, Holds, Stands as StandsHere, IsBehindRecord, IsStop, next_stop}
 use Rattle.ra_meaning.specs.Play.{Moment, moved}
-use Rattle.ra_why.specs.Taking.{Follows, GoesTo, IsEmptySlot, TakesRecord, is_unlock}
+use Rattle.ra_why.specs.Taking.{Follows, GoesTo, is_unlock}
+use Rattle.ra_replay.specs.Left.{IsEmptySlot, IsLeft, stop_of, trace_limit}
 use Rattle.ra_why.specs.Watching.{IsWatching, MayStep, Stands, trigger_in}
-use Rattle.ra_why.specs.declared.taking.Taken.{Taken}
-use Rattle.ra_why.specs.declared.taking.Taken.TheVariants.{On, Unlock, Empty, End}
 use Rattle.ra_why.specs.declared.watcher.Watcher.{Watcher}
 use Rattle.ra_why.proofs.FollowLemmas.{more_watching}
-use Rattle.ra_why_job.specs.Left.{IsLeft, stop_of}
-use Rattle.ra_why_job.specs.Says.{frames_to, trace_limit}
+use Rattle.ra_why_job.specs.Says.{frames_to}
 use Rattle.ra_why_job.specs.Watching.{EndsFor, IsReached, IsReason, TakesNext, Watches}
 use Rattle.ra_why_job.specs.declared.failed.WatchFailed.{WatchFailed}
 use Rattle.ra_why_job.specs.declared.failed.WatchFailed.TheVariants as watch
-use Rattle.ra_why_job.proofs.LeftLemmas.{left_refused, left_empty, left_ends, left_behind}
+use Rattle.ra_replay.proofs.LeftLemmas.{left_refused, left_empty, left_ends, left_behind}
 
 -- what holds of a value that is there
 pub told : {T : Type 0} (o : Option T) (P : T → Type 0) (x : T) → o ≡ Some x → IfSome o P → P x

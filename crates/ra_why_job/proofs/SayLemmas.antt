@@ -19,7 +19,8 @@ use Rattle.ra_jobs.specs.declared.reading.ReadFailed.{ReadFailed}
 use Rattle.ra_why_job.specs.Choosing.{IsFound}
 use Rattle.ra_why_job.specs.Watching.{IsReply}
 use Rattle.ra_why_job.specs.declared.reply.Reply.{Reply}
-use Rattle.ra_why_job.specs.Says.{IsWatched, TraceSays, WhySays, accounts, decided_by, history_in, is_own, is_traced, lacks, lacks_line, long_line, passes_limit, refused_line, refuses_set, refuses_trace, set_line, tells, trace_in, trigger_of}
+use Rattle.ra_goals.specs.Choosing.{trigger_of}
+use Rattle.ra_why_job.specs.Says.{IsWatched, TraceSays, WhySays, accounts, decided_by, history_in, is_own, is_traced, lacks, lacks_line, passes_limit, refused_line, refuses_set, refuses_trace, set_line, tells, trace_in}
 
 some_same : {A : Type 0} (x y : A) → Some x ≡ Some y → x ≡ y
 some_same x y same = cc

@@ -19,13 +19,13 @@ use Rattle.ra_why.specs.Text.{text_by, why_text}
 use Rattle.ra_why.specs.Watching.{IsMade, IsWatching, SlotMeets, Stands, trigger_in}
 use Rattle.ra_why.specs.declared.kept.Kept.{Kept}
 use Rattle.ra_why.specs.declared.watcher.Watcher.{Watcher}
-use Rattle.ra_why_job.specs.Left.{stop_of}
-use Rattle.ra_why_job.specs.Says.{TraceSays, accounts, frames_to, history_in, long_line, passes_limit, refused_line, refuses_trace, trace_in, trace_limit}
+use Rattle.ra_replay.specs.Left.{stop_of, trace_limit}
+use Rattle.ra_why_job.specs.Says.{TraceSays, accounts, frames_to, history_in, long_line, passes_limit, refused_line, refuses_trace, trace_in}
 use Rattle.ra_why_job.specs.Watching.{EndsWatch, IsReady, IsReason, IsReply, IsWatchedTo}
 use Rattle.ra_why_job.specs.declared.reply.Reply.{Reply}
 use Rattle.ra_why_job.specs.declared.failed.WatchFailed.{WatchFailed}
 use Rattle.ra_why_job.specs.declared.failed.WatchFailed.TheVariants as watch
-use Rattle.ra_why_job.proofs.LeftLemmas.{pieces_of}
+use Rattle.ra_replay.proofs.LeftLemmas.{pieces_of}
 use Rattle.ra_why_job.proofs.NextLemmas.{watching_to}
 
 -- an empty slot stays empty

@@ -5,7 +5,7 @@ use Rattle.ra_condition.specs.Spelled.{IsTrigger}
 use Rattle.ra_set.specs.Accepted.{IsSet}
 use Rattle.ra_set.specs.Contents.{SetContents}
 use Rattle.ra_set.specs.Refusals.{Refuses}
-use Rattle.ra_why_job.specs.Says.{trigger_of}
+use Rattle.ra_goals.specs.Choosing.{trigger_of}
 use Rattle.ra_why_job.specs.declared.choosing.Chosen.{Chosen}
 use Rattle.ra_why_job.specs.declared.choosing.Chosen.TheVariants.{Refused, Lacking, Found}
 

@@ -1,4 +1,3 @@
 pub mod Choosing
-pub mod Left
 pub mod Says
 pub mod Watching

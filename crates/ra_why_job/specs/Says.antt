@@ -1,9 +1,9 @@
 -- What `why` says of an achievement over a trace: docs/DEFINITIONS.md, "Jobs for authors" and "Account of an achievement".
-use Rattle.std.specs.Prelude.{◌≡◌, ℕ, ◌+◌, ◌^◌, ◌==◌, ◌||◌, Bool, if◌then◌else◌, Option, None, Some, List, [], ◌∷◌, ◌++◌, take, codes, decimal}
+use Rattle.std.specs.Prelude.{◌≡◌, ℕ, ◌+◌, ◌==◌, ◌||◌, Bool, if◌then◌else◌, Option, None, Some, List, [], ◌∷◌, ◌++◌, take, codes, decimal}
 use Rattle.ra_condition.specs.Contents.{TriggerContents}
 use Rattle.ra_memory.specs.Image.{History}
 use Rattle.ra_set.specs.Accepted.{IsSet}
-use Rattle.ra_set.specs.Contents.{ItemContents, Unlocks, Ranks, SetContents}
+use Rattle.ra_set.specs.Contents.{SetContents}
 use Rattle.ra_set.specs.Limits.{most_bytes}
 use Rattle.ra_set.specs.Refusals.{Refuses}
 use Rattle.ra_set.specs.Words.{set_words}
@@ -13,18 +13,10 @@ use Rattle.ra_trace.specs.Entries.{Entry, Ended}
 use Rattle.ra_trace.specs.Refusals.{trace_word}
 use Rattle.ra_trace.specs.declared.error.Why.{Why}
 use Rattle.ra_meaning.specs.Play.{Moment, first_moment, moved}
+use Rattle.ra_goals.specs.Choosing.{trigger_of}
+use Rattle.ra_replay.specs.Left.{trace_limit}
 use Rattle.ra_why.specs.Taking.{is_unlock}
 use Rattle.ra_why.specs.Text.{why_text}
-
--- the trigger of the achievement of an id, where a set has one; a leaderboard of that id is none
-abbrev pub trigger_of : (id : ℕ) → List ItemContents → Option TriggerContents
-trigger_of id [] = None
-trigger_of id (Unlocks other t ∷ items) = if other == id then Some t else trigger_of id items
-trigger_of id (Ranks other format b ∷ items) = trigger_of id items
-
--- the most bytes that are taken of a trace
-abbrev pub trace_limit : ℕ
-trace_limit = 2 ^ 40
 
 -- the trace that is seen in a file
 abbrev pub trace_in : List ℕ → Trace

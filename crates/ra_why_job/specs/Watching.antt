@@ -10,8 +10,8 @@ use Rattle.ra_meaning.specs.Play.{Moment, moved}
 use Rattle.ra_why.specs.Taking.{GoesTo}
 use Rattle.ra_why.specs.Watching.{IsWatching, Stands, trigger_in}
 use Rattle.ra_why.specs.declared.watcher.Watcher.{Watcher}
-use Rattle.ra_why_job.specs.Left.{IsLeft, stop_of}
-use Rattle.ra_why_job.specs.Says.{frames_to, history_in, trace_in, trace_limit}
+use Rattle.ra_replay.specs.Left.{IsLeft, stop_of, trace_limit}
+use Rattle.ra_why_job.specs.Says.{frames_to, history_in, trace_in}
 use Rattle.ra_why_job.specs.declared.failed.WatchFailed.{WatchFailed}
 use Rattle.ra_why_job.specs.declared.failed.WatchFailed.TheVariants as watch
 use Rattle.ra_why_job.specs.declared.reply.Reply.{Reply}

@@ -11,20 +11,18 @@ ghost use Rattle.ra_trace.specs.Cutting.{Pieces};
 ghost use Rattle.ra_trace.specs.declared.error.TraceError.TheVariants as error;
 ghost use Rattle.ra_why.specs.Taking.{Follows};
 ghost use Rattle.ra_why.specs.Watching.{MayStep, trigger_in};
-ghost use Rattle.ra_why_job.specs.Says.{frames_to, trace_limit};
-ghost use Rattle.ra_why_job.specs.Left.{IsLeft, stop_of};
+ghost use Rattle.ra_why_job.specs.Says.{frames_to};
+ghost use Rattle.ra_replay.specs.Left.{IsLeft, stop_of, trace_limit};
 ghost use Rattle.ra_why_job.specs.Watching.{EndsFor, EndsWatch, IsReady, TakesNext, Watches};
 ghost use Rattle.ra_why_job.specs.declared.failed.WatchFailed.TheVariants as failed;
 
 use crate::failed::WatchFailed;
 use ra_condition::TriggerText;
 use ra_io::Files;
+use ra_replay::TRACE_LIMIT;
 use ra_trace::{Reader, TraceError, Why};
 use ra_why::{Taken, Watcher, take_record};
 use std::alloc::Global;
-
-// The most bytes of a trace.
-const TRACE_LIMIT: u64 = 1_099_511_627_776;
 
 // Reads and takes the next record, and answers whether others come after it.
 fn watch_next<F: Files>(

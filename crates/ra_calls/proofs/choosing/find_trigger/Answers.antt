@@ -1,7 +1,7 @@
 use Rattle.std.proofs.Common.{ap, subst, ◌∙◌}
 use Rattle.ra_set.specs.Contents.{SetContents}
 use Rattle.ra_set.specs.Spelled.{IsSpelled}
-use Rattle.ra_calls.specs.Recordings.{trigger_of}
+use Rattle.ra_goals.specs.Choosing.{trigger_of}
 use Rattle.ra_calls.proofs.ChooseLemmas.{found_usable}
 use Rattle.ra_calls.proofs.choosing.find_trigger.Goals as goal
 

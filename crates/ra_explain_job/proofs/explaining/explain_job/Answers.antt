@@ -1,7 +1,7 @@
 use Rattle.std.proofs.Common.{arith, ap, sym, refl, option_map, ◌∙◌, Err}
 use Rattle.ra_condition.specs.Contents.{trigger_contents}
 use Rattle.ra_set.specs.Contents.{set_contents}
-use Rattle.ra_explain_job.proofs.ChooseLemmas.{chosen_few, chosen_spelled}
+use Rattle.ra_goals.proofs.ChooseLemmas.{chosen_few, chosen_spelled}
 use Rattle.ra_explain_job.proofs.JobLemmas.{ran_no_set, ran_lacking, ran_unwatched, ran_watched}
 use Rattle.ra_explain_job.proofs.explaining.explain_job.Goals as goal
 

@@ -2,7 +2,7 @@ use Rattle.std.proofs.Common.{◌≡◌, ◌-◌, ℕ, List, Some, length}
 use Rattle.ra_io.specs.Files.{OnlyRead}
 use Rattle.ra_trace.specs.Cutting.{Pieces}
 use Rattle.ra_meaning.specs.Play.{Moment}
-use Rattle.ra_session.specs.Playing.{IsLeft}
+use Rattle.ra_replay.specs.Left.{IsLeft}
 use Rattle.ra_explain_job.specs.Watching.{Follows}
 use Rattle.ra_explain_job.proofs.NextLemmas.{LeadsTo}
 use Rattle.ra_explain_job.proofs.watching.watch.Given as goal

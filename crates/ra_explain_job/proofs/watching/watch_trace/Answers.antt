@@ -5,9 +5,10 @@ use Rattle.ra_trace.specs.Cutting.{header_size}
 use Rattle.ra_trace.specs.Reading.{IsStop, header_stop}
 use Rattle.ra_trace.specs.declared.error.TraceError.TheVariants as error
 use Rattle.ra_meaning.specs.Play.{first_moment}
+use Rattle.ra_replay.specs.Left.{trace_limit}
 use Rattle.ra_session.specs.Endings.{ending_of}
-use Rattle.ra_session.specs.Expected.{trace_in, trace_limit}
-use Rattle.ra_session.proofs.LeftLemmas.{left_whole, pieces_of}
+use Rattle.ra_session.specs.Expected.{trace_in}
+use Rattle.ra_replay.proofs.LeftLemmas.{left_whole, pieces_of}
 use Rattle.ra_session.proofs.NextLemmas.{told}
 use Rattle.ra_session.proofs.RunLemmas.{err_from}
 use Rattle.ra_explain_job.specs.declared.failed.WatchFailed.TheVariants as failed

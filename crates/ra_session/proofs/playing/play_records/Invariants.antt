@@ -5,7 +5,8 @@ use Rattle.ra_progress.specs.Contents.{Opening}
 use Rattle.ra_trace.specs.Cutting.{Pieces}
 use Rattle.ra_meaning.specs.Earned.{Earned}
 use Rattle.ra_meaning.specs.Play.{Moment}
-use Rattle.ra_session.specs.Playing.{StandsAt, StandsSomewhere, IsLeft}
+use Rattle.ra_replay.specs.Left.{IsLeft}
+use Rattle.ra_session.specs.Playing.{StandsAt, StandsSomewhere}
 use Rattle.ra_session.proofs.TraceLemmas.{PlayedTo}
 use Rattle.ra_session.proofs.playing.play_records.Given as goal
 

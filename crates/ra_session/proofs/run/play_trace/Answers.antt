@@ -4,13 +4,14 @@ use Rattle.ra_set.specs.Contents.{set_contents}
 use Rattle.ra_meaning.specs.Play.{first_moment}
 use Rattle.ra_trace.specs.Cutting.{header_size}
 use Rattle.ra_trace.specs.Reading.{IsStop, header_stop}
+use Rattle.ra_replay.specs.Left.{trace_limit}
 use Rattle.ra_session.specs.Failures.{ending_of_trace, trace_failed}
 use Rattle.ra_session.specs.declared.ending.Ending.TheVariants.{Done}
-use Rattle.ra_session.specs.Expected.{played, trace_limit}
+use Rattle.ra_session.specs.Expected.{played}
 use Rattle.ra_session.specs.Loading.{progress_in}
 use Rattle.ra_session.proofs.LoadLemmas.{begins_somewhere}
 use Rattle.ra_session.proofs.NextLemmas.{told}
-use Rattle.ra_session.proofs.LeftLemmas.{left_whole, pieces_of}
+use Rattle.ra_replay.proofs.LeftLemmas.{left_whole, pieces_of}
 use Rattle.ra_session.specs.declared.failures.TraceFailed.TheVariants as failed
 use Rattle.ra_session.proofs.RunLemmas.{played_behind, saved_behind, bad_header, ends_by, no_memory_left}
 use Rattle.ra_session.proofs.run.play_trace.Goals as goal

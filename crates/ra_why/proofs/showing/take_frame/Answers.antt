@@ -1,4 +1,4 @@
-use Rattle.std.proofs.Common.{ap, ◌∙◌, length}
+use Rattle.std.proofs.Common.{◌∙◌}
 use Rattle.ra_condition.specs.Contents.{trigger_contents}
 use Rattle.ra_why.proofs.ReadLemmas.{steps_read}
 use Rattle.ra_why.proofs.showing.take_frame.Goals as goal

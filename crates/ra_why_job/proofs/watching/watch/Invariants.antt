@@ -4,8 +4,7 @@ use Rattle.ra_trace.specs.Cutting.{Pieces}
 use Rattle.ra_meaning.specs.Play.{Moment}
 use Rattle.ra_why.specs.Taking.{Follows}
 use Rattle.ra_why.specs.Watching.{trigger_in}
-use Rattle.ra_why_job.specs.Left.{IsLeft}
-use Rattle.ra_why_job.specs.Says.{trace_limit}
+use Rattle.ra_replay.specs.Left.{IsLeft, trace_limit}
 use Rattle.ra_why_job.specs.Watching.{Watches}
 use Rattle.ra_why_job.proofs.NextLemmas.{LeadsTo}
 use Rattle.ra_why_job.proofs.watching.watch.Given as goal

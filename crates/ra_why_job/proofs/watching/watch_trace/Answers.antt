@@ -6,10 +6,10 @@ use Rattle.ra_trace.specs.Reading.{IsStop, header_stop}
 use Rattle.ra_trace.specs.declared.error.TraceError.TheVariants as error
 use Rattle.ra_meaning.specs.Play.{first_moment}
 use Rattle.ra_why.specs.Watching.{trigger_in}
-use Rattle.ra_why_job.specs.Says.{trace_limit}
+use Rattle.ra_replay.specs.Left.{trace_limit}
 use Rattle.ra_why_job.specs.Watching.{IsReached, IsReason}
 use Rattle.ra_why_job.specs.declared.failed.WatchFailed.TheVariants as failed
-use Rattle.ra_why_job.proofs.LeftLemmas.{left_whole, pieces_of}
+use Rattle.ra_replay.proofs.LeftLemmas.{left_whole, pieces_of}
 use Rattle.ra_why_job.proofs.NextLemmas.{err_from, told}
 use Rattle.ra_why_job.proofs.WatchLemmas.{bad_header, failed_watch, follows_first, length_made, ready_so, sized_so, watched_behind}
 use Rattle.ra_why_job.proofs.watching.watch_trace.Goals as goal

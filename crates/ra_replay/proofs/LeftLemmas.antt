@@ -7,13 +7,11 @@ use Rattle.ra_trace.specs.declared.error.Why.TheVariants.{Cut, EmptySlot}
 use Rattle.ra_trace.specs.declared.error.TraceError.{TraceError}
 use Rattle.ra_trace.specs.declared.error.TraceError.TheVariants as errors
 use Rattle.ra_trace.specs.Entries.{Entry, Written, Saved, Ended, entry_bytes}
-use Rattle.ra_trace.specs.Cutting.{Stop, RefusedAt, PastLimit, Pieces, Reached, cut, cut_unless, cut_behind, with_entry, refusal, front, filled_after, no_slots, stop_within}
+use Rattle.ra_trace.specs.Cutting.{RefusedAt, PastLimit, Pieces, Reached, cut, cut_unless, cut_behind, with_entry, refusal, front, filled_after, no_slots, stop_within}
 use Rattle.ra_trace.specs.Reading.{ReaderSeen, Holds, Stands, IsBehindRecord, IsBehindHeader, IsStop, seen_from, next_stop}
 use Rattle.ra_meaning.specs.Play.{Moment, moved, first_moment}
-use Rattle.ra_why.specs.Taking.{IsEmptySlot}
-use Rattle.ra_why_job.specs.Left.{IsLeft, stop_of}
-use Rattle.ra_why_job.specs.Says.{trace_limit}
-use Rattle.ra_why_job.proofs.SlotRefusals.{by_slots}
+use Rattle.ra_replay.specs.Left.{IsEmptySlot, IsLeft, stop_of, trace_limit}
+use Rattle.ra_replay.proofs.SlotRefusals.{by_slots}
 
 abbrev Next : Type 0
 Next = List Bool → ℕ → List ℕ → Pieces

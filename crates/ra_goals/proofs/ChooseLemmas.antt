@@ -9,7 +9,7 @@ use Rattle.ra_set.specs.Spelled.{IsItem, IsSpelled}
 use Rattle.ra_set.specs.Limits.{IsWithinLimits, item_conditions}
 use Rattle.ra_set.specs.Contents.{ItemContents, SetContents, Unlocks, Ranks, item_contents}
 use Rattle.ra_set.specs.declared.item.Item.{Item}
-use Rattle.ra_session.specs.Explaining.{trigger_of}
+use Rattle.ra_goals.specs.Choosing.{trigger_of}
 
 -- the first of two that is there
 abbrev pub first_of : {T : Type 0} → Option T → Option T → Option T

@@ -1,9 +1,18 @@
 -- What is left of a trace at a moment: docs/DEFINITIONS.md, "Trace file" and "Frames that lie behind".
-use Rattle.std.specs.Prelude.{◌≡◌, ℕ, suc, ◌≤◌, nat_le, Some, is_some, List, length, map}
+use Rattle.std.specs.Prelude.{◌≡◌, ℕ, suc, ◌≤◌, ◌^◌, nat_le, Some, None, is_some, List, length, map, slice_index_or}
 use Rattle.ra_trace.specs.Cutting.{Pieces, Stop, cut, stop_within}
+use Rattle.ra_trace.specs.Entries.{Entry, Restored}
 use Rattle.ra_trace.specs.Reading.{ReaderSeen, Holds, seen_from}
 use Rattle.ra_meaning.specs.Play.{Moment}
-use Rattle.ra_why_job.specs.Says.{trace_limit}
+
+-- the most bytes that are taken of a trace
+abbrev pub trace_limit : ℕ
+trace_limit = 2 ^ 40
+
+-- the record is a restore of a slot that is empty at the moment
+abbrev pub IsEmptySlot : Entry → Moment → Type 0
+IsEmptySlot (Restored slot) m = slice_index_or m.slots slot None ≡ None
+IsEmptySlot _ m = ⊥
 
 -- These records are left of the trace at a moment, from where the reader stands.
 pub record IsLeft (bytes : List ℕ) (m : Moment) (reader : ReaderSeen) (left : Pieces) : Type 0 where

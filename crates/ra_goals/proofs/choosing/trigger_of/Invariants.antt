@@ -1,9 +1,9 @@
 use Rattle.std.proofs.Common.{◌≡◌, map, option_map}
 use Rattle.ra_condition.specs.Contents.{trigger_contents}
 use Rattle.ra_set.specs.Contents.{item_contents}
-use Rattle.ra_calls.specs.Recordings as spec
-use Rattle.ra_calls.proofs.ChooseLemmas.{first_of}
-use Rattle.ra_calls.proofs.choosing.trigger_of.Given as goal
+use Rattle.ra_goals.specs.Choosing as spec
+use Rattle.ra_goals.proofs.ChooseLemmas.{first_of}
+use Rattle.ra_goals.proofs.choosing.trigger_of.Given as goal
 
 -- the first of the items that are left has the id, or the one that was found is behind them
 abbrev pub invariant-loop-item : goal.invariant-loop-item

@@ -1,10 +1,10 @@
 use Rattle.std.proofs.Common.{◌∙◌, ap, option_map}
 use Rattle.ra_condition.specs.Contents.{trigger_contents}
-use Rattle.ra_calls.specs.Recordings as spec
+use Rattle.ra_goals.specs.Choosing as spec
 use Rattle.ra_set.specs.Contents.{item_contents}
 use Rattle.std.proofs.Common.{map}
-use Rattle.ra_calls.proofs.ChooseLemmas.{first_of, looked_at, or_mapped}
-use Rattle.ra_calls.proofs.choosing.trigger_of.Goals as goal
+use Rattle.ra_goals.proofs.ChooseLemmas.{first_of, looked_at, or_mapped}
+use Rattle.ra_goals.proofs.choosing.trigger_of.Goals as goal
 
 pub loop-item-preserved : goal.loop-item-preserved
 loop-item-preserved c =

@@ -8,7 +8,7 @@ use Rattle.ra_trace.specs.declared.error.Why.{Why}
 use Rattle.ra_trace.specs.declared.error.Why.TheVariants.{Cut, EmptySlot}
 use Rattle.ra_trace.specs.Cutting.{refusal, restore_refusal, front}
 use Rattle.ra_meaning.specs.Play.{Moment}
-use Rattle.ra_session.specs.Playing.{TakesEmpty}
+use Rattle.ra_replay.specs.Left.{IsEmptySlot}
 
 abbrev all_filled : List Bool
 all_filled = replicate 16 true
@@ -54,8 +54,8 @@ by_all m (slot ∷ rest) = small_slot m slot rest _ refl _ refl
 -- What is refused with the slots of a moment, by what is refused where all are filled.
 pub record BySlots (size : ℕ) (m : Moment) (bytes : List ℕ) : Type 0 where
   pub refused : (why : Why) → refusal size all_filled bytes ≡ Some why → refusal size (map is_some m.slots) bytes ≡ Some why
-  pub filled : refusal size all_filled bytes ≡ None → (TakesEmpty (front bytes) m → ⊥) → refusal size (map is_some m.slots) bytes ≡ None
-  pub empty : refusal size all_filled bytes ≡ None → TakesEmpty (front bytes) m → refusal size (map is_some m.slots) bytes ≡ Some EmptySlot
+  pub filled : refusal size all_filled bytes ≡ None → (IsEmptySlot (front bytes) m → ⊥) → refusal size (map is_some m.slots) bytes ≡ None
+  pub empty : refusal size all_filled bytes ≡ None → IsEmptySlot (front bytes) m → refusal size (map is_some m.slots) bytes ≡ Some EmptySlot
 
 module _ (size : ℕ) (m : Moment) (mark : ℕ) (rest : List ℕ) where
   by_mark : (w s r f p : Bool) → (mark == 87) ≡ w → (mark == 83) ≡ s → (mark == 82) ≡ r → (mark == 70) ≡ f → (mark == 80) ≡ p → BySlots size m (mark ∷ rest)

@@ -3,7 +3,7 @@
 ghost use Rattle.std.specs.Prelude.{◌≡◌, [], ◌∷◌, option_map};
 ghost use Rattle.ra_condition.specs.Contents.{trigger_contents};
 ghost use Rattle.ra_set.specs.Contents.{item_contents, set_contents};
-ghost use Rattle.ra_session.specs.Explaining as spec;
+ghost use Rattle.ra_goals.specs.Choosing as spec;
 
 use ra_condition::TriggerText;
 use ra_set::{Item, Set};
@@ -19,7 +19,7 @@ fn trigger_in(item: Item, id: u32) -> Option<TriggerText>
 }
 
 /// The trigger of the achievement of an id, where the set has one.
-pub(crate) fn trigger_of(set: Set, id: u32) -> Option<TriggerText>
+pub fn trigger_of(set: Set, id: u32) -> Option<TriggerText>
     ensures { option_map trigger_contents result ≡ spec.trigger_of id (set_contents set).items }
 {
     let mut items = set.items;
