@@ -55,16 +55,16 @@ fi
 
 # what is packed
 top=$room/$name
-mkdir -p "$top/bin" "$top/share/doc/meerkatalloy" "$top/share/meerkatalloy"
+mkdir -p "$top/bin" "$top/share/doc/meerkatalloy/docs" "$top/share/meerkatalloy"
 install -m 755 "$room/ra_player" "$room/ra_author" "$top/bin/"
 "$root/crates/ra_c/install.sh" "$top" "$archive"
 # (an archive that is unpacked anywhere: its place is told by that of the file)
 sed -i 's|^prefix=.*|prefix=${pcfiledir}/../..|' "$top/lib/pkgconfig/meerkat.pc"
 "$root/bench/words.py" install "$top"
 "$root/bench/words.py" check "$room/ra_player" "$room/ra_author"
-for document in README.md docs/SETS.md docs/EMBEDDING.md docs/PROVED.md; do
-    install -m 644 "$root/$document" "$top/share/doc/meerkatalloy/"
-done
+# (all documents, in their folders, so that their links lead somewhere)
+install -m 644 "$root/README.md" "$top/share/doc/meerkatalloy/"
+install -m 644 "$root/docs/"*.md "$top/share/doc/meerkatalloy/docs/"
 git -C "$root" archive --format=tar "$commit" examples | tar -x -C "$top/share/meerkatalloy"
 {
     echo "commit $commit"
