@@ -5,6 +5,7 @@ pub mod ItemLemmas
 pub mod ItemStates
 pub mod KeptItems
 mod ItemsRest
+mod Listed
 mod MadeRests
 mod RestRuns
 mod RestSteps

@@ -1,7 +1,7 @@
 -- The items that are due, stepped one after the other: what is seen of all of them after a frame.
-use Rattle.std.proofs.Common.{◌≡◌, inl, inr, ℕ, zero, suc, ◌+◌, ◌-◌, ◌<◌, ◌≤◌, not, Bool, true, false, Option, None, Some, IfSome, if◌then◌else◌, List, [], ◌∷◌, ◌++◌, length, take, get_or, set, slice_get, slice_index_or, refl, sym, ◌∙◌, ap, subst, arith, append_assoc}
+use Rattle.std.proofs.Common.{◌≡◌, inl, inr, ℕ, zero, suc, ◌+◌, ◌-◌, ◌<◌, ◌≤◌, not, Bool, true, false, Option, None, Some, IfSome, if◌then◌else◌, List, [], ◌∷◌, ◌++◌, length, take, get_or, set, slice_index_or, refl, sym, ◌∙◌, ap, subst, arith, append_assoc}
 use Rattle.std.proofs.Math.Path.{transport}
-use Rattle.std.proofs.lemmas.List.{append-nil, get_or-set_same, get_or-set_other, length-set, length-take-le, take_all, take_more, take_more_set}
+use Rattle.std.proofs.lemmas.List.{append-nil, get_or-set_same, get_or-set_other, length-set, length-take-le, take_all, take_more}
 use Rattle.std.proofs.lemmas.List.Concat.{flat_map-append}
 use Rattle.ra_indirect.specs.declared.node.Node.{Node}
 use Rattle.ra_memref.specs.Flags.{NoneSet, IsFirstSet}
@@ -28,6 +28,8 @@ use Rattle.ra_meaning.specs.Earned.{is_earned}
 use Rattle.ra_meaning.specs.Openings.{item_after}
 use Rattle.ra_meaning.specs.Play.{item_events, unless_earned}
 use Rattle.ra_items.proofs.ItemsRest.{item_rests}
+use Rattle.ra_items.proofs.Listed.{AreBelow, below_both, below_further, due_is_below, events_here, few_listed}
+use Rattle.ra_items.proofs.Listed.{listed, listed_events, one_below, there}
 use Rattle.ra_items.proofs.RunsLemmas.{length_runs}
 use Rattle.ra_items.proofs.SkippedItems.{still_on, skipped}
 
@@ -60,7 +62,9 @@ pub record IsFar (table : TableSeen) (items : List ItemContents) (olds : List It
   pub room : length rests.stepped.items ≡ length items
   pub within : at ≤ length items
   pub count : rests.count ≤ at
-  pub stepped : take rests.count rests.stepped.items ≡ due_below start.readers.due at
+  pub below : AreBelow at (take rests.count rests.stepped.items)
+  pub told : events_of items runs (take rests.count rests.stepped.items)
+      ≡ events_of items runs (due_below start.readers.due at)
   pub along : IsAlong start rests.schedule
   pub under_way : (item : ItemContents) (r : ItemRun) (b : ItemBefore)
       → AreUnderWay ItemSpot (ItemTook table items item olds before r b) start (spots olds before r b) rests.schedule (spots runs rests r b) at
@@ -117,12 +121,6 @@ events_more (i ∷ items) [] item run long = absurd (omega (arith, long))
 events_more (i ∷ items) (r ∷ runs) item run long =
     ap (λ xs. run_events i r ++ xs) (events_more items runs item run (omega (arith, long))) ∙ sym (append_assoc (run_events i r) (all_events items runs) (run_events item run))
 
--- what stands at a place is there
-there : {A : Type 0} (xs : List A) (k : ℕ) (d : A) → k < length xs → slice_get xs k ≡ Some (get_or xs k d)
-there [] k d within = absurd (omega (arith, within))
-there (x ∷ xs) zero d within = refl
-there (x ∷ xs) (suc k) d within = there xs k d (omega (arith, within))
-
 -- where those that are not due tell nothing, the events of all items are those of the ones that are due
 module _ (table : TableSeen) (items : List ItemContents) (runs : List ItemRun) (due : List Bool) (long : length runs ≡ length items)
     (quiet : (k : ℕ) → k < length items → slice_index_or due k true ≡ false → (item : ItemContents) (r : ItemRun) → run_events (get_or items k item) (get_or runs k r) ≡ []) where
@@ -174,7 +172,8 @@ module _ (table : TableSeen) (frame : IsSomeFrame table) (items : List ItemConte
     room = were.room;
     within = omega arith;
     count = omega arith;
-    stepped = refl;
+    below = tt;
+    told = refl;
     along = along_begins start;
     under_way = λ item r b. taken_begins (Place ItemSpot) start.readers.due (place_of ItemSpot start (spots olds before r b)) (ItemTook table items item olds before r b);
   }
@@ -246,18 +245,42 @@ module _ (table : TableSeen) (frame : IsSomeFrame table) (items : List ItemConte
             (record { run = steps.run; before = steps.before }) steps.rests (steps.is item) (steps.room item)
             (subst (λ k. StepsRest table (get_or items place item) k steps.rests steps.before steps.run) (was item r b) (steps.steps item r b)) (λ yes. steps.keeps yes item))
 
+        abbrev shown : List ℕ
+        shown = take rests.count rests.stepped.items
+
+        listed_now : take after.count after.stepped.items ≡ shown ++ (if steps.tells then place ∷ [] else [])
+        listed_now =
+            (λ i. take (steps.count i) (steps.stepped i))
+            ∙ listed rests.stepped.items rests.count place steps.tells (omega (arith, far.room, far.count, first.after, here))
+
+        due_now : due_below start.readers.due (place + 1) ≡ due_below start.readers.due at ++ place ∷ []
+        due_now =
+            due_more start.readers.due place (sym (same_due place first.after) ∙ first.here)
+            ∙ ap (λ xs. xs ++ place ∷ [])
+            (due_between start.readers.due at place first.after
+            (λ k late early. sym (same_due k late) ∙ first.none_before k late early))
+
         pub far_on : Far news after (place + 1)
         far_on = record {
           runs_too = subst (λ (rs : List ItemRun). AreItemRuns table.nodes items rs) (sym steps.runs) (runs_set table.nodes items runs place steps.run far.runs_too steps.is);
           each_many = ap length steps.each ∙ length-set rests.each.items place steps.before ∙ far.each_many;
           room = ap length steps.stepped ∙ length-set rests.stepped.items rests.count place ∙ far.room;
           within = omega (arith, here);
-          count = omega (arith, steps.count, far.count, first.after);
-          stepped =
-              (λ i. take (steps.count i) (steps.stepped i))
-              ∙ take_more_set rests.stepped.items rests.count place (omega (arith, far.room, far.count, first.after, here))
-              ∙ ap (λ xs. xs ++ place ∷ []) (far.stepped ∙ sym (due_between start.readers.due at place first.after (λ k late early. sym (same_due k late) ∙ first.none_before k late early)))
-              ∙ sym (due_more start.readers.due place (sym (same_due place first.after) ∙ first.here));
+          count = subst (λ n. n ≤ place + 1) (sym steps.count)
+              (few_listed rests.count at place steps.tells far.count first.after);
+          below = subst (AreBelow (place + 1)) (sym listed_now)
+              (below_both (place + 1) shown (if steps.tells then place ∷ [] else [])
+              (below_further at (place + 1) shown (omega (arith, first.after)) far.below)
+              (one_below (place + 1) place steps.tells (omega arith)));
+          told =
+              (λ i. events_of items (steps.runs i) (listed_now i))
+              ∙ listed_events items runs place steps.run shown (due_below start.readers.due at) steps.tells
+              (below_further at place shown first.after far.below)
+              (below_further at place (due_below start.readers.due at) first.after
+              (due_is_below start.readers.due at)) far.told
+              (λ no. events_here items runs place steps.run an_item here (omega (arith, here, runs_many))
+              ∙ steps.silent no an_item)
+              ∙ (λ i. events_of items (sym steps.runs i) (sym due_now i));
           along = along_on start rests.schedule after.schedule place steps.rests far.along steps.schedule;
           under_way = λ item r b.
               under_way_on ItemSpot (ItemTook table items item olds before r b) start (spots olds before r b) rests.schedule (spots runs rests r b) at place far.along (far.under_way item r b) first
@@ -338,4 +361,5 @@ module _ (table : TableSeen) (frame : IsSomeFrame table) (items : List ItemConte
       told_after =
           sym (λ i. all_events (take_all (length items) items (omega arith) i) (take_all (length items) runs (omega (arith, runs_many)) i))
           ∙ all_told table items runs start.readers.due runs_many silent (length items) (omega arith)
-          ∙ ap (events_of items runs) (due_between start.readers.due at (length items) far.within last ∙ sym far.stepped)
+          ∙ ap (events_of items runs) (due_between start.readers.due at (length items) far.within last)
+          ∙ sym far.told

@@ -1,5 +1,5 @@
 -- The item at a place, stepped.
-use Rattle.std.proofs.Common.{◌≡◌, ℕ, ◌+◌, ◌<◌, Bool, true, Option, List, length, map, get_or, set, slice_set, sym, ◌∙◌, ap, subst}
+use Rattle.std.proofs.Common.{◌≡◌, ℕ, ◌+◌, ◌<◌, Bool, true, false, if◌then◌else◌, Option, List, [], length, map, get_or, set, slice_set, sym, ◌∙◌, ap, subst}
 use Rattle.std.proofs.Math.Path.{transport}
 use Rattle.std.proofs.lemmas.List.{get_or-map, get_or_default}
 use Rattle.ra_memref.specs.Table.{TableSeen}
@@ -12,6 +12,7 @@ use Rattle.ra_items.specs.declared.rests.Rests.{Rests}
 use Rattle.ra_items.specs.ItemRuns.{IsItemRun}
 use Rattle.ra_items.specs.Resting.{HasRoom, ItemRests, StepsRest, seen_run}
 use Rattle.ra_items.specs.Rests.{IsSteppedAt}
+use Rattle.ra_items.specs.RunEvents.{run_events}
 use Rattle.ra_items.proofs.RestRuns.{seen_as_told}
 
 -- the contents of the item at a place
@@ -19,22 +20,25 @@ pub contents_at : (items : List Item) (place : ℕ) (item : Item) (d : ItemConte
 contents_at items place item d within is =
     get_or-map item_contents items place item d within ∙ ap item_contents (sym is)
 
-module _ (table : TableSeen) (items : List Item) (place : ℕ) (olds news : List ItemRun) (old new : Rests) (item : Item) (was run : ItemRun) (had before : ItemBefore) (owed : Option ℕ) (rests : Bool)
+module _ (table : TableSeen) (items : List Item) (place : ℕ) (olds news : List ItemRun) (old new : Rests) (item : Item) (was run : ItemRun) (had before : ItemBefore) (owed : Option ℕ) (rests tells : Bool)
     (within : place < length items) (is : item ≡ get_or items place item) (within_runs : place < length olds) (within_each : place < length old.each.items)
     (was_is : was ≡ get_or olds place was) (had_is : had ≡ get_or old.each.items place had) (owed_is : owed ≡ as_hits_tell (owed_at old.schedule place)) where
   pub stepped_at : news ≡ set olds place run → new.each.items ≡ set old.each.items place before → new.schedule ≡ noted_at place rests old.schedule
-      → new.stepped.items ≡ slice_set old.stepped.items old.count place → new.count ≡ old.count + 1
+      → new.stepped.items ≡ slice_set old.stepped.items old.count place → new.count ≡ old.count + (if tells then 1 else 0)
+      → (tells ≡ false → (item : ItemContents) → run_events item run ≡ [])
       → IsItemRun table.nodes (item_contents item) run → HasRoom (item_contents item) before → StepsRest table (item_contents item) (seen_run was had owed) rests before run
       → (rests ≡ true → ItemRests (item_contents item) before run) → IsSteppedAt table (map item_contents items) place olds news old new
-  stepped_at runs each schedule stepped count one room steps keeps = record {
+  stepped_at runs each schedule stepped count silent one room steps keeps = record {
     run = run;
     before = before;
     rests = rests;
+    tells = tells;
     runs = runs;
     each = each;
     schedule = schedule;
     stepped = stepped;
     count = count;
+    silent = λ no d. silent no (get_or (map item_contents items) place d);
     is = λ d. subst (λ (i : ItemContents). IsItemRun table.nodes i run) (sym (contents_at items place item d within is)) one;
     room = λ d. subst (λ (i : ItemContents). HasRoom i before) (sym (contents_at items place item d within is)) room;
     steps = λ d r b.

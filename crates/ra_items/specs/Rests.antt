@@ -1,5 +1,5 @@
 -- All items of a set, of which those that rest are not stepped: docs/INTERNALS.md, "Items at rest".
-use Rattle.std.specs.Prelude.{◌≡◌, ℕ, zero, suc, ◌<◌, ◌≤◌, Bool, true, if◌then◌else◌, Option, Some, List, [], ◌∷◌, ◌++◌, length, take, get_or, set, ◌+◌, slice_get, slice_index_or, slice_set}
+use Rattle.std.specs.Prelude.{◌≡◌, ℕ, zero, suc, ◌<◌, ◌≤◌, Bool, true, false, if◌then◌else◌, Option, Some, List, [], ◌∷◌, ◌++◌, length, take, get_or, set, ◌+◌, slice_get, slice_index_or, slice_set}
 use Rattle.std.specs.List.{flat_map}
 use Rattle.ra_indirect.specs.declared.node.Node.{Node}
 use Rattle.ra_memref.specs.Table.{TableSeen}
@@ -50,7 +50,7 @@ pub record AreRests (nodes : List Node) (values : List ℕ) (items : List ItemCo
 abbrev pub seen_by : List ItemRun → Rests → List KeptItem
 seen_by runs rests = seen_all seen_run (owed_at rests.schedule) runs rests.each.items
 
--- the events of all items are those of the ones that were stepped
+-- the events of all items are those of the ones that are listed: those that were stepped and may tell something
 abbrev pub AreTold : List ItemContents → List ItemRun → Rests → Type 0
 AreTold items runs rests = all_events items runs ≡ events_of items runs (take rests.count rests.stepped.items)
 
@@ -81,16 +81,18 @@ pub record HasPlace (items : List ItemContents) (rests : Rests) (place : ℕ) : 
   pub few : rests.count < length items
   pub rooms : (item : ItemContents) (b : ItemBefore) → HasRoom (get_or items place item) (get_or rests.each.items place b)
 
--- the item at a place is stepped, with what it owed; no other item changes
+-- the item at a place is stepped, with what it owed, and listed where it may tell something; no other item changes
 pub record IsSteppedAt (table : TableSeen) (items : List ItemContents) (place : ℕ) (olds news : List ItemRun) (old new : Rests) : Type 0 where
   pub run : ItemRun
   pub before : ItemBefore
   pub rests : Bool
+  pub tells : Bool
   pub runs : news ≡ set olds place run
   pub each : new.each.items ≡ set old.each.items place before
   pub schedule : new.schedule ≡ noted_at place rests old.schedule
   pub stepped : new.stepped.items ≡ slice_set old.stepped.items old.count place
-  pub count : new.count ≡ old.count + 1
+  pub count : new.count ≡ old.count + (if tells then 1 else 0)
+  pub silent : tells ≡ false → (item : ItemContents) → run_events (get_or items place item) run ≡ []
   pub is : (item : ItemContents) → IsItemRun table.nodes (get_or items place item) run
   pub room : (item : ItemContents) → HasRoom (get_or items place item) before
   pub steps : (item : ItemContents) (r : ItemRun) (b : ItemBefore)

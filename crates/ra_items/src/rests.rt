@@ -11,6 +11,7 @@ ghost use Rattle.ra_items.specs.Rests.{AreFitting, AreItemsTold, AreRests, AreTo
 
 use crate::item_run::ItemRun;
 use crate::rest::{ItemBefore, note_item, step_rest};
+use crate::told::may_tell;
 use ra_memref::Table;
 use ra_schedule::{Schedule, Signals};
 use ra_set::Item;
@@ -22,7 +23,8 @@ use std::alloc::Global;
 pub struct Rests {
     pub each: Vec<ItemBefore>,
     pub schedule: Schedule,
-    /// The places of the items that were stepped at the last frame, in order, as many as are counted.
+    /// The places of the items that were stepped at the last frame and may tell something, in order, as many as are
+    /// counted.
     pub stepped: Vec<u32>,
     pub count: usize,
 }
@@ -78,7 +80,7 @@ impl Rests {
         self.schedule.end();
     }
 
-    /// The places of the items that were stepped at the last frame, in order.
+    /// The places of the items that were stepped at the last frame and may tell something, in order.
     pub fn stepped(&self) -> &[u32]
         requires { self.now.count ≤ length self.now.stepped.items }
         ensures { result.now ≡ take self.now.count self.now.stepped.items }
@@ -103,7 +105,7 @@ impl Rests {
         let item = &items[place];
         let rests = step_rest(run, before, item, table, owed, looked);
         self.stepped[self.count] = place as u32;
-        self.count += 1;
+        self.count += usize::from(may_tell(run));
         self.schedule.note(place, rests);
     }
 

@@ -1,7 +1,7 @@
 ghost use Rattle.ra_items.specs.Rests.{events_at};
-ghost use Rattle.std.specs.Prelude.{map, ◌≡◌, [], ◌++◌, ◌&&◌, ◌||◌, not, IfNone};
+ghost use Rattle.std.specs.Prelude.{map, ◌≡◌, ℕ, false, [], ◌++◌, ◌&&◌, ◌||◌, not, IfNone};
 ghost use Rattle.std.specs.Option.{option_to_list};
-ghost use Rattle.ra_set.specs.Contents.{item_contents};
+ghost use Rattle.ra_set.specs.Contents.{ItemContents, item_contents};
 ghost use Rattle.ra_leaderboard.specs.States as states;
 ghost use Rattle.ra_meaning.specs.Events.{event_if, is_started, same_number};
 ghost use Rattle.ra_items.specs.RunEvents.{achievement_run_events, board_run_events, change_events, measured_event, run_events, told_events};
@@ -128,6 +128,31 @@ impl Told {
         }
         self.fourth.take()
     }
+}
+
+// Whether an item may have events at its last frame: it has none where its state and its number stayed.
+pub(crate) fn may_tell(run: &ItemRun) -> bool
+    ensures { result ≡ false → (item : ItemContents) → run_events item run.now ≡ [] }
+{
+    match run {
+        ItemRun::Achievement(run) => changes(&run.change),
+        ItemRun::Leaderboard(run) => runs_or_changes(&run.change),
+    }
+}
+
+// Whether the state or the measured number of an achievement is another one.
+fn changes(change: &Change) -> bool
+    ensures { result ≡ false → (id : ℕ) → change_events id change.now ≡ [] }
+{
+    change.measured.is_some() || change.before != change.after
+}
+
+// Whether a board runs, or its state is another one.
+fn runs_or_changes(change: &BoardChange) -> bool
+    ensures { result ≡ false → (id : ℕ) (format : Format) (run : BoardRun) → run.change ≡ change.now
+        → board_run_events id format run ≡ [] }
+{
+    is_started(change) || change.before != change.after
 }
 
 // The event of a new measured number, if there is one.

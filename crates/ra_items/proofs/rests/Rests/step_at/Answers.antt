@@ -1,4 +1,4 @@
-use Rattle.std.proofs.Common.{map, get_or, refl, sym, ◌∙◌, ap, subst, arith}
+use Rattle.std.proofs.Common.{◌+◌, map, get_or, refl, sym, ◌∙◌, ap, subst, arith}
 use Rattle.std.proofs.lemmas.List.{length-map}
 use Rattle.ra_set.specs.Contents.{ItemContents, item_contents}
 use Rattle.ra_schedule.specs.Schedules.{ScheduleSeen, noted_at}
@@ -6,6 +6,7 @@ use Rattle.ra_items.specs.declared.rest.ItemBefore.{ItemBefore}
 use Rattle.ra_items.specs.ItemRuns.{IsItemRun}
 use Rattle.ra_items.specs.declared.item_run.ItemRun.{ItemRun}
 use Rattle.ra_items.specs.Resting.{HasRoom, StepsRest, seen_run}
+use Rattle.ra_items.proofs.Listed.{counted}
 use Rattle.ra_items.proofs.RunsLemmas.{length_runs, run_at}
 use Rattle.ra_items.proofs.StepAt.{contents_at, stepped_at}
 use Rattle.ra_items.proofs.rests.Rests.step_at.Goals as goal
@@ -36,8 +37,8 @@ returns c =
     let item = c.index-items-place.result in
     let stepped = c.step_rest-rests in
     let had = c.index_mut-before.result.now in
-    stepped_at c.args.table.now items c.args.place c.args.runs.now _ c.args.self.now _ item c.index-runs-place.result stepped.new.run had stepped.new.before c.owed-owed.result stepped.result
+    stepped_at c.args.table.now items c.args.place c.args.runs.now _ c.args.self.now _ item c.index-runs-place.result stepped.new.run had stepped.new.before c.owed-owed.result stepped.result c.may_tell.result
     c.requires.here c.index-items-place.is (omega (arith, c.requires.here, length_runs c.args.table.now.nodes (map item_contents items) c.args.runs.now c.requires.runs, length-map items item_contents)) (omega (arith, c.requires.here, c.requires.place.many, length-map items item_contents)) c.index-runs-place.is c.index_mut-before.ensures.value c.owed-owed.ensures
-    refl refl (c.note.ensures ∙ ap (λ (s : ScheduleSeen). noted_at c.args.place stepped.result s) c.looks_at-looked.ensures) refl refl stepped.ensures.run stepped.ensures.room
+    refl refl (c.note.ensures ∙ ap (λ (s : ScheduleSeen). noted_at c.args.place stepped.result s) c.looks_at-looked.ensures) refl (ap (λ n. c.args.self.now.count + n) (c.from.ensures ∙ counted c.may_tell.result)) c.may_tell.ensures stepped.ensures.run stepped.ensures.room
     (subst (λ (r : ItemRun). StepsRest c.args.table.now (item_contents item) (seen_run r had c.owed-owed.result) stepped.result stepped.new.before stepped.new.run) (sym c.index-runs-place.is) stepped.ensures.steps)
     stepped.ensures.rests
