@@ -215,7 +215,8 @@ uint32_t meerkat_free(meerkat_game *game);
 uint32_t meerkat_frame(meerkat_game *game, const meerkat_bank *banks, size_t count);
 
 /* The events of the last frame, in the order of the set. None before the first frame, and none after a restore, a take or a reset.
- * *count is how many there are, MEERKAT_MOST_EVENTS at most. MEERKAT_ROOM, MEERKAT_MEMORY, MEERKAT_EMPTY. */
+ * *count is how many there are, at most MEERKAT_MOST_EVENTS of the set's achievements and leaderboards: with room for that
+ * many MEERKAT_ROOM never comes. MEERKAT_ROOM, MEERKAT_MEMORY, MEERKAT_EMPTY. */
 uint32_t meerkat_events(const meerkat_game *game, meerkat_event *out, size_t room, size_t *count);
 
 /* The same events as text, a line each, as "unlock 4 1": the word, the number of the frame, from 0, and the id; numbers of

@@ -1,4 +1,5 @@
 mod AsBox
+mod ByteLemmas
 mod ChooseLemmas
 mod Fresh
 mod GameLemmas
@@ -7,3 +8,4 @@ mod MostLemmas
 mod Taken
 mod ShownTexts
 mod SlotLemmas
+mod StandLemmas

@@ -1,5 +1,6 @@
 -- A frame has few events.
-use Rattle.std.proofs.Common.{◌≡◌, ℕ, ◌+◌, ◌≤◌, ◌&&◌, ◌||◌, not, Bool, true, false, List, [], ◌∷◌, ◌++◌, length, length-append, zip, arith}
+use Rattle.std.proofs.Common.{ℕ, ◌+◌, ◌≤◌, ◌&&◌, ◌||◌, not, Bool, true, false}
+use Rattle.std.proofs.Common.{List, [], ◌∷◌, ◌++◌, length, length-append, zip, arith}
 use Rattle.std.specs.List.{flat_map}
 use Rattle.std.proofs.lemmas.List.Sums.{sum_by-cons}
 use Rattle.ra_leaderboard.specs.States.{became_started, became_cancelled, became_submitted}
@@ -9,8 +10,8 @@ use Rattle.ra_memory.specs.Image.{History}
 use Rattle.ra_memref.specs.Values.{Start}
 use Rattle.ra_progress.specs.Contents.{KeptItem, Opening}
 use Rattle.ra_set.specs.Contents.{ItemContents, SetContents, Unlocks, Ranks}
-use Rattle.ra_trigger.specs.States.{is_primed, is_triggered}
-use Rattle.ra_meaning.specs.Boards.{board_after, opened_board, tracked_number, value_number}
+use Rattle.ra_trigger.specs.States.{is_primed}
+use Rattle.ra_meaning.specs.Boards.{board_after, opened_board, tracked_number}
 use Rattle.ra_meaning.specs.Earned.{Earned}
 use Rattle.ra_meaning.specs.Events.{event_if, is_started, same_number}
 use Rattle.ra_meaning.specs.Histories.{achievement_after}

@@ -1,5 +1,5 @@
 -- Kept states in slots.
-use Rattle.std.proofs.Common.{◌≡◌, ℕ, zero, suc, ◌<◌, List, [], ◌∷◌, length, map, Option, Some, None, Result, Ok, Err, OnOk, OnErr, subst, sym, arith}
+use Rattle.std.proofs.Common.{◌≡◌, ℕ, zero, suc, List, [], ◌∷◌, Some, Result, Ok, Err, OnOk, OnErr, subst, sym, arith}
 use Rattle.std.specs.Prelude.{All, slice_get}
 use Rattle.ra_progress.specs.Contents.{IsOpening, ShapeContents}
 use Rattle.ra_runtime.specs.Keeping.{IsKeptFor, KeptSeen}

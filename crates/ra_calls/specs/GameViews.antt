@@ -2,9 +2,9 @@
 use Rattle.std.specs.Prelude.{◌≡◌, ◌≤◌, ◌^◌, IfSome, All, List, map}
 use Rattle.ra_set.specs.Accepted.{IsSet}
 use Rattle.ra_progress.specs.Contents.{Opening}
-use Rattle.ra_meaning.specs.Order.{shape_of}
-use Rattle.ra_runtime.specs.Keeping.{IsKeptFor, KeptSeen}
+use Rattle.ra_runtime.specs.Keeping.{KeptSeen}
 use Rattle.ra_calls.specs.Games.{GameSeen}
+use Rattle.ra_calls.specs.Standing.{IsSlotOf}
 use Rattle.ra_calls.specs.declared.game.Game.TheInside.{Inside}
 
 -- the openings of kept states
@@ -15,9 +15,10 @@ openings_of slots = map (λ kept. kept.opening) slots
 abbrev pub game_seen : Inside → GameSeen
 game_seen t = record { course = t.held; recording = t.recording; slots = openings_of t.slots.items }
 
--- the text spells the set, what is recorded is over memories of the same size, and what is kept is of the set
+-- The text spells the set, what is recorded is over memories of the same size, and what is kept is of the set and has
+-- stood.
 pub record IsGame (t : Inside) : Type 0 where
   pub spelled : IsSet t.text.items t.held.set
   pub small : t.held.size ≤ 2 ^ 27
   pub alike : IfSome t.recording (λ r. r.size ≡ t.held.size)
-  pub kept : All (IsKeptFor (shape_of t.held.set)) t.slots.items
+  pub kept : All (IsSlotOf t.held.set) t.slots.items

@@ -10,6 +10,7 @@ pub mod RecordingViews
 pub mod Recordings
 pub mod Shows
 pub mod Slots
+pub mod Standing
 pub mod Tellings
 pub mod ToldCells
 pub mod ToldEvents

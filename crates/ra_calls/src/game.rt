@@ -3,10 +3,12 @@ ghost use Rattle.std.specs.Prelude.{[], All, slice_set, true, None, Some, IsSome
 ghost use Rattle.ra_banks.specs.Banks.{bytes_of};
 ghost use Rattle.ra_progress.specs.Layout.{length_of};
 ghost use Rattle.ra_meaning.specs.Order.{shape_of};
-ghost use Rattle.ra_runtime.specs.Keeping.{IsKeptFor};
 ghost use Rattle.ra_set.specs.Refusals.{Refuses};
 ghost use Rattle.ra_calls.specs.GameViews.{openings_of};
+ghost use Rattle.ra_calls.specs.Most.{IsWithinMost};
+ghost use Rattle.ra_calls.specs.Standing.{IsSlotOf};
 
+use crate::bytes::are_bytes;
 use crate::choosing::find_trigger;
 use crate::held::Held;
 use crate::recording::{Recorded, Told, follow_too};
@@ -137,6 +139,7 @@ impl Game {
         ensures recorded { RecordsFrame (bytes_of banks.now) self.old.recording self.new.recording }
         ensures slots { self.new.slots ≡ self.old.slots }
     {
+        are_bytes(banks);
         let mut steps = Steps::<L>::open(blank);
         let mut image = Banks {
             row: Row::new(banks),
@@ -148,7 +151,8 @@ impl Game {
 
     /// The events of the last frame.
     pub fn events(&self, alloc: Global) -> Result<Vec<ToldEvent>, OutOfMemory>
-        ensures { IfOk result (λ told. AreEventsOf self.now.course told.items) }
+        ensures told { IfOk result (λ told. AreEventsOf self.now.course told.items) }
+        ensures most { IfOk result (λ told. IsWithinMost (length told.items) self.now.course) }
     {
         self.held.events(alloc)
     }
@@ -345,9 +349,9 @@ impl Game {
 // Keeps the present state in one of these slots.
 fn keep_at(held: &Held, slots: &mut [Kept], place: usize)
     requires within { place < length slots.old }
-    requires of_set { All (IsKeptFor (shape_of held.now.set)) slots.old }
+    requires of_set { All (IsSlotOf held.now.set) slots.old }
     ensures kept { openings_of slots.new ≡ slice_set (openings_of slots.old) place held.now.kept }
-    ensures of_set { All (IsKeptFor (shape_of held.now.set)) slots.new }
+    ensures of_set { All (IsSlotOf held.now.set) slots.new }
 {
     held.keep(&mut slots[place]);
 }

@@ -7,6 +7,7 @@ ghost use Rattle.ra_progress.specs.Layout.{length_of};
 ghost use Rattle.ra_meaning.specs.Order.{shape_of};
 ghost use Rattle.ra_goals.specs.Goals.{goal_of};
 ghost use Rattle.ra_calls.specs.Answers.{IsLoaded};
+ghost use Rattle.ra_calls.specs.Most.{IsWithinMost};
 
 use crate::kept_slots::{keep_in, slots_of, take_from};
 use crate::showing::presence_of;
@@ -65,7 +66,9 @@ impl Held {
     ghost use Rattle.ra_calls.specs.Answers.{AreEventsOf, AreLinesOf, BeginsAgain, EarnsIds, IsSaveOf, RefusesProgress, TakesImage, TakesProgress};
     ghost use Rattle.ra_calls.specs.GameViews.{openings_of};
     ghost use Rattle.ra_calls.specs.Shows.{IsShownBy};
-    ghost use Rattle.ra_runtime.specs.Keeping.{IsKeptFor, Takes};
+    ghost use Rattle.ra_calls.specs.Standing.{IsSlotOf};
+    ghost use Rattle.ra_memory.specs.Image.{AreBytes};
+    ghost use Rattle.ra_runtime.specs.Keeping.{Takes};
     ghost use Rattle.ra_calls.specs.ToldItems.{AreItemsOf, number_in};
 
     /// The course of a set's text over memories of `size` bytes.
@@ -116,6 +119,7 @@ impl Held {
     /// Takes one frame of an image of the size.
     pub fn follow<I: Image>(&mut self, image: &mut I)
         requires size { length (I.bytes image.old) ≡ self.old.size }
+        requires are_bytes { AreBytes (I.bytes image.old) }
         ensures taken { TakesImage (I.bytes image.old) self.old self.new }
         ensures bytes { I.bytes image.new ≡ I.bytes image.old }
     {
@@ -124,7 +128,8 @@ impl Held {
 
     /// The events of the last frame.
     pub fn events(&self, alloc: Global) -> Result<Vec<ToldEvent>, OutOfMemory>
-        ensures { IfOk result (λ told. AreEventsOf self.now told.items) }
+        ensures told { IfOk result (λ told. AreEventsOf self.now told.items) }
+        ensures most { IfOk result (λ told. IsWithinMost (length told.items) self.now) }
     {
         let mut told = Vec::new(alloc);
         for event in self.course.events() {
@@ -226,23 +231,23 @@ impl Held {
     /// This many kept states, each the present one.
     pub fn slots(&self, alloc: Global, count: u32) -> Result<Vec<Kept>, OutOfMemory>
         ensures present { IfOk result (λ slots. openings_of slots.items ≡ replicate count self.now.kept) }
-        ensures of_set { IfOk result (λ slots. All (IsKeptFor (shape_of self.now.set)) slots.items) }
+        ensures of_set { IfOk result (λ slots. All (IsSlotOf self.now.set) slots.items) }
     {
         slots_of(alloc, &self.course, count)
     }
 
     /// Keeps the present state in the place of a kept one of this set.
     pub fn keep(&self, kept: &mut Kept)
-        requires { IsKeptFor (shape_of self.now.set) kept.old }
+        requires { IsSlotOf self.now.set kept.old }
         ensures opening { kept.new.opening ≡ self.now.kept }
-        ensures of_set { IsKeptFor (shape_of self.now.set) kept.new }
+        ensures of_set { IsSlotOf self.now.set kept.new }
     {
         keep_in(&self.course, kept);
     }
 
     /// Takes up a kept state of this set.
     pub fn take(&mut self, kept: &Kept)
-        requires { IsKeptFor (shape_of self.old.set) kept.now }
+        requires { IsSlotOf self.old.set kept.now }
         ensures { Takes self.old self.new kept.now.opening }
     {
         take_from(&mut self.course, kept);

@@ -2,6 +2,7 @@
 
 ghost use Rattle.std.specs.Prelude.{◌≡◌, All, IfOk, replicate};
 ghost use Rattle.ra_calls.specs.GameViews.{openings_of};
+ghost use Rattle.ra_calls.specs.Standing.{HasStood, IsSlotOf};
 ghost use Rattle.ra_meaning.specs.Order.{shape_of};
 ghost use Rattle.ra_runtime.specs.Keeping.{IsKeptFor, Takes};
 
@@ -11,8 +12,9 @@ use std::alloc::Global;
 
 /// This many kept states of a course, each the present one.
 pub fn slots_of(alloc: Global, course: &Course, count: u32) -> Result<Vec<Kept>, OutOfMemory>
+    requires { HasStood course.now.set course.now.kept }
     ensures present { IfOk result (λ slots. openings_of slots.items ≡ replicate count course.now.kept) }
-    ensures of_set { IfOk result (λ slots. All (IsKeptFor (shape_of course.now.set)) slots.items) }
+    ensures of_set { IfOk result (λ slots. All (IsSlotOf course.now.set) slots.items) }
 {
     let mut slots = Vec::new(alloc);
     for _ in 0..count {
@@ -24,9 +26,10 @@ pub fn slots_of(alloc: Global, course: &Course, count: u32) -> Result<Vec<Kept>,
 
 /// Keeps the present state of a course in the place of a kept one of its set.
 pub fn keep_in(course: &Course, kept: &mut Kept)
-    requires { IsKeptFor (shape_of course.now.set) kept.old }
+    requires stood { HasStood course.now.set course.now.kept }
+    requires of_set { IsSlotOf course.now.set kept.old }
     ensures opening { kept.new.opening ≡ course.now.kept }
-    ensures of_set { IsKeptFor (shape_of course.now.set) kept.new }
+    ensures of_set { IsSlotOf course.now.set kept.new }
 {
     let _ = course.keep(kept);
 }

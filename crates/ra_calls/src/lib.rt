@@ -3,6 +3,7 @@
 //! `ra_c` exports these calls; each does one thing that an emulator does, and states the clause of the call below it.
 #![tactic(auto)]
 
+mod bytes;
 mod cell;
 mod choosing;
 mod explaining;

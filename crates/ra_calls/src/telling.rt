@@ -1,8 +1,9 @@
-ghost use Rattle.std.specs.Prelude.{◌≡◌, ◌≢◌, ◌⊎◌, MatchResult, option_map};
+ghost use Rattle.std.specs.Prelude.{◌≡◌, ◌≢◌, ◌⊎◌, IsSomeAnd, MatchResult, option_map};
 ghost use Rattle.ra_calls.specs.Answers.{AnswersTold, AreEventsOf, AreLinesOf, Calls};
 ghost use Rattle.ra_judge.specs.Codes.{done, memory, no_room, empty};
 ghost use Rattle.ra_judge.specs.Giving.{GivesText};
 ghost use Rattle.ra_calls.specs.Handles.{held_in, recorded_in, slots_in};
+ghost use Rattle.ra_calls.specs.Most.{IsWithinMost};
 ghost use Rattle.ra_calls.specs.Shows.{IsShownBy};
 ghost use Rattle.ra_calls.specs.ToldCells.{AreCellsOf};
 ghost use Rattle.ra_calls.specs.ToldItems.{AnswersNumber, AreItemsOf};
@@ -18,12 +19,15 @@ use std::alloc::Global;
 
 /// The events of the last frame, items in set order: docs/DEFINITIONS.md, "Calls from C" and "Events".
 ///
-/// None where no frame came. `ROOM` where there is too little room; the count is that of all of them. `MEMORY` for
-/// running out of memory.
+/// None where no frame came, and at most three of each achievement and two of each leaderboard. `ROOM` where there is too
+/// little room; the count is that of all of them. `MEMORY` where memory runs out.
 pub fn events(alloc: Global, handle: &mut Handle, out: &mut [ToldEvent], count: &mut usize) -> u32
-    ensures told { Calls (AnswersTold AreEventsOf out.old out.new count.new result) result (held_in handle.old) (held_in handle.new) }
+    ensures told { Calls (AnswersTold AreEventsOf out.old out.new count.new result)
+        result (held_in handle.old) (held_in handle.new) }
     ensures recording { recorded_in handle.new ≡ recorded_in handle.old }
     ensures slots { slots_in handle.new ≡ slots_in handle.old }
+    ensures most { (result ≡ done) ⊎ (result ≡ no_room)
+        → IsSomeAnd (held_in handle.old) (IsWithinMost count.new) }
     ensures unwritten { result ≢ done → out.new ≡ out.old }
     ensures uncounted { (result ≡ memory) ⊎ (result ≡ empty) → count.new ≡ count.old }
 {
