@@ -1,7 +1,8 @@
-ghost use Rattle.std.specs.Prelude.{◌≡◌, ◌≢◌, ◌⊎◌, ◌↔◌, ◌<◌, ◌^◌, [], None, IsSomeAnd};
-ghost use Rattle.ra_calls.specs.Answers.{IsLoaded, IsRefusedText};
+ghost use Rattle.std.specs.Prelude.{◌≡◌, ◌≢◌, ◌⊎◌, ◌↔◌, ◌<◌, ◌^◌, None, IsSomeAnd};
+ghost use Rattle.ra_calls.specs.Answers.{IsRefusedText};
 ghost use Rattle.ra_judge.specs.Codes.{done, memory, no_set, out_of_range, empty, full};
-ghost use Rattle.ra_calls.specs.Handles.{held_in, recorded_in, slots_in};
+ghost use Rattle.ra_calls.specs.Games.{IsNew};
+ghost use Rattle.ra_calls.specs.Handles.{held_in, whole_in};
 
 use ra_calls::Handle;
 use ra_judge::Refusal;
@@ -21,15 +22,16 @@ pub extern "C" fn meerkat_new(
 ) -> u32
     ensures held { result ≡ full ↔ held_in handle.old ≢ None }
     ensures range { result ≡ out_of_range ↔ ((held_in handle.old ≡ None) × (2 ^ 27 < size)) }
-    ensures made { result ≡ done → IsSomeAnd (held_in handle.new) (IsLoaded text.now size) }
-    ensures unrecorded { result ≡ done → recorded_in handle.new ≡ None }
+    ensures other { (result ≡ done) ⊎ ((result ≡ memory)
+        ⊎ ((result ≡ no_set) ⊎ ((result ≡ out_of_range) ⊎ (result ≡ full)))) }
+
+    // what the handle holds then
+    ensures made { result ≡ done → IsSomeAnd (whole_in handle.new) (IsNew text.now size) }
+    ensures kept { result ≢ done → whole_in handle.new ≡ whole_in handle.old }
+
+    // the reason
     ensures refused { result ≡ no_set → IsRefusedText text.now why.new }
-    ensures kept { result ≢ done → held_in handle.new ≡ held_in handle.old }
-    ensures recording { result ≢ done → recorded_in handle.new ≡ recorded_in handle.old }
-    ensures slotless { result ≡ done → slots_in handle.new ≡ [] }
-    ensures slots { result ≢ done → slots_in handle.new ≡ slots_in handle.old }
     ensures unsaid { result ≢ no_set → why.new ≡ why.old }
-    ensures other { (result ≡ done) ⊎ ((result ≡ memory) ⊎ ((result ≡ no_set) ⊎ ((result ≡ out_of_range) ⊎ (result ≡ full)))) }
 {
     ra_calls::make(alloc, text, size, handle, why)
 }

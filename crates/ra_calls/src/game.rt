@@ -1,5 +1,5 @@
 ghost use Rattle.std.specs.Prelude.{◌≡◌, ◌≢◌, ◌⊎◌, ◌<◌, ◌≤◌, ◌^◌};
-ghost use Rattle.std.specs.Prelude.{[], All, slice_set, true, None, Some, IsSomeAnd, IfOk, IfErr, OnOk, OnErr, length, option_map};
+ghost use Rattle.std.specs.Prelude.{All, slice_set, true, None, Some, IsSomeAnd, IfOk, IfErr, OnOk, OnErr, length, option_map};
 ghost use Rattle.ra_banks.specs.Banks.{bytes_of};
 ghost use Rattle.ra_progress.specs.Layout.{length_of};
 ghost use Rattle.ra_meaning.specs.Order.{shape_of};
@@ -60,7 +60,8 @@ fn copied(alloc: Global, text: &[u8]) -> Result<Vec<u8>, OutOfMemory>
 }
 
 impl Game {
-    ghost use Rattle.ra_calls.specs.Answers.{AnswersEarn, AnswersFrame, AreEventsOf, AreLinesOf, BeginsAgain, IsLoaded, IsSaveOf, RefusesProgress, TakesImage, TakesProgress};
+    ghost use Rattle.ra_calls.specs.Answers.{AnswersEarn, AnswersFrame, AreEventsOf, AreLinesOf, BeginsAgain, IsSaveOf, RefusesProgress, TakesImage, TakesProgress};
+    ghost use Rattle.ra_calls.specs.Games.{IsNew};
     ghost use Rattle.ra_calls.specs.Recordings.{AnswersRecord, IsOfId, RecordsCall, RecordsFrame};
     ghost use Rattle.ra_calls.specs.Shows.{IsShownBy};
     ghost use Rattle.ra_calls.specs.Slots.{AnswersKeep, AnswersSlots, AnswersTake};
@@ -75,9 +76,7 @@ impl Game {
     /// `Memory` tells that memory ran out.
     pub fn boxed(alloc: Global, text: &[u8], size: u32) -> Result<Box<Game>, SetRefused>
         requires { size ≤ 2 ^ 27 }
-        ensures loaded { IfOk result (λ game. IsLoaded text.now size game.value.course) }
-        ensures unrecorded { IfOk result (λ game. game.value.recording ≡ None) }
-        ensures slotless { IfOk result (λ game. game.value.slots ≡ []) }
+        ensures made { IfOk result (λ game. IsNew text.now size game.value) }
         ensures refused { IfErr result (λ why. why ≡ SetRefused.Memory ⊎ Refuses text.now why) }
     {
         let game = Game::made(alloc, text, size)?;
@@ -93,9 +92,7 @@ impl Game {
     // The same, without its box.
     fn made(alloc: Global, text: &[u8], size: u32) -> Result<Game, SetRefused>
         requires { size ≤ 2 ^ 27 }
-        ensures loaded { IfOk result (λ game. IsLoaded text.now size game.course) }
-        ensures unrecorded { IfOk result (λ game. game.recording ≡ None) }
-        ensures slotless { IfOk result (λ game. game.slots ≡ []) }
+        ensures made { IfOk result (IsNew text.now size) }
         ensures refused { IfErr result (λ why. why ≡ SetRefused.Memory ⊎ Refuses text.now why) }
     {
         let held = Held::new(alloc, text, size)?;
