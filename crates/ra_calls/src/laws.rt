@@ -33,12 +33,18 @@ pub fn sets_stay()
     ensures take { (o : Opening) (old new : CourseSeen) → Takes old new o → new.set ≡ old.set }
 {}
 
-// Takes a value that may go to another thread.
-fn goes_anywhere<T: Send>(_value: &T) {}
+// A value that may go to another thread.
+fn sent<T: Send>(value: T) -> T
+    ensures { result ≡ value }
+{
+    value
+}
 
 /// A handle may go to another thread, with all that it holds: docs/DEFINITIONS.md, "Calls from C".
 ///
-/// A law of its type: it does nothing.
-pub fn handles_cross(handle: &Handle) {
-    goes_anywhere(handle);
+/// A law of its type: what is given comes back.
+pub fn handles_cross(handle: Handle) -> Handle
+    ensures { result ≡ handle }
+{
+    sent(handle)
 }
