@@ -6,6 +6,7 @@ pub mod GreatestLemmas
 pub mod GroupLemmas
 pub mod NearLemmas
 pub mod RefillLemmas
+pub mod StopLemmas
 pub mod WidthLemmas
 pub mod ToldLemmas
 pub mod WantLemmas

@@ -7,6 +7,7 @@ pub mod Greatest
 pub mod Groups
 pub mod Marks
 pub mod Nearness
+pub mod Stops
 pub mod Text
 pub mod Triggers
 pub mod Wanting

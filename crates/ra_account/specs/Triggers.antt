@@ -1,6 +1,7 @@
 -- The account of a trigger: docs/DEFINITIONS.md, "Account of an achievement". A list has a row for each frame, the newest first.
-use Rattle.std.specs.Prelude.{◌≡◌, ℕ, ◌≤◌, List, length, map}
+use Rattle.std.specs.Prelude.{◌≡◌, ℕ, ◌≤◌, Bool, List, length, map}
 use Rattle.ra_condition.specs.Contents.{TriggerContents, trigger_hits}
+use Rattle.ra_trigger.specs.Steps.{together}
 use Rattle.ra_account.specs.declared.moment.Moment.{Moment}
 use Rattle.ra_account.specs.declared.trigger_account.TriggerAccount.{TriggerAccount}
 use Rattle.ra_account.specs.Counting.{times_of}
@@ -12,6 +13,17 @@ use Rattle.ra_account.specs.Groups.{GroupRow, AllFit, AllGroupsStandAt, AreGroup
 pub record TriggerRow : Type 0 where
   pub moment : Moment
   pub row : GroupRow
+
+-- what a frame shows of a trigger, by its row, and by whether it was waiting and is valid
+abbrev pub row_with : TriggerContents → (waited : Bool) → GroupRow → TriggerRow
+row_with t waited row = record {
+  moment = record {
+    reset = (together t row.truths row.lefts row.hits).reset;
+    paused = (together t row.truths row.lefts row.hits).paused;
+    waited = waited;
+  };
+  row = row;
+}
 
 -- what a frame wants, and whether it has a reset
 abbrev pub lack_of : TriggerContents → TriggerRow → Lack

@@ -1,20 +1,23 @@
 //! A frame noted in the accounts of the conditions of a group.
 
-ghost use Rattle.std.specs.Prelude.{◌≡◌, ℕ, ◌+◌, ◌<◌, ◌≤◌, ◌^◌, ◌∷◌, List, length, false, slice_index_or};
+ghost use Rattle.std.specs.Prelude.{◌≡◌, ℕ, ◌+◌, ◌<◌, ◌≤◌, ◌^◌, ◌∷◌, ◌&&◌, List, length, false, not, slice_index_or};
+ghost use Rattle.ra_condition.specs.Flags.{is_reset};
 ghost use Rattle.ra_group.specs.Equations.{frame_of};
 ghost use Rattle.ra_account.specs.Groups.{ArePausing, IsRowOf};
 ghost use Rattle.ra_account.specs.Conditions.{AllStandAt, AreAccounts};
 ghost use Rattle.ra_account.specs.Facts.{facts_at, pointer_by, wanted_at};
+ghost use Rattle.ra_account.specs.Stops.{stops_of};
 ghost use Rattle.ra_account.specs.declared.facts.Facts.{Facts};
 
 use crate::condition::ConditionAccount;
 use crate::facts::{Around, facts_of, is_wanted};
 use crate::stands::stand_group;
+use crate::stops::Stops;
 use ra_condition::{Condition, Flag};
 use ra_group::Standing;
 
 // Notes in the account of each condition of a group what the frame `at` shows of it, after all frames before it, and
-// tells which of them the frame wants, over a memory of `size` bytes.
+// tells which of them the frame wants, over a memory of `size` bytes, and what stops the group.
 //
 // All slices have an entry for each condition; what is in `room` is overwritten.
 pub(crate) fn note_group(
@@ -29,7 +32,7 @@ pub(crate) fn note_group(
     room: &mut [Standing],
     wants: &mut [bool],
     accounts: &mut [ConditionAccount],
-)
+) -> Stops
     requires few { length conditions.now ≤ 2 ^ 32 }
     requires frames { at < 2 ^ 60 }
     requires pausing { ArePausing conditions.now pausing.now }
@@ -46,8 +49,10 @@ pub(crate) fn note_group(
     ensures stand { AllStandAt (at + 1) accounts.new }
     ensures wanted { (j : ℕ) → j < length conditions.now → slice_index_or wants.new j false
         ≡ wanted_at (frame_of conditions.now truths.now lefts.now hits.now) j }
+    ensures stops { result ≡ stops_of (frame_of conditions.now truths.now lefts.now hits.now) }
 {
     let paused = stand_group(conditions, truths, hits, room);
+    let mut resets = false;
     let mut pointer = 0;
     for place in 0..least(conditions, pausing, lefts, rights, room, wants, accounts) {
         let condition = &conditions[place];
@@ -60,8 +65,27 @@ pub(crate) fn note_group(
         let fact = facts_of(condition, room[place], around, lefts[place], rights[place]);
         accounts[place].note(at, fact);
         wants[place] = is_wanted(condition, paused, room[place].valid);
+        resets |= is_valid_reset(condition, room[place]);
         pointer = pointer_behind(condition, lefts[place]);
     }
+    stops_by(paused, resets)
+}
+
+// What stops a group, by whether it is paused and whether a ResetIf of it is valid.
+fn stops_by(paused: bool, resets: bool) -> Stops
+    ensures { result ≡ record { paused = paused; reset = not paused && resets } }
+{
+    Stops {
+        paused,
+        reset: !paused && resets,
+    }
+}
+
+// Whether a condition is a ResetIf that is valid.
+fn is_valid_reset(condition: &Condition, standing: Standing) -> bool
+    ensures { result ≡ (is_reset condition.now.flag && standing.valid) }
+{
+    matches!(condition.flag, Flag::ResetIf) && standing.valid
 }
 
 // The least of the lengths of these rows, which are as long as each other: it tells the compiler so, and then no place

@@ -2,9 +2,12 @@ ghost use Rattle.std.specs.Prelude.{◌≡◌, ℕ, ◌+◌, ◌<◌, ◌≤◌,
 ghost use Rattle.ra_condition.specs.Contents.{group_contents};
 ghost use Rattle.ra_account.specs.Conditions.{AllStandAt, AreAccounts};
 ghost use Rattle.ra_account.specs.Groups.{GroupRow, IsGroupAccount, GroupStandsAt, FitsGroup, IsRowOf, wants_of};
+ghost use Rattle.ra_account.specs.Stops.{stops_of};
+ghost use Rattle.ra_group.specs.Equations.{frame_of};
 
 use crate::condition::ConditionAccount;
 use crate::group::note_group;
+use crate::stops::Stops;
 use ra_chain::pausing_of;
 use ra_condition::Group;
 use ra_group::Standing;
@@ -45,7 +48,7 @@ impl GroupAccount {
     }
 
     /// Notes what the frame `at` shows of the group's conditions over a memory of `size` bytes, after all frames
-    /// before it.
+    /// before it, and tells what stops the group.
     ///
     /// The slices have the comparison, the left and the right value and the hits before the frame of each condition.
     pub fn note(
@@ -57,7 +60,7 @@ impl GroupAccount {
         lefts: &[u32],
         rights: &[u32],
         hits: &[u32],
-    )
+    ) -> Stops
         requires fits { FitsGroup (group_contents group.now) self.old }
         requires stands { GroupStandsAt at self.old }
         requires frames { at < 2 ^ 60 }
@@ -71,6 +74,7 @@ impl GroupAccount {
             (record { truths = truths.now; lefts = lefts.now; rights = rights.now; hits = hits.now } ∷ earlier) self.new }
         ensures wants { self.new.wants.items ≡ wants_of (group_contents group.now)
             (record { truths = truths.now; lefts = lefts.now; rights = rights.now; hits = hits.now }) }
+        ensures stops { result ≡ stops_of (frame_of (group_contents group.now) truths.now lefts.now hits.now) }
     {
         note_group(
             &group.conditions,
@@ -84,7 +88,7 @@ impl GroupAccount {
             &mut self.room,
             &mut self.wants,
             &mut self.conditions,
-        );
+        )
     }
 }
 

@@ -1,7 +1,7 @@
-ghost use Rattle.std.specs.Prelude.{◌≡◌, ℕ, ◌+◌, ◌<◌, ◌≤◌, ◌^◌, ◌∷◌, [], length, map, sum_by, List, IfOk};
+ghost use Rattle.std.specs.Prelude.{◌≡◌, ℕ, ◌+◌, ◌<◌, ◌≤◌, ◌^◌, ◌&&◌, ◌||◌, not, ◌∷◌, [], length, map, sum_by, List, IfOk};
 ghost use Rattle.ra_condition.specs.Contents.{TriggerContents, group_contents, trigger_contents, trigger_hits};
 ghost use Rattle.ra_account.specs.Groups.{AllFit, AllGroupsStandAt, AreGroupAccounts, IsRowOf};
-ghost use Rattle.ra_account.specs.Triggers.{TriggerRow, IsReady, IsTriggerAccount};
+ghost use Rattle.ra_account.specs.Triggers.{TriggerRow, IsReady, IsTriggerAccount, row_with};
 
 use crate::copying::copy_trigger;
 use crate::gathering::gather_wants;
@@ -9,6 +9,7 @@ use crate::group_account::GroupAccount;
 use crate::groups::note_groups;
 use crate::moment::Moment;
 use crate::nearest::Nearest;
+use crate::stops::Stops;
 use crate::times::Times;
 use ra_condition::{Group, TriggerText};
 use ra_text::OutOfMemory;
@@ -61,7 +62,7 @@ impl TriggerAccount {
         })
     }
 
-    /// Notes one frame more over a memory of `size` bytes.
+    /// Notes one frame more over a memory of `size` bytes, at which the trigger `waited` and is valid, or not.
     ///
     /// The slices have the comparison, the left and the right value and the hits before the frame of each condition,
     /// core first.
@@ -69,7 +70,7 @@ impl TriggerAccount {
         &mut self,
         text: &TriggerText,
         size: u32,
-        now: Moment,
+        waited: bool,
         truths: &[bool],
         lefts: &[u32],
         rights: &[u32],
@@ -83,14 +84,13 @@ impl TriggerAccount {
         ensures ready { IsReady (trigger_contents text.now) self.new }
         ensures counted { self.new.frames ≡ self.old.frames + 1 }
         ensures noted { (earlier : List TriggerRow) → IsTriggerAccount (trigger_contents text.now) size earlier self.old
-            → IsTriggerAccount (trigger_contents text.now) size (record {
-              moment = now;
-              row = record { truths = truths.now; lefts = lefts.now; rights = rights.now; hits = hits.now };
-            } ∷ earlier) self.new }
+            → IsTriggerAccount (trigger_contents text.now) size (row_with (trigger_contents text.now) waited
+            (record { truths = truths.now; lefts = lefts.now; rights = rights.now; hits = hits.now }) ∷ earlier)
+            self.new }
     {
         let at = self.frames;
         let count = text.core.conditions.len();
-        self.core.note(
+        let core = self.core.note(
             &text.core,
             size,
             at,
@@ -99,7 +99,7 @@ impl TriggerAccount {
             &rights[..count],
             &hits[..count],
         );
-        note_groups(
+        let alts = note_groups(
             &mut self.alts,
             &text.alts,
             size,
@@ -110,6 +110,7 @@ impl TriggerAccount {
             rights,
             hits,
         );
+        let now = moment_of(core, alts, !text.alts.is_empty(), waited);
         self.resets.note(at, now.reset);
         self.paused.note(at, now.paused);
         self.waited.note(at, now.waited);
@@ -126,6 +127,21 @@ impl TriggerAccount {
             → IsTriggerAccount t size frames self.now → IfOk result (IsTriggerAccount t size frames) }
     {
         copy_trigger(alloc, self)
+    }
+}
+
+// What a trigger as a whole is, by what stops its core, what stops its alts together, and whether there are alts.
+fn moment_of(core: Stops, alts: Stops, some: bool, waited: bool) -> Moment
+    ensures { result ≡ record {
+      reset = core.reset || alts.reset;
+      paused = core.paused || (some && alts.paused);
+      waited = waited;
+    } }
+{
+    Moment {
+        reset: core.reset || alts.reset,
+        paused: core.paused || some && alts.paused,
+        waited,
     }
 }
 

@@ -4,7 +4,7 @@ ghost use Rattle.std.specs.Prelude.{◌≡◌, ◌+◌, ◌<◌, ◌≤◌, leng
 ghost use Rattle.ra_condition.specs.Contents.{trigger_contents, trigger_hits};
 ghost use Rattle.ra_account.specs.Triggers.{IsReady};
 
-use ra_account::{ConditionAccount, Moment, TriggerAccount};
+use ra_account::{ConditionAccount, TriggerAccount};
 use ra_condition::{TriggerText, parse_trigger};
 use ra_trigger::Trigger;
 use std::alloc::Global;
@@ -13,7 +13,7 @@ use std::test::Fail;
 /// What a frame shows of a trigger.
 #[derive(Clone, Copy)]
 pub struct Told {
-    moment: Moment,
+    waited: bool,
     truths: &'static [bool],
     lefts: &'static [u32],
     rights: &'static [u32],
@@ -38,7 +38,7 @@ fn tell(
         return Err(Fail::from("a row of other conditions"));
     }
     account.note(
-        text, 64, now.moment, now.truths, now.lefts, now.rights, now.hits,
+        text, 64, now.waited, now.truths, now.lefts, now.rights, now.hits,
     );
     Ok(())
 }
@@ -102,11 +102,7 @@ fn is_told(lines: &[Line], expected: &[Line]) -> bool {
 // A frame of one condition with a left value, compared with 0.
 const fn single(waited: bool, truth: &'static [bool], left: &'static [u32]) -> Told {
     Told {
-        moment: Moment {
-            reset: false,
-            paused: false,
-            waited,
-        },
+        waited,
         truths: truth,
         lefts: left,
         rights: &[0],
@@ -135,11 +131,7 @@ fn an_unlock_is_waited_for(rt: HostRuntime) -> Result<(), Fail> {
 
 // A frame at which the core resets and its alt is paused.
 const STUCK: Told = Told {
-    moment: Moment {
-        reset: true,
-        paused: true,
-        waited: false,
-    },
+    waited: false,
     truths: &[true, true, true, false],
     lefts: &[1, 1, 1, 1],
     rights: &[1, 1, 1, 2],
@@ -170,11 +162,7 @@ fn a_paused_alt_counts_its_pause_alone(rt: HostRuntime) -> Result<(), Fail> {
 // A frame with a pointer of 4 or of 240, at which the second condition has counted 1 and the last hits are added.
 const fn pointed(pointer: &'static [u32], truths: &'static [bool]) -> Told {
     Told {
-        moment: Moment {
-            reset: false,
-            paused: false,
-            waited: false,
-        },
+        waited: false,
         truths,
         lefts: pointer,
         rights: &[0, 7, 0, 9],

@@ -2,3 +2,4 @@ pub mod FollowLemmas
 pub mod KeptLemmas
 pub mod ReadLemmas
 pub mod TextLemmas
+pub mod WaitLemmas

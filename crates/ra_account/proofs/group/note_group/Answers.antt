@@ -1,10 +1,14 @@
-use Rattle.std.proofs.Common.{◌≡◌, ◌+◌, ◌<◌, ◌∷◌, length, false, get_or, get_or-set_same, get_or-set_other, slice_index, sym, ap, ◌∙◌, subst, add-one, arith, below_more}
+use Rattle.std.proofs.Common.{◌≡◌, ℕ, ◌+◌, ◌<◌, ◌∷◌, ◌&&◌, not, Bool, length, false, get_or, get_or-set_same, get_or-set_other, slice_index, sym, ap, ◌∙◌, subst, add-one, arith, below_more}
 use Rattle.ra_condition.specs.Contents.{condition_at, flag_at}
-use Rattle.ra_group.specs.Equations.{Frame, frame_of}
+use Rattle.std.specs.List.{list_any, range_with_len}
+use Rattle.ra_condition.specs.Flags.{is_reset}
+use Rattle.ra_group.specs.declared.standing.Standing.{Standing}
+use Rattle.ra_group.specs.Equations.{Frame, frame_of, settled_at}
 use Rattle.ra_account.specs.declared.condition.ConditionAccount.{ConditionAccount}
 use Rattle.ra_account.specs.declared.facts.Facts.{Facts}
 use Rattle.ra_account.specs.Conditions.{IsAccountOf, StandsAt}
 use Rattle.ra_account.specs.Facts.{facts_at, facts_by, wanted_by, pointer_at}
+use Rattle.ra_account.proofs.AloneLemmas.{any_more}
 use Rattle.ra_account.proofs.group.note_group.Goals as goal
 
 pub loop-place-preserved : goal.loop-place-preserved
@@ -20,6 +24,7 @@ loop-place-preserved c =
     ∙ (λ i. facts_by (condition_at f.conditions place) (stands i)
     (record { paused = paused i; in_pause_chain = pausing i; pointer = known.pointer_too i; size = c.args.size })
     (slice_index f.lefts place) (slice_index c.args.rights.now place)) in
+    let resets : ℕ → Bool = λ j. is_reset (flag_at f.conditions j) && (settled_at f j).valid in
     let olds = c.loop-place.accounts in
     let new = c.note.new.self in
     let within : place < length olds = omega (arith, c.loop-place-test.true, c.loop-place.auto.accounts) in
@@ -27,6 +32,8 @@ loop-place-preserved c =
     let own : get_or c.args.accounts.now place c.index-accounts-place.result ≡ get_or olds place c.index-accounts-place.result =
     sym (known.rest place (omega arith) c.index-accounts-place.result) in
     record {
+      resets_too = any_more resets place c.loop-place.resets c.is_valid_reset-resets.result known.resets_too
+          (c.is_valid_reset-resets.ensures ∙ ap (λ (s : Standing). is_reset (flag_at f.conditions place) && s.valid) stands);
       pointer_too = c.pointer_behind-pointer.ensures ∙ ap (pointer_at f) (sym (add-one place));
       wanted = below_more _ _
           (λ j before. get_or-set_other c.loop-place.wants place j _ false (omega arith) ∙ known.wanted j before)
@@ -48,3 +55,12 @@ loop-place-preserved c =
 
 pub returns-clause-noted : goal.returns-clause-noted
 returns-clause-noted c = λ earlier was j below d. c.loop-place.invariant.noted earlier was j (omega (arith, c.loop-place-test.false, c.loop-place.auto.accounts)) d
+
+pub returns-clause-stops : goal.returns-clause-stops
+returns-clause-stops c =
+    let f : Frame = frame_of c.args.conditions.now c.args.truths.now c.args.lefts.now c.args.hits.now in
+    let resets : ℕ → Bool = λ j. is_reset (flag_at f.conditions j) && (settled_at f j).valid in
+    let all : c.loop-place.place ≡ length c.args.conditions.now = omega (arith, c.loop-place-test.false) in
+    let some = c.loop-place.invariant.resets_too ∙ ap (λ n. list_any resets (range_with_len 0 n)) all in
+    let paused = c.stand_group-paused.ensures.paused in
+    c.stops_by.ensures ∙ (λ i. record { paused = paused i; reset = not (paused i) && some i })

@@ -1,5 +1,8 @@
-use Rattle.std.proofs.Common.{◌≡◌, ℕ, ◌+◌, ◌<◌, ◌≤◌, ◌∷◌, List, false, get_or}
-use Rattle.ra_group.specs.Equations.{frame_of}
+use Rattle.std.proofs.Common.{◌≡◌, ℕ, ◌+◌, ◌<◌, ◌≤◌, ◌∷◌, ◌&&◌, List, false, get_or}
+use Rattle.std.specs.List.{list_any, range_with_len}
+use Rattle.ra_condition.specs.Contents.{flag_at}
+use Rattle.ra_condition.specs.Flags.{is_reset}
+use Rattle.ra_group.specs.Equations.{frame_of, settled_at}
 use Rattle.ra_account.specs.declared.facts.Facts.{Facts}
 use Rattle.ra_account.specs.declared.condition.ConditionAccount.{ConditionAccount}
 use Rattle.ra_account.specs.Conditions.{AreAccounts, IsAccountOf, StandsAt}
@@ -9,6 +12,9 @@ use Rattle.ra_account.proofs.group.note_group.Given as goal
 -- the frame is noted in the accounts so far, and the others are as they were; the pointer is that of the next condition
 abbrev pub invariant-loop-place : goal.invariant-loop-place
 invariant-loop-place l = record {
+  resets_too : l.resets
+      ≡ list_any (λ j. is_reset (flag_at l.conditions j)
+      && (settled_at (frame_of l.conditions l.truths l.lefts l.hits) j).valid) (range_with_len 0 l.place);
   pointer_too : l.pointer ≡ pointer_at (frame_of l.conditions l.truths l.lefts l.hits) l.place;
   wanted : (j : ℕ) → j < l.place → get_or l.wants j false ≡ wanted_at (frame_of l.conditions l.truths l.lefts l.hits) j;
   stand : (j : ℕ) → j < l.place → (d : ConditionAccount) → StandsAt (l.at + 1) (get_or l.accounts j d);

@@ -1,7 +1,9 @@
-use Rattle.std.proofs.Common.{◌≡◌, ℕ, ◌+◌, ◌<◌, ◌≤◌, ◌∷◌, List, map, get_or}
+use Rattle.std.proofs.Common.{◌≡◌, ℕ, ◌+◌, ◌<◌, ◌≤◌, ◌∷◌, List, drop, map, take, get_or}
 use Rattle.ra_condition.specs.Contents.{group_contents}
 use Rattle.ra_account.specs.declared.group_account.GroupAccount.{GroupAccount}
 use Rattle.ra_account.specs.Groups.{GroupRow, AreGroupAccounts, FitsGroup, GroupStandsAt, IsGroupAccount, group_at, part_of, start_at, wants_of}
+use Rattle.ra_trigger.specs.Steps.{frames_along}
+use Rattle.ra_account.specs.Stops.{stops_of_all}
 use Rattle.ra_account.proofs.groups.note_groups.Given as goal
 
 -- the frame is noted in the accounts of the groups so far, and the others are as they were
@@ -19,5 +21,8 @@ invariant-loop-place l = record {
       → (get_or l.accounts g d).wants.items
       ≡ wants_of (group_at (map group_contents l.groups) g) (part_of (group_at (map group_contents l.groups) g) (l.from + start_at (map group_contents l.groups) g)
       (record { truths = l.truths; lefts = l.lefts; rights = l.rights; hits = l.hits }));
+  stops_too : record { paused = l.paused; reset = l.reset }
+      ≡ stops_of_all (frames_along (take l.place (map group_contents l.groups)) (drop l.from l.truths) (drop l.from l.lefts)
+      (drop l.from l.hits));
   rest : (g : ℕ) → l.place ≤ g → (d : GroupAccount) → get_or l.accounts g d ≡ get_or l.fn.accounts g d;
 }

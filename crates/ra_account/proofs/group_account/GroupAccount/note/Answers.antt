@@ -7,6 +7,7 @@ use Rattle.ra_account.specs.Conditions.{AreAccounts}
 use Rattle.ra_account.specs.Facts.{facts_at, wanted_at}
 use Rattle.ra_account.specs.Groups.{GroupRow, shown}
 use Rattle.ra_account.proofs.GroupLemmas.{wants_group}
+use Rattle.ra_account.specs.Stops.{stops_of}
 use Rattle.ra_account.proofs.RefillLemmas.{refilled}
 use Rattle.ra_account.proofs.group_account.GroupAccount.note.Goals as goal
 
@@ -37,3 +38,9 @@ returns-clause-wants c =
     ∙ wants_group cs row c.note_group.new.wants many
     (λ j below. c.note_group.ensures.wanted j (omega (arith, ap length conditions))
     ∙ ap (λ (xs : List Condition). wanted_at (frame_of xs row.truths row.lefts row.hits) j) conditions)
+
+pub returns-clause-stops : goal.returns-clause-stops
+returns-clause-stops c =
+    c.note_group.ensures.stops
+    ∙ ap (λ (xs : List Condition). stops_of (frame_of xs c.args.truths.now c.args.lefts.now c.args.hits.now))
+    c.deref.ensures.value
