@@ -16,7 +16,7 @@ use std::test::Fail;
 
 /// A call of a watcher.
 #[derive(Clone, Copy)]
-enum Step {
+pub(crate) enum Step {
     /// Writes one byte.
     Write(u8, u8),
     /// Takes a frame.
@@ -30,7 +30,7 @@ enum Step {
 use Step::{Frame, Restore, Save, Write};
 
 // The trigger of a text, which has at most 65,536 conditions.
-fn trigger_of(alloc: Global, text: &str) -> Result<TriggerText, Fail>
+pub(crate) fn trigger_of(alloc: Global, text: &str) -> Result<TriggerText, Fail>
     ensures few { IfOk result (λ t. trigger_hits (trigger_contents t) ≤ 65536) }
     ensures spelled { IfOk result (λ t. IsTrigger (trigger_contents t)) }
 {
@@ -84,7 +84,12 @@ fn take(alloc: Global, watcher: &mut Watcher, step: Step, at: u64) -> Result<u64
 }
 
 // Takes some steps, after at most this many frames.
-fn take_all(alloc: Global, watcher: &mut Watcher, steps: &[Step], before: u64) -> Result<u64, Fail>
+pub(crate) fn take_all(
+    alloc: Global,
+    watcher: &mut Watcher,
+    steps: &[Step],
+    before: u64,
+) -> Result<u64, Fail>
     requires watches { IsWatching before watcher.old }
     requires size { length watcher.old.memory ≡ 64 }
     ensures watches { IfOk result (λ behind. IsWatching behind watcher.new) }
