@@ -35,23 +35,26 @@ row 'a frame of 4,000 achievements of 8 conditions with 4 writes' $((frames - 10
 row 'a frame of them with no write' $((frames - 10)) many.set still.trace many.set still-ten.trace
 row 'a frame of 40 such achievements with no write' $((frames - 10)) few.set still.trace few.set still-ten.trace
 row 'a frame of the 4,000 in which every byte changes' 10 many.set due.trace many.set due-one.trace
-row 'a frame with no write behind each of those' 12 many.set due-still.trace many.set due.trace
-row 'a frame with no write behind a restore' 100 many.set restored.trace many.set restores.trace
+row 'a frame with no write after each of those' 12 many.set due-still.trace many.set due.trace
+row 'a frame with no write after a restore' 100 many.set restored.trace many.set restores.trace
 row 'a frame of 4,000 achievements of 4 comparisons behind one pointer, which moves' 20 pointers.set pointers.trace pointers.set pointers-one.trace
 row 'a frame of 4,000 achievements of 8 conditions that look at one byte, which changes' 40 looks.set looked.trace looks.set looked-one.trace
-row 'such a frame behind 40 with no write, so that all were at rest' 1 looks.set woken.trace looks.set rested.trace
+row 'such a frame after 40 with no write, so that all were at rest' 1 looks.set woken.trace looks.set rested.trace
 row 'a frame of a display of 4,000 lines of 8 conditions that look at one byte, which changes' 40 look-lines.set looked.trace look-lines.set looked-one.trace
-row 'such a frame behind 40 with no write, so that all were at rest' 1 look-lines.set woken.trace look-lines.set rested.trace
+row 'such a frame after 40 with no write, so that all were at rest' 1 look-lines.set woken.trace look-lines.set rested.trace
 for count in 1 4 10 40 400; do
     for what in "achievements due-$count" "lines due-lines-$count"; do
         file=${what#* }.set
         row "a frame of $count ${what% *} of 8 conditions, all due" 40 "$file" looked.trace "$file" looked-one.trace
-        row "such a frame behind 40 with no write, so that all were at rest" 1 "$file" woken.trace "$file" rested.trace
+        row "such a frame after 40 with no write, so that all were at rest" 1 "$file" woken.trace "$file" rested.trace
     done
 done
 row 'a frame of no items' $((frames - 10)) none.set still.trace none.set still-ten.trace
 row 'a write of one byte, with no items' $((frames - 10)) none.set some-writes.trace none.set ten-writes.trace
 row 'a frame of a real-sized set' $((frames - 1)) real.set real.trace real.set real-one.trace
+for share in 0.3 1 2 5; do
+    row "a frame of it at which $share % of the bytes that it names are written" $((frames - 1)) real.set "real-$share.trace" real.set "real-$share-one.trace"
+done
 row 'a save of 4,000 achievements of 8 conditions' 100 many.set saves.trace many.set saved.trace
 row 'a restore of them' 100 many.set restores.trace many.set saved.trace
 row 'loading and making an item, of 16,384' 16384 items.set one.trace none.set one.trace

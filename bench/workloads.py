@@ -11,7 +11,9 @@ none.set     no items, over great.trace: one frame over an image of 128 MiB
 
 Those of bench/parts.sh:
 real.set     120 achievements of 12 conditions with pointers, deltas and hits, 2 leaderboards, and a script of 30 lines,
-             over real.trace: FRAMES frames, each behind 30 writes of one byte; real-one.trace has one of these frames
+             over real.trace: FRAMES frames, each after 30 writes of one byte; real-one.trace has one of these frames
+             over real-S.trace, for S of 0.3, 1, 2 and 5: FRAMES frames, each after a write to S % of the bytes at places
+             that the set names; real-S-one.trace has one of these frames
 items.set    16,384 achievements of one condition, over one.trace: one frame
 lines.set    an achievement that tells a measured number at each frame, over counts.trace: 65,536 frames
              quiet.set has the same achievement and tells nothing
@@ -37,6 +39,7 @@ macros.set   4 MiB of macros in one display line, which are more than a line may
 """
 
 import random
+import re
 import sys
 
 MIB_4 = 4_194_304
@@ -186,6 +189,23 @@ def real_trace(frames):
     return bytes(trace + b"E")
 
 
+def named_bytes(text):
+    """The bytes at the places that a set names, but those that it reads behind a pointer."""
+    cells = re.findall(r"(I:)?0x([H ])([0-9a-f]{4})(?:&1023_d?0xH[0-9a-f]{4})?", text)
+    return sorted({int(place, 16) + k for _, size, place in cells for k in range(1 if size == "H" else 2)})
+
+
+def share_trace(places, percent, frames):
+    """Another value of so many percent of these bytes before each frame."""
+    count = round(len(places) * percent / 100)
+    trace = bytearray(header(0x8000))
+    for _ in range(frames):
+        for place in random.sample(places, count):
+            trace += write(place, random.randrange(64))
+        trace += b"F"
+    return bytes(trace + b"E")
+
+
 def small_script():
     lookup = "Lookup:Stage\n" + "".join(f"{i}=Stage {i}\n" for i in range(8)) + "*=Elsewhere\n"
     return "P\n" + lookup + "Format:Score\nFormatType=SCORE\nDisplay:\nIn @Stage(0xH0010) with @Score(0xH0020)\n"
@@ -262,6 +282,10 @@ def main(folder, frames):
     }
     for count in (1, 4, 10, 40, 400):
         files |= due_sets(count)
+    places = named_bytes(files["real.set"].decode())
+    for share in (0.3, 1, 2, 5):
+        files[f"real-{share}.trace"] = share_trace(places, share, frames)
+        files[f"real-{share}-one.trace"] = share_trace(places, share, 1)
     for name, content in files.items():
         with open(f"{folder}/{name}", "wb") as file:
             file.write(content)
