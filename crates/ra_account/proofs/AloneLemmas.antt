@@ -1,12 +1,10 @@
 -- A group in which none leaves anything for the next one in its chain.
-use Rattle.std.proofs.Common.{◌≡◌, ℕ, zero, suc, ◌+◌, ◌<◌, ◌&&◌, ◌||◌, not, Bool, true, false, Option, None, Some, List, [], ◌∷◌, ◌++◌, length, slice_index, slice_index_or, refl, sym, ap, ◌∙◌, add-one, arith}
+use Rattle.std.proofs.Common.{◌≡◌, ℕ, zero, suc, ◌+◌, ◌<◌, ◌&&◌, ◌||◌, not, Bool, true, false, None, Some, [], ◌∷◌, ◌++◌, length, slice_index, slice_index_or, refl, sym, ap, ◌∙◌, add-one, arith}
 use Rattle.std.specs.Prelude.{if◌then◌else◌}
 use Rattle.std.specs.List.{list_any, range_with_len}
-use Rattle.ra_condition.specs.declared.condition.Condition.{Condition}
 use Rattle.ra_condition.specs.Contents.{condition_at}
 use Rattle.ra_condition.proofs.Passes.{range_more}
 use Rattle.ra_group.specs.declared.settled.Settled.{Settled}
-use Rattle.ra_group.specs.declared.standing.Standing.{Standing}
 use Rattle.ra_group.specs.Equations.{Frame, met, prev_of, seen_after, settled}
 use Rattle.ra_group.specs.Standings.{standing_at}
 use Rattle.ra_group.proofs.TallyLemmas.{any_push}

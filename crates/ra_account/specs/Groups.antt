@@ -1,10 +1,11 @@
 -- The accounts of a group's conditions: docs/DEFINITIONS.md, "Account of an achievement". A list has a row for each frame, the newest first.
-use Rattle.std.specs.Prelude.{◌≡◌, ℕ, ◌+◌, ◌<◌, ◌≤◌, Bool, false, List, [], length, map, take, drop, sum_by, slice_index_or}
+use Rattle.std.specs.Prelude.{◌≡◌, ℕ, ◌+◌, ◌<◌, ◌≤◌, Bool, true, false, List, [], length, map, take, drop, sum_by, slice_index_or}
 use Rattle.ra_condition.specs.declared.condition.Condition.{Condition}
 use Rattle.ra_condition.specs.Chains.{in_pause_chain, places}
 use Rattle.ra_group.specs.Equations.{Frame, frame_of}
 use Rattle.ra_account.specs.declared.facts.Facts.{Facts}
 use Rattle.ra_account.specs.declared.group_account.GroupAccount.{GroupAccount}
+use Rattle.ra_account.specs.Alone.{StandAlone}
 use Rattle.ra_account.specs.Conditions.{AllStandAt, AreAccounts}
 use Rattle.ra_account.specs.Facts.{facts_at, wanted_at}
 
@@ -47,7 +48,7 @@ IsGroupAccount cs size frames g = AreAccounts (λ j. map (shown cs size j) frame
 abbrev pub GroupStandsAt : ℕ → GroupAccount → Type 0
 GroupStandsAt count g = AllStandAt count g.conditions.items
 
--- an account for each condition, with room for what a frame shows
+-- an account for each condition, with room for what a frame shows; and whether the group is known to have no chains
 pub record FitsGroup (cs : List Condition) (g : GroupAccount) : Type 0 where
   pub few : length cs ≤ 65536
   pub many : length g.conditions.items ≡ length cs
@@ -55,6 +56,7 @@ pub record FitsGroup (cs : List Condition) (g : GroupAccount) : Type 0 where
   pub pausings : length g.pausing.items ≡ length cs
   pub pausing : (j : ℕ) → j < length cs → slice_index_or g.pausing.items j false ≡ in_pause_chain cs j
   pub room : length g.room.items ≡ length cs
+  pub alone : g.alone ≡ true → StandAlone cs
 
 -- the part of a row that has the conditions of a group, which start at a place
 abbrev pub part_of : List Condition → ℕ → GroupRow → GroupRow

@@ -88,6 +88,7 @@ fn copy_group(alloc: Global, group: &GroupAccount) -> Result<GroupAccount, OutOf
         conditions,
         wants: group.wants.to_vec(alloc)?,
         pausing: group.pausing.to_vec(alloc)?,
+        alone: group.alone,
         room: vec![in alloc; NO_STANDING; count]?,
     })
 }

@@ -1,8 +1,9 @@
 //! A frame noted in the accounts of the conditions of a group.
 
-ghost use Rattle.std.specs.Prelude.{◌≡◌, ℕ, ◌+◌, ◌<◌, ◌≤◌, ◌^◌, ◌∷◌, ◌&&◌, List, length, false, not, slice_index_or};
+ghost use Rattle.std.specs.Prelude.{◌≡◌, ℕ, ◌+◌, ◌<◌, ◌≤◌, ◌^◌, ◌∷◌, ◌&&◌, List, length, true, false, not, slice_index_or};
 ghost use Rattle.ra_condition.specs.Flags.{is_reset};
 ghost use Rattle.ra_group.specs.Equations.{frame_of};
+ghost use Rattle.ra_account.specs.Alone.{StandAlone};
 ghost use Rattle.ra_account.specs.Groups.{ArePausing, IsRowOf};
 ghost use Rattle.ra_account.specs.Conditions.{AllStandAt, AreAccounts};
 ghost use Rattle.ra_account.specs.Facts.{facts_at, pointer_by, wanted_at};
@@ -25,6 +26,7 @@ pub(crate) fn note_group(
     size: u32,
     at: u64,
     pausing: &[bool],
+    alone: bool,
     truths: &[bool],
     lefts: &[u32],
     rights: &[u32],
@@ -36,6 +38,7 @@ pub(crate) fn note_group(
     requires few { length conditions.now ≤ 2 ^ 32 }
     requires frames { at < 2 ^ 60 }
     requires pausing { ArePausing conditions.now pausing.now }
+    requires alone { alone ≡ true → StandAlone conditions.now }
     requires row { IsRowOf (length conditions.now)
         (record { truths = truths.now; lefts = lefts.now; rights = rights.now; hits = hits.now }) }
     requires room { length room.old ≡ length conditions.now }
@@ -51,7 +54,7 @@ pub(crate) fn note_group(
         ≡ wanted_at (frame_of conditions.now truths.now lefts.now hits.now) j }
     ensures stops { result ≡ stops_of (frame_of conditions.now truths.now lefts.now hits.now) }
 {
-    let paused = stand_group(conditions, truths, hits, room);
+    let paused = stand_group(conditions, alone, truths, hits, room);
     let mut resets = false;
     let mut pointer = 0;
     for place in 0..least(conditions, pausing, lefts, rights, room, wants, accounts) {

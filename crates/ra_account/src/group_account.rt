@@ -7,6 +7,7 @@ ghost use Rattle.ra_group.specs.Equations.{frame_of};
 
 use crate::condition::ConditionAccount;
 use crate::group::note_group;
+use crate::stands::are_alone;
 use crate::stops::Stops;
 use ra_chain::pausing_of;
 use ra_condition::Group;
@@ -24,6 +25,8 @@ pub struct GroupAccount {
     pub wants: Vec<bool>,
     /// Whether each condition stands in a pause chain.
     pub pausing: Vec<bool>,
+    /// No condition leaves anything for the next one in its chain.
+    pub alone: bool,
     /// Room for how the conditions stand.
     pub room: Vec<Standing>,
 }
@@ -38,11 +41,13 @@ impl GroupAccount {
     {
         let count = group.conditions.len();
         let pausing = pausing_of(alloc, &group.conditions)?;
+        let alone = are_alone(&group.conditions);
         let conditions = new_accounts(alloc, count)?;
         Ok(GroupAccount {
             conditions,
             wants: vec![in alloc; false; count]?,
             pausing,
+            alone,
             room: vec![in alloc; NO_STANDING; count]?,
         })
     }
@@ -81,6 +86,7 @@ impl GroupAccount {
             size,
             at,
             &self.pausing,
+            self.alone,
             truths,
             lefts,
             rights,

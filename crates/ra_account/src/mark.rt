@@ -24,10 +24,6 @@ impl Mark {
     pub fn join(self, later: Mark) -> Mark
         ensures { result ≡ joined self later }
     {
-        match (self, later) {
-            (Mark::Always, Mark::Always) => Mark::Always,
-            (Mark::Never, Mark::Never) => Mark::Never,
-            _ => Mark::Sometimes,
-        }
+        if self == later { self } else { Mark::Sometimes }
     }
 }

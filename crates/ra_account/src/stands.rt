@@ -1,7 +1,7 @@
 //! How the conditions of a group stand at a frame, and whether it pauses.
 
 ghost use Rattle.std.specs.List.{list_any};
-ghost use Rattle.std.specs.Prelude.{◌≡◌, Bool, ℕ, ◌<◌, ◌≤◌, ◌^◌, ◌&&◌, [], length, false, not, slice_index_or};
+ghost use Rattle.std.specs.Prelude.{◌≡◌, Bool, ℕ, ◌<◌, ◌≤◌, ◌^◌, ◌&&◌, [], length, true, false, not, slice_index_or};
 ghost use Rattle.ra_condition.specs.Chains.{places};
 ghost use Rattle.ra_condition.specs.Contents.{flag_at};
 ghost use Rattle.ra_condition.specs.Flags.{combines, hands_on, is_pause};
@@ -16,11 +16,13 @@ use ra_group::{Standing, stand};
 // Tells how each condition of a group stands, and whether some PauseIf of it is valid.
 pub(crate) fn stand_group(
     conditions: &[Condition],
+    alone: bool,
     truths: &[bool],
     hits: &[u32],
     standings: &mut [Standing],
 ) -> bool
     requires few { length conditions.now ≤ 2 ^ 32 }
+    requires alone { alone ≡ true → StandAlone conditions.now }
     requires truths { length truths.now ≡ length conditions.now }
     requires hits { length hits.now ≡ length conditions.now }
     requires standings { length standings.old ≡ length conditions.now }
@@ -29,28 +31,27 @@ pub(crate) fn stand_group(
     ensures paused { result ≡ is_paused (frame_of conditions.now truths.now [] hits.now) }
 {
     // Most groups have no chains, and then what a condition leaves for the next one need not be carried.
-    if is_chained(conditions) {
-        stand(conditions, truths, hits, standings);
-        if may_pause(conditions) {
-            some_pause(conditions, truths, hits, standings)
-        } else {
-            false
-        }
+    if alone {
+        return stand_apart(conditions, truths, hits, standings);
+    }
+    stand(conditions, truths, hits, standings);
+    if may_pause(conditions) {
+        some_pause(conditions, truths, hits, standings)
     } else {
-        stand_apart(conditions, truths, hits, standings)
+        false
     }
 }
 
-// Whether some condition of a group leaves something for the next one in its chain.
-fn is_chained(conditions: &[Condition]) -> bool
-    ensures { result ≡ false → StandAlone conditions.now }
+// Whether no condition of a group leaves anything for the next one in its chain.
+pub(crate) fn are_alone(conditions: &[Condition]) -> bool
+    ensures { result ≡ true → StandAlone conditions.now }
 {
     for place in 0..conditions.len() {
         if leaves(&conditions[place]) {
-            return true;
+            return false;
         }
     }
-    false
+    true
 }
 
 // Whether a condition leaves something for the next one in its chain.

@@ -1,5 +1,5 @@
 use Rattle.std.proofs.Common.{sym, ◌∙◌, below_more}
-use Rattle.ra_account.proofs.stands.is_chained.Goals as goal
+use Rattle.ra_account.proofs.stands.are_alone.Goals as goal
 
 pub loop-place-preserved : goal.loop-place-preserved
 loop-place-preserved c =
