@@ -57,12 +57,15 @@ fn number(words: &[String], place: usize) -> Option<u32> {
 }
 
 fn measured(alloc: Global, bytes: &[u8], words: &[String]) -> Option<()> {
-    let memory = Memory::new(alloc, 65536).ok()?;
-    let set = match parse_set(alloc, bytes) {
-        Ok(set) => set,
-        Err(_) => return None,
+    let Ok(set) = parse_set(alloc, bytes) else {
+        return None;
     };
-    let mut course = Course::for_looks(alloc, set, 65536).ok()?;
+    let Ok(memory) = Memory::new(alloc, 65536) else {
+        return None;
+    };
+    let Ok(mut course) = Course::for_looks(alloc, set, 65536) else {
+        return None;
+    };
     let done = played(alloc, &mut course, &memory, words);
     drop(course);
     done
@@ -102,6 +105,18 @@ fn keep_and_take(course: &mut Course, kept: &mut Kept, keeps: u32, takes: u32) {
     }
 }
 PROGRAM
+mkdir -p "$folder/crates/kept/proofs/played"
+cat >"$folder/crates/kept/proofs/played/Invariants.antt" <<'INVARIANTS'
+use Rattle.std.proofs.Common.{◌≡◌, length}
+use Rattle.kept.proofs.played.Given as goal
+
+-- the memory stays as long as the course's
+abbrev pub invariant-loop : goal.invariant-loop
+invariant-loop l = length l.memory ≡ l.course.size
+
+abbrev pub ghosts-follow : goal.ghosts-follow
+ghosts-follow a = record { name = a.blank.name; parts = a.blank.parts }
+INVARIANTS
 (cd "$folder/crates/kept" && rt run -- "$folder/many.set" 1 1 1) >&2
 kept=$folder/crates/kept/out/kept
 
