@@ -37,3 +37,22 @@ echo "the library, one bank: $(a_frame "$folder/play" "" "")"
 echo "the library, eight banks: $(a_frame "$folder/play" "" 8)"
 echo "meerkat_frame alone, one bank: $(in_a_frame "")"
 echo "meerkat_frame alone, eight banks: $(in_a_frame 8)"
+
+# The same over the recorded game. What the compiler put in line into meerkat_frame counts as the library's, also where it is the
+# course's, so these are upper bounds, and they grow with the set.
+game=$here/examples/libretro
+: >"$folder/none.set"
+cp "$game/lantern.set" "$folder/own.set"
+for set in calm busy; do
+    python3 "$here/bench/game_sets.py" make $set "$game/lantern.set" "$game/lantern.trace" "$folder/$set.set" >/dev/null
+done
+frames=$(python3 "$here/examples/trace.py" show "$game/lantern.trace" | grep -c '^F')
+for set in none own calm busy; do
+    for banks in "" 8; do
+        valgrind --tool=callgrind --callgrind-out-file="$folder/calls" --collect-atstart=no --toggle-collect=meerkat_frame \
+            "$folder/play" "$folder/$set.set" "$game/lantern.trace" $banks >"$folder/out" 2>&1
+        callgrind_annotate --threshold=100 "$folder/calls" | tr -d , | awk -v what="$set, ${banks:-1} banks" -v frames="$frames" '
+            /PROGRAM TOTALS/ { whole = $1 } /:meerkat_frame/ { own = $1 }
+            END { printf "the game, %s: %d, of which %d at most are the library'"'"'s: %.3f\n", what, whole / frames, own / frames, whole / (whole - own) }'
+    done
+done
