@@ -3,7 +3,7 @@
 
     bench/gate.py             runs `rt ci` from nothing with one job and prints the table
     bench/gate.py NAME..      the same for these crates and those below them, where the kit's `rt ci` takes names
-    bench/gate.py --watch PID prints the table of a run that goes on already, from now on
+    bench/gate.py --watch PID prints the table of a run that goes on already, from now on until it ends or this is interrupted
     bench/gate.py --join FILE.. prints one table of those that these files hold, the oldest first
 
 A kit that keeps what a run has passed needs several runs for one table: where a later one proves a crate anew its row takes
@@ -17,6 +17,7 @@ missing.
 
 import os
 import re
+import signal
 import subprocess
 import sys
 import time
@@ -139,9 +140,14 @@ def main(words):
     seen = {}
     if words[:1] == ["--watch"]:
         top = int(words[1])
-        while os.path.exists(f"/proc/{top}"):
-            look(top, seen)
-            time.sleep(0.25)
+        # in the background a shell has it ignored
+        signal.signal(signal.SIGINT, signal.default_int_handler)
+        try:
+            while os.path.exists(f"/proc/{top}"):
+                look(top, seen)
+                time.sleep(0.25)
+        except KeyboardInterrupt:
+            pass
         table(*figures(seen))
         return 0
     if words[:1] == ["--join"]:
