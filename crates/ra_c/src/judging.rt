@@ -6,7 +6,7 @@ ghost use Rattle.ra_judge.specs.Importing.{AnswersImport};
 ghost use Rattle.ra_judge.specs.Judging.{AcceptsKind, RefusesKind, kind_of};
 ghost use Rattle.ra_judge.specs.Texts.{code_text, reason_text};
 
-use ra_judge::Refusal;
+use ra_judge::{Document, LeftCounts, Refusal};
 use std::alloc::Global;
 
 /// Whether a set with this one item alone is accepted: docs/DEFINITIONS.md, "Calls from C".
@@ -46,7 +46,18 @@ pub extern "C" fn meerkat_import(
     ensures left_uncounted { result ≢ done → result ≢ no_room → left.new ≡ left.old }
     ensures unsaid { result ≢ no_document → why.new ≡ why.old }
 {
-    ra_judge::import(alloc, document, flags, out, count, left, why)
+    let document = Document {
+        bytes: document,
+        flags,
+    };
+    let mut counts = LeftCounts {
+        count: *count,
+        left: *left,
+    };
+    let code = ra_judge::import(alloc, document, out, &mut counts, why);
+    *count = counts.count;
+    *left = counts.left;
+    code
 }
 
 /// What a code says: docs/DEFINITIONS.md, "Calls from C".

@@ -12,33 +12,46 @@ use std::alloc::Global;
 // The flag that leaves out the unofficial achievements.
 const OFFICIAL: u32 = 1;
 
-/// The set file of what is left of a document in JSON: docs/DEFINITIONS.md, "Calls from C" and "What is left of a
+/// A document in JSON, and by which flags it is imported.
+#[derive(Clone, Copy)]
+pub struct Document<'a> {
+    /// Its bytes.
+    pub bytes: &'a [u8],
+    /// 1 where the unofficial achievements are left out too, else 0.
+    pub flags: u32,
+}
+
+/// How many bytes a set file has, and how many things its document has that are left out of it.
+#[derive(Clone, Copy, Debug, PartialEq, Eq)]
+pub struct LeftCounts {
+    pub count: usize,
+    pub left: usize,
+}
+
+/// The set file of what is left of a document: docs/DEFINITIONS.md, "Calls from C" and "What is left of a
 /// document".
 ///
 /// The flag 1 leaves out the unofficial achievements too, and counts them. `RANGE` where another flag is set;
 /// `DOCUMENT` where nothing is left, with the reason; `ROOM` where there is too little room; `MEMORY` where memory runs out.
 pub fn import(
     alloc: Global,
-    document: &[u8],
-    flags: u32,
+    document: Document<'_>,
     out: &mut [u8],
-    count: &mut usize,
-    left: &mut usize,
+    counts: &mut LeftCounts,
     why: &mut Refusal,
 ) -> u32
-    ensures answers { AnswersImport document.now flags out.old out.new count.new left.new why.new result }
+    ensures answers { AnswersImport document.entry.bytes.now document.entry.flags out.old out.new counts.new.count counts.new.left why.new result }
     ensures unwritten { result ≢ done → out.new ≡ out.old }
-    ensures uncounted { result ≢ done → result ≢ no_room → count.new ≡ count.old }
-    ensures left_uncounted { result ≢ done → result ≢ no_room → left.new ≡ left.old }
+    ensures uncounted { result ≢ done → result ≢ no_room → counts.new ≡ counts.old }
     ensures unsaid { result ≢ no_document → why.new ≡ why.old }
 {
-    if flags > OFFICIAL {
+    if document.flags > OFFICIAL {
         return RANGE;
     }
-    match left_by(alloc, document, flags) {
+    match left_by(alloc, document.bytes, document.flags) {
         Ok(whole) => {
-            *left = whole.left_out;
-            give_whole(whole.text.as_slice(), out, count)
+            counts.left = whole.left_out;
+            give_whole(whole.text.as_slice(), out, &mut counts.count)
         }
         Err(DocumentRefused::Memory) => MEMORY,
         Err(reason) => {

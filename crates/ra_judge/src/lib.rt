@@ -13,7 +13,7 @@ mod refusal;
 mod texts;
 
 pub use given::{give, give_whole};
-pub use importing::import;
+pub use importing::{Document, LeftCounts, import};
 pub use judging::judge;
 pub use refusal::{Refusal, of_document, of_progress, of_set};
 pub use texts::{error, reason};

@@ -79,58 +79,33 @@ fn set_text(alloc: Global, why: &Refusal) -> Result<Option<Vec<u8>>, OutOfMemory
     match why.kind {
         1 => in_two(
             alloc,
+            (why.line, why.column),
             "line ",
-            why.line,
             ", column ",
-            why.column,
             ": outside the grammar",
         ),
         2 => in_two(
             alloc,
+            (why.line, u64::from(why.id)),
             "line ",
-            why.line,
             ": the id ",
-            u64::from(why.id),
             " stands twice",
         ),
-        3 => in_two(
+        3 => of_found(alloc, why, "", " bytes, where ", " are the most"),
+        4 => of_found(alloc, why, "", " items, where ", " are the most"),
+        5 => of_found(alloc, why, "", " conditions, where ", " are the most"),
+        6 => of_found(
             alloc,
+            why,
             "",
-            why.found,
-            " bytes, where ",
-            why.wanted,
-            " are the most",
-        ),
-        4 => in_two(
-            alloc,
-            "",
-            why.found,
-            " items, where ",
-            why.wanted,
-            " are the most",
-        ),
-        5 => in_two(
-            alloc,
-            "",
-            why.found,
-            " conditions, where ",
-            why.wanted,
-            " are the most",
-        ),
-        6 => in_two(
-            alloc,
-            "",
-            why.found,
             " macros in a display line, where ",
-            why.wanted,
             " are the most",
         ),
-        7 => in_two(
+        7 => of_found(
             alloc,
+            why,
             "",
-            why.found,
             " bytes in a lookup text, where ",
-            why.wanted,
             " are the most",
         ),
         _ => Ok(None),
@@ -142,47 +117,36 @@ fn other_text(alloc: Global, why: &Refusal) -> Result<Option<Vec<u8>>, OutOfMemo
     ensures { IfOk result (λ text. option_map (λ t. t.items) text ≡ spec.other_text why.now) }
 {
     match why.kind {
-        11 => in_two(
-            alloc,
-            "progress of ",
-            why.found,
-            " bytes in place of ",
-            why.wanted,
-            "",
-        ),
+        11 => of_found(alloc, why, "progress of ", " bytes in place of ", ""),
         12 => in_one(alloc, "progress that does not begin with RAPG"),
         13 => in_two(
             alloc,
+            (why.found, 3),
             "progress of version ",
-            why.found,
             ", where ",
-            3,
             " is the newest",
         ),
         14 => in_one(alloc, "progress whose sum is not that of its bytes"),
         15 => in_one(alloc, "progress of another set"),
         16 => in_two(
             alloc,
+            (why.at, why.wanted),
             "byte ",
-            why.at,
             ": an entry of another length than ",
-            why.wanted,
             " bytes",
         ),
         17 => in_two(
             alloc,
+            (why.at, why.found),
             "byte ",
-            why.at,
             ": the state ",
-            why.found,
             ", which is none",
         ),
-        21 => in_two(
+        21 => of_found(
             alloc,
+            why,
             "a document of ",
-            why.found,
             " bytes, where ",
-            why.wanted,
             " are the most",
         ),
         22 => in_one(alloc, "the document is no JSON"),
@@ -200,22 +164,34 @@ fn in_one(alloc: Global, text: &str) -> Result<Option<Vec<u8>>, OutOfMemory>
     Ok(Some(whole))
 }
 
-// Two numbers in a text.
-fn in_two(
+// The number that was found and the one that was wanted, in a text.
+fn of_found(
     alloc: Global,
+    why: &Refusal,
     before: &str,
-    one: u64,
     between: &str,
-    other: u64,
     behind: &str,
 ) -> Result<Option<Vec<u8>>, OutOfMemory>
-    ensures { IfOk result (λ whole. option_map (λ t. t.items) whole ≡ spec.in_two before.now one between.now other behind.now) }
+    ensures { IfOk result (λ whole. option_map (λ t. t.items) whole ≡ spec.in_two before.now why.now.found between.now why.now.wanted behind.now) }
+{
+    in_two(alloc, (why.found, why.wanted), before, between, behind)
+}
+
+// Two numbers in a text: what stands before, between and behind them.
+fn in_two(
+    alloc: Global,
+    numbers: (u64, u64),
+    before: &str,
+    between: &str,
+    behind: &str,
+) -> Result<Option<Vec<u8>>, OutOfMemory>
+    ensures { IfOk result (λ whole. option_map (λ t. t.items) whole ≡ spec.in_two before.now numbers.0 between.now numbers.1 behind.now) }
 {
     let mut whole = Vec::new(alloc);
     whole.extend_from_slice(before.as_bytes())?;
-    put_unsigned(&mut whole, one)?;
+    put_unsigned(&mut whole, numbers.0)?;
     whole.extend_from_slice(between.as_bytes())?;
-    put_unsigned(&mut whole, other)?;
+    put_unsigned(&mut whole, numbers.1)?;
     whole.extend_from_slice(behind.as_bytes())?;
     Ok(Some(whole))
 }
