@@ -1,7 +1,7 @@
 #!/bin/sh
 # Counts the instructions of a keep and of a take of a state in memory: of 4,000 achievements of 8 conditions, and of the real-sized set.
 # usage: bench/kept.sh
-# A program of its own is made in a copy of the crates below it, proved and built there. Instructions are the difference of a run of 41 keeps
+# A program of its own is made, proved and built (prove_program in player.sh). Instructions are the difference of a run of 41 keeps
 # and one of 1, by 40, after 20 frames over memory of which nothing changes, so that all that can rest does and owes; and of takes the same.
 set -eu
 . "$(dirname "$0")/player.sh"
@@ -9,13 +9,9 @@ need valgrind python3
 here=$(cd "$(dirname "$0")/.." && pwd)
 folder=$(mktemp -d)
 trap 'rm -rf "$folder"' EXIT
-python3 "$here/bench/workloads.py" "$folder" 10
-mkdir -p "$folder/crates/kept/src"
-cp -r "$here"/crates/*/ "$folder/crates/" 2>/dev/null || true
-rm -rf "$folder"/crates/*/out
-cp "$here/crates.txt" "$folder/crates.txt"
-echo "kept: ra_text ra_io ra_jobs ra_memory ra_set ra_runtime" >>"$folder/crates.txt"
-cat >"$folder/crates/kept/src/main.rt" <<'PROGRAM'
+made=$folder/made
+mkdir -p "$made/crates/kept/src"
+cat >"$made/crates/kept/src/main.rt" <<'PROGRAM'
 //! What a keep and a take of a state in memory cost. The words are a set file, and how many frames, keeps and takes there are.
 #![tactic(auto)]
 
@@ -105,8 +101,8 @@ fn keep_and_take(course: &mut Course, kept: &mut Kept, keeps: u32, takes: u32) {
     }
 }
 PROGRAM
-mkdir -p "$folder/crates/kept/proofs/played"
-cat >"$folder/crates/kept/proofs/played/Invariants.antt" <<'INVARIANTS'
+mkdir -p "$made/crates/kept/proofs/played"
+cat >"$made/crates/kept/proofs/played/Invariants.antt" <<'INVARIANTS'
 use Rattle.std.proofs.Common.{◌≡◌, length}
 use Rattle.kept.proofs.played.Given as goal
 
@@ -117,8 +113,9 @@ invariant-loop l = length l.memory ≡ l.course.size
 abbrev pub ghosts-follow : goal.ghosts-follow
 ghosts-follow a = record { name = a.blank.name; parts = a.blank.parts }
 INVARIANTS
-(cd "$folder/crates/kept" && rt run -- "$folder/many.set" 1 1 1) >&2
-kept=$folder/crates/kept/out/kept
+prove_program "$made" kept ra_text ra_io ra_jobs ra_memory ra_set ra_runtime
+kept=$made/crates/kept/out/kept
+python3 "$here/bench/workloads.py" "$folder" 10
 
 # counted SET KEEPS TAKES: the instructions of a run
 counted() {

@@ -1,7 +1,7 @@
 #!/bin/sh
 # Counts the instructions of a look, for each cell, and the bytes that a table takes: random cells over random banks.
 # usage: bench/look.sh
-# A program of its own is made in a copy of the crates below it, proved and built there. Instructions are the difference of a run
+# A program of its own is made, proved and built (prove_program in player.sh). Instructions are the difference of a run
 # of 41 looks and one of 1, by 40 and by the cells, of which equal ones are one; nothing changes between looks, so each reads every
 # cell once. Bytes are all
 # that a run without an image takes from the system, for a table made for looks and for one that is told of writes; and all that
@@ -12,13 +12,7 @@ need valgrind python3
 here=$(cd "$(dirname "$0")/.." && pwd)
 folder=$(mktemp -d)
 trap 'rm -rf "$folder"' EXIT
-crates="ra_text ra_operand ra_memory ra_indirect ra_links ra_banks ra_memref"
 mkdir -p "$folder/crates/look/src"
-for crate in $crates; do
-    cp -r "$here/crates/$crate" "$folder/crates/$crate"
-    grep "^$crate:" "$here/crates.txt" >>"$folder/crates.txt"
-done
-echo "look: ra_text ra_operand ra_memory ra_indirect ra_memref ra_banks" >>"$folder/crates.txt"
 cat >"$folder/crates/look/src/main.rt" <<'PROGRAM'
 //! What a look costs: a table of random cells looks at random banks.
 //!
@@ -65,7 +59,7 @@ fn main(rt: HostRuntime) -> ExitCode {
     };
     match measured(rt.alloc(), words.as_slice()) {
         Some(()) => ExitCode::from(0),
-        None => ExitCode::from(2),
+        None => ExitCode::from(1),
     }
 }
 
@@ -244,7 +238,7 @@ use Rattle.look.proofs.look_over.Given as goal
 abbrev pub ghosts-look_often : goal.ghosts-look_often
 ghosts-look_often a = record { name = a.blank.name; parts = a.blank.parts }
 PROOF
-(cd "$folder/crates/look" && rt run -- 1 1 16 1 1 0) >&2
+prove_program "$folder" look ra_text ra_operand ra_memory ra_indirect ra_memref ra_banks
 look=$folder/crates/look/out/look
 
 # counted CELLS BANKS BYTES LOOKS: the instructions of a run

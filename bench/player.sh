@@ -35,3 +35,31 @@ instructions() {
     shift
     valgrind --tool=callgrind --callgrind-out-file=/dev/null "$player" "$@" 2>&1 >"$out" | awk '/Collected/ { print $NF }'
 }
+
+# Proves and builds a program of a script's own, prove_program FOLDER NAME CRATE.., of these crates: FOLDER/crates/NAME/out/NAME. Its source lies
+# in FOLDER/crates/NAME, and the crates are copied beside it, without their edits. `rt ci` takes of them what earlier runs on this
+# machine proved, and proves the rest, with its tests. Without words the program has to end with status 1.
+prove_program() {
+    python3 - "$here" "$@" <<'COPY'
+import shutil
+import sys
+
+here, folder, name, *uses = sys.argv[1:]
+with open(f"{here}/crates.txt", encoding="utf-8") as file:
+    lines = {line.split()[0].rstrip(":"): line for line in file if ":" in line and not line.startswith("#")}
+below, found = list(uses), []
+while below:
+    crate = below.pop()
+    if crate in lines and crate not in found:
+        found.append(crate)
+        below += lines[crate].split(":")[1].split()
+for crate in found:
+    shutil.copytree(f"{here}/crates/{crate}", f"{folder}/crates/{crate}", ignore=shutil.ignore_patterns("out", "must-fail"))
+with open(f"{folder}/crates.txt", "w", encoding="utf-8") as file:
+    file.writelines([*(lines[crate] for crate in found), f"{name}: {' '.join(uses)}\n"])
+shutil.copy(f"{here}/HANDLES", folder)
+with open(f"{folder}/crates/{name}/status", "w", encoding="utf-8") as file:
+    file.write("1\n")
+COPY
+    (cd "$1" && rt ci) >&2
+}
