@@ -1,6 +1,6 @@
-ghost use Rattle.std.specs.Prelude.{◌≡◌, ◌+◌, ◌*◌, ◌<◌, ◌≤◌, ◌^◌, ◌∷◌, [], Bool, ℕ, List, length, slice_index_or, IfOk};
+ghost use Rattle.std.specs.Prelude.{◌≡◌, ◌+◌, ◌*◌, ◌<◌, ◌≤◌, ◌^◌, ◌∷◌, ◌++◌, [], Bool, ℕ, List, length, replicate, slice_index_or, IfOk};
 ghost use Rattle.ra_account.specs.declared.mark.Mark.TheVariants.{Never};
-ghost use Rattle.ra_account.specs.Marks.{HasColumns, IsSound, IsTimeline, joined, mark_more};
+ghost use Rattle.ra_account.specs.Marks.{HasColumns, IsSound, IsTimeline, IsWidth, joined, mark_more};
 
 use crate::mark::Mark;
 use ra_text::OutOfMemory;
@@ -44,10 +44,57 @@ impl Columns {
         ensures sound { IsSound self.new }
         ensures noted { (earlier : List Bool) → IsTimeline earlier self.old → IsTimeline (now ∷ earlier) self.new }
     {
+        self.note_run(now, 1);
+    }
+
+    /// Notes that the condition counts, or not, at each of this many frames more.
+    pub fn note_run(&mut self, now: bool, frames: u64)
+        requires sound { IsSound self.old }
+        requires few { self.old.full * self.old.width + self.old.begun + frames ≤ 2 ^ 60 }
+        ensures sound { IsSound self.new }
+        ensures noted { (earlier : List Bool) → IsTimeline earlier self.old
+            → IsTimeline (replicate frames now ++ earlier) self.new }
+    {
+        let mut left = frames;
+        while left != 0 {
+            left -= self.note_some(now, left);
+        }
+    }
+
+    // Notes the first of this many frames more, as many as one column has room for, and tells how many these are.
+    fn note_some(&mut self, now: bool, frames: u64) -> u64
+        requires sound { IsSound self.old }
+        requires some { 0 < frames }
+        requires few { self.old.full * self.old.width + self.old.begun + frames ≤ 2 ^ 60 }
+        ensures sound { IsSound self.new }
+        ensures some { 0 < result }
+        ensures most { result ≤ frames }
+        ensures long { self.new.full * self.new.width + self.new.begun
+            ≡ self.old.full * self.old.width + self.old.begun + result }
+        ensures noted { (earlier : List Bool) → IsTimeline earlier self.old
+            → IsTimeline (replicate result now ++ earlier) self.new }
+    {
+        self.make_room();
+        let some = frames.min(self.width - self.begun);
+        self.put(now, some);
+        some
+    }
+
+    // Joins the columns if all are full, so that there is room for a frame more.
+    fn make_room(&mut self)
+        requires sound { IsSound self.old }
+        requires few { self.old.full * self.old.width + self.old.begun < 2 ^ 60 }
+        ensures sound { IsSound self.new }
+        ensures room { self.new.full < 60 }
+        ensures long { self.new.full * self.new.width + self.new.begun
+            ≡ self.old.full * self.old.width + self.old.begun }
+        ensures ready { (earlier : List Bool) → IsTimeline earlier self.old → HasColumns earlier self.new }
+        ensures width { (earlier : List Bool) → IsTimeline earlier self.old → (more : ℕ) → length earlier < more
+            → more ≤ 60 * self.new.width → IsWidth more self.new.width }
+    {
         if self.full == COLUMNS {
             self.fold();
         }
-        self.put(now);
     }
 
     // Joins the columns two by two.
@@ -57,6 +104,7 @@ impl Columns {
         requires few { self.old.width < 2 ^ 60 }
         ensures sound { IsSound self.new }
         ensures half { self.new.full ≡ 30 }
+        ensures none_begun { self.new.begun ≡ self.old.begun }
         ensures width { self.new.width ≡ self.old.width + self.old.width }
         ensures joined { (counts : List Bool) → HasColumns counts self.old → HasColumns counts self.new }
     {
@@ -65,17 +113,23 @@ impl Columns {
         self.width += self.width;
     }
 
-    // Notes a frame where not all columns are full.
-    fn put(&mut self, now: bool)
+    // Notes frames for which the column that is begun, or a new one, has room.
+    fn put(&mut self, now: bool, frames: u64)
         requires sound { IsSound self.old }
         requires room { self.old.full < 60 }
+        requires some { 0 < frames }
+        requires within { self.old.begun + frames ≤ self.old.width }
+        requires few { self.old.full * self.old.width + self.old.begun + frames ≤ 2 ^ 60 }
         ensures sound { IsSound self.new }
         ensures width { self.new.width ≡ self.old.width }
-        ensures put { (earlier : List Bool) → HasColumns earlier self.old → HasColumns (now ∷ earlier) self.new }
+        ensures long { self.new.full * self.new.width + self.new.begun
+            ≡ self.old.full * self.old.width + self.old.begun + frames }
+        ensures put { (earlier : List Bool) → HasColumns earlier self.old
+            → HasColumns (replicate frames now ++ earlier) self.new }
     {
         let mark = self.mark_with(now);
         self.marks[self.full as usize] = mark;
-        self.begun += 1;
+        self.begun += frames;
         if self.begun == self.width {
             self.full += 1;
             self.begun = 0;

@@ -1,5 +1,7 @@
-ghost use Rattle.std.specs.Prelude.{◌≡◌, ◌+◌, ◌<◌, ◌^◌, ◌∷◌, [], List, IfOk};
+ghost use Rattle.std.specs.Prelude.{◌≡◌, ◌+◌, ◌-◌, ◌<◌, ◌≤◌, ◌^◌, ◌∷◌, ◌++◌, [], Bool, List, length, replicate, IfOk};
 ghost use Rattle.ra_account.specs.Conditions.{IsAccountOf, StandsAt};
+ghost use Rattle.ra_account.specs.Marks.{IsSound};
+ghost use Rattle.ra_account.specs.Running.{CountedTo, HasCounted, HasNumbersOf, HasSeen};
 ghost use Rattle.ra_account.specs.declared.facts.Facts.{Facts};
 
 use crate::best::Best;
@@ -50,11 +52,34 @@ impl ConditionAccount {
         ensures noted { (earlier : List Facts) → IsAccountOf earlier self.old → IsAccountOf (now ∷ earlier) self.new }
         ensures stands { StandsAt (at + 1) self.new }
     {
-        self.counts.note(at, now.counts);
-        self.past.note(at, now.past);
+        self.note_run(at, at + 1, now.counts, now.past);
+        self.note_numbers(at, now);
+    }
+
+    // Notes whether the condition counts, and whether an operand of it is past memory, at the frames from `from` up to
+    // `to`, which is not one of them, after all frames before these.
+    pub(crate) fn note_run(&mut self, from: u64, to: u64, counts: bool, past: bool)
+        requires counted { CountedTo from self.old }
+        requires order { from ≤ to }
+        requires few { to ≤ 2 ^ 60 }
+        ensures noted { (held lacks : List Bool) → HasCounted held lacks self.old
+            → HasCounted (replicate (to - from) counts ++ held) (replicate (to - from) past ++ lacks) self.new }
+        ensures sound { IsSound self.new.columns }
+        ensures rest { HasNumbersOf self.old self.new }
+    {
+        self.counts.note_run(from, to, counts);
+        self.past.note_run(from, to, past);
+        self.columns.note_run(counts, to - from);
+    }
+
+    // Notes the total and the values that the frame `at` shows, after all frames before it.
+    pub(crate) fn note_numbers(&mut self, at: u64, now: Facts)
+        ensures noted { (earlier : List Facts) → length earlier ≡ at → HasSeen earlier self.old
+            → HasSeen (now ∷ earlier) self.new }
+        ensures rest { self.new ≡ record self.old { best = self.new.best; left = self.new.left; right = self.new.right } }
+    {
         self.best.note(at, now.total);
         self.left.note(now.left);
         self.right.note(now.right);
-        self.columns.note(now.counts);
     }
 }

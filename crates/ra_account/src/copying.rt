@@ -1,9 +1,9 @@
 //! Copies of accounts, as a save slot keeps one.
 
 ghost use Rattle.std.specs.Prelude.{◌≡◌, ℕ, List, length, IfOk};
-ghost use Rattle.ra_account.specs.Conditions.{AllStandAt, AreAccounts, IsAccountOf, StandsAt};
-ghost use Rattle.ra_account.specs.Copies.{AreColumnsOf, IsNearestLike};
+ghost use Rattle.ra_account.specs.Copies.{AreColumnsOf, IsAccountLike, IsNearestLike};
 ghost use Rattle.ra_account.specs.Groups.{AllFit, AllGroupsStandAt, AreGroupAccounts, FitsGroup, GroupRow, GroupStandsAt, IsGroupAccount};
+ghost use Rattle.ra_account.specs.Running.{AllRunAt, AreRunning, IsRunning, RunsAt};
 ghost use Rattle.ra_account.specs.Triggers.{IsReady, IsTriggerAccount, TriggerRow};
 ghost use Rattle.ra_account.specs.declared.facts.Facts.{Facts};
 ghost use Rattle.ra_condition.specs.Contents.{TriggerContents};
@@ -11,9 +11,10 @@ ghost use Rattle.ra_condition.specs.declared.condition.Condition.{Condition};
 
 use crate::columns::Columns;
 use crate::condition::ConditionAccount;
-use crate::group_account::{GroupAccount, NO_STANDING};
+use crate::group_account::{GroupAccount, NO_SIGHT, NO_STANDING};
 use crate::mark::Mark;
 use crate::nearest::Nearest;
+use crate::running::Running;
 use crate::trigger_account::TriggerAccount;
 use ra_text::OutOfMemory;
 use std::alloc::Global;
@@ -42,9 +43,11 @@ fn copy_columns(alloc: Global, columns: &Columns) -> Result<Columns, OutOfMemory
 }
 
 // A copy of the account of a condition.
-fn copy_account(alloc: Global, account: &ConditionAccount) -> Result<ConditionAccount, OutOfMemory>
-    ensures same { (frames : List Facts) → IsAccountOf frames account.now → IfOk result (IsAccountOf frames) }
-    ensures stands { (count : ℕ) → StandsAt count account.now → IfOk result (StandsAt count) }
+pub(crate) fn copy_account(
+    alloc: Global,
+    account: &ConditionAccount,
+) -> Result<ConditionAccount, OutOfMemory>
+    ensures { IfOk result (IsAccountLike account.now) }
 {
     let columns = copy_columns(alloc, &account.columns)?;
     Ok(ConditionAccount {
@@ -57,25 +60,39 @@ fn copy_account(alloc: Global, account: &ConditionAccount) -> Result<ConditionAc
     })
 }
 
+// A copy of the account of a condition with what is still to be counted.
+fn copy_running(alloc: Global, running: &Running) -> Result<Running, OutOfMemory>
+    ensures same { (frames : List Facts) → IsRunning frames running.now → IfOk result (IsRunning frames) }
+    ensures stands { (count : ℕ) → RunsAt count running.now → IfOk result (RunsAt count) }
+{
+    let account = copy_account(alloc, &running.account)?;
+    Ok(Running {
+        account,
+        since: running.since,
+        counts: running.counts,
+        past: running.past,
+    })
+}
+
 // Copies of the accounts of several conditions.
 pub(crate) fn copy_accounts(
     alloc: Global,
-    accounts: &[ConditionAccount],
-) -> Result<Vec<ConditionAccount>, OutOfMemory>
+    accounts: &[Running],
+) -> Result<Vec<Running>, OutOfMemory>
     ensures many { IfOk result (λ copy. length copy.items ≡ length accounts.now) }
-    ensures same { (frames : ℕ → List Facts) → AreAccounts frames accounts.now
-        → IfOk result (λ copy. AreAccounts frames copy.items) }
-    ensures stand { (count : ℕ) → AllStandAt count accounts.now
-        → IfOk result (λ copy. AllStandAt count copy.items) }
+    ensures same { (frames : ℕ → List Facts) → AreRunning frames accounts.now
+        → IfOk result (λ copy. AreRunning frames copy.items) }
+    ensures stand { (count : ℕ) → AllRunAt count accounts.now
+        → IfOk result (λ copy. AllRunAt count copy.items) }
 {
     let mut copy = Vec::new(alloc);
     for account in accounts {
-        copy.push(copy_account(alloc, account)?)?;
+        copy.push(copy_running(alloc, account)?)?;
     }
     Ok(copy)
 }
 
-// A copy of the accounts of a group's conditions.
+// A copy of the accounts of a group's conditions; what the last frame showed of them is not kept.
 fn copy_group(alloc: Global, group: &GroupAccount) -> Result<GroupAccount, OutOfMemory>
     ensures fits { (cs : List Condition) → FitsGroup cs group.now → IfOk result (FitsGroup cs) }
     ensures same { (cs : List Condition) (size : ℕ) (frames : List GroupRow)
@@ -90,6 +107,10 @@ fn copy_group(alloc: Global, group: &GroupAccount) -> Result<GroupAccount, OutOf
         pausing: group.pausing.to_vec(alloc)?,
         alone: group.alone,
         room: vec![in alloc; NO_STANDING; count]?,
+        seen: vec![in alloc; NO_SIGHT; count]?,
+        paused: false,
+        kept: false,
+        frames: group.frames,
     })
 }
 

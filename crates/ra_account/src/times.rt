@@ -1,4 +1,4 @@
-ghost use Rattle.std.specs.Prelude.{◌≡◌, ◌+◌, ◌<◌, ◌≤◌, ◌^◌, ◌∷◌, [], Bool, List, length};
+ghost use Rattle.std.specs.Prelude.{◌≡◌, ◌+◌, ◌-◌, ◌<◌, ◌≤◌, ◌^◌, ◌∷◌, ◌++◌, [], Bool, List, length, replicate};
 ghost use Rattle.ra_account.specs.Counting.{times_of};
 
 /// At how many frames something was so, at the first of them and at the last: docs/DEFINITIONS.md,
@@ -41,6 +41,24 @@ impl Times {
             }
             self.last = at;
             self.count += 1;
+        }
+    }
+
+    /// Notes that it is so, or not, at each frame from `from` up to `to`, which is not one of them, after all frames
+    /// before these.
+    pub fn note_run(&mut self, from: u64, to: u64, now: bool)
+        requires within { self.old.count ≤ from }
+        requires order { from ≤ to }
+        requires few { to ≤ 2 ^ 60 }
+        ensures { (earlier : List Bool) → length earlier ≡ from → self.old ≡ times_of earlier
+            → self.new ≡ times_of (replicate (to - from) now ++ earlier) }
+    {
+        if now && from < to {
+            if self.count == 0 {
+                self.first = from;
+            }
+            self.last = to - 1;
+            self.count += to - from;
         }
     }
 }
