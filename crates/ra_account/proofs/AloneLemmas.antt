@@ -49,3 +49,8 @@ any_more passes place before here known is =
     ∙ ap (λ k. list_any passes (range_with_len 0 place ++ k ∷ [])) (from_none place)
     ∙ ap (list_any passes) (sym (range_more 0 place))
     ∙ ap (λ n. list_any passes (range_with_len 0 n)) (sym (add-one place))
+
+-- where one or the other is not, neither is
+pub neither : (a b : Bool) → (a || b) ≡ false → (a ≡ false) × (b ≡ false)
+neither true b no_one = absurd (cc)
+neither false b no_one = (refl, no_one)

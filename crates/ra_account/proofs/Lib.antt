@@ -5,7 +5,10 @@ pub mod CountingLemmas
 pub mod GreatestLemmas
 pub mod GroupLemmas
 pub mod NearLemmas
+pub mod NotingLemmas
 pub mod RefillLemmas
+pub mod RunLemmas
+pub mod RunningLemmas
 pub mod StopLemmas
 pub mod WidthLemmas
 pub mod ToldLemmas

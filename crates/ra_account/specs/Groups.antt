@@ -1,13 +1,16 @@
 -- The accounts of a group's conditions: docs/DEFINITIONS.md, "Account of an achievement". A list has a row for each frame, the newest first.
-use Rattle.std.specs.Prelude.{◌≡◌, ℕ, ◌+◌, ◌<◌, ◌≤◌, Bool, true, false, List, [], length, map, take, drop, sum_by, slice_index_or}
+use Rattle.std.specs.Prelude.{◌≡◌, ℕ, ◌+◌, ◌<◌, ◌≤◌, Bool, true, false, List, [], ◌∷◌, length, map, take, drop, sum_by, slice_index, slice_index_or}
 use Rattle.ra_condition.specs.declared.condition.Condition.{Condition}
 use Rattle.ra_condition.specs.Chains.{in_pause_chain, places}
+use Rattle.ra_condition.specs.Contents.{condition_at, flag_at}
 use Rattle.ra_group.specs.Equations.{Frame, frame_of}
 use Rattle.ra_account.specs.declared.facts.Facts.{Facts}
 use Rattle.ra_account.specs.declared.group_account.GroupAccount.{GroupAccount}
-use Rattle.ra_account.specs.Alone.{StandAlone}
-use Rattle.ra_account.specs.Conditions.{AllStandAt, AreAccounts}
-use Rattle.ra_account.specs.Facts.{facts_at, wanted_at}
+use Rattle.ra_account.specs.declared.row.Row.{Row}
+use Rattle.ra_account.specs.declared.sight.Sight.{Sight}
+use Rattle.ra_account.specs.Alone.{StandAlone, stands_alone}
+use Rattle.ra_account.specs.Running.{AllRunAt, AreRunning}
+use Rattle.ra_account.specs.Facts.{facts_at, is_paused, wanted_at, wanted_by}
 
 -- what the account of a group is told of a frame: for each condition its comparison, its left and right value, and its hits before
 pub record GroupRow : Type 0 where
@@ -40,13 +43,50 @@ shown cs size j r = facts_at (row_frame cs r) r.rights size j
 abbrev pub wants_of : List Condition → GroupRow → List Bool
 wants_of cs r = map (wanted_at (row_frame cs r)) (places cs)
 
--- an account of each condition over these frames
-abbrev pub IsGroupAccount : List Condition → (size : ℕ) → List GroupRow → GroupAccount → Type 0
-IsGroupAccount cs size frames g = AreAccounts (λ j. map (shown cs size j) frames) g.conditions.items
+-- what a row has of the condition at j
+abbrev pub sight_at : GroupRow → ℕ → Sight
+sight_at r j = record {
+  truth = slice_index_or r.truths j false;
+  left = slice_index r.lefts j;
+  right = slice_index r.rights j;
+  hits = slice_index r.hits j;
+}
+
+-- what is taken for a condition past the end of a group, where no clause looks
+abbrev pub no_sight : Sight
+no_sight = record { truth = false; left = 0; right = 0; hits = 0 }
+
+-- the row that a value of the code has
+abbrev pub row_in : Row → GroupRow
+row_in r = record { truths = r.truths.now; lefts = r.lefts.now; rights = r.rights.now; hits = r.hits.now }
+
+-- a row is kept, and whether its frame pauses the group
+pub record KeepsRow (cs : List Condition) (r : GroupRow) (g : GroupAccount) : Type 0 where
+  pub paused_too : g.paused ≡ is_paused (row_frame cs r)
+  pub seen_too : (j : ℕ) → j < length cs → slice_index_or g.seen.items j no_sight ≡ sight_at r j
+
+-- the row of the last frame is kept, which there is
+abbrev pub KeepsLast : List Condition → List GroupRow → GroupAccount → Type 0
+KeepsLast cs [] g = ⊥
+KeepsLast cs (r ∷ earlier) g = KeepsRow cs r g
+
+-- a frame wants each condition as marked, in a group without chains, by what it shows of each and whether it pauses the group
+abbrev pub AreWantedBy : List Condition → (paused : Bool) → List Sight → (wants : List Bool) → Type 0
+AreWantedBy cs paused seen wants = (j : ℕ) → j < length cs → slice_index_or wants j false
+    ≡ wanted_by (flag_at cs j) paused (stands_alone (condition_at cs j) (slice_index_or seen j no_sight).truth
+    (slice_index_or seen j no_sight).hits).valid
+
+-- an account of each condition over these frames, with the row of the last one if one is kept
+pub record IsGroupAccount (cs : List Condition) (size : ℕ) (frames : List GroupRow) (g : GroupAccount) : Type 0 where
+  pub count : g.frames ≡ length frames
+  pub each : AreRunning (λ j. map (shown cs size j) frames) g.conditions.items
+  pub last : g.kept ≡ true → KeepsLast cs frames g
 
 -- each is an account of this many frames
-abbrev pub GroupStandsAt : ℕ → GroupAccount → Type 0
-GroupStandsAt count g = AllStandAt count g.conditions.items
+pub record GroupStandsAt (count : ℕ) (g : GroupAccount) : Type 0 where
+  pub frames_too : g.frames ≡ count
+  pub each_stands : AllRunAt count g.conditions.items
+  pub some : g.kept ≡ true → 0 < count
 
 -- an account for each condition, with room for what a frame shows; and whether the group is known to have no chains
 pub record FitsGroup (cs : List Condition) (g : GroupAccount) : Type 0 where
@@ -57,6 +97,8 @@ pub record FitsGroup (cs : List Condition) (g : GroupAccount) : Type 0 where
   pub pausing : (j : ℕ) → j < length cs → slice_index_or g.pausing.items j false ≡ in_pause_chain cs j
   pub room : length g.room.items ≡ length cs
   pub alone : g.alone ≡ true → StandAlone cs
+  pub seen : length g.seen.items ≡ length cs
+  pub wanted : g.kept ≡ true → AreWantedBy cs g.paused g.seen.items g.wants.items
 
 -- the part of a row that has the conditions of a group, which start at a place
 abbrev pub part_of : List Condition → ℕ → GroupRow → GroupRow

@@ -7,6 +7,8 @@ pub mod Greatest
 pub mod Groups
 pub mod Marks
 pub mod Nearness
+pub mod Noting
+pub mod Running
 pub mod Stops
 pub mod Text
 pub mod Triggers

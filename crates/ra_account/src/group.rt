@@ -3,15 +3,14 @@
 ghost use Rattle.std.specs.Prelude.{◌≡◌, ℕ, ◌+◌, ◌<◌, ◌≤◌, ◌^◌, ◌∷◌, ◌&&◌, List, length, true, false, not, slice_index_or};
 ghost use Rattle.ra_condition.specs.Flags.{is_reset};
 ghost use Rattle.ra_group.specs.Equations.{frame_of};
-ghost use Rattle.ra_account.specs.Alone.{StandAlone};
 ghost use Rattle.ra_account.specs.Groups.{ArePausing, IsRowOf};
-ghost use Rattle.ra_account.specs.Conditions.{AllStandAt, AreAccounts};
+ghost use Rattle.ra_account.specs.Running.{AllRunAt, AreRunning};
 ghost use Rattle.ra_account.specs.Facts.{facts_at, pointer_by, wanted_at};
 ghost use Rattle.ra_account.specs.Stops.{stops_of};
 ghost use Rattle.ra_account.specs.declared.facts.Facts.{Facts};
 
-use crate::condition::ConditionAccount;
 use crate::facts::{Around, facts_of, is_wanted};
+use crate::running::Running;
 use crate::stands::stand_group;
 use crate::stops::Stops;
 use ra_condition::{Condition, Flag};
@@ -26,35 +25,35 @@ pub(crate) fn note_group(
     size: u32,
     at: u64,
     pausing: &[bool],
-    alone: bool,
     truths: &[bool],
     lefts: &[u32],
     rights: &[u32],
     hits: &[u32],
     room: &mut [Standing],
     wants: &mut [bool],
-    accounts: &mut [ConditionAccount],
+    accounts: &mut [Running],
 ) -> Stops
     requires few { length conditions.now ≤ 2 ^ 32 }
     requires frames { at < 2 ^ 60 }
     requires pausing { ArePausing conditions.now pausing.now }
-    requires alone { alone ≡ true → StandAlone conditions.now }
     requires row { IsRowOf (length conditions.now)
         (record { truths = truths.now; lefts = lefts.now; rights = rights.now; hits = hits.now }) }
     requires room { length room.old ≡ length conditions.now }
     requires wants { length wants.old ≡ length conditions.now }
     requires many { length accounts.old ≡ length conditions.now }
-    requires stand { AllStandAt at accounts.old }
+    requires stand { AllRunAt at accounts.old }
 
-    ensures noted { (earlier : ℕ → List Facts) → AreAccounts earlier accounts.old → AreAccounts
+    ensures noted { (earlier : ℕ → List Facts)
+        → ((j : ℕ) → j < length conditions.now → length (earlier j) ≡ at)
+        → AreRunning earlier accounts.old → AreRunning
         (λ j. facts_at (frame_of conditions.now truths.now lefts.now hits.now) rights.now size j ∷ earlier j)
         accounts.new }
-    ensures stand { AllStandAt (at + 1) accounts.new }
+    ensures stand { AllRunAt (at + 1) accounts.new }
     ensures wanted { (j : ℕ) → j < length conditions.now → slice_index_or wants.new j false
         ≡ wanted_at (frame_of conditions.now truths.now lefts.now hits.now) j }
     ensures stops { result ≡ stops_of (frame_of conditions.now truths.now lefts.now hits.now) }
 {
-    let paused = stand_group(conditions, alone, truths, hits, room);
+    let paused = stand_group(conditions, truths, hits, room);
     let mut resets = false;
     let mut pointer = 0;
     for place in 0..least(conditions, pausing, lefts, rights, room, wants, accounts) {
@@ -75,7 +74,7 @@ pub(crate) fn note_group(
 }
 
 // What stops a group, by whether it is paused and whether a ResetIf of it is valid.
-fn stops_by(paused: bool, resets: bool) -> Stops
+pub(crate) fn stops_by(paused: bool, resets: bool) -> Stops
     ensures { result ≡ record { paused = paused; reset = not paused && resets } }
 {
     Stops {
@@ -100,7 +99,7 @@ fn least(
     rights: &[u32],
     room: &[Standing],
     wants: &[bool],
-    accounts: &[ConditionAccount],
+    accounts: &[Running],
 ) -> usize
     requires pausing { length pausing.now ≡ length conditions.now }
     requires lefts { length lefts.now ≡ length conditions.now }
@@ -116,7 +115,7 @@ fn least(
 }
 
 // The value of the pointer of the condition after this one.
-fn pointer_behind(condition: &Condition, left: u32) -> u32
+pub(crate) fn pointer_behind(condition: &Condition, left: u32) -> u32
     ensures { result ≡ pointer_by condition.now.flag left }
 {
     if matches!(condition.flag, Flag::AddAddress) {

@@ -16,13 +16,11 @@ use ra_group::{Standing, stand};
 // Tells how each condition of a group stands, and whether some PauseIf of it is valid.
 pub(crate) fn stand_group(
     conditions: &[Condition],
-    alone: bool,
     truths: &[bool],
     hits: &[u32],
     standings: &mut [Standing],
 ) -> bool
     requires few { length conditions.now ≤ 2 ^ 32 }
-    requires alone { alone ≡ true → StandAlone conditions.now }
     requires truths { length truths.now ≡ length conditions.now }
     requires hits { length hits.now ≡ length conditions.now }
     requires standings { length standings.old ≡ length conditions.now }
@@ -30,10 +28,6 @@ pub(crate) fn stand_group(
         ≡ standing_at (frame_of conditions.now truths.now [] hits.now) j }
     ensures paused { result ≡ is_paused (frame_of conditions.now truths.now [] hits.now) }
 {
-    // Most groups have no chains, and then what a condition leaves for the next one need not be carried.
-    if alone {
-        return stand_apart(conditions, truths, hits, standings);
-    }
     stand(conditions, truths, hits, standings);
     if may_pause(conditions) {
         some_pause(conditions, truths, hits, standings)
@@ -74,44 +68,8 @@ fn may_pause(conditions: &[Condition]) -> bool
     false
 }
 
-// The same of a group in which none leaves anything for the next one.
-fn stand_apart(
-    conditions: &[Condition],
-    truths: &[bool],
-    hits: &[u32],
-    standings: &mut [Standing],
-) -> bool
-    requires alone { StandAlone conditions.now }
-    requires truths { length truths.now ≡ length conditions.now }
-    requires hits { length hits.now ≡ length conditions.now }
-    requires standings { length standings.old ≡ length conditions.now }
-    ensures stand { (j : ℕ) → j < length conditions.now → slice_index_or standings.new j no_standing
-        ≡ standing_at (frame_of conditions.now truths.now [] hits.now) j }
-    ensures paused { result ≡ is_paused (frame_of conditions.now truths.now [] hits.now) }
-{
-    let mut paused = false;
-    for place in 0..least(conditions, truths, hits, standings) {
-        let standing = stand_alone(&conditions[place], truths[place], hits[place]);
-        paused |= is_valid_pause(&conditions[place], standing);
-        standings[place] = standing;
-    }
-    paused
-}
-
-// The least of the lengths of these rows, which are as long as each other: it tells the compiler so, and then no place
-// of a row is asked whether it is one.
-fn least(conditions: &[Condition], truths: &[bool], hits: &[u32], standings: &[Standing]) -> usize
-    requires truths { length truths.now ≡ length conditions.now }
-    requires hits { length hits.now ≡ length conditions.now }
-    requires standings { length standings.now ≡ length conditions.now }
-    ensures { result ≡ length conditions.now }
-{
-    let told = hits.len().min(truths.len());
-    conditions.len().min(told).min(standings.len())
-}
-
 // How a condition with none before it in its chain stands.
-fn stand_alone(condition: &Condition, truth: bool, hits: u32) -> Standing
+pub(crate) fn stand_alone(condition: &Condition, truth: bool, hits: u32) -> Standing
     ensures { result ≡ stands_alone condition.now truth hits }
 {
     let target = condition.target;

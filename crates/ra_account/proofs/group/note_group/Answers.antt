@@ -4,9 +4,9 @@ use Rattle.std.specs.List.{list_any, range_with_len}
 use Rattle.ra_condition.specs.Flags.{is_reset}
 use Rattle.ra_group.specs.declared.standing.Standing.{Standing}
 use Rattle.ra_group.specs.Equations.{Frame, frame_of, settled_at}
-use Rattle.ra_account.specs.declared.condition.ConditionAccount.{ConditionAccount}
+use Rattle.ra_account.specs.declared.running.Running.{Running}
 use Rattle.ra_account.specs.declared.facts.Facts.{Facts}
-use Rattle.ra_account.specs.Conditions.{IsAccountOf, StandsAt}
+use Rattle.ra_account.specs.Running.{IsRunning, RunsAt}
 use Rattle.ra_account.specs.Facts.{facts_at, facts_by, wanted_by, pointer_at}
 use Rattle.ra_account.proofs.AloneLemmas.{any_more}
 use Rattle.ra_account.proofs.group.note_group.Goals as goal
@@ -41,20 +41,20 @@ loop-place-preserved c =
           ∙ c.is_wanted.ensures
           ∙ (λ i. wanted_by (flag_at f.conditions place) (paused i) (stands i).valid));
       stand = below_more _ _
-          (λ j before d. subst (λ (a : ConditionAccount). StandsAt (c.args.at + 1) a) (sym (get_or-set_other olds place j new d (omega arith))) (known.stand j before d))
-          (λ d. subst (λ (a : ConditionAccount). StandsAt (c.args.at + 1) a) (sym (get_or-set_same olds place new d within)) c.note.ensures.stands);
-      noted = λ earlier was. below_more _ _
-          (λ j before d. subst (λ (a : ConditionAccount). IsAccountOf (facts_at f c.args.rights.now c.args.size j ∷ earlier j) a)
-          (sym (get_or-set_other olds place j new d (omega arith))) (known.noted earlier was j before d))
-          (λ d. subst (λ (a : ConditionAccount). IsAccountOf (facts_at f c.args.rights.now c.args.size place ∷ earlier place) a)
+          (λ j before d. subst (λ (a : Running). RunsAt (c.args.at + 1) a) (sym (get_or-set_other olds place j new d (omega arith))) (known.stand j before d))
+          (λ d. subst (λ (a : Running). RunsAt (c.args.at + 1) a) (sym (get_or-set_same olds place new d within)) c.note.ensures.stands);
+      noted = λ earlier longs was. below_more _ _
+          (λ j before d. subst (λ (a : Running). IsRunning (facts_at f c.args.rights.now c.args.size j ∷ earlier j) a)
+          (sym (get_or-set_other olds place j new d (omega arith))) (known.noted earlier longs was j before d))
+          (λ d. subst (λ (a : Running). IsRunning (facts_at f c.args.rights.now c.args.size place ∷ earlier place) a)
           (sym (get_or-set_same olds place new d within))
-          (subst (λ (x : Facts). IsAccountOf (x ∷ earlier place) new) fact
-          (c.note.ensures.noted (earlier place) (subst (λ (a : ConditionAccount). IsAccountOf (earlier place) a) own (was place first c.index-accounts-place.result)))));
+          (subst (λ (x : Facts). IsRunning (x ∷ earlier place) new) fact
+          (c.note.ensures.noted (earlier place) (longs place below) (subst (λ (a : Running). IsRunning (earlier place) a) own (was place first c.index-accounts-place.result)))));
       rest = λ j above d. get_or-set_other olds place j new d (omega arith) ∙ known.rest j (omega arith) d;
     }
 
 pub returns-clause-noted : goal.returns-clause-noted
-returns-clause-noted c = λ earlier was j below d. c.loop-place.invariant.noted earlier was j (omega (arith, c.loop-place-test.false, c.loop-place.auto.accounts)) d
+returns-clause-noted c = λ earlier longs was j below d. c.loop-place.invariant.noted earlier longs was j (omega (arith, c.loop-place-test.false, c.loop-place.auto.accounts)) d
 
 pub returns-clause-stops : goal.returns-clause-stops
 returns-clause-stops c =

@@ -19,4 +19,6 @@ returns-clause-fits c =
       pausing = λ j below. ap (λ (xs : List Bool). get_or xs j false) pausing ∙ get_or-map-range_with_len (in_pause_chain cs) 0 (length cs) j j false below (omega arith);
       alone = λ yes. subst StandAlone c.deref-2.ensures.value (c.are_alone-alone.ensures yes);
       room = omega (arith, c.in_ok-vec-2.ensures.len, c.in_ok-vec-2.field-0.ok.0, count);
+      seen = omega (arith, c.in_ok-vec-3.ensures.len, c.in_ok-vec-3.field-0.ok.0, count);
+      wanted = λ yes. absurd (cc);
     }
