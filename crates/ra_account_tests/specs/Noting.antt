@@ -1,5 +1,7 @@
--- Columns after this many frames.
-use Rattle.std.specs.Prelude.{◌≡◌, ℕ, Bool, List, length}
+-- Columns and accounts after some frames.
+use Rattle.std.specs.Prelude.{◌≡◌, ℕ, ◌≤◌, ◌^◌, Bool, List, length}
+use Rattle.ra_account.specs.declared.trigger_account.TriggerAccount.{TriggerAccount}
+use Rattle.ra_account.specs.Groups.{AllGroupsStandAt, GroupStandsAt}
 use Rattle.ra_account.specs.declared.columns.Columns.{Columns}
 use Rattle.ra_account.specs.Marks.{IsSound, IsTimeline}
 
@@ -9,3 +11,9 @@ pub record StandsFor (frames : ℕ) (c : Columns) : Type 0 where
   pub long : length counts ≡ frames
   pub timeline : IsTimeline counts c
   pub sound : IsSound c
+
+-- an account of fewer than 2^60 frames, whatever they showed
+pub record StandsSomewhere (a : TriggerAccount) : Type 0 where
+  pub core_stands : GroupStandsAt a.frames a.core
+  pub alts_stand : AllGroupsStandAt a.frames a.alts.items
+  pub few : a.frames ≤ 2 ^ 60

@@ -1,9 +1,11 @@
 //! Random triggers over random memories: where each condition counts, beside the rows of all frames.
 
 ghost use Rattle.std.specs.Prelude.{◌≡◌, ◌<◌, length, OnOk};
+ghost use Rattle.ra_account_tests.specs.Noting.{StandsSomewhere};
 
+use crate::accounts::told_by;
 use crate::watched::{Step, take_all, trigger_of};
-use ra_account::{ConditionAccount, Times, TriggerAccount};
+use ra_account::{Times, TriggerAccount};
 use ra_condition::{Condition, TriggerText};
 use ra_explain::Recorder;
 use ra_memory::Steps;
@@ -204,20 +206,13 @@ fn counted(alloc: Global, text: &TriggerText, all: &[bool]) -> Result<Vec<Times>
     Ok(times)
 }
 
-// The same by the accounts of some conditions, put after others.
-fn put_noted(accounts: &[ConditionAccount], all: &mut Vec<Times>) -> Result<(), AllocError> {
-    for account in accounts {
-        all.push(account.counts)?;
-    }
-    Ok(())
-}
-
 // The same by an account.
-fn noted(alloc: Global, account: &TriggerAccount) -> Result<Vec<Times>, AllocError> {
+fn noted(alloc: Global, account: &TriggerAccount) -> Result<Vec<Times>, Fail>
+    requires { StandsSomewhere account.now }
+{
     let mut times = Vec::new(alloc);
-    put_noted(&account.core.conditions, &mut times)?;
-    for alt in &account.alts {
-        put_noted(&alt.conditions, &mut times)?;
+    for own in &told_by(alloc, account)? {
+        times.push(own.counts)?;
     }
     Ok(times)
 }
@@ -226,8 +221,11 @@ fn noted(alloc: Global, account: &TriggerAccount) -> Result<Vec<Times>, AllocErr
 fn noted_after(alloc: Global, text: &str, steps: &[Step]) -> Result<Vec<Times>, Fail> {
     let trigger = trigger_of(alloc, text)?;
     let mut watcher = Watcher::new(alloc, trigger, 64)?;
-    take_all(alloc, &mut watcher, steps, 0)?;
-    Ok(noted(alloc, &watcher.account)?)
+    let behind = take_all(alloc, &mut watcher, steps, 0)?;
+    if behind > 1_000_000 {
+        return Err(Fail::from("many frames"));
+    }
+    noted(alloc, &watcher.account)
 }
 
 // Whether the account of a random trigger is that of its rows.

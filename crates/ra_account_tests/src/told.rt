@@ -3,7 +3,9 @@
 ghost use Rattle.std.specs.Prelude.{◌≡◌, ◌+◌, ◌<◌, ◌≤◌, length, IfOk, OnOk};
 ghost use Rattle.ra_condition.specs.Contents.{trigger_contents, trigger_hits};
 ghost use Rattle.ra_account.specs.Triggers.{IsReady};
+ghost use Rattle.ra_account_tests.specs.Noting.{StandsSomewhere};
 
+use crate::accounts::told_by;
 use ra_account::{ConditionAccount, TriggerAccount};
 use ra_condition::{TriggerText, parse_trigger};
 use ra_trigger::Trigger;
@@ -46,6 +48,7 @@ fn tell(
 // The account of a trigger over some frames.
 fn account_of(alloc: Global, text: &str, frames: &[Told]) -> Result<TriggerAccount, Fail>
     requires { length frames.now ≤ 100 }
+    ensures { IfOk result StandsSomewhere }
 {
     let Ok(trigger) = parse_trigger(alloc, text.as_bytes()) else {
         return Err(Fail::from("no trigger"));
@@ -81,15 +84,12 @@ fn line_of(own: &ConditionAccount) -> Line {
 }
 
 // The lines of all conditions, core first.
-fn lines_of(alloc: Global, account: &TriggerAccount) -> Result<Vec<Line>, Fail> {
+fn lines_of(alloc: Global, account: &TriggerAccount) -> Result<Vec<Line>, Fail>
+    requires { StandsSomewhere account.now }
+{
     let mut lines = Vec::new(alloc);
-    for own in &account.core.conditions {
+    for own in &told_by(alloc, account)? {
         lines.push(line_of(own))?;
-    }
-    for alt in &account.alts {
-        for own in &alt.conditions {
-            lines.push(line_of(own))?;
-        }
     }
     Ok(lines)
 }

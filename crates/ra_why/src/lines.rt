@@ -107,18 +107,20 @@ pub(crate) fn put_group(
     requires accounts { length account.now.conditions.items ≡ length (group_contents group.now) }
     requires hits { length hits.now ≡ length (group_contents group.now) }
     requires stands { GroupStandsAt frames account.now }
+    requires few { frames < 2 ^ 60 }
     ensures { (size : ℕ) (rows : List GroupRow) → IsGroupAccount (group_contents group.now) size rows account.now
         → OnOk result (text.new.items ≡ text.old.items
         ++ spec.group_lines number (group_contents group.now) hits.now frames size rows) }
 {
     for place in 0..group.conditions.len() {
+        let told = account.conditions[place].told(alloc, frames)?;
         put_lines(
             alloc,
             text,
             (number, place),
             &group.conditions[place],
             (hits[place], frames),
-            &account.conditions[place],
+            &told,
         )?;
     }
     Ok(())
@@ -139,6 +141,7 @@ pub(crate) fn put_groups(
     requires many { length accounts.now ≡ length groups.now }
     requires fit { AllFit (map group_contents groups.now) accounts.now }
     requires stand { AllGroupsStandAt frames accounts.now }
+    requires few { frames < 2 ^ 60 }
     requires within { from + sum_by length (map group_contents groups.now) ≤ length hits.now }
     ensures { (size : ℕ) (rows : List GroupRow)
         → AreGroupAccounts (map group_contents groups.now) from size rows accounts.now

@@ -197,6 +197,7 @@ fn put_conditions(
     requires spelled { IsTrigger (trigger_contents trigger.now) }
     requires ready { IsReady (trigger_contents trigger.now) account.now }
     requires hits { length hits.now ≡ trigger_hits (trigger_contents trigger.now) }
+    requires few { account.now.frames < 2 ^ 60 }
     ensures { (size : ℕ) (rows : List TriggerRow)
         → IsTriggerAccount (trigger_contents trigger.now) size rows account.now
         → OnOk result (text.new.items ≡ text.old.items ++ spec.groups_lines 0 0 (groups_of (trigger_contents trigger.now))
