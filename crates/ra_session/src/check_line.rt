@@ -7,6 +7,7 @@ ghost use Rattle.ra_set.specs.Limits.{set_conditions};
 ghost use Rattle.ra_session.specs.Expected as spec;
 ghost use Rattle.ra_session.specs.Playing.{IsPlayable};
 
+use ra_counts::counts_of;
 use ra_jobs::{achievements, leaderboards};
 use ra_progress::Hex;
 use ra_set::{Set, conditions};
@@ -43,11 +44,6 @@ pub fn check_line(alloc: Global, set: &Set) -> Result<String, OutOfMemory>
     requires { IsPlayable (set_contents set.now) }
     ensures { IfOk result (λ line. string_bytes line ≡ spec.check_line (set_contents set.now)) }
 {
-    let shape = ra_runtime::shape_of(alloc, set)?;
-    counted_line(
-        alloc,
-        set,
-        shape.cells.as_slice().len(),
-        shape.priors.as_slice().len(),
-    )
+    let counts = counts_of(alloc, set)?;
+    counted_line(alloc, set, counts.cells, counts.tracked)
 }
