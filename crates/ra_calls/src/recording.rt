@@ -1,4 +1,4 @@
-ghost use Rattle.std.specs.Prelude.{◌≡◌, ◌≤◌, ◌^◌, true, length, IfOk, IfErr, IfSome};
+ghost use Rattle.std.specs.Prelude.{◌≡◌, ◌≤◌, ◌^◌, true, length, None, IfOk, IfErr, IfSome};
 ghost use Rattle.ra_condition.specs.Contents.{trigger_contents};
 ghost use Rattle.ra_calls.specs.Recordings.{RecordsFrame};
 
@@ -92,10 +92,18 @@ pub fn follow_too<I: Image>(recorded: &mut Option<Recorded>, image: &mut I)
     requires { IfSome recorded.old (λ r. length (I.bytes image.old) ≡ r.size) }
     ensures { RecordsFrame (I.bytes image.old) recorded.old recorded.new }
 {
-    if let Some(own) = recorded
-        && own.follow(image)
-    {
+    let Some(own) = recorded else {
         return;
+    };
+    if !own.follow(image) {
+        give_up(recorded);
     }
+}
+
+// Records no longer. It stands apart, since a frame has no room for a recording that is moved.
+#[inline(never)]
+fn give_up(recorded: &mut Option<Recorded>)
+    ensures { recorded.new ≡ None }
+{
     drop(recorded.take());
 }
