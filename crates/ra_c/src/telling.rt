@@ -7,7 +7,7 @@ ghost use Rattle.ra_calls.specs.Shows.{IsShownBy};
 ghost use Rattle.ra_calls.specs.ToldCells.{AreCellsOf};
 ghost use Rattle.ra_calls.specs.ToldItems.{AnswersNumber, AreItemsOf};
 
-use ra_calls::{Handle, ToldCell, ToldEvent, ToldItem};
+use ra_calls::{BoardNumber, Handle, ToldCell, ToldEvent, ToldItem};
 use std::alloc::Global;
 
 /// The events of the last frame, items in set order: docs/DEFINITIONS.md, "Calls from C" and "Events".
@@ -129,5 +129,5 @@ pub extern "C" fn meerkat_number(
     ensures unwritten { result ≢ done → out.new ≡ out.old }
     ensures uncounted { result ≢ done → result ≢ no_room → count.new ≡ count.old }
 {
-    ra_calls::number(alloc, handle, id, number, out, count)
+    ra_calls::number(alloc, handle, BoardNumber { id, number }, out, count)
 }

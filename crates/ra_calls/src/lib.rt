@@ -3,6 +3,7 @@
 //! `ra_c` exports these calls; each does one thing that an emulator does, and states the clause of the call below it.
 #![tactic(auto)]
 
+mod board_number;
 mod bytes;
 mod cell;
 mod choosing;
@@ -25,6 +26,7 @@ mod told_event;
 mod told_item;
 mod told_unlock;
 
+pub use board_number::BoardNumber;
 pub use explaining::{explain, record};
 pub use handle::Handle;
 pub use keeping::{earn, reset, restore, save, save_size};

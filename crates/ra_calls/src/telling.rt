@@ -8,6 +8,7 @@ ghost use Rattle.ra_calls.specs.Shows.{IsShownBy};
 ghost use Rattle.ra_calls.specs.ToldCells.{AreCellsOf};
 ghost use Rattle.ra_calls.specs.ToldItems.{AnswersNumber, AreItemsOf};
 
+use crate::board_number::BoardNumber;
 use crate::handle::Handle;
 use crate::told_cell::ToldCell;
 use crate::told_event::ToldEvent;
@@ -129,12 +130,11 @@ pub fn presence(alloc: Global, handle: &mut Handle, out: &mut [u8], count: &mut 
 pub fn number(
     alloc: Global,
     handle: &mut Handle,
-    id: u32,
-    number: i32,
+    asked: BoardNumber,
     out: &mut [u8],
     count: &mut usize,
 ) -> u32
-    ensures told { Calls (AnswersNumber id number out.old out.new count.new result) result (held_in handle.old) (held_in handle.new) }
+    ensures told { Calls (AnswersNumber asked.id asked.number out.old out.new count.new result) result (held_in handle.old) (held_in handle.new) }
     ensures recording { recorded_in handle.new ≡ recorded_in handle.old }
     ensures slots { slots_in handle.new ≡ slots_in handle.old }
     ensures unwritten { result ≢ done → out.new ≡ out.old }
@@ -142,7 +142,7 @@ pub fn number(
 {
     match handle.take(alloc) {
         Some(game) => {
-            let code = give_number(game.number(alloc, id, number), out, count);
+            let code = give_number(game.number(alloc, asked.id, asked.number), out, count);
             handle.put(game);
             code
         }
