@@ -1,5 +1,5 @@
 -- What a frame wants of all conditions of a trigger.
-use Rattle.std.proofs.Common.{◌≡◌, ℕ, suc, ◌+◌, ◌<◌, ◌≤◌, Bool, false, List, [], ◌∷◌, ◌++◌, length, map, take, sum_by, get_or, refl, sym, ap, ap₂, ◌∙◌, arith, length-append, append_assoc}
+use Rattle.std.proofs.Common.{◌≡◌, ℕ, suc, ◌+◌, ◌<◌, ◌≤◌, ◌^◌, Bool, false, List, [], ◌∷◌, ◌++◌, length, map, take, sum_by, get_or, refl, sym, ap, ap₂, ◌∙◌, arith, length-append, append_assoc}
 use Rattle.std.specs.Prelude.{min, not, ◌&&◌, ◌||◌, ◌==◌, if◌then◌else◌, true}
 use Rattle.std.proofs.lemmas.Grind.{common_steps}
 use Rattle.std.specs.List.{flat_map}
@@ -11,6 +11,7 @@ use Rattle.ra_condition.specs.declared.condition.Condition.{Condition}
 use Rattle.ra_account.specs.declared.group_account.GroupAccount.{GroupAccount}
 use Rattle.ra_account.specs.Groups.{GroupRow, AllWant, group_at, part_of, start_at, wants_of}
 use Rattle.ra_account.specs.Counting.{count_of}
+use Rattle.ra_account.proofs.CountingLemmas.{count_of-le}
 use Rattle.ra_account.specs.Wanting.{alt_wants, fewest_of, none_of, of_first, wants_where}
 
 -- the wants of some groups, one by one
@@ -60,3 +61,57 @@ pub one_written : (found : Bool) (fewest : ℕ) (wants : List Bool) (alts : List
 one_written true fewest wants alts equal is = refl
 one_written false fewest wants alts true is = ap (λ b. if b then wants ++ flat_map none_of alts else none_of wants ++ of_first fewest alts) is
 one_written false fewest wants alts false is = ap (λ b. if b then wants ++ flat_map none_of alts else none_of wants ++ of_first fewest alts) is
+
+-- how many of two lists are so
+pub count_of-append : (xs ys : List Bool) → count_of (xs ++ ys) ≡ count_of xs + count_of ys
+count_of-append [] ys = omega arith
+count_of-append (true ∷ xs) ys = omega (arith, count_of-append xs ys)
+count_of-append (false ∷ xs) ys = omega (arith, count_of-append xs ys)
+
+-- where nothing is wanted of a group, none of its conditions is
+count_none : (wants : List Bool) → count_of (none_of wants) ≡ 0
+count_none [] = refl
+count_none (wanted ∷ wants) = count_none wants
+
+-- nor where nothing is wanted of several
+count_nones : (alts : List (List Bool)) → count_of (flat_map none_of alts) ≡ 0
+count_nones [] = refl
+count_nones (wants ∷ alts) = count_of-append (none_of wants) (flat_map none_of alts) ∙ ap₂ (λ m n. m + n) (count_none wants) (count_nones alts)
+
+-- of the first alt of which this many conditions are wanted this many are
+count_here : (fewest : ℕ) (wants : List Bool) (alts : List (List Bool)) → count_of wants ≡ fewest → count_of (wants ++ flat_map none_of alts) ≡ fewest
+count_here fewest wants alts is = omega (arith, count_of-append wants (flat_map none_of alts), count_nones alts, is)
+
+-- of the first alt of which the fewest are wanted the fewest are, where that holds of the others
+count_more : (least : ℕ) (wants : List Bool) (alts : List (List Bool)) (equal : Bool) → (count_of wants == least) ≡ equal
+    → (equal ≡ false → count_of (of_first least alts) ≡ least) → count_of (of_first least (wants ∷ alts)) ≡ least
+count_more least wants alts true e others =
+    ap (λ b. count_of (if b then wants ++ flat_map none_of alts else none_of wants ++ of_first least alts)) e
+    ∙ count_here least wants alts (grind (arith, common_steps, e))
+count_more least wants alts false e others =
+    ap (λ b. count_of (if b then wants ++ flat_map none_of alts else none_of wants ++ of_first least alts)) e
+    ∙ count_of-append (none_of wants) (of_first least alts)
+    ∙ omega (arith, count_none wants, others refl)
+
+-- the same, where there are no more conditions than there may be
+count_first : (least : ℕ) (first : GroupAccount) (alts : List GroupAccount) → sum_by (λ g. length g.wants.items) (first ∷ alts) < 2 ^ 64
+    → least ≡ fewest_of (wants_by (first ∷ alts)) → count_of (of_first least (wants_by (first ∷ alts))) ≡ least
+count_first least first [] few is =
+    count_more least first.wants.items [] (count_of first.wants.items == least) refl
+    (λ other. absurd (grind (arith, common_steps, other, is, count_of-le first.wants.items, sum_by-cons (λ (g : GroupAccount). length g.wants.items) first [])))
+count_first least first (second ∷ alts) few is =
+    count_more least first.wants.items (wants_by (second ∷ alts)) (count_of first.wants.items == least) refl
+    (λ other. count_first least second alts
+    (omega (arith, few, sum_by-cons (λ (g : GroupAccount). length g.wants.items) first (second ∷ alts)))
+    (grind (arith, common_steps, other, is)))
+
+-- how many are wanted of the conditions of the alts, where there is one
+pub count_alts : (least : ℕ) (alts : List GroupAccount) → 0 < length alts → sum_by (λ g. length g.wants.items) alts < 2 ^ 64
+    → least ≡ fewest_of (wants_by alts) → count_of (of_first (fewest_of (wants_by alts)) (wants_by alts)) ≡ least
+count_alts least [] some few is = absurd (omega (arith, some))
+count_alts least (first ∷ alts) some few is = ap (λ n. count_of (of_first n (wants_by (first ∷ alts)))) (sym is) ∙ count_first least first alts few is
+
+-- the fewest are no more than there are conditions
+pub fewest_few : (alts : List GroupAccount) → 0 < length alts → fewest_of (wants_by alts) ≤ sum_by (λ g. length g.wants.items) alts
+fewest_few [] some = absurd (omega (arith, some))
+fewest_few (first ∷ alts) some = grind (arith, common_steps, count_of-le first.wants.items, sum_by-cons (λ (g : GroupAccount). length g.wants.items) first alts)

@@ -1,14 +1,13 @@
 //! What a frame wants of all conditions of a trigger.
 
-ghost use Rattle.std.specs.Prelude.{◌≡◌, ◌+◌, ◌++◌, ◌==◌, ◌&&◌, not, length, map, sum_by};
+ghost use Rattle.std.specs.Prelude.{◌≡◌, ◌+◌, ◌<◌, ◌^◌, ◌++◌, ◌==◌, ◌&&◌, not, length, map, sum_by};
 ghost use Rattle.ra_account.specs.Counting.{count_of};
 ghost use Rattle.ra_account.specs.Wanting.{fewest_of, of_alts, wants_where};
 
 use crate::group_account::GroupAccount;
-use crate::nearest::count_true;
 
 // How many conditions the last frame wants of the alt of which it wants the fewest.
-fn fewest(alts: &[GroupAccount]) -> u64
+pub(crate) fn fewest(alts: &[GroupAccount]) -> u64
     ensures { result ≡ fewest_of (map (λ g. g.wants.items) alts.now) }
 {
     let mut least = u64::MAX;
@@ -18,13 +17,32 @@ fn fewest(alts: &[GroupAccount]) -> u64
     least
 }
 
+// How many conditions the last frame wants of all, where it wants this many of the alt of which it wants the fewest.
+pub(crate) fn count_wanted(core: &GroupAccount, alts: &[GroupAccount], least: u64) -> u64
+    requires least { least ≡ fewest_of (map (λ g. g.wants.items) alts.now) }
+    requires few { length core.now.wants.items + sum_by (λ g. length g.wants.items) alts.now < 2 ^ 64 }
+    ensures { result ≡ count_of (core.now.wants.items ++ of_alts (map (λ g. g.wants.items) alts.now)) }
+{
+    let count = count_true(&core.wants);
+    if alts.is_empty() {
+        count
+    } else {
+        count + least
+    }
+}
+
 // Writes what the last frame wants of all conditions, core first: those of the core, and those of the alt of which it
-// wants the fewest, the first of such alts.
-pub(crate) fn gather_wants(core: &GroupAccount, alts: &[GroupAccount], wanted: &mut [bool])
-    requires { length wanted.old ≡ length core.now.wants.items + sum_by (λ g. length g.wants.items) alts.now }
+// wants the fewest, the first of such alts, where it wants this many of it.
+pub(crate) fn gather_wants(
+    core: &GroupAccount,
+    alts: &[GroupAccount],
+    least: u64,
+    wanted: &mut [bool],
+)
+    requires least { least ≡ fewest_of (map (λ g. g.wants.items) alts.now) }
+    requires room { length wanted.old ≡ length core.now.wants.items + sum_by (λ g. length g.wants.items) alts.now }
     ensures { wanted.new ≡ core.now.wants.items ++ of_alts (map (λ g. g.wants.items) alts.now) }
 {
-    let least = fewest(alts);
     let mut from = core.wants.len();
     wanted[..from].copy_from_slice(&core.wants);
     let mut found = false;
@@ -54,4 +72,17 @@ fn put_wants(wants: &[bool], chosen: bool, wanted: &mut [bool])
     } else {
         wanted.fill(false);
     }
+}
+
+// How many of them are so.
+pub(crate) fn count_true(wants: &[bool]) -> u64
+    ensures { result ≡ count_of wants.now }
+{
+    let mut count = 0;
+    for wanted in wants {
+        if *wanted {
+            count += 1;
+        }
+    }
+    count
 }

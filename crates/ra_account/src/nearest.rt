@@ -1,7 +1,9 @@
-ghost use Rattle.std.specs.Prelude.{◌≡◌, ◌+◌, ◌<◌, ◌≤◌, ◌^◌, ◌∷◌, [], Bool, ℕ, List, length, IfOk};
-ghost use Rattle.ra_account.specs.Counting.{count_of};
+ghost use Rattle.std.specs.Prelude.{◌≡◌, ◌+◌, ◌<◌, ◌≤◌, ◌^◌, ◌∷◌, ◌++◌, [], Bool, ℕ, List, length, map, sum_by, IfOk};
 ghost use Rattle.ra_account.specs.Nearness.{Lack, IsNearest, nearer_by};
+ghost use Rattle.ra_account.specs.Wanting.{of_alts};
 
+use crate::gathering::{count_wanted, fewest, gather_wants};
+use crate::group_account::GroupAccount;
 use ra_text::OutOfMemory;
 use std::alloc::Global;
 
@@ -33,19 +35,23 @@ impl Nearest {
         })
     }
 
-    /// Notes the frame `at`, after all frames before it: whether it has a reset, and which conditions it wants.
-    pub fn note(&mut self, at: u64, reset: bool, wants: &[bool])
-        requires many { length wants.now ≡ length self.old.wants.items }
-        ensures noted { (earlier : List Lack) → length earlier ≡ at → IsNearest earlier self.old
-            → IsNearest (record { reset = reset; wants = wants.now } ∷ earlier) self.new }
+    /// Notes the frame `at`, after all frames before it: whether it has a reset, and what it wants of the conditions of
+    /// the core and of those of the alts.
+    pub fn note(&mut self, at: u64, reset: bool, core: &GroupAccount, alts: &[GroupAccount])
+        requires many { length core.now.wants.items + sum_by (λ g. length g.wants.items) alts.now
+            ≡ length self.old.wants.items }
+        ensures noted { (earlier : List Lack) → length earlier ≡ at → IsNearest earlier self.old → IsNearest
+            (record { reset = reset; wants = core.now.wants.items ++ of_alts (map (λ g. g.wants.items) alts.now) }
+            ∷ earlier) self.new }
         ensures many { length self.new.wants.items ≡ length self.old.wants.items }
     {
-        let count = count_true(wants);
+        let least = fewest(alts);
+        let count = count_wanted(core, alts, least);
         if !is_nearer(self.reset, self.count, reset, count) {
             self.at = at;
             self.reset = reset;
             self.count = count;
-            self.wants.copy_from_slice(wants);
+            gather_wants(core, alts, least, &mut self.wants);
         }
     }
 }
@@ -55,17 +61,4 @@ fn is_nearer(reset: bool, count: u64, other_reset: bool, other_count: u64) -> bo
     ensures { result ≡ nearer_by reset count other_reset other_count }
 {
     !reset && other_reset || (!reset || other_reset) && count < other_count
-}
-
-// How many of them are so.
-pub(crate) fn count_true(wants: &[bool]) -> u64
-    ensures { result ≡ count_of wants.now }
-{
-    let mut count = 0;
-    for wanted in wants {
-        if *wanted {
-            count += 1;
-        }
-    }
-    count
 }

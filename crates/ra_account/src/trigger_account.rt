@@ -4,7 +4,6 @@ ghost use Rattle.ra_account.specs.Groups.{AllFit, AllGroupsStandAt, AreGroupAcco
 ghost use Rattle.ra_account.specs.Triggers.{TriggerRow, IsReady, IsTriggerAccount, row_with};
 
 use crate::copying::copy_trigger;
-use crate::gathering::gather_wants;
 use crate::group_account::GroupAccount;
 use crate::groups::note_groups;
 use crate::moment::Moment;
@@ -114,8 +113,7 @@ impl TriggerAccount {
         self.resets.note(at, now.reset);
         self.paused.note(at, now.paused);
         self.waited.note(at, now.waited);
-        gather_wants(&self.core, &self.alts, &mut self.wanted);
-        self.nearest.note(at, now.reset, &self.wanted);
+        self.nearest.note(at, now.reset, &self.core, &self.alts);
         self.frames += 1;
     }
 

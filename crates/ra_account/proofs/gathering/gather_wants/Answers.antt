@@ -29,7 +29,7 @@ loop-alt-preserved c =
     c.put_wants.auto.wanted ∙ length-take-le (end - from) behind (omega (arith, far, left, long)) ∙ (let span : end - from ≡ length alt.wants.items = omega (arith, long) in span) in
     let rest' = wants_by (drop (i + 1) alts) in
     let found = c.loop-alt.found in
-    let least = c.fewest-least.result in
+    let least = c.args.least in
     let chosen : c.is_first-chosen.result ≡ (not found && (count_of alt.wants.items == least)) = c.is_first-chosen.ensures ∙ ap (λ ws. not found && (count_of ws == least)) c.deref-in-loop-alt.ensures.value in
     let size : length (take from xs ++ (part ++ drop (end - from) behind)) ≡ length xs =
     length-append (take from xs) (part ++ drop (end - from) behind)

@@ -1,19 +1,29 @@
-use Rattle.std.proofs.Common.{◌<◌, ◌^◌, arith, ap, sym, refl, ◌∙◌}
+use Rattle.std.proofs.Common.{◌<◌, ◌^◌, arith, ap, sym, refl, ◌++◌, ◌∙◌}
 use Rattle.ra_account.specs.Counting.{count_of}
 use Rattle.ra_account.specs.Nearness.{Lack, nearer_by}
+use Rattle.ra_account.specs.Wanting.{of_alts}
 use Rattle.ra_account.proofs.NearLemmas.{note_near, note_far}
+use Rattle.ra_account.proofs.RefillLemmas.{refilled}
+use Rattle.ra_account.proofs.WantLemmas.{wants_by}
 use Rattle.ra_account.proofs.nearest.Nearest.note.Goals as goal
 
 pub returns-then-not-is_nearer-clause-noted : goal.returns-then-not-is_nearer-clause-noted
 returns-then-not-is_nearer-clause-noted c = λ earlier long known.
-    let now : Lack = record { reset = c.args.reset; wants = c.args.wants.now } in
-    let few : count_of c.args.wants.now < 2 ^ 64 = omega (arith, c.count_true-count.ensures) in
-    let near = ap (λ n. nearer_by c.args.self.now.reset c.args.self.now.count c.args.reset n) (sym c.count_true-count.ensures) ∙ sym c.is_nearer.ensures ∙ c.if-not-is_nearer.true in
-    note_near now earlier c.args.self.now _ few known near (sym long) refl c.copy_from_slice.ensures.items c.count_true-count.ensures
+    let wants = c.args.core.now.wants.items ++ of_alts (wants_by c.args.alts.now) in
+    let now : Lack = record { reset = c.args.reset; wants = wants } in
+    let few : count_of wants < 2 ^ 64 = omega (arith, c.count_wanted-count.ensures) in
+    let near = ap (λ n. nearer_by c.args.self.now.reset c.args.self.now.count c.args.reset n) (sym c.count_wanted-count.ensures)
+    ∙ sym c.is_nearer.ensures ∙ c.if-not-is_nearer.true in
+    note_near now earlier c.args.self.now _ few known near (sym long) refl
+    (refilled c.args.self.now.wants.len c.gather_wants.new.wanted c.args.self.now.wants.items (sym (c.gather_wants.auto.wanted ∙ c.deref_mut.ensures.len))
+    ∙ c.gather_wants.ensures)
+    c.count_wanted-count.ensures
 
 pub returns-else-not-is_nearer-clause-noted : goal.returns-else-not-is_nearer-clause-noted
 returns-else-not-is_nearer-clause-noted c = λ earlier long known.
-    let now : Lack = record { reset = c.args.reset; wants = c.args.wants.now } in
-    let few : count_of c.args.wants.now < 2 ^ 64 = omega (arith, c.count_true-count.ensures) in
-    let near = ap (λ n. nearer_by c.args.self.now.reset c.args.self.now.count c.args.reset n) (sym c.count_true-count.ensures) ∙ sym c.is_nearer.ensures ∙ c.if-not-is_nearer.false in
+    let wants = c.args.core.now.wants.items ++ of_alts (wants_by c.args.alts.now) in
+    let now : Lack = record { reset = c.args.reset; wants = wants } in
+    let few : count_of wants < 2 ^ 64 = omega (arith, c.count_wanted-count.ensures) in
+    let near = ap (λ n. nearer_by c.args.self.now.reset c.args.self.now.count c.args.reset n) (sym c.count_wanted-count.ensures)
+    ∙ sym c.is_nearer.ensures ∙ c.if-not-is_nearer.false in
     note_far now earlier c.args.self.now few known near

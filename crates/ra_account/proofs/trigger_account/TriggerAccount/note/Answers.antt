@@ -8,15 +8,15 @@ use Rattle.ra_account.specs.declared.moment.Moment.{Moment}
 use Rattle.ra_account.specs.Counting.{times_of}
 use Rattle.ra_account.specs.Nearness.{IsNearest, Lack}
 use Rattle.ra_account.specs.Wanting.{alt_wants, of_alts, trigger_wants}
-use Rattle.ra_account.proofs.WantLemmas.{wants_alts, wants_many}
+use Rattle.ra_account.proofs.WantLemmas.{wants_alts, wants_by, wants_many}
 use Rattle.ra_account.specs.Triggers.{TriggerRow, lack_of, row_with}
 use Rattle.ra_account.proofs.StopLemmas.{moment_told}
 use Rattle.ra_account.proofs.GroupLemmas.{cut_row}
 use Rattle.ra_account.proofs.RefillLemmas.{refilled}
 use Rattle.ra_account.proofs.trigger_account.TriggerAccount.note.Goals as goal
 
-pub gather_wants-requires : goal.gather_wants-requires
-gather_wants-requires c =
+pub note-requires-4 : goal.note-requires-4
+note-requires-4 c =
     let t = c.args.self.now in
     let core = group_contents c.args.text.now.core in let alts = map group_contents c.args.text.now.alts.items in
     let new = c.note_groups-alts.new.accounts in
@@ -25,9 +25,11 @@ gather_wants-requires c =
     let texts : map group_contents c.deref.result.now ≡ alts = ap (map group_contents) c.deref.ensures.value in
     let ready = c.note_groups-alts.ensures.ready in
     let sums = wants_many (map group_contents c.deref.result.now) new (ready.as_many) (λ g below d. (ready.fit g below d).wants) in
-    ap length c.deref_mut-2.ensures.value ∙ c.requires.ready.wanted_many ∙ sum_by-cons length core alts
-    ∙ ap₂ (λ m n. m + n) (sym c.note-core.ensures.fits.wants)
-    (ap (sum_by length) (sym texts) ∙ sym sums ∙ ap (sum_by (λ (g : GroupAccount). length g.wants.items)) (sym accounts))
+    record {
+      many = sym (c.requires.ready.nearest_many ∙ sum_by-cons length core alts
+          ∙ ap₂ (λ m n. m + n) (sym c.note-core.ensures.fits.wants)
+          (ap (sum_by length) (sym texts) ∙ sym sums ∙ ap (sum_by (λ (g : GroupAccount). length g.wants.items)) (sym accounts)));
+    }
 
 pub returns-clause-ready : goal.returns-clause-ready
 returns-clause-ready c =
@@ -37,7 +39,6 @@ returns-clause-ready c =
     let same = refilled t.alts.len new t.alts.items all in
     let texts : map group_contents c.deref.result.now ≡ alts = ap (map group_contents) c.deref.ensures.value in
     let ready = c.note_groups-alts.ensures.ready in
-    let wanted : t.wanted.len ≡ length c.gather_wants.new.wanted = sym (c.gather_wants.auto.wanted ∙ c.deref_mut-2.ensures.len) in
     record {
       few = c.requires.ready.few;
       core_fits = c.note-core.ensures.fits;
@@ -49,7 +50,7 @@ returns-clause-ready c =
       paused_few = c.note-2.ensures.within;
       waited_few = c.note-3.ensures.within;
       nearest_many = c.note-4.ensures.many ∙ c.requires.ready.nearest_many;
-      wanted_many = ap length (refilled t.wanted.len c.gather_wants.new.wanted t.wanted.items wanted) ∙ c.gather_wants.auto.wanted ∙ ap length c.deref_mut-2.ensures.value ∙ c.requires.ready.wanted_many;
+      wanted_many = c.requires.ready.wanted_many;
     }
 
 pub returns-clause-noted : goal.returns-clause-noted
@@ -66,11 +67,8 @@ returns-clause-noted c = λ earlier known.
     (subst (λ (n : ℕ). AreGroupAccounts (map group_contents c.deref.result.now) n size rows c.deref_mut.result.now) (sym count)
     (subst (λ gs. AreGroupAccounts gs (length core) size rows c.deref_mut.result.now) (sym texts) old_alts)) in
     let all : t.alts.len ≡ length c.note_groups-alts.new.accounts = sym (c.note_groups-alts.auto.accounts ∙ c.deref_mut.ensures.len) in
-    let wanted : c.deref-3.result.now ≡ trigger_wants (trigger_contents c.args.text.now) row =
-    c.deref-3.ensures.value
-    ∙ refilled t.wanted.len c.gather_wants.new.wanted t.wanted.items (sym (c.gather_wants.auto.wanted ∙ c.deref_mut-2.ensures.len))
-    ∙ c.gather_wants.ensures
-    ∙ ap₂ (λ ws vs. ws ++ of_alts vs)
+    let wanted : c.note-core.new.self.wants.items ++ of_alts (wants_by c.deref-2.result.now) ≡ trigger_wants (trigger_contents c.args.text.now) row =
+    ap₂ (λ ws vs. ws ++ of_alts vs)
     (c.note-core.ensures.wants ∙ (λ i. wants_of core (cut_row (count i) 0 row)))
     (ap (map (λ (g : GroupAccount). g.wants.items)) (c.deref-2.ensures.value ∙ refilled t.alts.len c.note_groups-alts.new.accounts t.alts.items all)
     ∙ wants_alts (map group_contents c.deref.result.now) c.len-count.result row c.note_groups-alts.new.accounts c.note_groups-alts.ensures.ready.as_many c.note_groups-alts.ensures.wants

@@ -1,6 +1,6 @@
 use Rattle.std.proofs.Common.{◌≡◌, ◌+◌, ◌≤◌, drop}
 use Rattle.ra_account.specs.Counting.{count_of}
-use Rattle.ra_account.proofs.nearest.count_true.Given as goal
+use Rattle.ra_account.proofs.gathering.count_true.Given as goal
 
 -- those so far, and those of the rest, are all
 abbrev pub invariant-loop-wanted : goal.invariant-loop-wanted
