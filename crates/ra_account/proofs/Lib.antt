@@ -1,4 +1,5 @@
 pub mod AloneLemmas
+pub mod CalmLemmas
 pub mod ColumnLemmas
 pub mod CopyLemmas
 pub mod CountingLemmas

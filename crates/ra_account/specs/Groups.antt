@@ -8,7 +8,7 @@ use Rattle.ra_account.specs.declared.facts.Facts.{Facts}
 use Rattle.ra_account.specs.declared.group_account.GroupAccount.{GroupAccount}
 use Rattle.ra_account.specs.declared.row.Row.{Row}
 use Rattle.ra_account.specs.declared.sight.Sight.{Sight}
-use Rattle.ra_account.specs.Alone.{StandAlone, stands_alone}
+use Rattle.ra_account.specs.Alone.{AreCalm, StandAlone, stands_alone}
 use Rattle.ra_account.specs.Running.{AllRunAt, AreRunning}
 use Rattle.ra_account.specs.Facts.{facts_at, is_paused, wanted_at, wanted_by}
 
@@ -88,7 +88,8 @@ pub record GroupStandsAt (count : ℕ) (g : GroupAccount) : Type 0 where
   pub each_stands : AllRunAt count g.conditions.items
   pub some : g.kept ≡ true → 0 < count
 
--- an account for each condition, with room for what a frame shows; and whether the group is known to have no chains
+-- an account for each condition, with room for what a frame shows; and whether the group is known to have no chains,
+-- or to be calm
 pub record FitsGroup (cs : List Condition) (g : GroupAccount) : Type 0 where
   pub few : length cs ≤ 65536
   pub many : length g.conditions.items ≡ length cs
@@ -97,6 +98,7 @@ pub record FitsGroup (cs : List Condition) (g : GroupAccount) : Type 0 where
   pub pausing : (j : ℕ) → j < length cs → slice_index_or g.pausing.items j false ≡ in_pause_chain cs j
   pub room : length g.room.items ≡ length cs
   pub alone : g.alone ≡ true → StandAlone cs
+  pub calm : g.calm ≡ true → AreCalm cs
   pub seen : length g.seen.items ≡ length cs
   pub wanted : g.kept ≡ true → AreWantedBy cs g.paused g.seen.items g.wants.items
 

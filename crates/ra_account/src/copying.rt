@@ -106,6 +106,7 @@ fn copy_group(alloc: Global, group: &GroupAccount) -> Result<GroupAccount, OutOf
         wants: group.wants.to_vec(alloc)?,
         pausing: group.pausing.to_vec(alloc)?,
         alone: group.alone,
+        calm: group.calm,
         room: vec![in alloc; NO_STANDING; count]?,
         seen: vec![in alloc; NO_SIGHT; count]?,
         paused: false,

@@ -7,11 +7,11 @@ ghost use Rattle.ra_account.specs.Stops.{stops_of};
 ghost use Rattle.ra_group.specs.Equations.{frame_of};
 
 use crate::group::{note_group, stops_by};
-use crate::noting::{Noting, is_steady, note_others, survey};
+use crate::noting::{Noting, found_in, is_steady, note_others};
 use crate::row::Row;
 use crate::running::Running;
 use crate::sight::Sight;
-use crate::stands::are_alone;
+use crate::stands::{are_alone, are_calm};
 use crate::stops::Stops;
 use ra_chain::pausing_of;
 use ra_condition::Group;
@@ -31,6 +31,8 @@ pub struct GroupAccount {
     pub pausing: Vec<bool>,
     /// No condition leaves anything for the next one in its chain.
     pub alone: bool,
+    /// No condition pauses or resets the group or moves the cells of the next one.
+    pub calm: bool,
     /// Room for how the conditions stand.
     pub room: Vec<Standing>,
     /// What the last frame showed of each condition, if that is kept.
@@ -54,12 +56,14 @@ impl GroupAccount {
         let count = group.conditions.len();
         let pausing = pausing_of(alloc, &group.conditions)?;
         let alone = are_alone(&group.conditions);
+        let calm = are_calm(&group.conditions);
         let conditions = new_accounts(alloc, count)?;
         Ok(GroupAccount {
             conditions,
             wants: vec![in alloc; false; count]?,
             pausing,
             alone,
+            calm,
             room: vec![in alloc; NO_STANDING; count]?,
             seen: vec![in alloc; NO_SIGHT; count]?,
             paused: false,
@@ -125,7 +129,7 @@ impl GroupAccount {
         ensures wants { self.new.wants.items ≡ wants_of (group_contents group.now) (row_in row.now) }
         ensures stops { result ≡ stops_of (row_frame (group_contents group.now) (row_in row.now)) }
     {
-        let found = survey(&group.conditions, row, &self.seen);
+        let found = found_in(self.calm, &group.conditions, row, &self.seen);
         let frame = Noting {
             conditions: &group.conditions,
             pausing: &self.pausing,

@@ -6,7 +6,7 @@ ghost use Rattle.ra_condition.specs.Contents.{condition_at};
 ghost use Rattle.ra_condition.specs.Flags.{is_pause, is_reset};
 ghost use Rattle.ra_group.specs.Outcome.{some_valid};
 ghost use Rattle.ra_group.specs.Standings.{standing_at};
-ghost use Rattle.ra_account.specs.Alone.{StandAlone, stands_alone};
+ghost use Rattle.ra_account.specs.Alone.{AreCalm, StandAlone, stands_alone};
 ghost use Rattle.ra_account.specs.Facts.{facts_at, is_paused, pointer_at, pointer_by, wanted_at};
 ghost use Rattle.ra_account.specs.Groups.{ArePausing, IsRowOf, row_frame, row_in, sight_at, no_sight};
 ghost use Rattle.ra_account.specs.Noting.{FirstIs, MayStay, PointAlike, frame_in};
@@ -31,8 +31,29 @@ pub(crate) struct Found {
     pub moved: bool,
 }
 
+// Tells what a frame shows of a group for all of its conditions: of a calm one it shows nothing.
+pub(crate) fn found_in(calm: bool, conditions: &[Condition], row: &Row<'_>, seen: &[Sight]) -> Found
+    requires alone { StandAlone conditions.now }
+    requires calm { calm ≡ true → AreCalm conditions.now }
+    requires row { IsRowOf (length conditions.now) (row_in row.now) }
+    requires seen { length seen.now ≡ length conditions.now }
+    ensures paused { result.paused ≡ is_paused (row_frame conditions.now (row_in row.now)) }
+    ensures resets { result.resets
+        ≡ some_valid is_reset (row_frame conditions.now (row_in row.now)) (places conditions.now) }
+    ensures moved { result.moved ≡ false → PointAlike conditions.now seen.now (row_in row.now) }
+{
+    if calm {
+        return Found {
+            paused: false,
+            resets: false,
+            moved: false,
+        };
+    }
+    survey(conditions, row, seen)
+}
+
 // Tells what a frame shows of a group for all of its conditions, by its row and what the frame before showed of each.
-pub(crate) fn survey(conditions: &[Condition], row: &Row<'_>, seen: &[Sight]) -> Found
+fn survey(conditions: &[Condition], row: &Row<'_>, seen: &[Sight]) -> Found
     requires alone { StandAlone conditions.now }
     requires row { IsRowOf (length conditions.now) (row_in row.now) }
     requires seen { length seen.now ≡ length conditions.now }

@@ -1,14 +1,14 @@
 //! How the conditions of a group stand at a frame, and whether it pauses.
 
 ghost use Rattle.std.specs.List.{list_any};
-ghost use Rattle.std.specs.Prelude.{◌≡◌, Bool, ℕ, ◌<◌, ◌≤◌, ◌^◌, ◌&&◌, [], length, true, false, not, slice_index_or};
+ghost use Rattle.std.specs.Prelude.{◌≡◌, Bool, ℕ, ◌<◌, ◌≤◌, ◌^◌, ◌&&◌, ◌||◌, [], length, true, false, not, slice_index_or};
 ghost use Rattle.ra_condition.specs.Chains.{places};
 ghost use Rattle.ra_condition.specs.Contents.{flag_at};
-ghost use Rattle.ra_condition.specs.Flags.{combines, hands_on, is_pause};
+ghost use Rattle.ra_condition.specs.Flags.{combines, hands_on, is_address, is_pause, is_reset};
 ghost use Rattle.ra_group.specs.Equations.{frame_of};
 ghost use Rattle.ra_group.specs.Standings.{no_standing, standing_at};
 ghost use Rattle.ra_account.specs.Facts.{is_paused};
-ghost use Rattle.ra_account.specs.Alone.{StandAlone, stands_alone};
+ghost use Rattle.ra_account.specs.Alone.{AreCalm, StandAlone, stands_alone};
 
 use ra_condition::{Condition, Flag};
 use ra_group::{Standing, stand};
@@ -53,6 +53,26 @@ fn leaves(condition: &Condition) -> bool
     ensures { result ≡ (combines condition.now.flag && not (hands_on condition.now.flag)) }
 {
     condition.flag.combines() && !condition.flag.hands_on()
+}
+
+// Whether no condition of a group pauses or resets it or moves the cells of the next one.
+pub(crate) fn are_calm(conditions: &[Condition]) -> bool
+    ensures { result ≡ true → AreCalm conditions.now }
+{
+    for place in 0..conditions.len() {
+        if acts(&conditions[place]) {
+            return false;
+        }
+    }
+    true
+}
+
+// Whether a condition pauses or resets its group or moves the cells of the next one.
+fn acts(condition: &Condition) -> bool
+    ensures { result ≡ (is_pause condition.now.flag || (is_reset condition.now.flag || is_address condition.now.flag)) }
+{
+    condition.flag.is_pause()
+        || (condition.flag.is_reset() || matches!(condition.flag, Flag::AddAddress))
 }
 
 // Whether a group has a PauseIf.

@@ -3,7 +3,7 @@ use Rattle.std.proofs.lemmas.List.FromFn.{get_or-map-range_with_len, length-map-
 use Rattle.ra_condition.specs.declared.condition.Condition.{Condition}
 use Rattle.ra_condition.specs.Contents.{group_contents}
 use Rattle.ra_condition.specs.Chains.{in_pause_chain, places}
-use Rattle.ra_account.specs.Alone.{StandAlone}
+use Rattle.ra_account.specs.Alone.{AreCalm, StandAlone}
 use Rattle.ra_account.proofs.group_account.GroupAccount.new.Goals as goal
 
 pub returns-clause-fits : goal.returns-clause-fits
@@ -18,6 +18,7 @@ returns-clause-fits c =
       pausings = ap length pausing ∙ length-map-range_with_len (in_pause_chain cs) 0 (length cs);
       pausing = λ j below. ap (λ (xs : List Bool). get_or xs j false) pausing ∙ get_or-map-range_with_len (in_pause_chain cs) 0 (length cs) j j false below (omega arith);
       alone = λ yes. subst StandAlone c.deref-2.ensures.value (c.are_alone-alone.ensures yes);
+      calm = λ yes. subst AreCalm c.deref-3.ensures.value (c.are_calm-calm.ensures yes);
       room = omega (arith, c.in_ok-vec-2.ensures.len, c.in_ok-vec-2.field-0.ok.0, count);
       seen = omega (arith, c.in_ok-vec-3.ensures.len, c.in_ok-vec-3.field-0.ok.0, count);
       wanted = λ yes. absurd (cc);

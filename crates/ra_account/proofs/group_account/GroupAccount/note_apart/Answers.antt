@@ -26,7 +26,7 @@ note_others-requires-clause-stays c = λ steady.
     let wants = c.deref_mut-2.result.now in
     record {
       some = c.requires.stands.some (c.is_steady.ensures.kept steady);
-      wanted = subst (λ (xs : List Condition). AreWantedBy xs c.survey-found.result.paused seen wants) (sym c.deref-3.ensures.value)
+      wanted = subst (λ (xs : List Condition). AreWantedBy xs c.found_in-found.result.paused seen wants) (sym c.deref-3.ensures.value)
           (subst (λ (p : Bool). AreWantedBy cs p seen wants) (c.is_steady.ensures.paused steady)
           (subst (λ (xs : List Sight). AreWantedBy cs t.paused xs wants) (sym c.deref_mut.ensures.value)
           (subst (λ (xs : List Bool). AreWantedBy cs t.paused t.seen.items xs) (sym c.deref_mut-2.ensures.value)
@@ -41,8 +41,8 @@ returns-clause-noted c = λ earlier was.
     let row : GroupRow = row_in c.args.row.now in
     let new = c.note_others.new in
     let same : c.deref-3.result.now ≡ cs = c.deref-3.ensures.value in
-    let paused : c.survey-found.result.paused ≡ is_paused (row_frame cs row) =
-    c.survey-found.ensures.paused ∙ ap (λ (xs : List Condition). is_paused (row_frame xs row)) c.deref.ensures.value in
+    let paused : c.found_in-found.result.paused ≡ is_paused (row_frame cs row) =
+    c.found_in-found.ensures.paused ∙ ap (λ (xs : List Condition). is_paused (row_frame xs row)) c.deref.ensures.value in
     let noted = c.note_others.ensures.noted (λ j. map (shown cs size j) earlier)
     (λ j below. length-map earlier (shown cs size j) ∙ sym was.count ∙ c.requires.stands.frames_too)
     (λ steady j below here. subst (λ (xs : List Condition). FirstIs (facts_at (row_frame xs row) row.rights size j) (map (shown cs size j) earlier)) (sym same)
@@ -50,7 +50,7 @@ returns-clause-noted c = λ earlier was.
     (c.is_steady.ensures.paused steady ∙ paused)
     (subst (λ (xs : List Condition). PointAlike xs t.seen.items row) c.deref.ensures.value
     (subst (λ (xs : List Sight). PointAlike c.deref.result.now xs row) c.deref-2.ensures.value
-    (c.survey-found.ensures.moved (c.is_steady.ensures.moved steady))))
+    (c.found_in-found.ensures.moved (c.is_steady.ensures.moved steady))))
     j (omega (arith, below, ap length same))
     (ap (λ (xs : List Sight). get_or xs j no_sight) (sym c.deref_mut.ensures.value) ∙ here)))
     (subst (λ (xs : List Running). AreRunning (λ j. map (shown cs size j) earlier) xs) (sym c.deref_mut-3.ensures.value) was.each) in
@@ -78,8 +78,8 @@ returns-clause-fits c =
     let f = row_frame cs row in
     let new = c.note_others.new in
     let same : c.deref-3.result.now ≡ cs = c.deref-3.ensures.value in
-    let paused : c.survey-found.result.paused ≡ is_paused f =
-    c.survey-found.ensures.paused ∙ ap (λ (xs : List Condition). is_paused (row_frame xs row)) c.deref.ensures.value in
+    let paused : c.found_in-found.result.paused ≡ is_paused f =
+    c.found_in-found.ensures.paused ∙ ap (λ (xs : List Condition). is_paused (row_frame xs row)) c.deref.ensures.value in
     let accounts = refilled t.conditions.len new.accounts t.conditions.items (sym (c.note_others.auto.accounts ∙ c.deref_mut-3.ensures.len)) in
     let wants = refilled t.wants.len new.wants t.wants.items (sym (c.note_others.auto.wants ∙ c.deref_mut-2.ensures.len)) in
     let seen = refilled t.seen.len new.seen t.seen.items (sym (c.note_others.auto.seen ∙ c.deref_mut.ensures.len)) in
@@ -91,6 +91,7 @@ returns-clause-fits c =
       pausing = fits.pausing;
       room = fits.room;
       alone = fits.alone;
+      calm = fits.calm;
       seen = ap length seen ∙ c.note_others.auto.seen ∙ ap length c.deref_mut.ensures.value ∙ fits.seen;
       wanted = λ yes j below.
           let within : j < length c.deref-3.result.now = omega (arith, below, ap length same) in
@@ -130,8 +131,8 @@ returns-clause-wants c =
 pub returns-clause-stops : goal.returns-clause-stops
 returns-clause-stops c =
     let row : GroupRow = row_in c.args.row.now in
-    let paused = c.survey-found.ensures.paused
+    let paused = c.found_in-found.ensures.paused
     ∙ ap (λ (xs : List Condition). is_paused (row_frame xs row)) c.deref.ensures.value in
-    let resets = c.survey-found.ensures.resets
+    let resets = c.found_in-found.ensures.resets
     ∙ ap (λ (xs : List Condition). some_valid is_reset (row_frame xs row) (places xs)) c.deref.ensures.value in
     c.stops_by.ensures ∙ (λ i. record { paused = paused i; reset = not (paused i) && resets i })
