@@ -57,6 +57,7 @@ fn is_past(operand: Operand, pointer: u32, memory: u32) -> bool
 }
 
 // What a frame shows of a condition, by how it stands and the values of its sides.
+#[inline(always)]
 pub(crate) fn facts_of(
     condition: &Condition,
     standing: Standing,

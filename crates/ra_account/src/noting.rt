@@ -32,6 +32,7 @@ pub(crate) struct Found {
 }
 
 // Tells what a frame shows of a group for all of its conditions: of a calm one it shows nothing.
+#[inline(always)]
 pub(crate) fn found_in(calm: bool, conditions: &[Condition], row: &Row<'_>, seen: &[Sight]) -> Found
     requires alone { StandAlone conditions.now }
     requires calm { calm ≡ true → AreCalm conditions.now }
@@ -53,6 +54,7 @@ pub(crate) fn found_in(calm: bool, conditions: &[Condition], row: &Row<'_>, seen
 }
 
 // Tells what a frame shows of a group for all of its conditions, by its row and what the frame before showed of each.
+#[inline(always)]
 fn survey(conditions: &[Condition], row: &Row<'_>, seen: &[Sight]) -> Found
     requires alone { StandAlone conditions.now }
     requires row { IsRowOf (length conditions.now) (row_in row.now) }
@@ -117,6 +119,7 @@ fn is_moved(condition: &Condition, before: u32, now: u32) -> bool
 
 // The least of the lengths of these rows, which are as long as each other: it tells the compiler so, and then no place
 // of a row is asked whether it is one.
+#[inline(always)]
 fn least(conditions: &[Condition], row: &Row<'_>, seen: &[Sight]) -> usize
     requires row { IsRowOf (length conditions.now) (row_in row.now) }
     requires seen { length seen.now ≡ length conditions.now }
@@ -151,6 +154,7 @@ pub(crate) struct Noting<'a> {
 
 // Notes a frame in the accounts of a group's conditions, tells which of them it wants, and keeps what it shows of each.
 // Where the group is steady nothing has to be noted of a condition of which the frame shows what the one before did.
+#[inline(always)]
 pub(crate) fn note_others(
     frame: &Noting<'_>,
     seen: &mut [Sight],
@@ -195,6 +199,7 @@ pub(crate) fn note_others(
 }
 
 // What a frame shows of the condition at a place, by its row.
+#[inline(always)]
 fn fact_of(frame: &Noting<'_>, place: usize, sight: Sight, standing: Standing) -> Facts
     requires row { IsRowOf (length frame.now.conditions.now) (row_in frame.now.row) }
     requires pausing { ArePausing frame.now.conditions.now frame.now.pausing.now }
@@ -259,6 +264,7 @@ fn are_alike(before: Sight, now: Sight) -> bool
 
 // The least of the lengths of these rows, which are as long as each other: it tells the compiler so, and then no place
 // of a row is asked whether it is one.
+#[inline(always)]
 fn least_of(frame: &Noting<'_>, seen: &[Sight], wants: &[bool], accounts: &[Running]) -> usize
     requires row { IsRowOf (length frame.now.conditions.now) (row_in frame.now.row) }
     requires pausing { ArePausing frame.now.conditions.now frame.now.pausing.now }

@@ -39,6 +39,7 @@ impl Running {
     }
 
     /// Notes what the frame `at` shows, after all frames before it.
+    #[inline(always)]
     pub fn note(&mut self, at: u64, now: Facts)
         requires stands { RunsAt at self.old }
         requires few { at < 2 ^ 60 }
