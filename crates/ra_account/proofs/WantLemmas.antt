@@ -1,10 +1,10 @@
 -- What a frame wants of all conditions of a trigger.
-use Rattle.std.proofs.Common.{◌≡◌, ℕ, suc, ◌+◌, ◌<◌, ◌≤◌, ◌^◌, Bool, false, List, [], ◌∷◌, ◌++◌, length, map, take, sum_by, get_or, refl, sym, ap, ap₂, ◌∙◌, arith, length-append, append_assoc}
-use Rattle.std.specs.Prelude.{min, not, ◌&&◌, ◌||◌, ◌==◌, if◌then◌else◌, true}
+use Rattle.std.proofs.Common.{◌≡◌, ℕ, suc, ◌+◌, ◌<◌, ◌≤◌, ◌^◌, Bool, false, List, [], ◌∷◌, ◌++◌, length, map, take, drop, sum_by, get_or, refl, sym, ap, ap₂, ◌∙◌, arith, length-append, append_assoc}
+use Rattle.std.specs.Prelude.{min, replicate, ◌==◌, if◌then◌else◌, true}
 use Rattle.std.proofs.lemmas.Grind.{common_steps}
 use Rattle.std.specs.List.{flat_map}
-use Rattle.std.proofs.Math.Seq.{take-append_seam}
-use Rattle.std.proofs.lemmas.List.{get_or-map, length-map, length-take-le}
+use Rattle.std.proofs.Math.Seq.{drop-append_seam, take-append_seam}
+use Rattle.std.proofs.lemmas.List.{drop-drop, get_or-map, length-map, length-take-le, replicate-append-replicate, take-append-drop}
 use Rattle.std.proofs.lemmas.List.Sums.{sum_by-cons}
 use Rattle.std.proofs.lemmas.List.FromFn.{fill_by_all}
 use Rattle.ra_condition.specs.declared.condition.Condition.{Condition}
@@ -12,7 +12,7 @@ use Rattle.ra_account.specs.declared.group_account.GroupAccount.{GroupAccount}
 use Rattle.ra_account.specs.Groups.{GroupRow, AllWant, group_at, part_of, start_at, wants_of}
 use Rattle.ra_account.specs.Counting.{count_of}
 use Rattle.ra_account.proofs.CountingLemmas.{count_of-le}
-use Rattle.ra_account.specs.Wanting.{alt_wants, fewest_of, none_of, of_first, wants_where}
+use Rattle.ra_account.specs.Wanting.{alt_wants, fewest_of, none_of, of_first}
 
 -- the wants of some groups, one by one
 abbrev pub wants_by : List GroupAccount → List (List Bool)
@@ -51,16 +51,45 @@ pub fewest_fits : (alts : List (List Bool)) → min 18446744073709551615 (fewest
 fewest_fits [] = refl
 fewest_fits (wants ∷ alts) = grind (arith, common_steps, fewest_fits alts)
 
--- what is still to be written of some alts, where the one of which the fewest are wanted was found or not
-abbrev pub to_write : Bool → ℕ → List (List Bool) → List Bool
-to_write found fewest alts = if found then flat_map none_of alts else of_first fewest alts
+-- how many conditions some groups have
+abbrev pub size_of : List GroupAccount → ℕ
+size_of accounts = sum_by (λ g. length g.wants.items) accounts
 
--- what is written of one alt more
-pub one_written : (found : Bool) (fewest : ℕ) (wants : List Bool) (alts : List (List Bool)) → (equal : Bool) → (count_of wants == fewest) ≡ equal
-    → to_write found fewest (wants ∷ alts) ≡ wants_where (not found && equal) wants ++ to_write (found || (not found && equal)) fewest alts
-one_written true fewest wants alts equal is = refl
-one_written false fewest wants alts true is = ap (λ b. if b then wants ++ flat_map none_of alts else none_of wants ++ of_first fewest alts) is
-one_written false fewest wants alts false is = ap (λ b. if b then wants ++ flat_map none_of alts else none_of wants ++ of_first fewest alts) is
+-- one group and the others
+pub size_more : (first : GroupAccount) (others : List GroupAccount)
+    → size_of (first ∷ others) ≡ length first.wants.items + size_of others
+size_more first others = sum_by-cons (λ (g : GroupAccount). length g.wants.items) first others
+
+-- nothing is wanted of some alts
+pub nones_of : (alts : List GroupAccount) → replicate (size_of alts) false ≡ flat_map none_of (wants_by alts)
+nones_of [] = refl
+nones_of (alt ∷ alts) =
+    ap (λ n. replicate n false) (size_more alt alts)
+    ∙ sym (replicate-append-replicate (length alt.wants.items) (size_of alts) false)
+    ∙ ap (λ ys. none_of alt.wants.items ++ ys) (nones_of alts)
+
+-- a list whose rest is known from a place on, up to the end of a part and from there on
+pub next_part : (xs part rest : List Bool) (from end : ℕ) → from ≤ length xs → end ≡ from + length part
+    → drop from xs ≡ part ++ rest
+    → (take end xs ≡ take from xs ++ part) × (drop end xs ≡ rest)
+next_part xs part rest from end within is known = (
+  ap (take end) (sym (take-append-drop from xs) ∙ ap (λ ys. take from xs ++ ys) known)
+      ∙ put_part xs part rest from end within is,
+  ap (λ n. drop n xs) is ∙ sym (drop-drop (length part) from xs) ∙ ap (drop (length part)) known
+      ∙ drop-append_seam part rest,
+)
+
+-- what is wanted where an alt is the first of which this many conditions are
+pub first_here : (least : ℕ) (wants : List Bool) (alts : List (List Bool)) → (count_of wants == least) ≡ true
+    → of_first least (wants ∷ alts) ≡ wants ++ flat_map none_of alts
+first_here least wants alts is =
+    ap (λ b. if b then wants ++ flat_map none_of alts else none_of wants ++ of_first least alts) is
+
+-- and where it is not
+pub first_later : (least : ℕ) (wants : List Bool) (alts : List (List Bool)) → (count_of wants == least) ≡ false
+    → of_first least (wants ∷ alts) ≡ none_of wants ++ of_first least alts
+first_later least wants alts is =
+    ap (λ b. if b then wants ++ flat_map none_of alts else none_of wants ++ of_first least alts) is
 
 -- how many of two lists are so
 pub count_of-append : (xs ys : List Bool) → count_of (xs ++ ys) ≡ count_of xs + count_of ys
@@ -76,14 +105,17 @@ count_none (wanted ∷ wants) = count_none wants
 -- nor where nothing is wanted of several
 count_nones : (alts : List (List Bool)) → count_of (flat_map none_of alts) ≡ 0
 count_nones [] = refl
-count_nones (wants ∷ alts) = count_of-append (none_of wants) (flat_map none_of alts) ∙ ap₂ (λ m n. m + n) (count_none wants) (count_nones alts)
+count_nones (wants ∷ alts) =
+    count_of-append (none_of wants) (flat_map none_of alts) ∙ ap₂ (λ m n. m + n) (count_none wants) (count_nones alts)
 
 -- of the first alt of which this many conditions are wanted this many are
-count_here : (fewest : ℕ) (wants : List Bool) (alts : List (List Bool)) → count_of wants ≡ fewest → count_of (wants ++ flat_map none_of alts) ≡ fewest
+count_here : (fewest : ℕ) (wants : List Bool) (alts : List (List Bool)) → count_of wants ≡ fewest
+    → count_of (wants ++ flat_map none_of alts) ≡ fewest
 count_here fewest wants alts is = omega (arith, count_of-append wants (flat_map none_of alts), count_nones alts, is)
 
 -- of the first alt of which the fewest are wanted the fewest are, where that holds of the others
-count_more : (least : ℕ) (wants : List Bool) (alts : List (List Bool)) (equal : Bool) → (count_of wants == least) ≡ equal
+count_more : (least : ℕ) (wants : List Bool) (alts : List (List Bool)) (equal : Bool)
+    → (count_of wants == least) ≡ equal
     → (equal ≡ false → count_of (of_first least alts) ≡ least) → count_of (of_first least (wants ∷ alts)) ≡ least
 count_more least wants alts true e others =
     ap (λ b. count_of (if b then wants ++ flat_map none_of alts else none_of wants ++ of_first least alts)) e
@@ -94,24 +126,25 @@ count_more least wants alts false e others =
     ∙ omega (arith, count_none wants, others refl)
 
 -- the same, where there are no more conditions than there may be
-count_first : (least : ℕ) (first : GroupAccount) (alts : List GroupAccount) → sum_by (λ g. length g.wants.items) (first ∷ alts) < 2 ^ 64
+count_first : (least : ℕ) (first : GroupAccount) (alts : List GroupAccount) → size_of (first ∷ alts) < 2 ^ 64
     → least ≡ fewest_of (wants_by (first ∷ alts)) → count_of (of_first least (wants_by (first ∷ alts))) ≡ least
 count_first least first [] few is =
     count_more least first.wants.items [] (count_of first.wants.items == least) refl
-    (λ other. absurd (grind (arith, common_steps, other, is, count_of-le first.wants.items, sum_by-cons (λ (g : GroupAccount). length g.wants.items) first [])))
+    (λ other. absurd (grind (arith, common_steps, other, is, count_of-le first.wants.items, size_more first [])))
 count_first least first (second ∷ alts) few is =
     count_more least first.wants.items (wants_by (second ∷ alts)) (count_of first.wants.items == least) refl
     (λ other. count_first least second alts
-    (omega (arith, few, sum_by-cons (λ (g : GroupAccount). length g.wants.items) first (second ∷ alts)))
+    (omega (arith, few, size_more first (second ∷ alts)))
     (grind (arith, common_steps, other, is)))
 
 -- how many are wanted of the conditions of the alts, where there is one
-pub count_alts : (least : ℕ) (alts : List GroupAccount) → 0 < length alts → sum_by (λ g. length g.wants.items) alts < 2 ^ 64
+pub count_alts : (least : ℕ) (alts : List GroupAccount) → 0 < length alts → size_of alts < 2 ^ 64
     → least ≡ fewest_of (wants_by alts) → count_of (of_first (fewest_of (wants_by alts)) (wants_by alts)) ≡ least
 count_alts least [] some few is = absurd (omega (arith, some))
-count_alts least (first ∷ alts) some few is = ap (λ n. count_of (of_first n (wants_by (first ∷ alts)))) (sym is) ∙ count_first least first alts few is
+count_alts least (first ∷ alts) some few is =
+    ap (λ n. count_of (of_first n (wants_by (first ∷ alts)))) (sym is) ∙ count_first least first alts few is
 
 -- the fewest are no more than there are conditions
-pub fewest_few : (alts : List GroupAccount) → 0 < length alts → fewest_of (wants_by alts) ≤ sum_by (λ g. length g.wants.items) alts
+pub fewest_few : (alts : List GroupAccount) → 0 < length alts → fewest_of (wants_by alts) ≤ size_of alts
 fewest_few [] some = absurd (omega (arith, some))
-fewest_few (first ∷ alts) some = grind (arith, common_steps, count_of-le first.wants.items, sum_by-cons (λ (g : GroupAccount). length g.wants.items) first alts)
+fewest_few (first ∷ alts) some = grind (arith, common_steps, count_of-le first.wants.items, size_more first alts)

@@ -15,10 +15,6 @@ fewest_of (wants ∷ alts) = min (count_of wants) (fewest_of alts)
 abbrev pub none_of : List Bool → List Bool
 none_of wants = replicate (length wants) false
 
--- what is wanted of an alt, or nothing of it
-abbrev pub wants_where : Bool → List Bool → List Bool
-wants_where chosen wants = if chosen then wants else none_of wants
-
 -- what is wanted of the first alt of which this many conditions are, and nothing of the others
 abbrev pub of_first : (fewest : ℕ) → List (List Bool) → List Bool
 of_first fewest [] = []

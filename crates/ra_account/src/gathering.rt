@@ -1,8 +1,8 @@
 //! What a frame wants of all conditions of a trigger.
 
-ghost use Rattle.std.specs.Prelude.{◌≡◌, ◌+◌, ◌<◌, ◌^◌, ◌++◌, ◌==◌, ◌&&◌, not, length, map, sum_by};
+ghost use Rattle.std.specs.Prelude.{◌≡◌, ◌+◌, ◌<◌, ◌^◌, ◌++◌, length, map, sum_by};
 ghost use Rattle.ra_account.specs.Counting.{count_of};
-ghost use Rattle.ra_account.specs.Wanting.{fewest_of, of_alts, wants_where};
+ghost use Rattle.ra_account.specs.Wanting.{fewest_of, of_alts};
 
 use crate::group_account::GroupAccount;
 
@@ -43,39 +43,21 @@ pub(crate) fn gather_wants(
     requires room { length wanted.old ≡ length core.now.wants.items + sum_by (λ g. length g.wants.items) alts.now }
     ensures { wanted.new ≡ core.now.wants.items ++ of_alts (map (λ g. g.wants.items) alts.now) }
 {
+    wanted.fill(false);
     let mut from = core.wants.len();
     wanted[..from].copy_from_slice(&core.wants);
-    let mut found = false;
     for alt in alts {
         let end = from + alt.wants.len();
-        let chosen = is_first(found, &alt.wants, least);
-        put_wants(&alt.wants, chosen, &mut wanted[from..end]);
-        found |= chosen;
+        if count_true(&alt.wants) == least {
+            wanted[from..end].copy_from_slice(&alt.wants);
+            return;
+        }
         from = end;
     }
 }
 
-// Whether an alt is the first of which this many conditions are wanted.
-fn is_first(found: bool, wants: &[bool], least: u64) -> bool
-    ensures { result ≡ (not found && (count_of wants.now == least)) }
-{
-    !found && count_true(wants) == least
-}
-
-// Writes what is wanted of an alt, or that nothing is.
-fn put_wants(wants: &[bool], chosen: bool, wanted: &mut [bool])
-    requires { length wanted.old ≡ length wants.now }
-    ensures { wanted.new ≡ wants_where chosen wants.now }
-{
-    if chosen {
-        wanted.copy_from_slice(wants);
-    } else {
-        wanted.fill(false);
-    }
-}
-
 // How many of them are so.
-pub(crate) fn count_true(wants: &[bool]) -> u64
+fn count_true(wants: &[bool]) -> u64
     ensures { result ≡ count_of wants.now }
 {
     let mut count = 0;

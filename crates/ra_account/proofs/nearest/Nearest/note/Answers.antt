@@ -12,10 +12,12 @@ returns-then-not-is_nearer-clause-noted c = λ earlier long known.
     let wants = c.args.core.now.wants.items ++ of_alts (wants_by c.args.alts.now) in
     let now : Lack = record { reset = c.args.reset; wants = wants } in
     let few : count_of wants < 2 ^ 64 = omega (arith, c.count_wanted-count.ensures) in
-    let near = ap (λ n. nearer_by c.args.self.now.reset c.args.self.now.count c.args.reset n) (sym c.count_wanted-count.ensures)
+    let old = c.args.self.now in
+    let near = ap (λ n. nearer_by old.reset old.count c.args.reset n) (sym c.count_wanted-count.ensures)
     ∙ sym c.is_nearer.ensures ∙ c.if-not-is_nearer.true in
-    note_near now earlier c.args.self.now _ few known near (sym long) refl
-    (refilled c.args.self.now.wants.len c.gather_wants.new.wanted c.args.self.now.wants.items (sym (c.gather_wants.auto.wanted ∙ c.deref_mut.ensures.len))
+    note_near now earlier old _ few known near (sym long) refl
+    (refilled old.wants.len c.gather_wants.new.wanted old.wants.items
+    (sym (c.gather_wants.auto.wanted ∙ c.deref_mut.ensures.len))
     ∙ c.gather_wants.ensures)
     c.count_wanted-count.ensures
 
@@ -24,6 +26,7 @@ returns-else-not-is_nearer-clause-noted c = λ earlier long known.
     let wants = c.args.core.now.wants.items ++ of_alts (wants_by c.args.alts.now) in
     let now : Lack = record { reset = c.args.reset; wants = wants } in
     let few : count_of wants < 2 ^ 64 = omega (arith, c.count_wanted-count.ensures) in
-    let near = ap (λ n. nearer_by c.args.self.now.reset c.args.self.now.count c.args.reset n) (sym c.count_wanted-count.ensures)
+    let old = c.args.self.now in
+    let near = ap (λ n. nearer_by old.reset old.count c.args.reset n) (sym c.count_wanted-count.ensures)
     ∙ sym c.is_nearer.ensures ∙ c.if-not-is_nearer.false in
-    note_far now earlier c.args.self.now few known near
+    note_far now earlier old few known near

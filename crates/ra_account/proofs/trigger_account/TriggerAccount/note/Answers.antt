@@ -28,7 +28,8 @@ note-requires-4 c =
     record {
       many = sym (c.requires.ready.nearest_many ∙ sum_by-cons length core alts
           ∙ ap₂ (λ m n. m + n) (sym c.note-core.ensures.fits.wants)
-          (ap (sum_by length) (sym texts) ∙ sym sums ∙ ap (sum_by (λ (g : GroupAccount). length g.wants.items)) (sym accounts)));
+          (ap (sum_by length) (sym texts) ∙ sym sums
+          ∙ ap (sum_by (λ (g : GroupAccount). length g.wants.items)) (sym accounts)));
     }
 
 pub returns-clause-ready : goal.returns-clause-ready
@@ -67,7 +68,8 @@ returns-clause-noted c = λ earlier known.
     (subst (λ (n : ℕ). AreGroupAccounts (map group_contents c.deref.result.now) n size rows c.deref_mut.result.now) (sym count)
     (subst (λ gs. AreGroupAccounts gs (length core) size rows c.deref_mut.result.now) (sym texts) old_alts)) in
     let all : t.alts.len ≡ length c.note_groups-alts.new.accounts = sym (c.note_groups-alts.auto.accounts ∙ c.deref_mut.ensures.len) in
-    let wanted : c.note-core.new.self.wants.items ++ of_alts (wants_by c.deref-2.result.now) ≡ trigger_wants (trigger_contents c.args.text.now) row =
+    let t' = trigger_contents c.args.text.now in
+    let wanted : c.note-core.new.self.wants.items ++ of_alts (wants_by c.deref-2.result.now) ≡ trigger_wants t' row =
     ap₂ (λ ws vs. ws ++ of_alts vs)
     (c.note-core.ensures.wants ∙ (λ i. wants_of core (cut_row (count i) 0 row)))
     (ap (map (λ (g : GroupAccount). g.wants.items)) (c.deref-2.ensures.value ∙ refilled t.alts.len c.note_groups-alts.new.accounts t.alts.items all)
