@@ -5,7 +5,7 @@
 # 1,000 where they are not named. Instructions are counted by callgrind, so they are the same on every machine.
 set -eu
 . "$(dirname "$0")/player.sh"
-need valgrind python3
+need valgrind python3 /usr/bin/time
 find_player "${1:-}"
 frames=${2:-1000}
 folder=$(mktemp -d)
@@ -47,3 +47,10 @@ row 'no items over a trace of 16 MiB of frames' run "$folder/none.set" "$folder/
 row 'one frame of no items over an image of 128 MiB' run "$folder/none.set" "$folder/great.trace"
 row '`check` of 4 MiB of display lines `??x`' check "$folder/texts.set"
 row '`check` of 4 MiB of macros in one display line, which are too many' check "$folder/macros.set"
+
+# What a condition takes: the memory that was resident over the 4,000 achievements of 8 conditions, less that over a set of no items, by
+# 32,000, as GNU time tells it. It has the set, its nodes, cells and comparisons, and the states.
+resident() {
+    /usr/bin/time -f %M "$player" run "$folder/$1" "$folder/still.trace" 2>&1 >/dev/null
+}
+echo "a condition: $((($(resident many.set) - $(resident none.set)) * 1024 / 32000)) bytes of resident memory"
