@@ -53,7 +53,7 @@ count=2000
 trace $count >"$folder/long"
 trace $((count / 2)) >"$folder/short"
 for kind in plain hits chains alts; do
-    for number in 1 8 40 100 200; do
+    for number in 1 8 40 100 200 400; do
         echo "A 1 $(conditions $number $kind)" >"$folder/set"
         why=$(each "$author" why 1)
         run=$(each "$runner" run)
