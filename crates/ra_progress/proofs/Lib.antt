@@ -3,6 +3,7 @@ pub mod Blocks
 pub mod ByName
 pub mod Bytes
 pub mod Checks
+pub mod Fronts
 pub mod ComesBack
 pub mod HexDigits
 pub mod Needs
