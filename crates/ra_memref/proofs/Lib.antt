@@ -11,6 +11,7 @@ pub mod Indexed
 pub mod LaidLemmas
 pub mod Latest
 pub mod LayoutLemmas
+pub mod Listings
 pub mod LookedLemmas
 pub mod Looking
 pub mod MarkLemmas

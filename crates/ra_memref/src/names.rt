@@ -45,7 +45,7 @@ fn node_names(alloc: Global, nodes: &[Node]) -> Result<Vec<[u8; 16]>, OutOfMemor
     ensures { IfOk result (λ names. NameCells nodes.now names.items) }
 {
     let wanted = wanted_of(alloc, nodes)?;
-    let mut names = Vec::new(alloc);
+    let mut names = Vec::with_capacity(alloc, nodes.len())?;
     for number in 0..nodes.len() {
         let name = name_where(wanted[number], nodes[number], &names);
         names.push(name)?;
@@ -185,15 +185,33 @@ fn constant_name(number: u32) -> [u8; 16]
     hasher.finalize()
 }
 
-// "M", the name of the pointer, the address, and the width.
+// "M", the name of the pointer, the address, and the width. One piece costs least, as most names are of cells.
 fn cell_name(pointer: &[u8; 16], address: u32, width: u8) -> [u8; 16]
     ensures { result ≡ spec.cell_name_by pointer.now address width }
 {
+    let [
+        p0,
+        p1,
+        p2,
+        p3,
+        p4,
+        p5,
+        p6,
+        p7,
+        p8,
+        p9,
+        pa,
+        pb,
+        pc,
+        pd,
+        pe,
+        pf,
+    ] = *pointer;
+    let [a0, a1, a2, a3] = address.to_le_bytes();
     let mut hasher = Md5::new();
-    hasher.update(b"M");
-    hasher.update(pointer);
-    hasher.update(&address.to_le_bytes());
-    hasher.update(&[width]);
+    hasher.update(&[
+        b'M', p0, p1, p2, p3, p4, p5, p6, p7, p8, p9, pa, pb, pc, pd, pe, pf, a0, a1, a2, a3, width,
+    ]);
     hasher.finalize()
 }
 

@@ -268,7 +268,7 @@ pub fn nodes_of(alloc: Global, pool: &Pool) -> Result<Vec<Node>, OutOfMemory>
     ensures pool { IsPool pool.now }
     ensures most { length pool.now ≤ 2 ^ 31 }
 {
-    let mut nodes = Vec::new(alloc);
+    let mut nodes = Vec::with_capacity(alloc, pool.len() as usize)?;
     for number in 0..pool.len() {
         nodes.push(pool.node(number))?;
     }
