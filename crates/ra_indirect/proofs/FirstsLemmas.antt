@@ -1,5 +1,5 @@
 -- Each of a list once, when the list grows at its end.
-use Rattle.std.proofs.Common.{◌≡◌, ℕ, zero, suc, ◌<◌, ◌||◌, Bool, true, false, not, cond, if◌then◌else◌, filter, length, List, [], ◌∷◌, ◌++◌, refl, ap, subst, sym, ◌∙◌, ◌⊎◌, inl, inr, arith, get_or, slice_get, Some, append_assoc, length-append, ◌≤◌}
+use Rattle.std.proofs.Common.{◌≡◌, ℕ, zero, suc, ◌<◌, ◌||◌, Bool, true, false, not, cond, filter, length, List, [], ◌∷◌, ◌++◌, refl, ap, subst, sym, ◌∙◌, ◌⊎◌, inl, inr, arith, get_or, slice_get, Some, append_assoc, length-append, ◌≤◌}
 use Rattle.std.specs.List.{list_any, Contains}
 use Rattle.std.proofs.lemmas.List.{append-nil, get_or_append_left}
 use Rattle.std.proofs.lemmas.List.Elements.{filter-append}

@@ -1,18 +1,18 @@
 -- A list, and a pool, that grow at their end.
-use Rattle.std.proofs.Common.{◌≡◌, ℕ, zero, suc, ◌+◌, ◌<◌, ◌≤◌, ◌||◌, Bool, true, false, cond, if◌then◌else◌, length, take, List, [], ◌∷◌, ◌++◌, refl, ap, subst, sym, ◌∙◌, ◌⊎◌, inl, inr, arith, get_or, slice_get, Some, append_assoc, length-append}
-use Rattle.std.specs.List.{list_any, flat_map, count_by}
-use Rattle.std.proofs.lemmas.List.{append-nil, get_or_append_left}
+use Rattle.std.proofs.Common.{◌≡◌, ℕ, suc, ◌+◌, ◌<◌, Bool, true, cond, if◌then◌else◌, length, take, List, [], ◌∷◌, ◌++◌, refl, ap, subst, sym, ◌∙◌, ◌⊎◌, inl, inr, arith, get_or, Some, append_assoc, length-append}
+use Rattle.std.specs.List.{list_any, flat_map}
+use Rattle.std.proofs.lemmas.List.{append-nil}
 use Rattle.std.proofs.lemmas.List.Folds.{length-flat_map-take}
 use Rattle.std.proofs.lemmas.List.Concat.{flat_map-append, get_or-flat_map}
 use Rattle.std.proofs.lemmas.Option.{slice_get-get_or, get_or_from_slice_get, slice_get_within}
 use Rattle.std.proofs.lemmas.Bool.{false_from_ne_true, or_cases, false≢true}
 use Rattle.std.proofs.Math.Seq.{get_or-append_seam}
 use Rattle.ra_indirect.specs.declared.node.Node.{Node}
-use Rattle.ra_indirect.specs.declared.node.Node.TheVariants.{Const, Cell as CellNode, View, Arith}
-use Rattle.ra_indirect.specs.Trees.{Tree, constant, Cell, Tracked, same_cell, same_tracked, firsts}
-use Rattle.ra_indirect.specs.Pools.{Spelled, IsTree, IsCell, spelled_at, spelled_with, spelled_by, cell_in, tracked_at, cells_of, tracked_of, MayFollow, node_at}
+use Rattle.ra_indirect.specs.declared.node.Node.TheVariants.{Const}
+use Rattle.ra_indirect.specs.Trees.{constant, Cell, same_cell, same_tracked, firsts}
+use Rattle.ra_indirect.specs.Pools.{Spelled, IsTree, IsCell, spelled_at, spelled_with, spelled_by, cell_in, tracked_at, cells_of, tracked_of}
 use Rattle.ra_indirect.specs.Interned.{IsPool, Interns}
-use Rattle.ra_indirect.specs.Growing.{grown, IsFront, GainsNode}
+use Rattle.ra_indirect.specs.Growing.{grown, GainsNode}
 use Rattle.ra_indirect.proofs.SameLemmas.{cell_is, cell_itself, tracked_is, tracked_itself}
 use Rattle.ra_indirect.proofs.FirstsLemmas.{has_same, firsts-push, has_same-firsts, any_get, along}
 use Rattle.ra_indirect.proofs.Spelling.{spelled_by-push, spelled_by-append, spelled_of, length-spelled_by}

@@ -1,6 +1,7 @@
 -- A pool that grows by a node stays a pool.
-use Rattle.std.proofs.Common.{arith, ◌≡◌, ◌≢◌, ap, sym, subst, ◌∙◌, refl, ℕ, zero, suc, ◌+◌, ◌<◌, ◌≤◌, length, take, List, [], ◌∷◌, ◌++◌, inl, inr, ◌⊎◌, slice_get, Some, get_or, length-append}
+use Rattle.std.proofs.Common.{arith, ◌≡◌, ◌≢◌, ap, sym, subst, ◌∙◌, ℕ, ◌+◌, ◌<◌, ◌≤◌, length, take, List, [], ◌∷◌, ◌++◌, inl, inr, ◌⊎◌, slice_get, Option, None, Some, length-append}
 use Rattle.std.proofs.lemmas.Bool.{cases_lt}
+use Rattle.std.proofs.lemmas.Option.{get_or_from_slice_get, slice_get-get_or, slice_get_within}
 use Rattle.std.proofs.lemmas.List.{get_or_append_left, take-append-le}
 use Rattle.std.proofs.lemmas.List.Elements.{Contains-get_or}
 use Rattle.std.proofs.Math.Seq.{get_or-append_seam, take-append_seam}
@@ -8,7 +9,7 @@ use Rattle.std.specs.List.{Contains}
 use Rattle.ra_indirect.specs.declared.node.Node.{Node}
 use Rattle.ra_indirect.specs.declared.node.Node.TheVariants.{Const, Cell as CellNode, View, Arith}
 use Rattle.ra_indirect.specs.Pools.{MayFollow, node_at, IsValued, IsCellOf}
-use Rattle.ra_indirect.specs.Interned.{IsPool, Interns}
+use Rattle.ra_indirect.specs.Interned.{IsPool, IsZero, Interns}
 
 -- a number below one more is below, or it is the last
 pub below_or_last : (k n : ℕ) → k < n + 1 → (k < n) ⊎ (k ≡ n)
@@ -70,3 +71,17 @@ pub length-interned : {A : Type 0} (old new : List A) (item : A) (place : ℕ) �
 length-interned old new item place (inl found) = omega (arith, ap length found.same)
 length-interned old new item place (inr fresh) =
     omega (arith, ap length fresh.grown, length-append old (item ∷ []))
+
+-- what stood at a number stands there
+pub stands-interned : (nodes nodes' : List Node) (node other : Node) (place number : ℕ) → Interns nodes nodes' node place → slice_get nodes number ≡ Some other → slice_get nodes' number ≡ Some other
+stands-interned nodes nodes' node other place number (inl found) stands = subst (λ ns. slice_get ns number ≡ Some other) (sym found.same) stands
+stands-interned nodes nodes' node other place number (inr added) stands =
+    let within : number < length nodes = slice_get_within nodes number other stands in
+    ap (λ ns. slice_get ns number) added.grown
+    ∙ slice_get-get_or (nodes ++ node ∷ []) number (Const 0) (omega (arith, within, length-append nodes (node ∷ [])))
+    ∙ ap Some (node_at-append nodes (node ∷ []) number within ∙ get_or_from_slice_get nodes number other (Const 0) stands)
+
+-- the number that is known of the constant 0 stays its number
+pub IsZero-interned : (nodes nodes' : List Node) (node : Node) (place : ℕ) (zero : Option ℕ) → Interns nodes nodes' node place → IsZero nodes zero → IsZero nodes' zero
+IsZero-interned nodes nodes' node place None interns is = tt
+IsZero-interned nodes nodes' node place (Some number) interns is = stands-interned nodes nodes' node (Const 0) place number interns is

@@ -1,5 +1,5 @@
 -- Where a key stands in a set that keeps the order of insertion.
-use Rattle.std.proofs.Common.{arith, ◌≡◌, ap, sym, ◌∙◌, refl, ℕ, zero, suc, ◌+◌, ◌<◌, length, Bool, true, false, cond, not, List, [], ◌∷◌, ◌++◌, inl, inr, ◌⊎◌, subst, slice_get, Some}
+use Rattle.std.proofs.Common.{arith, ◌≡◌, ap, ◌∙◌, refl, ℕ, zero, suc, ◌<◌, length, Bool, true, false, List, [], ◌∷◌, inl, inr, subst, slice_get, Some}
 use Rattle.std.specs.List.{list_any, Contains, slice_index_or, position_or_len}
 use Rattle.indexmap.specs.IndexSet.{insert_key}
 use Rattle.ra_indirect.specs.Interned.{Interns}

@@ -1,5 +1,5 @@
 -- Nodes that spell the same are one node.
-use Rattle.std.proofs.Common.{arith, ◌≡◌, ap, ap₂, sym, subst, ◌∙◌, refl, ℕ, zero, suc, ◌+◌, ◌<◌, ◌≤◌, length, take, List, [], ◌∷◌, get_or, inl, inr, ◌⊎◌}
+use Rattle.std.proofs.Common.{arith, ◌≡◌, ap, sym, subst, ◌∙◌, ℕ, zero, suc, ◌<◌, ◌≤◌, length, take, List, inl, inr, ◌⊎◌}
 use Rattle.std.proofs.lemmas.Bool.{cases_lt}
 use Rattle.std.proofs.lemmas.List.{length-take, get_or-take}
 use Rattle.ra_operand.specs.declared.size.Size.{Size}
@@ -8,7 +8,7 @@ use Rattle.ra_operand.specs.declared.op.Op.{Op}
 use Rattle.ra_operand.specs.Views.{width_of}
 use Rattle.ra_indirect.specs.declared.node.Node.{Node}
 use Rattle.ra_indirect.specs.declared.node.Node.TheVariants.{Const, Cell as CellNode, View, Arith}
-use Rattle.ra_indirect.specs.Trees.{Tree, constant, join, view, Cell}
+use Rattle.ra_indirect.specs.Trees.{Tree, constant, join, Cell}
 use Rattle.ra_indirect.specs.Pools.{Spelled, IsTree, IsCell, tree_in, view_in, spelled_at, spelled_with, spelled_by, MayFollow, node_at, IsValued, IsCellOf}
 use Rattle.ra_indirect.specs.Interned.{IsPool, IsAlone}
 use Rattle.ra_indirect.proofs.PoolLemmas.{MayFollow-more}

@@ -1,10 +1,10 @@
 -- What the nodes of a pool spell: each by the earlier ones, and more nodes change nothing.
-use Rattle.std.proofs.Common.{arith, ◌≡◌, ap, ap₂, sym, subst, ◌∙◌, refl, ℕ, zero, suc, ◌+◌, ◌<◌, ◌≤◌, length, take, drop, List, [], ◌∷◌, ◌++◌, get_or, length-append, append_assoc}
+use Rattle.std.proofs.Common.{arith, ◌≡◌, ap, ap₂, sym, ◌∙◌, refl, ℕ, zero, suc, ◌+◌, ◌<◌, length, take, drop, List, [], ◌∷◌, ◌++◌, length-append}
 use Rattle.std.proofs.lemmas.List.{get_or_append_left, take-append-drop}
 use Rattle.std.proofs.Math.Seq.{get_or-append_seam}
 use Rattle.ra_indirect.specs.declared.node.Node.{Node}
 use Rattle.ra_indirect.specs.declared.node.Node.TheVariants.{Const, Cell as CellNode, View, Arith}
-use Rattle.ra_indirect.specs.Trees.{Tree, constant, join}
+use Rattle.ra_indirect.specs.Trees.{constant, join}
 use Rattle.ra_indirect.specs.Pools.{Spelled, IsTree, IsCell, tree_in, view_in, spelled_at, spelled_with, spelled_from, spelled_by, MayFollow, node_at}
 use Rattle.ra_indirect.specs.Interned.{IsPool}
 

@@ -2,7 +2,7 @@
 use Rattle.std.specs.Prelude.{◌≡◌, ℕ, ◌+◌, ◌<◌, ◌≤◌, Bool, true, false, if◌then◌else◌, List, [], ◌∷◌, ◌++◌, length, filter}
 use Rattle.std.specs.List.{list_any, flat_map}
 use Rattle.ra_indirect.specs.declared.node.Node.{Node}
-use Rattle.ra_indirect.specs.declared.node.Node.TheVariants.{Const, Cell as CellNode, View, Arith}
+use Rattle.ra_indirect.specs.declared.node.Node.TheVariants.{View}
 use Rattle.ra_indirect.specs.Trees.{Tree, same_cell, same_tracked, cells_in, tracked_in}
 use Rattle.ra_indirect.specs.Pools.{spelled_at, spelled_with, spelled_by, cell_in, tracked_at, cells_of, tracked_of}
 use Rattle.ra_indirect.specs.Interned.{IsPool}

@@ -1,6 +1,7 @@
 -- What a pool is, and what it does with a node: docs/DEFINITIONS.md, "Trees, cells and tracked masks".
-use Rattle.std.specs.Prelude.{◌≡◌, ◌≢◌, ◌⊎◌, ℕ, ◌<◌, List, [], ◌∷◌, ◌++◌, length, take, slice_get, Some, Contains}
+use Rattle.std.specs.Prelude.{◌≡◌, ◌≢◌, ◌⊎◌, ℕ, ◌<◌, List, [], ◌∷◌, ◌++◌, length, take, slice_get, Option, None, Some, Contains}
 use Rattle.ra_indirect.specs.declared.node.Node.{Node}
+use Rattle.ra_indirect.specs.declared.node.Node.TheVariants.{Const}
 use Rattle.ra_indirect.specs.Pools.{MayFollow, node_at, spelled_at, spelled_by}
 
 -- each node names earlier ones, and none stands twice
@@ -27,3 +28,8 @@ Interns old new item place = IsFound old new item place ⊎ IsAdded old new item
 abbrev pub IsAlone : List Node → ℕ → Type 0
 IsAlone nodes n =
     (k : ℕ) → k < length nodes → spelled_at (spelled_by nodes) k ≡ spelled_at (spelled_by nodes) n → k ≡ n
+
+-- the constant 0 stands at the number, where one is known
+abbrev pub IsZero : List Node → Option ℕ → Type 0
+IsZero nodes None = Unit {0}
+IsZero nodes (Some n) = slice_get nodes n ≡ Some (Const 0)

@@ -11,23 +11,26 @@ use std::marker::Model;
 #[derive(Drop)]
 pub struct Pool {
     nodes: IndexSet<Node>,
+    // The number of the constant 0, once it is there: each cell without a pointer names it.
+    zero: Option<u32>,
 }
 
 impl Model for Pool {
     ghost use Rattle.std.specs.Prelude.{List, ◌≤◌, ◌^◌, length};
     ghost use Rattle.ra_indirect.specs.declared.node.Node.{Node};
-    ghost use Rattle.ra_indirect.specs.Interned.{IsPool};
+    ghost use Rattle.ra_indirect.specs.Interned.{IsPool, IsZero};
 
     ghost Value = { List Node };
 
     ghost view = { λ p. p.nodes.keys };
 
-    ghost invariant = { λ p. IsPool p.nodes.keys × (length p.nodes.keys ≤ 2 ^ 31) };
+    ghost invariant = { λ p. IsPool p.nodes.keys × (length p.nodes.keys ≤ 2 ^ 31) × IsZero p.nodes.keys p.zero };
 }
 
 impl Pool {
     ghost use Rattle.ra_indirect.specs.Pools.{MayFollow};
     ghost use Rattle.ra_indirect.specs.Interned.{IsPool, Interns, IsAlone};
+    ghost use Rattle.ra_indirect.specs.declared.node.Node.TheVariants.{Const};
 
     /// A pool without nodes. It takes no memory yet.
     pub fn new(alloc: Global) -> Pool
@@ -35,6 +38,7 @@ impl Pool {
     {
         Pool {
             nodes: IndexSet::new(alloc),
+            zero: None,
         }
     }
 
@@ -68,6 +72,35 @@ impl Pool {
     /// The node names nodes that are there, and such as it needs: a cell for a view, nodes with a
     /// value for all else. The pool has fewer than 2^31 nodes. `OutOfMemory` leaves it as it was.
     pub fn intern(&mut self, node: Node) -> Result<u32, OutOfMemory>
+        requires follows { MayFollow self.old node }
+        requires room { length self.old < 2 ^ 31 }
+        ensures ok { IfOk result (Interns self.old self.new node) }
+        ensures err { OnErr result (self.new ≡ self.old) }
+        ensures pool { IsPool self.new }
+    {
+        match node {
+            Node::Const(0) => self.intern_zero(),
+            _ => self.insert(node),
+        }
+    }
+
+    // The number of the constant 0, which is looked up once.
+    fn intern_zero(&mut self) -> Result<u32, OutOfMemory>
+        requires room { length self.old < 2 ^ 31 }
+        ensures ok { IfOk result (Interns self.old self.new (Const 0)) }
+        ensures err { OnErr result (self.new ≡ self.old) }
+        ensures pool { IsPool self.new }
+    {
+        if let Some(number) = self.zero {
+            return Ok(number);
+        }
+        let number = self.insert(Node::Const(0))?;
+        self.zero = Some(number);
+        Ok(number)
+    }
+
+    // The number of a node, which is looked up.
+    fn insert(&mut self, node: Node) -> Result<u32, OutOfMemory>
         requires follows { MayFollow self.old node }
         requires room { length self.old < 2 ^ 31 }
         ensures ok { IfOk result (Interns self.old self.new node) }

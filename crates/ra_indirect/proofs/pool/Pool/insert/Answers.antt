@@ -1,11 +1,11 @@
-use Rattle.std.proofs.Common.{◌≡◌, ℕ, ◌^◌, ◌<◌, ap, arith, rules, subst, sym, ◌∙◌, length, Some, true}
+use Rattle.std.proofs.Common.{◌≡◌, ◌^◌, ◌<◌, ap, arith, rules, subst, sym, ◌∙◌, length, Some, true}
 use Rattle.ra_indirect.specs.declared.node.Node.{Node}
 use Rattle.ra_indirect.specs.contracts.node.NodePartialEq.TheImpl.{ghosts}
 use Rattle.ra_indirect.specs.Pools.{MayFollow}
 use Rattle.ra_indirect.specs.Interned.{Interns}
 use Rattle.ra_indirect.proofs.Positions.{Interns-inserted}
-use Rattle.ra_indirect.proofs.PoolLemmas.{IsPool-interned, length-interned}
-use Rattle.ra_indirect.proofs.pool.Pool.intern.Goals as goal
+use Rattle.ra_indirect.proofs.PoolLemmas.{IsPool-interned, IsZero-interned, length-interned}
+use Rattle.ra_indirect.proofs.pool.Pool.insert.Goals as goal
 
 same : (a b : Node) → ghosts.eq a b ≡ true → a ≡ b
 same a b equal = search rules
@@ -22,6 +22,7 @@ invariant_of-self-2 c =
     let grown = length-interned _ _ _ _ inserts in (
       IsPool-interned _ _ _ _ c.self.invariant.0 (subst (λ ns. MayFollow ns c.args.node) (sym c.self.view_is) c.requires.follows) inserts,
       omega arith,
+      IsZero-interned _ _ _ _ _ inserts c.self.invariant.2,
     )
 
 pub returns-clause-ok : goal.returns-clause-ok
