@@ -1,16 +1,16 @@
 -- A line that is read as a file of its own.
-use Rattle.std.proofs.Common.{◌≡◌, ◌∙◌, inl, inr, ℕ, ◌-◌, ◌≤◌, ◌==◌, Bool, true, false, if◌then◌else◌, List, [], ◌∷◌, ◌++◌, length, drop, Option, Some, None, option_map, option_to_list, Ok, Err, All, sum_by, refl, sym, ap, subst, arith, codes, bytes_eq, append-nil, length-append, eqb-true}
+use Rattle.std.proofs.Common.{◌≡◌, ◌∙◌, inl, inr, ℕ, ◌-◌, ◌≤◌, ◌==◌, Bool, true, false, if◌then◌else◌, List, [], ◌∷◌, ◌++◌, length, drop, Option, Some, None, option_map, option_to_list, Ok, Err, All, sum_by, refl, sym, ap, subst, arith, append-nil, length-append}
 use Rattle.std.proofs.lemmas.List.Elements.{All-head}
 use Rattle.ra_condition.specs.declared.fault.Fault.{Fault}
 use Rattle.ra_condition.specs.declared.fault.Fault.TheVariants.{Stop, Memory}
 use Rattle.ra_condition.specs.Fault.{GivesUnlessFull}
-use Rattle.ra_richpresence.specs.Cut.{begun, lines_of, content_of}
+use Rattle.ra_richpresence.specs.Cut.{begun, lines_of}
 use Rattle.ra_set.specs.declared.item.Item.{Item}
-use Rattle.ra_set.specs.Alone.{IsOneLine, is_script_line, ContainsAlone, OptionalItem, conditions_in_line, EndsRow, ReadsAlone, AloneUnlessFull}
+use Rattle.ra_set.specs.Alone.{IsOneLine, ContainsAlone, OptionalItem, conditions_in_line, EndsRow, ReadsAlone, AloneUnlessFull}
 use Rattle.ra_set.specs.Contents.{item_contents}
-use Rattle.ra_set.specs.Grammar.{Line, FileContents, items_of, set_file}
+use Rattle.ra_set.specs.Grammar.{Line}
 use Rattle.ra_set.specs.Places.{IsFileOutside}
-use Rattle.ra_set.specs.Reading.{Ends, end_at, script_end_at, script_line_at, behind_row_at, front_at, lines_in, row_at, item_row_at, item_line_at, leaderboard_or_empty_at}
+use Rattle.ra_set.specs.Reading.{Ends, end_at, script_line_at, behind_row_at, front_at, lines_in, row_at, item_row_at, item_line_at, leaderboard_or_empty_at}
 use Rattle.ra_set.specs.Limits.{item_conditions}
 use Rattle.ra_set.specs.Spelled.{IsItem}
 use Rattle.ra_set.proofs.ContentsLemmas.{contents-count}
@@ -20,10 +20,8 @@ use Rattle.ra_set.proofs.FrontLemmas.{file-of_lines}
 use Rattle.ra_set.proofs.LineReaders.{NotEnd, row, reader-row}
 use Rattle.ra_set.proofs.LinesLemmas.{is_script, is_feed, front-row, front-script, no-lines, front-read, front-last, last-told, last-stops, script-told, told}
 use Rattle.ra_set.proofs.PlaceLemmas.{lines-outside, stopped-fits}
-use Rattle.ra_set.proofs.RunLemmas.{only-byte}
 use Rattle.ra_set.proofs.SetStructure.{contents-items}
-use Rattle.ra_text.specs.Reading.{Outcome, rest_of, ◌>>=◌, one_at, taken, taken_or}
-use Rattle.ra_text.specs.Table.{only}
+use Rattle.ra_text.specs.Reading.{rest_of, ◌>>=◌}
 use Rattle.ra_text.proofs.Readers.{reads-of}
 
 -- ---- one line

@@ -4,7 +4,7 @@ use Rattle.ra_condition.specs.declared.fault.Fault.{Fault}
 use Rattle.ra_condition.specs.declared.fault.Fault.TheVariants.{Stop, Memory}
 use Rattle.ra_richpresence.specs.Cut.{lines_of, content_of}
 use Rattle.ra_set.specs.declared.item.Item.{Item}
-use Rattle.ra_set.specs.Contents.{ItemContents, item_contents}
+use Rattle.ra_set.specs.Contents.{item_contents}
 use Rattle.ra_set.specs.Grammar.{Line, items_of, set_file}
 use Rattle.ra_set.specs.Limits.{item_conditions}
 use Rattle.ra_set.specs.Reading.{end_at, front_at, lines_in}

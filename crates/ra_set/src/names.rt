@@ -5,6 +5,7 @@ ghost use Rattle.md5.specs.Md5.{md5};
 ghost use Rattle.ra_set.specs.Texts.{first_line, is_item, is_script, item_texts, script_text, without_return};
 
 use md5::{Digest, Md5};
+use memchr::memchr;
 use ra_text::OutOfMemory;
 use std::alloc::Global;
 
@@ -80,11 +81,7 @@ fn first_line(text: &[u8]) -> (&[u8], Option<&[u8]>)
 fn line_length(text: &[u8]) -> usize
     ensures { result ≡ length (first_line text.now).line }
 {
-    let mut length = 0;
-    'bytes: while length < text.len() && text[length] != b'\n' {
-        length += 1;
-    }
-    length
+    memchr(b'\n', text).unwrap_or(text.len())
 }
 
 // The text of a line: its end is an LF, and a CR before that.
