@@ -1,6 +1,7 @@
 pub mod JoinLemmas
 mod LawLemmas
 mod Marks
+mod NoPauses
 pub mod OrderPlaces
 mod Pauses
 pub mod PlantLemmas

@@ -1,10 +1,11 @@
 //! The order in which the conditions of a group pass.
 
-ghost use Rattle.std.specs.Prelude.{◌≡◌, ◌++◌, ◌^◌, ◌<◌, length, map, filter, false, slice_index_or, IfOk, OnOk};
+ghost use Rattle.std.specs.Prelude.{◌≡◌, ◌++◌, ◌^◌, ◌<◌, length, map, filter, false, slice_index_or, IfOk, IsFalse, OnOk};
 ghost use Rattle.std.specs.List.{range_with_len};
 ghost use Rattle.std.specs.Bool.{beq};
 ghost use Rattle.ra_condition.specs.Contents.{group_contents};
 ghost use Rattle.ra_condition.specs.Chains.{in_pause_chain, places, pass_order};
+ghost use Rattle.ra_chain.specs.Order.{HasNoPause};
 
 use ra_condition::{Condition, Group};
 use ra_text::OutOfMemory;
@@ -16,7 +17,43 @@ pub fn order_of(alloc: Global, group: &Group) -> Result<Vec<u32>, OutOfMemory>
     requires { length (group_contents group.now) < 2 ^ 32 }
     ensures { IfOk result (λ order. order.items ≡ pass_order (group_contents group.now)) }
 {
-    let pausing = pausing_of(alloc, &group.conditions)?;
+    if has_pause(&group.conditions) {
+        pauses_first(alloc, &group.conditions)
+    } else {
+        in_text_order(alloc, &group.conditions)
+    }
+}
+
+// Whether a condition is a PauseIf.
+fn has_pause(conditions: &[Condition]) -> bool
+    ensures { IsFalse result → HasNoPause conditions.now }
+{
+    for condition in conditions {
+        if condition.flag.is_pause() {
+            return true;
+        }
+    }
+    false
+}
+
+// The places of the conditions in text order, which is the pass order where no condition pauses.
+fn in_text_order(alloc: Global, conditions: &[Condition]) -> Result<Vec<u32>, OutOfMemory>
+    requires { length conditions.now < 2 ^ 32 }
+    ensures { IfOk result (λ order. order.items ≡ places conditions.now) }
+{
+    let mut order = Vec::with_capacity(alloc, conditions.len())?;
+    for place in 0..conditions.len() {
+        order.push(place as u32)?;
+    }
+    Ok(order)
+}
+
+// The places of the pause chains, and then the others.
+fn pauses_first(alloc: Global, conditions: &[Condition]) -> Result<Vec<u32>, OutOfMemory>
+    requires { length conditions.now < 2 ^ 32 }
+    ensures { IfOk result (λ order. order.items ≡ pass_order conditions.now) }
+{
+    let pausing = pausing_of(alloc, conditions)?;
     let mut order = Vec::new(alloc);
     push_places(&mut order, &pausing, true)?;
     push_places(&mut order, &pausing, false)?;

@@ -1,29 +1,13 @@
-use Rattle.std.proofs.Common.{◌≡◌, Bool, true, false, List, ◌++◌, length, get_or, map, ap, ◌∙◌, arith}
-use Rattle.std.specs.Bool.{beq}
-use Rattle.std.proofs.lemmas.List.FromFn.{length-map-range_with_len}
+use Rattle.std.proofs.Common.{◌≡◌, ◌∙◌, sym, ap, subst, IfOk}
 use Rattle.ra_condition.specs.Contents.{group_contents}
-use Rattle.ra_condition.specs.Chains.{in_pause_chain, places}
-use Rattle.ra_condition.proofs.Passes.{chosen}
-use Rattle.ra_chain.proofs.Marks.{chosen_marked, chosen_unmarked}
+use Rattle.ra_condition.specs.Chains.{places, pass_order}
+use Rattle.ra_chain.specs.Order.{HasNoPause}
+use Rattle.ra_chain.proofs.NoPauses.{text_order}
 use Rattle.ra_chain.proofs.order.order_of.Goals as goal
 
-pub push_places-requires : goal.push_places-requires
-push_places-requires c =
-    let marks = ap length (c.deref-2.ensures.value ∙ c.in_ok-pausing.ensures) in
-    omega (arith, length-map-range_with_len (in_pause_chain c.deref.result.now) 0 (length c.deref.result.now), ap length c.deref.ensures.value)
-
-pub push_places-requires-2 : goal.push_places-requires-2
-push_places-requires-2 c =
-    let marks = ap length (c.deref-3.ensures.value ∙ c.in_ok-pausing.ensures) in
-    omega (arith, length-map-range_with_len (in_pause_chain c.deref.result.now) 0 (length c.deref.result.now), ap length c.deref.ensures.value)
-
-pub returns : goal.returns
-returns c =
+pub returns-else-has_pause : goal.returns-else-has_pause
+returns-else-has_pause c =
     let cs = group_contents c.args.group.now in
-    let marked : List Bool → Type 0 = λ marks. marks ≡ map (in_pause_chain cs) (places cs) in
-    let marks : marked c.in_ok-pausing.pausing.items = c.in_ok-pausing.ensures ∙ ap (λ xs. map (in_pause_chain xs) (places xs)) c.deref.ensures.value in
-    let pauses = chosen_marked cs c.deref-2.result.now (c.deref-2.ensures.value ∙ marks) in
-    let others = chosen_unmarked cs c.deref-3.result.now (c.deref-3.ensures.value ∙ marks) in
-    c.in_ok-push_places-2.ensures
-    ∙ ap (λ xs. xs ++ chosen (λ j. beq (get_or c.deref-3.result.now j false) false) (length c.deref-3.result.now)) (c.in_ok-push_places.ensures ∙ ap (λ xs. xs ++ chosen (λ j. beq (get_or c.deref-2.result.now j false) true) (length c.deref-2.result.now)) c.new-order.ensures.items ∙ pauses)
-    ∙ ap (λ xs. chosen (in_pause_chain cs) (length cs) ++ xs) others
+    let none : HasNoPause cs = subst HasNoPause c.deref.ensures.value (c.has_pause.ensures c.if-has_pause.false) in
+    let order : pass_order cs ≡ places c.deref-else-has_pause.result.now = text_order cs none ∙ ap places (sym c.deref-else-has_pause.ensures.value) in
+    subst (λ places. IfOk c.in_text_order.result (λ order. order.items ≡ places)) (sym order) c.in_text_order.ensures
