@@ -46,7 +46,7 @@ impl FlatRows {
         ensures { IfOk result (AreUses comparisons.now nodes) }
     {
         let lists = lists_of(alloc, comparisons, nodes)?;
-        flattened(alloc, &lists, nodes)
+        flattened(alloc, &lists, nodes, 2 * comparisons.len())
     }
 
     /// A row.
@@ -75,13 +75,13 @@ fn lists_of(alloc: Global, comparisons: &[Comparison], nodes: u32) -> Result<Lin
     Ok(lists)
 }
 
-// The lists as rows, with half of each number.
-fn flattened(alloc: Global, lists: &Links, count: u32) -> Result<FlatRows, OutOfMemory>
+// The lists as rows, with half of each number. There is room for this many from the start.
+fn flattened(alloc: Global, lists: &Links, count: u32, room: usize) -> Result<FlatRows, OutOfMemory>
     requires { length lists.now.lists ≡ count }
     ensures { IfOk result (FlattensTo lists.now.lists count) }
 {
-    let mut starts = Vec::new(alloc);
-    let mut items = Vec::new(alloc);
+    let mut starts = Vec::with_capacity(alloc, count as usize + 1)?;
+    let mut items = Vec::with_capacity(alloc, room)?;
     starts.push(0)?;
     for list in 0..count {
         copy_list(&mut items, lists, list)?;

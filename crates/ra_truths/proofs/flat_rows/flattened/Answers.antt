@@ -7,8 +7,8 @@ use Rattle.ra_truths.proofs.flat_rows.flattened.Goals as goal
 pub loop-list-init : goal.loop-list-init
 loop-list-init c =
     let starts : c.push.new.self.items ≡ 0 ∷ [] =
-    c.in_ok-push.ensures.items ∙ ap (λ (ns : List ℕ). ns ++ 0 ∷ []) c.new-starts.ensures.items in
-    rw (starts, c.new-items.ensures.items) (flattening_none c.args.lists.now.lists)
+    c.in_ok-push.ensures.items ∙ ap (λ (ns : List ℕ). ns ++ 0 ∷ []) c.in_ok-starts.ensures.items in
+    rw (starts, c.in_ok-items.ensures.items) (flattening_none c.args.lists.now.lists)
 
 pub loop-list-preserved : goal.loop-list-preserved
 loop-list-preserved c =
