@@ -16,7 +16,7 @@ use Rattle.ra_group.proofs.AlongLemmas.{frame_at-drop}
 use Rattle.ra_group.proofs.TallyLemmas.{all_push, any_push}
 use Rattle.ra_trigger.specs.Steps.{core_or_all, frames_along}
 use Rattle.ra_account.specs.declared.stops.Stops.{Stops}
-use Rattle.ra_account.specs.Groups.{GroupRow}
+use Rattle.ra_account.specs.Groups.{GroupRow, cut_row, row_frame}
 use Rattle.ra_account.specs.declared.moment.Moment.{Moment}
 use Rattle.ra_account.specs.Stops.{stops_of, stops_of_all}
 use Rattle.ra_account.specs.Triggers.{row_with}
@@ -35,15 +35,14 @@ frames_push (g ∷ gs) cs truths lefts hits =
     (frames_push gs cs (drop n truths) (drop n lefts) (drop n hits) ∙ ap (λ f. rest ++ f ∷ []) place)
 
 -- what stops a group, where it is told by the group's part of a row
-pub stops_part : (cs cs' : List Condition) (start start' count : ℕ) (row : GroupRow) (now : Stops)
-    → now ≡ stops_of (frame_of cs (take count (drop start row.truths)) (take count (drop start row.lefts))
-    (take count (drop start row.hits)))
+pub stops_part : (cs cs' : List Condition) (start start' count : ℕ) (row part : GroupRow) (now : Stops)
+    → now ≡ stops_of (row_frame cs part) → part ≡ cut_row count start row
     → cs' ≡ cs → start' ≡ start → count ≡ length cs
     → now ≡ stops_of (frame_at cs' row.truths row.lefts row.hits start')
-stops_part cs cs' start start' count row now is same starts many =
+stops_part cs cs' start start' count row part now told is same starts many =
     let long = many ∙ ap length (sym same) in
-    is ∙ (λ i. stops_of (frame_of (sym same i) (take (long i) (drop (sym starts i) row.truths))
-    (take (long i) (drop (sym starts i) row.lefts)) (take (long i) (drop (sym starts i) row.hits))))
+    told ∙ ap (λ (r : GroupRow). stops_of (row_frame cs r)) is
+    ∙ (λ i. stops_of (row_frame (sym same i) (cut_row (long i) (sym starts i) row)))
 
 abbrev stops : (paused reset : Bool) → Stops
 stops paused reset = record { paused = paused; reset = reset }

@@ -1,50 +1,81 @@
 -- What a frame wants of all conditions of a trigger.
-use Rattle.std.proofs.Common.{◌≡◌, ℕ, suc, ◌+◌, ◌<◌, ◌≤◌, ◌^◌, Bool, false, List, [], ◌∷◌, ◌++◌, length, map, take, drop, sum_by, get_or, refl, sym, ap, ap₂, ◌∙◌, arith, length-append, append_assoc}
+use Rattle.std.proofs.Common.{◌≡◌, ℕ, suc, ◌+◌, ◌<◌, ◌≤◌, ◌^◌, Bool, false, List, [], ◌∷◌, ◌++◌, length, map, take}
+use Rattle.std.proofs.Common.{drop, sum_by, get_or, refl, sym, ap, ap₂, ◌∙◌, arith, length-append, append_assoc}
 use Rattle.std.specs.Prelude.{min, replicate, ◌==◌, if◌then◌else◌, true}
 use Rattle.std.proofs.lemmas.Grind.{common_steps}
 use Rattle.std.specs.List.{flat_map}
 use Rattle.std.proofs.Math.Seq.{drop-append_seam, take-append_seam}
-use Rattle.std.proofs.lemmas.List.{drop-drop, get_or-map, length-map, length-take-le, replicate-append-replicate, take-append-drop}
+use Rattle.std.proofs.lemmas.List.{drop-drop, get_or-map, length-map, length-take-le, replicate-append-replicate}
+use Rattle.std.proofs.lemmas.List.{take-append-drop}
 use Rattle.std.proofs.lemmas.List.Sums.{sum_by-cons}
 use Rattle.std.proofs.lemmas.List.FromFn.{fill_by_all}
 use Rattle.ra_condition.specs.declared.condition.Condition.{Condition}
 use Rattle.ra_account.specs.declared.group_account.GroupAccount.{GroupAccount}
-use Rattle.ra_account.specs.Groups.{GroupRow, AllWant, group_at, part_of, start_at, wants_of}
+use Rattle.ra_account.specs.Groups.{AllFit, AllWant, GroupRow, group_at, part_of, start_at, wants_of}
 use Rattle.ra_account.specs.Counting.{count_of}
 use Rattle.ra_account.proofs.CountingLemmas.{count_of-le}
-use Rattle.ra_account.specs.Wanting.{alt_wants, fewest_of, none_of, of_first}
+use Rattle.ra_account.specs.Wanting.{alt_wants, fewest_of, none_of, of_alts, of_first, trigger_wants}
 
 -- the wants of some groups, one by one
 abbrev pub wants_by : List GroupAccount → List (List Bool)
 wants_by accounts = map (λ g. g.wants.items) accounts
 
 -- they are those of the alts of a trigger, where each is told
-pub wants_alts : (groups : List (List Condition)) (from : ℕ) (row : GroupRow) (accounts : List GroupAccount) → length accounts ≡ length groups
+pub wants_alts : (groups : List (List Condition)) (from : ℕ) (row : GroupRow) (accounts : List GroupAccount)
+    → length accounts ≡ length groups
     → AllWant groups from row accounts → wants_by accounts ≡ alt_wants groups from row
 wants_alts groups from row [] many told =
-    fill_by_all (λ g. wants_of (group_at groups g) (part_of (group_at groups g) (from + start_at groups g) row)) [] (length groups) [] many (λ k below. absurd (omega (arith, below, many)))
+    fill_by_all (λ g. wants_of (group_at groups g) (part_of (group_at groups g) (from + start_at groups g) row)) []
+    (length groups) [] many (λ k below. absurd (omega (arith, below, many)))
 wants_alts groups from row (first ∷ accounts) many told =
-    fill_by_all (λ g. wants_of (group_at groups g) (part_of (group_at groups g) (from + start_at groups g) row)) (wants_by (first ∷ accounts)) (length groups) []
+    fill_by_all (λ g. wants_of (group_at groups g) (part_of (group_at groups g) (from + start_at groups g) row))
+    (wants_by (first ∷ accounts)) (length groups) []
     (length-map (first ∷ accounts) (λ (g : GroupAccount). g.wants.items) ∙ many)
-    (λ k below. get_or-map (λ (g : GroupAccount). g.wants.items) (first ∷ accounts) k first [] (omega (arith, below, many)) ∙ told k (omega (arith, below, many)) first)
+    (λ k below. get_or-map (λ (g : GroupAccount). g.wants.items) (first ∷ accounts) k first []
+    (omega (arith, below, many)) ∙ told k (omega (arith, below, many)) first)
+
+-- what a frame wants of a trigger, where it is told of its core and of its alts
+pub wants_told : (core : List Condition) (gs alts : List (List Condition)) (from : ℕ) (row : GroupRow)
+    (wants : List Bool)
+    (accounts : List GroupAccount) → wants ≡ wants_of core (part_of core 0 row) → length accounts ≡ length gs
+    → AllWant gs from row accounts → gs ≡ alts → from ≡ length core
+    → wants ++ of_alts (wants_by accounts) ≡ trigger_wants (record { core = core; alts = alts }) row
+wants_told core gs alts from row wants accounts core_is many told same starts =
+    ap₂ (λ ws vs. ws ++ of_alts vs) core_is
+    (wants_alts gs from row accounts many told ∙ (λ i. alt_wants (same i) (starts i) row))
 
 -- there is as much room for what is wanted as there are conditions
 pub wants_many : (groups : List (List Condition)) (accounts : List GroupAccount) → length accounts ≡ length groups
-    → ((g : ℕ) → g < length accounts → (d : GroupAccount) → length (get_or accounts g d).wants.items ≡ length (group_at groups g))
+    → ((g : ℕ) → g < length accounts → (d : GroupAccount) → length (get_or accounts g d).wants.items ≡ length
+    (group_at groups g))
     → sum_by (λ g. length g.wants.items) accounts ≡ sum_by length groups
 wants_many [] [] many each = refl
 wants_many (cs ∷ groups) [] many each = absurd (omega arith)
 wants_many [] (a ∷ accounts) many each = absurd (omega arith)
 wants_many (cs ∷ groups) (a ∷ accounts) many each =
     sum_by-cons (λ (g : GroupAccount). length g.wants.items) a accounts
-    ∙ ap₂ (λ m n. m + n) (each 0 (omega arith) a) (wants_many groups accounts (omega arith) (λ g below d. each (suc g) (omega arith) d))
+    ∙ ap₂ (λ m n. m + n) (each 0 (omega arith) a)
+    (wants_many groups accounts (omega arith) (λ g below d. each (suc g) (omega arith) d))
     ∙ sym (sum_by-cons length cs groups)
 
+-- the same of the groups of a trigger and their accounts
+pub wants_room : (alts groups : List (List Condition)) (accounts all : List GroupAccount)
+    → length accounts ≡ length groups
+    → AllFit groups accounts → groups ≡ alts → all ≡ accounts
+    → sum_by length alts ≡ sum_by (λ g. length g.wants.items) all
+wants_room alts groups accounts all many fit same is =
+    ap (sum_by length) (sym same)
+    ∙ sym (wants_many groups accounts many (λ g below d. (fit g below d).wants))
+    ∙ ap (sum_by (λ (g : GroupAccount). length g.wants.items)) (sym is)
+
 -- a list whose part from a place on is written anew, up to the end of that part
-pub put_part : (xs part rest : List Bool) (from end : ℕ) → from ≤ length xs → end ≡ from + length part → take end (take from xs ++ (part ++ rest)) ≡ take from xs ++ part
+pub put_part : (xs part rest : List Bool) (from end : ℕ) → from ≤ length xs → end ≡ from + length part
+    → take end (take from xs ++ (part ++ rest)) ≡ take from xs ++ part
 put_part xs part rest from end within is =
-    let long : end ≡ length (take from xs ++ part) = is ∙ sym (length-append (take from xs) part ∙ ap (λ n. n + length part) (length-take-le from xs within)) in
-    ap (take end) (sym (append_assoc (take from xs) part rest)) ∙ ap (λ n. take n ((take from xs ++ part) ++ rest)) long ∙ take-append_seam (take from xs ++ part) rest
+    let long : end ≡ length (take from xs ++ part) = is
+    ∙ sym (length-append (take from xs) part ∙ ap (λ n. n + length part) (length-take-le from xs within)) in
+    ap (take end) (sym (append_assoc (take from xs) part rest)) ∙ ap (λ n. take n ((take from xs ++ part) ++ rest)) long
+    ∙ take-append_seam (take from xs ++ part) rest
 
 -- no number of conditions is greater than what stands where there is no alt
 pub fewest_fits : (alts : List (List Bool)) → min 18446744073709551615 (fewest_of alts) ≡ fewest_of alts

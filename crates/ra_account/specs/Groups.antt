@@ -1,5 +1,7 @@
--- The accounts of a group's conditions: docs/DEFINITIONS.md, "Account of an achievement". A list has a row for each frame, the newest first.
-use Rattle.std.specs.Prelude.{◌≡◌, ℕ, ◌+◌, ◌<◌, ◌≤◌, Bool, true, false, List, [], ◌∷◌, length, map, take, drop, sum_by, slice_index, slice_index_or}
+-- The accounts of a group's conditions: docs/DEFINITIONS.md, "Account of an achievement". A list has a row for each
+-- frame, the newest first.
+use Rattle.std.specs.Prelude.{◌≡◌, ℕ, ◌+◌, ◌<◌, ◌≤◌, Bool, true, false, List, [], ◌∷◌, length, map, take, drop, sum_by}
+use Rattle.std.specs.Prelude.{slice_index, slice_index_or}
 use Rattle.ra_condition.specs.declared.condition.Condition.{Condition}
 use Rattle.ra_condition.specs.Chains.{in_pause_chain, places}
 use Rattle.ra_condition.specs.Contents.{condition_at, flag_at}
@@ -12,7 +14,8 @@ use Rattle.ra_account.specs.Alone.{AreCalm, StandAlone, stands_alone}
 use Rattle.ra_account.specs.Running.{AllRunAt, AreRunning}
 use Rattle.ra_account.specs.Facts.{facts_at, is_paused, wanted_at, wanted_by}
 
--- what the account of a group is told of a frame: for each condition its comparison, its left and right value, and its hits before
+-- what the account of a group is told of a frame: for each condition its comparison, its left and right value, and its
+-- hits before
 pub record GroupRow : Type 0 where
   pub truths : List Bool
   pub lefts : List ℕ
@@ -70,7 +73,8 @@ abbrev pub KeepsLast : List Condition → List GroupRow → GroupAccount → Typ
 KeepsLast cs [] g = ⊥
 KeepsLast cs (r ∷ earlier) g = KeepsRow cs r g
 
--- a frame wants each condition as marked, in a group without chains, by what it shows of each and whether it pauses the group
+-- a frame wants each condition as marked, in a group without chains, by what it shows of each and whether it pauses
+-- the group
 abbrev pub AreWantedBy : List Condition → (paused : Bool) → List Sight → (wants : List Bool) → Type 0
 AreWantedBy cs paused seen wants = (j : ℕ) → j < length cs → slice_index_or wants j false
     ≡ wanted_by (flag_at cs j) paused (stands_alone (condition_at cs j) (slice_index_or seen j no_sight).truth
@@ -102,14 +106,23 @@ pub record FitsGroup (cs : List Condition) (g : GroupAccount) : Type 0 where
   pub seen : length g.seen.items ≡ length cs
   pub wanted : g.kept ≡ true → AreWantedBy cs g.paused g.seen.items g.wants.items
 
+-- an account of this many frames, with one for each condition
+pub record IsGroupReady (cs : List Condition) (count : ℕ) (g : GroupAccount) : Type 0 where
+  pub fits : FitsGroup cs g
+  pub stands : GroupStandsAt count g
+
+-- the part of a row that has this many conditions, from a place on
+abbrev pub cut_row : (count start : ℕ) → GroupRow → GroupRow
+cut_row count start r = record {
+  truths = take count (drop start r.truths);
+  lefts = take count (drop start r.lefts);
+  rights = take count (drop start r.rights);
+  hits = take count (drop start r.hits);
+}
+
 -- the part of a row that has the conditions of a group, which start at a place
 abbrev pub part_of : List Condition → ℕ → GroupRow → GroupRow
-part_of cs start r = record {
-  truths = take (length cs) (drop start r.truths);
-  lefts = take (length cs) (drop start r.lefts);
-  rights = take (length cs) (drop start r.rights);
-  hits = take (length cs) (drop start r.hits);
-}
+part_of cs start r = cut_row (length cs) start r
 
 -- the group of a place
 abbrev pub group_at : List (List Condition) → ℕ → List Condition

@@ -1,4 +1,5 @@
--- The account of a trigger: docs/DEFINITIONS.md, "Account of an achievement". A list has a row for each frame, the newest first.
+-- The account of a trigger: docs/DEFINITIONS.md, "Account of an achievement". A list has a row for each frame, the
+-- newest first.
 use Rattle.std.specs.Prelude.{◌≡◌, ℕ, ◌≤◌, Bool, List, length, map}
 use Rattle.ra_condition.specs.Contents.{TriggerContents, trigger_hits}
 use Rattle.ra_trigger.specs.Steps.{together}
@@ -7,7 +8,8 @@ use Rattle.ra_account.specs.declared.trigger_account.TriggerAccount.{TriggerAcco
 use Rattle.ra_account.specs.Counting.{times_of}
 use Rattle.ra_account.specs.Nearness.{Lack, IsNearest}
 use Rattle.ra_account.specs.Wanting.{trigger_wants}
-use Rattle.ra_account.specs.Groups.{GroupRow, AllFit, AllGroupsStandAt, AreGroupAccounts, FitsGroup, GroupStandsAt, IsGroupAccount, part_of}
+use Rattle.ra_account.specs.Groups.{GroupRow, AllFit, AllGroupsStandAt, AreGroupAccounts, FitsGroup, GroupStandsAt}
+use Rattle.ra_account.specs.Groups.{IsGroupAccount, part_of}
 
 -- what the account of a trigger is told of a frame: the trigger as a whole, and a row over the conditions of all groups
 pub record TriggerRow : Type 0 where
@@ -30,7 +32,8 @@ abbrev pub lack_of : TriggerContents → TriggerRow → Lack
 lack_of t f = record { reset = f.moment.reset; wants = trigger_wants t f.row }
 
 -- an account of the trigger over these frames, with a memory of this many bytes
-pub record IsTriggerAccount (t : TriggerContents) (size : ℕ) (frames : List TriggerRow) (a : TriggerAccount) : Type 0 where
+pub record IsTriggerAccount (t : TriggerContents) (size : ℕ) (frames : List TriggerRow)
+    (a : TriggerAccount) : Type 0 where
   pub count : a.frames ≡ length frames
   pub core : IsGroupAccount t.core size (map (part_of t.core 0) (map (λ f. f.row) frames)) a.core
   pub alts : AreGroupAccounts t.alts (length t.core) size (map (λ f. f.row) frames) a.alts.items
@@ -51,4 +54,3 @@ pub record IsReady (t : TriggerContents) (a : TriggerAccount) : Type 0 where
   pub paused_few : a.paused.count ≤ a.frames
   pub waited_few : a.waited.count ≤ a.frames
   pub nearest_many : length a.nearest.wants.items ≡ trigger_hits t
-  pub wanted_many : length a.wanted.items ≡ trigger_hits t

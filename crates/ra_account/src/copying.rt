@@ -160,7 +160,6 @@ pub(crate) fn copy_trigger(
     let core = copy_group(alloc, &account.core)?;
     let alts = copy_groups(alloc, &account.alts)?;
     let nearest = copy_nearest(alloc, &account.nearest)?;
-    let wanted = account.wanted.to_vec(alloc)?;
     Ok(TriggerAccount {
         core,
         alts,
@@ -168,7 +167,6 @@ pub(crate) fn copy_trigger(
         paused: account.paused,
         waited: account.waited,
         nearest,
-        wanted,
         frames: account.frames,
     })
 }

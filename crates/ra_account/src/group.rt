@@ -1,76 +1,61 @@
 //! A frame noted in the accounts of the conditions of a group.
 
-ghost use Rattle.std.specs.Prelude.{◌≡◌, ℕ, ◌+◌, ◌<◌, ◌≤◌, ◌^◌, ◌∷◌, ◌&&◌, List, length, true, false, not, slice_index_or};
+ghost use Rattle.std.specs.Prelude.{◌≡◌, ℕ, ◌+◌, ◌<◌, ◌^◌, ◌∷◌, ◌&&◌, List, length, false, not, slice_index_or};
+ghost use Rattle.ra_condition.specs.Chains.{places};
 ghost use Rattle.ra_condition.specs.Flags.{is_reset};
-ghost use Rattle.ra_group.specs.Equations.{frame_of};
-ghost use Rattle.ra_account.specs.Groups.{ArePausing, IsRowOf};
+ghost use Rattle.ra_group.specs.Outcome.{some_valid};
+ghost use Rattle.ra_group.specs.Standings.{no_standing, standing_at};
+ghost use Rattle.ra_account.specs.Groups.{ArePausing, IsRowOf, row_in};
+ghost use Rattle.ra_account.specs.Noting.{frame_in};
 ghost use Rattle.ra_account.specs.Running.{AllRunAt, AreRunning};
-ghost use Rattle.ra_account.specs.Facts.{facts_at, pointer_by, wanted_at};
-ghost use Rattle.ra_account.specs.Stops.{stops_of};
+ghost use Rattle.ra_account.specs.Facts.{facts_at, is_paused, pointer_by, wanted_at};
 ghost use Rattle.ra_account.specs.declared.facts.Facts.{Facts};
 
-use crate::facts::{Around, facts_of, is_wanted};
+use crate::facts::is_wanted;
+use crate::noting::{Noting, fact_of, least_of, sight_in};
 use crate::running::Running;
-use crate::stands::stand_group;
 use crate::stops::Stops;
 use ra_condition::{Condition, Flag};
 use ra_group::Standing;
 
-// Notes in the account of each condition of a group what the frame `at` shows of it, after all frames before it, and
-// tells which of them the frame wants, over a memory of `size` bytes, and what stops the group.
-//
-// All slices have an entry for each condition; what is in `room` is overwritten.
+// Notes a frame in the accounts of a group's conditions by how each stands, and tells which of them it wants and whether
+// a ResetIf of them is valid.
 pub(crate) fn note_group(
-    conditions: &[Condition],
-    size: u32,
-    at: u64,
-    pausing: &[bool],
-    truths: &[bool],
-    lefts: &[u32],
-    rights: &[u32],
-    hits: &[u32],
-    room: &mut [Standing],
+    frame: &Noting<'_>,
+    standings: &[Standing],
     wants: &mut [bool],
     accounts: &mut [Running],
-) -> Stops
-    requires few { length conditions.now ≤ 2 ^ 32 }
-    requires frames { at < 2 ^ 60 }
-    requires pausing { ArePausing conditions.now pausing.now }
-    requires row { IsRowOf (length conditions.now)
-        (record { truths = truths.now; lefts = lefts.now; rights = rights.now; hits = hits.now }) }
-    requires room { length room.old ≡ length conditions.now }
-    requires wants { length wants.old ≡ length conditions.now }
-    requires many { length accounts.old ≡ length conditions.now }
-    requires stand { AllRunAt at accounts.old }
+) -> bool
+    requires row { IsRowOf (length frame.now.conditions.now) (row_in frame.now.row) }
+    requires pausing { ArePausing frame.now.conditions.now frame.now.pausing.now }
+    requires paused { frame.now.paused ≡ is_paused (frame_in frame.now) }
+    requires frames { frame.now.at < 2 ^ 60 }
+    requires standings { length standings.now ≡ length frame.now.conditions.now }
+    requires stood { (j : ℕ) → j < length frame.now.conditions.now
+        → slice_index_or standings.now j no_standing ≡ standing_at (frame_in frame.now) j }
+    requires wants { length wants.old ≡ length frame.now.conditions.now }
+    requires many { length accounts.old ≡ length frame.now.conditions.now }
+    requires stand { AllRunAt frame.now.at accounts.old }
 
     ensures noted { (earlier : ℕ → List Facts)
-        → ((j : ℕ) → j < length conditions.now → length (earlier j) ≡ at)
-        → AreRunning earlier accounts.old → AreRunning
-        (λ j. facts_at (frame_of conditions.now truths.now lefts.now hits.now) rights.now size j ∷ earlier j)
-        accounts.new }
-    ensures stand { AllRunAt (at + 1) accounts.new }
-    ensures wanted { (j : ℕ) → j < length conditions.now → slice_index_or wants.new j false
-        ≡ wanted_at (frame_of conditions.now truths.now lefts.now hits.now) j }
-    ensures stops { result ≡ stops_of (frame_of conditions.now truths.now lefts.now hits.now) }
+        → ((j : ℕ) → j < length frame.now.conditions.now → length (earlier j) ≡ frame.now.at)
+        → AreRunning earlier accounts.old
+        → AreRunning (λ j. facts_at (frame_in frame.now) frame.now.row.rights.now frame.now.size j ∷ earlier j) accounts.new }
+    ensures stand { AllRunAt (frame.now.at + 1) accounts.new }
+    ensures wanted { (j : ℕ) → j < length frame.now.conditions.now → slice_index_or wants.new j false
+        ≡ wanted_at (frame_in frame.now) j }
+    ensures resets { result ≡ some_valid is_reset (frame_in frame.now) (places frame.now.conditions.now) }
 {
-    let paused = stand_group(conditions, truths, hits, room);
     let mut resets = false;
-    let mut pointer = 0;
-    for place in 0..least(conditions, pausing, lefts, rights, room, wants, accounts) {
-        let condition = &conditions[place];
-        let around = Around {
-            paused,
-            in_pause_chain: pausing[place],
-            pointer,
-            size,
-        };
-        let fact = facts_of(condition, room[place], around, lefts[place], rights[place]);
-        accounts[place].note(at, fact);
-        wants[place] = is_wanted(condition, paused, room[place].valid);
-        resets |= is_valid_reset(condition, room[place]);
-        pointer = pointer_behind(condition, lefts[place]);
+    for place in 0..least_of(frame, standings.len(), wants, accounts) {
+        let condition = &frame.conditions[place];
+        let standing = standings[place];
+        let fact = fact_of(frame, place, sight_in(&frame.row, place), standing);
+        accounts[place].note(frame.at, fact);
+        wants[place] = is_wanted(condition, frame.paused, standing.valid);
+        resets |= is_valid_reset(condition, standing);
     }
-    stops_by(paused, resets)
+    resets
 }
 
 // What stops a group, by whether it is paused and whether a ResetIf of it is valid.
@@ -90,32 +75,8 @@ fn is_valid_reset(condition: &Condition, standing: Standing) -> bool
     matches!(condition.flag, Flag::ResetIf) && standing.valid
 }
 
-// The least of the lengths of these rows, which are as long as each other: it tells the compiler so, and then no place
-// of a row is asked whether it is one.
-fn least(
-    conditions: &[Condition],
-    pausing: &[bool],
-    lefts: &[u32],
-    rights: &[u32],
-    room: &[Standing],
-    wants: &[bool],
-    accounts: &[Running],
-) -> usize
-    requires pausing { length pausing.now ≡ length conditions.now }
-    requires lefts { length lefts.now ≡ length conditions.now }
-    requires rights { length rights.now ≡ length conditions.now }
-    requires room { length room.now ≡ length conditions.now }
-    requires wants { length wants.now ≡ length conditions.now }
-    requires accounts { length accounts.now ≡ length conditions.now }
-    ensures { result ≡ length conditions.now }
-{
-    let read = lefts.len().min(rights.len()).min(pausing.len());
-    let written = room.len().min(wants.len()).min(accounts.len());
-    conditions.len().min(read).min(written)
-}
-
 // The value of the pointer of the condition after this one.
-pub(crate) fn pointer_behind(condition: &Condition, left: u32) -> u32
+pub(crate) fn pointer_after(condition: &Condition, left: u32) -> u32
     ensures { result ≡ pointer_by condition.now.flag left }
 {
     if matches!(condition.flag, Flag::AddAddress) {

@@ -1,20 +1,19 @@
 ghost use Rattle.std.specs.Prelude.{◌≡◌, ℕ, ◌+◌, ◌<◌, ◌≤◌, ◌^◌, ◌∷◌, [], length, List, IfOk};
 ghost use Rattle.ra_condition.specs.Contents.{group_contents};
 ghost use Rattle.ra_account.specs.Alone.{StandAlone};
-ghost use Rattle.ra_account.specs.Groups.{GroupRow, IsGroupAccount, GroupStandsAt, FitsGroup, IsRowOf, row_frame, row_in, wants_of};
+ghost use Rattle.ra_account.specs.Groups.{GroupRow, IsGroupAccount, IsGroupReady, GroupStandsAt, FitsGroup, IsRowOf, row_frame, row_in, wants_of};
 ghost use Rattle.ra_account.specs.Running.{AllRunAt, AreRunning};
 ghost use Rattle.ra_account.specs.Stops.{stops_of};
-ghost use Rattle.ra_group.specs.Equations.{frame_of};
 
+use crate::frame_row::FrameRow;
 use crate::group::{note_group, stops_by};
 use crate::noting::{Noting, found_in, is_steady, note_others};
-use crate::row::Row;
 use crate::running::Running;
 use crate::sight::Sight;
-use crate::stands::{are_alone, are_calm};
+use crate::stands::{are_alone, are_calm, stand_group};
 use crate::stops::Stops;
 use ra_chain::pausing_of;
-use ra_condition::Group;
+use ra_condition::{Condition, Group};
 use ra_group::Standing;
 use ra_text::OutOfMemory;
 use std::alloc::Global;
@@ -72,75 +71,52 @@ impl GroupAccount {
         })
     }
 
-    /// Notes what the frame `at` shows of the group's conditions over a memory of `size` bytes, after all frames
-    /// before it, and tells what stops the group.
-    ///
-    /// The slices have the comparison, the left and the right value and the hits before the frame of each condition.
-    pub fn note(
-        &mut self,
-        group: &Group,
-        size: u32,
-        at: u64,
-        truths: &[bool],
-        lefts: &[u32],
-        rights: &[u32],
-        hits: &[u32],
-    ) -> Stops
-        requires fits { FitsGroup (group_contents group.now) self.old }
-        requires stands { GroupStandsAt at self.old }
-        requires frames { at < 2 ^ 60 }
-        requires row { IsRowOf (length (group_contents group.now))
-            (record { truths = truths.now; lefts = lefts.now; rights = rights.now; hits = hits.now }) }
+    /// Notes what a frame shows of the group's conditions, after all frames before it, and tells what stops the group.
+    pub fn note(&mut self, group: &Group, frame: &FrameRow<'_>) -> Stops
+        requires ready { IsGroupReady (group_contents group.now) frame.now.at self.old }
+        requires few { frame.now.at < 2 ^ 60 }
+        requires row { IsRowOf (length (group_contents group.now)) (row_in frame.now.row) }
 
-        ensures fits { FitsGroup (group_contents group.now) self.new }
-        ensures stands { GroupStandsAt (at + 1) self.new }
-        ensures noted { (earlier : List GroupRow) → IsGroupAccount (group_contents group.now) size earlier self.old
-            → IsGroupAccount (group_contents group.now) size
-            (record { truths = truths.now; lefts = lefts.now; rights = rights.now; hits = hits.now } ∷ earlier) self.new }
-        ensures wants { self.new.wants.items ≡ wants_of (group_contents group.now)
-            (record { truths = truths.now; lefts = lefts.now; rights = rights.now; hits = hits.now }) }
-        ensures stops { result ≡ stops_of (frame_of (group_contents group.now) truths.now lefts.now hits.now) }
+        ensures ready { IsGroupReady (group_contents group.now) (frame.now.at + 1) self.new }
+        ensures noted { (earlier : List GroupRow)
+            → IsGroupAccount (group_contents group.now) frame.now.size earlier self.old
+            → IsGroupAccount (group_contents group.now) frame.now.size (row_in frame.now.row ∷ earlier) self.new }
+        ensures wants { self.new.wants.items ≡ wants_of (group_contents group.now) (row_in frame.now.row) }
+        ensures stops { result ≡ stops_of (row_frame (group_contents group.now) (row_in frame.now.row)) }
     {
-        let row = Row {
-            truths,
-            lefts,
-            rights,
-            hits,
-        };
+        let conditions = group.conditions.as_slice();
         if self.alone {
-            self.note_apart(group, size, at, &row)
+            self.note_apart(conditions, frame)
         } else {
-            self.note_chained(group, size, at, &row)
+            self.note_chained(conditions, frame)
         }
     }
 
     // The same of a group in which none leaves anything for the next one in its chain.
-    fn note_apart(&mut self, group: &Group, size: u32, at: u64, row: &Row<'_>) -> Stops
-        requires alone { StandAlone (group_contents group.now) }
-        requires fits { FitsGroup (group_contents group.now) self.old }
-        requires stands { GroupStandsAt at self.old }
-        requires frames { at < 2 ^ 60 }
-        requires row { IsRowOf (length (group_contents group.now)) (row_in row.now) }
+    fn note_apart(&mut self, conditions: &[Condition], frame: &FrameRow<'_>) -> Stops
+        requires alone { StandAlone conditions.now }
+        requires ready { IsGroupReady conditions.now frame.now.at self.old }
+        requires few { frame.now.at < 2 ^ 60 }
+        requires row { IsRowOf (length conditions.now) (row_in frame.now.row) }
 
-        ensures fits { FitsGroup (group_contents group.now) self.new }
-        ensures stands { GroupStandsAt (at + 1) self.new }
-        ensures noted { (earlier : List GroupRow) → IsGroupAccount (group_contents group.now) size earlier self.old
-            → IsGroupAccount (group_contents group.now) size (row_in row.now ∷ earlier) self.new }
-        ensures wants { self.new.wants.items ≡ wants_of (group_contents group.now) (row_in row.now) }
-        ensures stops { result ≡ stops_of (row_frame (group_contents group.now) (row_in row.now)) }
+        ensures ready { IsGroupReady conditions.now (frame.now.at + 1) self.new }
+        ensures noted { (earlier : List GroupRow) → IsGroupAccount conditions.now frame.now.size earlier self.old
+            → IsGroupAccount conditions.now frame.now.size (row_in frame.now.row ∷ earlier) self.new }
+        ensures wants { self.new.wants.items ≡ wants_of conditions.now (row_in frame.now.row) }
+        ensures stops { result ≡ stops_of (row_frame conditions.now (row_in frame.now.row)) }
     {
-        let found = found_in(self.calm, &group.conditions, row, &self.seen);
-        let frame = Noting {
-            conditions: &group.conditions,
+        let found = found_in(self.calm, conditions, &frame.row, &self.seen);
+        let noting = Noting {
+            conditions,
             pausing: &self.pausing,
-            row: *row,
-            size,
-            at,
+            row: frame.row,
+            size: frame.size,
+            at: frame.at,
             paused: found.paused,
             steady: is_steady(self.kept, self.paused, found),
         };
         note_others(
-            &frame,
+            &noting,
             &mut self.seen,
             &mut self.wants,
             &mut self.conditions,
@@ -152,34 +128,32 @@ impl GroupAccount {
     }
 
     // The same of any group, of which nothing is kept then.
-    fn note_chained(&mut self, group: &Group, size: u32, at: u64, row: &Row<'_>) -> Stops
-        requires fits { FitsGroup (group_contents group.now) self.old }
-        requires stands { GroupStandsAt at self.old }
-        requires frames { at < 2 ^ 60 }
-        requires row { IsRowOf (length (group_contents group.now)) (row_in row.now) }
+    fn note_chained(&mut self, conditions: &[Condition], frame: &FrameRow<'_>) -> Stops
+        requires ready { IsGroupReady conditions.now frame.now.at self.old }
+        requires few { frame.now.at < 2 ^ 60 }
+        requires row { IsRowOf (length conditions.now) (row_in frame.now.row) }
 
-        ensures fits { FitsGroup (group_contents group.now) self.new }
-        ensures stands { GroupStandsAt (at + 1) self.new }
-        ensures noted { (earlier : List GroupRow) → IsGroupAccount (group_contents group.now) size earlier self.old
-            → IsGroupAccount (group_contents group.now) size (row_in row.now ∷ earlier) self.new }
-        ensures wants { self.new.wants.items ≡ wants_of (group_contents group.now) (row_in row.now) }
-        ensures stops { result ≡ stops_of (row_frame (group_contents group.now) (row_in row.now)) }
+        ensures ready { IsGroupReady conditions.now (frame.now.at + 1) self.new }
+        ensures noted { (earlier : List GroupRow) → IsGroupAccount conditions.now frame.now.size earlier self.old
+            → IsGroupAccount conditions.now frame.now.size (row_in frame.now.row ∷ earlier) self.new }
+        ensures wants { self.new.wants.items ≡ wants_of conditions.now (row_in frame.now.row) }
+        ensures stops { result ≡ stops_of (row_frame conditions.now (row_in frame.now.row)) }
     {
         self.kept = false;
         self.frames += 1;
-        note_group(
-            &group.conditions,
-            size,
-            at,
-            &self.pausing,
-            row.truths,
-            row.lefts,
-            row.rights,
-            row.hits,
-            &mut self.room,
-            &mut self.wants,
-            &mut self.conditions,
-        )
+        let row = frame.row;
+        let paused = stand_group(conditions, row.truths, row.hits, &mut self.room);
+        let noting = Noting {
+            conditions,
+            pausing: &self.pausing,
+            row,
+            size: frame.size,
+            at: frame.at,
+            paused,
+            steady: false,
+        };
+        let resets = note_group(&noting, &self.room, &mut self.wants, &mut self.conditions);
+        stops_by(paused, resets)
     }
 }
 

@@ -14,7 +14,7 @@ ghost use Rattle.ra_account.specs.Running.{AllRunAt, AreRunning};
 ghost use Rattle.ra_account.specs.declared.facts.Facts.{Facts};
 
 use crate::facts::{Around, Facts, facts_of, is_wanted};
-use crate::group::pointer_behind;
+use crate::group::pointer_after;
 use crate::row::Row;
 use crate::running::Running;
 use crate::sight::Sight;
@@ -67,7 +67,7 @@ fn survey(conditions: &[Condition], row: &Row<'_>, seen: &[Sight]) -> Found
     let mut paused = false;
     let mut resets = false;
     let mut moved = false;
-    for place in 0..least(conditions, row, seen) {
+    for place in 0..least(conditions, row, seen.len()) {
         let condition = &conditions[place];
         paused |= is_pausing(condition, row, place);
         resets |= is_resetting(condition, row, place);
@@ -114,20 +114,20 @@ fn stand_in(condition: &Condition, row: &Row<'_>, place: usize) -> Standing
 fn is_moved(condition: &Condition, before: u32, now: u32) -> bool
     ensures { result ≡ false → pointer_by condition.now.flag before ≡ pointer_by condition.now.flag now }
 {
-    pointer_behind(condition, before) != pointer_behind(condition, now)
+    pointer_after(condition, before) != pointer_after(condition, now)
 }
 
-// The least of the lengths of these rows, which are as long as each other: it tells the compiler so, and then no place
-// of a row is asked whether it is one.
+// The least of the lengths of these rows and of another one, which are all the same: the compiler learns it here and
+// leaves out the test of each place.
 #[inline(always)]
-fn least(conditions: &[Condition], row: &Row<'_>, seen: &[Sight]) -> usize
+fn least(conditions: &[Condition], row: &Row<'_>, beside: usize) -> usize
     requires row { IsRowOf (length conditions.now) (row_in row.now) }
-    requires seen { length seen.now ≡ length conditions.now }
+    requires beside { beside ≡ length conditions.now }
     ensures { result ≡ length conditions.now }
 {
     let sides = row.lefts.len().min(row.rights.len());
     let told = row.truths.len().min(row.hits.len());
-    conditions.len().min(seen.len()).min(sides).min(told)
+    conditions.len().min(beside).min(sides).min(told)
 }
 
 // Whether a group is paused as at the frame before, which is kept, and no pointer was moved since.
@@ -185,7 +185,7 @@ pub(crate) fn note_others(
     ensures seen { (j : ℕ) → j < length frame.now.conditions.now → slice_index_or seen.new j no_sight
         ≡ sight_at (row_in frame.now.row) j }
 {
-    for place in 0..least_of(frame, seen, wants, accounts) {
+    for place in 0..least_of(frame, seen.len(), wants, accounts) {
         let sight = sight_in(&frame.row, place);
         if frame.steady && are_alike(seen[place], sight) {
             continue;
@@ -200,7 +200,7 @@ pub(crate) fn note_others(
 
 // What a frame shows of the condition at a place, by its row.
 #[inline(always)]
-fn fact_of(frame: &Noting<'_>, place: usize, sight: Sight, standing: Standing) -> Facts
+pub(crate) fn fact_of(frame: &Noting<'_>, place: usize, sight: Sight, standing: Standing) -> Facts
     requires row { IsRowOf (length frame.now.conditions.now) (row_in frame.now.row) }
     requires pausing { ArePausing frame.now.conditions.now frame.now.pausing.now }
     requires paused { frame.now.paused ≡ is_paused (frame_in frame.now) }
@@ -233,11 +233,11 @@ fn pointer_in(frame: &Noting<'_>, place: usize) -> u32
     if place == 0 {
         return 0;
     }
-    pointer_behind(&frame.conditions[place - 1], frame.row.lefts[place - 1])
+    pointer_after(&frame.conditions[place - 1], frame.row.lefts[place - 1])
 }
 
 // What a row has of the condition at a place.
-fn sight_in(row: &Row<'_>, place: usize) -> Sight
+pub(crate) fn sight_in(row: &Row<'_>, place: usize) -> Sight
     requires truths { place < length row.now.truths.now }
     requires lefts { place < length row.now.lefts.now }
     requires rights { place < length row.now.rights.now }
@@ -262,17 +262,22 @@ fn are_alike(before: Sight, now: Sight) -> bool
         && before.truth == now.truth
 }
 
-// The least of the lengths of these rows, which are as long as each other: it tells the compiler so, and then no place
-// of a row is asked whether it is one.
+// The least of the lengths of these rows and of another one, which are all the same: the compiler learns it here and
+// leaves out the test of each place.
 #[inline(always)]
-fn least_of(frame: &Noting<'_>, seen: &[Sight], wants: &[bool], accounts: &[Running]) -> usize
+pub(crate) fn least_of(
+    frame: &Noting<'_>,
+    beside: usize,
+    wants: &[bool],
+    accounts: &[Running],
+) -> usize
     requires row { IsRowOf (length frame.now.conditions.now) (row_in frame.now.row) }
     requires pausing { ArePausing frame.now.conditions.now frame.now.pausing.now }
-    requires seen { length seen.now ≡ length frame.now.conditions.now }
+    requires beside { beside ≡ length frame.now.conditions.now }
     requires wants { length wants.now ≡ length frame.now.conditions.now }
     requires many { length accounts.now ≡ length frame.now.conditions.now }
     ensures { result ≡ length frame.now.conditions.now }
 {
     let written = wants.len().min(accounts.len()).min(frame.pausing.len());
-    least(frame.conditions, &frame.row, seen).min(written)
+    least(frame.conditions, &frame.row, beside).min(written)
 }

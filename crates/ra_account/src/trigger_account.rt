@@ -1,13 +1,15 @@
 ghost use Rattle.std.specs.Prelude.{◌≡◌, ℕ, ◌+◌, ◌<◌, ◌≤◌, ◌^◌, ◌&&◌, ◌||◌, not, ◌∷◌, [], length, map, sum_by, List, IfOk};
 ghost use Rattle.ra_condition.specs.Contents.{TriggerContents, group_contents, trigger_contents, trigger_hits};
-ghost use Rattle.ra_account.specs.Groups.{AllFit, AllGroupsStandAt, AreGroupAccounts, IsRowOf};
+ghost use Rattle.ra_account.specs.Groups.{AllFit, AllGroupsStandAt, AreGroupAccounts, IsRowOf, row_in};
 ghost use Rattle.ra_account.specs.Triggers.{TriggerRow, IsReady, IsTriggerAccount, row_with};
 
 use crate::copying::copy_trigger;
+use crate::frame_row::FrameRow;
 use crate::group_account::GroupAccount;
 use crate::groups::note_groups;
 use crate::moment::Moment;
 use crate::nearest::Nearest;
+use crate::row::Row;
 use crate::stops::Stops;
 use crate::times::Times;
 use ra_condition::{Group, TriggerText};
@@ -30,8 +32,6 @@ pub struct TriggerAccount {
     pub waited: Times,
     /// The frame at which the fewest conditions were missing.
     pub nearest: Nearest,
-    /// Room for what a frame wants of all conditions.
-    pub wanted: Vec<bool>,
     /// How many frames were noted.
     pub frames: u64,
 }
@@ -46,9 +46,7 @@ impl TriggerAccount {
     {
         let core = GroupAccount::new(alloc, &text.core)?;
         let alts = new_groups(alloc, &text.alts)?;
-        let count = count_of(text);
-        let nearest = Nearest::new(alloc, count)?;
-        let wanted = vec![in alloc; false; count]?;
+        let nearest = Nearest::new(alloc, count_of(text))?;
         Ok(TriggerAccount {
             core,
             alts,
@@ -56,59 +54,38 @@ impl TriggerAccount {
             paused: Times::new(),
             waited: Times::new(),
             nearest,
-            wanted,
             frames: 0,
         })
     }
 
     /// Notes one frame more over a memory of `size` bytes, at which the trigger `waited` and is valid, or not.
     ///
-    /// The slices have the comparison, the left and the right value and the hits before the frame of each condition,
-    /// core first.
-    pub fn note(
-        &mut self,
-        text: &TriggerText,
-        size: u32,
-        waited: bool,
-        truths: &[bool],
-        lefts: &[u32],
-        rights: &[u32],
-        hits: &[u32],
-    )
+    /// The row has an entry for each condition, core first.
+    pub fn note(&mut self, text: &TriggerText, size: u32, waited: bool, row: &Row<'_>)
         requires ready { IsReady (trigger_contents text.now) self.old }
         requires few { self.old.frames < 2 ^ 60 }
-        requires row { IsRowOf (trigger_hits (trigger_contents text.now))
-            (record { truths = truths.now; lefts = lefts.now; rights = rights.now; hits = hits.now }) }
+        requires row { IsRowOf (trigger_hits (trigger_contents text.now)) (row_in row.now) }
 
         ensures ready { IsReady (trigger_contents text.now) self.new }
         ensures counted { self.new.frames ≡ self.old.frames + 1 }
         ensures noted { (earlier : List TriggerRow) → IsTriggerAccount (trigger_contents text.now) size earlier self.old
-            → IsTriggerAccount (trigger_contents text.now) size (row_with (trigger_contents text.now) waited
-            (record { truths = truths.now; lefts = lefts.now; rights = rights.now; hits = hits.now }) ∷ earlier)
-            self.new }
+            → IsTriggerAccount (trigger_contents text.now) size
+            (row_with (trigger_contents text.now) waited (row_in row.now) ∷ earlier) self.new }
     {
         let at = self.frames;
         let count = text.core.conditions.len();
-        let core = self.core.note(
-            &text.core,
-            size,
+        let own = FrameRow {
             at,
-            &truths[..count],
-            &lefts[..count],
-            &rights[..count],
-            &hits[..count],
-        );
-        let alts = note_groups(
-            &mut self.alts,
-            &text.alts,
             size,
+            row: row.part(0, count),
+        };
+        let all = FrameRow {
             at,
-            count,
-            truths,
-            lefts,
-            rights,
-            hits,
-        );
+            size,
+            row: *row,
+        };
+        let core = self.core.note(&text.core, &own);
+        let alts = note_groups(&mut self.alts, &text.alts, count, &all);
         let now = moment_of(core, alts, !text.alts.is_empty(), waited);
         self.resets.note(at, now.reset);
         self.paused.note(at, now.paused);

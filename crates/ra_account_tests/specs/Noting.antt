@@ -12,7 +12,7 @@ pub record StandsFor (frames : ℕ) (c : Columns) : Type 0 where
   pub timeline : IsTimeline counts c
   pub sound : IsSound c
 
--- an account of fewer than 2^60 frames, whatever they showed
+-- an account of at most 2^60 frames, whatever they showed
 pub record StandsSomewhere (a : TriggerAccount) : Type 0 where
   pub core_stands : GroupStandsAt a.frames a.core
   pub alts_stand : AllGroupsStandAt a.frames a.alts.items

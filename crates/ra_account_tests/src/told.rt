@@ -6,7 +6,7 @@ ghost use Rattle.ra_account.specs.Triggers.{IsReady};
 ghost use Rattle.ra_account_tests.specs.Noting.{StandsSomewhere};
 
 use crate::accounts::told_by;
-use ra_account::{ConditionAccount, TriggerAccount};
+use ra_account::{ConditionAccount, Row, TriggerAccount};
 use ra_condition::{TriggerText, parse_trigger};
 use ra_trigger::Trigger;
 use std::alloc::Global;
@@ -39,9 +39,13 @@ fn tell(
     if !many || now.rights.len() != count || now.hits.len() != count {
         return Err(Fail::from("a row of other conditions"));
     }
-    account.note(
-        text, 64, now.waited, now.truths, now.lefts, now.rights, now.hits,
-    );
+    let row = Row {
+        truths: now.truths,
+        lefts: now.lefts,
+        rights: now.rights,
+        hits: now.hits,
+    };
+    account.note(text, 64, now.waited, &row);
     Ok(())
 }
 

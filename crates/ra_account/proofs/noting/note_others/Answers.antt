@@ -1,14 +1,16 @@
-use Rattle.std.proofs.Common.{◌≡◌, ◌+◌, ◌<◌, ◌∷◌, length, false, get_or, get_or-set_same, get_or-set_other, sym, ap, ◌∙◌, subst, arith, below_more}
+use Rattle.std.proofs.Common.{◌+◌, ◌<◌, ◌∷◌, length, false, get_or, get_or-set_other, sym, ap}
+use Rattle.std.proofs.Common.{◌∙◌, subst, arith, below_more}
 use Rattle.ra_condition.specs.Contents.{condition_at, flag_at}
 use Rattle.ra_group.specs.Equations.{Frame}
 use Rattle.ra_account.specs.declared.facts.Facts.{Facts}
 use Rattle.ra_account.specs.declared.running.Running.{Running}
 use Rattle.ra_account.specs.declared.sight.Sight.{Sight}
 use Rattle.ra_account.specs.Alone.{stands_alone}
-use Rattle.ra_account.specs.Facts.{facts_at, wanted_by}
+use Rattle.ra_account.specs.Facts.{facts_at, wanted_at, wanted_by}
 use Rattle.ra_account.specs.Groups.{no_sight, row_in, sight_at}
 use Rattle.ra_account.specs.Noting.{frame_in}
 use Rattle.ra_account.specs.Running.{IsRunning, RunsAt}
+use Rattle.ra_account.proofs.GroupLemmas.{each_set, each_told}
 use Rattle.ra_account.proofs.AloneLemmas.{stands_apart}
 use Rattle.ra_account.proofs.NotingLemmas.{stays_at, stays_noted}
 use Rattle.ra_account.proofs.noting.note_others.Goals as goal
@@ -29,10 +31,8 @@ loop-place-preserved-then-are_alike c =
     let known = c.loop-place.invariant in
     let below : place < length f.conditions = omega (arith, c.loop-place-test.true) in
     let first : place < length c.args.accounts.now = omega (arith, c.loop-place-test.true) in
-    let here : get_or c.loop-place.seen place no_sight ≡ sight_at (row_in frame.row) place =
-    c.are_alike.ensures c.if-are_alike.true ∙ c.sight_in-sight.ensures in
-    let before : get_or c.args.seen.now place no_sight ≡ sight_at (row_in frame.row) place =
-    sym (known.rest_seen place (omega arith)) ∙ here in
+    let here = c.are_alike.ensures c.if-are_alike.true ∙ c.sight_in-sight.ensures in
+    let before = sym (known.rest_seen place (omega arith)) ∙ here in
     let stays = c.requires.stays c.if-frame.true in
     let stands = stands_apart f place c.requires.alone below in
     let paused = c.requires.paused in
@@ -40,7 +40,8 @@ loop-place-preserved-then-are_alike c =
       noted = λ earlier longs firsts was. below_more _ _ (known.noted earlier longs firsts was)
           (λ d. subst (λ (a : Running). IsRunning (facts_at f frame.row.rights.now frame.size place ∷ earlier place) a)
           (sym (known.rest place (omega arith) d))
-          (stays_noted (facts_at f frame.row.rights.now frame.size place) (earlier place) (get_or c.args.accounts.now place d)
+          (stays_noted (facts_at f frame.row.rights.now frame.size place) (earlier place)
+          (get_or c.args.accounts.now place d)
           (firsts c.if-frame.true place below before) (was place first d)));
       stand = below_more _ _ known.stand
           (λ d. subst (λ (a : Running). RunsAt (frame.at + 1) a) (sym (known.rest place (omega arith) d))
@@ -67,37 +68,32 @@ loop-place-preserved c =
     let new = c.note.new.self in
     let within : place < length olds = omega (arith, c.loop-place-test.true, c.loop-place.auto.accounts) in
     let first : place < length c.args.accounts.now = omega (arith, c.loop-place-test.true) in
-    let own : get_or c.args.accounts.now place c.index-accounts-place.result ≡ get_or olds place c.index-accounts-place.result =
-    sym (known.rest place (omega arith) c.index-accounts-place.result) in
+    let own = sym (known.rest place (omega arith) c.index-accounts-place.result) in
     let stands = c.stand_alone-standing.ensures
     ∙ ap (λ (s : Sight). stands_alone (condition_at f.conditions place) s.truth s.hits) c.sight_in-sight.ensures
     ∙ stands_apart f place c.requires.alone below in
     let paused = c.requires.paused in
     record {
-      noted = λ earlier longs firsts was. below_more _ _
-          (λ j before d. subst (λ (a : Running). IsRunning (facts_at f frame.row.rights.now frame.size j ∷ earlier j) a)
-          (sym (get_or-set_other olds place j new d (omega arith))) (known.noted earlier longs firsts was j before d))
-          (λ d. subst (λ (a : Running). IsRunning (facts_at f frame.row.rights.now frame.size place ∷ earlier place) a)
-          (sym (get_or-set_same olds place new d within))
+      noted = λ earlier longs firsts was. each_set
+          (λ j a. IsRunning (facts_at f frame.row.rights.now frame.size j ∷ earlier j) a)
+          olds place new within (known.noted earlier longs firsts was)
           (subst (λ (x : Facts). IsRunning (x ∷ earlier place) new) c.fact_of-fact.ensures
           (c.note.ensures.noted (earlier place) (longs place below)
-          (subst (λ (a : Running). IsRunning (earlier place) a) own (was place first c.index-accounts-place.result)))));
-      stand = below_more _ _
-          (λ j before d. subst (λ (a : Running). RunsAt (frame.at + 1) a) (sym (get_or-set_other olds place j new d (omega arith))) (known.stand j before d))
-          (λ d. subst (λ (a : Running). RunsAt (frame.at + 1) a) (sym (get_or-set_same olds place new d within)) c.note.ensures.stands);
-      wanted = below_more _ _
-          (λ j before. get_or-set_other c.loop-place.wants place j _ false (omega arith) ∙ known.wanted j before)
-          (get_or-set_same c.loop-place.wants place _ false (omega (arith, c.loop-place-test.true, c.loop-place.auto.wants))
-          ∙ c.is_wanted.ensures ∙ (λ i. wanted_by (flag_at f.conditions place) (paused i) (stands i).valid));
-      seen_too = below_more _ _
-          (λ j before. get_or-set_other c.loop-place.seen place j _ no_sight (omega arith) ∙ known.seen_too j before)
-          (get_or-set_same c.loop-place.seen place _ no_sight (omega (arith, c.loop-place-test.true, c.loop-place.auto.seen))
-          ∙ c.sight_in-sight.ensures);
+          (subst (λ (a : Running). IsRunning (earlier place) a) own (was place first c.index-accounts-place.result))));
+      stand = each_set (λ j a. RunsAt (frame.at + 1) a) olds place new within known.stand c.note.ensures.stands;
+      wanted = each_told (wanted_at f) c.loop-place.wants place false known.wanted
+          (omega (arith, c.loop-place-test.true, c.loop-place.auto.wants))
+          (c.is_wanted.ensures ∙ (λ i. wanted_by (flag_at f.conditions place) (paused i) (stands i).valid));
+      seen_too = each_told (sight_at (row_in frame.row)) c.loop-place.seen place no_sight known.seen_too
+          (omega (arith, c.loop-place-test.true, c.loop-place.auto.seen)) c.sight_in-sight.ensures;
       rest = λ j above d. get_or-set_other olds place j new d (omega arith) ∙ known.rest j (omega arith) d;
-      rest_wants = λ j above. get_or-set_other c.loop-place.wants place j _ false (omega arith) ∙ known.rest_wants j (omega arith);
-      rest_seen = λ j above. get_or-set_other c.loop-place.seen place j _ no_sight (omega arith) ∙ known.rest_seen j (omega arith);
+      rest_wants = λ j above. get_or-set_other c.loop-place.wants place j _ false (omega arith)
+          ∙ known.rest_wants j (omega arith);
+      rest_seen = λ j above. get_or-set_other c.loop-place.seen place j _ no_sight (omega arith)
+          ∙ known.rest_seen j (omega arith);
     }
 
 pub returns-clause-noted : goal.returns-clause-noted
 returns-clause-noted c = λ earlier longs firsts was j below d.
-    c.loop-place.invariant.noted earlier longs firsts was j (omega (arith, c.loop-place-test.false, c.loop-place.auto.accounts)) d
+    c.loop-place.invariant.noted earlier longs firsts was j
+    (omega (arith, c.loop-place-test.false, c.loop-place.auto.accounts)) d
