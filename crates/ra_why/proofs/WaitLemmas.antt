@@ -1,5 +1,5 @@
 -- A trigger that waits stays waiting exactly where it is valid.
-use Rattle.std.proofs.Common.{◌≡◌, ℕ, ◌&&◌, not, Bool, true, false, List, refl, ap}
+use Rattle.std.proofs.Common.{◌≡◌, ℕ, ◌&&◌, not, Bool, true, false, List, refl}
 use Rattle.ra_condition.specs.Contents.{TriggerContents}
 use Rattle.ra_trigger.specs.declared.state.State.{State}
 use Rattle.ra_trigger.specs.declared.state.State.TheVariants.{Waiting, Active, Paused, Primed, Triggered}

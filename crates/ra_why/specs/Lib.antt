@@ -1,4 +1,5 @@
 pub mod Frames
+pub mod Sides
 pub mod Taking
 pub mod Text
 pub mod Watching

@@ -1,6 +1,8 @@
--- An achievement over a memory with the account of its frames, the histories for which it stands, and what its calls do:
+-- An achievement over a memory with the account of its frames, the histories for which it stands, and what its calls
+-- do:
 -- docs/DEFINITIONS.md, "Account of an achievement".
-use Rattle.std.specs.Prelude.{◌≡◌, ℕ, ◌+◌, ◌*◌, ◌^◌, ◌<◌, ◌≤◌, Bool, true, false, replicate, slice_set, Option, None, Some, List, [], ◌∷◌, ◌++◌, length, slice_index_or}
+use Rattle.std.specs.Prelude.{◌≡◌, ℕ, ◌+◌, ◌*◌, ◌^◌, ◌<◌, ◌≤◌, Bool, true, false, replicate, slice_set, Option, None}
+use Rattle.std.specs.Prelude.{Some, List, [], ◌∷◌, ◌++◌, length, slice_index_or}
 use Rattle.ra_condition.specs.Contents.{TriggerContents, trigger_contents, trigger_hits}
 use Rattle.ra_memory.specs.Image.{History}
 use Rattle.ra_memref.specs.Table.{TableSeen}
@@ -84,6 +86,10 @@ pub record IsRoom (count : ℕ) (r : Room) : Type 0 where
   pub lefts : length r.lefts.items ≡ count
   pub rights : length r.rights.items ≡ count
   pub hits : length r.hits.items ≡ count
+
+-- the row that is read
+abbrev pub row_of : Room → GroupRow
+row_of r = record { truths = r.truths.items; lefts = r.lefts.items; rights = r.rights.items; hits = r.hits.items }
 
 -- the row of a trigger, as the values of a table and its hits give it
 abbrev pub row_read : (values : List ℕ) → TriggerRun → GroupRow

@@ -1,6 +1,9 @@
 //! Why an achievement did not unlock: an achievement over a memory, with the account of its frames, and its text.
 #![tactic(auto)]
 
+mod alt_lines;
+mod condition_lines;
+mod group_lines;
 mod kept;
 mod lines;
 mod room;

@@ -10,6 +10,9 @@ ghost use Rattle.ra_condition.specs.Spelled.{IsCondition, IsTriggerGroup};
 ghost use Rattle.ra_condition.specs.declared.setting.Setting.TheVariants.{InTrigger};
 ghost use Rattle.ra_why.specs.Text as spec;
 
+use crate::alt_lines::AltLines;
+use crate::condition_lines::ConditionLines;
+use crate::group_lines::GroupLines;
 use ra_account::{ConditionAccount, GroupAccount, write_account};
 use ra_condition::{Condition, Group, TriggerText, print_trigger};
 use ra_text::OutOfMemory;
@@ -71,24 +74,22 @@ fn behind(
     Ok(lines)
 }
 
-// The lines of the condition at a group and a place, with its hits after the last frame and the count of frames.
+// The lines of a condition.
 fn put_lines(
     alloc: Global,
     text: &mut Vec<u8>,
-    at: (usize, usize),
-    condition: &Condition,
-    counted: (u32, u64),
+    told: &ConditionLines<'_>,
     account: &ConditionAccount,
 ) -> Result<(), OutOfMemory>
-    requires spelled { IsCondition InTrigger condition.now }
+    requires spelled { IsCondition InTrigger told.now.condition.now }
     requires sound { IsSound account.now.columns }
-    ensures { OnOk result (text.new.items ≡ text.old.items
-        ++ spec.condition_lines at.0 at.1 condition.now counted.0 counted.1 (told_by account.now)) }
+    ensures { OnOk result (text.new.items ≡ text.old.items ++ spec.condition_lines told.now.group told.now.place
+        told.now.condition.now told.now.hits told.now.frames (told_by account.now)) }
 {
-    let first = before(alloc, at.0, at.1)?;
+    let first = before(alloc, told.group, told.place)?;
     text.extend_from_slice(first.as_bytes())?;
-    put_condition(alloc, text, condition)?;
-    let rest = behind(alloc, condition, counted.0, counted.1, account)?;
+    put_condition(alloc, text, told.condition)?;
+    let rest = behind(alloc, told.condition, told.hits, told.frames, account)?;
     text.extend_from_slice(rest.as_bytes())?;
     Ok(())
 }
@@ -97,70 +98,63 @@ fn put_lines(
 pub(crate) fn put_group(
     alloc: Global,
     text: &mut Vec<u8>,
-    number: usize,
-    group: &Group,
-    hits: &[u32],
-    frames: u64,
+    told: &GroupLines<'_>,
     account: &GroupAccount,
 ) -> Result<(), OutOfMemory>
-    requires spelled { IsTriggerGroup (group_contents group.now) }
-    requires accounts { length account.now.conditions.items ≡ length (group_contents group.now) }
-    requires hits { length hits.now ≡ length (group_contents group.now) }
-    requires stands { GroupStandsAt frames account.now }
-    requires few { frames < 2 ^ 60 }
-    ensures { (size : ℕ) (rows : List GroupRow) → IsGroupAccount (group_contents group.now) size rows account.now
+    requires spelled { IsTriggerGroup (group_contents told.now.group.now) }
+    requires accounts { length account.now.conditions.items ≡ length (group_contents told.now.group.now) }
+    requires hits { length told.now.hits.now ≡ length (group_contents told.now.group.now) }
+    requires stands { GroupStandsAt told.now.frames account.now }
+    requires few { told.now.frames < 2 ^ 60 }
+    ensures { (size : ℕ) (rows : List GroupRow)
+        → IsGroupAccount (group_contents told.now.group.now) size rows account.now
         → OnOk result (text.new.items ≡ text.old.items
-        ++ spec.group_lines number (group_contents group.now) hits.now frames size rows) }
+        ++ spec.group_lines told.now.number (group_contents told.now.group.now) told.now.hits.now told.now.frames size rows) }
 {
-    for place in 0..group.conditions.len() {
-        let told = account.conditions[place].told(alloc, frames)?;
-        put_lines(
-            alloc,
-            text,
-            (number, place),
-            &group.conditions[place],
-            (hits[place], frames),
-            &told,
-        )?;
+    for place in 0..told.group.conditions.len() {
+        let own = account.conditions[place].told(alloc, told.frames)?;
+        let lines = ConditionLines {
+            group: told.number,
+            place,
+            condition: &told.group.conditions[place],
+            hits: told.hits[place],
+            frames: told.frames,
+        };
+        put_lines(alloc, text, &lines, &own)?;
     }
     Ok(())
 }
 
-// The lines of some groups, from the group `number` on; the hits run over the conditions of all groups of the trigger, and
-// those of these groups start at `from`.
-pub(crate) fn put_groups(
+// The lines of the alt groups.
+pub(crate) fn put_alts(
     alloc: Global,
     text: &mut Vec<u8>,
-    from: usize,
-    groups: &[Group],
-    hits: &[u32],
-    frames: u64,
+    told: &AltLines<'_>,
     accounts: &[GroupAccount],
 ) -> Result<(), OutOfMemory>
-    requires spelled { All IsTriggerGroup (map group_contents groups.now) }
-    requires many { length accounts.now ≡ length groups.now }
-    requires fit { AllFit (map group_contents groups.now) accounts.now }
-    requires stand { AllGroupsStandAt frames accounts.now }
-    requires few { frames < 2 ^ 60 }
-    requires within { from + sum_by length (map group_contents groups.now) ≤ length hits.now }
+    requires spelled { All IsTriggerGroup (map group_contents told.now.groups.now) }
+    requires many { length accounts.now ≡ length told.now.groups.now }
+    requires fit { AllFit (map group_contents told.now.groups.now) accounts.now }
+    requires stand { AllGroupsStandAt told.now.frames accounts.now }
+    requires few { told.now.frames < 2 ^ 60 }
+    requires within { told.now.from + sum_by length (map group_contents told.now.groups.now) ≤ length told.now.hits.now }
     ensures { (size : ℕ) (rows : List GroupRow)
-        → AreGroupAccounts (map group_contents groups.now) from size rows accounts.now
-        → OnOk result (text.new.items ≡ text.old.items
-        ++ spec.groups_lines 1 from (map group_contents groups.now) hits.now frames size rows) }
+        → AreGroupAccounts (map group_contents told.now.groups.now) told.now.from size rows accounts.now
+        → OnOk result (text.new.items ≡ text.old.items ++ spec.groups_lines 1 told.now.from
+        (map group_contents told.now.groups.now) told.now.hits.now told.now.frames size rows) }
 {
-    let mut start = from;
+    let groups = told.groups;
+    let mut start = told.from;
     for place in 0..groups.len() {
         let group = &groups[place];
         let end = start + group.conditions.len();
-        put_group(
-            alloc,
-            text,
-            place + 1,
+        let lines = GroupLines {
+            number: place + 1,
             group,
-            &hits[start..end],
-            frames,
-            &accounts[place],
-        )?;
+            hits: &told.hits[start..end],
+            frames: told.frames,
+        };
+        put_group(alloc, text, &lines, &accounts[place])?;
         start = end;
     }
     Ok(())

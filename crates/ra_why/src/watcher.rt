@@ -10,7 +10,7 @@ ghost use Rattle.ra_why.specs.Watching.{IsFirst, IsMade, IsRoom, IsWatching, May
 
 use crate::kept::Kept;
 use crate::room::Room;
-use crate::showing::take_frame;
+use crate::showing::{note_frame, take_frame};
 use ra_account::TriggerAccount;
 use ra_condition::TriggerText;
 use ra_indirect::Pool;
@@ -96,14 +96,9 @@ impl Watcher {
             memory: &self.memory,
             steps,
         });
-        unlocks(take_frame(
-            &self.text,
-            size,
-            &self.table,
-            &mut self.run,
-            &mut self.room,
-            &mut self.account,
-        ))
+        let change = take_frame(&self.text, &self.table, &mut self.run, &mut self.room);
+        note_frame(&self.text, size, change, &self.room, &mut self.account);
+        unlocks(change)
     }
 
     /// Keeps the present moment in a slot, from 0 to 15. Where memory runs out nothing changes.
@@ -158,7 +153,7 @@ fn begun(
 {
     let memory = Memory::new(alloc, size)?;
     let account = TriggerAccount::new(alloc, text)?;
-    let room = Room::new(alloc, account.wanted.len())?;
+    let room = Room::new(alloc, account.nearest.wants.len())?;
     let (table, run) = laid_out(alloc, text, size)?;
     Ok((memory, room, account, table, run))
 }

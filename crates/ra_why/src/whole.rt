@@ -10,7 +10,9 @@ ghost use Rattle.ra_condition.specs.Contents.{group_contents, groups_of, trigger
 ghost use Rattle.ra_trigger.specs.States.{is_triggered};
 ghost use Rattle.ra_why.specs.Text as spec;
 
-use crate::lines::{put_group, put_groups, write_place};
+use crate::alt_lines::AltLines;
+use crate::group_lines::GroupLines;
+use crate::lines::{put_alts, put_group, write_place};
 use ra_account::{Nearest, TriggerAccount, write_times};
 use ra_condition::{Group, TriggerText};
 use ra_text::OutOfMemory;
@@ -205,24 +207,20 @@ fn put_conditions(
 {
     let count = trigger.core.conditions.len();
     let frames = account.frames;
-    put_group(
-        alloc,
-        text,
-        0,
-        &trigger.core,
-        &hits[..count],
+    let core = GroupLines {
+        number: 0,
+        group: &trigger.core,
+        hits: &hits[..count],
         frames,
-        &account.core,
-    )?;
-    put_groups(
-        alloc,
-        text,
-        count,
-        &trigger.alts,
+    };
+    put_group(alloc, text, &core, &account.core)?;
+    let alts = AltLines {
+        from: count,
+        groups: &trigger.alts,
         hits,
         frames,
-        &account.alts,
-    )?;
+    };
+    put_alts(alloc, text, &alts, &account.alts)?;
     Ok(())
 }
 

@@ -1,4 +1,4 @@
-use Rattle.std.proofs.Common.{◌≡◌, length, sym, ap, ◌∙◌}
+use Rattle.std.proofs.Common.{◌≡◌, length, sym, ◌∙◌}
 use Rattle.ra_account.proofs.RefillLemmas.{refilled}
 use Rattle.ra_why.proofs.showing.read_frame.Goals as goal
 

@@ -1,12 +1,9 @@
-use Rattle.std.proofs.Common.{◌≡◌, ◌∷◌, ◌&&◌, length, sym, ap, subst, ◌∙◌}
+use Rattle.std.proofs.Common.{◌&&◌, length, sym, ap, ◌∙◌}
 use Rattle.ra_condition.specs.Contents.{groups_of, trigger_contents}
 use Rattle.ra_member.proofs.LaidLemmas.{laid_fills, length_ops}
-use Rattle.ra_account.specs.Groups.{GroupRow}
-use Rattle.ra_account.specs.Triggers.{IsTriggerAccount, TriggerRow, row_with}
 use Rattle.ra_trigger.specs.declared.change.Change.{Change}
 use Rattle.ra_trigger.specs.States.{is_waiting}
-use Rattle.ra_trigger.specs.Steps.{TriggerKept, step, together}
-use Rattle.ra_why.specs.Frames.{shown_by}
+use Rattle.ra_trigger.specs.Steps.{TriggerKept, step}
 use Rattle.ra_why.specs.Watching.{row_read}
 use Rattle.ra_why.proofs.ReadLemmas.{steps_read}
 use Rattle.ra_why.proofs.WaitLemmas.{stays_waiting}
@@ -33,36 +30,30 @@ read_frame-requires-clause-kept c =
     ∙ sym (ap length c.requires.run.laid.ops ∙ length_ops (groups_of (trigger_contents c.args.text.now)))
 
 pub returns-clause-run : goal.returns-clause-run
-returns-clause-run c = record { laid = c.requires.run.laid; hits = c.step-change.ensures.count ∙ c.requires.run.hits }
+returns-clause-run c = record { laid = c.requires.run.laid; hits = c.step.ensures.count ∙ c.requires.run.hits }
 
 pub returns-clause-steps : goal.returns-clause-steps
 returns-clause-steps c =
     steps_read (trigger_contents c.args.text.now) c.args.table.now c.args.run.now
-    (record { laid = c.args.run.now.laid; trigger = c.step-change.new.self }) c.step-change.result
+    (record { laid = c.args.run.now.laid; trigger = c.step.new.self }) c.step.result
     c.deref-3.result.now c.deref-4.result.now c.requires.run.laid
     (c.deref-3.ensures.value ∙ c.read_frame.ensures.truths)
     (c.deref-4.ensures.value ∙ c.read_frame.ensures.lefts)
-    c.step-change.ensures.kept c.step-change.ensures.change
+    c.step.ensures.kept c.step.ensures.change
 
-pub returns-clause-noted : goal.returns-clause-noted
-returns-clause-noted c = λ earlier known.
+pub returns-clause-read : goal.returns-clause-read
+returns-clause-read c =
+    let read = c.read_frame.ensures in
+    (λ i. record { truths = read.truths i; lefts = read.lefts i; rights = read.rights i; hits = read.hits i })
+
+pub returns-clause-waited : goal.returns-clause-waited
+returns-clause-waited c =
     let t = trigger_contents c.args.text.now in
-    let run = c.args.run.now in
-    let old = run.trigger in
-    let row = row_read c.args.table.now.values run in
+    let old = c.args.run.now.trigger in
+    let row = row_read c.args.table.now.values c.args.run.now in
     let truths = c.deref-3.ensures.value ∙ c.read_frame.ensures.truths in
     let lefts = c.deref-4.ensures.value ∙ c.read_frame.ensures.lefts in
-    let waits : c.stays_waiting.result ≡ (is_waiting old.state && (together t row.truths row.lefts row.hits).valid) =
-    c.stays_waiting.ensures
-    ∙ ap (λ (ch : Change). is_waiting ch.before && is_waiting ch.after) c.step-change.ensures.change
+    ap (λ (ch : Change). is_waiting ch.before && is_waiting ch.after) c.step.ensures.change
     ∙ ap (λ (k : TriggerKept). is_waiting old.state && is_waiting k.state)
-    (c.step-change.ensures.kept ∙ (λ i. step t (truths i) (lefts i) old))
-    ∙ stays_waiting t row.truths row.lefts old in
-    let first = c.deref-5.ensures.value ∙ c.read_frame.ensures.truths in
-    let second = c.deref-6.ensures.value ∙ c.read_frame.ensures.lefts in
-    let third = c.deref-7.ensures.value ∙ c.read_frame.ensures.rights in
-    let fourth = c.deref-8.ensures.value ∙ c.read_frame.ensures.hits in
-    subst (λ (r : TriggerRow). IsTriggerAccount t c.args.size (r ∷ earlier) c.note.new.self)
-    (λ i. row_with t (waits i)
-    (record { truths = first i; lefts = second i; rights = third i; hits = fourth i }))
-    (c.note.ensures.noted earlier known)
+    (c.step.ensures.kept ∙ (λ i. step t (truths i) (lefts i) old))
+    ∙ stays_waiting t row.truths row.lefts old

@@ -27,7 +27,7 @@ returns c = λ size rows known.
     (subst (λ (xs : List GroupAccount). AreGroupAccounts alts (length core) size row xs)
     (sym c.deref-2.ensures.value) known.alts)) in
     let first = c.in_ok-put_group.ensures size (map (part_of core 0) row) known.core in
-    let second = c.in_ok-put_groups.ensures size row accounts in
+    let second = c.in_ok-put_alts.ensures size row accounts in
     second
     ∙ (λ i. first i ++ groups_lines 1 (from i) (texts i) hits (frames i) size row)
     ∙ (λ i. (c.args.text.now.items ++ group_lines 0 core (take (count i) hits) (frames i) size
