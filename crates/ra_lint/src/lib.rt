@@ -3,6 +3,7 @@
 #![tactic(auto)]
 
 mod chance;
+mod judged;
 mod judging;
 mod laws;
 mod on_group;

@@ -10,6 +10,7 @@ ghost use Rattle.ra_lint.specs.Judging.{verdict_at};
 ghost use Rattle.ra_lint.specs.Warnings.{group_warnings, may_hold};
 
 use crate::chance::Chance;
+use crate::judged::Judged;
 use crate::judging::judge_group;
 use crate::rows::{Spot, put_warnings};
 use crate::verdict::Verdict;
@@ -54,7 +55,11 @@ fn pass_conditions(
     for (place, condition) in conditions.iter().enumerate() {
         let verdict = verdicts[place];
         let here = Chance::of(condition, !verdict.never, before);
-        put_warnings(found, spot, place as u32, condition, verdict, here)?;
+        let judged = Judged {
+            verdict,
+            chance: here,
+        };
+        put_warnings(found, spot, place as u32, condition, judged)?;
         let lost = here.is_lost();
         dead |= lost;
         before = here.seen_next(condition, before);

@@ -4,8 +4,7 @@ ghost use Rattle.std.specs.Prelude.{◌≡◌, ◌++◌, OnOk};
 ghost use Rattle.ra_lint.specs.Passing.{warning_at, warnings_by};
 ghost use Rattle.ra_lint.specs.Warnings.{where_so};
 
-use crate::chance::Chance;
-use crate::verdict::Verdict;
+use crate::judged::Judged;
 use crate::warning::{Place, Warning, Word};
 use ra_condition::Condition;
 use ra_text::OutOfMemory;
@@ -24,17 +23,17 @@ pub(crate) fn put_warnings(
     spot: Spot,
     place: u32,
     condition: &Condition,
-    verdict: Verdict,
-    chance: Chance,
+    judged: Judged,
 ) -> Result<(), OutOfMemory>
-    ensures { OnOk result (found.new.items ≡ found.old.items ++ warnings_by spot place condition.now verdict chance) }
+    ensures { OnOk result (found.new.items ≡ found.old.items ++ warnings_by spot place condition.now
+        judged.verdict judged.chance) }
 {
     if condition.flag.hands_on() {
         return Ok(());
     }
-    let unreachable = chance.never_reaches(condition.target);
-    put_where(found, verdict.never, spot, place, Word::Never)?;
-    put_where(found, verdict.always, spot, place, Word::Always)?;
+    let unreachable = judged.chance.never_reaches(condition.target);
+    put_where(found, judged.verdict.never, spot, place, Word::Never)?;
+    put_where(found, judged.verdict.always, spot, place, Word::Always)?;
     put_where(found, unreachable, spot, place, Word::Unreachable)?;
     Ok(())
 }
