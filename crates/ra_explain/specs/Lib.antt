@@ -1,6 +1,10 @@
 pub mod Beginnings
+pub mod ChangesInside
+pub mod Compacts
 pub mod Explains
+pub mod HitChanges
 pub mod Making
+pub mod OrderedRows
 pub mod Recorders
 pub mod Recordings
 pub mod Replays

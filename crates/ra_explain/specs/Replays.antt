@@ -19,15 +19,13 @@ pub record AreOrders (t : TriggerContents) (orders : Orders) : Type 0 where
 pub record IsReplay (t : TriggerContents) (replay : Replay) : Type 0 where
   pub orders : AreOrders t replay.orders
   pub zeros : length replay.zeros.items ≡ trigger_hits t
-  pub before : length replay.before.items ≡ trigger_hits t
   pub room : length replay.room.items ≡ trigger_hits t
   pub hits : length replay.trigger.hits ≡ trigger_hits t
 
--- a row of a replay: what is told of it, the hits before it are kept, and those after it where it does not reset
+-- a row of a replay: what is told of it, and the hits after it where it does not reset
 pub record StepsRow (t : TriggerContents) (row : List Bool) (old new : Replay) (said : Said) : Type 0 where
   pub reset : said.reset ≡ (together t row [] old.trigger.hits).reset
   pub valid : said.valid ≡ (together t row [] old.trigger.hits).valid
-  pub before : new.before.items ≡ old.trigger.hits
   pub hits : said.reset ≡ false → new.trigger.hits ≡ (together t row [] old.trigger.hits).hits
 
 -- what all groups say at a row together, from these hits; no left value counts for it

@@ -1,11 +1,13 @@
 //! Where the rows of an unlock begin.
 
-ghost use Rattle.std.specs.Prelude.{◌≡◌, ◌+◌, ◌*◌, ◌≤◌, length, IfOk};
-ghost use Rattle.ra_condition.specs.Contents.{trigger_contents, trigger_hits};
+ghost use Rattle.std.specs.Prelude.{IfOk};
+ghost use Rattle.ra_condition.specs.Contents.{trigger_contents};
 ghost use Rattle.ra_explain.specs.Beginnings.{ExplainsRows, IsBeginning, UnlocksLast};
-ghost use Rattle.ra_explain.specs.Explains.{explanation_contents};
+ghost use Rattle.ra_explain.specs.Compacts.{compact_contents};
+ghost use Rattle.ra_explain.specs.OrderedRows.{AreRows, joined};
 
-use crate::explanation::Explanation;
+use crate::compact::CompactExplanation;
+use crate::ordered_rows::OrderedRows;
 use crate::replay::{Replay, waits};
 use crate::tracing::trace;
 use ra_condition::TriggerText;
@@ -23,21 +25,19 @@ pub(crate) struct Beginning {
 fn begun(
     alloc: Global,
     text: &TriggerText,
-    rows: &[bool],
+    rows: &OrderedRows<'_>,
     last: u32,
 ) -> Result<Beginning, OutOfMemory>
-    requires rows { length rows.now ≡ (last + 1) * trigger_hits (trigger_contents text.now) }
-    ensures { IfOk result (IsBeginning (trigger_contents text.now) rows.now last) }
+    requires rows { AreRows (trigger_contents text.now) last rows.now }
+    ensures { IfOk result (IsBeginning (trigger_contents text.now) (joined rows.now) last) }
 {
     let mut replay = Replay::new(alloc, text)?;
-    let width = replay.zeros.len();
     let mut beginning = Beginning {
         since: 0,
         waited: true,
     };
     for row in 0..last {
-        let from = row as usize * width;
-        if replay.advance(text, &rows[from..from + width]) {
+        if replay.advance(text, rows.row(row as usize)) {
             let waited = waits(replay.trigger.state());
             beginning = Beginning {
                 since: row + 1,
@@ -52,21 +52,21 @@ fn begun(
 pub(crate) fn explained(
     alloc: Global,
     text: &TriggerText,
-    rows: &[bool],
+    rows: &OrderedRows<'_>,
     last: u32,
-) -> Result<Explanation, OutOfMemory>
-    requires rows { length rows.now ≡ (last + 1) * trigger_hits (trigger_contents text.now) }
-    requires unlock { UnlocksLast (trigger_contents text.now) rows.now last }
-    ensures { IfOk result (λ e. ExplainsRows (trigger_contents text.now) rows.now last (explanation_contents e)) }
+) -> Result<CompactExplanation, OutOfMemory>
+    requires rows { AreRows (trigger_contents text.now) last rows.now }
+    requires unlock { UnlocksLast (trigger_contents text.now) (joined rows.now) last }
+    ensures { IfOk result (λ e. ExplainsRows (trigger_contents text.now) (joined rows.now) last (compact_contents e)) }
 {
     let Beginning { since, waited } = begun(alloc, text, rows, last)?;
-    let Some(events) = trace(alloc, text, rows, since, last)? else {
+    let Some(changes) = trace(alloc, text, rows, since, last)? else {
         unreachable!()
     };
-    Ok(Explanation {
+    Ok(CompactExplanation {
         last,
         since,
         waited,
-        events,
+        changes,
     })
 }

@@ -3,9 +3,12 @@
 ghost use Rattle.std.specs.Prelude.{◌≡◌, ◌↔◌, ◌+◌, ◌*◌, ◌≤◌, length, true, IfOk};
 ghost use Rattle.ra_condition.specs.Contents.{trigger_contents, trigger_hits};
 ghost use Rattle.ra_explain.specs.Explains.{Explains, UnlockFollows, explanation_contents};
+ghost use Rattle.ra_explain.specs.HitChanges.{events_of};
 ghost use Rattle.ra_explain.specs.Replays.{contents_of};
 
 use crate::explanation::{Event, Events, Explanation};
+use crate::hit_changes::HitChanges;
+use crate::ordered_rows::OrderedRows;
 use crate::tracing::trace;
 use ra_condition::TriggerText;
 use ra_text::OutOfMemory;
@@ -32,23 +35,30 @@ pub fn verify(
     if explanation.waited && explanation.since == explanation.last {
         return Ok(false);
     }
-    match trace(alloc, text, rows, explanation.since, explanation.last)? {
-        Some(events) => Ok(same_events(&events, &explanation.events)),
+    let (since, last) = (explanation.since, explanation.last);
+    let rows = OrderedRows::all(alloc, explanation.events.len(), rows, last)?;
+    match trace(alloc, text, &rows, since, last)? {
+        Some(changes) => same_events(alloc, &changes, &explanation.events),
         None => Ok(false),
     }
 }
 
-// Whether the events of all conditions are the same.
-fn same_events(events: &[Events], others: &[Events]) -> bool
-    requires { length events.now ≡ length others.now }
-    ensures { (result ≡ true) ↔ (contents_of events.now ≡ contents_of others.now) }
+// Whether the events of all conditions are these.
+fn same_events(
+    alloc: Global,
+    changes: &[HitChanges],
+    events: &[Events],
+) -> Result<bool, OutOfMemory>
+    requires { length changes.now ≡ length events.now }
+    ensures { IfOk result (λ yes. (yes ≡ true) ↔ (events_of changes.now ≡ contents_of events.now)) }
 {
-    for place in 0..events.len() {
-        if !same_list(&events[place].list, &others[place].list) {
-            return false;
+    for place in 0..changes.len() {
+        let list = changes[place].events(alloc)?;
+        if !same_list(&list, &events[place].list) {
+            return Ok(false);
         }
     }
-    true
+    Ok(true)
 }
 
 // Whether the events of a condition are the same.

@@ -3,6 +3,7 @@ ghost use Rattle.std.specs.Result.{OnOk};
 ghost use Rattle.ra_condition.specs.Contents.{trigger_contents, trigger_hits};
 ghost use Rattle.ra_condition.specs.Spelled.{IsTrigger};
 
+use crate::compact::CompactExplanation;
 use crate::explanation::Explanation;
 use crate::recording::Recording;
 use crate::refused::ExplainRefused;
@@ -39,6 +40,7 @@ impl Model for Recorder {
 impl Recorder {
     ghost use Rattle.ra_explain.specs.Recorders.{KeepsHistories, KeepsSlots, KeepsOtherSlots, IsNew, IsWritten, TakesFrame, RefusesFrame, IsSaved, IsFilled, IsRestored, TakesUpSlot, rows_in_order};
     ghost use Rattle.ra_explain.specs.Explains.{explanation_contents};
+    ghost use Rattle.ra_explain.specs.Compacts.{compact_contents};
     ghost use Rattle.ra_explain.specs.Unlocks.{ExplainsBehind, FitsRows};
 
     /// An achievement over a memory of `size` bytes, all 0, before the first frame.
@@ -137,5 +139,14 @@ impl Recorder {
         ensures fits { IfOk result (λ e. FitsRows self.now (explanation_contents e)) }
     {
         self.recording.explain(alloc)
+    }
+
+    /// The same explanation in a byte for each condition and row from its first one on.
+    pub fn explain_compactly(&self, alloc: Global) -> Result<CompactExplanation, OutOfMemory>
+        requires { self.now.unlocked ≡ true }
+        ensures explains { IfOk result (λ e. ExplainsBehind self.now (compact_contents e)) }
+        ensures fits { IfOk result (λ e. FitsRows self.now (compact_contents e)) }
+    {
+        self.recording.explain_compactly(alloc)
     }
 }

@@ -5,6 +5,7 @@ ghost use Rattle.ra_condition.specs.Spelled.{IsTrigger};
 ghost use Rattle.ra_trigger.specs.States.{is_triggered};
 
 use crate::beginning::explained;
+use crate::compact::CompactExplanation;
 use crate::explanation::Explanation;
 use crate::laying::laid_out;
 use crate::refused::ExplainRefused;
@@ -59,6 +60,7 @@ impl Recording {
     ghost use Rattle.ra_explain.specs.Recorders.{KeepsHistories, KeepsSlots, KeepsOtherSlots, TakesFrame, RefusesFrame, IsFilled, TakesUpSlot, product_of, rows_in_order};
     ghost use Rattle.ra_explain.specs.Recordings.{over, IsBegun, IsCurrent, IsTold, LooksAt, ReadsFew, ReadsLooked, SavesIn, TakesUp};
     ghost use Rattle.ra_explain.specs.Explains.{explanation_contents};
+    ghost use Rattle.ra_explain.specs.Compacts.{compact_contents};
     ghost use Rattle.ra_explain.specs.Unlocks.{ExplainsBehind, FitsRows};
 
     /// An achievement over images of `size` bytes, before the first frame.
@@ -278,7 +280,18 @@ impl Recording {
         ensures fits { IfOk result (λ e. (image : List ℕ) →
             FitsRows (over self.now image) (explanation_contents e)) }
     {
-        let rows = self.rows.behind(alloc, self.latest)?;
+        self.explain_compactly(alloc)?.expand(alloc)
+    }
+
+    /// The same explanation in a byte for each condition and row from its first one on.
+    pub fn explain_compactly(&self, alloc: Global) -> Result<CompactExplanation, OutOfMemory>
+        requires { self.now.unlocked ≡ true }
+        ensures explains { IfOk result (λ e. (image : List ℕ) →
+            ExplainsBehind (over self.now image) (compact_contents e)) }
+        ensures fits { IfOk result (λ e. (image : List ℕ) →
+            FitsRows (over self.now image) (compact_contents e)) }
+    {
+        let rows = self.rows.in_order(alloc, self.latest)?;
         let count = self.rows.count(self.latest);
         explained(alloc, &self.text, &rows, count - 1)
     }

@@ -27,8 +27,6 @@ pub(crate) struct Said {
 pub(crate) struct Replay {
     pub orders: Orders,
     pub trigger: Trigger,
-    // the hits before the last row
-    pub before: Vec<u32>,
     // left values, which count for no hits
     pub zeros: Vec<u32>,
     pub room: Vec<u32>,
@@ -44,13 +42,11 @@ impl Replay {
         let orders = orders_of(alloc, text)?;
         let trigger = Trigger::new(alloc, text)?;
         let count = trigger.hits().len();
-        let before = vec![in alloc; 0; count]?;
         let zeros = vec![in alloc; 0; count]?;
         let room = vec![in alloc; 0; count]?;
         Ok(Replay {
             orders,
             trigger,
-            before,
             zeros,
             room,
         })
@@ -63,7 +59,6 @@ impl Replay {
         ensures replay { IsReplay (trigger_contents text.now) self.new }
         ensures steps { StepsRow (trigger_contents text.now) row.now self.old self.new result }
     {
-        self.before.copy_from_slice(self.trigger.hits());
         self.room.copy_from_slice(self.trigger.hits());
         let reset = resets(text, &self.orders, row, &self.zeros, &mut self.room);
         let valid = self.trigger.truth(

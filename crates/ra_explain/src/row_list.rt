@@ -2,12 +2,13 @@
 
 ghost use Rattle.std.specs.Prelude.{◌≡◌, ◌+◌, ◌*◌, ◌<◌, ◌≤◌, false, true, [], ◌∷◌, length, replicate, reverse, IfOk, OnErr};
 ghost use Rattle.std.specs.Result.{OnOk};
-ghost use Rattle.std.specs.List.{flat_map};
+ghost use Rattle.std.specs.List.{AllByRecursion, flat_map};
 ghost use Rattle.ra_member.specs.Readings.{truths_by, numbers_at};
 ghost use Rattle.ra_member.specs.Runs.{MayFill};
 ghost use Rattle.ra_explain.specs.RowLists.{rows_from, with_row, refilled, truths_laid};
 
-use crate::indices::{count_from, rows_at};
+use crate::indices::{count_from, indices_from, rows_at};
+use crate::ordered_rows::OrderedRows;
 use crate::row::read_row;
 use ra_member::Laid;
 use ra_memref::Table;
@@ -97,6 +98,17 @@ impl RowList {
         ensures { IfOk result (λ rows. rows.items ≡ flat_map (λ row. row) (reverse (rows_from self.now.behind place))) }
     {
         rows_at(alloc, self.width, &self.truths, &self.links, place)
+    }
+
+    // The same rows as they stand in the list.
+    pub(crate) fn in_order(&self, alloc: Global, place: u32) -> Result<OrderedRows<'_>, OutOfMemory>
+        requires { place < length self.now.behind }
+        ensures rows { IfOk result (λ rows. rows ≡ reverse (rows_from self.now.behind place)) }
+        ensures width { IfOk result (λ rows. AllByRecursion (λ row. length row ≡ self.now.width) rows) }
+    {
+        let mut order = indices_from(alloc, &self.links, place)?;
+        order.reverse();
+        Ok(OrderedRows::new(self.width, &self.truths, order))
     }
 
     // How many rows there are from a place back.

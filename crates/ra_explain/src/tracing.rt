@@ -1,78 +1,71 @@
-//! The events of the rows up to an unlock.
+//! What the rows up to an unlock did to the hits.
 
-ghost use Rattle.std.specs.Prelude.{◌≡◌, ◌+◌, ◌*◌, ◌≤◌, ◌<◌, ◌^◌, [], length, replicate, option_map, IfOk};
+ghost use Rattle.std.specs.Prelude.{◌≡◌, ◌+◌, ◌≤◌, ◌<◌, ◌^◌, length, map, replicate, option_map, IfOk};
 ghost use Rattle.std.specs.Result.{OnOk};
-ghost use Rattle.ra_condition.specs.Contents.{trigger_contents, trigger_hits};
-ghost use Rattle.ra_explain.specs.Replays.{IsTrace, contents_of, noted, noted_one};
+ghost use Rattle.std.specs.List.{AllByRecursion};
+ghost use Rattle.ra_condition.specs.Contents.{trigger_contents};
+ghost use Rattle.ra_explain.specs.HitChanges.{AreNext, events_of, unchanged, with_rows};
+ghost use Rattle.ra_explain.specs.OrderedRows.{AreRows, joined};
+ghost use Rattle.ra_explain.specs.Replays.{IsTrace};
 
-use crate::explanation::{Event, Events};
+use crate::hit_changes::HitChanges;
+use crate::ordered_rows::OrderedRows;
 use crate::replay::Replay;
 use ra_condition::TriggerText;
 use ra_text::OutOfMemory;
 use std::alloc::Global;
 
-// The events of each condition from a row on, before which all hits are 0, up to the last row. None where a row resets,
-// or is not valid exactly where it is the last.
+// What each row from one on, before which all hits are 0, up to the last one did to the hits of each condition. None
+// where a row resets, or is not valid exactly where it is the last.
 pub(crate) fn trace(
     alloc: Global,
     text: &TriggerText,
-    rows: &[bool],
+    rows: &OrderedRows<'_>,
     since: u32,
     last: u32,
-) -> Result<Option<Vec<Events>>, OutOfMemory>
-    requires rows { length rows.now ≡ (last + 1) * trigger_hits (trigger_contents text.now) }
+) -> Result<Option<Vec<HitChanges>>, OutOfMemory>
+    requires rows { AreRows (trigger_contents text.now) last rows.now }
     requires since { since ≤ last }
-    ensures { IfOk result (λ found. IsTrace (trigger_contents text.now) rows.now since last (option_map (λ events. contents_of events.items) found)) }
+    ensures { IfOk result (λ found. IsTrace (trigger_contents text.now) (joined rows.now) since last (option_map (λ changes. events_of changes.items) found)) }
 {
     let mut replay = Replay::new(alloc, text)?;
-    let width = replay.zeros.len();
-    let mut events = no_events(alloc, width)?;
+    let count = replay.zeros.len();
+    let mut changes = no_changes(alloc, count, since, (last - since) as usize + 1)?;
     for row in since as usize..last as usize + 1 {
-        let said = replay.step(text, &rows[row * width..row * width + width]);
+        let said = replay.step(text, rows.row(row));
         if said.reset || said.valid != (row == last as usize) {
             return Ok(None);
         }
-        note(
-            &mut events,
-            row as u32,
-            &replay.before,
-            replay.trigger.hits(),
-        )?;
+        add_row(&mut changes, replay.trigger.hits())?;
     }
-    Ok(Some(events))
+    Ok(Some(changes))
 }
 
-// This many conditions without events.
-fn no_events(alloc: Global, count: usize) -> Result<Vec<Events>, OutOfMemory>
-    ensures { IfOk result (λ events. contents_of events.items ≡ replicate count []) }
+// This many conditions, of which no row from one on is known yet, with room for this many rows.
+fn no_changes(
+    alloc: Global,
+    count: usize,
+    since: u32,
+    rows: usize,
+) -> Result<Vec<HitChanges>, OutOfMemory>
+    ensures { IfOk result (λ changes. changes.items ≡ replicate count (unchanged since)) }
 {
-    let mut events = Vec::new(alloc);
+    let mut changes = Vec::with_capacity(alloc, count)?;
     for _ in 0..count {
-        events.push(Events {
-            list: Vec::new(alloc),
-        })?;
+        changes.push(HitChanges::new(alloc, since, rows)?)?;
     }
-    Ok(events)
+    Ok(changes)
 }
 
-// Notes the hits that changed at a row.
-fn note(events: &mut [Events], row: u32, before: &[u32], after: &[u32]) -> Result<(), OutOfMemory>
-    requires before { length before.now ≡ length events.old }
-    requires after { length after.now ≡ length events.old }
-    ensures { OnOk result (contents_of events.new ≡ noted row (contents_of events.old) before.now after.now) }
+// Adds a row with these hits after it.
+fn add_row(changes: &mut [HitChanges], after: &[u32]) -> Result<(), OutOfMemory>
+    requires after { length after.now ≡ length changes.old }
+    requires next { AreNext (map (λ own. own.hits) changes.old) after.now }
+    requires room { AllByRecursion (λ own. own.row < 2 ^ 32) changes.old }
+    ensures { OnOk result (changes.new ≡ with_rows changes.old after.now) }
 {
-    for place in 0..events.len() {
-        note_one(&mut events[place], row, before[place], after[place])?;
-    }
-    Ok(())
-}
-
-// Notes the hits of a condition where they changed at a row.
-fn note_one(own: &mut Events, row: u32, before: u32, after: u32) -> Result<(), OutOfMemory>
-    ensures { OnOk result (own.new.list.items ≡ noted_one row own.old.list.items before after) }
-{
-    if after != before {
-        own.list.push(Event { row, hits: after })?;
+    for place in 0..changes.len() {
+        changes[place].add(after[place])?;
     }
     Ok(())
 }
