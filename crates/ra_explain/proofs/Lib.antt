@@ -1,6 +1,8 @@
 pub mod AlikeLemmas
 pub mod BeginningLemmas
+pub mod ChangeLemmas
 pub mod ColumnLemmas
+pub mod ConditionLemmas
 pub mod CurrentLemmas
 pub mod ExplainedLemmas
 pub mod FollowLemmas
@@ -10,7 +12,9 @@ pub mod HistoryLemmas
 pub mod IndexLemmas
 pub mod LeftLemmas
 pub mod MadeLemmas
+pub mod NextLemmas
 pub mod NoteLemmas
+pub mod OrderLemmas
 pub mod PauseLemmas
 pub mod ReplayedLemmas
 pub mod RowLemmas

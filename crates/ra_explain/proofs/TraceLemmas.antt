@@ -1,8 +1,9 @@
 -- The rows of a replay, and what an explanation says of them.
-use Rattle.std.proofs.Common.{◌≡◌, ◌⊎◌, ℕ, zero, suc, ◌+◌, ◌-◌, ◌<◌, ◌≤◌, ◌==◌, Bool, true, false, List, [], length, replicate, sym, ap, subst, ◌∙◌, inl, inr, arith}
+use Rattle.std.proofs.Common.{◌≡◌, ◌⊎◌, ℕ, zero, suc, ◌+◌, ◌-◌, ◌<◌, ◌≤◌, ◌==◌, Bool, true, false, not, List, [], length, replicate, refl, sym, ap, subst, ◌∙◌, inl, inr, arith}
+use Rattle.std.specs.Bool.{beq}
 use Rattle.std.specs.List.{AllByRecursion}
 use Rattle.std.proofs.lemmas.List.{length-replicate}
-use Rattle.std.proofs.lemmas.Bool.{cases_lt, eq-eqb, ne_eqb}
+use Rattle.std.proofs.lemmas.Bool.{cases_lt, eq-eqb, false≢true, ne_eqb}
 use Rattle.ra_condition.specs.Contents.{TriggerContents, groups_of, trigger_hits}
 use Rattle.ra_trigger.specs.Steps.{Together, together}
 use Rattle.ra_explain.specs.declared.explanation.Event.{Event}
@@ -12,6 +13,19 @@ use Rattle.ra_explain.proofs.GroupsLemmas.{length-hits_along}
 use Rattle.ra_explain.proofs.NoteLemmas.{length_noted}
 use Rattle.ra_explain.proofs.FollowLemmas.{begins_with}
 use Rattle.ra_explain.proofs.ColumnLemmas.{HaveNoted, said_at, all_noted, said_last, said_earlier, none_noted, all_rise, all_same}
+
+-- two truths that a test finds the same, or not
+pub same_bools : (a b : Bool) → not (beq a b) ≡ false → a ≡ b
+same_bools true true is = refl
+same_bools true false is = absurd (false≢true (sym is))
+same_bools false true is = absurd (false≢true (sym is))
+same_bools false false is = refl
+
+pub other_bools : (a b : Bool) → not (beq a b) ≡ true → a ≡ b → ⊥
+other_bools true true is same = false≢true is
+other_bools true false is same = false≢true (sym same)
+other_bools false true is same = false≢true same
+other_bools false false is same = false≢true is
 
 module _ (t : TriggerContents) (rows : List Bool) (since : ℕ) where
   -- a hit for each condition, and its events
@@ -60,6 +74,15 @@ module _ (t : TriggerContents) (rows : List Bool) (since : ℕ) where
           valid = ap (λ (s : Together). s.valid) (sym same) ∙ sym is_valid ∙ isl ∙ ap (λ n. n == last) (sym is);
         })
   ]
+
+  -- what is told of a row that goes on
+  pub told_on : (last row k : ℕ) (slice : List Bool) (hits : List ℕ) (reset valid : Bool) → since + k ≡ row → slice ≡ row_at t rows row → hits ≡ hits_through t rows since k → reset ≡ (together t slice [] hits).reset → valid ≡ (together t slice [] hits).valid
+      → GoesOn t rows since last k → (reset ≡ false) × (valid ≡ (row == last))
+  told_on last row k slice hits reset valid is is_slice is_hits is_reset is_valid goes =
+      let same : together t slice [] hits ≡ said_by t rows (since + k) (hits_through t rows since k) = (λ i. together t (is_slice i) [] (is_hits i)) ∙ ap (λ n. said_by t rows n (hits_through t rows since k)) (sym is) in (
+        is_reset ∙ ap (λ (s : Together). s.reset) same ∙ goes.reset,
+        is_valid ∙ ap (λ (s : Together). s.valid) same ∙ goes.valid ∙ ap (λ n. n == last) is,
+      )
 
   -- the hits after it
   pub hits_further : (row k : ℕ) (slice : List Bool) (hits hits' : List ℕ) → since + k ≡ row → slice ≡ row_at t rows row → hits ≡ hits_through t rows since k → hits' ≡ (together t slice [] hits).hits → hits' ≡ hits_through t rows since (suc k)

@@ -1,59 +1,111 @@
-use Rattle.std.proofs.Common.{◌≡◌, ◌+◌, ◌-◌, ◌*◌, ◌==◌, Bool, true, false, not, refl, length, take, drop, suc, ap, sym, ◌∙◌, arith}
-use Rattle.std.specs.Bool.{beq}
+use Rattle.std.proofs.Common.{◌≡◌, ◌<◌, ◌+◌, ◌-◌, ◌^◌, ◌==◌, [], length, map, replicate, suc, ap, sym, subst, ◌∙◌, arith}
+use Rattle.std.specs.List.{AllByRecursion}
 use Rattle.std.proofs.lemmas.Bool.{false≢true}
-use Rattle.std.proofs.lemmas.List.{length-map, with_items_is}
-use Rattle.ra_condition.specs.Contents.{trigger_contents}
-use Rattle.ra_explain.specs.declared.explanation.Events.{Events}
+use Rattle.std.proofs.lemmas.List.{with_items_is}
+use Rattle.ra_condition.specs.Contents.{trigger_contents, trigger_hits}
+use Rattle.ra_trigger.specs.Steps.{together}
 use Rattle.ra_explain.specs.Explains.{row_at}
-use Rattle.ra_explain.specs.Replays.{contents_of, noted, hits_through, events_through}
-use Rattle.ra_explain.proofs.TraceLemmas.{many_events, goes_further, hits_further}
+use Rattle.ra_explain.specs.HitChanges.{AreNext, ChangesSeen, events_of, unchanged, with_rows}
+use Rattle.ra_explain.specs.OrderedRows.{joined}
+use Rattle.ra_explain.specs.Replays.{AllGoOn, hits_through, events_through}
+use Rattle.ra_explain.proofs.ConditionLemmas.{many_conditions, hits_at, events_at, room_before, first_conditions, next_conditions}
+use Rattle.ra_explain.proofs.NextLemmas.{next_together}
+use Rattle.ra_explain.proofs.OrderLemmas.{row_is}
+use Rattle.ra_explain.proofs.TraceLemmas.{goes_further, hits_further, told_on, same_bools, other_bools}
 use Rattle.ra_explain.proofs.tracing.trace.Goals as goal
+use Rattle.ra_explain.proofs.tracing.trace.Goals.{then-said-via-then-said, then-said-via-else-said+then-said-row}
 
-same_bools : (a b : Bool) → not (beq a b) ≡ false → a ≡ b
-same_bools true true is = refl
-same_bools true false is = absurd (false≢true (sym is))
-same_bools false true is = absurd (false≢true (sym is))
-same_bools false false is = refl
+pub loop-row-init : goal.loop-row-init
+loop-row-init c =
+    let t = trigger_contents c.args.text.now in
+    let rows = joined c.args.rows.now in
+    let since = c.args.since in
+    let none : 0 ≡ since - since = omega arith in
+    let zeros = c.in_ok-replay.ensures.replay.zeros in
+    let many : c.len-count.result ≡ trigger_hits t = omega (arith, c.len-count.ensures, zeros, c.in_ok-replay.replay.zeros.ok.0) in
+    record {
+      from = omega arith;
+      upto = omega (arith, c.requires.since);
+      replay = c.in_ok-replay.ensures.replay;
+      good = λ k below. absurd (omega (arith, below));
+      hits = c.in_ok-replay.ensures.hits ∙ ap (hits_through t rows since) none;
+      changes = c.in_ok-changes.ensures ∙ ap (λ n. replicate n (unchanged since)) many ∙ first_conditions t rows since;
+    }
 
-pub note-requires-clause-before : goal.note-requires-clause-before
-note-requires-clause-before c =
+pub returns-then-said : goal.returns-then-said
+returns-then-said c =
+    let t = trigger_contents c.args.text.now in
+    let rows = joined c.args.rows.now in
+    let since = c.args.since in
+    let row = c.loop-row.row in
+    let inv = c.loop-row.invariant in
+    let said = c.step-said.result in
+    let steps = c.step-said.ensures.steps in
+    let place : since + (row - since) ≡ row = omega (arith, inv.from) in
+    let is : c.row.result.now ≡ row_at t rows row = c.row.ensures ∙ row_is t c.args.last c.args.rows.now row c.requires.rows (omega (arith, c.loop-row-test.true)) in (
+      row - since,
+      omega (arith, inv.from, c.loop-row-test.true),
+      λ goes.
+          let told = told_on t rows since c.args.last row (row - since) c.row.result.now c.loop-row.replay.trigger.hits said.reset said.valid place is inv.hits steps.reset steps.valid goes in
+          elim c.then-said.branch [
+            | then-said-via-then-said w ↦ false≢true (sym told.0 ∙ w.if-said.true)
+            | then-said-via-else-said+then-said-row w ↦ other_bools said.valid (row == c.args.last) w.if-said-row.true told.1
+          ],
+    )
+
+pub add_row-requires-clause-after : goal.add_row-requires-clause-after
+add_row-requires-clause-after c =
+    let many = many_conditions (trigger_contents c.args.text.now) (joined c.args.rows.now) c.args.since c.loop-row.row in
+    ap length c.hits.ensures ∙ c.step-said.ensures.replay.hits ∙ sym (ap length (c.deref_mut.ensures.value ∙ c.loop-row.invariant.changes) ∙ many)
+
+pub add_row-requires-clause-next : goal.add_row-requires-clause-next
+add_row-requires-clause-next c =
     let t = trigger_contents c.args.text.now in
     let inv = c.loop-row.invariant in
-    let events = many_events t c.args.rows.now c.args.since (c.loop-row.row - c.args.since) in
-    ap length c.deref.ensures.value ∙ c.step-said.ensures.replay.before ∙ sym events ∙ sym (ap length inv.events) ∙ length-map c.loop-row.events.items (λ (o : Events). o.list.items) ∙ sym (ap length c.deref_mut.ensures.value)
+    let old = c.loop-row.replay.trigger.hits in
+    let same = ap (map (λ (o : ChangesSeen). o.hits)) (c.deref_mut.ensures.value ∙ inv.changes) ∙ hits_at t (joined c.args.rows.now) c.args.since c.loop-row.row ∙ sym inv.hits in
+    let next : c.hits.result.now ≡ (together t c.row.result.now [] old).hits = c.hits.ensures ∙ c.step-said.ensures.steps.hits c.if-said.false in
+    subst (λ hs. AreNext hs c.hits.result.now) (sym same) (subst (AreNext old) (sym next) (next_together t c.row.result.now old inv.replay.hits))
 
-pub note-requires-clause-after : goal.note-requires-clause-after
-note-requires-clause-after c =
-    let t = trigger_contents c.args.text.now in
-    let inv = c.loop-row.invariant in
-    let events = many_events t c.args.rows.now c.args.since (c.loop-row.row - c.args.since) in
-    ap length c.hits.ensures ∙ c.step-said.ensures.replay.hits ∙ sym events ∙ sym (ap length inv.events) ∙ length-map c.loop-row.events.items (λ (o : Events). o.list.items) ∙ sym (ap length c.deref_mut.ensures.value)
+pub add_row-requires-clause-room : goal.add_row-requires-clause-room
+add_row-requires-clause-room c =
+    subst (AllByRecursion (λ (o : ChangesSeen). o.row < 2 ^ 32)) (sym (c.deref_mut.ensures.value ∙ c.loop-row.invariant.changes))
+    (room_before (trigger_contents c.args.text.now) (joined c.args.rows.now) c.args.since c.loop-row.row (2 ^ 32) (omega (arith, c.loop-row-test.true, c.ranges.last)))
 
 pub loop-row-preserved : goal.loop-row-preserved
 loop-row-preserved c =
     let t = trigger_contents c.args.text.now in
-    let rows = c.args.rows.now in
+    let rows = joined c.args.rows.now in
     let since = c.args.since in
     let row = c.loop-row.row in
     let inv = c.loop-row.invariant in
-    let width = c.len-width.result in
     let k = row - since in
+    let said = c.step-said.result in
     let steps = c.step-said.ensures.steps in
+    let slice = c.row.result.now in
     let place : since + k ≡ row = omega (arith, inv.from) in
     let next : suc k ≡ row + 1 - since = omega (arith, inv.from) in
-    let room : row * width + width - row * width ≡ width = omega arith in
-    let slice : take (row * width + width - row * width) (drop (row * width) rows) ≡ row_at t rows row = ap (λ m. take m (drop (row * width) rows)) room ∙ ap (λ m. take m (drop (row * m) rows)) inv.width in
-    let hits = hits_further t rows since row k (take (row * width + width - row * width) (drop (row * width) rows)) c.loop-row.replay.trigger.hits c.step-said.new.self.trigger.hits place slice inv.hits (steps.hits c.if-said.false) in
-    let olds : contents_of c.deref_mut.result.now ≡ events_through t rows since k = ap contents_of c.deref_mut.ensures.value ∙ inv.events in
-    let before : c.deref.result.now ≡ hits_through t rows since k = c.deref.ensures.value ∙ steps.before ∙ inv.hits in
-    let after : c.hits.result.now ≡ hits_through t rows since (suc k) = c.hits.ensures ∙ hits in
-    let noting : noted row (contents_of c.deref_mut.result.now) c.deref.result.now c.hits.result.now ≡ events_through t rows since (suc k) = (λ i. noted (sym place i) (olds i) (before i) (after i)) in
+    let is : slice ≡ row_at t rows row = c.row.ensures ∙ row_is t c.args.last c.args.rows.now row c.requires.rows (omega (arith, c.loop-row-test.true)) in
+    let hits = hits_further t rows since row k slice c.loop-row.replay.trigger.hits c.step-said.new.self.trigger.hits place is inv.hits (steps.hits c.if-said.false) in
+    let goes_on = same_bools said.valid (row == c.args.last) c.if-said-row.false in
     record {
       from = omega (arith, inv.from);
       upto = omega (arith, c.loop-row-test.true);
-      width = inv.width;
       replay = c.step-said.ensures.replay;
-      good = goes_further t rows since c.args.last row k (take (row * width + width - row * width) (drop (row * width) rows)) c.loop-row.replay.trigger.hits c.step-said.result.reset c.step-said.result.valid place slice inv.hits steps.reset steps.valid c.if-said.false (same_bools c.step-said.result.valid (row == c.args.last) c.if-said-row.false) inv.good;
+      good = goes_further t rows since c.args.last row k slice c.loop-row.replay.trigger.hits said.reset said.valid place is inv.hits steps.reset steps.valid c.if-said.false goes_on inv.good;
       hits = hits ∙ ap (hits_through t rows since) next;
-      events = ap contents_of (with_items_is c.loop-row.events c.note.new.events (c.note.auto.events ∙ c.deref_mut.ensures.len)) ∙ c.in_ok-note.ensures ∙ noting ∙ ap (events_through t rows since) next;
+      changes =
+          with_items_is c.loop-row.changes c.add_row.new.changes (c.add_row.auto.changes ∙ c.deref_mut.ensures.len) ∙ c.in_ok-add_row.ensures
+          ∙ (λ i. with_rows ((c.deref_mut.ensures.value ∙ inv.changes) i) ((c.hits.ensures ∙ hits) i)) ∙ next_conditions t rows since row inv.from;
     }
+
+pub returns : goal.returns
+returns c =
+    let t = trigger_contents c.args.text.now in
+    let rows = joined c.args.rows.now in
+    let since = c.args.since in
+    let inv = c.loop-row.invariant in
+    let end : c.loop-row.row ≡ c.args.last + 1 = omega (arith, inv.upto, c.loop-row-test.false) in (
+      subst (AllGoOn t rows since c.args.last) end inv.good,
+      ap events_of inv.changes ∙ events_at t rows since c.loop-row.row ∙ ap (λ n. events_through t rows since (n - since)) end,
+    )

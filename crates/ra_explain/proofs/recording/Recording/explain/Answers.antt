@@ -1,61 +1,20 @@
-use Rattle.std.proofs.Common.{arith, ◌≡◌, ◌+◌, ◌-◌, ◌*◌, ℕ, List, length, ap, sym, subst, ◌∙◌}
+use Rattle.std.proofs.Common.{◌≡◌, ℕ, List, sym, subst}
 use Rattle.std.proofs.lemmas.Result.{IfOk-weaker}
-use Rattle.ra_condition.specs.Contents.{trigger_contents, trigger_hits}
 use Rattle.ra_explain.specs.declared.explanation.Explanation.{Explanation}
-use Rattle.ra_explain.specs.Beginnings.{StandsAtUnlock, UnlocksLast, ExplainsRows}
+use Rattle.ra_explain.specs.Compacts.{compact_contents}
 use Rattle.ra_explain.specs.Explains.{explanation_contents}
-use Rattle.ra_explain.specs.Recorders.{KeptRows}
-use Rattle.ra_explain.specs.Recordings.{RecordingSeen, over}
-use Rattle.ra_explain.specs.RowLists.{rows_from}
-use Rattle.ra_explain.specs.Slots.{kept_by}
+use Rattle.ra_explain.specs.Recordings.{over}
 use Rattle.ra_explain.specs.Unlocks.{ExplainsBehind, FitsRows}
-use Rattle.ra_explain.proofs.BeginningLemmas.{begins_within}
-use Rattle.ra_explain.proofs.ExplainedLemmas.{some_rows, long_rows, unlocks_last, explains_each}
 use Rattle.ra_explain.proofs.recording.Recording.explain.Goals as goal
-
-pub explained-requires-clause-rows : goal.explained-requires-clause-rows
-explained-requires-clause-rows c =
-    let r = c.self.inside in
-    let t = trigger_contents r.text in
-    let kept : KeptRows = kept_by r.table r.run.trigger (rows_from r.rows.behind r.latest) in
-    let at : StandsAtUnlock t kept = c.self.invariant.unlock (ap (λ (o : RecordingSeen). o.unlocked) c.self.view_is ∙ c.requires) in
-    let last = c.count-count.result - 1 in
-    let is : last + 1 ≡ length kept.rows = omega (arith, c.count-count.ensures, some_rows t kept at) in
-    ap length (c.deref.ensures.value ∙ c.in_ok-rows.ensures) ∙ long_rows t kept at last is
-
-pub explained-requires-clause-unlock : goal.explained-requires-clause-unlock
-explained-requires-clause-unlock c =
-    let r = c.self.inside in
-    let t = trigger_contents r.text in
-    let kept : KeptRows = kept_by r.table r.run.trigger (rows_from r.rows.behind r.latest) in
-    let at : StandsAtUnlock t kept = c.self.invariant.unlock (ap (λ (o : RecordingSeen). o.unlocked) c.self.view_is ∙ c.requires) in
-    let last = c.count-count.result - 1 in
-    let is : last + 1 ≡ length kept.rows = omega (arith, c.count-count.ensures, some_rows t kept at) in
-    subst (λ rows. UnlocksLast t rows last) (sym (c.deref.ensures.value ∙ c.in_ok-rows.ensures)) (unlocks_last t kept at last is)
 
 pub returns-clause-explains : goal.returns-clause-explains
 returns-clause-explains c =
-    let r = c.self.inside in
-    let t = trigger_contents r.text in
-    let kept : KeptRows = kept_by r.table r.run.trigger (rows_from r.rows.behind r.latest) in
-    let at : StandsAtUnlock t kept = c.self.invariant.unlock (ap (λ (o : RecordingSeen). o.unlocked) c.self.view_is ∙ c.requires) in
-    let last = c.count-count.result - 1 in
-    let is : last + 1 ≡ length kept.rows = omega (arith, c.count-count.ensures, some_rows t kept at) in
-    IfOk-weaker c.explained.result (λ (e : Explanation). ExplainsRows t c.deref.result.now last (explanation_contents e)) (λ (e : Explanation). (image : List ℕ) → ExplainsBehind (over c.args.self.now image) (explanation_contents e))
-    (λ e x image. subst (λ (o : RecordingSeen). ExplainsBehind (over o image) (explanation_contents e)) c.self.view_is
-    (λ history stands. explains_each t kept at c.deref.result.now last (explanation_contents e) (c.deref.ensures.value ∙ c.in_ok-rows.ensures) is x history stands)) c.explained.ensures
+    let compact = c.in_ok-explain_compactly in
+    IfOk-weaker c.expand.result (λ (e : Explanation). explanation_contents e ≡ compact_contents compact.field-0) (λ (e : Explanation). (image : List ℕ) → ExplainsBehind (over c.args.self.now image) (explanation_contents e))
+    (λ e same image. subst (ExplainsBehind (over c.args.self.now image)) (sym same) (compact.ensures.explains image)) c.expand.ensures
 
 pub returns-clause-fits : goal.returns-clause-fits
 returns-clause-fits c =
-    let r = c.self.inside in
-    let t = trigger_contents r.text in
-    let kept : KeptRows = kept_by r.table r.run.trigger (rows_from r.rows.behind r.latest) in
-    let at : StandsAtUnlock t kept = c.self.invariant.unlock (ap (λ (o : RecordingSeen). o.unlocked) c.self.view_is ∙ c.requires) in
-    let last = c.count-count.result - 1 in
-    let is : last + 1 ≡ length kept.rows = omega (arith, c.count-count.ensures, some_rows t kept at) in
-    IfOk-weaker c.explained.result (λ (e : Explanation). ExplainsRows t c.deref.result.now last (explanation_contents e)) (λ (e : Explanation). (image : List ℕ) → FitsRows (over c.args.self.now image) (explanation_contents e))
-    (λ e x image. subst (λ (o : RecordingSeen). FitsRows (over o image) (explanation_contents e)) c.self.view_is (record {
-      rows = long_rows t kept at last is ∙ ap (λ n. (n + 1) * trigger_hits t) (sym x.last_too);
-      since = let within = begins_within t c.deref.result.now last in omega (arith, within, x.since, x.last_too);
-      events = x.many;
-    })) c.explained.ensures
+    let compact = c.in_ok-explain_compactly in
+    IfOk-weaker c.expand.result (λ (e : Explanation). explanation_contents e ≡ compact_contents compact.field-0) (λ (e : Explanation). (image : List ℕ) → FitsRows (over c.args.self.now image) (explanation_contents e))
+    (λ e same image. subst (FitsRows (over c.args.self.now image)) (sym same) (compact.ensures.fits image)) c.expand.ensures
