@@ -2,8 +2,7 @@
 use Rattle.std.proofs.Common.{◌≡◌, ℕ, zero, suc, ◌+◌, List, [], ◌∷◌, ◌++◌, length, map, take, drop, Option, refl, sym, ap, subst, ◌∙◌, append_assoc, append-nil}
 use Rattle.ra_io.specs.Sink.{grown}
 use Rattle.ra_condition.specs.declared.condition.Condition.{Condition}
-use Rattle.ra_explain.specs.declared.explanation.Events.{Events}
-use Rattle.ra_explain.specs.Replays.{contents_of}
+use Rattle.ra_explain.specs.HitChanges.{ChangesSeen, events_of}
 use Rattle.ra_session.specs.Explaining.{condition_line, conditions_text, explanation_text, groups_text}
 use Rattle.ra_jobs.specs.Writing.{GrewByPart}
 use Rattle.ra_jobs.proofs.Pieces.{grown-grown, grown-nil}
@@ -46,22 +45,22 @@ leaves_cut first mid now whole piece rest before is to part =
 pub leaves_none : (first now : Option (List ℕ)) (whole rest : List ℕ) → rest ≡ [] → LeavesRest first now whole rest → now ≡ grown first whole
 leaves_none first now whole rest none to = to.grew ∙ ap (grown first) (sym (append-nil to.front) ∙ ap (λ t. to.front ++ t) (sym none) ∙ to.all)
 
--- the events of some conditions, and of those behind them
-pub take_contents : (n : ℕ) (events : List Events) → contents_of (take n events) ≡ take n (contents_of events)
-take_contents zero xs = refl
-take_contents (suc n) [] = refl
-take_contents (suc n) (x ∷ xs) = ap (λ es. x.list.items ∷ es) (take_contents n xs)
+-- the events of some conditions, and of those after them
+pub take_events : (n : ℕ) (events : List ChangesSeen) → events_of (take n events) ≡ take n (events_of events)
+take_events zero xs = refl
+take_events (suc n) [] = refl
+take_events (suc n) (x ∷ xs) = ap (λ es. x.events ∷ es) (take_events n xs)
 
-pub drop_contents : (n : ℕ) (events : List Events) → contents_of (drop n events) ≡ drop n (contents_of events)
-drop_contents zero xs = refl
-drop_contents (suc n) [] = refl
-drop_contents (suc n) (x ∷ xs) = drop_contents n xs
+pub drop_events : (n : ℕ) (events : List ChangesSeen) → events_of (drop n events) ≡ drop n (events_of events)
+drop_events zero xs = refl
+drop_events (suc n) [] = refl
+drop_events (suc n) (x ∷ xs) = drop_events n xs
 
 -- the lines of one group more
-pub group_first : (group : ℕ) (cs : List Condition) (groups : List (List Condition)) (events own behind : List Events) → own ≡ take (length cs) events → behind ≡ drop (length cs) events
-    → groups_text group (cs ∷ groups) (contents_of events) ≡ conditions_text group 0 (contents_of own) ++ groups_text (group + 1) groups (contents_of behind)
+pub group_first : (group : ℕ) (cs : List Condition) (groups : List (List Condition)) (events own behind : List ChangesSeen) → own ≡ take (length cs) events → behind ≡ drop (length cs) events
+    → groups_text group (cs ∷ groups) (events_of events) ≡ conditions_text group 0 (events_of own) ++ groups_text (group + 1) groups (events_of behind)
 group_first group cs groups events own behind is is_behind = λ i.
-    conditions_text group 0 ((sym (take_contents (length cs) events) ∙ ap contents_of (sym is)) i) ++ groups_text (group + 1) groups ((sym (drop_contents (length cs) events) ∙ ap contents_of (sym is_behind)) i)
+    conditions_text group 0 ((sym (take_events (length cs) events) ∙ ap events_of (sym is)) i) ++ groups_text (group + 1) groups ((sym (drop_events (length cs) events) ∙ ap events_of (sym is_behind)) i)
 
 -- two pieces are a text
 pub two_pieces : (first mid now : Option (List ℕ)) (a b : List ℕ) → mid ≡ grown first a → now ≡ grown mid b → now ≡ grown first (a ++ b)
@@ -110,11 +109,11 @@ printed_nothing id r sink old = record {
 }
 
 -- the lines of one condition more
-pub condition_first : (group place : ℕ) (own : Events) (events behind : List Events) → events ≡ own ∷ behind → conditions_text group place (contents_of events) ≡ condition_line group place own.list.items ++ conditions_text group (place + 1) (contents_of behind)
-condition_first group place own events behind is = ap (λ es. conditions_text group place (contents_of es)) is
+pub condition_first : (group place : ℕ) (own : ChangesSeen) (events behind : List ChangesSeen) → events ≡ own ∷ behind → conditions_text group place (events_of events) ≡ condition_line group place own.events ++ conditions_text group (place + 1) (events_of behind)
+condition_first group place own events behind is = ap (λ es. conditions_text group place (events_of es)) is
 
 -- the lines of one alt group more
-pub group_next : (group : ℕ) (alt : Group) (alts later : List Group) (events own behind : List Events) → alts ≡ alt ∷ later → own ≡ take (length (group_contents alt)) events → behind ≡ drop (length (group_contents alt)) events
-    → groups_text group (map group_contents alts) (contents_of events) ≡ conditions_text group 0 (contents_of own) ++ groups_text (group + 1) (map group_contents later) (contents_of behind)
+pub group_next : (group : ℕ) (alt : Group) (alts later : List Group) (events own behind : List ChangesSeen) → alts ≡ alt ∷ later → own ≡ take (length (group_contents alt)) events → behind ≡ drop (length (group_contents alt)) events
+    → groups_text group (map group_contents alts) (events_of events) ≡ conditions_text group 0 (events_of own) ++ groups_text (group + 1) (map group_contents later) (events_of behind)
 group_next group alt alts later events own behind is is_own is_behind =
-    ap (λ gs. groups_text group (map group_contents gs) (contents_of events)) is ∙ group_first group (group_contents alt) (map group_contents later) events own behind is_own is_behind
+    ap (λ gs. groups_text group (map group_contents gs) (events_of events)) is ∙ group_first group (group_contents alt) (map group_contents later) events own behind is_own is_behind

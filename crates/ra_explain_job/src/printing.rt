@@ -5,8 +5,8 @@ ghost use Rattle.std.specs.List.{flat_map};
 ghost use Rattle.ra_condition.specs.Contents.{groups_of, trigger_contents, trigger_hits};
 ghost use Rattle.ra_io.specs.Causes.{Rose};
 ghost use Rattle.ra_io.specs.Sink.{grown};
-ghost use Rattle.ra_explain.specs.Explains.{explanation_contents};
-ghost use Rattle.ra_explain.specs.Replays.{contents_of};
+ghost use Rattle.ra_explain.specs.Compacts.{compact_contents};
+ghost use Rattle.ra_explain.specs.HitChanges.{events_of};
 ghost use Rattle.ra_session.specs.Closing.{EndsBefore};
 ghost use Rattle.ra_session.specs.Expected.{prints_line};
 ghost use Rattle.ra_session.specs.Explaining as spec;
@@ -16,7 +16,7 @@ ghost use Rattle.ra_explain_job.specs.Printing.{PrintsUnlock, PrintsWatched};
 
 use crate::watch::Watch;
 use ra_condition::TriggerText;
-use ra_explain::{Event, Events, Explanation, Recorder};
+use ra_explain::{CompactExplanation, Event, HitChanges, Recorder};
 use ra_io::{Sink, SinkFailed};
 use ra_jobs::write_all;
 use ra_session::{Ending, print_line};
@@ -40,16 +40,17 @@ fn condition_line(
     alloc: Global,
     group: usize,
     place: usize,
-    list: &[Event],
+    own: &HitChanges,
 ) -> Result<String, OutOfMemory>
-    ensures { IfOk result (λ line. string_bytes line ≡ spec.condition_line group place list.now) }
+    ensures { IfOk result (λ line. string_bytes line ≡ spec.condition_line group place own.now.events) }
 {
+    let list = own.events(alloc)?;
     let mut line = String::new(alloc);
     write!(line, "{group}.{place}")?;
     if list.is_empty() {
         line.push_str(" none")?;
     } else {
-        write_events(&mut line, list)?;
+        write_events(&mut line, &list)?;
     }
     line.push_str("\n")?;
     Ok(line)
@@ -60,15 +61,15 @@ fn print_condition<K: Sink>(
     alloc: Global,
     group: usize,
     place: usize,
-    list: &[Event],
+    own: &HitChanges,
     out: &mut K,
 ) -> Result<(), SinkFailed>
-    ensures ok { OnOk result (K.text out.new ≡ grown (K.text out.old) (spec.condition_line group place list.now)) }
-    ensures part { GrewByPart (K.text out.old) (K.text out.new) (spec.condition_line group place list.now) }
+    ensures ok { OnOk result (K.text out.new ≡ grown (K.text out.old) (spec.condition_line group place own.now.events)) }
+    ensures part { GrewByPart (K.text out.old) (K.text out.new) (spec.condition_line group place own.now.events) }
     ensures later { K.faults out.old ≤ K.faults out.new }
     ensures failed { IsErrOf result SinkFailed.Failed → Rose (K.faults out.old) (K.faults out.new) }
 {
-    match condition_line(alloc, group, place, list) {
+    match condition_line(alloc, group, place, own) {
         Ok(line) => write_all(line.as_bytes(), out),
         Err(_) => Err(SinkFailed::Memory),
     }
@@ -78,19 +79,19 @@ fn print_condition<K: Sink>(
 fn print_conditions<K: Sink>(
     alloc: Global,
     group: usize,
-    events: &[Events],
+    conditions: &[HitChanges],
     out: &mut K,
 ) -> Result<(), SinkFailed>
-    ensures ok { OnOk result (K.text out.new ≡ grown (K.text out.old) (conditions_text group 0 (contents_of events.now))) }
-    ensures part { GrewByPart (K.text out.old) (K.text out.new) (conditions_text group 0 (contents_of events.now)) }
+    ensures ok { OnOk result (K.text out.new ≡ grown (K.text out.old) (conditions_text group 0 (events_of conditions.now))) }
+    ensures part { GrewByPart (K.text out.old) (K.text out.new) (conditions_text group 0 (events_of conditions.now)) }
     ensures later { K.faults out.old ≤ K.faults out.new }
     ensures failed { IsErrOf result SinkFailed.Failed → Rose (K.faults out.old) (K.faults out.new) }
 {
-    let mut rest = events;
+    let mut rest = conditions;
     let mut place = 0;
-    while let Some((own, behind)) = rest.split_first() {
-        print_condition(alloc, group, place, &own.list, out)?;
-        rest = behind;
+    while let Some((own, later)) = rest.split_first() {
+        print_condition(alloc, group, place, own, out)?;
+        rest = later;
         place += 1;
     }
     Ok(())
@@ -100,23 +101,23 @@ fn print_conditions<K: Sink>(
 fn print_groups<K: Sink>(
     alloc: Global,
     text: &TriggerText,
-    events: &[Events],
+    conditions: &[HitChanges],
     out: &mut K,
 ) -> Result<(), SinkFailed>
-    requires { length events.now ≡ trigger_hits (trigger_contents text.now) }
-    ensures ok { OnOk result (K.text out.new ≡ grown (K.text out.old) (groups_text 0 (groups_of (trigger_contents text.now)) (contents_of events.now))) }
-    ensures part { GrewByPart (K.text out.old) (K.text out.new) (groups_text 0 (groups_of (trigger_contents text.now)) (contents_of events.now)) }
+    requires { length conditions.now ≡ trigger_hits (trigger_contents text.now) }
+    ensures ok { OnOk result (K.text out.new ≡ grown (K.text out.old) (groups_text 0 (groups_of (trigger_contents text.now)) (events_of conditions.now))) }
+    ensures part { GrewByPart (K.text out.old) (K.text out.new) (groups_text 0 (groups_of (trigger_contents text.now)) (events_of conditions.now)) }
     ensures later { K.faults out.old ≤ K.faults out.new }
     ensures failed { IsErrOf result SinkFailed.Failed → Rose (K.faults out.old) (K.faults out.new) }
 {
-    let (core, mut rest) = events.split_at(text.core.conditions.len());
+    let (core, mut rest) = conditions.split_at(text.core.conditions.len());
     print_conditions(alloc, 0, core, out)?;
     let mut alts = text.alts.as_slice();
     let mut group = 1;
     while let Some((alt, later)) = alts.split_first() {
-        let (own, behind) = rest.split_at(alt.conditions.len());
+        let (own, others) = rest.split_at(alt.conditions.len());
         print_conditions(alloc, group, own, out)?;
-        rest = behind;
+        rest = others;
         alts = later;
         group += 1;
     }
@@ -124,8 +125,12 @@ fn print_groups<K: Sink>(
 }
 
 // The first lines of an explanation.
-fn unlock_lines(alloc: Global, id: u32, explanation: &Explanation) -> Result<String, OutOfMemory>
-    ensures { IfOk result (λ text. string_bytes text ≡ unlock_text id (explanation_contents explanation.now)) }
+fn unlock_lines(
+    alloc: Global,
+    id: u32,
+    explanation: &CompactExplanation,
+) -> Result<String, OutOfMemory>
+    ensures { IfOk result (λ text. string_bytes text ≡ unlock_text id (compact_contents explanation.now)) }
 {
     let (last, since) = (explanation.last, explanation.since);
     let mut text = String::new(alloc);
@@ -138,12 +143,12 @@ fn print_explanation<K: Sink>(
     alloc: Global,
     id: u32,
     text: &TriggerText,
-    explanation: &Explanation,
+    explanation: &CompactExplanation,
     out: &mut K,
 ) -> Result<(), SinkFailed>
-    requires { length explanation.now.events.items ≡ trigger_hits (trigger_contents text.now) }
-    ensures ok { OnOk result (K.text out.new ≡ grown (K.text out.old) (explanation_text id (trigger_contents text.now) (explanation_contents explanation.now))) }
-    ensures part { GrewByPart (K.text out.old) (K.text out.new) (explanation_text id (trigger_contents text.now) (explanation_contents explanation.now)) }
+    requires { length explanation.now.changes.items ≡ trigger_hits (trigger_contents text.now) }
+    ensures ok { OnOk result (K.text out.new ≡ grown (K.text out.old) (explanation_text id (trigger_contents text.now) (compact_contents explanation.now))) }
+    ensures part { GrewByPart (K.text out.old) (K.text out.new) (explanation_text id (trigger_contents text.now) (compact_contents explanation.now)) }
     ensures later { K.faults out.old ≤ K.faults out.new }
     ensures failed { IsErrOf result SinkFailed.Failed → Rose (K.faults out.old) (K.faults out.new) }
 {
@@ -151,7 +156,7 @@ fn print_explanation<K: Sink>(
         return Err(SinkFailed::Memory);
     };
     write_all(first.as_bytes(), out)?;
-    print_groups(alloc, text, &explanation.events, out)
+    print_groups(alloc, text, &explanation.changes, out)
 }
 
 // Writes why the unlock at the recorder's last frame came, and answers how the job ends.
@@ -160,7 +165,7 @@ fn print_unlock<K: Sink>(alloc: Global, id: u32, recorder: &Recorder, out: &mut 
     ensures prints { PrintsUnlock id recorder.now (Rose (K.faults out.old) (K.faults out.new)) result (K.text out.old) (K.text out.new) }
     ensures later { K.faults out.old ≤ K.faults out.new }
 {
-    let Ok(explanation) = recorder.explain(alloc) else {
+    let Ok(explanation) = recorder.explain_compactly(alloc) else {
         return Ending::NoMemory;
     };
     match print_explanation(alloc, id, recorder.text(), &explanation, out) {
