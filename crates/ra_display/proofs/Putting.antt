@@ -1,9 +1,10 @@
 -- Pieces and numbers that are written over a row, one after another.
-use Rattle.std.proofs.Common.{◌≡◌, ℕ, zero, suc, ◌+◌, ◌*◌, ◌<◌, ◌≤◌, ◌^◌, Option, None, Some, List, [], ◌∷◌, ◌++◌, length, map, take, get_or, refl, sym, ◌∙◌, ap, ap₂, arith, append_assoc, append-nil, length-append, subst}
+use Rattle.std.proofs.Common.{◌≡◌, ℕ, zero, suc, ◌+◌, ◌*◌, ◌<◌, ◌≤◌, ◌^◌, Option, None, Some, List, [], ◌∷◌, ◌++◌, length, map, take, drop, get_or, refl, sym, ◌∙◌, ap, ap₂, arith, append_assoc, append-nil, length-append, subst}
 use Rattle.std.specs.List.{concat}
 use Rattle.std.specs.Int.{w32, to_le_bytes}
 use Rattle.std.proofs.lemmas.List.{take_more, take_all, length-take-le, length-map, get_or-map}
 use Rattle.std.proofs.lemmas.List.Concat.{flat_map-append}
+use Rattle.std.proofs.Math.Seq.{take-add}
 use Rattle.ra_text.specs.Words.{words}
 use Rattle.ra_text.proofs.Pieces.{length_words}
 use Rattle.ra_member.specs.MemberRuns.{FitWords, PutsBehind}
@@ -56,6 +57,25 @@ pub words_more : (old mid new : List ℕ) (at behind next : ℕ) (numbers : List
 words_more old mid new at behind next numbers k n within is small first after =
     let more : take (k + 1) numbers ≡ take k numbers ++ n ∷ [] = take_more numbers k n within ∙ ap (λ x. take k numbers ++ x ∷ []) is in
     subst (PutsWords old new at next) (sym more) (words_both old mid new at behind next (take k numbers) (n ∷ []) first (one_word mid new behind next n small after))
+
+-- numbers end where their count says
+pub words_to : (old new : List ℕ) (at next last : ℕ) (numbers : List ℕ) (j i : ℕ) → j ≡ i → i ≤ length numbers
+    → last ≡ at + 4 * i → PutsWords old new at next (take j numbers) → PutsWords old new at last (take i numbers)
+words_to old new at next last numbers j i same within is puts =
+    let there : PutsWords old new at next (take i numbers) =
+    subst (λ n. PutsWords old new at next (take n numbers)) same puts in
+    let many = length-take-le i numbers within in
+    let end : next ≡ last = omega (arith, is, there.puts.next_is, length_words (take i numbers), many) in
+    subst (λ n. PutsWords old new at n (take i numbers)) end there
+
+-- the numbers so far, and the next ones
+pub words_on : (old mid new : List ℕ) (at behind next last : ℕ) (numbers : List ℕ) (k m i : ℕ) → k + m ≡ i
+    → i ≤ length numbers → last ≡ at + 4 * i → PutsWords old mid at behind (take k numbers)
+    → PutsWords mid new behind next (take m (drop k numbers)) → PutsWords old new at last (take i numbers)
+words_on old mid new at behind next last numbers k m i same within is first after =
+    words_to old new at next last numbers (k + m) i same within is
+    (subst (PutsWords old new at next) (sym (take-add k m numbers))
+    (words_both old mid new at behind next (take k numbers) (take m (drop k numbers)) first after))
 
 -- there is room for one number more
 pub room_more : (old mid : List ℕ) (at behind : ℕ) (numbers : List ℕ) (k : ℕ) → k < length numbers → at + 4 * length numbers ≤ length old → PutsWords old mid at behind (take k numbers) → behind + 4 ≤ length mid

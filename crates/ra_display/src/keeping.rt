@@ -1,6 +1,6 @@
 //! Numbers that are written over a row of bytes: docs/DEFINITIONS.md, "States kept in memory".
 
-ghost use Rattle.std.specs.Prelude.{◌≡◌, ◌+◌, ◌≤◌, ◌==◌, ◌∷◌, [], if◌then◌else◌, length, map};
+ghost use Rattle.std.specs.Prelude.{◌≡◌, ◌+◌, ◌≤◌, ◌==◌, ◌∷◌, [], if◌then◌else◌, drop, length, map, take};
 ghost use Rattle.std.specs.List.{concat};
 ghost use Rattle.std.specs.Int.{w32, to_le_bytes};
 ghost use Rattle.ra_member.specs.Members.{saved_hits, saved_numbers};
@@ -60,19 +60,54 @@ fn paid_hit(hit: u32, before: u32, frames: u32) -> u32
     }
 }
 
+// Four hits from a place on, with what they owe for this many frames paid.
+#[inline]
+fn paid_four(hits: &[u32], before: &[u32], place: usize, frames: u32) -> [u32; 4]
+    requires as_many { length before.now ≡ length hits.now }
+    requires within { place + 4 ≤ length hits.now }
+    ensures { result ≡ take 4 (drop place (paid frames before.now hits.now)) }
+{
+    [
+        paid_hit(hits[place], before[place], frames),
+        paid_hit(hits[place + 1], before[place + 1], frames),
+        paid_hit(hits[place + 2], before[place + 2], frames),
+        paid_hit(hits[place + 3], before[place + 3], frames),
+    ]
+}
+
+// Writes four numbers over the words from a place on, and gives the place after them.
+#[inline]
+fn put_four(row: &mut [u8], at: usize, numbers: [u32; 4]) -> usize
+    requires { at + 16 ≤ length row.old }
+    ensures { PutsWords row.old row.new at result numbers }
+{
+    let next = put_word(row, at, numbers[0]);
+    let next = put_word(row, next, numbers[1]);
+    let next = put_word(row, next, numbers[2]);
+    put_word(row, next, numbers[3])
+}
+
 // Writes hits over the words from a place on, with what they owe for this many frames paid, and gives the place after
-// them.
+// them. Four go at a turn, and then those that are left.
 fn put_paid(row: &mut [u8], at: usize, hits: &[u32], before: &[u32], frames: u32) -> usize
     requires as_many { length before.now ≡ length hits.now }
     requires room { HasWords row.old at hits.now }
     ensures { PutsWords row.old row.new at result (paid frames before.now hits.now) }
 {
-    let mut next = at;
-    for place in 0..hits.len() {
-        let hit = paid_hit(hits[place], before[place], frames);
-        next = put_word(row, next, hit);
+    let fours = hits.len() / 4;
+    for four in 0..fours {
+        let place = 4 * four;
+        put_four(row, at + 4 * place, paid_four(hits, before, place, frames));
     }
-    next
+    for left in 0..hits.len() % 4 {
+        let place = 4 * fours + left;
+        put_word(
+            row,
+            at + 4 * place,
+            paid_hit(hits[place], before[place], frames),
+        );
+    }
+    at + 4 * hits.len()
 }
 
 /// Writes hits as they are seen over the words from a place on, and gives the place after them. `before` are the hits

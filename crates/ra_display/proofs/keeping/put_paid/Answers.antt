@@ -1,41 +1,61 @@
-use Rattle.std.proofs.Common.{◌≡◌, ◌<◌, length, get_or, sym, ◌∙◌, subst, arith}
+use Rattle.std.proofs.Common.{◌≡◌, ◌+◌, ◌*◌, ◌<◌, ◌/◌, length, get_or, sym, ◌∙◌, subst, arith}
 use Rattle.std.proofs.lemmas.List.{take_all, get_or_default}
 use Rattle.ra_schedule.specs.Groups.{paid}
 use Rattle.ra_display.specs.Keeping.{PutsWords}
 use Rattle.ra_schedule.proofs.Resting.Owed.{length-paid, paid_at}
-use Rattle.ra_display.proofs.Putting.{no_words, words_more, room_more}
+use Rattle.ra_display.proofs.Putting.{words_more, words_on, words_to}
 use Rattle.ra_display.proofs.keeping.put_paid.Goals as goal
 
-pub put_word-next-requires : goal.put_word-next-requires
-put_word-next-requires c =
-    let p = c.loop-place in
+pub loop-four-preserved : goal.loop-four-preserved
+loop-four-preserved c =
+    let p = c.loop-four in
     let hits = c.args.hits.now in
     let all = paid c.args.frames c.args.before.now hits in
     let many : length all ≡ length hits = length-paid c.args.frames c.args.before.now hits in
-    room_more c.args.row.now p.row c.args.at p.next all p.place (omega (arith, c.loop-place-test.true, many)) (omega (arith, c.requires.room, many)) p.invariant.puts
+    let new = c.put_four.new.row in
+    let here = c.args.at + 4 * (4 * p.four) in
+    let k = 4 * (p.four + 1) in
+    let put = subst (PutsWords p.row new here c.put_four.result) c.paid_four.ensures c.put_four.ensures in
+    record {
+      puts =
+          words_on c.args.row.now p.row new c.args.at here c.put_four.result (c.args.at + 4 * k) all (4 * p.four) 4 k
+          (omega arith) (omega (arith, c.loop-four-test.true, many)) (omega arith) p.invariant.puts put;
+    }
 
-pub loop-place-init : goal.loop-place-init
-loop-place-init c = record { puts = no_words c.args.row.now c.args.at }
-
-pub loop-place-preserved : goal.loop-place-preserved
-loop-place-preserved c =
-    let p = c.loop-place in
+pub loop-left-preserved : goal.loop-left-preserved
+loop-left-preserved c =
+    let p = c.loop-left in
     let hits = c.args.hits.now in
     let before = c.args.before.now in
     let all = paid c.args.frames before hits in
     let many : length all ≡ length hits = length-paid c.args.frames before hits in
-    let n = c.paid_hit-hit.result in
-    let within : p.place < length hits = omega (arith, c.loop-place-test.true) in
-    let within_all : p.place < length all = omega (arith, within, many) in
-    let here : get_or all p.place n ≡ n = get_or_default all p.place n 0 within_all ∙ paid_at c.args.frames before hits p.place within ∙ sym c.paid_hit-hit.ensures in
-    let small = c.paid_hit-hit.type_inv in
+    let n = c.paid_hit.result in
+    let k = 4 * (length hits / 4) + p.left in
+    let within : k < length hits = omega (arith, c.loop-left-test.true) in
+    let within_all : k < length all = omega (arith, within, many) in
+    let here : get_or all k n ≡ n =
+    get_or_default all k n 0 within_all ∙ paid_at c.args.frames before hits k within ∙ sym c.paid_hit.ensures in
+    let new = c.put_word.new.row in
+    let next = c.put_word.result in
+    let put =
+    words_more c.args.row.now p.row new c.args.at (c.args.at + 4 * k) next all k n within_all here
+    (omega (arith, c.paid_hit.type_inv)) p.invariant.puts c.put_word.ensures in
+    let end = 4 * (length hits / 4) + (p.left + 1) in
     record {
-      puts = words_more c.args.row.now p.row c.put_word-next.new.row c.args.at p.next c.put_word-next.result all p.place n within_all here (omega (arith, small)) p.invariant.puts c.put_word-next.ensures;
+      puts =
+          words_to c.args.row.now new c.args.at next (c.args.at + 4 * end) all (k + 1) end (omega arith)
+          (omega (arith, within_all)) (omega arith) put;
     }
 
 pub returns : goal.returns
 returns c =
-    let p = c.loop-place in
-    let all = paid c.args.frames c.args.before.now c.args.hits.now in
-    let many : length all ≡ length c.args.hits.now = length-paid c.args.frames c.args.before.now c.args.hits.now in
-    subst (λ ns. PutsWords c.args.row.now p.row c.args.at p.next ns) (take_all p.place all (omega (arith, c.loop-place-test.false, many))) p.invariant.puts
+    let p = c.loop-left in
+    let hits = c.args.hits.now in
+    let all = paid c.args.frames c.args.before.now hits in
+    let many : length all ≡ length hits = length-paid c.args.frames c.args.before.now hits in
+    let k = 4 * (length hits / 4) + p.left in
+    let last : k ≡ length hits = omega (arith, c.loop-left-test.false, p.auto.left-end) in
+    let end = c.args.at + 4 * length hits in
+    subst (PutsWords c.args.row.now p.row c.args.at end) (take_all (length hits) all (omega (arith, many)))
+    (words_to c.args.row.now p.row c.args.at (c.args.at + 4 * k) end all k (length hits) last (omega (arith, many))
+    (omega arith) p.invariant.puts)

@@ -1,10 +1,18 @@
-use Rattle.std.proofs.Common.{take}
+use Rattle.std.proofs.Common.{◌+◌, ◌*◌, take}
 use Rattle.ra_schedule.specs.Groups.{paid}
 use Rattle.ra_display.specs.Keeping.{PutsWords}
 use Rattle.ra_display.proofs.keeping.put_paid.Given as goal
 
--- the hits so far, paid
-abbrev pub invariant-loop-place : goal.invariant-loop-place
-invariant-loop-place l = record {
-  puts : PutsWords l.fn.row l.row l.fn.at l.next (take l.place (paid l.frames l.before l.hits));
+-- the hits of the turns so far, paid
+abbrev pub invariant-loop-four : goal.invariant-loop-four
+invariant-loop-four l = record {
+  puts : PutsWords l.fn.row l.row l.fn.at (l.fn.at + 4 * (4 * l.four))
+      (take (4 * l.four) (paid l.frames l.before l.hits));
+}
+
+-- and those after them so far
+abbrev pub invariant-loop-left : goal.invariant-loop-left
+invariant-loop-left l = record {
+  puts : PutsWords l.fn.row l.row l.fn.at (l.fn.at + 4 * (4 * l.fours + l.left))
+      (take (4 * l.fours + l.left) (paid l.frames l.before l.hits));
 }
