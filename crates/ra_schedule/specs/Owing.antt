@@ -1,5 +1,5 @@
 -- What members keep that owe hits, and when they rest: docs/INTERNALS.md, "Members at rest".
-use Rattle.std.specs.Prelude.{◌≡◌, ℕ, ◌≤◌, min, true, List, [], ◌∷◌, map, zip, slice_index}
+use Rattle.std.specs.Prelude.{◌≡◌, ℕ, ◌≤◌, min, true, List, [], ◌∷◌, length, map, zip, slice_index}
 use Rattle.std.specs.List.{AllByRecursion}
 use Rattle.ra_condition.specs.Contents.{TriggerContents, groups_of, PartContents, counted_in}
 use Rattle.ra_group.specs.declared.form.Form.TheVariants.{InTrigger, InValue}
@@ -61,3 +61,13 @@ ValuesKeep _ _ _ = ⊥
 -- this many frames are owed as far as hits can tell: all of them, or the most that a hit can count
 abbrev pub AreFramesOwed : (frames owed : ℕ) → Type 0
 AreFramesOwed frames owed = owed ≡ min frames 4294967295
+
+-- hits of tests are as many, test by test
+abbrev pub AreAsLong : (rows others : List (List ℕ)) → Type 0
+AreAsLong rows others = map length rows ≡ map length others
+
+-- two members keep as many hits and numbers, row by row
+pub record HaveOneShape (one other : MemberKept) : Type 0 where
+  pub tests : AreAsLong one.tests other.tests
+  pub hits : AreAsLong (map (λ v. v.hits) one.values) (map (λ v. v.hits) other.values)
+  pub numbers : AreAsLong (map (λ v. v.numbers) one.values) (map (λ v. v.numbers) other.values)
