@@ -9,5 +9,8 @@ pub mod SideBySideRows
 pub mod AtMost
 pub mod Turns
 pub mod Woken
+pub mod Counted
 pub mod Kept
+pub mod For
+pub mod Judged
 pub mod OwedRows

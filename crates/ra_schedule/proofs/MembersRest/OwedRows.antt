@@ -5,8 +5,7 @@ use Rattle.std.proofs.lemmas.List.{length-map, map-append}
 use Rattle.ra_schedule.specs.Groups.{paid}
 use Rattle.ra_value.specs.Steps.{ValueKept}
 use Rattle.ra_member.specs.Members.{MemberContents, HasShape, MemberKept, hit_rows, saved_hits, saved_numbers}
-use Rattle.ra_schedule.specs.Before.{HaveOneShape}
-use Rattle.ra_schedule.specs.Owing.{owed_member, owed_tests, owed_values}
+use Rattle.ra_schedule.specs.Owing.{HaveOneShape, owed_member, owed_tests, owed_values}
 use Rattle.ra_schedule.proofs.MembersRest.GoesOn.{as_many, heads, numbers_long, paid_append, tails}
 use Rattle.ra_schedule.proofs.Resting.Owed.{length-paid}
 

@@ -1,10 +1,9 @@
 -- Rows that stand beside what is kept, and a walk over both.
-use Rattle.std.proofs.Common.{◌≡◌, ℕ, zero, suc, ◌+◌, ◌<◌, List, [], ◌∷◌, ◌++◌, length, map, take, drop, get_or, set, zip, sym, ◌∙◌, ap, ap₂, subst, arith}
+use Rattle.std.proofs.Common.{◌≡◌, ℕ, zero, suc, ◌+◌, ◌<◌, Bool, List, [], ◌∷◌, ◌++◌, length, map, take, drop, get_or, set, zip, sym, ◌∙◌, ap, ap₂, subst, arith}
 use Rattle.std.specs.List.{AllByRecursion}
 use Rattle.std.proofs.lemmas.List.{map-append, take_more, take_more_set, get_or-drop, length-map, length-take-le}
-use Rattle.std.proofs.lemmas.Simd.{map-map}
 use Rattle.ra_member.proofs.SideBySide.{zip_more}
-use Rattle.ra_schedule.specs.Before.{AreAsLong}
+use Rattle.ra_schedule.specs.Counted.{counted, counted_rows}
 
 -- what follows the same is the same
 pub same_at : {A : Type 0} (runs olds : List A) (k : ℕ) (d : A) → drop k runs ≡ drop k olds
@@ -13,13 +12,6 @@ same_at runs olds k d rest =
     let here : k ≡ k + 0 = omega arith in
     ap (λ n. get_or runs n d) here ∙ sym (get_or-drop k runs 0 d) ∙ ap (λ xs. get_or xs 0 d) rest
     ∙ get_or-drop k olds 0 d ∙ ap (λ n. get_or olds n d) (sym here)
-
--- rows that are as long, by what they are read from
-pub plain_long : {X W Y V : Type 0} (f : W → List ℕ) (h : X → W) (g : V → List ℕ) (j : Y → V) (xs : List X)
-    (ys : List Y) → AreAsLong (map f (map h xs)) (map g (map j ys))
-    → AreAsLong (map (λ x. f (h x)) xs) (map (λ y. g (j y)) ys)
-plain_long f h g j xs ys long =
-    ap (map length) (sym (map-map f h xs)) ∙ long ∙ ap (map length) (map-map g j ys)
 
 heads : (m n : ℕ) (ms ns : List ℕ) → m ∷ ms ≡ n ∷ ns → m ≡ n
 heads m n ms ns same = cc
@@ -30,9 +22,9 @@ tails m n ms ns same = cc
 none : (m : ℕ) (ms : List ℕ) → m ∷ ms ≡ [] → ⊥
 none m ms same = cc
 
-module _ {X Y : Type 0} (f : X → List ℕ) (g : Y → List ℕ) where
+module _ {A B X Y : Type 0} (f : X → List A) (g : Y → List B) where
   -- as many rows stand beside each other
-  pub as_many : (xs : List X) (ys : List Y) → AreAsLong (map f xs) (map g ys) → length xs ≡ length ys
+  pub as_many : (xs : List X) (ys : List Y) → map length (map f xs) ≡ map length (map g ys) → length xs ≡ length ys
   as_many xs ys long =
       omega (
         arith,
@@ -44,7 +36,7 @@ module _ {X Y : Type 0} (f : X → List ℕ) (g : Y → List ℕ) where
       )
 
   -- the rows at one place are as long
-  pub as_long : (xs : List X) (ys : List Y) (k : ℕ) (d : X) (e : Y) → k < length xs → AreAsLong (map f xs) (map g ys)
+  pub as_long : (xs : List X) (ys : List Y) (k : ℕ) (d : X) (e : Y) → k < length xs → map length (map f xs) ≡ map length (map g ys)
       → length (f (get_or xs k d)) ≡ length (g (get_or ys k e))
   as_long [] ys k d e within long = absurd (omega (arith, within))
   as_long (x ∷ xs) [] k d e within long = absurd (none (length (f x)) (map length (map f xs)) long)
@@ -106,3 +98,26 @@ module _ {X Y R K : Type 0} (row : X → R) (kept : Y → K) (op : R × K → K)
       (kept (get_or olds k e)) same_many)
       ∙ ap₂ (λ xs ys. map op (zip xs ys)) (sym (said_next row rows k d within_rows))
       (sym (said_next kept olds k e within))
+
+-- whether hits changed is noted at one place more
+module _ {X Y C : Type 0} (row : X → List ℕ) (kept : Y → List ℕ) (bits : C → List Bool) (rows : List X) (runs : List Y) (counts : List C)
+    (k : ℕ) (d : X) (e : Y) (within_rows : k < length rows) (within : k < length runs) (within_too : k < length counts) where
+  pub counted_next : (new : C) → bits new ≡ counted (row (get_or rows k d)) (kept (get_or runs k e))
+      → map bits (take k counts) ≡ counted_rows (map row (take k rows)) (map kept (take k runs))
+      → map bits (take (k + 1) (set counts k new)) ≡ counted_rows (map row (take (k + 1) rows)) (map kept (take (k + 1) runs))
+  counted_next new one before =
+      let same_many : length (map kept (take k runs)) ≡ length (map row (take k rows)) =
+      omega (
+        arith,
+        within,
+        within_rows,
+        length-map (take k runs) kept,
+        length-map (take k rows) row,
+        length-take-le k runs (omega (arith, within)),
+        length-take-le k rows (omega (arith, within_rows)),
+      ) in
+      ap (map bits) (take_more_set counts k new within_too)
+      ∙ map-append bits (take k counts) (new ∷ [])
+      ∙ ap₂ (λ xs x. xs ++ x ∷ []) before one
+      ∙ sym (zip_more (λ (p : List ℕ × List ℕ). counted p.0 p.1) (map row (take k rows)) (map kept (take k runs)) (row (get_or rows k d)) (kept (get_or runs k e)) same_many)
+      ∙ ap₂ counted_rows (sym (said_next row rows k d within_rows)) (sym (said_next kept runs k e within))
