@@ -1,4 +1,5 @@
-pub mod Before
+pub mod Counted
+pub mod Counts
 pub mod Given
 pub mod Groups
 pub mod Inputs

@@ -4,28 +4,29 @@
 //! hit more of these for each frame: as groups, triggers and values, and as the members that are made of them.
 #![tactic(auto)]
 
-mod before;
-mod keeping;
+mod counts;
 mod laws;
+mod member_counts;
 mod needed;
 mod paying;
 mod readers;
 mod reads;
+mod room;
 mod schedule;
 mod seen;
 mod signals;
 mod waking;
 
-pub use before::{Before, ValueBefore, hits_before, note_row, row_of};
-pub use keeping::{test_keeps, value_keeps};
+pub use counts::{Counts, pay};
 pub use laws::{
     achievements_rest, groups_rest, hits_are_owed, rest_goes_on, rest_is_seen, tests_rest,
     values_rest,
 };
+pub use member_counts::{Judged, MemberCounts, counted_row, pay_member};
 pub use needed::{groups_need_few_numbers, triggers_need_few_numbers, values_need_few_numbers};
-pub use paying::pay_member;
 pub use readers::Readers;
 pub use reads::{note_trigger, note_value};
+pub use room::{Room, ValueRoom, note_row};
 pub use schedule::Schedule;
-pub use seen::{is_free, pay};
+pub use seen::is_free;
 pub use signals::Signals;

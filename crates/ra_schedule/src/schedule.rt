@@ -5,7 +5,7 @@ ghost use Rattle.ra_schedule.specs.Schedules.{Begins, MayBegin, ScheduleSeen, as
 use crate::paying::owed;
 use crate::readers::Readers;
 use crate::signals::Signals;
-use crate::waking::{is_looked_at, many_changed, wake, with_look, with_vain};
+use crate::waking::{many_changed, wake};
 use ra_memref::Table;
 use ra_text::OutOfMemory;
 use ra_truths::Truths;
@@ -24,10 +24,6 @@ pub struct Schedule {
     since: Vec<Option<u64>>,
     // a count of frames that only goes on
     clock: u64,
-    // whether the place that was stepped last was looked at for rest
-    looked: bool,
-    // looks for rest in vain, as far as others did not make up for them
-    in_vain: u32,
 }
 
 impl Model for Schedule {
@@ -64,8 +60,6 @@ impl Schedule {
             truths,
             since,
             clock: 0,
-            looked: false,
-            in_vain: 0,
         })
     }
 
@@ -101,38 +95,12 @@ impl Schedule {
         }
     }
 
-    /// Whether the place that is stepped next is looked at for rest. Any answer is right.
-    ///
-    /// Where many looks were in vain some places are, and else each: who was looked at did not rest, or was due again
-    /// at the next frame.
-    pub fn looks_at(&mut self, place: usize) -> bool
-        ensures { self.new ≡ self.old }
-    {
-        if self.rested_in_vain(place) {
-            // What the look took back, and the look itself.
-            self.in_vain = with_vain(self.in_vain, 5);
-        }
-        self.looked = is_looked_at(self.in_vain, place, self.clock);
-        self.looked
-    }
-
-    // Whether a place rests since this count of frames, at which it is due.
-    fn rested_in_vain(&self, place: usize) -> bool {
-        match self.since.get(place) {
-            Some(Some(since)) => *since >= self.clock,
-            _ => false,
-        }
-    }
-
     /// Notes that a place that was due is stepped, and whether it rests from the next count of frames on.
     pub fn note(&mut self, place: usize, rests: bool)
         requires here { place < length self.old.readers.due }
         requires due { slice_index_or self.old.readers.due place true ≡ true }
         ensures { self.new ≡ noted_at place rests self.old }
     {
-        if self.looked {
-            self.in_vain = with_look(self.in_vain, rests);
-        }
         if rests {
             self.since[place] = Some(self.clock.saturating_add(1));
             self.readers.put(place, false);

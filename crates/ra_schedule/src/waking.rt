@@ -1,6 +1,6 @@
 //! Readers that are woken at a frame.
 
-ghost use Rattle.std.specs.Prelude.{◌≡◌, ◌+◌, ◌-◌, ◌<◌, ◌/◌, ◌%◌, ◌==◌, ◌||◌, if◌then◌else◌, true, false, ℕ, length, min, nat_lt, slice_index};
+ghost use Rattle.std.specs.Prelude.{◌≡◌, ◌+◌, ◌<◌, ◌/◌, true, false, ℕ, length, nat_lt, slice_index};
 ghost use Rattle.ra_schedule.specs.Readers.{Wakes};
 ghost use Rattle.ra_schedule.specs.Schedules.{all_woken, signals_at};
 
@@ -30,33 +30,4 @@ pub(crate) fn many_changed(readers: &Readers, table: &Table, truths: &Truths) ->
     ensures { result ≡ nat_lt (length readers.now.rows / 4) (length (signals_at table.now truths.now)) }
 {
     table.changed().len() + truths.flipped().len() > readers.nodes() / 4
-}
-
-// How many looks for rest in vain are let pass before only some places are looked at.
-const MANY: u32 = 64;
-
-// The looks for rest in vain with some more, at most that many.
-pub(crate) fn with_vain(in_vain: u32, more: u32) -> u32
-    ensures { result ≡ min (in_vain + more) 64 }
-{
-    in_vain.saturating_add(more).min(MANY)
-}
-
-// The looks for rest in vain after one look more: one that found rest takes four of them back.
-pub(crate) fn with_look(in_vain: u32, rests: bool) -> u32
-    ensures { result ≡ (if rests then in_vain - 4 else min (in_vain + 1) 64) }
-{
-    if rests {
-        in_vain.saturating_sub(4)
-    } else {
-        with_vain(in_vain, 1)
-    }
-}
-
-// Whether the one at a place is looked at for rest: each where few looks were in vain, and else one of eight, others at
-// each count of frames.
-pub(crate) fn is_looked_at(in_vain: u32, place: usize, clock: u64) -> bool
-    ensures { result ≡ (nat_lt in_vain 64 || place % 8 == clock % 8) }
-{
-    in_vain < MANY || place % 8 == (clock % 8) as usize
 }
