@@ -1,8 +1,7 @@
 -- Numbers that are written over a row of bytes: docs/DEFINITIONS.md, "States kept in memory".
-use Rattle.std.specs.Prelude.{◌≡◌, ℕ, ◌+◌, ◌*◌, ◌≤◌, Option, None, Some, List, ◌++◌, length, take}
+use Rattle.std.specs.Prelude.{◌≡◌, ℕ, ◌+◌, ◌*◌, ◌≤◌, Bool, Option, None, Some, List, ◌++◌, length, take}
 use Rattle.ra_text.specs.Words.{words}
-use Rattle.ra_schedule.specs.Groups.{paid}
-use Rattle.ra_schedule.specs.Owing.{owed_tests}
+use Rattle.ra_schedule.specs.Counted.{owed_by, owed_rows_by}
 use Rattle.ra_member.specs.MemberRuns.{FitWords}
 
 -- a piece is written over a row from a place on, and the next place is the one after it; what stands in front of it stays
@@ -20,12 +19,12 @@ pub record PutsWords (old new : List ℕ) (at next : ℕ) (numbers : List ℕ) :
 abbrev pub HasWords : List ℕ → (at : ℕ) → List ℕ → Type 0
 HasWords row at numbers = at + 4 * length numbers ≤ length row
 
--- hits as they are seen: with those paid that are owed for this many frames, or as they are where none are
-abbrev pub seen_hits : Option ℕ → (before hits : List ℕ) → List ℕ
-seen_hits None before hits = hits
-seen_hits (Some frames) before hits = paid frames before hits
+-- hits as they are seen: with those that are owed for this many frames where a condition counts, or as they are where none are
+abbrev pub seen_hits : Option ℕ → List Bool → (hits : List ℕ) → List ℕ
+seen_hits None counted hits = hits
+seen_hits (Some frames) counted hits = owed_by frames counted hits
 
 -- rows of hits as they are seen
-abbrev pub seen_rows : Option ℕ → (before hits : List (List ℕ)) → List (List ℕ)
-seen_rows None before hits = hits
-seen_rows (Some frames) before hits = owed_tests frames before hits
+abbrev pub seen_rows : Option ℕ → List (List Bool) → (hits : List (List ℕ)) → List (List ℕ)
+seen_rows None counted hits = hits
+seen_rows (Some frames) counted hits = owed_rows_by frames counted hits

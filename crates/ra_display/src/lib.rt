@@ -4,7 +4,7 @@
 mod counted;
 mod keeping;
 mod kept_display;
-mod line_keeps;
+mod line_counts;
 mod line_reads;
 mod line_rests;
 mod line_run;

@@ -1,35 +1,38 @@
 //! The lines of a display, of which those that rest are not stepped: docs/INTERNALS.md, "Lines at rest".
 
-ghost use Rattle.std.specs.Prelude.{◌≡◌, ◌≤◌, ◌<◌, ◌^◌, ℕ, true, None, List, length, map, replicate, slice_index_or, IfOk};
+ghost use Rattle.std.specs.Prelude.{◌≡◌, ◌≤◌, ◌<◌, ◌^◌, ℕ, ◌&&◌, true, None, List, length, map, replicate, slice_index_or, IfOk};
 ghost use Rattle.ra_indirect.specs.declared.node.Node.{Node};
 ghost use Rattle.ra_richpresence.specs.Contents.{LineContents, line_contents};
 ghost use Rattle.ra_member.specs.MemberRuns.{StaysMember, kept_by};
-ghost use Rattle.ra_schedule.specs.Before.{HaveOneShape, kept_before};
+ghost use Rattle.ra_schedule.specs.Counted.{CountsFit};
+ghost use Rattle.ra_schedule.specs.Counts.{counts_of};
 ghost use Rattle.ra_member.specs.declared.member.Member.{Member};
 ghost use Rattle.ra_schedule.specs.Schedules.{as_hits_tell, owed_at};
 ghost use Rattle.ra_schedule.specs.Signals.{AreSignals};
 ghost use Rattle.ra_schedule.specs.Waking.{IsSomeFrame};
 ghost use Rattle.ra_meaning.specs.Presence.{first_true};
-ghost use Rattle.ra_display.specs.PresenceRuns.{AreLineRuns, IsLineRun};
-ghost use Rattle.ra_display.specs.LineRests.{AreLineRests, AreLinesSeen, AreLinesTold, HasLinePlace, HasLineRoom, IsLineSteppedAt, LineKeeps, StepsNoted, WereLineRests, seen_line, seen_lines};
+ghost use Rattle.ra_display.specs.PresenceRuns.{AreLineRuns, IsLineRun, StepsLine};
+ghost use Rattle.ra_display.specs.LineRests.{AreLineRests, AreLinesSeen, AreLinesTold, HasLinePlace, HasLineRoom, IsLineSteppedAt, LineRested, WereLineRests, seen_line, seen_lines};
 
-use crate::line_keeps::line_keeps;
+use crate::line_counts::counts_of_lines;
 use crate::line_reads::note_line;
 use crate::line_run::step_line;
 use ra_member::Member;
 use ra_memref::{Flags, Table};
 use ra_richpresence::Line;
-use ra_schedule::{Before, Schedule, Signals, pay_member};
+use ra_schedule::{Judged, MemberCounts, Room, Schedule, Signals, pay_member};
 use ra_text::OutOfMemory;
 use std::alloc::Global;
 
-/// What each line kept before its last step, who is due, and which lines hold.
+/// Which conditions of each line counted at its last step, who is due, and which lines hold.
 #[derive(Drop)]
 pub struct LineRests {
-    pub each: Vec<Before>,
+    pub each: Vec<MemberCounts>,
     pub schedule: Schedule,
     /// Whether each line held at its last step.
     pub holds: Flags,
+    /// What the line that is stepped kept before its step.
+    pub room: Room,
 }
 
 // Whether a line holds at a frame, and whether it rested at it.
@@ -57,12 +60,14 @@ impl LineRests {
     {
         let signals = signals_of(alloc, runs, lines, table, nodes)?;
         let schedule = Schedule::new(alloc, signals, lines.len())?;
-        let each = befores_of(alloc, runs)?;
+        let each = counts_of_lines(alloc, lines)?;
         let holds = Flags::new(alloc, lines.len())?;
+        let room = room_for(alloc, runs)?;
         Ok(LineRests {
             each,
             schedule,
             holds,
+            room,
         })
     }
 
@@ -75,6 +80,7 @@ impl LineRests {
             each: Vec::new(alloc),
             schedule,
             holds,
+            room: Room::new(alloc),
         })
     }
 
@@ -108,15 +114,10 @@ impl LineRests {
         ensures { IsLineSteppedAt table.now (map line_contents lines.now) place runs.old runs.new self.old self.new }
     {
         let owed = self.schedule.owed(place);
-        let looked = self.schedule.looks_at(place);
-        let stepped = step_noted(
-            &mut runs[place],
-            &mut self.each[place],
-            &lines[place],
-            table,
-            owed,
-            looked,
-        );
+        let run = &mut runs[place];
+        let counts = &mut self.each[place];
+        pay_owed(run, counts, owed);
+        let stepped = step_noted(run, counts, &lines[place], table, &mut self.room);
         self.holds.put(place, stepped.holds);
         self.schedule.note(place, stepped.rests);
     }
@@ -165,52 +166,51 @@ fn signals_of(
     Ok(signals)
 }
 
-// What each line keeps now, in rooms of its own. Memory is the only refusal.
-fn befores_of(alloc: Global, runs: &[Member]) -> Result<Vec<Before>, OutOfMemory>
-    ensures { IfOk result (λ befores. map kept_before befores.items ≡ map kept_by runs.now) }
-{
-    let mut befores = Vec::new(alloc);
+// Room for what any of these lines keeps, so that a frame takes no memory. Memory is the only refusal.
+fn room_for(alloc: Global, runs: &[Member]) -> Result<Room, OutOfMemory> {
+    let mut room = Room::new(alloc);
     for run in runs {
-        let before = Before::new(alloc, run)?;
-        befores.push(before)?;
+        room.fit(alloc, run)?;
     }
-    Ok(befores)
+    Ok(room)
 }
 
-// Steps a line with what it owes paid, and says whether it holds, and whether it rested. That is not looked at where it is
-// not to be looked at.
+// Steps a line, notes which of its conditions counted, and says whether it holds, and whether it rested.
 fn step_noted(
     run: &mut Member,
-    before: &mut Before,
+    counts: &mut MemberCounts,
     line: &Line,
     table: &Table,
-    owed: Option<u32>,
-    looked: bool,
+    room: &mut Room,
 ) -> Stepped
     requires run { IsLineRun table.now.nodes (line_contents line.now) run.old }
-    requires room { HasLineRoom (line_contents line.now) before.old }
+    requires room { HasLineRoom (line_contents line.now) counts.old }
     requires sampled { table.now.sampled ≡ true }
     ensures run { IsLineRun table.now.nodes (line_contents line.now) run.new }
-    ensures room { HasLineRoom (line_contents line.now) before.new }
-    ensures steps { StepsNoted table.now (line_contents line.now) (seen_line run.old before.old owed) result.rests before.new run.new result.holds }
-    ensures rests { result.rests ≡ true → LineKeeps (line_contents line.now) (kept_before before.new) (kept_by run.new) }
+    ensures room { HasLineRoom (line_contents line.now) counts.new }
+    ensures steps { StepsLine table.now (line_contents line.now) run.old run.new result.holds }
+    ensures rests { result.rests ≡ true → LineRested (line_contents line.now) counts.new (kept_by run.old) (kept_by run.new) }
 {
-    pay_owed(run, before, owed);
-    if looked {
-        before.note(run);
-    }
+    let noted = room.note(run);
     let holds = step_line(run, line, table);
-    let rests = looked && line_keeps(line, before, run);
+    let rests = noted && keep_all(counts.judge(room, run));
     Stepped { holds, rests }
 }
 
+// Whether tests and values kept all but free hits.
+fn keep_all(judged: Judged) -> bool
+    ensures { result ≡ (judged.tests && judged.values) }
+{
+    judged.tests && judged.values
+}
+
 // Pays what a line owes, where it rests.
-fn pay_owed(run: &mut Member, before: &Before, owed: Option<u32>)
-    requires { HaveOneShape (kept_before before.now) (kept_by run.old) }
+fn pay_owed(run: &mut Member, counts: &MemberCounts, owed: Option<u32>)
+    requires { CountsFit (counts_of counts.now) (kept_by run.old) }
     ensures stays { StaysMember run.old run.new }
-    ensures kept { kept_by run.new ≡ seen_line run.old before.now owed }
+    ensures kept { kept_by run.new ≡ seen_line run.old counts.now owed }
 {
     if let Some(frames) = owed {
-        pay_member(run, before, frames);
+        pay_member(run, counts, frames);
     }
 }
