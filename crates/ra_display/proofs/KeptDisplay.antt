@@ -5,7 +5,7 @@ use Rattle.std.proofs.lemmas.List.{length-map, get_or-map, take_all}
 use Rattle.ra_member.specs.declared.member.Member.{Member}
 use Rattle.ra_member.specs.Members.{MemberKept, saved_hits, saved_numbers}
 use Rattle.ra_member.specs.MemberRuns.{kept_by}
-use Rattle.ra_schedule.specs.declared.before.Before.{Before}
+use Rattle.ra_schedule.specs.declared.member_counts.MemberCounts.{MemberCounts}
 use Rattle.ra_schedule.specs.Schedules.{owed_at, seen_all}
 use Rattle.ra_schedule.proofs.MembersRest.SeenAll.{seen_many}
 use Rattle.ra_display.specs.declared.line_rests.LineRests.{LineRests}
@@ -19,19 +19,19 @@ use Rattle.ra_display.specs.SavedPresence.{FitPresence}
 use Rattle.ra_display.proofs.Putting.{one_word, puts_both, room_row, rows_more, words_both}
 use Rattle.ra_display.proofs.SavedLines.{fitting_many, hits_long, numbers_same}
 
-seen_alike : (owed : ℕ → Option ℕ) (runs : List Member) (befores : List Before) → AreLinesFitting runs befores → map length (map saved_hits (seen_all seen_line owed runs befores)) ≡ map length (map saved_hits (map kept_by runs))
+seen_alike : (owed : ℕ → Option ℕ) (runs : List Member) (counts : List MemberCounts) → AreLinesFitting runs counts → map length (map saved_hits (seen_all seen_line owed runs counts)) ≡ map length (map saved_hits (map kept_by runs))
 seen_alike owed [] [] fit = refl
-seen_alike owed [] (b ∷ befores) fit = absurd fit
+seen_alike owed [] (c ∷ counts) fit = absurd fit
 seen_alike owed (run ∷ runs) [] fit = absurd fit
-seen_alike owed (run ∷ runs) (b ∷ befores) fit =
-    ap₂ (λ x xs. x ∷ xs) (hits_long run b (owed 0) fit.0) (seen_alike (λ k. owed (suc k)) runs befores fit.1)
+seen_alike owed (run ∷ runs) (c ∷ counts) fit =
+    ap₂ (λ x xs. x ∷ xs) (hits_long run c (owed 0) fit.0) (seen_alike (λ k. owed (suc k)) runs counts fit.1)
 
-numbers_alike : (owed : ℕ → Option ℕ) (runs : List Member) (befores : List Before) → AreLinesFitting runs befores → map saved_numbers (seen_all seen_line owed runs befores) ≡ map saved_numbers (map kept_by runs)
+numbers_alike : (owed : ℕ → Option ℕ) (runs : List Member) (counts : List MemberCounts) → AreLinesFitting runs counts → map saved_numbers (seen_all seen_line owed runs counts) ≡ map saved_numbers (map kept_by runs)
 numbers_alike owed [] [] fit = refl
-numbers_alike owed [] (b ∷ befores) fit = absurd fit
+numbers_alike owed [] (c ∷ counts) fit = absurd fit
 numbers_alike owed (run ∷ runs) [] fit = absurd fit
-numbers_alike owed (run ∷ runs) (b ∷ befores) fit =
-    ap₂ (λ x xs. x ∷ xs) (numbers_same run b (owed 0) fit.0) (numbers_alike (λ k. owed (suc k)) runs befores fit.1)
+numbers_alike owed (run ∷ runs) (c ∷ counts) fit =
+    ap₂ (λ x xs. x ∷ xs) (numbers_same run c (owed 0) fit.0) (numbers_alike (λ k. owed (suc k)) runs counts fit.1)
 
 -- the numbers of lines as they are seen are those that they keep
 pub numbers_seen : (lines : List Member) (rests : LineRests) → AreLinesFitting lines rests.each.items → map saved_numbers (seen_lines lines rests) ≡ map saved_numbers (map kept_by lines)
@@ -41,7 +41,7 @@ pub hits_seen : (lines : List Member) (rests : LineRests) → AreLinesFitting li
 hits_seen lines rests fit = seen_alike (owed_at rests.schedule) lines rests.each.items fit
 
 pub lines_many : (lines : List Member) (rests : LineRests) → AreLinesFitting lines rests.each.items → length (seen_lines lines rests) ≡ length lines
-lines_many lines rests fit = seen_many Member Before MemberKept seen_line (owed_at rests.schedule) lines rests.each.items (fitting_many lines rests.each.items fit)
+lines_many lines rests fit = seen_many Member MemberCounts MemberKept seen_line (owed_at rests.schedule) lines rests.each.items (fitting_many lines rests.each.items fit)
 
 -- a row of each line, by what is kept of it
 module _ (f : MemberKept → List ℕ) (old mid : List ℕ) (at behind : ℕ) (lines : List Member) (seen : List MemberKept) (k : ℕ) (within : k < length lines) (first : PutsWords old mid at behind (concat (take k (map f seen)))) where

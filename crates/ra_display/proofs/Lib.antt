@@ -1,11 +1,11 @@
 pub mod Counts
 pub mod DisplayRows
 pub mod KeptDisplay
-pub mod KeptLines
 pub mod LineAt
 pub mod LineReads
 pub mod LineSteps
 pub mod LinesRest
+pub mod Macros
 pub mod MemberRows
 pub mod NewLines
 pub mod NewRests

@@ -8,7 +8,7 @@ use Rattle.ra_richpresence.specs.declared.piece.Piece.TheVariants.{Macro}
 use Rattle.ra_richpresence.specs.Contents.{piece_contents, value_in}
 use Rattle.ra_member.specs.declared.value_run.ValueRun.{ValueRun}
 use Rattle.ra_member.specs.Runs.{IsValueRun}
-use Rattle.ra_display.proofs.KeptLines.{macros_behind, macros_split}
+use Rattle.ra_display.proofs.Macros.{macros_behind, macros_split}
 use Rattle.ra_display.proofs.SteppedLines.{macros_in}
 use Rattle.ra_indirect.specs.declared.node.Node.{Node}
 use Rattle.ra_member.specs.Beside.{AreBeside}

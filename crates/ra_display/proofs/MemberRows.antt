@@ -1,5 +1,5 @@
 -- The rows of a member as they are seen, those of the tests and then those of the values.
-use Rattle.std.proofs.Common.{◌≡◌, ℕ, Option, None, Some, List, [], ◌∷◌, ◌++◌, Vec, Global, length, map, refl, sym, ◌∙◌, ap, ap₂, arith, append_assoc, length-append}
+use Rattle.std.proofs.Common.{◌≡◌, ℕ, Option, None, Some, List, [], ◌∷◌, ◌++◌, length, map, refl, sym, ◌∙◌, ap, arith, append_assoc, length-append}
 use Rattle.std.specs.List.{concat}
 use Rattle.std.proofs.lemmas.Simd.{map-map}
 use Rattle.ra_value.specs.Steps.{ValueKept}
@@ -8,24 +8,16 @@ use Rattle.ra_member.specs.declared.trigger_run.TriggerRun.{TriggerRun}
 use Rattle.ra_member.specs.declared.value_run.ValueRun.{ValueRun}
 use Rattle.ra_member.specs.Members.{saved_hits, saved_numbers}
 use Rattle.ra_member.specs.MemberRuns.{kept_by}
-use Rattle.ra_schedule.specs.declared.before.Before.{Before}
-use Rattle.ra_schedule.specs.declared.before.ValueBefore.{ValueBefore}
-use Rattle.ra_schedule.specs.Before.{AreAsLong, HaveOneShape, kept_before, value_before}
-use Rattle.ra_schedule.specs.Owing.{owed_tests, owed_values}
-use Rattle.ra_schedule.proofs.MembersRest.OwedRows.{owed_rows}
-use Rattle.ra_schedule.proofs.MembersRest.SideBySideRows.{plain_long}
+use Rattle.ra_schedule.specs.declared.member_counts.MemberCounts.{MemberCounts}
+use Rattle.ra_schedule.specs.Counted.{CountsFit, owed_rows_by}
+use Rattle.ra_schedule.specs.Counts.{counts_of}
+use Rattle.ra_schedule.proofs.MembersRest.Counted.{owed_hit_rows}
 use Rattle.ra_display.specs.Keeping.{HasWords, PutsWords, seen_rows}
 use Rattle.ra_display.specs.LineRests.{seen_line}
 use Rattle.ra_display.proofs.Putting.{concat_long, room_behind, rows_long}
 
-abbrev pub test_rows : Before → List (List ℕ)
-test_rows b = map (λ (row : Vec ℕ Global). row.items) b.tests.items
-
 abbrev pub test_hits : Member → List (List ℕ)
 test_hits m = map (λ (test : TriggerRun). test.trigger.hits) m.tests.items
-
-abbrev pub value_rows : Before → List (List ℕ)
-value_rows b = map (λ (row : ValueBefore). row.hits.items) b.values.items
 
 abbrev pub value_hits : Member → List (List ℕ)
 value_hits m = map (λ (value : ValueRun). value.value.hits) m.values.items
@@ -41,9 +33,6 @@ concat_both (x ∷ xs) ys = ap (λ zs. x ++ zs) (concat_both xs ys) ∙ sym (app
 kept_hits : (m : Member) → map (λ (v : ValueKept). v.hits) (kept_by m).values ≡ value_hits m
 kept_hits m = map-map (λ (v : ValueKept). v.hits) (λ (value : ValueRun). value.value) m.values.items
 
-before_hits : (b : Before) → map (λ (v : ValueKept). v.hits) (kept_before b).values ≡ value_rows b
-before_hits b = map-map (λ (v : ValueKept). v.hits) value_before b.values.items
-
 -- the hits of a member in a row
 pub hits_in_row : (m : Member) → saved_hits (kept_by m) ≡ concat (test_hits m) ++ concat (value_hits m)
 hits_in_row m = concat_both (test_hits m) (map (λ (v : ValueKept). v.hits) (kept_by m).values) ∙ ap (λ xs. concat (test_hits m) ++ concat xs) (kept_hits m)
@@ -52,24 +41,25 @@ pub numbers_in_row : (m : Member) → saved_numbers (kept_by m) ≡ concat (valu
 numbers_in_row m = ap concat (map-map (λ (v : ValueKept). v.numbers) (λ (value : ValueRun). value.value) m.values.items)
 
 -- the hits of a member as they are seen
-pub seen_in_row : (m : Member) (b : Before) (owed : Option ℕ) → saved_hits (seen_line m b owed) ≡ concat (seen_rows owed (test_rows b) (test_hits m)) ++ concat (seen_rows owed (value_rows b) (value_hits m))
-seen_in_row m b None = hits_in_row m
-seen_in_row m b (Some n) =
-    let tests = owed_tests n (test_rows b) (test_hits m) in
-    let values : map (λ (v : ValueKept). v.hits) (owed_values n (map (λ (v : ValueKept). v.hits) (kept_before b).values) (kept_by m).values) ≡ owed_tests n (value_rows b) (value_hits m) =
-    owed_rows n (kept_before b).values (kept_by m).values ∙ ap₂ (owed_tests n) (before_hits b) (kept_hits m) in
-    concat_both tests (map (λ (v : ValueKept). v.hits) (owed_values n (map (λ (v : ValueKept). v.hits) (kept_before b).values) (kept_by m).values)) ∙ ap (λ xs. concat tests ++ concat xs) values
+pub seen_in_row : (m : Member) (c : MemberCounts) (owed : Option ℕ)
+    → saved_hits (seen_line m c owed) ≡ concat (seen_rows owed (counts_of c).tests (test_hits m)) ++ concat (seen_rows owed (counts_of c).values (value_hits m))
+seen_in_row m c None = hits_in_row m
+seen_in_row m c (Some n) =
+    let tests = owed_rows_by n (counts_of c).tests (test_hits m) in
+    let values = owed_hit_rows n (counts_of c).values (kept_by m).values ∙ ap (owed_rows_by n (counts_of c).values) (kept_hits m) in
+    concat_both tests (map (λ (v : ValueKept). v.hits) (seen_line m c (Some n)).values) ∙ ap (λ xs. concat tests ++ concat xs) values
 
--- rows of the values are as long as their hits
-pub values_long : (m : Member) (b : Before) → HaveOneShape (kept_before b) (kept_by m) → AreAsLong (value_rows b) (value_hits m)
-values_long m b shape = plain_long (λ (v : ValueKept). v.hits) value_before (λ (v : ValueKept). v.hits) (λ (value : ValueRun). value.value) b.values.items m.values.items shape.hits
+-- there is a bit for each hit of the values
+pub values_long : (m : Member) (c : MemberCounts) → CountsFit (counts_of c) (kept_by m) → map length (counts_of c).values ≡ map length (value_hits m)
+values_long m c fit = fit.values ∙ ap (map length) (kept_hits m)
 
 -- there is room for the tests, and the values after them
 pub room_tests : (m : Member) (row : List ℕ) (at : ℕ) → HasWords row at (saved_hits (kept_by m)) → HasWords row at (concat (test_hits m))
 room_tests m row at room = omega (arith, room, ap length (hits_in_row m), length-append (concat (test_hits m)) (concat (value_hits m)))
 
-pub room_values : (m : Member) (b : Before) (owed : Option ℕ) (old mid : List ℕ) (at behind : ℕ) → HaveOneShape (kept_before b) (kept_by m) → HasWords old at (saved_hits (kept_by m)) → PutsWords old mid at behind (concat (seen_rows owed (test_rows b) (test_hits m))) → HasWords mid behind (concat (value_hits m))
-room_values m b owed old mid at behind shape room put =
-    let tests = seen_rows owed (test_rows b) (test_hits m) in
-    let long : length (concat tests) ≡ length (concat (test_hits m)) = concat_long tests (test_hits m) (rows_long owed (test_rows b) (test_hits m) shape.tests) in
+pub room_values : (m : Member) (c : MemberCounts) (owed : Option ℕ) (old mid : List ℕ) (at behind : ℕ) → CountsFit (counts_of c) (kept_by m) → HasWords old at (saved_hits (kept_by m))
+    → PutsWords old mid at behind (concat (seen_rows owed (counts_of c).tests (test_hits m))) → HasWords mid behind (concat (value_hits m))
+room_values m c owed old mid at behind fit room put =
+    let tests = seen_rows owed (counts_of c).tests (test_hits m) in
+    let long : length (concat tests) ≡ length (concat (test_hits m)) = concat_long tests (test_hits m) (rows_long owed (counts_of c).tests (test_hits m) fit.tests) in
     room_behind old mid at behind (concat tests) (length (concat (test_hits m))) (length (concat (value_hits m))) long (omega (arith, room, ap length (hits_in_row m), length-append (concat (test_hits m)) (concat (value_hits m)))) put

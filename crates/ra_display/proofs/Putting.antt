@@ -1,5 +1,5 @@
 -- Pieces and numbers that are written over a row, one after another.
-use Rattle.std.proofs.Common.{◌≡◌, ℕ, zero, suc, ◌+◌, ◌*◌, ◌<◌, ◌≤◌, ◌^◌, Option, None, Some, List, [], ◌∷◌, ◌++◌, length, map, take, drop, get_or, refl, sym, ◌∙◌, ap, ap₂, arith, append_assoc, append-nil, length-append, subst}
+use Rattle.std.proofs.Common.{◌≡◌, ℕ, zero, suc, ◌+◌, ◌*◌, ◌<◌, ◌≤◌, ◌^◌, Bool, Option, None, Some, List, [], ◌∷◌, ◌++◌, length, map, take, drop, get_or, refl, sym, ◌∙◌, ap, ap₂, arith, append_assoc, append-nil, length-append, subst}
 use Rattle.std.specs.List.{concat}
 use Rattle.std.specs.Int.{w32, to_le_bytes}
 use Rattle.std.proofs.lemmas.List.{take_more, take_all, length-take-le, length-map, get_or-map}
@@ -9,9 +9,7 @@ use Rattle.ra_text.specs.Words.{words}
 use Rattle.ra_text.proofs.Pieces.{length_words}
 use Rattle.ra_member.specs.MemberRuns.{FitWords, PutsBehind}
 use Rattle.ra_member.proofs.SavedRows.{behind_both}
-use Rattle.ra_schedule.specs.Before.{AreAsLong}
-use Rattle.ra_schedule.proofs.MembersRest.SideBySideRows.{as_long, as_many}
-use Rattle.ra_schedule.proofs.Resting.Owed.{length-paid}
+use Rattle.ra_schedule.proofs.MembersRest.Counted.{length-owed_by}
 use Rattle.ra_display.specs.Keeping.{HasWords, PutsOver, PutsWords, seen_hits, seen_rows}
 
 -- nothing is written over no bytes
@@ -138,66 +136,39 @@ pub room_row : (old mid : List ℕ) (at behind : ℕ) (seen plain : List (List �
 room_row old mid at behind seen plain k d same within room first =
     omega (arith, first.puts.next_is, first.puts.long, length_words (concat (take k seen)), front_room seen plain k d same within, room)
 
--- hits are as many as they are seen
-pub seen_long : (owed : Option ℕ) (before hits : List ℕ) → length (seen_hits owed before hits) ≡ length hits
-seen_long None before hits = refl
-seen_long (Some n) before hits = length-paid n before hits
-
--- and so are rows of them
-pub rows_long : (owed : Option ℕ) (befores hits : List (List ℕ)) → map length befores ≡ map length hits → map length (seen_rows owed befores hits) ≡ map length hits
-rows_long None befores hits same = refl
-rows_long (Some n) [] [] same = refl
-rows_long (Some n) [] (h ∷ hits) same = absurd (cc)
-rows_long (Some n) (b ∷ befores) [] same = absurd (cc)
-rows_long (Some n) (b ∷ befores) (h ∷ hits) same =
-    ap₂ (λ x xs. x ∷ xs) (length-paid n b h) (rows_long (Some n) befores hits (cc))
-
--- the row at a place as it is seen
-pub row_at : (owed : Option ℕ) (befores hits : List (List ℕ)) (k : ℕ) (d e : List ℕ) → length befores ≡ length hits → k < length hits
-    → get_or (seen_rows owed befores hits) k (seen_hits owed (get_or befores k d) (get_or hits k e)) ≡ seen_hits owed (get_or befores k d) (get_or hits k e)
-row_at None befores hits k d e same within = default hits k e within
-  where
-    default : (xs : List (List ℕ)) (j : ℕ) (x : List ℕ) → j < length xs → get_or xs j (get_or xs j x) ≡ get_or xs j x
-    default [] j x less = absurd (omega arith)
-    default (y ∷ xs) zero x less = refl
-    default (y ∷ xs) (suc j) x less = default xs j x (omega arith)
-row_at (Some n) befores [] k d e same within = absurd (omega arith)
-row_at (Some n) [] (h ∷ hits) k d e same within = absurd (omega arith)
-row_at (Some n) (b ∷ befores) (h ∷ hits) zero d e same within = refl
-row_at (Some n) (b ∷ befores) (h ∷ hits) (suc k) d e same within = row_at (Some n) befores hits k d e (omega arith) (omega arith)
-
--- hits of what stands side by side, one row after another
-module _ {X Y : Type 0} (f : X → List ℕ) (g : Y → List ℕ) (owed : Option ℕ) (rows : List X) (runs : List Y) (long : AreAsLong (map f rows) (map g runs)) where
-  abbrev seen : List (List ℕ)
-  seen = seen_rows owed (map f rows) (map g runs)
-
+-- rows that are read from what stands in a list, as they are seen
+module _ {Y : Type 0} (g : Y → List ℕ) (runs : List Y) (seen : List (List ℕ)) (same : map length seen ≡ map length (map g runs)) where
   seen_count : length seen ≡ length runs
-  seen_count =
-      let same : map length seen ≡ map length (map g runs) = rows_long owed (map f rows) (map g runs) long in
-      omega (arith, ap length same, length-map seen length, length-map (map g runs) length, length-map runs g)
+  seen_count = omega (arith, ap length same, length-map seen length, length-map (map g runs) length, length-map runs g)
 
-  module _ (old mid : List ℕ) (at behind k : ℕ) (d : X) (e : Y) (within : k < length runs) (first : PutsWords old mid at behind (concat (take k seen))) where
-    within_rows : k < length rows
-    within_rows = omega (arith, within, as_many f g rows runs long)
-
-    -- as many hits stand before a rest as after it
-    pub row_long : length (f (get_or rows k d)) ≡ length (g (get_or runs k e))
-    row_long = as_long f g rows runs k d e within_rows long
-
-    pub row_room : HasWords old at (concat (map g runs)) → HasWords mid behind (g (get_or runs k e))
-    row_room room =
+  module _ (old mid : List ℕ) (at behind k : ℕ) (within : k < length runs) (first : PutsWords old mid at behind (concat (take k seen))) where
+    pub row_room : (e : Y) → HasWords old at (concat (map g runs)) → HasWords mid behind (g (get_or runs k e))
+    row_room e room =
         let there = get_or-map g runs k e (g e) within in
-        let all = room_row old mid at behind seen (map g runs) k (g e) (rows_long owed (map f rows) (map g runs) long) (omega (arith, within, length-map runs g)) room first in
+        let all = room_row old mid at behind seen (map g runs) k (g e) same (omega (arith, within, length-map runs g)) room first in
         omega (arith, all, ap length there)
 
-    pub row_more : (new : List ℕ) (next : ℕ) → PutsWords mid new behind next (seen_hits owed (f (get_or rows k d)) (g (get_or runs k e))) → PutsWords old new at next (concat (take (k + 1) seen))
-    row_more new next put =
-        let one = seen_hits owed (f (get_or rows k d)) (g (get_or runs k e)) in
-        let many : length (map f rows) ≡ length (map g runs) = omega (arith, as_many f g rows runs long, length-map rows f, length-map runs g) in
-        let is : seen_hits owed (get_or (map f rows) k (f d)) (get_or (map g runs) k (g e)) ≡ one = ap₂ (seen_hits owed) (get_or-map f rows k d (f d) within_rows) (get_or-map g runs k e (g e) within) in
-        let here : get_or seen k one ≡ one = subst (λ x. get_or seen k x ≡ x) is (row_at owed (map f rows) (map g runs) k (f d) (g e) many (omega (arith, within, length-map runs g))) in
-        rows_more old mid new at behind next seen k one (omega (arith, within, seen_count)) here first put
+    pub row_more : (new : List ℕ) (next : ℕ) (one : List ℕ) → get_or seen k one ≡ one → PutsWords mid new behind next one → PutsWords old new at next (concat (take (k + 1) seen))
+    row_more new next one here put = rows_more old mid new at behind next seen k one (omega (arith, within, seen_count)) here first put
 
   -- all of them
   pub row_all : (old mid : List ℕ) (at behind k : ℕ) → length runs ≤ k → PutsWords old mid at behind (concat (take k seen)) → PutsWords old mid at behind (concat seen)
   row_all old mid at behind k over puts = subst (λ rs. PutsWords old mid at behind (concat rs)) (take_all k seen (omega (arith, over, seen_count))) puts
+
+-- rows of hits are as long as they are seen
+pub rows_long : (owed : Option ℕ) (counts : List (List Bool)) (hits : List (List ℕ)) → map length counts ≡ map length hits → map length (seen_rows owed counts hits) ≡ map length hits
+rows_long None counts hits same = refl
+rows_long (Some n) [] [] same = refl
+rows_long (Some n) [] (h ∷ hits) same = absurd (cc)
+rows_long (Some n) (c ∷ counts) [] same = absurd (cc)
+rows_long (Some n) (c ∷ counts) (h ∷ hits) same =
+    ap₂ (λ x xs. x ∷ xs) (length-owed_by n c h) (rows_long (Some n) counts hits (cc))
+
+-- the row of hits at a place as it is seen
+pub row_at : {X Y : Type 0} (f : X → List Bool) (g : Y → List ℕ) (owed : Option ℕ) (counts : List X) (runs : List Y) (k : ℕ) (d : X) (e : Y) → length counts ≡ length runs → k < length runs
+    → get_or (seen_rows owed (map f counts) (map g runs)) k (seen_hits owed (f (get_or counts k d)) (g (get_or runs k e))) ≡ seen_hits owed (f (get_or counts k d)) (g (get_or runs k e))
+row_at f g None counts runs k d e same within = get_or-map g runs k e (g (get_or runs k e)) within
+row_at f g (Some n) counts [] k d e same within = absurd (omega arith)
+row_at f g (Some n) [] (r ∷ runs) k d e same within = absurd (omega arith)
+row_at f g (Some n) (c ∷ counts) (r ∷ runs) zero d e same within = refl
+row_at f g (Some n) (c ∷ counts) (r ∷ runs) (suc k) d e same within = row_at f g (Some n) counts runs k d e (omega arith) (omega arith)

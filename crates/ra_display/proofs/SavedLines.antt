@@ -6,14 +6,14 @@ use Rattle.std.proofs.lemmas.List.Concat.{concat_is, flat_map-append}
 use Rattle.std.proofs.lemmas.List.Folds.{flat_map-map}
 use Rattle.ra_progress.specs.Contents.{Name}
 use Rattle.ra_progress.specs.Spelling.{named_blocks}
-use Rattle.ra_schedule.proofs.Resting.Owed.{length-paid}
 use Rattle.ra_member.specs.declared.member.Member.{Member}
 use Rattle.ra_member.specs.Members.{MemberKept, saved_hits, saved_numbers}
 use Rattle.ra_member.specs.MemberRuns.{FitWords, PutsBehind, kept_by}
 use Rattle.ra_member.proofs.SavedRows.{behind_both}
-use Rattle.ra_schedule.specs.declared.before.Before.{Before}
-use Rattle.ra_schedule.specs.Before.{HaveOneShape, kept_before}
-use Rattle.ra_schedule.proofs.MembersRest.OwedRows.{saved_owed, saved_stay}
+use Rattle.ra_schedule.specs.declared.member_counts.MemberCounts.{MemberCounts}
+use Rattle.ra_schedule.specs.Counted.{CountsFit, bits_in}
+use Rattle.ra_schedule.specs.Counts.{counts_of}
+use Rattle.ra_schedule.proofs.MembersRest.Counted.{length-owed_by, saved_owed_by, saved_stay_by}
 use Rattle.ra_schedule.specs.Schedules.{owed_at, seen_all}
 use Rattle.ra_display.specs.declared.line_rests.LineRests.{LineRests}
 use Rattle.ra_display.specs.LineRests.{AreLinesFitting, seen_line, seen_lines}
@@ -40,33 +40,34 @@ pub row_of : (f : MemberKept → List ℕ) (old new : List ℕ) (kepts : List Me
 row_of f old new kepts empty put = put.all ∙ ap (λ xs. xs ++ flat_map f kepts) empty ∙ sym (rows_of f kepts)
 
 -- what a line owes changes no count
-pub hits_long : (run : Member) (b : Before) (owed : Option ℕ) → HaveOneShape (kept_before b) (kept_by run) → length (saved_hits (seen_line run b owed)) ≡ length (saved_hits (kept_by run))
-hits_long run b None shape = refl
-hits_long run b (Some n) shape =
-    sym (ap length (saved_owed n (kept_before b) (kept_by run) shape)) ∙ length-paid n (saved_hits (kept_before b)) (saved_hits (kept_by run))
+pub hits_long : (run : Member) (c : MemberCounts) (owed : Option ℕ) → CountsFit (counts_of c) (kept_by run) → length (saved_hits (seen_line run c owed)) ≡ length (saved_hits (kept_by run))
+hits_long run c None fit = refl
+hits_long run c (Some n) fit =
+    sym (ap length (saved_owed_by n (counts_of c) (kept_by run) fit))
+    ∙ length-owed_by n (bits_in (counts_of c)) (saved_hits (kept_by run))
 
-pub numbers_same : (run : Member) (b : Before) (owed : Option ℕ) → HaveOneShape (kept_before b) (kept_by run) → saved_numbers (seen_line run b owed) ≡ saved_numbers (kept_by run)
-numbers_same run b None shape = refl
-numbers_same run b (Some n) shape = saved_stay n (kept_before b) (kept_by run) shape
+pub numbers_same : (run : Member) (c : MemberCounts) (owed : Option ℕ) → CountsFit (counts_of c) (kept_by run) → saved_numbers (seen_line run c owed) ≡ saved_numbers (kept_by run)
+numbers_same run c None fit = refl
+numbers_same run c (Some n) fit = saved_stay_by n (counts_of c) (kept_by run) fit
 
 -- what lines owe changes no count
-seen_hits_long : (owed : ℕ → Option ℕ) (runs : List Member) (befores : List Before) → AreLinesFitting runs befores → length (flat_map saved_hits (seen_all seen_line owed runs befores)) ≡ length (flat_map saved_hits (map kept_by runs))
+seen_hits_long : (owed : ℕ → Option ℕ) (runs : List Member) (counts : List MemberCounts) → AreLinesFitting runs counts → length (flat_map saved_hits (seen_all seen_line owed runs counts)) ≡ length (flat_map saved_hits (map kept_by runs))
 seen_hits_long owed [] [] fit = refl
-seen_hits_long owed [] (b ∷ befores) fit = absurd fit
+seen_hits_long owed [] (c ∷ counts) fit = absurd fit
 seen_hits_long owed (run ∷ runs) [] fit = absurd fit
-seen_hits_long owed (run ∷ runs) (b ∷ befores) fit =
-    let one = hits_long run b (owed 0) fit.0 in
-    let others = seen_hits_long (λ k. owed (suc k)) runs befores fit.1 in
-    length-append (saved_hits (seen_line run b (owed 0))) (flat_map saved_hits (seen_all seen_line (λ k. owed (suc k)) runs befores))
+seen_hits_long owed (run ∷ runs) (c ∷ counts) fit =
+    let one = hits_long run c (owed 0) fit.0 in
+    let others = seen_hits_long (λ k. owed (suc k)) runs counts fit.1 in
+    length-append (saved_hits (seen_line run c (owed 0))) (flat_map saved_hits (seen_all seen_line (λ k. owed (suc k)) runs counts))
     ∙ ap₂ (λ x y. x + y) one others
     ∙ sym (length-append (saved_hits (kept_by run)) (flat_map saved_hits (map kept_by runs)))
 
-pub seen_numbers_same : (owed : ℕ → Option ℕ) (runs : List Member) (befores : List Before) → AreLinesFitting runs befores → flat_map saved_numbers (seen_all seen_line owed runs befores) ≡ flat_map saved_numbers (map kept_by runs)
+pub seen_numbers_same : (owed : ℕ → Option ℕ) (runs : List Member) (counts : List MemberCounts) → AreLinesFitting runs counts → flat_map saved_numbers (seen_all seen_line owed runs counts) ≡ flat_map saved_numbers (map kept_by runs)
 seen_numbers_same owed [] [] fit = refl
-seen_numbers_same owed [] (b ∷ befores) fit = absurd fit
+seen_numbers_same owed [] (c ∷ counts) fit = absurd fit
 seen_numbers_same owed (run ∷ runs) [] fit = absurd fit
-seen_numbers_same owed (run ∷ runs) (b ∷ befores) fit =
-    ap₂ (λ xs ys. xs ++ ys) (numbers_same run b (owed 0) fit.0) (seen_numbers_same (λ k. owed (suc k)) runs befores fit.1)
+seen_numbers_same owed (run ∷ runs) (c ∷ counts) fit =
+    ap₂ (λ xs ys. xs ++ ys) (numbers_same run c (owed 0) fit.0) (seen_numbers_same (λ k. owed (suc k)) runs counts fit.1)
 
 -- the same of the rows of a display
 pub rows_long : (runs : List Member) (rests : LineRests) → AreLinesFitting runs rests.each.items
@@ -79,18 +80,18 @@ rows_long runs rests fit =
     (hits, numbers)
 
 -- what stands beside a line fits it
-pub fitting_at : (k : ℕ) (runs : List Member) (befores : List Before) (run : Member) (b : Before) → k < length runs → AreLinesFitting runs befores
-    → HaveOneShape (kept_before (get_or befores k b)) (kept_by (get_or runs k run))
-fitting_at k [] befores run b within fit = absurd (omega (arith, within))
-fitting_at k (r ∷ runs) [] run b within fit = absurd fit
-fitting_at zero (r ∷ runs) (e ∷ befores) run b within fit = fit.0
-fitting_at (suc k) (r ∷ runs) (e ∷ befores) run b within fit = fitting_at k runs befores run b (omega (arith, within)) fit.1
+pub fitting_at : (k : ℕ) (runs : List Member) (counts : List MemberCounts) (run : Member) (c : MemberCounts) → k < length runs → AreLinesFitting runs counts
+    → CountsFit (counts_of (get_or counts k c)) (kept_by (get_or runs k run))
+fitting_at k [] counts run c within fit = absurd (omega (arith, within))
+fitting_at k (r ∷ runs) [] run c within fit = absurd fit
+fitting_at zero (r ∷ runs) (e ∷ counts) run c within fit = fit.0
+fitting_at (suc k) (r ∷ runs) (e ∷ counts) run c within fit = fitting_at k runs counts run c (omega (arith, within)) fit.1
 
-pub fitting_many : (runs : List Member) (befores : List Before) → AreLinesFitting runs befores → length befores ≡ length runs
+pub fitting_many : (runs : List Member) (counts : List MemberCounts) → AreLinesFitting runs counts → length counts ≡ length runs
 fitting_many [] [] fit = refl
-fitting_many [] (b ∷ befores) fit = absurd fit
+fitting_many [] (c ∷ counts) fit = absurd fit
 fitting_many (run ∷ runs) [] fit = absurd fit
-fitting_many (run ∷ runs) (b ∷ befores) fit = ap suc (fitting_many runs befores fit.1)
+fitting_many (run ∷ runs) (c ∷ counts) fit = ap suc (fitting_many runs counts fit.1)
 
 -- a row of what given lines are seen to keep, put behind nothing
 pub row_seen : (f : MemberKept → List ℕ) (rests : LineRests) (given lines : List Member) (old new : List ℕ) → old ≡ [] → given ≡ lines → PutsBehind old new (flat_map f (seen_lines given rests)) → new ≡ concat (map f (seen_lines lines rests))

@@ -1,7 +1,6 @@
 -- What the lines of a display are seen to keep, by what they keep and owe.
 use Rattle.std.proofs.Common.{◌≡◌, ℕ, ◌<◌, Option, None, Some, List, [], ◌∷◌, ◌++◌, suc, length, map, get_or, refl, sym, ◌∙◌, ap, ap₂, arith}
 use Rattle.std.specs.List.{flat_map}
-use Rattle.std.proofs.lemmas.List.{length-map}
 use Rattle.ra_indirect.specs.declared.node.Node.{Node}
 use Rattle.ra_memory.specs.Image.{History}
 use Rattle.ra_memref.specs.Table.{TableSeen}
@@ -12,13 +11,13 @@ use Rattle.ra_member.specs.declared.member.Member.{Member}
 use Rattle.ra_member.specs.Members.{HasShape, HaveShapes}
 use Rattle.ra_member.specs.MemberRuns.{kept_by}
 use Rattle.ra_member.proofs.Shaped.{member_shape}
-use Rattle.ra_schedule.specs.declared.before.Before.{Before}
-use Rattle.ra_schedule.specs.Before.{HaveOneShape, kept_before}
-use Rattle.ra_schedule.specs.Owing.{owed_values}
+use Rattle.ra_schedule.specs.declared.member_counts.MemberCounts.{MemberCounts}
+use Rattle.ra_schedule.specs.Counted.{CountsFit, owed_member_by}
+use Rattle.ra_schedule.specs.Counts.{counts_of}
 use Rattle.ra_schedule.specs.Schedules.{owed_at, seen_all}
 use Rattle.ra_schedule.specs.Waking.{AreChanged}
-use Rattle.ra_schedule.proofs.MembersRest.GoesOn.{as_many, numbers_long, owed_fits}
-use Rattle.ra_schedule.proofs.MembersRest.OwedRows.{one_shape_of}
+use Rattle.ra_schedule.proofs.MembersRest.Counted.{owed_by_fits, owed_by_numbers}
+use Rattle.ra_schedule.proofs.MembersRest.For.{counts_fit}
 use Rattle.ra_display.specs.declared.line_rests.LineRests.{LineRests}
 use Rattle.ra_display.specs.declared.presence_run.PresenceRun.{PresenceRun}
 use Rattle.ra_meaning.specs.LineMembers.{line_member}
@@ -30,33 +29,34 @@ use Rattle.ra_meaning.proofs.Cuts.Presence.{display_again}
 use Rattle.ra_display.proofs.ShownLines.{lines_next}
 
 -- what a line is seen to keep has the counts of its text
-seen_shape : (nodes : List Node) (line : LineContents) (run : Member) (b : Before) (owed : Option ℕ) → IsLineRun nodes line run → HasLineRoom line b → HasShape (line_member line) (seen_line run b owed)
-seen_shape nodes line run b None is room = member_shape nodes (line_member line) run is
-seen_shape nodes line run b (Some n) is room =
-    owed_fits n (line_member line) (kept_before b) (kept_by run) room (member_shape nodes (line_member line) run is)
+seen_shape : (nodes : List Node) (line : LineContents) (run : Member) (c : MemberCounts) (owed : Option ℕ) → IsLineRun nodes line run → HasLineRoom line c → HasShape (line_member line) (seen_line run c owed)
+seen_shape nodes line run c None is room = member_shape nodes (line_member line) run is
+seen_shape nodes line run c (Some n) is room =
+    let shape = member_shape nodes (line_member line) run is in
+    owed_by_fits n (line_member line) (counts_of c) (kept_by run) (counts_fit (line_member line) c room (kept_by run) shape) shape
 
 module _ (nodes : List Node) where
   -- what lines are seen to keep has the counts of their texts
-  seen_shapes : (owed : ℕ → Option ℕ) (lines : List LineContents) (runs : List Member) (befores : List Before) → AreLineRuns nodes lines runs → length befores ≡ length lines
-      → ((k : ℕ) → k < length lines → (line : LineContents) (b : Before) → HasLineRoom (get_or lines k line) (get_or befores k b)) → HaveShapes (map line_member lines) (seen_all seen_line owed runs befores)
-  seen_shapes owed [] [] befores are many rooms = tt
-  seen_shapes owed [] (run ∷ runs) befores are many rooms = absurd are
-  seen_shapes owed (line ∷ lines) [] befores are many rooms = absurd are
+  seen_shapes : (owed : ℕ → Option ℕ) (lines : List LineContents) (runs : List Member) (counts : List MemberCounts) → AreLineRuns nodes lines runs → length counts ≡ length lines
+      → ((k : ℕ) → k < length lines → (line : LineContents) (c : MemberCounts) → HasLineRoom (get_or lines k line) (get_or counts k c)) → HaveShapes (map line_member lines) (seen_all seen_line owed runs counts)
+  seen_shapes owed [] [] counts are many rooms = tt
+  seen_shapes owed [] (run ∷ runs) counts are many rooms = absurd are
+  seen_shapes owed (line ∷ lines) [] counts are many rooms = absurd are
   seen_shapes owed (line ∷ lines) (run ∷ runs) [] are many rooms = absurd (omega (arith, many))
-  seen_shapes owed (line ∷ lines) (run ∷ runs) (b ∷ befores) are many rooms =
-      (seen_shape nodes line run b (owed 0) are.0 (rooms 0 (omega arith) line b), seen_shapes (λ k. owed (suc k)) lines runs befores are.1 (omega (arith, many)) (λ k within. rooms (suc k) (omega (arith, within))))
+  seen_shapes owed (line ∷ lines) (run ∷ runs) (c ∷ counts) are many rooms =
+      (seen_shape nodes line run c (owed 0) are.0 (rooms 0 (omega arith) line c), seen_shapes (λ k. owed (suc k)) lines runs counts are.1 (omega (arith, many)) (λ k within. rooms (suc k) (omega (arith, within))))
 
   -- and beside each line there is room for what it keeps
-  fitting : (lines : List LineContents) (runs : List Member) (befores : List Before) → AreLineRuns nodes lines runs → length befores ≡ length lines
-      → ((k : ℕ) → k < length lines → (line : LineContents) (b : Before) → HasLineRoom (get_or lines k line) (get_or befores k b)) → AreLinesFitting runs befores
+  fitting : (lines : List LineContents) (runs : List Member) (counts : List MemberCounts) → AreLineRuns nodes lines runs → length counts ≡ length lines
+      → ((k : ℕ) → k < length lines → (line : LineContents) (c : MemberCounts) → HasLineRoom (get_or lines k line) (get_or counts k c)) → AreLinesFitting runs counts
   fitting [] [] [] are many rooms = tt
-  fitting [] [] (b ∷ befores) are many rooms = absurd (omega (arith, many))
-  fitting [] (run ∷ runs) befores are many rooms = absurd are
-  fitting (line ∷ lines) [] befores are many rooms = absurd are
+  fitting [] [] (c ∷ counts) are many rooms = absurd (omega (arith, many))
+  fitting [] (run ∷ runs) counts are many rooms = absurd are
+  fitting (line ∷ lines) [] counts are many rooms = absurd are
   fitting (line ∷ lines) (run ∷ runs) [] are many rooms = absurd (omega (arith, many))
-  fitting (line ∷ lines) (run ∷ runs) (b ∷ befores) are many rooms = (
-    one_shape_of (line_member line) (kept_before b) (kept_by run) (rooms 0 (omega arith) line b) (member_shape nodes (line_member line) run are.0),
-    fitting lines runs befores are.1 (omega (arith, many)) (λ k within. rooms (suc k) (omega (arith, within))),
+  fitting (line ∷ lines) (run ∷ runs) (c ∷ counts) are many rooms = (
+    counts_fit (line_member line) c (rooms 0 (omega arith) line c) (kept_by run) (member_shape nodes (line_member line) run are.0),
+    fitting lines runs counts are.1 (omega (arith, many)) (λ k within. rooms (suc k) (omega (arith, within))),
   )
 
 module _ (nodes : List Node) (values : List ℕ) (lines : List LineContents) (runs : List Member) (rests : LineRests) (are : AreLineRuns nodes lines runs) (they : AreLineRests nodes values lines runs rests) where
@@ -74,25 +74,22 @@ optional_fitting nodes values (Some script) None rests is are = absurd is
 optional_fitting nodes values (Some script) (Some run) rests is are = lines_fitting nodes values script.lines run.lines.items rests is.lines are
 
 -- what is owed changes no number of a line
-numbers_stay : (run : Member) (b : Before) (owed : Option ℕ) → HaveOneShape (kept_before b) (kept_by run) → line_numbers (seen_line run b owed) ≡ line_numbers (kept_by run)
-numbers_stay run b None shape = refl
-numbers_stay run b (Some n) shape =
-    let old = (kept_before b).values in
-    let new = (kept_by run).values in
-    let hits = λ (v : ValueKept). v.hits in
-    let many : length old ≡ length new = sym (length-map old hits) ∙ as_many (map hits old) (map hits new) length shape.hits ∙ length-map new hits in
-    by_numbers (owed_values n (map hits old) new) ∙ ap (map signed_greatest) (numbers_long n old new many) ∙ sym (by_numbers new)
+numbers_stay : (run : Member) (c : MemberCounts) (owed : Option ℕ) → CountsFit (counts_of c) (kept_by run) → line_numbers (seen_line run c owed) ≡ line_numbers (kept_by run)
+numbers_stay run c None fit = refl
+numbers_stay run c (Some n) fit =
+    by_numbers (owed_member_by n (counts_of c) (kept_by run)).values ∙ ap (map signed_greatest) (owed_by_numbers n (counts_of c) (kept_by run) fit)
+    ∙ sym (by_numbers (kept_by run).values)
   where
     by_numbers : (vs : List ValueKept) → map (λ (v : ValueKept). signed_greatest v.numbers) vs ≡ map signed_greatest (map (λ (v : ValueKept). v.numbers) vs)
     by_numbers [] = refl
     by_numbers (v ∷ vs) = ap (λ xs. signed_greatest v.numbers ∷ xs) (by_numbers vs)
 
-numbers_seen : (owed : ℕ → Option ℕ) (runs : List Member) (befores : List Before) → AreLinesFitting runs befores → flat_map line_numbers (map kept_by runs) ≡ flat_map line_numbers (seen_all seen_line owed runs befores)
+numbers_seen : (owed : ℕ → Option ℕ) (runs : List Member) (counts : List MemberCounts) → AreLinesFitting runs counts → flat_map line_numbers (map kept_by runs) ≡ flat_map line_numbers (seen_all seen_line owed runs counts)
 numbers_seen owed [] [] fit = refl
-numbers_seen owed [] (b ∷ befores) fit = absurd fit
+numbers_seen owed [] (c ∷ counts) fit = absurd fit
 numbers_seen owed (run ∷ runs) [] fit = absurd fit
-numbers_seen owed (run ∷ runs) (b ∷ befores) fit =
-    ap₂ (λ xs ys. xs ++ ys) (sym (numbers_stay run b (owed 0) fit.0)) (numbers_seen (λ k. owed (suc k)) runs befores fit.1)
+numbers_seen owed (run ∷ runs) (c ∷ counts) fit =
+    ap₂ (λ xs ys. xs ++ ys) (sym (numbers_stay run c (owed 0) fit.0)) (numbers_seen (λ k. owed (suc k)) runs counts fit.1)
 
 -- a display shows what it is seen to keep
 pub text_seen : (script : ScriptContents) (run : PresenceRun) (rests : LineRests) → AreLinesFitting run.lines.items rests.each.items → display_text script (display_kept run) ≡ display_text script (display_seen run rests)

@@ -1,8 +1,8 @@
 use Rattle.std.proofs.Common.{◌≡◌, ◌+◌, ◌*◌, ◌<◌, ◌/◌, length, get_or, sym, ◌∙◌, subst, arith}
 use Rattle.std.proofs.lemmas.List.{take_all, get_or_default}
-use Rattle.ra_schedule.specs.Groups.{paid}
+use Rattle.ra_schedule.specs.Counted.{owed_by}
 use Rattle.ra_display.specs.Keeping.{PutsWords}
-use Rattle.ra_schedule.proofs.Resting.Owed.{length-paid, paid_at}
+use Rattle.ra_schedule.proofs.MembersRest.Counted.{length-owed_by, owed_by_at}
 use Rattle.ra_display.proofs.Putting.{words_more, words_on, words_to}
 use Rattle.ra_display.proofs.keeping.put_paid.Goals as goal
 
@@ -10,8 +10,8 @@ pub loop-four-preserved : goal.loop-four-preserved
 loop-four-preserved c =
     let p = c.loop-four in
     let hits = c.args.hits.now in
-    let all = paid c.args.frames c.args.before.now hits in
-    let many : length all ≡ length hits = length-paid c.args.frames c.args.before.now hits in
+    let all = owed_by c.args.frames c.args.counted.now hits in
+    let many : length all ≡ length hits = length-owed_by c.args.frames c.args.counted.now hits in
     let new = c.put_four.new.row in
     let here = c.args.at + 4 * (4 * p.four) in
     let k = 4 * (p.four + 1) in
@@ -26,15 +26,15 @@ pub loop-left-preserved : goal.loop-left-preserved
 loop-left-preserved c =
     let p = c.loop-left in
     let hits = c.args.hits.now in
-    let before = c.args.before.now in
-    let all = paid c.args.frames before hits in
-    let many : length all ≡ length hits = length-paid c.args.frames before hits in
+    let bits = c.args.counted.now in
+    let all = owed_by c.args.frames bits hits in
+    let many : length all ≡ length hits = length-owed_by c.args.frames bits hits in
     let n = c.paid_hit.result in
     let k = 4 * (length hits / 4) + p.left in
     let within : k < length hits = omega (arith, c.loop-left-test.true) in
     let within_all : k < length all = omega (arith, within, many) in
     let here : get_or all k n ≡ n =
-    get_or_default all k n 0 within_all ∙ paid_at c.args.frames before hits k within ∙ sym c.paid_hit.ensures in
+    get_or_default all k n 0 within_all ∙ owed_by_at c.args.frames bits hits k within ∙ sym c.paid_hit.ensures in
     let new = c.put_word.new.row in
     let next = c.put_word.result in
     let put =
@@ -51,8 +51,8 @@ pub returns : goal.returns
 returns c =
     let p = c.loop-left in
     let hits = c.args.hits.now in
-    let all = paid c.args.frames c.args.before.now hits in
-    let many : length all ≡ length hits = length-paid c.args.frames c.args.before.now hits in
+    let all = owed_by c.args.frames c.args.counted.now hits in
+    let many : length all ≡ length hits = length-owed_by c.args.frames c.args.counted.now hits in
     let k = 4 * (length hits / 4) + p.left in
     let last : k ≡ length hits = omega (arith, c.loop-left-test.false, p.auto.left-end) in
     let end = c.args.at + 4 * length hits in

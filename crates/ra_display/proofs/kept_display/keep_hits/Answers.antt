@@ -2,8 +2,9 @@ use Rattle.std.proofs.Common.{◌≡◌, ◌<◌, length, get_or, sym, ◌∙◌
 use Rattle.ra_member.specs.declared.member.Member.{Member}
 use Rattle.ra_member.specs.Members.{MemberKept, saved_hits}
 use Rattle.ra_member.specs.MemberRuns.{kept_by}
-use Rattle.ra_schedule.specs.declared.before.Before.{Before}
-use Rattle.ra_schedule.specs.Before.{HaveOneShape, kept_before}
+use Rattle.ra_schedule.specs.declared.member_counts.MemberCounts.{MemberCounts}
+use Rattle.ra_schedule.specs.Counted.{CountsFit}
+use Rattle.ra_schedule.specs.Counts.{counts_of}
 use Rattle.ra_schedule.specs.Schedules.{owed_at}
 use Rattle.ra_schedule.proofs.MembersRest.SeenAll.{seen_at}
 use Rattle.ra_display.specs.Keeping.{HasWords}
@@ -18,13 +19,13 @@ pub index-requires : goal.index-requires
 index-requires c =
     omega (arith, c.loop-place-test.true, fitting_many c.args.lines.now c.args.rests.now.each.items c.requires.fit)
 
-pub put_member_hits-next-requires-clause-shape : goal.put_member_hits-next-requires-clause-shape
-put_member_hits-next-requires-clause-shape c =
-    let befores = c.args.rests.now.each.items in
+pub put_member_hits-next-requires-clause-fit : goal.put_member_hits-next-requires-clause-fit
+put_member_hits-next-requires-clause-fit c =
+    let counts = c.args.rests.now.each.items in
     let b = c.index.result.now in
     let line = c.index-lines-place.result in
-    let at = fitting_at c.loop-place.place c.args.lines.now befores line b (omega (arith, c.loop-place-test.true)) c.requires.fit in
-    subst (λ (e : Before). HaveOneShape (kept_before e) (kept_by line)) (sym c.index.ensures) (subst (λ (m : Member). HaveOneShape (kept_before (get_or befores c.loop-place.place b)) (kept_by m)) (sym c.index-lines-place.is) at)
+    let at = fitting_at c.loop-place.place c.args.lines.now counts line b (omega (arith, c.loop-place-test.true)) c.requires.fit in
+    subst (λ (e : MemberCounts). CountsFit (counts_of e) (kept_by line)) (sym c.index.ensures) (subst (λ (m : Member). CountsFit (counts_of (get_or counts c.loop-place.place b)) (kept_by m)) (sym c.index-lines-place.is) at)
 
 pub put_member_hits-next-requires-clause-room : goal.put_member_hits-next-requires-clause-room
 put_member_hits-next-requires-clause-room c =
@@ -50,7 +51,7 @@ loop-place-preserved c =
     let kept = seen_lines lines rests in
     let one = seen_line line b c.owed-owed.result in
     let there : get_or kept k one ≡ one =
-    seen_at Member Before MemberKept seen_line (owed_at rests.schedule) k lines rests.each.items line b one below many
+    seen_at Member MemberCounts MemberKept seen_line (owed_at rests.schedule) k lines rests.each.items line b one below many
     ∙ (λ i. seen_line (sym c.index-lines-place.is i) (sym c.index.ensures i) (owed_at rests.schedule k))
     ∙ sym (ap (seen_line line b) c.owed-owed.ensures ∙ seen_as_told line b (owed_at rests.schedule k)) in
     record {

@@ -8,7 +8,7 @@ use Rattle.ra_member.specs.Runs.{IsValueRun}
 use Rattle.ra_schedule.specs.Inputs.{Instant, ValuesSeeSame}
 use Rattle.ra_schedule.proofs.MembersRest.Signals.{keeps_both}
 use Rattle.ra_schedule.proofs.MembersRest.Woken.{told_still}
-use Rattle.ra_display.proofs.KeptLines.{macros_before}
+use Rattle.ra_display.proofs.Macros.{macros_before}
 use Rattle.ra_display.proofs.LineReads.{macro_run, values_see_more}
 use Rattle.ra_display.proofs.SteppedLines.{macros_in}
 use Rattle.ra_display.proofs.line_reads.note_macros.Goals as goal

@@ -4,8 +4,9 @@ use Rattle.std.proofs.lemmas.List.{take_all}
 use Rattle.ra_member.specs.declared.member.Member.{Member}
 use Rattle.ra_member.specs.Members.{MemberKept, saved_hits, saved_numbers}
 use Rattle.ra_member.specs.MemberRuns.{PutsBehind, kept_by}
-use Rattle.ra_schedule.specs.declared.before.Before.{Before}
-use Rattle.ra_schedule.specs.Before.{HaveOneShape, kept_before}
+use Rattle.ra_schedule.specs.declared.member_counts.MemberCounts.{MemberCounts}
+use Rattle.ra_schedule.specs.Counted.{CountsFit}
+use Rattle.ra_schedule.specs.Counts.{counts_of}
 use Rattle.ra_schedule.specs.Schedules.{owed_at}
 use Rattle.ra_schedule.proofs.MembersRest.SeenAll.{seen_at, seen_many}
 use Rattle.ra_display.specs.LineRests.{seen_line, seen_lines}
@@ -19,11 +20,11 @@ index-requires c =
 
 pub put_line-requires : goal.put_line-requires
 put_line-requires c =
-    let befores = c.args.rests.now.each.items in
+    let counts = c.args.rests.now.each.items in
     let b = c.index.result.now in
     let line = c.index-lines-place.result in
-    let at = fitting_at c.loop-place.place c.args.lines.now befores line b (omega (arith, c.loop-place-test.true)) c.requires.fit in
-    subst (λ (e : Before). HaveOneShape (kept_before e) (kept_by line)) (sym c.index.ensures) (subst (λ (m : Member). HaveOneShape (kept_before (get_or befores c.loop-place.place b)) (kept_by m)) (sym c.index-lines-place.is) at)
+    let at = fitting_at c.loop-place.place c.args.lines.now counts line b (omega (arith, c.loop-place-test.true)) c.requires.fit in
+    subst (λ (e : MemberCounts). CountsFit (counts_of e) (kept_by line)) (sym c.index.ensures) (subst (λ (m : Member). CountsFit (counts_of (get_or counts c.loop-place.place b)) (kept_by m)) (sym c.index-lines-place.is) at)
 
 pub loop-place-preserved : goal.loop-place-preserved
 loop-place-preserved c =
@@ -36,27 +37,27 @@ loop-place-preserved c =
     let many = fitting_many lines rests.each.items c.requires.fit in
     let kept = seen_lines lines rests in
     let one = seen_line line b c.owed-owed.result in
-    let within : k < length kept = omega (arith, below, seen_many Member Before MemberKept seen_line (owed_at rests.schedule) lines rests.each.items many) in
+    let within : k < length kept = omega (arith, below, seen_many Member MemberCounts MemberKept seen_line (owed_at rests.schedule) lines rests.each.items many) in
     let there : get_or kept k one ≡ one =
-    seen_at Member Before MemberKept seen_line (owed_at rests.schedule) k lines rests.each.items line b one below many
+    seen_at Member MemberCounts MemberKept seen_line (owed_at rests.schedule) k lines rests.each.items line b one below many
     ∙ (λ i. seen_line (sym c.index-lines-place.is i) (sym c.index.ensures i) (owed_at rests.schedule k))
     ∙ sym (ap (seen_line line b) c.owed-owed.ensures ∙ seen_as_told line b (owed_at rests.schedule k)) in
     let p = c.loop-place in
     record {
-      hits = put_more saved_hits c.args.hits.now.items p.hits.items c.put_line.new.hits.items kept k one within there p.invariant.hits c.in_ok-put_line.ensures.hits;
-      numbers = put_more saved_numbers c.args.numbers.now.items p.numbers.items c.put_line.new.numbers.items kept k one within there p.invariant.numbers c.in_ok-put_line.ensures.numbers;
+      hits = put_more saved_hits c.args.rows.now.hits.items p.rows.hits.items c.put_line.new.rows.hits.items kept k one within there p.invariant.hits c.in_ok-put_line.ensures.hits;
+      numbers = put_more saved_numbers c.args.rows.now.numbers.items p.rows.numbers.items c.put_line.new.rows.numbers.items kept k one within there p.invariant.numbers c.in_ok-put_line.ensures.numbers;
     }
 
 pub returns-clause-hits : goal.returns-clause-hits
 returns-clause-hits c =
     let lines = c.args.lines.now in
     let rests = c.args.rests.now in
-    let many = seen_many Member Before MemberKept seen_line (owed_at rests.schedule) lines rests.each.items (fitting_many lines rests.each.items c.requires.fit) in
-    subst (λ ks. PutsBehind c.args.hits.now.items c.loop-place.hits.items (flat_map saved_hits ks)) (take_all c.loop-place.place (seen_lines lines rests) (omega (arith, c.loop-place-test.false, many))) c.loop-place.invariant.hits
+    let many = seen_many Member MemberCounts MemberKept seen_line (owed_at rests.schedule) lines rests.each.items (fitting_many lines rests.each.items c.requires.fit) in
+    subst (λ ks. PutsBehind c.args.rows.now.hits.items c.loop-place.rows.hits.items (flat_map saved_hits ks)) (take_all c.loop-place.place (seen_lines lines rests) (omega (arith, c.loop-place-test.false, many))) c.loop-place.invariant.hits
 
 pub returns-clause-numbers : goal.returns-clause-numbers
 returns-clause-numbers c =
     let lines = c.args.lines.now in
     let rests = c.args.rests.now in
-    let many = seen_many Member Before MemberKept seen_line (owed_at rests.schedule) lines rests.each.items (fitting_many lines rests.each.items c.requires.fit) in
-    subst (λ ks. PutsBehind c.args.numbers.now.items c.loop-place.numbers.items (flat_map saved_numbers ks)) (take_all c.loop-place.place (seen_lines lines rests) (omega (arith, c.loop-place-test.false, many))) c.loop-place.invariant.numbers
+    let many = seen_many Member MemberCounts MemberKept seen_line (owed_at rests.schedule) lines rests.each.items (fitting_many lines rests.each.items c.requires.fit) in
+    subst (λ ks. PutsBehind c.args.rows.now.numbers.items c.loop-place.rows.numbers.items (flat_map saved_numbers ks)) (take_all c.loop-place.place (seen_lines lines rests) (omega (arith, c.loop-place-test.false, many))) c.loop-place.invariant.numbers

@@ -10,7 +10,7 @@ use Rattle.ra_display.proofs.line_rests.LineRests.step.Goals as goal
 
 -- the rests with another schedule
 abbrev with_schedule : LineRests → ScheduleSeen → LineRests
-with_schedule rests schedule = record { each = rests.each; schedule = schedule; holds = rests.holds }
+with_schedule rests schedule = record { each = rests.each; schedule = schedule; holds = rests.holds; room = rests.room }
 
 pub begin-requires : goal.begin-requires
 begin-requires c =
