@@ -10,11 +10,11 @@ use Rattle.ra_set.specs.Contents.{ItemContents}
 use Rattle.ra_progress.specs.Contents.{KeptItem}
 use Rattle.ra_meaning.specs.declared.event.Event.{Event}
 use Rattle.ra_items.specs.declared.item_run.ItemRun.{ItemRun}
-use Rattle.ra_items.specs.declared.rest.ItemBefore.{ItemBefore}
+use Rattle.ra_items.specs.declared.rest.ItemCounts.{ItemCounts}
 use Rattle.ra_items.specs.declared.rests.Rests.{Rests}
 use Rattle.ra_items.specs.AllRuns.{all_events}
 use Rattle.ra_items.specs.ItemRuns.{IsItemRun}
-use Rattle.ra_items.specs.Resting.{FitsRun, GoesOn, HasRoom, IsToldOf, ItemRests, StepsRest, StepsSeen, seen_run}
+use Rattle.ra_items.specs.Resting.{FitsRun, GoesOn, HasRoom, IsToldOf, StepsRest, StepsSeen, seen_run}
 use Rattle.ra_items.specs.RunEvents.{run_events}
 pub use Rattle.ra_schedule.specs.Waking.{IsSomeFrame, IsWoken}
 
@@ -42,8 +42,8 @@ pub record AreRests (nodes : List Node) (values : List ℕ) (items : List ItemCo
   pub room : length rests.stepped.items ≡ length items
   pub few : rests.count ≤ length items
   pub told_of : (k : ℕ) → k < length items → (item : ItemContents) → IsToldOf nodes rests.schedule.truths.comparisons rests.schedule.readers (get_or items k item) k
-  pub rooms : (k : ℕ) → k < length items → (item : ItemContents) (b : ItemBefore) → HasRoom (get_or items k item) (get_or rests.each.items k b)
-  pub at_rest : AreAtRest (λ k. (item : ItemContents) (b : ItemBefore) (run : ItemRun) → GoesOn nodes values (get_or items k item) (get_or rests.each.items k b) (get_or runs k run))
+  pub rooms : (k : ℕ) → k < length items → (item : ItemContents) (b : ItemCounts) → HasRoom (get_or items k item) (get_or rests.each.items k b)
+  pub at_rest : AreAtRest (λ k. (item : ItemContents) (b : ItemCounts) (run : ItemRun) → GoesOn nodes values (get_or items k item) (get_or rests.each.items k b) (get_or runs k run))
       (length items) rests.schedule
 
 -- what the items are seen to keep
@@ -79,12 +79,12 @@ pub record HasPlace (items : List ItemContents) (rests : Rests) (place : ℕ) : 
   pub due : length rests.schedule.readers.due ≡ length items
   pub room : length rests.stepped.items ≡ length items
   pub few : rests.count < length items
-  pub rooms : (item : ItemContents) (b : ItemBefore) → HasRoom (get_or items place item) (get_or rests.each.items place b)
+  pub rooms : (item : ItemContents) (b : ItemCounts) → HasRoom (get_or items place item) (get_or rests.each.items place b)
 
 -- the item at a place is stepped, with what it owed, and listed where it may tell something; no other item changes
 pub record IsSteppedAt (table : TableSeen) (items : List ItemContents) (place : ℕ) (olds news : List ItemRun) (old new : Rests) : Type 0 where
   pub run : ItemRun
-  pub before : ItemBefore
+  pub before : ItemCounts
   pub rests : Bool
   pub tells : Bool
   pub runs : news ≡ set olds place run
@@ -95,12 +95,17 @@ pub record IsSteppedAt (table : TableSeen) (items : List ItemContents) (place : 
   pub silent : tells ≡ false → (item : ItemContents) → run_events (get_or items place item) run ≡ []
   pub is : (item : ItemContents) → IsItemRun table.nodes (get_or items place item) run
   pub room : (item : ItemContents) → HasRoom (get_or items place item) before
-  pub steps : (item : ItemContents) (r : ItemRun) (b : ItemBefore)
+  pub steps : (item : ItemContents) (r : ItemRun) (b : ItemCounts)
       → StepsRest table (get_or items place item) (seen_run (get_or olds place r) (get_or old.each.items place b) (owed_at old.schedule place)) rests before run
-  pub keeps : rests ≡ true → (item : ItemContents) → ItemRests (get_or items place item) before run
 
--- beside each run there is room for what it keeps
-abbrev pub AreFitting : List ItemRun → List ItemBefore → Type 0
+-- beside each run there is a bit for each of its hits
+abbrev pub AreFitting : List ItemRun → List ItemCounts → Type 0
 AreFitting [] [] = Unit {0}
 AreFitting (run ∷ runs) (b ∷ befores) = FitsRun b run × AreFitting runs befores
 AreFitting _ _ = ⊥
+
+-- beside each item there is a bit for each of its conditions
+abbrev pub HaveRooms : List ItemContents → List ItemCounts → Type 0
+HaveRooms [] [] = Unit {0}
+HaveRooms (item ∷ items) (c ∷ counts) = HasRoom item c × HaveRooms items counts
+HaveRooms _ _ = ⊥

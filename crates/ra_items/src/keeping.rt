@@ -8,7 +8,8 @@ ghost use Rattle.ra_progress.specs.Spelling.{item_bytes};
 ghost use Rattle.ra_leaderboard.specs.States.{board_byte};
 ghost use Rattle.ra_member.specs.Members.{saved_hits, saved_numbers};
 ghost use Rattle.ra_member.specs.MemberRuns.{kept_by};
-ghost use Rattle.ra_schedule.specs.Before.{HaveOneShape, kept_before};
+ghost use Rattle.ra_schedule.specs.Counted.{CountsFit};
+ghost use Rattle.ra_schedule.specs.Counts.{counts_of};
 ghost use Rattle.ra_display.specs.Keeping.{PutsOver, seen_hits};
 ghost use Rattle.ra_display.specs.LineRests.{seen_line};
 ghost use Rattle.ra_meaning.specs.Openings.{kept_achievement};
@@ -20,10 +21,11 @@ ghost use Rattle.ra_items.specs.Shapes.{board_run_shape, run_shape};
 use crate::achievement_run::AchievementRun;
 use crate::board_run::BoardRun;
 use crate::item_run::ItemRun;
-use crate::rest::{BoardBefore, ItemBefore, TriggerBefore};
+use crate::rest::ItemCounts;
 use crate::rests::Rests;
 use ra_display::{put_byte, put_hits, put_member_hits, put_member_numbers, put_word};
 use ra_progress::state_byte;
+use ra_schedule::{Counts, MemberCounts};
 
 /// Writes what all items are seen to keep over a row of bytes from a place on, as their blocks in a progress file have it,
 /// without names, and gives the place after them. No memory is taken.
@@ -47,20 +49,20 @@ fn keep_item(
     row: &mut [u8],
     at: usize,
     run: &ItemRun,
-    before: &ItemBefore,
+    counts: &ItemCounts,
     owed: Option<u32>,
 ) -> usize
-    requires fits { FitsRun before.now run.now }
+    requires fits { FitsRun counts.now run.now }
     requires room { at + item_length (run_shape run.now) ≤ length row.old }
-    ensures puts { PutsOver row.old row.new at result (item_bytes (seen_run run.now before.now owed)) }
-    ensures fits { ItemFits (run_shape run.now) (seen_run run.now before.now owed) }
+    ensures puts { PutsOver row.old row.new at result (item_bytes (seen_run run.now counts.now owed)) }
+    ensures fits { ItemFits (run_shape run.now) (seen_run run.now counts.now owed) }
 {
-    match (run, before) {
-        (ItemRun::Achievement(run), ItemBefore::Achievement(before)) => {
-            keep_achievement(row, at, run, before, owed)
+    match (run, counts) {
+        (ItemRun::Achievement(run), ItemCounts::Achievement(counts)) => {
+            keep_achievement(row, at, run, counts, owed)
         }
-        (ItemRun::Leaderboard(run), ItemBefore::Leaderboard(before)) => {
-            keep_board(row, at, run, before, owed)
+        (ItemRun::Leaderboard(run), ItemCounts::Leaderboard(counts)) => {
+            keep_board(row, at, run, counts, owed)
         }
         _ => at,
     }
@@ -71,21 +73,21 @@ fn keep_achievement(
     row: &mut [u8],
     at: usize,
     run: &AchievementRun,
-    before: &TriggerBefore,
+    counts: &Counts,
     owed: Option<u32>,
 ) -> usize
-    requires fits { length before.now.hits.items ≡ length run.now.run.trigger.hits }
+    requires fits { length counts.now.counted.items ≡ length run.now.run.trigger.hits }
     requires room { at + item_length (run_shape (Achievement run.now)) ≤ length row.old }
     ensures puts { PutsOver row.old row.new at result (item_bytes (kept_achievement run.now.earned
-        (record run.now.run.trigger { hits = seen_hits owed before.now.hits.items run.now.run.trigger.hits }))) }
+        (record run.now.run.trigger { hits = seen_hits owed counts.now.counted.items run.now.run.trigger.hits }))) }
     ensures fits { ItemFits (run_shape (Achievement run.now)) (kept_achievement run.now.earned
-        (record run.now.run.trigger { hits = seen_hits owed before.now.hits.items run.now.run.trigger.hits })) }
+        (record run.now.run.trigger { hits = seen_hits owed counts.now.counted.items run.now.run.trigger.hits })) }
 {
     let trigger = &run.run.trigger;
     let state = state_byte(trigger.state().byte(), run.is_earned());
     let next = put_byte(row, at, state);
     let next = put_word(row, next, trigger.measured());
-    put_hits(row, next, trigger.hits(), &before.hits, owed)
+    put_hits(row, next, trigger.hits(), &counts.counted, owed)
 }
 
 // Writes what a board is seen to keep.
@@ -93,17 +95,17 @@ fn keep_board(
     row: &mut [u8],
     at: usize,
     run: &BoardRun,
-    before: &BoardBefore,
+    counts: &MemberCounts,
     owed: Option<u32>,
 ) -> usize
-    requires fits { HaveOneShape (kept_before before.now.member) (kept_by run.now.member) }
+    requires fits { CountsFit (counts_of counts.now) (kept_by run.now.member) }
     requires room { at + item_length (board_run_shape run.now) ≤ length row.old }
     ensures puts { PutsOver row.old row.new at result (item_bytes (OfBoard (board_byte run.now.board)
-        (saved_hits (seen_line run.now.member before.now.member owed)) (saved_numbers (kept_by run.now.member)))) }
+        (saved_hits (seen_line run.now.member counts.now owed)) (saved_numbers (kept_by run.now.member)))) }
     ensures fits { ItemFits (board_run_shape run.now) (OfBoard (board_byte run.now.board)
-        (saved_hits (seen_line run.now.member before.now.member owed)) (saved_numbers (kept_by run.now.member))) }
+        (saved_hits (seen_line run.now.member counts.now owed)) (saved_numbers (kept_by run.now.member))) }
 {
     let next = put_byte(row, at, run.board.state().byte());
-    let next = put_member_hits(row, next, &run.member, &before.member, owed);
+    let next = put_member_hits(row, next, &run.member, counts, owed);
     put_member_numbers(row, next, &run.member)
 }

@@ -7,10 +7,11 @@ ghost use Rattle.ra_schedule.specs.Signals.{AreSignals};
 ghost use Rattle.ra_items.specs.declared.item_run.ItemRun.{ItemRun};
 ghost use Rattle.ra_items.specs.AllRuns.{AreItemRuns};
 ghost use Rattle.ra_items.specs.ItemRuns.{kept_run};
-ghost use Rattle.ra_items.specs.Rests.{AreFitting, AreItemsTold, AreRests, AreTold, AreSteppedSeen, HasPlace, IsSomeFrame, IsSteppedAt, WereRests, seen_by};
+ghost use Rattle.ra_items.specs.Rests.{HaveRooms, AreItemsTold, AreRests, AreTold, AreSteppedSeen, HasPlace, IsSomeFrame, IsSteppedAt, WereRests, seen_by};
 
 use crate::item_run::ItemRun;
-use crate::rest::{ItemBefore, note_item, step_rest};
+use crate::rest::{ItemCounts, note_item, pay_owed, step_rest};
+use crate::rooms::Rooms;
 use crate::told::may_tell;
 use ra_memref::Table;
 use ra_schedule::{Schedule, Signals};
@@ -18,15 +19,17 @@ use ra_set::Item;
 use ra_text::OutOfMemory;
 use std::alloc::Global;
 
-/// What each item kept before its last step, who is due, and who was stepped at the last frame.
+/// Which conditions of each item counted at its last step, who is due, and who was stepped at the last frame.
 #[derive(Drop)]
 pub struct Rests {
-    pub each: Vec<ItemBefore>,
+    pub each: Vec<ItemCounts>,
     pub schedule: Schedule,
     /// The places of the items that were stepped at the last frame and may tell something, in order, as many as are
     /// counted.
     pub stepped: Vec<u32>,
     pub count: usize,
+    /// What the item that is stepped kept before its step.
+    pub rooms: Rooms,
 }
 
 impl Rests {
@@ -47,18 +50,19 @@ impl Rests {
     {
         let signals = signals_of(alloc, runs, items, table, nodes)?;
         let schedule = Schedule::new(alloc, signals, items.len())?;
-        let each = befores_of(alloc, runs)?;
+        let each = counts_of(alloc, items)?;
+        let rooms = Rooms::new(alloc, runs)?;
         let stepped = vec![in alloc; 0; items.len()]?;
         Ok(Rests {
             each,
             schedule,
             stepped,
             count: 0,
+            rooms,
         })
     }
 
-    /// Steps each item that is due or reads what changed, by the frame of the table's last sample. It looks at each of
-    /// them for rest, and where many looks were in vain at some of them.
+    /// Steps each item that is due or reads what changed, by the frame of the table's last sample.
     pub fn step(&mut self, runs: &mut [ItemRun], items: &[Item], table: &Table)
         requires runs { AreItemRuns table.now.nodes (map item_contents items.now) runs.old }
         requires rests { WereRests table.now (map item_contents items.now) runs.old self.old }
@@ -99,11 +103,10 @@ impl Rests {
         ensures { IsSteppedAt table.now (map item_contents items.now) place runs.old runs.new self.old self.new }
     {
         let owed = self.schedule.owed(place);
-        let looked = self.schedule.looks_at(place);
         let run = &mut runs[place];
-        let before = &mut self.each[place];
-        let item = &items[place];
-        let rests = step_rest(run, before, item, table, owed, looked);
+        let counts = &mut self.each[place];
+        pay_owed(run, counts, owed);
+        let rests = step_rest(run, counts, &items[place], table, &mut self.rooms);
         self.stepped[self.count] = place as u32;
         self.count += usize::from(may_tell(run));
         self.schedule.note(place, rests);
@@ -141,14 +144,14 @@ fn signals_of(
     Ok(signals)
 }
 
-// What each item keeps now, in rooms of its own. Memory is the only refusal.
-fn befores_of(alloc: Global, runs: &[ItemRun]) -> Result<Vec<ItemBefore>, OutOfMemory>
-    ensures { IfOk result (λ befores. AreFitting runs.now befores.items) }
+// A bit for each condition of each item, of which none counted. Memory is the only refusal.
+fn counts_of(alloc: Global, items: &[Item]) -> Result<Vec<ItemCounts>, OutOfMemory>
+    ensures { IfOk result (λ counts. HaveRooms (map item_contents items.now) counts.items) }
 {
-    let mut befores = Vec::new(alloc);
-    for run in runs {
-        let before = ItemBefore::new(alloc, run)?;
-        befores.push(before)?;
+    let mut counts = Vec::new(alloc);
+    for item in items {
+        let own = ItemCounts::new(alloc, item)?;
+        counts.push(own)?;
     }
-    Ok(befores)
+    Ok(counts)
 }

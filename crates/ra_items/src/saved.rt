@@ -19,11 +19,11 @@ ghost use Rattle.ra_items.specs.Shapes.{run_shape};
 use crate::achievement_run::AchievementRun;
 use crate::board_run::BoardRun;
 use crate::item_run::ItemRun;
-use crate::rest::ItemBefore;
+use crate::rest::ItemCounts;
 use crate::rests::Rests;
 use ra_member::Member;
 use ra_progress::{put_achievement, put_board, put_presence, state_byte};
-use ra_schedule::{hits_before, pay, row_of};
+use ra_schedule::{counted_row, pay};
 use ra_text::OutOfMemory;
 use std::alloc::Global;
 
@@ -56,16 +56,16 @@ fn put_run(
     bytes: &mut Vec<u8>,
     name: &[u8; 16],
     run: &ItemRun,
-    before: &ItemBefore,
+    counts: &ItemCounts,
     owed: Option<u32>,
 ) -> Result<(), OutOfMemory>
-    requires fits { FitsRun before.now run.now }
+    requires fits { FitsRun counts.now run.now }
     requires short { item_length (run_shape run.now) ≤ 8388608 }
-    ensures bytes { OnOk result (bytes.new.items ≡ bytes.old.items ++ named_block name.now (item_bytes (seen_run run.now before.now owed))) }
-    ensures fits { OnOk result (ItemFits (run_shape run.now) (seen_run run.now before.now owed)) }
+    ensures bytes { OnOk result (bytes.new.items ≡ bytes.old.items ++ named_block name.now (item_bytes (seen_run run.now counts.now owed))) }
+    ensures fits { OnOk result (ItemFits (run_shape run.now) (seen_run run.now counts.now owed)) }
 {
     match owed {
-        Some(frames) => put_owed(alloc, bytes, name, run, before, frames),
+        Some(frames) => put_owed(alloc, bytes, name, run, counts, frames),
         None => put_kept(alloc, bytes, name, run),
     }
 }
@@ -98,25 +98,26 @@ fn put_owed(
     bytes: &mut Vec<u8>,
     name: &[u8; 16],
     run: &ItemRun,
-    before: &ItemBefore,
+    counts: &ItemCounts,
     frames: u32,
 ) -> Result<(), OutOfMemory>
-    requires fits { FitsRun before.now run.now }
+    requires fits { FitsRun counts.now run.now }
     requires short { item_length (run_shape run.now) ≤ 8388608 }
-    ensures bytes { OnOk result (bytes.new.items ≡ bytes.old.items ++ named_block name.now (item_bytes (owed_run frames before.now run.now))) }
-    ensures fits { OnOk result (ItemFits (run_shape run.now) (owed_run frames before.now run.now)) }
+    ensures bytes { OnOk result (bytes.new.items ≡ bytes.old.items ++ named_block name.now (item_bytes (owed_run frames counts.now run.now))) }
+    ensures fits { OnOk result (ItemFits (run_shape run.now) (owed_run frames counts.now run.now)) }
 {
-    match (run, before) {
-        (ItemRun::Achievement(run), ItemBefore::Achievement(before)) => {
-            let mut hits = row_of(alloc, run.run.trigger.hits())?;
-            pay(&mut hits, &before.hits, frames);
+    match (run, counts) {
+        (ItemRun::Achievement(run), ItemCounts::Achievement(counts)) => {
+            let mut hits = Vec::with_capacity(alloc, counts.counted.len())?;
+            hits.extend_from_slice(run.run.trigger.hits())?;
+            pay(&mut hits, &counts.counted, frames);
             put_achievement_run(bytes, name, run, &hits)
         }
-        (ItemRun::Leaderboard(run), ItemBefore::Leaderboard(before)) => {
+        (ItemRun::Leaderboard(run), ItemCounts::Leaderboard(counts)) => {
             let mut hits = Vec::new(alloc);
             let mut numbers = Vec::new(alloc);
             run.member.save(&mut hits, &mut numbers)?;
-            let row = hits_before(alloc, &before.member)?;
+            let row = counted_row(alloc, counts)?;
             pay(&mut hits, &row, frames);
             put_board_run(bytes, name, run, &hits, &numbers)
         }
