@@ -8,13 +8,13 @@ use Rattle.ra_trigger.specs.States.{is_triggered}
 use Rattle.ra_trigger.specs.Steps.{TriggerKept}
 use Rattle.ra_set.specs.Contents.{ItemContents, Unlocks, Ranks}
 use Rattle.ra_schedule.specs.Schedules.{owed_at, seen_all}
-use Rattle.ra_schedule.specs.Triggers.{owed_trigger}
+use Rattle.ra_schedule.specs.Counted.{owed_by}
 use Rattle.ra_meaning.specs.Earned.{Earned, is_earned, item_with, items_with, both_earned}
 use Rattle.ra_meaning.specs.Openings.{kept_achievement}
 use Rattle.ra_items.specs.declared.item_run.ItemRun.{ItemRun}
 use Rattle.ra_items.specs.declared.item_run.ItemRun.TheVariants.{Achievement, Leaderboard}
-use Rattle.ra_items.specs.declared.rest.ItemBefore.{ItemBefore}
-use Rattle.ra_items.specs.declared.rest.ItemBefore.TheVariants as before
+use Rattle.ra_items.specs.declared.rest.ItemCounts.{ItemCounts}
+use Rattle.ra_items.specs.declared.rest.ItemCounts.TheVariants as counts
 use Rattle.ra_items.specs.declared.rests.Rests.{Rests}
 use Rattle.ra_items.specs.AllRuns.{AreItemRuns, all_events}
 use Rattle.ra_items.specs.Earning.{earned_run, earned_runs}
@@ -69,15 +69,15 @@ kept_too false false k =
     ap (λ x. item_with x (kept_achievement false k)) (sym (or-false (is_triggered k.state)))
 
 -- what is seen of an item that is earned too is what was seen of it, earned where it was or where this says so
-seen_too : (e : Bool) (run : ItemRun) (b : ItemBefore) (owed : Option ℕ) → seen_run (earned_run e run) b owed ≡ item_with (is_earned (seen_run run b owed) || e) (seen_run run b owed)
+seen_too : (e : Bool) (run : ItemRun) (b : ItemCounts) (owed : Option ℕ) → seen_run (earned_run e run) b owed ≡ item_with (is_earned (seen_run run b owed) || e) (seen_run run b owed)
 seen_too e (Achievement run) b None = kept_too run.earned e run.run.trigger
-seen_too e (Achievement run) (before.Achievement b) (Some n) = kept_too run.earned e (owed_trigger n b.hits.items run.run.trigger)
-seen_too e (Achievement run) (before.Leaderboard b) (Some n) = kept_too run.earned e run.run.trigger
+seen_too e (Achievement run) (counts.Achievement b) (Some n) = kept_too run.earned e (record run.run.trigger { hits = owed_by n b.counted.items run.run.trigger.hits })
+seen_too e (Achievement run) (counts.Leaderboard b) (Some n) = kept_too run.earned e run.run.trigger
 seen_too e (Leaderboard run) b None = refl
-seen_too e (Leaderboard run) (before.Achievement b) (Some n) = refl
-seen_too e (Leaderboard run) (before.Leaderboard b) (Some n) = refl
+seen_too e (Leaderboard run) (counts.Achievement b) (Some n) = refl
+seen_too e (Leaderboard run) (counts.Leaderboard b) (Some n) = refl
 
-all_seen_too : (owed : ℕ → Option ℕ) (earned : Earned) (runs : List ItemRun) (befores : List ItemBefore) → length runs ≤ length earned
+all_seen_too : (owed : ℕ → Option ℕ) (earned : Earned) (runs : List ItemRun) (befores : List ItemCounts) → length runs ≤ length earned
     → seen_all seen_run owed (earned_runs earned runs) befores ≡ items_with (both_earned (map is_earned (seen_all seen_run owed runs befores)) earned) (seen_all seen_run owed runs befores)
 all_seen_too owed [] [] befores many = refl
 all_seen_too owed [] (run ∷ runs) befores many = absurd (omega (arith, many))
@@ -127,21 +127,21 @@ on_too false true now then later is = ap (item_with true) is
 on_too false false now then later is = is
 
 module _ (nodes : List Node) (values : List ℕ) where
-  goes_on_too : (item : ItemContents) (b : ItemBefore) (e : Bool) (run : ItemRun) → IsItemRun nodes item run → HasRoom item b → GoesOn nodes values item b run → GoesOn nodes values item b (earned_run e run)
-  goes_on_too (Unlocks id t) (before.Achievement b) e (Achievement run) is room on = record {
+  goes_on_too : (item : ItemContents) (b : ItemCounts) (e : Bool) (run : ItemRun) → IsItemRun nodes item run → HasRoom item b → GoesOn nodes values item b run → GoesOn nodes values item b (earned_run e run)
+  goes_on_too (Unlocks id t) (counts.Achievement b) e (Achievement run) is room on = record {
     now = on.now;
     at = on.at;
-    kept = λ start image same n. on_too run.earned e (owed_trigger n b.hits.items run.run.trigger) (owed_trigger (n + 1) b.hits.items run.run.trigger) _ (on.kept start image same n);
+    kept = λ start image same n. on_too run.earned e (record run.run.trigger { hits = owed_by n b.counted.items run.run.trigger.hits }) (record run.run.trigger { hits = owed_by (n + 1) b.counted.items run.run.trigger.hits }) _ (on.kept start image same n);
     silent = λ start image same n. on.silent start image same n;
     told = on.told;
   }
-  goes_on_too (Unlocks id t) (before.Leaderboard b) e (Achievement run) is room on = absurd room
+  goes_on_too (Unlocks id t) (counts.Leaderboard b) e (Achievement run) is room on = absurd room
   goes_on_too (Unlocks id t) b e (Leaderboard run) is room on = absurd is
   goes_on_too (Ranks id format board) b e (Achievement run) is room on = absurd is
   goes_on_too (Ranks id format board) b e (Leaderboard run) is room on = on
 
   -- the item at a place, whether there is an answer for it or not
-  on_at : (item : ItemContents) (b : ItemBefore) (earned : Earned) (runs : List ItemRun) (k : ℕ) (run : ItemRun) → k < length runs → IsItemRun nodes item (get_or runs k run) → HasRoom item b
+  on_at : (item : ItemContents) (b : ItemCounts) (earned : Earned) (runs : List ItemRun) (k : ℕ) (run : ItemRun) → k < length runs → IsItemRun nodes item (get_or runs k run) → HasRoom item b
       → GoesOn nodes values item b (get_or runs k run) → GoesOn nodes values item b (get_or (earned_runs earned runs) k run)
   on_at item b [] runs k run within is room on = on
   on_at item b (e ∷ earned) [] k run within is room on = absurd (omega (arith, within))

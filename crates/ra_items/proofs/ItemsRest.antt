@@ -1,5 +1,5 @@
 -- An item that rested at a frame goes on to rest while it sees the same.
-use Rattle.std.proofs.Common.{◌≡◌, ℕ, zero, suc, ◌+◌, ◌-◌, ◌==◌, ◌&&◌, ◌||◌, not, Bool, true, false, if◌then◌else◌, List, [], ◌∷◌, ◌++◌, length, map, get_or, refl, sym, ◌∙◌, ap, ap₂, subst}
+use Rattle.std.proofs.Common.{◌≡◌, ℕ, zero, suc, ◌+◌, ◌-◌, ◌==◌, ◌&&◌, ◌||◌, not, Bool, true, false, if◌then◌else◌, List, [], ◌∷◌, ◌++◌, length, map, get_or, refl, sym, ◌∙◌, ap, ap₂}
 use Rattle.std.proofs.lemmas.Bool.{eq-eqb}
 use Rattle.std.proofs.lemmas.List.{length-map}
 use Rattle.ra_condition.specs.Contents.{TriggerContents, groups_of, trigger_hits, PartContents, value_hits}
@@ -21,7 +21,7 @@ use Rattle.ra_member.specs.Frames.{truths_at, lefts_at}
 use Rattle.ra_member.specs.Members.{MemberContents, MemberKept, HasShape, tests_next, tests_hold, values_next, no_values}
 use Rattle.ra_member.proofs.Shaped.{member_shape}
 use Rattle.ra_schedule.specs.Inputs.{SeeSame, MemberSeesSame}
-use Rattle.ra_schedule.specs.Owing.{ValuesKeep, owed_values}
+use Rattle.ra_schedule.specs.Owing.{ValuesKeep, owed_member, owed_values}
 use Rattle.ra_group.specs.declared.form.Form.TheVariants.{InTrigger}
 use Rattle.ra_schedule.proofs.Resting.Lefts.{achievement_same}
 use Rattle.ra_schedule.proofs.MembersRest.GoesOn.{tests_go_on, tests_say_on, values_go_on, tests_owe_nothing, values_owe_nothing, values_stay, numbers_long, owed_fits, as_many}
@@ -32,10 +32,12 @@ use Rattle.ra_meaning.specs.declared.event.Event.{Event}
 use Rattle.ra_meaning.specs.declared.event.Event.TheVariants as events
 use Rattle.ra_items.specs.declared.item_run.ItemRun.{ItemRun}
 use Rattle.ra_items.specs.declared.item_run.ItemRun.TheVariants.{Achievement, Leaderboard}
-use Rattle.ra_items.specs.declared.rest.ItemBefore.{ItemBefore}
-use Rattle.ra_items.specs.declared.rest.ItemBefore.TheVariants as before
-use Rattle.ra_items.specs.declared.rest.BoardBefore.{BoardBefore}
-use Rattle.ra_items.specs.declared.rest.TriggerBefore.{TriggerBefore}
+use Rattle.ra_items.specs.declared.rest.ItemCounts.{ItemCounts}
+use Rattle.ra_items.specs.declared.rest.ItemCounts.TheVariants as counts
+use Rattle.ra_schedule.specs.declared.counts.Counts.{Counts}
+use Rattle.ra_schedule.specs.declared.member_counts.MemberCounts.{MemberCounts}
+use Rattle.ra_schedule.specs.Counted.{owed_by, owed_member_by}
+use Rattle.ra_schedule.proofs.MembersRest.Counted.{counted_owes, counted_owes_member}
 use Rattle.ra_meaning.specs.Boards.{BoardKept, board_after, board_next, kept_board, number_at, opened_board, running_values, state_by, tracked_number}
 use Rattle.ra_items.specs.BoardRuns.{IsBoardRun, board_kept}
 use Rattle.ra_meaning.specs.Earned.{is_earned}
@@ -45,7 +47,7 @@ use Rattle.ra_items.specs.ItemRuns.{IsItemRun, StepsItem, kept_run}
 use Rattle.ra_meaning.specs.Openings.{item_after, kept_achievement, opened_achievement}
 use Rattle.ra_meaning.specs.Order.{board_member}
 use Rattle.ra_meaning.specs.Play.{item_events, unless_earned}
-use Rattle.ra_items.specs.Resting.{AreValuesAt, BoardRests, GoesOn, HasRoom, IsNoted, ItemRests, TriggerRests, board_before, first_frame, owed_board, owed_run, trigger_before}
+use Rattle.ra_items.specs.Resting.{AreValuesAt, BoardRested, GoesOn, Rested, TriggerRested, board_owed, first_frame, owed_run, trigger_owed}
 use Rattle.ra_items.specs.RunEvents.{run_events}
 use Rattle.ra_meaning.proofs.Openings.Again.{achievement_again, board_again}
 use Rattle.ra_meaning.proofs.Counts.Fitting.{BoardFits, board_fits}
@@ -124,15 +126,21 @@ board_silent id format old new state tracked =
     (λ i. event_if (started i) (events.Start id) ++ event_if (track i) (events.Track id (tracked_number new) format) ++ event_if (cancelled i) (events.Cancel id) ++ event_if (submitted i) (events.Submit id (number_at new.member.values 0) format))
 
 -- achievements
-module _ (table : TableSeen) (id : ℕ) (t : TriggerContents) (mid new : AchievementRun) (b : TriggerBefore)
-    (steps : StepsItem table (Unlocks id t) (Achievement mid) (Achievement new)) (noted : IsNoted (before.Achievement b) (Achievement mid))
-    (room : length b.hits.items ≡ trigger_hits t) (rests : TriggerRests t (trigger_before b) new.run.trigger)
+module _ (table : TableSeen) (id : ℕ) (t : TriggerContents) (mid new : AchievementRun) (c : Counts)
+    (long : length mid.run.trigger.hits ≡ trigger_hits t)
+    (steps : StepsItem table (Unlocks id t) (Achievement mid) (Achievement new)) (rested : TriggerRested t c mid new)
     (start : Start) (image : List ℕ) (has : AreValuesAt table.nodes table.values (first_frame start image)) where
   abbrev old_kept : TriggerKept
-  old_kept = trigger_before b
+  old_kept = mid.run.trigger
 
   abbrev new_kept : TriggerKept
   new_kept = new.run.trigger
+
+  -- what is owed by bits is owed by the hits before the step and after it
+  trigger_owes : (n : ℕ) → trigger_owed n c new ≡ kept_achievement new.earned (owed_trigger n old_kept.hits new_kept)
+  trigger_owes n =
+      ap (λ h. kept_achievement new.earned (record new_kept { hits = h }))
+      (ap (λ bits. owed_by n bits new_kept.hits) rested.bits ∙ counted_owes n old_kept.hits new_kept.hits)
 
   abbrev truths : List Bool
   truths = truths_at start (image ∷ []) (groups_of t)
@@ -148,14 +156,15 @@ module _ (table : TableSeen) (id : ℕ) (t : TriggerContents) (mid new : Achieve
       sym (achievement_again new.earned new_kept)
       ∙ ap opened_achievement (steps.kept start image has)
       ∙ achievement_again (is_earned (kept_run (Achievement mid))) (achievement_after start t (opened_achievement (kept_run (Achievement mid))) (image ∷ []))
-      ∙ ap (achievement_step t truths lefts) (achievement_again mid.earned mid.run.trigger ∙ sym noted.0)
+      ∙ ap (achievement_step t truths lefts) (achievement_again mid.earned mid.run.trigger)
 
   goes_on : (n : ℕ) → achievement_step t truths lefts (owed_trigger n old_kept.hits new_kept) ≡ owed_trigger (n + 1) old_kept.hits new_kept
-  goes_on n = achievement_goes_on t truths lefts old_kept new_kept room noted.1 stepped rests.state rests.measured rests.hits n
+  goes_on n = achievement_goes_on t truths lefts old_kept new_kept long rested.small stepped rested.rests.state rested.rests.measured rested.rests.hits n
 
-  pub achievement_starts : owed_run 0 (before.Achievement b) (Achievement new) ≡ kept_run (Achievement new)
+  pub achievement_starts : owed_run 0 (counts.Achievement c) (Achievement new) ≡ kept_run (Achievement new)
   achievement_starts =
-      ap (kept_achievement new.earned) (achievement_owes_nothing t truths lefts old_kept new_kept room noted.1 stepped rests.state rests.measured rests.hits)
+      trigger_owes 0
+      ∙ ap (kept_achievement new.earned) (achievement_owes_nothing t truths lefts old_kept new_kept long rested.small stepped rested.rests.state rested.rests.measured rested.rests.hits)
 
   module _ (start' : Start) (image' : List ℕ) (same : SeeSame InTrigger (first_frame start image) (first_frame start' image') (groups_of t)) (n : ℕ) where
     abbrev kept_now : TriggerKept
@@ -171,25 +180,28 @@ module _ (table : TableSeen) (id : ℕ) (t : TriggerContents) (mid new : Achieve
         ∙ ap (λ ts. achievement_step t ts lefts kept_now) same.truths
         ∙ goes_on n
 
-    kept_later : item_after start' (image' ∷ []) (achievement, owed_run n (before.Achievement b) (Achievement new)) ≡ owed_run (n + 1) (before.Achievement b) (Achievement new)
+    kept_later : item_after start' (image' ∷ []) (achievement, owed_run n (counts.Achievement c) (Achievement new)) ≡ owed_run (n + 1) (counts.Achievement c) (Achievement new)
     kept_later =
-        ap (kept_achievement (is_earned (kept_achievement new.earned kept_now))) later
+        ap (λ k. item_after start' (image' ∷ []) (achievement, k)) (trigger_owes n)
+        ∙ ap (kept_achievement (is_earned (kept_achievement new.earned kept_now))) later
         ∙ ap (OfAchievement (state_byte new_kept.state) new_kept.measured kept_then.hits) (once_more new.earned (is_triggered new_kept.state))
+        ∙ sym (trigger_owes (n + 1))
 
-    silent_later : item_events start' image' [] (achievement, owed_run n (before.Achievement b) (Achievement new)) ≡ []
+    silent_later : item_events start' image' [] (achievement, owed_run n (counts.Achievement c) (Achievement new)) ≡ []
     silent_later =
-        ap₂ (achievement_events id) (achievement_again new.earned kept_now) later ∙ achievement_silent id kept_now kept_then refl refl
+        ap (λ k. item_events start' image' [] (achievement, k)) (trigger_owes n)
+        ∙ ap₂ (achievement_events id) (achievement_again new.earned kept_now) later ∙ achievement_silent id kept_now kept_then refl refl
 
   told_now : run_events achievement (Achievement new) ≡ []
   told_now =
       let K = kept_run (Achievement mid) in
       steps.events start image has
       ∙ nothing_unless (is_earned K) (item_events start image []) (achievement, K)
-      (ap₂ (achievement_events id) (achievement_again mid.earned mid.run.trigger ∙ sym noted.0)
-      (ap (λ k. achievement_after start t k (image ∷ [])) (achievement_again mid.earned mid.run.trigger ∙ sym noted.0) ∙ sym stepped)
-      ∙ achievement_silent id old_kept new_kept rests.state rests.measured)
+      (ap₂ (achievement_events id) (achievement_again mid.earned mid.run.trigger)
+      (ap (λ k. achievement_after start t k (image ∷ [])) (achievement_again mid.earned mid.run.trigger) ∙ sym stepped)
+      ∙ achievement_silent id old_kept new_kept rested.rests.state rested.rests.measured)
 
-  pub achievement_rests_on : GoesOn table.nodes table.values achievement (before.Achievement b) (Achievement new)
+  pub achievement_rests_on : GoesOn table.nodes table.values achievement (counts.Achievement c) (Achievement new)
   achievement_rests_on = record {
     now = first_frame start image;
     at = has;
@@ -235,19 +247,27 @@ rows_many m kept fits =
     sym (length-map kept.values (λ (v : ValueKept). v.hits)) ∙ as_many (map (λ (v : ValueKept). v.hits) kept.values) m.values value_hits fits.hits
 
 -- boards
-module _ (table : TableSeen) (id : ℕ) (format : Format) (b : BoardContents) (mid new : BoardRun) (before_it : BoardBefore)
+module _ (table : TableSeen) (id : ℕ) (format : Format) (b : BoardContents) (mid new : BoardRun) (c : MemberCounts)
     (is : IsBoardRun table.nodes b mid) (is_new : IsBoardRun table.nodes b new)
-    (steps : StepsItem table (Ranks id format b) (Leaderboard mid) (Leaderboard new)) (noted : IsNoted (before.Leaderboard before_it) (Leaderboard mid))
-    (rests : BoardRests b (board_before before_it) (board_kept new))
+    (steps : StepsItem table (Ranks id format b) (Leaderboard mid) (Leaderboard new)) (rested : BoardRested b c mid new)
     (start : Start) (image : List ℕ) (has : AreValuesAt table.nodes table.values (first_frame start image)) where
   abbrev m : MemberContents
   m = board_member b
 
   abbrev old : BoardKept
-  old = board_before before_it
+  old = board_kept mid
 
   abbrev now : BoardKept
   now = board_kept new
+
+  abbrev owed_board : ℕ → BoardKept
+  owed_board n = record { state = now.state; member = owed_member n old.member now.member }
+
+  -- what is owed by bits is owed by the hits before the step and after it
+  board_owes : (n : ℕ) → board_owed n c new ≡ kept_board (owed_board n)
+  board_owes n =
+      ap (λ k. kept_board (record { state = now.state; member = k }))
+      (ap (λ bits. owed_member_by n bits now.member) rested.bits ∙ counted_owes_member n old.member now.member)
 
   abbrev h : History
   h = image ∷ []
@@ -255,17 +275,14 @@ module _ (table : TableSeen) (id : ℕ) (format : Format) (b : BoardContents) (m
   abbrev old_hits : List (List ℕ)
   old_hits = map (λ (v : ValueKept). v.hits) old.member.values
 
-  fits_mid : BoardFits b (board_kept mid)
-  fits_mid = member_shape table.nodes m mid.member is
-
   fits_new : BoardFits b now
   fits_new = member_shape table.nodes m new.member is_new
 
   fits_old : BoardFits b old
-  fits_old = subst (BoardFits b) (sym noted.0) fits_mid
+  fits_old = member_shape table.nodes m mid.member is
 
-  old_again : opened_board b (kept_board (board_kept mid)) ≡ old
-  old_again = board_again b (board_kept mid) fits_mid ∙ sym noted.0
+  old_again : opened_board b (kept_board old) ≡ old
+  old_again = board_again b old fits_old
 
   board_stepped : now ≡ board_next start b h old
   board_stepped =
@@ -287,7 +304,7 @@ module _ (table : TableSeen) (id : ℕ) (format : Format) (b : BoardContents) (m
       ∙ ap (λ s. running_values start m.values h old.state s old.member.values) (sym state_stepped)
 
   begins_none : begins old.state now.state ≡ false
-  begins_none = ap (begins old.state) rests.state ∙ stays_begins old.state
+  begins_none = ap (begins old.state) rested.rests.state ∙ stays_begins old.state
 
   values_run : is_running now.state ≡ true → now.member.values ≡ values_next start m.values h old.member.values
   values_run runs =
@@ -305,7 +322,7 @@ module _ (table : TableSeen) (id : ℕ) (format : Format) (b : BoardContents) (m
   -- the tracked number stays where an attempt runs
   tracked_same : is_started now.state ≡ true → tracked_number old ≡ tracked_number now
   tracked_same started =
-      let numbers = keep_numbers m.values old.member.values now.member.values (rests.values (started_runs now.state started)) in
+      let numbers = keep_numbers m.values old.member.values now.member.values (rested.rests.values (started_runs now.state started)) in
       tracked_by old.member.values now.member.values numbers
 
   -- nothing is owed at once
@@ -313,33 +330,33 @@ module _ (table : TableSeen) (id : ℕ) (format : Format) (b : BoardContents) (m
   values_start = by_run (is_running now.state) refl
     where
       by_run : (r : Bool) → is_running now.state ≡ r → owed_values 0 old_hits now.member.values ≡ now.member.values
-      by_run true runs = values_owe_nothing start h m.values old.member.values now.member.values fits_old.hits (values_run runs) noted.1.values (rests.values runs)
+      by_run true runs = values_owe_nothing start h m.values old.member.values now.member.values fits_old.hits (values_run runs) rested.small.values (rested.rests.values runs)
       by_run false waits = ap (owed_values 0 old_hits) (values_wait waits) ∙ values_stay 0 old.member.values ∙ sym (values_wait waits)
 
-  pub board_starts : owed_run 0 (before.Leaderboard before_it) (Leaderboard new) ≡ kept_run (Leaderboard new)
+  pub board_starts : owed_run 0 (counts.Leaderboard c) (Leaderboard new) ≡ kept_run (Leaderboard new)
   board_starts =
-      let tests = tests_owe_nothing start h m.tests old.member.tests now.member.tests fits_old.tests tests_stepped noted.1.tests rests.tests in
-      (λ i. kept_board (record { state = now.state; member = record { tests = tests i; values = values_start i } }))
+      let tests = tests_owe_nothing start h m.tests old.member.tests now.member.tests fits_old.tests tests_stepped rested.small.tests rested.rests.tests in
+      board_owes 0 ∙ (λ i. kept_board (record { state = now.state; member = record { tests = tests i; values = values_start i } }))
 
   module _ (start' : Start) (image' : List ℕ) (same : MemberSeesSame (first_frame start image) (first_frame start' image') m) (n : ℕ) where
     abbrev h' : History
     h' = image' ∷ []
 
     abbrev owes : BoardKept
-    owes = owed_board n old now
+    owes = owed_board n
 
     abbrev owes_more : BoardKept
-    owes_more = owed_board (n + 1) old now
+    owes_more = owed_board (n + 1)
 
     state_later : state_by now.state (tests_hold start' m.tests h' owes.member.tests) ≡ now.state
     state_later =
-        ap (state_by now.state) (tests_say_on (first_frame start image) (first_frame start' image') m.tests old.member.tests now.member.tests fits_old.tests same.tests tests_stepped noted.1.tests rests.tests n)
-        ∙ ap (λ s. state_by s (tests_hold start m.tests h old.member.tests)) rests.state
+        ap (state_by now.state) (tests_say_on (first_frame start image) (first_frame start' image') m.tests old.member.tests now.member.tests fits_old.tests same.tests tests_stepped rested.small.tests rested.rests.tests n)
+        ∙ ap (λ s. state_by s (tests_hold start m.tests h old.member.tests)) rested.rests.state
         ∙ sym state_stepped
 
     tests_later : tests_next start' m.tests h' owes.member.tests ≡ owes_more.member.tests
     tests_later =
-        tests_go_on (first_frame start image) (first_frame start' image') m.tests old.member.tests now.member.tests fits_old.tests same.tests tests_stepped noted.1.tests rests.tests n
+        tests_go_on (first_frame start image) (first_frame start' image') m.tests old.member.tests now.member.tests fits_old.tests same.tests tests_stepped rested.small.tests rested.rests.tests n
 
     values_later : running_values start' m.values h' now.state now.state owes.member.values ≡ owes_more.member.values
     values_later = by_run (is_running now.state) refl
@@ -347,7 +364,7 @@ module _ (table : TableSeen) (id : ℕ) (format : Format) (b : BoardContents) (m
         by_run : (r : Bool) → is_running now.state ≡ r → running_values start' m.values h' now.state now.state owes.member.values ≡ owes_more.member.values
         by_run true runs =
             (λ i. if runs i then values_next start' m.values h' (if stays_begins now.state i then no_values m.values else owes.member.values) else owes.member.values)
-            ∙ values_go_on (first_frame start image) (first_frame start' image') m.values old.member.values now.member.values fits_old.hits same.values (values_run runs) noted.1.values (rests.values runs) n
+            ∙ values_go_on (first_frame start image) (first_frame start' image') m.values old.member.values now.member.values fits_old.hits same.values (values_run runs) rested.small.values (rested.rests.values runs) n
         by_run false waits =
             ap (λ r. if r then values_next start' m.values h' (if begins now.state now.state then no_values m.values else owes.member.values) else owes.member.values) waits
             ∙ ap (owed_values n old_hits) (values_wait waits) ∙ values_stay n old.member.values
@@ -365,8 +382,8 @@ module _ (table : TableSeen) (id : ℕ) (format : Format) (b : BoardContents) (m
         })
         ∙ (λ i. record { state = now.state; member = record { tests = owes_more.member.tests; values = values_later i } })
 
-    board_kept_later : item_after start' h' (Ranks id format b, owed_run n (before.Leaderboard before_it) (Leaderboard new)) ≡ owed_run (n + 1) (before.Leaderboard before_it) (Leaderboard new)
-    board_kept_later = ap kept_board board_later
+    board_kept_later : item_after start' h' (Ranks id format b, owed_run n (counts.Leaderboard c) (Leaderboard new)) ≡ owed_run (n + 1) (counts.Leaderboard c) (Leaderboard new)
+    board_kept_later = ap (λ k. item_after start' h' (Ranks id format b, k)) (board_owes n) ∙ ap kept_board board_later ∙ sym (board_owes (n + 1))
 
     tracked_stays : tracked_number owes ≡ tracked_number now
     tracked_stays =
@@ -378,32 +395,33 @@ module _ (table : TableSeen) (id : ℕ) (format : Format) (b : BoardContents) (m
       steps.events start image has
       ∙ nothing_unless (is_earned K) (item_events start image []) (Ranks id format b, K)
       (ap₂ (board_events id format) old_again (ap (λ k. board_after start b k h) old_again ∙ sym board_stepped)
-      ∙ board_silent id format old now rests.state tracked_same)
+      ∙ board_silent id format old now rested.rests.state tracked_same)
 
-  pub board_rests_on : GoesOn table.nodes table.values (Ranks id format b) (before.Leaderboard before_it) (Leaderboard new)
+  pub board_rests_on : GoesOn table.nodes table.values (Ranks id format b) (counts.Leaderboard c) (Leaderboard new)
   board_rests_on = record {
     now = first_frame start image;
     at = has;
     kept = λ start' image' same n. board_kept_later start' image' same n;
     silent = λ start' image' same n.
-        ap₂ (board_events id format) (board_again b (owed_board n old now) (fits_owes start' image' same n)) (board_later start' image' same n)
-        ∙ board_silent id format (owed_board n old now) (owed_board (n + 1) old now) refl
+        ap (λ k. item_events start' image' [] (Ranks id format b, k)) (board_owes n)
+        ∙ ap₂ (board_events id format) (board_again b (owed_board n) (fits_owes start' image' same n)) (board_later start' image' same n)
+        ∙ board_silent id format (owed_board n) (owed_board (n + 1)) refl
         (λ runs. tracked_stays start' image' same n ∙ sym (tracked_stays start' image' same (n + 1)));
     told = told_by_board;
   }
 
--- an item that rested at a frame owes nothing at once, and goes on to rest
-pub item_rests : (table : TableSeen) (item : ItemContents) (b : ItemBefore) (mid new : ItemRun) → IsItemRun table.nodes item mid → IsItemRun table.nodes item new
-    → HasRoom item b → IsNoted b mid → StepsItem table item mid new → ItemRests item b new
+-- an item that rested at a step owes nothing at once, and goes on to rest
+pub item_rests : (table : TableSeen) (item : ItemContents) (c : ItemCounts) (mid new : ItemRun) → IsItemRun table.nodes item mid → IsItemRun table.nodes item new
+    → StepsItem table item mid new → Rested item c mid new
     → (start : Start) (image : List ℕ) → AreValuesAt table.nodes table.values (first_frame start image)
-    → (owed_run 0 b new ≡ kept_run new) × GoesOn table.nodes table.values item b new
-item_rests table (Unlocks id t) (before.Achievement b) (Achievement mid) (Achievement new) is is_new room noted steps rests start image has =
-    (achievement_starts table id t mid new b steps noted room rests start image has, achievement_rests_on table id t mid new b steps noted room rests start image has)
-item_rests table (Unlocks id t) (before.Leaderboard b) mid new is is_new room noted steps rests start image has = absurd room
-item_rests table (Unlocks id t) (before.Achievement b) (Leaderboard mid) new is is_new room noted steps rests start image has = absurd is
-item_rests table (Unlocks id t) (before.Achievement b) (Achievement mid) (Leaderboard new) is is_new room noted steps rests start image has = absurd is_new
-item_rests table (Ranks id format b) (before.Leaderboard room_of) (Leaderboard mid) (Leaderboard new) is is_new room noted steps rests start image has =
-    (board_starts table id format b mid new room_of is is_new steps noted rests start image has, board_rests_on table id format b mid new room_of is is_new steps noted rests start image has)
-item_rests table (Ranks id format b) (before.Achievement room_of) mid new is is_new room noted steps rests start image has = absurd room
-item_rests table (Ranks id format b) (before.Leaderboard room_of) (Achievement mid) new is is_new room noted steps rests start image has = absurd is
-item_rests table (Ranks id format b) (before.Leaderboard room_of) (Leaderboard mid) (Achievement new) is is_new room noted steps rests start image has = absurd is_new
+    → (owed_run 0 c new ≡ kept_run new) × GoesOn table.nodes table.values item c new
+item_rests table (Unlocks id t) (counts.Achievement c) (Achievement mid) (Achievement new) is is_new steps rested start image has =
+    (achievement_starts table id t mid new c is.hits steps rested start image has, achievement_rests_on table id t mid new c is.hits steps rested start image has)
+item_rests table (Unlocks id t) (counts.Leaderboard c) mid new is is_new steps rested start image has = absurd rested
+item_rests table (Unlocks id t) (counts.Achievement c) (Leaderboard mid) new is is_new steps rested start image has = absurd is
+item_rests table (Unlocks id t) (counts.Achievement c) (Achievement mid) (Leaderboard new) is is_new steps rested start image has = absurd is_new
+item_rests table (Ranks id format b) (counts.Leaderboard c) (Leaderboard mid) (Leaderboard new) is is_new steps rested start image has =
+    (board_starts table id format b mid new c is is_new steps rested start image has, board_rests_on table id format b mid new c is is_new steps rested start image has)
+item_rests table (Ranks id format b) (counts.Achievement c) mid new is is_new steps rested start image has = absurd rested
+item_rests table (Ranks id format b) (counts.Leaderboard c) (Achievement mid) new is is_new steps rested start image has = absurd is
+item_rests table (Ranks id format b) (counts.Leaderboard c) (Leaderboard mid) (Achievement new) is is_new steps rested start image has = absurd is_new

@@ -1,5 +1,5 @@
 -- The blocks of items as they are seen, written one after another.
-use Rattle.std.proofs.Common.{◌≡◌, ℕ, ◌+◌, ◌<◌, ◌≤◌, ◌^◌, Option, None, Some, List, [], ◌∷◌, ◌++◌, length, map, take, get_or, sum_by, refl, sym, ◌∙◌, ap, subst, arith, append_assoc, append-nil, length-append}
+use Rattle.std.proofs.Common.{◌≡◌, ℕ, ◌+◌, ◌<◌, ◌≤◌, ◌^◌, Bool, Option, None, Some, List, [], ◌∷◌, ◌++◌, length, map, take, get_or, sum_by, refl, sym, ◌∙◌, ap, subst, arith, append_assoc, append-nil, length-append}
 use Rattle.std.specs.List.{concat}
 use Rattle.std.proofs.lemmas.List.{length-map, get_or-map, take-map, take_all, take_more}
 use Rattle.std.proofs.lemmas.List.Sums.{sum_by-cons}
@@ -14,50 +14,56 @@ use Rattle.ra_progress.proofs.Blocks.{length_item}
 use Rattle.ra_member.specs.Members.{saved_hits, saved_numbers}
 use Rattle.ra_member.specs.MemberRuns.{kept_by}
 use Rattle.ra_member.proofs.GrowthLemmas.{weight_at}
-use Rattle.ra_schedule.specs.Before.{HaveOneShape, kept_before}
-use Rattle.ra_schedule.proofs.MembersRest.OwedRows.{saved_stay}
+use Rattle.ra_schedule.specs.Counted.{CountsFit}
+use Rattle.ra_schedule.specs.Counts.{counts_of}
+use Rattle.ra_schedule.proofs.MembersRest.Counted.{length-owed_by, saved_stay_by}
 use Rattle.ra_display.specs.Keeping.{PutsOver, PutsWords, seen_hits}
 use Rattle.ra_display.specs.LineRests.{seen_line}
-use Rattle.ra_display.proofs.Putting.{puts_both, seen_long}
+use Rattle.ra_display.proofs.Putting.{puts_both}
 use Rattle.ra_display.proofs.SavedLines.{hits_long}
 use Rattle.ra_meaning.specs.Openings.{kept_achievement}
 use Rattle.ra_items.specs.declared.achievement_run.AchievementRun.{AchievementRun}
 use Rattle.ra_items.specs.declared.board_run.BoardRun.{BoardRun}
 use Rattle.ra_items.specs.declared.item_run.ItemRun.{ItemRun}
 use Rattle.ra_items.specs.declared.item_run.ItemRun.TheVariants.{Achievement, Leaderboard}
-use Rattle.ra_items.specs.declared.rest.BoardBefore.{BoardBefore}
-use Rattle.ra_items.specs.declared.rest.ItemBefore.TheVariants as before
-use Rattle.ra_items.specs.declared.rest.TriggerBefore.{TriggerBefore}
+use Rattle.ra_schedule.specs.declared.member_counts.MemberCounts.{MemberCounts}
+use Rattle.ra_items.specs.declared.rest.ItemCounts.TheVariants as counts
+use Rattle.ra_schedule.specs.declared.counts.Counts.{Counts}
 use Rattle.ra_items.specs.Resting.{seen_run}
 use Rattle.ra_items.specs.Shapes.{board_run_shape, run_shape}
 use Rattle.ra_items.proofs.SaveLemmas.{achievement_kept_fits, board_kept_fits}
 
 -- what an achievement keeps, with its hits as they are seen
-abbrev pub seen_trigger : AchievementRun → TriggerBefore → Option ℕ → TriggerKept
-seen_trigger run b owed = record run.run.trigger { hits = seen_hits owed b.hits.items run.run.trigger.hits }
+abbrev pub seen_trigger : AchievementRun → Counts → Option ℕ → TriggerKept
+seen_trigger run b owed = record run.run.trigger { hits = seen_hits owed b.counted.items run.run.trigger.hits }
 
-pub seen_achievement : (run : AchievementRun) (b : TriggerBefore) (owed : Option ℕ) → kept_achievement run.earned (seen_trigger run b owed) ≡ seen_run (Achievement run) (before.Achievement b) owed
+pub seen_achievement : (run : AchievementRun) (b : Counts) (owed : Option ℕ) → kept_achievement run.earned (seen_trigger run b owed) ≡ seen_run (Achievement run) (counts.Achievement b) owed
 seen_achievement run b None = refl
 seen_achievement run b (Some n) = refl
 
-pub seen_board : (run : BoardRun) (b : BoardBefore) (owed : Option ℕ) → HaveOneShape (kept_before b.member) (kept_by run.member)
-    → OfBoard (board_byte run.board) (saved_hits (seen_line run.member b.member owed)) (saved_numbers (kept_by run.member)) ≡ seen_run (Leaderboard run) (before.Leaderboard b) owed
+pub seen_board : (run : BoardRun) (b : MemberCounts) (owed : Option ℕ) → CountsFit (counts_of b) (kept_by run.member)
+    → OfBoard (board_byte run.board) (saved_hits (seen_line run.member b owed)) (saved_numbers (kept_by run.member)) ≡ seen_run (Leaderboard run) (counts.Leaderboard b) owed
 seen_board run b None shape = refl
-seen_board run b (Some n) shape = ap (OfBoard (board_byte run.board) (saved_hits (seen_line run.member b.member (Some n)))) (sym (saved_stay n (kept_before b.member) (kept_by run.member) shape))
+seen_board run b (Some n) shape = ap (OfBoard (board_byte run.board) (saved_hits (seen_line run.member b (Some n)))) (sym (saved_stay_by n (counts_of b) (kept_by run.member) shape))
+
+-- there are as many hits with what is owed
+seen_long : (owed : Option ℕ) (counted : List Bool) (hits : List ℕ) → length (seen_hits owed counted hits) ≡ length hits
+seen_long None counted hits = refl
+seen_long (Some n) counted hits = length-owed_by n counted hits
 
 -- what is kept of an achievement with its hits as they are seen fits its shape
-pub achievement_fits : (run : AchievementRun) (b : TriggerBefore) (owed : Option ℕ) (three four : List ℕ) (second next : ℕ) → run.run.trigger.measured < 2 ^ 32 → PutsWords three four second next (seen_hits owed b.hits.items run.run.trigger.hits)
+pub achievement_fits : (run : AchievementRun) (b : Counts) (owed : Option ℕ) (three four : List ℕ) (second next : ℕ) → run.run.trigger.measured < 2 ^ 32 → PutsWords three four second next (seen_hits owed b.counted.items run.run.trigger.hits)
     → ItemFits (run_shape (Achievement run)) (kept_achievement run.earned (seen_trigger run b owed))
 achievement_fits run b owed three four second next small hits =
-    subst (λ n. ItemFits (shapes.Achievement n) (kept_achievement run.earned (seen_trigger run b owed))) (seen_long owed b.hits.items run.run.trigger.hits)
+    subst (λ n. ItemFits (shapes.Achievement n) (kept_achievement run.earned (seen_trigger run b owed))) (seen_long owed b.counted.items run.run.trigger.hits)
     (achievement_kept_fits run.earned (seen_trigger run b owed) small (record { as_many = refl; fit = hits.fit }))
 
 -- and so does what is kept of a board
-pub board_fits : (run : BoardRun) (b : BoardBefore) (owed : Option ℕ) (two three four : List ℕ) (first second next : ℕ) → HaveOneShape (kept_before b.member) (kept_by run.member)
-    → PutsWords two three first second (saved_hits (seen_line run.member b.member owed)) → PutsWords three four second next (saved_numbers (kept_by run.member))
-    → ItemFits (board_run_shape run) (OfBoard (board_byte run.board) (saved_hits (seen_line run.member b.member owed)) (saved_numbers (kept_by run.member)))
+pub board_fits : (run : BoardRun) (b : MemberCounts) (owed : Option ℕ) (two three four : List ℕ) (first second next : ℕ) → CountsFit (counts_of b) (kept_by run.member)
+    → PutsWords two three first second (saved_hits (seen_line run.member b owed)) → PutsWords three four second next (saved_numbers (kept_by run.member))
+    → ItemFits (board_run_shape run) (OfBoard (board_byte run.board) (saved_hits (seen_line run.member b owed)) (saved_numbers (kept_by run.member)))
 board_fits run b owed two three four first second next shape put behind =
-    board_kept_fits run (saved_hits (seen_line run.member b.member owed)) (saved_numbers (kept_by run.member)) (hits_long run.member b.member owed shape) refl put.fit behind.fit
+    board_kept_fits run (saved_hits (seen_line run.member b owed)) (saved_numbers (kept_by run.member)) (hits_long run.member b owed shape) refl put.fit behind.fit
 
 -- the blocks of items are as long as their shapes say
 pub blocks_long : (shapes : List ItemShape) (items : List KeptItem) → ItemsFit shapes items → length (concat (map item_bytes items)) ≡ sum_by item_length shapes

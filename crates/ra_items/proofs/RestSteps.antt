@@ -17,11 +17,11 @@ use Rattle.ra_schedule.proofs.MembersRest.Turns.{element, taken_begins}
 use Rattle.ra_set.specs.Contents.{ItemContents}
 use Rattle.ra_progress.specs.Contents.{KeptItem}
 use Rattle.ra_items.specs.declared.item_run.ItemRun.{ItemRun}
-use Rattle.ra_items.specs.declared.rest.ItemBefore.{ItemBefore}
+use Rattle.ra_items.specs.declared.rest.ItemCounts.{ItemCounts}
 use Rattle.ra_items.specs.declared.rests.Rests.{Rests}
 use Rattle.ra_items.specs.AllRuns.{AreItemRuns, all_events}
 use Rattle.ra_items.specs.ItemRuns.{IsItemRun}
-use Rattle.ra_items.specs.Resting.{GoesOn, HasRoom, ItemRests, ItemSeesSame, StepsRest, seen_run}
+use Rattle.ra_items.specs.Resting.{GoesOn, HasRoom, ItemSeesSame, StepsRest, seen_run}
 use Rattle.ra_items.specs.Rests.{AreRests, AreSteppedSeen, AreTold, HasPlace, IsSomeFrame, IsSteppedAt, StepsTold, due_below, events_at, events_of, maybe_events, seen_by}
 use Rattle.ra_items.specs.RunEvents.{run_events}
 use Rattle.ra_meaning.specs.Earned.{is_earned}
@@ -36,9 +36,9 @@ use Rattle.ra_items.proofs.SkippedItems.{still_on, skipped}
 -- what stands at the place of an item
 pub record ItemSpot : Type 0 where
   pub run : ItemRun
-  pub before : ItemBefore
+  pub before : ItemCounts
 
-abbrev pub spots : List ItemRun → Rests → ItemRun → ItemBefore → ℕ → ItemSpot
+abbrev pub spots : List ItemRun → Rests → ItemRun → ItemCounts → ℕ → ItemSpot
 spots runs rests r b k = record { run = get_or runs k r; before = get_or rests.each.items k b }
 
 abbrev pub spot_seen : ItemSpot → Option ℕ → KeptItem
@@ -51,7 +51,7 @@ SpotSteps table item old new s = StepsTold table item old new s.run × HasRoom i
 abbrev pub SpotOn : TableSeen → ItemContents → ItemSpot → Type 0
 SpotOn table item s = GoesOn table.nodes table.values item s.before s.run
 
-abbrev pub ItemTook : TableSeen → List ItemContents → ItemContents → List ItemRun → Rests → ItemRun → ItemBefore → ℕ → Place ItemSpot → Type 0
+abbrev pub ItemTook : TableSeen → List ItemContents → ItemContents → List ItemRun → Rests → ItemRun → ItemCounts → ℕ → Place ItemSpot → Type 0
 ItemTook table items item olds before r b =
     Took before.schedule ItemSpot KeptItem spot_seen (λ k. SpotSteps table (get_or items k item)) (λ k. SpotOn table (get_or items k item)) (spots olds before r b)
 
@@ -66,14 +66,14 @@ pub record IsFar (table : TableSeen) (items : List ItemContents) (olds : List It
   pub told : events_of items runs (take rests.count rests.stepped.items)
       ≡ events_of items runs (due_below start.readers.due at)
   pub along : IsAlong start rests.schedule
-  pub under_way : (item : ItemContents) (r : ItemRun) (b : ItemBefore)
+  pub under_way : (item : ItemContents) (r : ItemRun) (b : ItemCounts)
       → AreUnderWay ItemSpot (ItemTook table items item olds before r b) start (spots olds before r b) rests.schedule (spots runs rests r b) at
 
 -- an item that was stepped took the frame
 item_done : (table : TableSeen) → IsSomeFrame table → (item : ItemContents) (next : ℕ) (old : KeptItem) (s : ItemSpot) (rests : Bool) → IsItemRun table.nodes item s.run → HasRoom item s.before
-    → StepsRest table item old rests s.before s.run → (rests ≡ true → ItemRests item s.before s.run)
+    → StepsRest table item old rests s.before s.run
     → IsDone ItemSpot KeptItem spot_seen (SpotSteps table item) (SpotOn table item) next old (record { spot = s; since = if rests then Some next else None; due = not rests })
-item_done table frame item next old s rests is room steps keeps =
+item_done table frame item next old s rests is room steps =
     done_now ItemSpot KeptItem spot_seen (SpotSteps table item) (SpotOn table item) next old s rests (
       record {
         kept = λ start image has. steps.steps.kept start image has ∙ ap (λ k. item_after start (image ∷ []) (item, k)) steps.kept;
@@ -81,7 +81,7 @@ item_done table frame item next old s rests is room steps keeps =
       },
       room,
     )
-    (λ yes. item_rests table item s.before steps.mid s.run steps.is is room (steps.noted yes) steps.steps (keeps yes) frame.start frame.image frame.has)
+    (λ yes. item_rests table item s.before steps.mid s.run steps.is is steps.steps (steps.rested yes) frame.start frame.image frame.has)
 
 -- the places below one that are due, where none from another one on is
 due_gap : (due : List Bool) (from count : ℕ) → NoneSet due from (from + count) → due_below due (from + count) ≡ due_below due from
@@ -165,7 +165,7 @@ module _ (table : TableSeen) (frame : IsSomeFrame table) (items : List ItemConte
   abbrev Far : List ItemRun → Rests → ℕ → Type 0
   Far runs rests at = IsFar table items olds before start runs rests at
 
-  pub far_begins : Far olds (record { each = before.each; schedule = start; stepped = before.stepped; count = 0 }) 0
+  pub far_begins : Far olds (record { each = before.each; schedule = start; stepped = before.stepped; count = 0; rooms = before.rooms }) 0
   far_begins = record {
     runs_too = were_runs;
     each_many = were.many;
@@ -198,10 +198,10 @@ module _ (table : TableSeen) (frame : IsSomeFrame table) (items : List ItemConte
       a_run_here : ItemRun
       a_run_here = element runs place (omega (arith, here, runs_many))
 
-      a_before_here : ItemBefore
+      a_before_here : ItemCounts
       a_before_here = element rests.each.items place (omega (arith, here, far.each_many))
 
-      there_still : (item : ItemContents) (r : ItemRun) (b : ItemBefore) → place_of ItemSpot rests.schedule (spots runs rests r b) place ≡ place_of ItemSpot start (spots olds before r b) place
+      there_still : (item : ItemContents) (r : ItemRun) (b : ItemCounts) → place_of ItemSpot rests.schedule (spots runs rests r b) place ≡ place_of ItemSpot start (spots olds before r b) place
       there_still item r b =
           still_there ItemSpot (ItemTook table items item olds before r b) start (spots olds before r b) rests.schedule (spots runs rests r b) at place far.along (far.under_way item r b) first
 
@@ -218,32 +218,32 @@ module _ (table : TableSeen) (frame : IsSomeFrame table) (items : List ItemConte
       same_due k late = ap (λ (p : Place ItemSpot). p.due) ((far.under_way an_item a_run_here a_before_here).same k (inl late))
 
       module _ (news : List ItemRun) (after : Rests) (steps : IsSteppedAt table items place runs news rests after) where
-        new_spot : (r : ItemRun) (b : ItemBefore) → record { run = steps.run; before = steps.before } ≡ spots news after r b place
+        new_spot : (r : ItemRun) (b : ItemCounts) → record { run = steps.run; before = steps.before } ≡ spots news after r b place
         new_spot r b =
             let run = sym (ap (λ rs. get_or rs place r) steps.runs ∙ get_or-set_same runs place steps.run r (omega (arith, here, runs_many))) in
             let had = sym (ap (λ bs. get_or bs place b) steps.each ∙ get_or-set_same rests.each.items place steps.before b (omega (arith, here, far.each_many))) in
             (λ i. record { run = run i; before = had i })
 
-        other_spot : (r : ItemRun) (b : ItemBefore) (k : ℕ) → (k ≡ place → ⊥) → spots news after r b k ≡ spots runs rests r b k
+        other_spot : (r : ItemRun) (b : ItemCounts) (k : ℕ) → (k ≡ place → ⊥) → spots news after r b k ≡ spots runs rests r b k
         other_spot r b k other =
             let run = ap (λ rs. get_or rs k r) steps.runs ∙ get_or-set_other runs place k steps.run r other in
             let had = ap (λ bs. get_or bs k b) steps.each ∙ get_or-set_other rests.each.items place k steps.before b other in
             (λ i. record { run = run i; before = had i })
 
-        was : (item : ItemContents) (r : ItemRun) (b : ItemBefore)
+        was : (item : ItemContents) (r : ItemRun) (b : ItemCounts)
             → seen_run (get_or runs place r) (get_or rests.each.items place b) (owed_at rests.schedule place) ≡ seen_run (get_or olds place r) (get_or before.each.items place b) (owed_at before.schedule place)
         was item r b =
             let owed = still_owed ItemSpot (ItemTook table items item olds before r b) start (spots olds before r b) rests.schedule (spots runs rests r b) at place far.along (far.under_way item r b) first in
             let begun_owed : owed_at start place ≡ owed_at before.schedule place = (λ i. frames_since (begun.clock i) (slice_index_or (begun.since i) place None)) in
             (λ i. spot_seen (there_still item r b i).spot (owed i)) ∙ (λ i. seen_run (get_or olds place r) (get_or before.each.items place b) (begun_owed i))
 
-        done : (item : ItemContents) (r : ItemRun) (b : ItemBefore)
+        done : (item : ItemContents) (r : ItemRun) (b : ItemCounts)
             → ItemTook table items item olds before r b place (record { spot = spots news after r b place; since = if steps.rests then Some (next_count before.schedule.clock) else None; due = not steps.rests })
         done item r b =
             subst (λ (s : ItemSpot). ItemTook table items item olds before r b place (record { spot = s; since = if steps.rests then Some (next_count before.schedule.clock) else None; due = not steps.rests })) (new_spot r b)
             (item_done table frame (get_or items place item) (next_count before.schedule.clock) (seen_run (get_or olds place r) (get_or before.each.items place b) (owed_at before.schedule place))
             (record { run = steps.run; before = steps.before }) steps.rests (steps.is item) (steps.room item)
-            (subst (λ k. StepsRest table (get_or items place item) k steps.rests steps.before steps.run) (was item r b) (steps.steps item r b)) (λ yes. steps.keeps yes item))
+            (subst (λ k. StepsRest table (get_or items place item) k steps.rests steps.before steps.run) (was item r b) (steps.steps item r b)))
 
         abbrev shown : List ℕ
         shown = take rests.count rests.stepped.items
@@ -289,7 +289,7 @@ module _ (table : TableSeen) (frame : IsSomeFrame table) (items : List ItemConte
 
     -- at the end
     module _ (changed : AreChanged table values) (none : NoneSet rests.schedule.readers.due at (length rests.schedule.readers.due)) where
-      known : (k : ℕ) → k < length items → (item : ItemContents) (r : ItemRun) (b : ItemBefore) → ItemTook table items item olds before r b k (place_of ItemSpot rests.schedule (spots runs rests r b) k)
+      known : (k : ℕ) → k < length items → (item : ItemContents) (r : ItemRun) (b : ItemCounts) → ItemTook table items item olds before r b k (place_of ItemSpot rests.schedule (spots runs rests r b) k)
       known k within item r b =
           took_frame table values changed (length items) before.schedule start were.heard begun ItemSpot KeptItem spot_seen (λ k. SpotSteps table (get_or items k item)) (λ k. SpotOn table (get_or items k item)) (spots olds before r b)
           _ were.at_rest
@@ -300,11 +300,11 @@ module _ (table : TableSeen) (frame : IsSomeFrame table) (items : List ItemConte
       a_run : (k : ℕ) → k < length items → ItemRun
       a_run k within = element runs k (omega (arith, within, runs_many))
 
-      a_before : (k : ℕ) → k < length items → ItemBefore
+      a_before : (k : ℕ) → k < length items → ItemCounts
       a_before k within = element rests.each.items k (omega (arith, within, far.each_many))
 
       abbrev pub items_after : Rests
-      items_after = record { each = rests.each; schedule = record rests.schedule { clock = next_count rests.schedule.clock }; stepped = rests.stepped; count = rests.count }
+      items_after = record { each = rests.each; schedule = record rests.schedule { clock = next_count rests.schedule.clock }; stepped = rests.stepped; count = rests.count; rooms = rests.rooms }
 
       next_is : next_count before.schedule.clock ≡ next_count rests.schedule.clock
       next_is = sym (ap next_count (far.along.clock ∙ begun.clock))
@@ -336,12 +336,12 @@ module _ (table : TableSeen) (frame : IsSomeFrame table) (items : List ItemConte
       pub seen_after : AreSteppedSeen table items (seen_by olds before) (seen_by runs items_after) runs
       seen_after =
           all_steps ItemContents KeptItem ItemRun (StepsTold table) items (seen_by olds before) (seen_by runs items_after) runs
-          (seen_many ItemRun ItemBefore KeptItem seen_run (owed_at before.schedule) olds before.each.items (were.many ∙ sym olds_many) ∙ olds_many)
-          (seen_many ItemRun ItemBefore KeptItem seen_run (owed_at items_after.schedule) runs rests.each.items (far.each_many ∙ sym runs_many) ∙ runs_many) runs_many
+          (seen_many ItemRun ItemCounts KeptItem seen_run (owed_at before.schedule) olds before.each.items (were.many ∙ sym olds_many) ∙ olds_many)
+          (seen_many ItemRun ItemCounts KeptItem seen_run (owed_at items_after.schedule) runs rests.each.items (far.each_many ∙ sym runs_many) ∙ runs_many) runs_many
           (λ k within item old new said.
           let b = a_before k within in
-          let at_old = seen_at ItemRun ItemBefore KeptItem seen_run (owed_at before.schedule) k olds before.each.items said b old (omega (arith, within, olds_many)) (were.many ∙ sym olds_many) in
-          let at_new = seen_at ItemRun ItemBefore KeptItem seen_run (owed_at items_after.schedule) k runs rests.each.items said b new (omega (arith, within, runs_many)) (far.each_many ∙ sym runs_many) in
+          let at_old = seen_at ItemRun ItemCounts KeptItem seen_run (owed_at before.schedule) k olds before.each.items said b old (omega (arith, within, olds_many)) (were.many ∙ sym olds_many) in
+          let at_new = seen_at ItemRun ItemCounts KeptItem seen_run (owed_at items_after.schedule) k runs rests.each.items said b new (omega (arith, within, runs_many)) (far.each_many ∙ sym runs_many) in
           let later : spot_seen (spots runs rests said b k) (frames_since (next_count before.schedule.clock) (since_at rests.schedule k)) ≡ spot_seen (spots runs rests said b k) (owed_at items_after.schedule k) = ap (λ c. spot_seen (spots runs rests said b k) (frames_since c (since_at rests.schedule k))) next_is in
           transport (λ i. StepsTold table (get_or items k item) (sym at_old i) ((later ∙ sym at_new) i) (get_or runs k said)) (known k within item said b).steps.0)
 

@@ -10,7 +10,7 @@ use Rattle.ra_schedule.proofs.MembersRest.Woken.{member_through, through}
 use Rattle.ra_group.specs.declared.form.Form.TheVariants.{InTrigger}
 use Rattle.ra_schedule.specs.Inputs.{Instant}
 use Rattle.ra_items.specs.declared.item_run.ItemRun.{ItemRun}
-use Rattle.ra_items.specs.declared.rest.ItemBefore.{ItemBefore}
+use Rattle.ra_items.specs.declared.rest.ItemCounts.{ItemCounts}
 use Rattle.ra_meaning.specs.Earned.{is_earned}
 use Rattle.ra_meaning.specs.Order.{board_member}
 use Rattle.ra_meaning.specs.Play.{item_events, unless_earned}
@@ -26,7 +26,7 @@ module _ (one two three : Instant) where
       member_through one two three (board_member b) first second
 
 -- an item that goes on to rest by earlier values, where it reads the same still
-module _ (table : TableSeen) (values : List ℕ) (item : ItemContents) (b : ItemBefore) (run : ItemRun) (on : GoesOn table.nodes values item b run)
+module _ (table : TableSeen) (values : List ℕ) (item : ItemContents) (b : ItemCounts) (run : ItemRun) (on : GoesOn table.nodes values item b run)
     (comparisons : List Comparison) (readers : ReadersSeen) (reader : ℕ) (told : IsToldOf table.nodes comparisons readers item reader)
     (same : Agrees (length table.nodes) comparisons readers reader values table.values) where
   sees : (start : Start) (image : List ℕ) → AreValuesAt table.nodes table.values (first_frame start image) → ItemSeesSame on.now (first_frame start image) item

@@ -9,12 +9,12 @@ use Rattle.ra_items.proofs.keeping.keep_board.Goals as goal
 pub put_member_numbers-requires : goal.put_member_numbers-requires
 put_member_numbers-requires c =
     let run = c.args.run.now in
-    let b = c.args.before.now in
-    let many = hits_long run.member b.member c.args.owed c.requires.fits in
+    let b = c.args.counts.now in
+    let many = hits_long run.member b c.args.owed c.requires.fits in
     let state = c.put_byte-next.ensures in
     let put = c.put_member_hits-next.ensures.puts in
-    omega (arith, c.requires.room, state.next_is, state.long, put.next_is, put.long, length_words (saved_hits (seen_line run.member b.member c.args.owed)), many)
+    omega (arith, c.requires.room, state.next_is, state.long, put.next_is, put.long, length_words (saved_hits (seen_line run.member b c.args.owed)), many)
 
 pub returns-clause-fits : goal.returns-clause-fits
 returns-clause-fits c =
-    board_fits c.args.run.now c.args.before.now c.args.owed c.put_byte-next.new.row c.put_member_hits-next.new.row c.put_member_numbers.new.row c.put_byte-next.result c.put_member_hits-next.result c.put_member_numbers.result c.requires.fits c.put_member_hits-next.ensures c.put_member_numbers.ensures
+    board_fits c.args.run.now c.args.counts.now c.args.owed c.put_byte-next.new.row c.put_member_hits-next.new.row c.put_member_numbers.new.row c.put_byte-next.result c.put_member_hits-next.result c.put_member_numbers.result c.requires.fits c.put_member_hits-next.ensures c.put_member_numbers.ensures

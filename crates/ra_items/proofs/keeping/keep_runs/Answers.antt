@@ -5,12 +5,12 @@ use Rattle.ra_display.proofs.Putting.{puts_nothing}
 use Rattle.ra_schedule.specs.Schedules.{owed_at}
 use Rattle.ra_schedule.proofs.MembersRest.SeenAll.{seen_at}
 use Rattle.ra_items.specs.declared.item_run.ItemRun.{ItemRun}
-use Rattle.ra_items.specs.declared.rest.ItemBefore.{ItemBefore}
+use Rattle.ra_items.specs.declared.rest.ItemCounts.{ItemCounts}
 use Rattle.ra_items.specs.Resting.{FitsRun, seen_run}
 use Rattle.ra_items.specs.Rests.{seen_by}
 use Rattle.ra_items.specs.Shapes.{run_shape}
 use Rattle.ra_items.proofs.KeptItems.{block_more, block_room, blocks_all}
-use Rattle.ra_items.proofs.MadeRests.{fitting_at}
+use Rattle.ra_items.proofs.SeenItems.{fitting_at}
 use Rattle.ra_items.proofs.RestRuns.{seen_as_told}
 use Rattle.ra_items.proofs.SaveLemmas.{seen_fit_more}
 use Rattle.ra_items.proofs.SeenItems.{seen_long}
@@ -22,7 +22,7 @@ keep_item-next-requires-clause-fits c =
     let b = c.index.result.now in
     let run = c.index-runs-place.result in
     let at = fitting_at c.loop-place.place c.args.runs.now befores run b (omega (arith, c.loop-place-test.true)) c.requires.fit in
-    subst (λ (e : ItemBefore). FitsRun e run) (sym c.index.ensures) (subst (FitsRun (get_or befores c.loop-place.place b)) (sym c.index-runs-place.is) at)
+    subst (λ (e : ItemCounts). FitsRun e run) (sym c.index.ensures) (subst (FitsRun (get_or befores c.loop-place.place b)) (sym c.index-runs-place.is) at)
 
 pub keep_item-next-requires-clause-room : goal.keep_item-next-requires-clause-room
 keep_item-next-requires-clause-room c =
@@ -48,7 +48,7 @@ loop-place-preserved c =
     let one = seen_run run b c.owed-owed.result in
     let within : k < length kept = omega (arith, below, seen_long runs rests c.requires.many) in
     let there : get_or kept k one ≡ one =
-    seen_at ItemRun ItemBefore KeptItem seen_run (owed_at rests.schedule) k runs rests.each.items run b one below c.requires.many
+    seen_at ItemRun ItemCounts KeptItem seen_run (owed_at rests.schedule) k runs rests.each.items run b one below c.requires.many
     ∙ (λ i. seen_run (sym c.index-runs-place.is i) (sym c.index.ensures i) (owed_at rests.schedule k))
     ∙ sym (ap (seen_run run b) c.owed-owed.ensures ∙ seen_as_told run b (owed_at rests.schedule k)) in
     record {

@@ -1,26 +1,22 @@
-use Rattle.std.proofs.Common.{sym, ◌∙◌}
-use Rattle.std.proofs.lemmas.Bool.{true≢false}
-use Rattle.ra_set.specs.Contents.{item_contents}
-use Rattle.ra_items.proofs.rest.step_rest.Goals.{then-looked, else-looked}
+use Rattle.ra_condition.specs.Contents.{trigger_contents}
+use Rattle.ra_leaderboard.specs.Contents.{board_contents}
+use Rattle.ra_items.proofs.ItemLemmas.{achievement_item, board_item}
 use Rattle.ra_items.proofs.rest.step_rest.Goals as goal
+use Rattle.ra_items.proofs.rest.step_rest.Goals.{in-Achievement-Achievement-Achievement, in-Leaderboard-Leaderboard-Leaderboard}
 
-pub returns-then-looked-2-clause-steps : goal.returns-then-looked-2-clause-steps
-returns-then-looked-2-clause-steps c = elim c.if-looked.branch [
-  | then-looked w ↦ rw w.before-is (record {
-    mid = c.pay_owed.new.run;
-    is = c.pay_owed.ensures.run c.args.table.now.nodes (item_contents c.args.item.now) c.requires.run;
-    kept = c.pay_owed.ensures.kept;
-    noted = λ yes. w.note.ensures;
-    steps = c.step.ensures.steps;
-  })
-  | else-looked w ↦ absurd (true≢false (sym c.if-looked-2.true ∙ w.if-looked.false))
-]
+pub step_board-requires-clause-run : goal.step_board-requires-clause-run
+step_board-requires-clause-run c =
+    let h = c.in-Leaderboard-Leaderboard-Leaderboard in
+    rw (h.is-0, h.is-2) at c.requires.run
 
-pub returns-else-looked-2-clause-steps : goal.returns-else-looked-2-clause-steps
-returns-else-looked-2-clause-steps c = record {
-  mid = c.pay_owed.new.run;
-  is = c.pay_owed.ensures.run c.args.table.now.nodes (item_contents c.args.item.now) c.requires.run;
-  kept = c.pay_owed.ensures.kept;
-  noted = λ yes. absurd (true≢false (sym yes ∙ c.if-looked-2.false));
-  steps = c.step.ensures.steps;
-}
+pub returns-clause-steps : goal.returns-clause-steps
+returns-clause-steps c =
+    elim c.match-run.branch [
+      | in-Achievement-Achievement-Achievement w ↦
+          let h = w.in-Achievement-Achievement-Achievement in
+          rw (w.run-is, h.is-0, h.is-2) (achievement_item c.args.table.now h.id-2 (trigger_contents h.text) h.run' w.step_achievement.new.run w.step_achievement.ensures.steps)
+      | in-Leaderboard-Leaderboard-Leaderboard w ↦
+          let h = w.in-Leaderboard-Leaderboard-Leaderboard in
+          let old = rw (h.is-0, h.is-2) at c.requires.run in
+          rw (w.run-is, h.is-0, h.is-2) (board_item c.args.table.now.nodes c.args.table.now h.id-2 h.format-2 (board_contents h.text) h.run' w.step_board.new.run old w.step_board.ensures.steps)
+    ]

@@ -8,13 +8,13 @@ use Rattle.ra_progress.specs.Writing.{named_block}
 use Rattle.ra_progress.proofs.Blocks.{blocks_more}
 use Rattle.ra_member.proofs.GrowthLemmas.{weight_at}
 use Rattle.ra_items.specs.declared.item_run.ItemRun.{ItemRun}
-use Rattle.ra_items.specs.declared.rest.ItemBefore.{ItemBefore}
+use Rattle.ra_items.specs.declared.rest.ItemCounts.{ItemCounts}
 use Rattle.ra_items.specs.Resting.{FitsRun, seen_run}
 use Rattle.ra_schedule.specs.Schedules.{owed_at}
 use Rattle.ra_schedule.proofs.MembersRest.SeenAll.{seen_at}
 use Rattle.ra_items.specs.Rests.{seen_by}
 use Rattle.ra_items.specs.Shapes.{run_shape}
-use Rattle.ra_items.proofs.MadeRests.{fitting_at}
+use Rattle.ra_items.proofs.SeenItems.{fitting_at}
 use Rattle.ra_items.proofs.RestRuns.{seen_as_told}
 use Rattle.ra_items.proofs.SaveLemmas.{seen_fit_more}
 use Rattle.ra_items.proofs.SeenItems.{seen_long}
@@ -26,7 +26,7 @@ put_run-requires-clause-fits c =
     let b = c.index.result.now in
     let run = c.index-runs-k.result in
     let at = fitting_at c.loop-k.k c.args.runs.now befores run b (omega (arith, c.loop-k-test.true)) c.requires.fit in
-    subst (λ (e : ItemBefore). FitsRun e run) (sym c.index.ensures) (subst (FitsRun (get_or befores c.loop-k.k b)) (sym c.index-runs-k.is) at)
+    subst (λ (e : ItemCounts). FitsRun e run) (sym c.index.ensures) (subst (FitsRun (get_or befores c.loop-k.k b)) (sym c.index-runs-k.is) at)
 
 pub put_run-requires-clause-short : goal.put_run-requires-clause-short
 put_run-requires-clause-short c =
@@ -50,7 +50,7 @@ loop-k-preserved c =
     let blocks = map item_bytes kept in
     let more = blocks_more names blocks k [] (omega (arith, below, c.requires.names)) (omega (arith, below, many, length-map kept item_bytes)) in
     let there : get_or kept k one ≡ one =
-    seen_at ItemRun ItemBefore KeptItem seen_run (owed_at rests.schedule) k runs rests.each.items run b one below c.requires.many
+    seen_at ItemRun ItemCounts KeptItem seen_run (owed_at rests.schedule) k runs rests.each.items run b one below c.requires.many
     ∙ (λ i. seen_run (sym c.index-runs-k.is i) (sym c.index.ensures i) (owed_at rests.schedule k))
     ∙ sym (ap (seen_run run b) c.owed-owed.ensures ∙ seen_as_told run b (owed_at rests.schedule k)) in
     let here : get_or blocks k [] ≡ item_bytes one = get_or-map item_bytes kept k one [] (omega (arith, below, many)) ∙ ap item_bytes there in

@@ -10,7 +10,7 @@ use Rattle.ra_items.proofs.rests.Rests.step.Goals as goal
 
 -- the rests with another schedule
 abbrev with_schedule : Rests → ScheduleSeen → Rests
-with_schedule rests schedule = record { each = rests.each; schedule = schedule; stepped = rests.stepped; count = rests.count }
+with_schedule rests schedule = record { each = rests.each; schedule = schedule; stepped = rests.stepped; count = rests.count; rooms = rests.rooms }
 
 pub begin-requires : goal.begin-requires
 begin-requires c =
