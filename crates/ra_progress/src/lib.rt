@@ -13,6 +13,7 @@ mod laws;
 mod layout;
 mod named;
 mod names;
+mod numbered;
 mod numbers;
 mod order;
 mod own;

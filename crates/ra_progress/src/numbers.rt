@@ -10,6 +10,7 @@ ghost use Rattle.ra_progress.specs.Saying as spec;
 use crate::layout::{cell_count, prior_count};
 use crate::named::Named;
 use crate::names::name_at;
+use crate::numbered::Numbered;
 use crate::range::{fill_all, matches, order_of_names, put_all};
 use crate::relation::of_this_set;
 use crate::shape::Shape;
@@ -29,7 +30,12 @@ pub(crate) fn read_cells(numbers: &mut Vec<u32>, shape: &Shape, bytes: &[u8])
     } else if of_this_set(shape, bytes) {
         read_numbers(numbers, bytes, 33);
     } else {
-        read_named(numbers, shape, Named::Cell, bytes, 33, cell_count(bytes));
+        let entries = Numbered {
+            bytes,
+            at: 33,
+            count: cell_count(bytes),
+        };
+        read_named(numbers, shape, Named::Cell, &entries);
     }
 }
 
@@ -49,7 +55,12 @@ pub(crate) fn read_priors(numbers: &mut Vec<u32>, shape: &Shape, bytes: &[u8])
         if of_this_set(shape, bytes) {
             read_numbers(numbers, bytes, at);
         } else {
-            read_named(numbers, shape, Named::Prior, bytes, at, prior_count(bytes));
+            let entries = Numbered {
+                bytes,
+                at,
+                count: prior_count(bytes),
+            };
+            read_named(numbers, shape, Named::Prior, &entries);
         }
     }
 }
@@ -64,26 +75,19 @@ fn read_numbers(numbers: &mut [u32], bytes: &[u8], at: u64)
     }
 }
 
-/// Takes up the number of the last one of each name of the shape, of this many from a place on.
-fn read_named(
-    numbers: &mut Vec<u32>,
-    shape: &Shape,
-    named: Named,
-    bytes: &[u8],
-    at: u64,
-    count: u32,
-)
+/// Takes up the number of the last entry of each name of the shape.
+fn read_named(numbers: &mut Vec<u32>, shape: &Shape, named: Named, entries: &Numbered<'_>)
     requires usable { IsUsable shape.now }
     requires room { length_of_list numbers.old.items ≡ length_of_list (names_of named (shape_contents shape.now)) }
-    requires within { at + 20 * count ≤ length_of_list bytes.now }
-    ensures { numbers.new.items
-        ≡ map (λ name. spec.last_number name (layout.numbered_at bytes.now at count) 0) (names_of named (shape_contents shape.now)) }
+    requires within { entries.now.at + 20 * entries.now.count ≤ length_of_list entries.now.bytes.now }
+    ensures { numbers.new.items ≡ map (λ name. spec.last_number name
+        (layout.numbered_at entries.now.bytes.now entries.now.at entries.now.count) 0) (names_of named (shape_contents shape.now)) }
 {
     fill_all(numbers, 0);
     let order = order_of_names(shape, named);
-    for k in 0..count {
-        let place = at + 20 * u64::from(k);
-        let range = matches(shape, named, &name_at(bytes, place));
-        put_all(numbers, order, range, word_at(bytes, place + 16));
+    for k in 0..entries.count {
+        let place = entries.at + 20 * u64::from(k);
+        let range = matches(shape, named, &name_at(entries.bytes, place));
+        put_all(numbers, order, range, word_at(entries.bytes, place + 16));
     }
 }

@@ -10,5 +10,9 @@ use Rattle.ra_progress.proofs.numbers.read_named.Given as goal
 abbrev pub invariant-loop-k : goal.invariant-loop-k
 invariant-loop-k l = record {
   many : length l.numbers.items ≡ length (names_of l.named (shape_contents l.shape));
-  rest : (n : ℕ) → n < length (names_of l.named (shape_contents l.shape)) → last_number (named_by (names_of l.named (shape_contents l.shape)) n) (numbered_from l.bytes l.at l.k (l.count - l.k)) (slice_index l.numbers.items n) ≡ last_number (named_by (names_of l.named (shape_contents l.shape)) n) (numbered_at l.bytes l.at l.count) 0;
+  rest : (n : ℕ) → n < length (names_of l.named (shape_contents l.shape))
+      → last_number (named_by (names_of l.named (shape_contents l.shape)) n)
+      (numbered_from l.entries.bytes.now l.entries.at l.k (l.entries.count - l.k)) (slice_index l.numbers.items n)
+      ≡ last_number (named_by (names_of l.named (shape_contents l.shape)) n)
+      (numbered_at l.entries.bytes.now l.entries.at l.entries.count) 0;
 }
