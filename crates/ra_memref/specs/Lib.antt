@@ -10,6 +10,7 @@ pub mod Naming
 pub mod Numbers
 pub mod NumbersView
 pub mod Pass
+pub mod Plans
 pub mod Putting
 pub mod Seen
 pub mod Table

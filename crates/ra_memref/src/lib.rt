@@ -4,12 +4,16 @@
 #![tactic(auto)]
 
 mod agenda;
+mod cell_places;
+mod cell_view;
 mod changes;
 mod flag_row;
 mod flags;
+mod kept_cell;
 mod laws;
 mod layout;
 mod names;
+mod node_plan;
 mod numbers;
 mod table;
 mod watches;

@@ -2,24 +2,24 @@ ghost use Rattle.std.specs.Prelude.{◌≡◌, ◌+◌, ◌*◌, ◌<◌, ◌≤
 ghost use Rattle.ra_memory.specs.Image.{raw, IsReadWidth};
 ghost use Rattle.ra_operand.specs.Views.{mask_of};
 ghost use Rattle.ra_indirect.specs.declared.node.Node.TheVariants.{View};
-ghost use Rattle.ra_indirect.specs.Interned.{IsPool};
 ghost use Rattle.ra_indirect.specs.Pools.{node_at};
-ghost use Rattle.ra_memref.specs.Layout.{IsLaid};
 ghost use Rattle.ra_memref.specs.Marks.{read_of, reads_of};
 ghost use Rattle.ra_memref.specs.Pass.{prior_after, looked_in, priors_after, after_node, reads_at, IsWithin, IsAgreedIn, IsAgreedAt, IsAgreed, IsSizedFor, TakesFrame, earlier_at, value_at};
 ghost use Rattle.ra_memref.specs.Flags.{NoneSet, IsFirstSet};
 ghost use Rattle.ra_memref.specs.Changes.{AreNoted};
-ghost use Rattle.ra_memref.specs.Due.{earlier_by, AreDependents, AreIdle, IsQuiet, IsUnmarked};
+ghost use Rattle.ra_memref.specs.Due.{earlier_by, AreIdle};
+ghost use Rattle.ra_memref.specs.Plans.{AreSettled, IsNodePlan};
 ghost use Rattle.ra_memref.specs.Watches.{MarksWatchers, MarksOthers};
 ghost use Rattle.ra_text.specs.Words.{words_at};
 
+use crate::cell_view::CellView;
 use crate::changes::Changes;
 use crate::flags::Flags;
+use crate::node_plan::NodePlan;
 use crate::watches::{Watches, mark_listed};
 use ra_indirect::Node;
-use ra_links::Links;
 use ra_memory::Image;
-use ra_operand::{Kind, Size, compute, mask, transform, view};
+use ra_operand::{Kind, compute, mask, transform, view};
 use ra_text::{OutOfMemory, read_words};
 use std::alloc::Global;
 use std::marker::Model;
@@ -196,40 +196,33 @@ impl Numbers {
     ///
     /// It tells whether it took nodes in order. Then a node that is not due may be a cell that is to be due
     /// at the next frame.
-    pub fn take_frame<I: Image>(
+    pub(crate) fn take_frame<I: Image>(
         &mut self,
         image: &mut I,
-        nodes: &[Node],
-        slots: &[u32],
+        plan: &NodePlan<'_>,
         due: &mut Flags,
-        dependents: &Links,
         changes: &mut Changes,
-        all: bool,
     ) -> bool
-        requires pool { IsPool nodes.now }
-        requires laid { IsLaid nodes.now slots.now }
-        requires sized { IsSizedFor nodes.now self.old }
+        requires plan { IsNodePlan plan.now }
+        requires sized { IsSizedFor plan.now.nodes.now self.old }
         requires agreed { IsAgreed self.old (I.bytes image.old) }
+        requires dues { length due.old ≡ length plan.now.nodes.now }
+        requires idle { plan.now.all ≡ false → AreIdle plan.now.nodes.now due.old self.old plan.now.slots.now }
+        requires room { changes.old.room ≡ length plan.now.nodes.now }
 
-        requires few { length nodes.now < 2 ^ 30 }
-        requires dues { length due.old ≡ length nodes.now }
-        requires dependents { AreDependents nodes.now (length nodes.now) dependents.now }
-        requires idle { all ≡ false → AreIdle nodes.now due.old self.old slots.now }
-        requires room { changes.old.room ≡ length nodes.now }
-
-        ensures taken { TakesFrame nodes.now self.old self.new (I.bytes image.old) }
-        ensures idle { result ≡ false → AreIdle nodes.now due.new self.new slots.now }
-        ensures settled { result ≡ true → (n : ℕ) → n < length nodes.now → slice_index_or due.new n true ≡ false
-            → earlier_by (node_at nodes.now n) self.new slots.now n ≡ value_at self.new n
-            → IsQuiet (node_at nodes.now n) self.new slots.now n × IsUnmarked (node_at nodes.now n) self.new (slice_index slots.now n) }
+        ensures taken { TakesFrame plan.now.nodes.now self.old self.new (I.bytes image.old) }
+        ensures idle { result ≡ false → AreIdle plan.now.nodes.now due.new self.new plan.now.slots.now }
+        ensures settled { result ≡ true → AreSettled plan.now due.new self.new }
         ensures dues { length due.new ≡ length due.old }
-        ensures changed { AreNoted (length nodes.now) (length nodes.now) self.old.values self.new.values changes.new.listed }
+        ensures changed { AreNoted (length plan.now.nodes.now) (length plan.now.nodes.now) self.old.values self.new.values
+            changes.new.listed }
         ensures room { changes.new.room ≡ changes.old.room }
 
         ensures bytes { I.bytes image.new ≡ I.bytes image.old }
         ensures counter { I.counter image.new ≡ I.counter image.old }
         ensures reads { I.reads image.new ≡ I.reads image.old + reads_of self.old.watches.marked self.old.watches.places self.new.watches.places }
     {
+        let (nodes, slots, all) = (plan.nodes, plan.slots, plan.all);
         changes.clear();
         let mut left = nodes.len() / SHARE;
         let mut at = 0;
@@ -242,7 +235,7 @@ impl Numbers {
                 due.clear_from(at);
                 break;
             }
-            let changed = self.take_due(image, nodes, slots, due, dependents, number);
+            let changed = self.take_due(image, plan, due, number);
             changes.note(number as u32, changed);
             at = number + 1;
             left -= usize::from(changed);
@@ -288,35 +281,34 @@ impl Numbers {
     fn take_due<I: Image>(
         &mut self,
         image: &mut I,
-        nodes: &[Node],
-        slots: &[u32],
+        plan: &NodePlan<'_>,
         due: &mut Flags,
-        dependents: &Links,
         number: usize,
     ) -> bool
-        requires pool { IsPool nodes.now }
-        requires laid { IsLaid nodes.now slots.now }
-        requires sized { IsSizedFor nodes.now self.old }
-        requires few { length nodes.now < 2 ^ 30 }
-        requires dues { length due.old ≡ length nodes.now }
-        requires dependents { AreDependents nodes.now (length nodes.now) dependents.now }
-        requires idle { AreIdle nodes.now due.old self.old slots.now }
-        requires here { number < length nodes.now }
-        requires agreed { IsAgreedAt (node_at nodes.now number) self.old (I.bytes image.old) (slice_index slots.now number) }
+        requires plan { IsNodePlan plan.now }
+        requires sized { IsSizedFor plan.now.nodes.now self.old }
+        requires dues { length due.old ≡ length plan.now.nodes.now }
+        requires idle { AreIdle plan.now.nodes.now due.old self.old plan.now.slots.now }
+        requires here { number < length plan.now.nodes.now }
+        requires agreed { IsAgreedAt (node_at plan.now.nodes.now number) self.old (I.bytes image.old)
+            (slice_index plan.now.slots.now number) }
 
-        ensures taken { self.new ≡ after_node (node_at nodes.now number) self.old (I.bytes image.old) slots.now number }
-        ensures idle { AreIdle nodes.now due.new self.new slots.now }
+        ensures taken { self.new
+            ≡ after_node (node_at plan.now.nodes.now number) self.old (I.bytes image.old) plan.now.slots.now number }
+        ensures idle { AreIdle plan.now.nodes.now due.new self.new plan.now.slots.now }
         ensures dues { length due.new ≡ length due.old }
         ensures changed { result ≡ not (value_at self.old number == value_at self.new number) }
 
         ensures bytes { I.bytes image.new ≡ I.bytes image.old }
         ensures counter { I.counter image.new ≡ I.counter image.old }
-        ensures reads { I.reads image.new ≡ I.reads image.old + reads_at (node_at nodes.now number) self.old (slice_index slots.now number) }
+        ensures reads { I.reads image.new ≡ I.reads image.old
+            + reads_at (node_at plan.now.nodes.now number) self.old (slice_index plan.now.slots.now number) }
     {
+        let (nodes, slots) = (plan.nodes, plan.slots);
         let outcome = self.follow(image, nodes[number], slots, number);
         due.put(number, outcome.again);
         if outcome.seen {
-            mark_listed(dependents, due, number as u32);
+            mark_listed(plan.dependents, due, number as u32);
         }
         outcome.changed
     }
@@ -371,9 +363,9 @@ impl Numbers {
         }
     }
 
-    /// Takes up one node of the pass. `ALL` tells the two passes apart, so that each has a function of its own, which the
-    /// compiler puts in place.
-    pub fn take_node<I: Image, const ALL: bool>(
+    // Takes up one node of the pass. `ALL` tells the two passes apart, so that each has a function of its own, which the
+    // compiler puts in place.
+    fn take_node<I: Image, const ALL: bool>(
         &mut self,
         image: &mut I,
         node: Node,
@@ -402,7 +394,8 @@ impl Numbers {
                 self.read_cell::<I, ALL>(image, slots[number] as usize, place, width)
             }
             Node::View { kind, size, cell } => {
-                let looked = self.looked_at::<ALL>(kind, size, slots, cell as usize, number);
+                let cell = cell as usize;
+                let looked = self.looked_at::<ALL>(CellView { kind, size, cell }, slots, number);
                 transform(kind, size, view(size, looked))
             }
             Node::Arith { op, left, right } => {
@@ -450,21 +443,17 @@ impl Numbers {
     }
 
     // The number that a view of the cell looks at, which moves the prior where it is one.
-    fn looked_at<const ALL: bool>(
-        &mut self,
-        kind: Kind,
-        size: Size,
-        slots: &[u32],
-        cell: usize,
-        number: usize,
-    ) -> u32
-        requires within { IsWithin (View kind size cell) self.old slots.now number }
+    fn looked_at<const ALL: bool>(&mut self, seen: CellView, slots: &[u32], number: usize) -> u32
+        requires within { IsWithin (View seen.kind seen.size seen.cell) self.old slots.now number }
         requires here { number < length slots.now }
         requires slots { length slots.now ≡ length self.old.values }
 
-        ensures looked { result ≡ looked_in kind self.old (mask_of size) (slice_index slots.now number) (slice_index slots.now cell) cell }
-        ensures taken { self.new ≡ record self.old { priors = priors_after (View kind size cell) self.old slots.now number } }
+        ensures looked { result ≡ looked_in seen.kind self.old (mask_of seen.size) (slice_index slots.now number)
+            (slice_index slots.now seen.cell) seen.cell }
+        ensures taken { self.new
+            ≡ record self.old { priors = priors_after (View seen.kind seen.size seen.cell) self.old slots.now number } }
     {
+        let CellView { kind, size, cell } = seen;
         let cell_slot = slots[cell] as usize;
         match kind {
             Kind::Delta => self.earlier[cell_slot],

@@ -4,6 +4,7 @@ ghost use Rattle.ra_indirect.specs.Interned.{IsPool};
 use crate::agenda::{Agenda, gather};
 use crate::changes::Changes;
 use crate::layout::{lay_out, widths_of};
+use crate::node_plan::NodePlan;
 use crate::numbers::Numbers;
 use crate::watches::Watches;
 use ra_indirect::{Node, Pool};
@@ -146,15 +147,15 @@ impl Table {
             &mut self.numbers,
             all,
         );
-        let in_order = self.numbers.take_frame(
-            image,
-            &self.nodes,
-            &self.slots,
-            &mut self.agenda.due,
-            &self.agenda.dependents,
-            &mut self.changes,
+        let plan = NodePlan {
+            nodes: &self.nodes,
+            slots: &self.slots,
+            dependents: &self.agenda.dependents,
             all,
-        );
+        };
+        let in_order = self
+            .numbers
+            .take_frame(image, &plan, &mut self.agenda.due, &mut self.changes);
         self.agenda.all = in_order
             && self
                 .numbers

@@ -7,7 +7,9 @@ ghost use Rattle.ra_memref.specs.Marks.{page_of};
 ghost use Rattle.ra_memref.specs.Marking as spec;
 ghost use Rattle.ra_memref.specs.Marking.{is_at, is_other};
 
+use crate::cell_places::CellPlaces;
 use crate::flags::Flags;
+use crate::kept_cell::KeptCell;
 use ra_links::Links;
 use ra_memory::Image;
 use ra_text::OutOfMemory;
@@ -158,8 +160,11 @@ impl Watches {
         let first = at / PAGE;
         let end = (at + count - 1) / PAGE + 1;
         if self.listed != self.size {
-            let (places, widths) = (&self.places, &self.widths);
-            mark_watchers(&mut self.marks, places, widths, self.size, first, end);
+            let cells = CellPlaces {
+                places: &self.places,
+                widths: &self.widths,
+            };
+            mark_watchers(&mut self.marks, &cells, self.size, first, end);
             return;
         }
         for page in first..end {
@@ -180,24 +185,15 @@ impl Watches {
         if self.all {
             return;
         }
-        let (places, widths) = (&self.places, &self.widths);
+        let cells = CellPlaces {
+            places: &self.places,
+            widths: &self.widths,
+        };
         let anew = match self.marks.next_from(0) {
-            Some(_) => mark_others::<I, true>(
-                image,
-                &mut self.marks,
-                &self.order,
-                places,
-                widths,
-                numbers,
-            ),
-            None => mark_others::<I, false>(
-                image,
-                &mut self.marks,
-                &self.order,
-                places,
-                widths,
-                numbers,
-            ),
+            Some(_) => {
+                mark_others::<I, true>(image, &mut self.marks, &self.order, &cells, numbers)
+            }
+            None => mark_others::<I, false>(image, &mut self.marks, &self.order, &cells, numbers),
         };
         self.seen = self.seen.saturating_add(anew);
     }
@@ -243,15 +239,16 @@ pub fn mark_listed(lists: &Links, marks: &mut Flags, list: u32)
 }
 
 // Marks the cells that watch one of the pages from the first one on and before the end.
-fn mark_watchers(marks: &mut Flags, places: &[u32], widths: &[u8], size: u32, first: u32, end: u32)
-    requires places { length places.now ≡ length marks.old }
-    requires widths { length widths.now ≡ length marks.old }
-    requires wide { (k : ℕ) → k < length marks.old → IsReadWidth (slice_index widths.now k) }
+fn mark_watchers(marks: &mut Flags, cells: &CellPlaces<'_>, size: u32, first: u32, end: u32)
+    requires places { length cells.now.places.now ≡ length marks.old }
+    requires widths { length cells.now.widths.now ≡ length marks.old }
+    requires wide { (k : ℕ) → k < length marks.old → IsReadWidth (slice_index cells.now.widths.now k) }
     ensures long { length marks.new ≡ length marks.old }
     ensures marked { (k : ℕ) → k < length marks.old → slice_index_or marks.new k true
         ≡ (slice_index_or marks.old k true
-        || watches_between size first end (slice_index places.now k) (slice_index widths.now k)) }
+        || watches_between size first end (slice_index cells.now.places.now k) (slice_index cells.now.widths.now k)) }
 {
+    let (places, widths) = (cells.places, cells.widths);
     for cell in 0..places.len() {
         let watched = is_watcher(size, first, end, places[cell], widths[cell]);
         mark(marks, cell, watched);
@@ -315,29 +312,33 @@ fn mark_others<I: Image, const SOME: bool>(
     image: &mut I,
     marks: &mut Flags,
     order: &[u32],
-    places: &[u32],
-    widths: &[u8],
+    cells: &CellPlaces<'_>,
     numbers: &[u32],
 ) -> usize
     requires some { SOME ≡ false → NoneSet marks.old 0 (length marks.old) }
     requires order { IsOrder (length marks.old) order.now }
-    requires places { length places.now ≡ length marks.old }
-    requires widths { length widths.now ≡ length marks.old }
+    requires places { length cells.now.places.now ≡ length marks.old }
+    requires widths { length cells.now.widths.now ≡ length marks.old }
     requires numbers { length numbers.now ≡ length marks.old }
-    requires wide { (k : ℕ) → k < length marks.old → IsReadWidth (slice_index widths.now k) }
+    requires wide { (k : ℕ) → k < length marks.old → IsReadWidth (slice_index cells.now.widths.now k) }
     ensures long { length marks.new ≡ length marks.old }
     ensures marked { (k : ℕ) → k < length marks.old → slice_index_or marks.new k true
-        ≡ (slice_index_or marks.old k true
-        || is_other (I.bytes image.old) (slice_index widths.now k) (slice_index places.now k) (slice_index numbers.now k)) }
+        ≡ (slice_index_or marks.old k true || is_other (I.bytes image.old) (slice_index cells.now.widths.now k)
+        (slice_index cells.now.places.now k) (slice_index numbers.now k)) }
     ensures reads { I.reads image.new ≡ I.reads image.old + count_by not marks.old }
     ensures bytes { I.bytes image.new ≡ I.bytes image.old }
     ensures counter { I.counter image.new ≡ I.counter image.old }
 {
+    let (places, widths) = (cells.places, cells.widths);
     let mut anew: usize = 0;
     for next in order {
         let cell = *next as usize;
-        let (place, width, number) = (places[cell], widths[cell], numbers[cell]);
-        if mark_other::<I, SOME>(image, marks, cell, place, width, number) {
+        let kept = KeptCell {
+            place: places[cell],
+            width: widths[cell],
+            number: numbers[cell],
+        };
+        if mark_other::<I, SOME>(image, marks, cell, kept) {
             anew = anew.saturating_add(1);
         }
     }
@@ -351,16 +352,14 @@ fn mark_other<I: Image, const MAY_BE: bool>(
     image: &mut I,
     marks: &mut Flags,
     cell: usize,
-    place: u32,
-    width: u8,
-    number: u32,
+    kept: KeptCell,
 ) -> bool
     requires may_be { MAY_BE ≡ false → slice_index_or marks.old cell true ≡ false }
     requires cell { cell < length marks.old }
-    requires wide { IsReadWidth width }
+    requires wide { IsReadWidth kept.width }
     ensures long { length marks.new ≡ length marks.old }
     ensures here { slice_index_or marks.new cell true
-        ≡ (slice_index_or marks.old cell true || is_other (I.bytes image.old) width place number) }
+        ≡ (slice_index_or marks.old cell true || is_other (I.bytes image.old) kept.width kept.place kept.number) }
     ensures others { (k : ℕ) → k ≢ cell → slice_index_or marks.new k true ≡ slice_index_or marks.old k true }
     ensures reads { I.reads image.new ≡ I.reads image.old + one_unmarked marks.old cell }
     ensures bytes { I.bytes image.new ≡ I.bytes image.old }
@@ -369,7 +368,7 @@ fn mark_other<I: Image, const MAY_BE: bool>(
     if MAY_BE && marks.is_set(cell) {
         return false;
     }
-    if image.read(place, width) == number {
+    if image.read(kept.place, kept.width) == kept.number {
         return false;
     }
     marks.put(cell, true);

@@ -4,4 +4,6 @@ use Rattle.ra_memref.proofs.Looking.{AreLooked}
 use Rattle.ra_memref.proofs.watches.mark_watchers.Given as goal
 
 abbrev pub invariant-loop-cell : goal.invariant-loop-cell
-invariant-loop-cell l = AreLooked l.initial.marks l.marks (λ k. watches_between l.size l.first l.end (slice_index l.places k) (slice_index l.widths k)) l.cell
+invariant-loop-cell l = AreLooked l.initial.marks l.marks
+    (λ k. watches_between l.size l.first l.end (slice_index l.cells.places.now k)
+    (slice_index l.cells.widths.now k)) l.cell

@@ -7,20 +7,23 @@ use Rattle.ra_memref.proofs.numbers.Numbers.take_due.Goals as goal
 
 pub follow-outcome-requires-clause-within : goal.follow-outcome-requires-clause-within
 follow-outcome-requires-clause-within g c =
-    node_within c.args.nodes.now c.requires.pool c.args.slots.now c.requires.laid c.args.number c.requires.here
-    c.args.self.now c.requires.sized (node_at c.args.nodes.now c.args.number) refl
+    node_within c.args.plan.now.nodes.now c.requires.plan.pool c.args.plan.now.slots.now c.requires.plan.laid
+    c.args.number c.requires.here
+    c.args.self.now c.requires.sized (node_at c.args.plan.now.nodes.now c.args.number) refl
 
 pub returns-then-outcome-clause-idle : goal.returns-then-outcome-clause-idle
 returns-then-outcome-clause-idle g c =
     let e = c.follow-outcome.ensures in
     let bytes = g.I.Image.bytes c.args.image.now in
-    idle_more c.args.nodes.now c.requires.pool c.args.slots.now c.requires.laid bytes c.args.number c.requires.here
+    idle_more c.args.plan.now.nodes.now c.requires.plan.pool c.args.plan.now.slots.now c.requires.plan.laid bytes
+    c.args.number c.requires.here
     c.args.self.now c.follow-outcome.new.self c.requires.sized
-    (takes_node (node_at c.args.nodes.now c.args.number) c.args.slots.now bytes c.args.number c.args.self.now
+    (takes_node (node_at c.args.plan.now.nodes.now c.args.number) c.args.plan.now.slots.now bytes c.args.number
+    c.args.self.now
     c.follow-outcome.new.self e.taken)
     c.follow-outcome.result.again e.again c.args.due.now c.mark_listed.new.marks c.requires.dues
-    (marked_seen c.args.nodes.now c.args.number _ c.follow-outcome.result.again c.args.due.now
-    c.mark_listed.new.marks c.requires.dues c.args.dependents.now c.requires.dependents
+    (marked_seen c.args.plan.now.nodes.now c.args.number _ c.follow-outcome.result.again c.args.due.now
+    c.mark_listed.new.marks c.requires.dues c.args.plan.now.dependents.now c.requires.plan.dependents
     (rw c.put.ensures at c.mark_listed.ensures.marked))
     c.requires.idle
 
@@ -28,12 +31,14 @@ pub returns-else-outcome-clause-idle : goal.returns-else-outcome-clause-idle
 returns-else-outcome-clause-idle g c =
     let e = c.follow-outcome.ensures in
     let bytes = g.I.Image.bytes c.args.image.now in
-    rw c.put.ensures (idle_more c.args.nodes.now c.requires.pool c.args.slots.now c.requires.laid bytes c.args.number
+    rw c.put.ensures (idle_more c.args.plan.now.nodes.now c.requires.plan.pool c.args.plan.now.slots.now
+    c.requires.plan.laid bytes c.args.number
     c.requires.here c.args.self.now c.follow-outcome.new.self c.requires.sized
-    (takes_node (node_at c.args.nodes.now c.args.number) c.args.slots.now bytes c.args.number c.args.self.now
+    (takes_node (node_at c.args.plan.now.nodes.now c.args.number) c.args.plan.now.slots.now bytes c.args.number
+    c.args.self.now
     c.follow-outcome.new.self e.taken)
     c.follow-outcome.result.again e.again c.args.due.now
     (slice_set c.args.due.now c.args.number c.follow-outcome.result.again) c.requires.dues
-    (marked_unseen c.args.nodes.now c.args.number _ c.follow-outcome.result.again c.args.due.now
+    (marked_unseen c.args.plan.now.nodes.now c.args.number _ c.follow-outcome.result.again c.args.due.now
     (sym e.seen ∙ c.if-outcome.false))
     c.requires.idle)
