@@ -49,6 +49,11 @@ TakesSlot (View Prior size c) places places' masks masks' slot =
     (places' ≡ places) × Interns masks masks' (record { cell = c; mask = mask_of size }) slot
 TakesSlot _ places places' masks masks' slot = (places' ≡ places) × (masks' ≡ masks)
 
+-- the mask that a node tracks stands among the masks, last where it is new, and no other is new
+abbrev pub NotesMask : Node → (masks masks' : List TrackedMask) → Type 0
+NotesMask (View Prior size c) masks masks' = (slot : ℕ) × Interns masks masks' (record { cell = c; mask = mask_of size }) slot
+NotesMask _ masks masks' = masks' ≡ masks
+
 -- the tracked mask that a mask of a node's cell stands for
 abbrev pub tracked_of_mask : List Node → TrackedMask → Tracked
 tracked_of_mask nodes m = record { cell = cell_there (spelled_at (spelled_by nodes) m.cell); mask = m.mask }

@@ -9,7 +9,7 @@ ghost use Rattle.ra_memref.specs.Names as spec;
 ghost use Rattle.ra_memref.specs.Names.{tracked_name, name_with, NamesBelow};
 ghost use Rattle.ra_memref.specs.Naming.{wanted_after, AreWanted, NameCells};
 
-use crate::layout::{TrackedMask, lay_out};
+use crate::layout::{TrackedMask, masks_of};
 use crate::table::nodes_of;
 use md5::{Digest, Md5};
 use ra_indirect::{Node, Pool};
@@ -123,8 +123,8 @@ fn mask_names(
     requires names { NameCells nodes.now names.now }
     ensures { IfOk result (λ priors. priors.items ≡ map tracked_name (tracked_of nodes.now)) }
 {
-    let layout = lay_out(alloc, nodes)?;
-    names_of_masks(alloc, layout.masks.as_slice(), names)
+    let masks = masks_of(alloc, nodes)?;
+    names_of_masks(alloc, masks.as_slice(), names)
 }
 
 // The names of masks of cells, from the names of these.
