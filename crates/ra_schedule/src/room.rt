@@ -1,6 +1,6 @@
 //! Room for what a member keeps before a step, one for all members of a set: docs/INTERNALS.md, "Members at rest".
 
-ghost use Rattle.std.specs.Prelude.{◌≡◌, true, length, map, take};
+ghost use Rattle.std.specs.Prelude.{◌≡◌, [], true, length, map, take, OnOk};
 ghost use Rattle.ra_member.specs.MemberRuns.{kept_by};
 ghost use Rattle.ra_schedule.specs.Counts.{Holds, value_held};
 ghost use Rattle.ra_schedule.specs.Owing.{AreSmall, AreTestsSmall, AreValuesSmall};
@@ -26,7 +26,10 @@ pub struct Room {
 
 impl Room {
     /// No room yet.
-    pub fn new(alloc: Global) -> Room {
+    pub fn new(alloc: Global) -> Room
+        ensures tests { result.tests.items ≡ [] }
+        ensures values { result.values.items ≡ [] }
+    {
         Room {
             tests: Vec::new(alloc),
             values: Vec::new(alloc),
@@ -34,7 +37,9 @@ impl Room {
     }
 
     /// Makes room for a member, so that `note` takes no memory for it. Memory is the only refusal.
-    pub fn fit(&mut self, alloc: Global, member: &Member) -> Result<(), OutOfMemory> {
+    pub fn fit(&mut self, alloc: Global, member: &Member) -> Result<(), OutOfMemory>
+        ensures { OnOk result (Holds self.new (kept_by member.now)) }
+    {
         for _ in self.tests.len()..member.tests.len() {
             self.tests.push(Vec::new(alloc))?;
         }
