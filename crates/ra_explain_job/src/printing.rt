@@ -21,18 +21,28 @@ use ra_io::{Sink, SinkFailed};
 use ra_jobs::write_all;
 use ra_session::{Ending, print_line};
 use ra_text::OutOfMemory;
-use std::alloc::{AllocError, Global};
+use ra_value_format::put_unsigned;
+use std::alloc::Global;
 use std::fmt::Write;
 
 // The events of a condition, at the end of a text.
-fn write_events(text: &mut String, list: &[Event]) -> Result<(), AllocError>
-    ensures { OnOk result (string_bytes text.new ≡ string_bytes text.old ++ flat_map event_text list.now) }
+fn write_events(text: &mut Vec<u8>, list: &[Event]) -> Result<(), OutOfMemory>
+    ensures { OnOk result (text.new.items ≡ text.old.items ++ flat_map event_text list.now) }
 {
     for event in list {
-        let (row, hits) = (event.row, event.hits);
-        write!(text, " {row}:{hits}")?;
+        write_event(text, *event)?;
     }
     Ok(())
+}
+
+// The row of an event and the hits after it, at the end of a text.
+fn write_event(text: &mut Vec<u8>, event: Event) -> Result<(), OutOfMemory>
+    ensures { OnOk result (text.new.items ≡ text.old.items ++ event_text event) }
+{
+    text.push(b' ')?;
+    put_unsigned(text, u64::from(event.row))?;
+    text.push(b':')?;
+    put_unsigned(text, u64::from(event.hits))
 }
 
 // The line of a condition: its group, its place in it, and its events.
@@ -41,18 +51,20 @@ fn condition_line(
     group: usize,
     place: usize,
     own: &HitChanges,
-) -> Result<String, OutOfMemory>
-    ensures { IfOk result (λ line. string_bytes line ≡ spec.condition_line group place own.now.events) }
+) -> Result<Vec<u8>, OutOfMemory>
+    ensures { IfOk result (λ line. line.items ≡ spec.condition_line group place own.now.events) }
 {
     let list = own.events(alloc)?;
-    let mut line = String::new(alloc);
-    write!(line, "{group}.{place}")?;
+    let mut line = Vec::new(alloc);
+    put_unsigned(&mut line, group as u64)?;
+    line.push(b'.')?;
+    put_unsigned(&mut line, place as u64)?;
     if list.is_empty() {
-        line.push_str(" none")?;
+        line.extend_from_slice(b" none")?;
     } else {
         write_events(&mut line, &list)?;
     }
-    line.push_str("\n")?;
+    line.push(b'\n')?;
     Ok(line)
 }
 
@@ -70,7 +82,7 @@ fn print_condition<K: Sink>(
     ensures failed { IsErrOf result SinkFailed.Failed → Rose (K.faults out.old) (K.faults out.new) }
 {
     match condition_line(alloc, group, place, own) {
-        Ok(line) => write_all(line.as_bytes(), out),
+        Ok(line) => write_all(&line, out),
         Err(_) => Err(SinkFailed::Memory),
     }
 }
