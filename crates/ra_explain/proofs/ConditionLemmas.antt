@@ -22,15 +22,18 @@ module _ (t : TriggerContents) (rows : List Bool) (since : ℕ) where
       length_columns row (events_through t rows since k) (hits_through t rows since k) (as_many k)
       ∙ many_hits t rows since k
 
-  pub hits_at : (row : ℕ) → map (λ (o : ChangesSeen). o.hits) (conditions_at t rows since row) ≡ hits_through t rows since (row - since)
+  pub hits_at : (row : ℕ) → map (λ (o : ChangesSeen). o.hits) (conditions_at t rows since row) ≡ hits_through t rows
+      since (row - since)
   hits_at row =
       let k = row - since in columns_hits row (events_through t rows since k) (hits_through t rows since k) (as_many k)
 
   pub events_at : (row : ℕ) → events_of (conditions_at t rows since row) ≡ events_through t rows since (row - since)
   events_at row =
-      let k = row - since in columns_events row (events_through t rows since k) (hits_through t rows since k) (as_many k)
+      let k = row - since in columns_events row (events_through t rows since k) (hits_through t rows since k)
+      (as_many k)
 
-  pub room_before : (row bound : ℕ) → row < bound → AllByRecursion (λ (o : ChangesSeen). o.row < bound) (conditions_at t rows since row)
+  pub room_before : (row bound : ℕ) → row < bound → AllByRecursion (λ (o : ChangesSeen). o.row < bound)
+      (conditions_at t rows since row)
   room_before row bound below =
       let k = row - since in columns_room row bound (events_through t rows since k) (hits_through t rows since k) below
 
@@ -42,7 +45,8 @@ module _ (t : TriggerContents) (rows : List Bool) (since : ℕ) where
       ∙ ap (λ n. columns since (events_through t rows since n) (hits_through t rows since n)) none
 
   -- one row more
-  pub next_conditions : (row : ℕ) → since ≤ row → with_rows (conditions_at t rows since row) (hits_through t rows since (suc (row - since))) ≡ conditions_at t rows since (row + 1)
+  pub next_conditions : (row : ℕ) → since ≤ row → with_rows (conditions_at t rows since row)
+      (hits_through t rows since (suc (row - since))) ≡ conditions_at t rows since (row + 1)
   next_conditions row from =
       let k = row - since in
       let events = events_through t rows since k in
@@ -50,6 +54,7 @@ module _ (t : TriggerContents) (rows : List Bool) (since : ℕ) where
       let after = hits_through t rows since (suc k) in
       let place : row ≡ since + k = omega (arith, from) in
       let next : suc k ≡ row + 1 - since = omega (arith, from) in
-      columns_more row events before after (as_many k) (many_hits t rows since (suc k) ∙ sym (many_events t rows since k))
+      columns_more row events before after (as_many k)
+      (many_hits t rows since (suc k) ∙ sym (many_events t rows since k))
       ∙ ap (λ n. columns (row + 1) (noted n events before after) after) place
       ∙ ap (λ n. columns (row + 1) (events_through t rows since n) (hits_through t rows since n)) next

@@ -27,41 +27,60 @@ after_hits false m target h = by_met (m && (target == 0 || nat_lt h target))
 
 -- the hits of a condition of a group
 next_one : (f : Frame) (j : ℕ) → IsNext (get_or f.hits j 0) (next_hit f j)
-next_one f j = by_passing (not (hands_on (condition_at f.conditions j).flag) && (not (some_valid is_pause f (places f.conditions)) || in_pause_chain f.conditions j))
+next_one f j = by_passing (not (hands_on (condition_at f.conditions j).flag) &&
+    (not (some_valid is_pause f (places f.conditions)) || in_pause_chain f.conditions j))
   where
-    by_passing : (passes : Bool) → IsNext (get_or f.hits j 0) (if passes then (settled_at f j).hit else get_or f.hits j 0)
-    by_passing true = after_hits (reset_by (prev_of f j)) (met (prev_of f j) (get_or f.truths j false)) (condition_at f.conditions j).target (get_or f.hits j 0)
+    by_passing : (passes : Bool) → IsNext (get_or f.hits j 0)
+        (if passes then (settled_at f j).hit else get_or f.hits j 0)
+    by_passing true = after_hits (reset_by (prev_of f j)) (met (prev_of f j) (get_or f.truths j false))
+        (condition_at f.conditions j).target (get_or f.hits j 0)
     by_passing false = inl refl
 
 -- the hits of a group
 next_group : (f : Frame) → length f.hits ≡ length f.conditions → AreNext f.hits (next_hits f)
 next_group f long k within =
-    subst (IsNext (get_or f.hits k 0)) (sym (get_or-map-range_with_len (next_hit f) 0 (length f.conditions) k k 0 (omega (arith, long, within)) (omega arith))) (next_one f k)
+    subst (IsNext (get_or f.hits k 0))
+    (sym (get_or-map-range_with_len (next_hit f) 0 (length f.conditions) k k 0 (omega (arith, long, within))
+    (omega arith))) (next_one f k)
 
 -- the hits of two parts
-next_both : (first first' last last' : List ℕ) → length first' ≡ length first → AreNext first first' → AreNext last last' → AreNext (first ++ last) (first' ++ last')
+next_both : (first first' last last' : List ℕ) → length first' ≡ length first → AreNext first first'
+    → AreNext last last' → AreNext (first ++ last) (first' ++ last')
 next_both first first' last last' long is is_last k within = elim (cases_lt k (length first)) [
   | inl early ↦
       subst (λ b. IsNext b (get_or (first' ++ last') k 0)) (sym (get_or_append_left first last 0 k early))
-      (subst (IsNext (get_or first k 0)) (sym (get_or_append_left first' last' 0 k (omega (arith, long, early)))) (is k early))
+      (subst (IsNext (get_or first k 0)) (sym (get_or_append_left first' last' 0 k (omega (arith, long, early))))
+      (is k early))
   | inr late ↦
-      subst (λ b. IsNext b (get_or (first' ++ last') k 0)) (sym (get_or-append_right first last (length first) k 0 refl late))
-      (subst (IsNext (get_or last (k - length first) 0)) (sym (get_or-append_right first' last' (length first) k 0 long late)) (is_last (k - length first) (omega (arith, length-append first last, within, late))))
+      subst (λ b. IsNext b (get_or (first' ++ last') k 0))
+      (sym (get_or-append_right first last (length first) k 0 refl late))
+      (subst (IsNext (get_or last (k - length first) 0))
+      (sym (get_or-append_right first' last' (length first) k 0 long late))
+      (is_last (k - length first) (omega (arith, length-append first last, within, late))))
 ]
 
 -- the hits of groups side by side
-next_along : (gs : List (List Condition)) (truths : List Bool) (lefts hits : List ℕ) → length hits ≡ sum_by length gs → AreNext hits (flat_map next_hits (frames_along gs truths lefts hits))
+next_along : (gs : List (List Condition)) (truths : List Bool) (lefts hits : List ℕ) → length hits ≡ sum_by length gs
+    → AreNext hits (flat_map next_hits (frames_along gs truths lefts hits))
 next_along [] truths lefts [] long = λ k within. absurd (omega (arith, within))
 next_along [] truths lefts (h ∷ hits) long = absurd (omega (arith, long))
 next_along (cs ∷ gs) truths lefts hits long =
     let f : Frame = frame_of cs (take (length cs) truths) (take (length cs) lefts) (take (length cs) hits) in
     let many = sum_by-cons length cs gs in
-    let own : length (take (length cs) hits) ≡ length cs = length-take-le (length cs) hits (omega (arith, long, many)) in
-    let rest : length (drop (length cs) hits) ≡ sum_by length gs = omega (arith, length-drop (length cs) hits, long, many) in
-    subst (λ hs. AreNext hs (next_hits f ++ flat_map next_hits (frames_along gs (drop (length cs) truths) (drop (length cs) lefts) (drop (length cs) hits)))) (take-append-drop (length cs) hits)
-    (next_both (take (length cs) hits) (next_hits f) (drop (length cs) hits) (flat_map next_hits (frames_along gs (drop (length cs) truths) (drop (length cs) lefts) (drop (length cs) hits)))
-    (length-next_hits f ∙ sym own) (next_group f own) (next_along gs (drop (length cs) truths) (drop (length cs) lefts) (drop (length cs) hits) rest))
+    let own : length (take (length cs) hits) ≡ length cs = length-take-le (length cs) hits
+    (omega (arith, long, many)) in
+    let rest : length (drop (length cs) hits) ≡ sum_by length gs = omega
+    (arith, length-drop (length cs) hits, long, many) in
+    subst (λ hs. AreNext hs (next_hits f
+    ++ flat_map next_hits (frames_along gs (drop (length cs) truths) (drop (length cs) lefts)
+    (drop (length cs) hits)))) (take-append-drop (length cs) hits)
+    (next_both (take (length cs) hits) (next_hits f) (drop (length cs) hits)
+    (flat_map next_hits (frames_along gs (drop (length cs) truths) (drop (length cs) lefts)
+    (drop (length cs) hits)))
+    (length-next_hits f ∙ sym own) (next_group f own)
+    (next_along gs (drop (length cs) truths) (drop (length cs) lefts) (drop (length cs) hits) rest))
 
 -- the hits of a trigger
-pub next_together : (t : TriggerContents) (row : List Bool) (hits : List ℕ) → length hits ≡ trigger_hits t → AreNext hits (together t row [] hits).hits
+pub next_together : (t : TriggerContents) (row : List Bool) (hits : List ℕ) → length hits ≡ trigger_hits t
+    → AreNext hits (together t row [] hits).hits
 next_together t row hits long = next_along (groups_of t) row [] hits long

@@ -20,10 +20,12 @@ map_reverse f (x ∷ xs) =
 
 pub all_reverse : (P : ℕ → Type 0) (xs : List ℕ) → AllByRecursion P xs → AllByRecursion P (reverse xs)
 all_reverse P [] all = tt
-all_reverse P (x ∷ xs) all = subst (AllByRecursion P) (sym (reverse_onto xs x [])) (all_more P (reverse xs) x (all_reverse P xs all.1) all.0)
+all_reverse P (x ∷ xs) all = subst (AllByRecursion P) (sym (reverse_onto xs x []))
+    (all_more P (reverse xs) x (all_reverse P xs all.1) all.0)
 
 -- indices of rows that are there
-pub all_within : (width count : ℕ) (truths : List Bool) (order : List ℕ) → length truths ≡ count * width → AllByRecursion (λ k. k < count) order → AllByRecursion (LiesWithin width truths) order
+pub all_within : (width count : ℕ) (truths : List Bool) (order : List ℕ) → length truths ≡ count * width
+    → AllByRecursion (λ k. k < count) order → AllByRecursion (LiesWithin width truths) order
 all_within width count truths [] whole all = tt
 all_within width count truths (k ∷ order) whole all =
     let far : suc k * width ≡ k * width + width = omega arith in
@@ -38,21 +40,27 @@ all_within width count truths (k ∷ order) whole all =
         omega (arith, one, one_too, more n m (omega (arith, is)))
 
 -- a row is as long as the width
-pub long_row : (width : ℕ) (truths : List Bool) (k : ℕ) → LiesWithin width truths k → length (row_at width truths k) ≡ width
-long_row width truths k within = length-take-le width (drop (k * width) truths) (omega (arith, length-drop (k * width) truths, within))
+pub long_row : (width : ℕ) (truths : List Bool) (k : ℕ) → LiesWithin width truths k
+    → length (row_at width truths k) ≡ width
+long_row width truths k within = length-take-le width (drop (k * width) truths)
+    (omega (arith, length-drop (k * width) truths, within))
 
-pub long_rows : (width : ℕ) (truths : List Bool) (order : List ℕ) → AllByRecursion (LiesWithin width truths) order → AllByRecursion (λ row. length row ≡ width) (map (row_at width truths) order)
+pub long_rows : (width : ℕ) (truths : List Bool) (order : List ℕ) → AllByRecursion (LiesWithin width truths) order
+    → AllByRecursion (λ row. length row ≡ width) (map (row_at width truths) order)
 long_rows width truths [] all = tt
 long_rows width truths (k ∷ order) all = (long_row width truths k all.0, long_rows width truths order all.1)
 
 -- the place of a row is within
-pub place_within : (width : ℕ) (truths : List Bool) (order : List ℕ) (k d : ℕ) → AllByRecursion (LiesWithin width truths) order → k < length order → LiesWithin width truths (get_or order k d)
+pub place_within : (width : ℕ) (truths : List Bool) (order : List ℕ) (k d : ℕ)
+    → AllByRecursion (LiesWithin width truths) order → k < length order → LiesWithin width truths (get_or order k d)
 place_within width truths [] k d all within = absurd (omega (arith, within))
 place_within width truths (first ∷ order) zero d all within = all.0
-place_within width truths (first ∷ order) (suc k) d all within = place_within width truths order k d all.1 (omega arith)
+place_within width truths (first ∷ order) (suc k) d all within = place_within width truths order k d all.1
+    (omega arith)
 
 -- the row at a place of rows that stand in one list
-row_of_joined : (width : ℕ) (rows : List (List Bool)) (k : ℕ) → AllByRecursion (λ row. length row ≡ width) rows → k < length rows → take width (drop (k * width) (joined rows)) ≡ get_or rows k []
+row_of_joined : (width : ℕ) (rows : List (List Bool)) (k : ℕ) → AllByRecursion (λ row. length row ≡ width) rows
+    → k < length rows → take width (drop (k * width) (joined rows)) ≡ get_or rows k []
 row_of_joined width [] k all within = absurd (omega (arith, within))
 row_of_joined width (row ∷ rows) zero all within =
     let none : 0 * width ≡ 0 = omega arith in
@@ -60,30 +68,41 @@ row_of_joined width (row ∷ rows) zero all within =
 row_of_joined width (row ∷ rows) (suc k) all within =
     let far : suc k * width ≡ width + k * width = omega arith in
     ap (λ n. take width (drop n (row ++ joined rows))) far
-    ∙ ap (take width) (sym (drop-drop (k * width) width (row ++ joined rows)) ∙ ap (drop (k * width)) (drop_at row (joined rows) width all.0))
+    ∙ ap (take width) (sym (drop-drop (k * width) width (row ++ joined rows))
+    ∙ ap (drop (k * width)) (drop_at row (joined rows) width all.0))
     ∙ row_of_joined width rows k all.1 (omega arith)
 
-pub row_is : (t : TriggerContents) (last : ℕ) (rows : List (List Bool)) (k : ℕ) → AreRows t last rows → k ≤ last → get_or rows k [] ≡ row_along t (joined rows) k
-row_is t last rows k are within = sym (row_of_joined (trigger_hits t) rows k are.width (omega (arith, are.count, within)))
+pub row_is : (t : TriggerContents) (last : ℕ) (rows : List (List Bool)) (k : ℕ) → AreRows t last rows → k ≤ last
+    → get_or rows k [] ≡ row_along t (joined rows) k
+row_is t last rows k are within = sym
+    (row_of_joined (trigger_hits t) rows k are.width (omega (arith, are.count, within)))
 
-pub long_at : (t : TriggerContents) (last : ℕ) (rows : List (List Bool)) (k : ℕ) → AreRows t last rows → k ≤ last → length (get_or rows k []) ≡ trigger_hits t
+pub long_at : (t : TriggerContents) (last : ℕ) (rows : List (List Bool)) (k : ℕ) → AreRows t last rows → k ≤ last
+    → length (get_or rows k []) ≡ trigger_hits t
 long_at t last rows k are within = go rows k are.width (omega (arith, are.count, within))
   where
-    go : (rows : List (List Bool)) (k : ℕ) → AllByRecursion (λ row. length row ≡ trigger_hits t) rows → k < length rows → length (get_or rows k []) ≡ trigger_hits t
+    go : (rows : List (List Bool)) (k : ℕ) → AllByRecursion (λ row. length row ≡ trigger_hits t) rows → k < length rows
+        → length (get_or rows k []) ≡ trigger_hits t
     go [] k all within = absurd (omega (arith, within))
     go (row ∷ rows) zero all within = all.0
     go (row ∷ rows) (suc k) all within = go rows k all.1 (omega arith)
 
 -- all rows of a list, from one on
-rows_from_on : (width from n : ℕ) (truths : List Bool) → joined (map (row_at width truths) (range_with_len from n)) ≡ take (n * width) (drop (from * width) truths)
-rows_from_on width from zero truths = let none : 0 * width ≡ 0 = omega arith in ap (λ m. take m (drop (from * width) truths)) (sym none)
+rows_from_on : (width from n : ℕ) (truths : List Bool)
+    → joined (map (row_at width truths) (range_with_len from n)) ≡ take (n * width) (drop (from * width) truths)
+rows_from_on width from zero truths = let none : 0 * width ≡ 0 = omega arith in
+    ap (λ m. take m (drop (from * width) truths)) (sym none)
 rows_from_on width from (suc n) truths =
     let far : suc n * width ≡ width + n * width = omega arith in
     let next : from * width + width ≡ (from + 1) * width = omega arith in
-    ap (λ rest. row_at width truths from ++ rest) (rows_from_on width (from + 1) n truths ∙ ap (take (n * width)) (ap (λ m. drop m truths) (sym next) ∙ sym (drop-drop width (from * width) truths)))
-    ∙ sym (take-add width (n * width) (drop (from * width) truths)) ∙ ap (λ m. take m (drop (from * width) truths)) (sym far)
+    ap (λ rest. row_at width truths from ++ rest)
+    (rows_from_on width (from + 1) n truths
+    ∙ ap (take (n * width)) (ap (λ m. drop m truths) (sym next) ∙ sym (drop-drop width (from * width) truths)))
+    ∙ sym (take-add width (n * width) (drop (from * width) truths)) ∙ ap (λ m. take m (drop (from * width) truths))
+    (sym far)
 
-pub rows_all : (width n : ℕ) (truths : List Bool) → length truths ≡ n * width → joined (map (row_at width truths) (range_with_len 0 n)) ≡ truths
+pub rows_all : (width n : ℕ) (truths : List Bool) → length truths ≡ n * width
+    → joined (map (row_at width truths) (range_with_len 0 n)) ≡ truths
 rows_all width n truths whole =
     let none : 0 * width ≡ 0 = omega arith in
     rows_from_on width 0 n truths ∙ ap₂ (λ m k. take m (drop k truths)) (sym whole) none ∙ take_length truths
@@ -101,11 +120,14 @@ all_below from zero bound fits = tt
 all_below from (suc n) bound fits = (omega (arith, fits), all_below (from + 1) n bound (omega (arith, fits)))
 
 -- all rows of a list are those of a trigger
-pub are_rows : (t : TriggerContents) (last width : ℕ) (truths : List Bool) → width ≡ trigger_hits t → length truths ≡ (last + 1) * width → AreRows t last (map (row_at width truths) (range_with_len 0 (last + 1)))
+pub are_rows : (t : TriggerContents) (last width : ℕ) (truths : List Bool) → width ≡ trigger_hits t
+    → length truths ≡ (last + 1) * width → AreRows t last (map (row_at width truths) (range_with_len 0 (last + 1)))
 are_rows t last width truths is whole =
     let count = last + 1 in
     record {
       count = length-map-range_with_len (row_at width truths) 0 count;
-      width = subst (λ n. AllByRecursion (λ row. length row ≡ n) (map (row_at width truths) (range_with_len 0 count))) is
-          (long_rows width truths (range_with_len 0 count) (all_within width count truths (range_with_len 0 count) whole (all_below 0 count count (omega arith))));
+      width = subst (λ n. AllByRecursion (λ row. length row ≡ n) (map (row_at width truths) (range_with_len 0 count)))
+          is
+          (long_rows width truths (range_with_len 0 count)
+          (all_within width count truths (range_with_len 0 count) whole (all_below 0 count count (omega arith))));
     }

@@ -20,16 +20,13 @@ loop-row-init c =
     let t = trigger_contents c.args.text.now in
     let rows = joined c.args.rows.now in
     let since = c.args.since in
-    let none : 0 ≡ since - since = omega arith in
-    let zeros = c.in_ok-replay.ensures.replay.zeros in
-    let many : c.len-count.result ≡ trigger_hits t = omega (arith, c.len-count.ensures, zeros, c.in_ok-replay.replay.zeros.ok.0) in
     record {
       from = omega arith;
       upto = omega (arith, c.requires.since);
       replay = c.in_ok-replay.ensures.replay;
       good = λ k below. absurd (omega (arith, below));
-      hits = c.in_ok-replay.ensures.hits ∙ ap (hits_through t rows since) none;
-      changes = c.in_ok-changes.ensures ∙ ap (λ n. replicate n (unchanged since)) many ∙ first_conditions t rows since;
+      hits = c.in_ok-replay.ensures.hits ∙ ap (hits_through t rows since) (let none : 0 ≡ since - since = omega arith in none);
+      changes = c.in_ok-changes.ensures ∙ ap (λ n. replicate n (unchanged since)) (let many : c.len-count.result ≡ trigger_hits t = omega (arith, c.len-count.ensures, c.in_ok-replay.ensures.replay.zeros, c.in_ok-replay.replay.zeros.ok.0) in many) ∙ first_conditions t rows since;
     }
 
 pub returns-then-said : goal.returns-then-said
@@ -39,24 +36,21 @@ returns-then-said c =
     let since = c.args.since in
     let row = c.loop-row.row in
     let inv = c.loop-row.invariant in
-    let said = c.step-said.result in
-    let steps = c.step-said.ensures.steps in
     let place : since + (row - since) ≡ row = omega (arith, inv.from) in
     let is : c.row.result.now ≡ row_at t rows row = c.row.ensures ∙ row_is t c.args.last c.args.rows.now row c.requires.rows (omega (arith, c.loop-row-test.true)) in (
       row - since,
       omega (arith, inv.from, c.loop-row-test.true),
       λ goes.
-          let told = told_on t rows since c.args.last row (row - since) c.row.result.now c.loop-row.replay.trigger.hits said.reset said.valid place is inv.hits steps.reset steps.valid goes in
+          let told = told_on t rows since c.args.last row (row - since) c.row.result.now c.loop-row.replay.trigger.hits c.step-said.result.reset c.step-said.result.valid place is inv.hits c.step-said.ensures.steps.reset c.step-said.ensures.steps.valid goes in
           elim c.then-said.branch [
             | then-said-via-then-said w ↦ false≢true (sym told.0 ∙ w.if-said.true)
-            | then-said-via-else-said+then-said-row w ↦ other_bools said.valid (row == c.args.last) w.if-said-row.true told.1
+            | then-said-via-else-said+then-said-row w ↦ other_bools c.step-said.result.valid (row == c.args.last) w.if-said-row.true told.1
           ],
     )
 
 pub add_row-requires-clause-after : goal.add_row-requires-clause-after
 add_row-requires-clause-after c =
-    let many = many_conditions (trigger_contents c.args.text.now) (joined c.args.rows.now) c.args.since c.loop-row.row in
-    ap length c.hits.ensures ∙ c.step-said.ensures.replay.hits ∙ sym (ap length (c.deref_mut.ensures.value ∙ c.loop-row.invariant.changes) ∙ many)
+    ap length c.hits.ensures ∙ c.step-said.ensures.replay.hits ∙ sym (ap length (c.deref_mut.ensures.value ∙ c.loop-row.invariant.changes) ∙ many_conditions (trigger_contents c.args.text.now) (joined c.args.rows.now) c.args.since c.loop-row.row)
 
 pub add_row-requires-clause-next : goal.add_row-requires-clause-next
 add_row-requires-clause-next c =
@@ -80,20 +74,15 @@ loop-row-preserved c =
     let row = c.loop-row.row in
     let inv = c.loop-row.invariant in
     let k = row - since in
-    let said = c.step-said.result in
-    let steps = c.step-said.ensures.steps in
-    let slice = c.row.result.now in
     let place : since + k ≡ row = omega (arith, inv.from) in
-    let next : suc k ≡ row + 1 - since = omega (arith, inv.from) in
-    let is : slice ≡ row_at t rows row = c.row.ensures ∙ row_is t c.args.last c.args.rows.now row c.requires.rows (omega (arith, c.loop-row-test.true)) in
-    let hits = hits_further t rows since row k slice c.loop-row.replay.trigger.hits c.step-said.new.self.trigger.hits place is inv.hits (steps.hits c.if-said.false) in
-    let goes_on = same_bools said.valid (row == c.args.last) c.if-said-row.false in
+    let is : c.row.result.now ≡ row_at t rows row = c.row.ensures ∙ row_is t c.args.last c.args.rows.now row c.requires.rows (omega (arith, c.loop-row-test.true)) in
+    let hits = hits_further t rows since row k c.row.result.now c.loop-row.replay.trigger.hits c.step-said.new.self.trigger.hits place is inv.hits (c.step-said.ensures.steps.hits c.if-said.false) in
     record {
       from = omega (arith, inv.from);
       upto = omega (arith, c.loop-row-test.true);
       replay = c.step-said.ensures.replay;
-      good = goes_further t rows since c.args.last row k slice c.loop-row.replay.trigger.hits said.reset said.valid place is inv.hits steps.reset steps.valid c.if-said.false goes_on inv.good;
-      hits = hits ∙ ap (hits_through t rows since) next;
+      good = goes_further t rows since c.args.last row k c.row.result.now c.loop-row.replay.trigger.hits c.step-said.result.reset c.step-said.result.valid place is inv.hits c.step-said.ensures.steps.reset c.step-said.ensures.steps.valid c.if-said.false (same_bools c.step-said.result.valid (row == c.args.last) c.if-said-row.false) inv.good;
+      hits = hits ∙ ap (hits_through t rows since) (let next : suc k ≡ row + 1 - since = omega (arith, inv.from) in next);
       changes =
           with_items_is c.loop-row.changes c.add_row.new.changes (c.add_row.auto.changes ∙ c.deref_mut.ensures.len) ∙ c.in_ok-add_row.ensures
           ∙ (λ i. with_rows ((c.deref_mut.ensures.value ∙ inv.changes) i) ((c.hits.ensures ∙ hits) i)) ∙ next_conditions t rows since row inv.from;
@@ -103,9 +92,8 @@ pub returns : goal.returns
 returns c =
     let t = trigger_contents c.args.text.now in
     let rows = joined c.args.rows.now in
-    let since = c.args.since in
     let inv = c.loop-row.invariant in
     let end : c.loop-row.row ≡ c.args.last + 1 = omega (arith, inv.upto, c.loop-row-test.false) in (
-      subst (AllGoOn t rows since c.args.last) end inv.good,
-      ap events_of inv.changes ∙ events_at t rows since c.loop-row.row ∙ ap (λ n. events_through t rows since (n - since)) end,
+      subst (AllGoOn t rows c.args.since c.args.last) end inv.good,
+      ap events_of inv.changes ∙ events_at t rows c.args.since c.loop-row.row ∙ ap (λ n. events_through t rows c.args.since (n - c.args.since)) end,
     )
