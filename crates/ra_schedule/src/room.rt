@@ -110,6 +110,10 @@ pub fn note_row(row: &mut Vec<u32>, numbers: &[u32]) -> bool
     ensures noted { result ≡ true → row.new.items ≡ numbers.now }
     ensures small { AreSmall numbers.now }
 {
+    if row.len() == numbers.len() {
+        row.copy_from_slice(numbers);
+        return true;
+    }
     row.clear();
     row.extend_from_slice(numbers).is_ok()
 }
