@@ -6,3 +6,7 @@ pub mod Shape
 pub mod Linking
 pub mod Unlinking
 pub mod Calls
+pub mod Entries
+pub mod Cuts
+pub mod Filling
+pub mod Listed

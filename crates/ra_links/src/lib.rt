@@ -1,8 +1,13 @@
-//! Lists that are linked through their own nodes by index.
+//! Lists of numbers in a few vectors: lists that are linked through their own nodes by index, and rows that never change.
 //!
-//! Each node keeps its list and its neighbours, each list its first node: every call but `new` takes constant time.
+//! Each node of linked lists keeps its list and its neighbours, each list its first node: every call but `new` takes
+//! constant time.
 #![tactic(auto)]
 
+mod entry;
+mod flat_rows;
 mod links;
 
+pub use entry::Entry;
+pub use flat_rows::FlatRows;
 pub use links::Links;
