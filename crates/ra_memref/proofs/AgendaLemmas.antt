@@ -1,9 +1,13 @@
 -- The agenda of a table: the lists of what names each node, the nodes of the cells, and what is due before a pass.
-use Rattle.std.proofs.Common.{◌≡◌, ◌≢◌, ℕ, suc, ◌+◌, ◌*◌, ◌<◌, inl, inr, Bool, true, false, List, [], ◌∷◌, ◌++◌, length, map, get_or, set, replicate, refl, ap, sym, subst, ◌∙◌, arith, length-append}
-use Rattle.std.proofs.lemmas.List.{get_or-set_same, get_or-set_other, length-replicate, length-map, length-set, get_or_append_left}
+use Rattle.std.proofs.Common.{◌≡◌, ℕ, suc, ◌+◌, ◌<◌, inl, inr, Bool, true, false, List, [], ◌∷◌, ◌++◌, length, map, get_or, set, refl, ap, sym, subst, ◌∙◌, arith, length-append}
+use Rattle.std.proofs.lemmas.List.{get_or-set_same, get_or-set_other, length-map, length-set, get_or_append_left}
 use Rattle.std.proofs.Math.Seq.{get_or-append_seam}
 use Rattle.std.proofs.lemmas.Bool.{cases_eq, cases_lt, false≢true}
-use Rattle.ra_links.specs.Rows.{Rows, holder_of}
+use Rattle.ra_links.specs.declared.entry.Entry.{Entry}
+use Rattle.ra_links.specs.FlatRows.{AreOnRows, IsListed, entry_at, numbers_on, rows_by}
+use Rattle.ra_links.proofs.Cuts.{length-rows_by, on_row, row-rows_by}
+use Rattle.ra_links.proofs.Listed.{each_both, each_one, listed_here, listed_new, listed_old, number_of_one}
+use Rattle.ra_indirect.proofs.PoolLemmas.{below_or_last}
 use Rattle.ra_indirect.specs.declared.node.Node.{Node}
 use Rattle.ra_indirect.specs.declared.node.Node.TheVariants.{Const, Cell as CellNode, View, Arith}
 use Rattle.ra_indirect.specs.Trees.{Cell}
@@ -16,45 +20,11 @@ use Rattle.ra_memref.specs.Numbers.{NumbersSeen}
 use Rattle.ra_memref.specs.Layout.{HasSlot, IsLaid, cells_before}
 use Rattle.ra_memref.specs.Pass.{IsSizedFor, earlier_at, value_at}
 use Rattle.ra_memref.specs.Flags.{NoneSet}
-use Rattle.ra_memref.specs.Due.{earlier_by, IsQuiet, IsUnmarked, AreQuiet, AreIdle, Names, StandsOn, AreDependents, HasCellNode, AreCellNodes, IsGathered}
+use Rattle.ra_memref.specs.Due.{earlier_by, IsQuiet, IsUnmarked, AreQuiet, AreIdle, Names, AreDependents, entries_of, HasCellNode, AreCellNodes, IsGathered}
 use Rattle.ra_memref.specs.Watches.{WatchesSeen, MarksWatchers}
 use Rattle.ra_memref.proofs.CellsAlong.{cell_with, along_cell, along_same}
 use Rattle.ra_memref.proofs.LaidLemmas.{cells_one, cells_grow, cells_all}
 use Rattle.ra_memref.proofs.PassLemmas.{node_within}
-
--- no node stands on a list at the start
-pub depended_none : (nodes : List Node) (rows : Rows)
-    → rows ≡ record { lists = replicate (length nodes) []; nodes = 2 * length nodes } → AreDependents nodes 0 rows
-depended_none nodes rows is = record {
-  lists = ap (λ (r : Rows). length r.lists) is ∙ length-replicate (length nodes) [];
-  nodes_too = ap (λ (r : Rows). r.nodes) is;
-  each = λ n below. absurd (omega (arith, below));
-}
-
-stands_kept : (old new : List (List ℕ)) (j : ℕ) (node : Node) → holder_of new (2 * j) ≡ holder_of old (2 * j)
-    → holder_of new (2 * j + 1) ≡ holder_of old (2 * j + 1) → StandsOn old j node → StandsOn new j node
-stands_kept old new j (Const n) first second stands = tt
-stands_kept old new j (CellNode pointer offset width) first second stands = first ∙ stands
-stands_kept old new j (View kind size c) first second stands = first ∙ stands
-stands_kept old new j (Arith op left right) first second stands = (first ∙ stands.0, second ∙ stands.1)
-
--- one node more stands on the lists of those that it names
-pub depended_more : (nodes : List Node) (old new : Rows) (n : ℕ) → AreDependents nodes n old
-    → StandsOn new.lists n (node_at nodes n)
-    → ((other : ℕ) → other ≢ 2 * n → other ≢ 2 * n + 1 → holder_of new.lists other ≡ holder_of old.lists other)
-    → length new.lists ≡ length old.lists → new.nodes ≡ old.nodes → AreDependents nodes (n + 1) new
-depended_more nodes old new n before stands others lists as_many = record {
-  lists = lists ∙ before.lists;
-  nodes_too = as_many ∙ before.nodes_too;
-  each = λ j below. elim (cases_eq j n) [
-    | inl same ↦ subst (λ i. StandsOn new.lists i (node_at nodes i)) (sym same) stands
-    | inr apart ↦
-        stands_kept old.lists new.lists j (node_at nodes j)
-        (others (2 * j) (λ e. apart (omega (arith, e))) (λ e. absurd (omega (arith, e))))
-        (others (2 * j + 1) (λ e. absurd (omega (arith, e))) (λ e. apart (omega (arith, e))))
-        (before.each j (omega (arith, below, apart)))
-  ];
-}
 
 -- what a node of a pool names is a node of it
 pub named_below : (nodes : List Node) (pool : IsPool nodes) (k : ℕ) → k < length nodes → (node : Node)
@@ -69,6 +39,71 @@ named_below nodes pool k within node same i named =
     by_node (View kind size c) below named = omega (arith, below, named)
     by_node (Arith op left right) below (inl named) = omega (arith, below.0, named)
     by_node (Arith op left right) below (inr named) = omega (arith, below.1, named)
+
+-- each node of the first so many has its entries, and each entry is of nodes
+pub record AreNaming (nodes : List Node) (count : ℕ) (entries : List Entry) : Type 0 where
+  pub rows : AreOnRows (length nodes) entries
+  pub numbers : (k : ℕ) → k < length entries → (entry_at entries k).number < length nodes
+  pub each : (n i : ℕ) → n < count → Names (node_at nodes n) i → IsListed n (numbers_on i entries)
+
+pub naming_none : (nodes : List Node) → AreNaming nodes 0 []
+naming_none nodes = record {
+  rows = λ k below. absurd (omega (arith, below));
+  numbers = λ k below. absurd (omega (arith, below));
+  each = λ n i below. absurd (omega (arith, below));
+}
+
+-- what holds of the entry of a node on each row that it names holds of each of its entries
+each_of : (P : Entry → Type 0) (n : ℕ) (node : Node) → ((i : ℕ) → Names node i → P (record { row = i; number = n }))
+    → (k : ℕ) → k < length (entries_of n node) → P (entry_at (entries_of n node) k)
+each_of P n (Const c) one = λ k below. absurd (omega (arith, below))
+each_of P n (CellNode pointer offset width) one = each_one P (record { row = pointer; number = n }) (one pointer refl)
+each_of P n (View kind size c) one = each_one P (record { row = c; number = n }) (one c refl)
+each_of P n (Arith op left right) one =
+    each_both P (record { row = left; number = n } ∷ []) (record { row = right; number = n } ∷ [])
+    (each_one P (record { row = left; number = n }) (one left (inl refl)))
+    (each_one P (record { row = right; number = n }) (one right (inr refl)))
+
+-- a node stands on the row of each that it names
+named_here : (n : ℕ) (node : Node) (i : ℕ) → Names node i → IsListed n (numbers_on i (entries_of n node))
+named_here n (Const c) i named = absurd named
+named_here n (CellNode pointer offset width) i named = listed_here (record { row = pointer; number = n }) i named
+named_here n (View kind size c) i named = listed_here (record { row = c; number = n }) i named
+named_here n (Arith op left right) i (inl named) =
+    listed_old (record { row = left; number = n } ∷ []) (record { row = right; number = n } ∷ []) n i
+    (listed_here (record { row = left; number = n }) i named)
+named_here n (Arith op left right) i (inr named) =
+    listed_new (record { row = left; number = n } ∷ []) (record { row = right; number = n } ∷ []) n i
+    (listed_here (record { row = right; number = n }) i named)
+
+module _ (nodes : List Node) (pool : IsPool nodes) where
+  pub naming_more : (entries : List Entry) (n : ℕ) → n < length nodes → AreNaming nodes n entries
+      → AreNaming nodes (n + 1) (entries ++ entries_of n (node_at nodes n))
+  naming_more entries n below naming =
+      let more = entries_of n (node_at nodes n) in
+      record {
+        rows = each_both (λ e. e.row < length nodes) entries more naming.rows
+            (each_of (λ e. e.row < length nodes) n (node_at nodes n)
+            (λ i named. named_below nodes pool n below (node_at nodes n) refl i named));
+        numbers = each_both (λ e. e.number < length nodes) entries more naming.numbers
+            (each_of (λ e. e.number < length nodes) n (node_at nodes n) (λ i named. below));
+        each = λ j i less named. elim (below_or_last j n less) [
+          | inl before ↦ listed_old entries more j i (naming.each j i before named)
+          | inr last ↦
+              let here = named_here n (node_at nodes n) i (subst (λ m. Names (node_at nodes m) i) last named) in
+              subst (λ m. IsListed m (numbers_on i (entries ++ more))) (sym last) (listed_new entries more n i here)
+        ];
+      }
+
+  pub dependents_by : (entries : List Entry) → AreNaming nodes (length nodes) entries
+      → AreDependents nodes (rows_by (length nodes) entries)
+  dependents_by entries naming = record {
+    rows_too = length-rows_by (length nodes) entries;
+    each = λ n i below named. subst (IsListed n) (sym (row-rows_by (length nodes) entries i
+        (named_below nodes pool n below (node_at nodes n) refl i named))) (naming.each n i below named);
+    within = λ n i is. number_of_one (λ m. m < length nodes) entries naming.numbers n i
+        (on_row (length nodes) entries n i is);
+  }
 
 -- the nodes of no cell
 pub noted_none : (nodes : List Node) → AreCellNodes nodes 0 []

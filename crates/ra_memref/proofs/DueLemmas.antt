@@ -1,9 +1,10 @@
 -- Once a node is taken and what it made due is marked, each node that is not due is idle again.
-use Rattle.std.proofs.Common.{◌≡◌, ℕ, ◌+◌, ◌*◌, ◌<◌, ◌≤◌, ◌==◌, ◌⊎◌, inl, inr, Bool, true, false, not, ◌||◌, Option, Some, List, length, take, get_or, set, ap, sym, subst, ◌∙◌, arith}
-use Rattle.std.proofs.lemmas.List.{get_or-set_same, get_or-set_other, length-set, length-take}
-use Rattle.std.proofs.lemmas.Bool.{cases_eq, eq-eqb, or_parts, false≢true}
+use Rattle.std.proofs.Common.{◌≡◌, ℕ, ◌+◌, ◌<◌, ◌≤◌, ◌==◌, ◌⊎◌, inl, inr, Bool, true, false, not, ◌||◌, List, length, take, get_or, set, ap, sym, subst, ◌∙◌, arith}
+use Rattle.std.proofs.lemmas.List.{get_or-set_same, get_or-set_other, length-take}
+use Rattle.std.proofs.lemmas.Bool.{cases_eq, or_parts, false≢true}
 use Rattle.std.proofs.lemmas.Bool.Decides.{eqb_tells}
-use Rattle.ra_links.specs.Rows.{Rows, holder_of}
+use Rattle.ra_links.specs.FlatRows.{IsListed}
+use Rattle.ra_links.specs.Rows.{row_at}
 use Rattle.ra_indirect.specs.declared.node.Node.{Node}
 use Rattle.ra_indirect.specs.declared.node.Node.TheVariants.{Const, Cell as CellNode, View, Arith}
 use Rattle.ra_indirect.specs.Pools.{node_at}
@@ -11,9 +12,9 @@ use Rattle.ra_indirect.specs.Interned.{IsPool}
 use Rattle.ra_indirect.proofs.SpelledLemmas.{NamesBelow, names_below}
 use Rattle.ra_memref.specs.Numbers.{NumbersSeen}
 use Rattle.ra_memref.specs.Layout.{IsLaid}
-use Rattle.ra_memref.specs.Marking.{is_at}
+use Rattle.ra_memref.specs.Flags.{SetsAll}
 use Rattle.ra_memref.specs.Pass.{value_at, IsSizedFor}
-use Rattle.ra_memref.specs.Due.{earlier_by, IsQuiet, IsUnmarked, AreIdle, Names, StandsOn, AreDependents}
+use Rattle.ra_memref.specs.Due.{earlier_by, IsQuiet, IsUnmarked, AreIdle, Names, AreDependents}
 use Rattle.ra_memref.proofs.Passed.{TakesNode}
 use Rattle.ra_memref.proofs.QuietLemmas.{Unseen, quiet_other, quiet_here, settled_other, unmarked_other, unmarked_here}
 
@@ -24,55 +25,20 @@ same_number a b alike = elim (eqb_tells a b) [
   | inr n ↦ absurd (false≢true (sym (rw n.0 at alike)))
 ]
 
--- a node stands on the list of each node that it names
-named_on : (lists : List (List ℕ)) (j : ℕ) (node : Node) (i : ℕ) → StandsOn lists j node → Names node i
-    → (holder_of lists (2 * j) ≡ Some i) ⊎ (holder_of lists (2 * j + 1) ≡ Some i)
-named_on lists j (Const n) i stands named = absurd named
-named_on lists j (CellNode pointer offset width) i stands named = inl (stands ∙ ap (λ n. Some n) (sym named))
-named_on lists j (View kind size c) i stands named = inl (stands ∙ ap (λ n. Some n) (sym named))
-named_on lists j (Arith op left right) i stands (inl named) = inl (stands.0 ∙ ap (λ n. Some n) (sym named))
-named_on lists j (Arith op left right) i stands (inr named) = inr (stands.1 ∙ ap (λ n. Some n) (sym named))
-
-not_at : (holder : Option ℕ) (i k : ℕ) → holder ≡ Some i → i ≡ k → is_at holder k ≡ false → ⊥
-not_at holder i k here same other =
-    false≢true (sym other ∙ ap (λ o. is_at o k) here ∙ eq-eqb i k same)
-
 -- what is due once a node was taken: whether that one is due again, and where it is seen, those that name it
 pub record IsMarked (nodes : List Node) (k : ℕ) (seen again : Bool) (old new : List Bool) : Type 0 where
   pub kept : (j : ℕ) → j < length nodes → get_or new j true ≡ false → get_or (set old k again) j true ≡ false
   pub named : (j : ℕ) → j < length nodes → get_or new j true ≡ false
       → (seen ≡ false) ⊎ ((i : ℕ) → Names (node_at nodes j) i → i ≡ k → ⊥)
 
--- it is so where those that name it are marked, and where it is not seen
-module _ (nodes : List Node) (k : ℕ) (seen again : Bool) (old new : List Bool) (long : length old ≡ length nodes) where
-  module _ (dependents : Rows) (are : AreDependents nodes (length nodes) dependents)
-      (each : (j : ℕ) → j < length (set old k again) → get_or new j true
-      ≡ (get_or (set old k again) j true ||
-      (is_at (holder_of dependents.lists (2 * j)) k || is_at (holder_of dependents.lists (2 * j + 1)) k))) where
-    parts : (j : ℕ) → j < length nodes → get_or new j true ≡ false
-        → (get_or (set old k again) j true
-        ≡ false) × ((is_at (holder_of dependents.lists (2 * j)) k || is_at (holder_of dependents.lists (2 * j + 1)) k)
-        ≡ false)
-    parts j below still =
-        or_parts (get_or (set old k again) j true) (is_at (holder_of dependents.lists (2 * j)) k || is_at
-        (holder_of dependents.lists (2 * j + 1)) k)
-        (sym (each j (omega (arith, below, long, length-set old k again))) ∙ still)
-
-    not_named : (j : ℕ) → j < length nodes → get_or new j true ≡ false → (i : ℕ) → Names (node_at nodes j) i → i ≡ k
-        → ⊥
-    not_named j below still i named same =
-        let off = or_parts (is_at (holder_of dependents.lists (2 * j)) k) (is_at
-        (holder_of dependents.lists (2 * j + 1)) k) (parts j below still).1 in
-        elim (named_on dependents.lists j (node_at nodes j) i (are.each j below) named) [
-          | inl first ↦ not_at (holder_of dependents.lists (2 * j)) i k first same off.0
-          | inr second ↦ not_at (holder_of dependents.lists (2 * j + 1)) i k second same off.1
-        ]
-
-    pub marked_seen : IsMarked nodes k seen again old new
-    marked_seen = record {
-      kept = λ j below still. (parts j below still).0;
-      named = λ j below still. inr (not_named j below still);
-    }
+-- it is so where those that name it are due, and where it is not seen
+pub marked_seen : (nodes : List Node) (k : ℕ) (seen again : Bool) (old new : List Bool) (rows : List (List ℕ))
+    → AreDependents nodes rows → SetsAll (row_at rows k) (set old k again) new → IsMarked nodes k seen again old new
+marked_seen nodes k seen again old new rows are sets = record {
+  kept = λ j below still. sets.kept j still;
+  named = λ j below still. inr (λ i named same. false≢true (sym still
+      ∙ sets.each j (subst (λ r. IsListed j (row_at rows r)) same (are.each j i below named))));
+}
 
 pub marked_unseen : (nodes : List Node) (k : ℕ) (seen again : Bool) (old : List Bool) → seen ≡ false
     → IsMarked nodes k seen again old (set old k again)

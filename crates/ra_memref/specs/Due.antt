@@ -1,9 +1,11 @@
 -- Which nodes a pass has to take: docs/INTERNALS.md, "Due nodes".
-use Rattle.std.specs.Prelude.{◌≡◌, ◌⊎◌, ℕ, ◌+◌, ◌*◌, ◌<◌, Bool, true, false, List, length, slice_index, slice_index_or, Some}
+use Rattle.std.specs.Prelude.{◌≡◌, ◌⊎◌, ℕ, ◌<◌, Bool, true, false, List, [], ◌∷◌, length, slice_index, slice_index_or}
 use Rattle.ra_operand.specs.declared.kind.Kind.TheVariants.{Prior}
 use Rattle.ra_operand.specs.Views.{mask_of, view_of, transformed}
 use Rattle.ra_operand.specs.Operators.{computed}
-use Rattle.ra_links.specs.Rows.{Rows, holder_of}
+use Rattle.ra_links.specs.declared.entry.Entry.{Entry}
+use Rattle.ra_links.specs.FlatRows.{IsListed}
+use Rattle.ra_links.specs.Rows.{row_at}
 use Rattle.ra_indirect.specs.declared.node.Node.{Node}
 use Rattle.ra_indirect.specs.declared.node.Node.TheVariants.{Const, Cell as CellNode, View, Arith}
 use Rattle.ra_indirect.specs.Pools.{node_at, spelled_by}
@@ -55,18 +57,18 @@ Names (CellNode pointer offset width) i = i ≡ pointer
 Names (View kind size c) i = i ≡ c
 Names (Arith op left right) i = (i ≡ left) ⊎ (i ≡ right)
 
--- a node stands on the list of each node that it names, by its first operand and by its second
-abbrev pub StandsOn : List (List ℕ) → ℕ → Node → Type 0
-StandsOn lists n (Const k) = Unit {0}
-StandsOn lists n (CellNode pointer offset width) = holder_of lists (2 * n) ≡ Some pointer
-StandsOn lists n (View kind size c) = holder_of lists (2 * n) ≡ Some c
-StandsOn lists n (Arith op left right) = (holder_of lists (2 * n) ≡ Some left) × (holder_of lists (2 * n + 1) ≡ Some right)
+-- the entries of a node, on the row of each that it names
+abbrev pub entries_of : (number : ℕ) → Node → List Entry
+entries_of number (Const n) = []
+entries_of number (CellNode pointer offset width) = record { row = pointer; number = number } ∷ []
+entries_of number (View kind size c) = record { row = c; number = number } ∷ []
+entries_of number (Arith op left right) = record { row = left; number = number } ∷ record { row = right; number = number } ∷ []
 
--- there is a list for each node, of those that name it, of the first this many
-pub record AreDependents (nodes : List Node) (count : ℕ) (rows : Rows) : Type 0 where
-  pub lists : length rows.lists ≡ length nodes
-  pub nodes_too : rows.nodes ≡ 2 * length nodes
-  pub each : (n : ℕ) → n < count → StandsOn rows.lists n (node_at nodes n)
+-- there is a row for each node, on which those stand that name it, and nodes alone
+pub record AreDependents (nodes : List Node) (rows : List (List ℕ)) : Type 0 where
+  pub rows_too : length rows ≡ length nodes
+  pub each : (n i : ℕ) → n < length nodes → Names (node_at nodes n) i → IsListed n (row_at rows i)
+  pub within : (n i : ℕ) → IsListed n (row_at rows i) → n < length nodes
 
 -- the node of a cell stands in the cell's slot
 abbrev pub HasCellNode : Node → List ℕ → ℕ → ℕ → Type 0

@@ -1,6 +1,7 @@
 -- Rows of flags.
 use Rattle.std.specs.Prelude.{◌≡◌, ◌≢◌, ℕ, ◌+◌, ◌*◌, ◌/◌, ◌%◌, ◌<◌, ◌≤◌, Bool, true, false, List, length, slice_index, slice_index_or}
 use Rattle.std.specs.Int.{bit_at}
+use Rattle.ra_links.specs.FlatRows.{IsListed}
 
 -- a flag that is set has its bit in its word, of 64 flags each
 pub record AreWorded (flags : List Bool) (words : List ℕ) : Type 0 where
@@ -21,6 +22,13 @@ pub record AreBlocked (flags blocks : List Bool) : Type 0 where
 pub record AreInBlocks (flags blocks : List Bool) : Type 0 where
   pub tight : length blocks ≤ length flags / 64 + 1
   pub blocked : AreBlocked flags blocks
+
+-- some flags are set: each of these places has its flag, what is still not set was not, and what became set is one of them
+pub record SetsAll (places : List ℕ) (old new : List Bool) : Type 0 where
+  pub long : length new ≡ length old
+  pub kept : (k : ℕ) → slice_index_or new k true ≡ false → slice_index_or old k true ≡ false
+  pub each : (k : ℕ) → IsListed k places → slice_index_or new k true ≡ true
+  pub only : (k : ℕ) → slice_index_or old k true ≡ false → slice_index_or new k true ≡ true → IsListed k places
 
 -- no flag from the place on and before the other is set
 abbrev pub NoneSet : List Bool → (from to : ℕ) → Type 0

@@ -13,7 +13,7 @@ pub record IsNodePlan (p : NodePlan) : Type 0 where
   pub pool : IsPool p.nodes.now
   pub laid : IsLaid p.nodes.now p.slots.now
   pub few : length p.nodes.now < 2 ^ 30
-  pub dependents : AreDependents p.nodes.now (length p.nodes.now) p.dependents.now
+  pub dependents : AreDependents p.nodes.now p.dependents.now
 
 -- a node that is not due, and whose number is the one of the frame before, would take the number that it has
 abbrev pub AreSettled : NodePlan → (due : List Bool) → NumbersSeen → Type 0

@@ -26,7 +26,7 @@ table_seen t = record {
 -- an agenda of these nodes: what names each of them, and where the cells are
 pub record IsAgenda (nodes : List Node) (agenda : Agenda) : Type 0 where
   pub dues : length agenda.due ≡ length nodes
-  pub dependents : AreDependents nodes (length nodes) agenda.dependents
+  pub dependents : AreDependents nodes agenda.dependents
   pub cells : AreCellNodes nodes (length nodes) agenda.cell_nodes.items
 
 -- the nodes are a pool that is laid out, each list has its length, and each node that is not due is quiet

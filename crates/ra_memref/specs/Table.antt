@@ -6,6 +6,7 @@ use Rattle.ra_indirect.specs.Trees.{Cell, constant}
 use Rattle.ra_indirect.specs.Pools.{Spelled, IsTree, IsCell, spelled_by, cells_of, tracked_of}
 use Rattle.ra_memref.specs.Values.{Start, value_of, cell_number, cell_place, tracked_number}
 use Rattle.ra_memref.specs.Marks.{marks_after, marks_seen, reads_of}
+pub use Rattle.ra_links.specs.FlatRows.{IsListed}
 
 -- what a caller sees of a table: its nodes, the size of the memory, and what it keeps
 pub record TableSeen : Type 0 where
@@ -76,12 +77,6 @@ pub record ReadsWanted (old new : TableSeen) (reads : ℕ) : Type 0 where
 pub record ReadsLooked (old new : TableSeen) (image : List ℕ) (reads : ℕ) : Type 0 where
   pub unmarked : new.marked ≡ replicate (length (cells_of old.nodes)) false
   pub counted : reads ≡ count_by not old.marked + reads_of (marks_seen image (cells_of old.nodes) old.places old.cells old.marked) old.places new.places
-
--- a number stands in a list
-pub record IsListed (n : ℕ) (numbers : List ℕ) : Type 0 where
-  pub place : ℕ
-  pub within : place < length numbers
-  pub here : slice_index numbers place ≡ n
 
 -- each node that a sample gave another number is listed, and only nodes are
 pub record ListsChanged (old new : TableSeen) : Type 0 where

@@ -1,15 +1,13 @@
 //! Which nodes the next pass takes.
 
-ghost use Rattle.std.specs.Prelude.{◌≡◌, ◌≢◌, ◌+◌, ◌<◌, ◌≤◌, ◌^◌, ◌*◌, ℕ, true, false, length, slice_index, IfOk, IfSome, None};
+ghost use Rattle.std.specs.Prelude.{◌≡◌, ◌++◌, ◌<◌, ◌^◌, ℕ, true, false, length, slice_index, IfOk, OnOk};
 ghost use Rattle.ra_indirect.specs.Interned.{IsPool};
-ghost use Rattle.ra_links.specs.Rows.{holder_of};
-ghost use Rattle.ra_memref.specs.Due.{AreDependents, AreCellNodes, IsGathered, StandsOn, Names};
+ghost use Rattle.ra_memref.specs.Due.{AreDependents, AreCellNodes, IsGathered, entries_of};
 
 use crate::flags::Flags;
 use crate::numbers::Numbers;
-use crate::watches::put;
 use ra_indirect::Node;
-use ra_links::Links;
+use ra_links::{Entry, FlatRows};
 use ra_text::OutOfMemory;
 use std::alloc::Global;
 
@@ -19,7 +17,7 @@ use std::alloc::Global;
 pub struct Agenda {
     pub due: Flags,
     pub all: bool,
-    pub dependents: Links,
+    pub dependents: FlatRows,
     pub cell_nodes: Vec<u32>,
 }
 
@@ -30,7 +28,7 @@ impl Agenda {
         requires few { length nodes.now < 2 ^ 30 }
         ensures all { IfOk result (λ agenda. agenda.all ≡ true) }
         ensures dues { IfOk result (λ agenda. length agenda.due ≡ length nodes.now) }
-        ensures dependents { IfOk result (λ agenda. AreDependents nodes.now (length nodes.now) agenda.dependents) }
+        ensures dependents { IfOk result (λ agenda. AreDependents nodes.now agenda.dependents) }
         ensures cells { IfOk result (λ agenda. AreCellNodes nodes.now (length nodes.now) agenda.cell_nodes.items) }
     {
         let mut due = Flags::new(alloc, nodes.len())?;
@@ -75,40 +73,34 @@ fn gather_marked(due: &mut Flags, cell_nodes: &[u32], numbers: &mut Numbers)
     }
 }
 
-// For each node those that name it, as lists of nodes that each stand twice, by their first operand and
-// by their second.
-fn dependents_of(alloc: Global, nodes: &[Node]) -> Result<Links, OutOfMemory>
+// For each node those that name it.
+fn dependents_of(alloc: Global, nodes: &[Node]) -> Result<FlatRows, OutOfMemory>
     requires pool { IsPool nodes.now }
     requires few { length nodes.now < 2 ^ 30 }
-    ensures { IfOk result (λ dependents. AreDependents nodes.now (length nodes.now) dependents) }
+    ensures { IfOk result (AreDependents nodes.now) }
 {
-    let mut dependents = Links::new(alloc, nodes.len() as u32, 2 * nodes.len() as u32)?;
+    let mut entries = Vec::with_capacity(alloc, nodes.len())?;
     for (number, node) in nodes.iter().enumerate() {
-        depend(&mut dependents, number as u32, *node);
+        put_entries(&mut entries, number as u32, *node)?;
     }
-    Ok(dependents)
+    FlatRows::new(alloc, nodes.len() as u32, &entries)
 }
 
-// Puts a node on the lists of those that it names.
-fn depend(dependents: &mut Links, number: u32, node: Node)
-    requires names { (i : ℕ) → Names node i → i < length dependents.old.lists }
-    requires here { 2 * number + 1 < dependents.old.nodes }
-    requires few { dependents.old.nodes ≤ 2 ^ 31 }
-    ensures stands { StandsOn dependents.new.lists number node }
-    ensures others { (other : ℕ) → other ≢ 2 * number → other ≢ 2 * number + 1
-        → holder_of dependents.new.lists other ≡ holder_of dependents.old.lists other }
-    ensures lists { length dependents.new.lists ≡ length dependents.old.lists }
-    ensures nodes { dependents.new.nodes ≡ dependents.old.nodes }
+// Puts the entries of a node at the end of others.
+fn put_entries(entries: &mut Vec<Entry>, number: u32, node: Node) -> Result<(), OutOfMemory>
+    ensures { OnOk result (entries.new.items ≡ entries.old.items ++ entries_of number node) }
 {
     match node {
         Node::Const(_) => {}
-        Node::Cell { pointer, .. } => put(dependents, 2 * number, Some(pointer)),
-        Node::View { cell, .. } => put(dependents, 2 * number, Some(cell)),
+        Node::Cell { pointer: row, .. } | Node::View { cell: row, .. } => {
+            entries.push(Entry { row, number })?;
+        }
         Node::Arith { left, right, .. } => {
-            put(dependents, 2 * number, Some(left));
-            put(dependents, 2 * number + 1, Some(right));
+            entries.push(Entry { row: left, number })?;
+            entries.push(Entry { row: right, number })?;
         }
     }
+    Ok(())
 }
 
 // The node of each cell, in order of first occurrence.

@@ -1,7 +1,8 @@
 //! Rows of flags.
 
 ghost use Rattle.std.specs.Prelude.{◌≡◌, ◌+◌, ◌*◌, ◌/◌, ◌^◌, ◌<◌, ◌≤◌, ℕ, true, length, replicate, slice_index_or, slice_set, IfOk, IfSome, None};
-ghost use Rattle.ra_memref.specs.Flags.{AreBlocked, NoneSet, IsFirstSet};
+ghost use Rattle.ra_memref.specs.Flags.{AreBlocked, IsFirstSet, NoneSet, SetsAll};
+ghost use Rattle.ra_memref.specs.Table.{IsListed};
 
 use crate::flag_row::FlagRow;
 use ra_text::OutOfMemory;
@@ -108,6 +109,16 @@ impl Flags {
             return Some(place);
         }
         next_by_blocks(&mut self.flags, &mut self.blocks, place)
+    }
+}
+
+/// Sets the flags of these places.
+pub fn set_all(flags: &mut Flags, places: &[u32])
+    requires { (k : ℕ) → IsListed k places.now → k < length flags.old }
+    ensures { SetsAll places.now flags.old flags.new }
+{
+    for place in places {
+        flags.put(*place as usize, true);
     }
 }
 

@@ -18,7 +18,7 @@ mod numbers;
 mod table;
 mod watches;
 
-pub use flags::Flags;
+pub use flags::{Flags, set_all};
 pub use laws::looking_back_holds;
 pub use names::{Names, names_of};
 pub use table::{Table, nodes_of};

@@ -14,9 +14,9 @@ ghost use Rattle.ra_text.specs.Words.{words_at};
 
 use crate::cell_view::CellView;
 use crate::changes::Changes;
-use crate::flags::Flags;
+use crate::flags::{Flags, set_all};
 use crate::node_plan::NodePlan;
-use crate::watches::{Watches, mark_listed};
+use crate::watches::Watches;
 use ra_indirect::Node;
 use ra_memory::Image;
 use ra_operand::{Kind, compute, mask, transform, view};
@@ -308,7 +308,7 @@ impl Numbers {
         let outcome = self.follow(image, nodes[number], slots, number);
         due.put(number, outcome.again);
         if outcome.seen {
-            mark_listed(plan.dependents, due, number as u32);
+            set_all(due, plan.dependents.row(number));
         }
         outcome.changed
     }

@@ -222,8 +222,8 @@ fn unmark(all: bool, marks: &mut Flags, cell: usize)
     marks.put(cell, false);
 }
 
-/// Marks what stands on a list by one of its two nodes.
-pub fn mark_listed(lists: &Links, marks: &mut Flags, list: u32)
+// Marks what stands on a list by one of its two nodes.
+fn mark_listed(lists: &Links, marks: &mut Flags, list: u32)
     requires list { list < length lists.now.lists }
     requires nodes { lists.now.nodes ≤ 2 * length marks.old }
     ensures long { length marks.new ≡ length marks.old }

@@ -1,37 +1,25 @@
-use Rattle.ra_memref.proofs.AgendaLemmas.{depended_none, depended_more, named_below}
-use Rattle.std.proofs.Common.{arith, refl, subst, ◌≡◌, length}
+use Rattle.std.proofs.Common.{◌≡◌, ◌∙◌, length, ap, arith, subst, sym}
+use Rattle.std.proofs.lemmas.Result.{IfOk-weaker}
+use Rattle.ra_links.specs.FlatRows.{rows_by}
 use Rattle.ra_memref.specs.Due.{AreDependents}
+use Rattle.ra_memref.proofs.AgendaLemmas.{AreNaming, dependents_by, naming_more, naming_none}
 use Rattle.ra_memref.proofs.agenda.dependents_of.Goals as goal
 
--- src/agenda.rt:99:5
 pub loop-number-init : goal.loop-number-init
-loop-number-init c = depended_none c.args.nodes.now c.in_ok-dependents.dependents c.in_ok-dependents.ensures
+loop-number-init c = rw c.in_ok-entries.ensures.items (naming_none c.args.nodes.now)
 
--- src/agenda.rt:100:9
-pub depend-requires-clause-names : goal.depend-requires-clause-names
-depend-requires-clause-names c = λ i named. omega (
-  arith,
-  named_below c.args.nodes.now c.requires.pool c.loop-number.number c.loop-number-test.true _ refl i named,
-  c.loop-number.invariant.lists,
-)
-
--- src/agenda.rt:100:9
-pub depend-requires-clause-here : goal.depend-requires-clause-here
-depend-requires-clause-here c = omega (arith, c.loop-number-test.true, c.loop-number.invariant.nodes_too)
-
--- src/agenda.rt:100:9
-pub depend-requires-clause-few : goal.depend-requires-clause-few
-depend-requires-clause-few c = omega (arith, c.requires.few, c.loop-number.invariant.nodes_too)
-
--- src/agenda.rt:99:5
 pub loop-number-preserved : goal.loop-number-preserved
-loop-number-preserved c =
-    depended_more c.args.nodes.now c.loop-number.dependents c.depend.new.dependents c.loop-number.number
-    c.loop-number.invariant c.depend.ensures.stands c.depend.ensures.others c.depend.ensures.lists
-    c.depend.ensures.nodes
+loop-number-preserved c = rw c.in_ok-put_entries.ensures
+    (naming_more c.args.nodes.now c.requires.pool c.loop-number.entries.items c.loop-number.number
+    c.loop-number-test.true c.loop-number.invariant)
 
--- src/agenda.rt:93:1
 pub returns : goal.returns
 returns c =
-    let end : c.loop-number.number ≡ length c.args.nodes.now = omega arith in
-    subst (λ n. AreDependents c.args.nodes.now n c.loop-number.dependents) end c.loop-number.invariant
+    let nodes = c.args.nodes.now in
+    let entries = c.loop-number.entries.items in
+    let end : c.loop-number.number ≡ length nodes = omega arith in
+    IfOk-weaker c.new.result _ _
+    (λ rows is. subst (AreDependents nodes) (sym (is ∙ ap (rows_by (length nodes)) c.deref.ensures.value)) (
+    dependents_by nodes c.requires.pool entries
+    (subst (λ n. AreNaming nodes n entries) end c.loop-number.invariant)))
+    c.new.ensures

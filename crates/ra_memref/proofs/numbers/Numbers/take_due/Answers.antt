@@ -1,4 +1,5 @@
-use Rattle.std.proofs.Common.{refl, slice_set, ◌∙◌, sym}
+use Rattle.std.proofs.Common.{refl, slice_set, ◌∙◌, ap, arith, length, length-set, subst, sym}
+use Rattle.ra_links.specs.FlatRows.{IsListed}
 use Rattle.ra_indirect.specs.Pools.{node_at}
 use Rattle.ra_memref.proofs.Passed.{takes_node}
 use Rattle.ra_memref.proofs.PassLemmas.{node_within}
@@ -11,6 +12,15 @@ follow-outcome-requires-clause-within g c =
     c.args.number c.requires.here
     c.args.self.now c.requires.sized (node_at c.args.plan.now.nodes.now c.args.number) refl
 
+pub set_all-requires : goal.set_all-requires
+set_all-requires g c = λ k is. omega (
+  arith,
+  c.requires.plan.dependents.within k c.args.number (subst (IsListed k) c.row.ensures is),
+  ap length c.put.ensures,
+  length-set c.args.due.now c.args.number c.follow-outcome.result.again,
+  c.requires.dues,
+)
+
 pub returns-then-outcome-clause-idle : goal.returns-then-outcome-clause-idle
 returns-then-outcome-clause-idle g c =
     let e = c.follow-outcome.ensures in
@@ -21,10 +31,10 @@ returns-then-outcome-clause-idle g c =
     (takes_node (node_at c.args.plan.now.nodes.now c.args.number) c.args.plan.now.slots.now bytes c.args.number
     c.args.self.now
     c.follow-outcome.new.self e.taken)
-    c.follow-outcome.result.again e.again c.args.due.now c.mark_listed.new.marks c.requires.dues
+    c.follow-outcome.result.again e.again c.args.due.now c.set_all.new.flags c.requires.dues
     (marked_seen c.args.plan.now.nodes.now c.args.number _ c.follow-outcome.result.again c.args.due.now
-    c.mark_listed.new.marks c.requires.dues c.args.plan.now.dependents.now c.requires.plan.dependents
-    (rw c.put.ensures at c.mark_listed.ensures.marked))
+    c.set_all.new.flags c.args.plan.now.dependents.now c.requires.plan.dependents
+    (rw (c.put.ensures, c.row.ensures) at c.set_all.ensures))
     c.requires.idle
 
 pub returns-else-outcome-clause-idle : goal.returns-else-outcome-clause-idle
