@@ -38,6 +38,14 @@ impl Comparisons {
         }
     }
 
+    /// No comparisons, with memory for this many. Memory is the only refusal.
+    pub fn with_room(alloc: Global, comparisons: usize) -> Result<Comparisons, OutOfMemory>
+        ensures { IfOk result (λ comparisons. comparisons ≡ []) }
+    {
+        let comparisons = IndexSet::with_capacity(alloc, comparisons)?;
+        Ok(Comparisons { comparisons })
+    }
+
     /// How many comparisons there are.
     pub fn len(&self) -> u32
         ensures len { result ≡ length self.now }
