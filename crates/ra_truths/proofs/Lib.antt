@@ -1,5 +1,4 @@
 pub mod ComparisonLemmas
-pub mod FlatLemmas
-pub mod ListLemmas
+pub mod UsesLemmas
 pub mod SettlingLemmas
 pub mod TakingLemmas

@@ -4,13 +4,14 @@ use Rattle.std.proofs.lemmas.List.{get_or-map, length-map}
 use Rattle.std.proofs.lemmas.Bool.{cases_eq}
 use Rattle.ra_operand.specs.declared.op.Op.TheVariants.{Bare}
 use Rattle.ra_operand.specs.Operators.{compared}
+use Rattle.ra_links.specs.Rows.{row_at}
 use Rattle.ra_memref.specs.Table.{TableSeen, IsListed, ListsChanged}
 use Rattle.ra_truths.specs.declared.comparison.Comparison.{Comparison}
 use Rattle.ra_truths.specs.Comparisons.{AreOver, comparison_at, holds_by, truths_by}
-use Rattle.ra_truths.specs.FlatRows.{FlatSeen, AreUses, row_of}
 use Rattle.ra_truths.specs.Kept.{KeptSeen, put_in}
 use Rattle.ra_truths.specs.Settling.{Settles}
 use Rattle.ra_truths.specs.Truths.{AreChanged, HasNone, IsTold, Takes, TruthsSeen}
+use Rattle.ra_truths.specs.Uses.{AreUses}
 use Rattle.ra_indirect.proofs.PoolLemmas.{below_or_last}
 use Rattle.ra_truths.proofs.SettlingLemmas.{differ_tells, settles_put, wanted_stays, wanted_put, room_for}
 
@@ -74,34 +75,32 @@ module _ (values : List ℕ) (comparisons : List Comparison) (old now : KeptSeen
   ]
 
 -- what stands on the row of a node that changed is the number of a comparison
-pub number_within : (comparisons : List Comparison) (rows : FlatSeen) (table : TableSeen) (values changed row : List ℕ)
+pub number_within : (comparisons : List Comparison) (rows : List (List ℕ)) (table : TableSeen) (values changed row : List ℕ)
     (p q : ℕ) → AreUses comparisons (length table.nodes) rows → AreChanged table values → changed ≡ table.changed
-    → p < length changed → row ≡ row_of rows (get_or changed p 0) → q < length row
+    → p < length changed → row ≡ row_at rows (get_or changed p 0) → q < length row
     → get_or row q 0 < length comparisons
 number_within comparisons rows table values changed row p q uses are all here is within =
-    let node : get_or changed p 0 < length table.nodes =
-    subst (λ ns. get_or ns p 0 < length table.nodes) (sym all) (are.nodes p (omega (arith, here, ap length all))) in
-    uses.within (get_or changed p 0) (get_or row q 0) node
+    uses.within (get_or changed p 0) (get_or row q 0)
     (subst (IsListed (get_or row q 0)) is (record { place = q; within = within; here = refl }))
 
-module _ (comparisons : List Comparison) (rows : FlatSeen) (table : TableSeen) (over : AreOver table.nodes comparisons)
+module _ (comparisons : List Comparison) (rows : List (List ℕ)) (table : TableSeen) (over : AreOver table.nodes comparisons)
     (uses : AreUses comparisons (length table.nodes) rows) (old now : KeptSeen)
     (told : IsTold comparisons old.truths table)
     (settles : Settles (truths_by table.values comparisons) old now) where
   -- the comparisons of each node that changed have their wanted truths
   abbrev pub AreDone : ℕ → Type 0
   AreDone count =
-      (p k : ℕ) → p < count → IsListed k (row_of rows (get_or table.changed p 0))
+      (p k : ℕ) → p < count → IsListed k (row_at rows (get_or table.changed p 0))
       → get_or now.truths k false ≡ get_or (truths_by table.values comparisons) k false
 
   module _ (done : AreDone (length table.changed)) (k : ℕ) (below : k < length comparisons) where
     abbrev c : Comparison
     c = comparison_at comparisons k
 
-    by_node : (node : ℕ) → IsListed node table.changed → IsListed k (row_of rows node)
+    by_node : (node : ℕ) → IsListed node table.changed → IsListed k (row_at rows node)
         → get_or now.truths k false ≡ get_or (truths_by table.values comparisons) k false
     by_node node is on =
-        done is.place k is.within (subst (λ n. IsListed k (row_of rows n)) (sym is.here) on)
+        done is.place k is.within (subst (λ n. IsListed k (row_at rows n)) (sym is.here) on)
 
     as_before : get_or told.values c.left 0 ≡ get_or table.values c.left 0
         → get_or told.values c.right 0 ≡ get_or table.values c.right 0

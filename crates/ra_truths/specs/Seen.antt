@@ -1,8 +1,8 @@
 -- What truths are seen as, by their fields, and what these always have: docs/INTERNALS.md, "Truths of comparisons".
 use Rattle.std.specs.Prelude.{◌≡◌, ◌^◌, ◌≤◌, length}
 use Rattle.ra_truths.specs.declared.truths.Truths.TheInside.{Inside}
-use Rattle.ra_truths.specs.FlatRows.{AreUses}
 use Rattle.ra_truths.specs.Truths.{TruthsSeen}
+use Rattle.ra_truths.specs.Uses.{AreUses}
 
 -- truths by their fields
 abbrev pub truths_seen : Inside → TruthsSeen

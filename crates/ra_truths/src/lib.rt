@@ -5,10 +5,10 @@
 
 mod comparison;
 mod comparisons;
-mod flat_rows;
 mod kept;
 mod laws;
 mod truths;
+mod uses;
 
 pub use comparison::Comparison;
 pub use comparisons::Comparisons;

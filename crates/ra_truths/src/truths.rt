@@ -1,14 +1,15 @@
 ghost use Rattle.std.specs.Prelude.{◌≡◌, ◌≢◌, ◌<◌, ◌≤◌, ◌^◌, ◌+◌, [], true, false, length, replicate, slice_index, slice_index_or, IfOk};
 ghost use Rattle.ra_truths.specs.Comparisons.{AreOver, AreWithin, IsOver, comparison_at, holds_by, truths_by};
-ghost use Rattle.ra_truths.specs.FlatRows.{AreUses};
 ghost use Rattle.ra_truths.specs.Kept.{put_in};
 ghost use Rattle.ra_truths.specs.Settling.{Settles};
 ghost use Rattle.ra_truths.specs.Truths.{IsTold, Takes, AreChanged};
+ghost use Rattle.ra_truths.specs.Uses.{AreUses};
 
 use crate::comparison::Comparison;
 use crate::comparisons::Comparisons;
-use crate::flat_rows::FlatRows;
 use crate::kept::Kept;
+use crate::uses::uses_of;
+use ra_links::FlatRows;
 use ra_memref::Table;
 use ra_operand::compare;
 use ra_text::OutOfMemory;
@@ -56,7 +57,7 @@ impl Truths {
         }) }
     {
         let comparisons = listed(alloc, comparisons)?;
-        let rows = FlatRows::of_nodes(alloc, &comparisons, nodes)?;
+        let rows = uses_of(alloc, &comparisons, nodes)?;
         let kept = Kept::new(alloc, comparisons.len())?;
         Ok(Truths {
             comparisons,
@@ -134,7 +135,7 @@ fn listed(alloc: Global, comparisons: &Comparisons) -> Result<Vec<Comparison>, O
     ensures comparisons { IfOk result (λ list. list.items ≡ comparisons.now) }
     ensures most { length comparisons.now ≤ 2 ^ 30 }
 {
-    let mut list = Vec::new(alloc);
+    let mut list = Vec::with_capacity(alloc, comparisons.len() as usize)?;
     for number in 0..comparisons.len() {
         list.push(comparisons.comparison(number))?;
     }

@@ -3,7 +3,7 @@ use Rattle.std.proofs.lemmas.List.{length-map}
 use Rattle.ra_indirect.proofs.PoolLemmas.{below_or_last}
 use Rattle.ra_memref.specs.Table.{IsListed}
 use Rattle.ra_truths.specs.Comparisons.{holds_by, truths_by}
-use Rattle.ra_truths.specs.FlatRows.{row_of}
+use Rattle.ra_links.specs.Rows.{row_at}
 use Rattle.ra_truths.proofs.SettlingLemmas.{settles_none, settled_all}
 use Rattle.ra_truths.proofs.TakingLemmas.{settles_one, stays_one, room_one, row_more, number_within, settled_changed}
 use Rattle.ra_truths.proofs.truths.settle_changed.Goals as goal
@@ -76,7 +76,7 @@ loop-node-preserved c =
         | inl before ↦ c.loop-number.invariant.kept k (c.loop-node.invariant.done p k before on)
         | inr here ↦
             let there = subst (IsListed k)
-            (ap (λ i. row_of rows (get_or changed i 0)) here ∙ sym c.row-number-items.ensures) on in
+            (ap (λ i. row_at rows (get_or changed i 0)) here ∙ sym c.row-number-items.ensures) on in
             subst (λ i. get_or c.loop-number.kept.truths i false ≡ get_or wanted i false) there.here
             (c.loop-number.invariant.done there.place (omega (arith, there.within, c.loop-number-test.false)))
       ];
@@ -90,7 +90,7 @@ returns-clause-settled c =
     let wanted = truths_by c.args.table.now.values c.args.comparisons.now in
     let kept = c.loop-node.kept in
     let settles = c.loop-node.invariant.settles in
-    let done = subst (λ (ns : List ℕ). (p k : ℕ) → p < length ns → IsListed k (row_of rows (get_or ns p 0))
+    let done = subst (λ (ns : List ℕ). (p k : ℕ) → p < length ns → IsListed k (row_at rows (get_or ns p 0))
     → get_or kept.truths k false ≡ get_or wanted k false) c.changed-node-items.ensures
     (λ p k below. c.loop-node.invariant.done p k (omega (arith, below, c.loop-node-test.false))) in
     settled_all wanted c.args.kept.now kept settles

@@ -1,7 +1,7 @@
 use Rattle.std.proofs.Common.{◌≡◌, ℕ, ◌<◌, false, get_or}
 use Rattle.ra_memref.specs.Table.{IsListed}
 use Rattle.ra_truths.specs.Comparisons.{truths_by}
-use Rattle.ra_truths.specs.FlatRows.{row_of}
+use Rattle.ra_links.specs.Rows.{row_at}
 use Rattle.ra_truths.specs.Settling.{Settles}
 use Rattle.ra_truths.proofs.truths.settle_changed.Given as goal
 
@@ -9,7 +9,7 @@ use Rattle.ra_truths.proofs.truths.settle_changed.Given as goal
 abbrev pub invariant-loop-node : goal.invariant-loop-node
 invariant-loop-node l = record {
   settles : Settles (truths_by l.table.values l.comparisons) l.fn.kept l.kept;
-  done : (p k : ℕ) → p < l.node-index → IsListed k (row_of l.rows (get_or l.node-items p 0))
+  done : (p k : ℕ) → p < l.node-index → IsListed k (row_at l.rows (get_or l.node-items p 0))
       → get_or l.kept.truths k false ≡ get_or (truths_by l.table.values l.comparisons) k false;
 }
 
