@@ -4,6 +4,7 @@ pub mod Given
 pub mod Groups
 pub mod Inputs
 pub mod Owing
+pub mod Noted
 pub mod Readers
 pub mod Schedules
 pub mod Signals

@@ -1,6 +1,5 @@
 -- Who reads a node, and who is due: docs/INTERNALS.md, "Readers of nodes".
-use Rattle.std.specs.Prelude.{◌≡◌, ◌≢◌, ◌⊎◌, ℕ, ◌-◌, ◌<◌, Bool, true, false, Some, List, [], map, length, slice_get, slice_index_or, Vec}
-use Rattle.std.specs.Global.{Global}
+use Rattle.std.specs.Prelude.{◌≡◌, ◌⊎◌, ℕ, ◌-◌, ◌<◌, Bool, true, false, Some, List, [], length, replicate, slice_get, slice_index_or}
 pub use Rattle.ra_memref.specs.Table.{IsListed}
 
 -- for each node the readers that are noted for it, and for each reader whether it is due
@@ -8,13 +7,9 @@ pub record ReadersSeen : Type 0 where
   pub rows : List (List ℕ)
   pub due : List Bool
 
--- what rows and flags are seen as
-abbrev pub seen_of : List (Vec ℕ Global) → List Bool → ReadersSeen
-seen_of rows due = record { rows = map (λ row. row.items) rows; due = due }
-
--- no number is added to a list but this one
-abbrev pub AddsNone : (but : ℕ) → (old new : List ℕ) → Type 0
-AddsNone but old new = (n : ℕ) → n ≢ but → IsListed n new → IsListed n old
+-- readers that are all due
+abbrev pub all_woken : ReadersSeen → ReadersSeen
+all_woken readers = record readers { due = replicate (length readers.due) true }
 
 -- a number is the last of a list
 abbrev pub IsLast : (n : ℕ) → List ℕ → Type 0
@@ -35,13 +30,6 @@ pub record Notes (node reader : ℕ) (old new : ReadersSeen) : Type 0 where
   pub only : (n r : ℕ) → Reads new n r → Reads old n r ⊎ ((n ≡ node) × (r ≡ reader))
   pub rows : length new.rows ≡ length old.rows
   pub due : new.due ≡ old.due
-
--- who stands in a row is due, who is still not due was not, and who became due stands there
-pub record WakesRow (row : List ℕ) (old new : List Bool) : Type 0 where
-  pub long : length new ≡ length old
-  pub kept : (r : ℕ) → slice_index_or new r true ≡ false → slice_index_or old r true ≡ false
-  pub woken : (r : ℕ) → IsListed r row → slice_index_or new r true ≡ true
-  pub only : (r : ℕ) → slice_index_or old r true ≡ false → slice_index_or new r true ≡ true → IsListed r row
 
 -- a reader reads one of these nodes
 pub record ReadsOne (readers : ReadersSeen) (nodes : List ℕ) (reader : ℕ) : Type 0 where

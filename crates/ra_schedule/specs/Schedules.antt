@@ -6,7 +6,7 @@ use Rattle.ra_memref.specs.Table.{TableSeen}
 use Rattle.ra_truths.specs.declared.comparison.Comparison.{Comparison}
 use Rattle.ra_truths.specs.Comparisons.{AreOver, truths_by}
 use Rattle.ra_truths.specs.Truths.{IsTold, Takes, TruthsSeen}
-use Rattle.ra_schedule.specs.Readers.{ReadersSeen}
+use Rattle.ra_schedule.specs.Readers.{ReadersSeen, all_woken}
 use Rattle.ra_schedule.specs.Waking.{IsWoken, IsWokenAlone}
 
 -- what a schedule is seen as: who reads which signal and who is due, the comparisons among the signals with their truths, since which count of frames each place rests, and the count of now
@@ -41,10 +41,6 @@ as_hits_tell (Some frames) = Some (min frames 4294967295)
 -- the count of frames after one, which stops at the last number
 abbrev pub next_count : ℕ → ℕ
 next_count clock = min (clock + 1) 18446744073709551615
-
--- readers that are all due
-abbrev pub all_woken : ReadersSeen → ReadersSeen
-all_woken readers = record readers { due = replicate (length readers.due) true }
 
 -- the truths of comparisons of which none was taken yet
 abbrev pub no_truths : (nodes : ℕ) → List Comparison → TruthsSeen

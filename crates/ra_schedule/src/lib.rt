@@ -8,6 +8,7 @@ mod counts;
 mod laws;
 mod member_counts;
 mod needed;
+mod noted_readers;
 mod paying;
 mod readers;
 mod reads;
@@ -24,6 +25,7 @@ pub use laws::{
 };
 pub use member_counts::{Judged, MemberCounts, counted_row, pay_member};
 pub use needed::{groups_need_few_numbers, triggers_need_few_numbers, values_need_few_numbers};
+pub use noted_readers::NotedReaders;
 pub use readers::Readers;
 pub use reads::{note_trigger, note_value};
 pub use room::{Room, ValueRoom, note_row};

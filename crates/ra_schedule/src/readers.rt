@@ -1,38 +1,43 @@
-ghost use Rattle.std.specs.Prelude.{◌≡◌, ◌+◌, ◌++◌, ◌<◌, ℕ, true, [], ◌∷◌, length, map, replicate, slice_index, slice_index_or, slice_set, IfOk, IfSome, OnOk, OnErr, None};
+ghost use Rattle.std.specs.Prelude.{◌≡◌, ◌+◌, ◌<◌, ℕ, true, length, map, replicate, slice_index, slice_set, IfOk, IfSome, None};
 ghost use Rattle.ra_memref.specs.Flags.{NoneSet, IsFirstSet};
-ghost use Rattle.ra_schedule.specs.Readers.{ReadersSeen, IsListed, IsLast, AddsNone, Notes, WakesRow, Wakes};
+ghost use Rattle.ra_schedule.specs.Readers.{Wakes, all_woken};
 
-use ra_memref::Flags;
+use crate::noted_readers::NotedReaders;
+use ra_links::FlatRows;
+use ra_memref::{Flags, set_all};
 use ra_text::OutOfMemory;
 use std::alloc::Global;
 use std::marker::Model;
 
 /// Which readers read each node of a table, and which of them are due: docs/INTERNALS.md, "Readers of nodes".
 ///
-/// Nodes and readers go by their numbers, from 0 on. Only `new` and `note` take memory.
+/// Nodes and readers go by their numbers, from 0 on. Only `new` takes memory.
 #[derive(Drop)]
 pub struct Readers {
-    rows: Vec<Vec<u32>>,
+    rows: FlatRows,
     due: Flags,
 }
 
 impl Model for Readers {
-    ghost use Rattle.ra_schedule.specs.Readers.{ReadersSeen, AreWithin, seen_of};
+    ghost use Rattle.ra_schedule.specs.Readers.{ReadersSeen, AreWithin};
 
     ghost Value = { ReadersSeen };
 
-    ghost view = { λ r. seen_of r.rows.items r.due };
+    ghost view = { λ r. record { rows = r.rows; due = r.due } };
 
-    ghost invariant = { λ r. AreWithin (seen_of r.rows.items r.due) };
+    ghost invariant = { λ r. AreWithin (record { rows = r.rows; due = r.due }) };
 }
 
 impl Readers {
-    /// No reader reads any of this many nodes, and this many readers are all due. Memory is the only refusal.
-    pub fn new(alloc: Global, nodes: usize, readers: usize) -> Result<Readers, OutOfMemory>
-        ensures { IfOk result (λ r. r ≡ record { rows = replicate nodes []; due = replicate readers true }) }
+    /// Those that were noted, which are all due. Memory is the only refusal.
+    pub fn new(alloc: Global, noted: &NotedReaders) -> Result<Readers, OutOfMemory>
+        ensures { IfOk result (λ r. r ≡ all_woken noted.now) }
     {
-        let rows = empty_rows(alloc, nodes)?;
-        let due = Flags::new(alloc, readers)?;
+        let Ok(nodes) = u32::try_from(noted.nodes()) else {
+            return Err(OutOfMemory);
+        };
+        let rows = FlatRows::new(alloc, nodes, &noted.entries)?;
+        let due = Flags::new(alloc, noted.readers)?;
         Ok(Readers { rows, due })
     }
 
@@ -40,32 +45,7 @@ impl Readers {
     pub fn nodes(&self) -> usize
         ensures { result ≡ length self.now.rows }
     {
-        self.rows.len()
-    }
-
-    /// Notes that a reader reads a node. The one that was noted last for the node is not put twice.
-    ///
-    /// `OutOfMemory` where memory ends, and then nothing is noted.
-    pub fn note(&mut self, node: u32, reader: u32) -> Result<(), OutOfMemory>
-        requires node { node < length self.old.rows }
-        requires reader { reader < length self.old.due }
-        ensures noted { OnOk result (Notes node reader self.old self.new) }
-        ensures err { OnErr result (self.new ≡ self.old) }
-        ensures again { IsLast reader (slice_index_or self.old.rows node []) → self.new ≡ self.old }
-        // Noted or not:
-        ensures rows { length self.new.rows ≡ length self.old.rows }
-        ensures due { self.new.due ≡ self.old.due }
-    {
-        put_last(&mut self.rows[node as usize], reader)
-    }
-
-    /// Adds a node after the others, which no reader reads. Memory is the only refusal.
-    pub fn add(&mut self, alloc: Global) -> Result<(), OutOfMemory>
-        ensures added { OnOk result (self.new ≡ record self.old { rows = self.old.rows ++ [] ∷ [] }) }
-        ensures err { OnErr result (self.new ≡ self.old) }
-    {
-        self.rows.push(Vec::new(alloc))?;
-        Ok(())
+        self.rows.rows()
     }
 
     /// Makes the readers of these nodes due, which are counted from one on.
@@ -74,7 +54,7 @@ impl Readers {
         ensures { Wakes (map (λ n. from + n) nodes.now) self.old self.new }
     {
         for node in nodes {
-            wake_row(&self.rows[from as usize + *node as usize], &mut self.due);
+            set_all(&mut self.due, self.rows.row(from as usize + *node as usize));
         }
     }
 
@@ -100,40 +80,5 @@ impl Readers {
         ensures { self.new ≡ record self.old { due = slice_set self.old.due reader due } }
     {
         self.due.put(reader, due);
-    }
-}
-
-// This many rows without a number.
-fn empty_rows(alloc: Global, count: usize) -> Result<Vec<Vec<u32>>, OutOfMemory>
-    ensures { IfOk result (λ rows. map (λ row. row.items) rows.items ≡ replicate count []) }
-{
-    let mut rows = Vec::with_capacity(alloc, count)?;
-    for _ in 0..count {
-        rows.push(Vec::new(alloc))?;
-    }
-    Ok(rows)
-}
-
-// Puts a number at the end of a row, unless it is its last.
-fn put_last(row: &mut Vec<u32>, number: u32) -> Result<(), OutOfMemory>
-    ensures listed { OnOk result (IsListed number row.new.items) }
-    ensures kept { (n : ℕ) → IsListed n row.old.items → IsListed n row.new.items }
-    ensures no_other { AddsNone number row.old.items row.new.items }
-    ensures again { IsLast number row.old.items → row.new.items ≡ row.old.items }
-    ensures err { OnErr result (row.new.items ≡ row.old.items) }
-{
-    if row.last().copied() != Some(number) {
-        row.push(number)?;
-    }
-    Ok(())
-}
-
-// Makes the readers of a row due.
-fn wake_row(row: &[u32], due: &mut Flags)
-    requires { (reader : ℕ) → IsListed reader row.now → reader < length due.old }
-    ensures { WakesRow row.now due.old due.new }
-{
-    for reader in row {
-        due.put(*reader as usize, true);
     }
 }

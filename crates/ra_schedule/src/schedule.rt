@@ -49,11 +49,11 @@ impl Schedule {
         let Signals {
             nodes,
             comparisons,
-            mut readers,
+            readers,
             ..
         } = signals;
+        let readers = Readers::new(alloc, &readers)?;
         let truths = Truths::new(alloc, &comparisons, nodes)?;
-        readers.wake_all();
         let since = vec![in alloc; None; places]?;
         Ok(Schedule {
             readers,

@@ -2,7 +2,7 @@ ghost use Rattle.std.specs.Prelude.{◌≡◌, ◌+◌, ◌<◌, ◌≤◌, ◌^
 ghost use Rattle.ra_truths.specs.Comparisons.{IsWithin};
 ghost use Rattle.ra_schedule.specs.Signals.{NotesComparison, NotesNode};
 
-use crate::readers::Readers;
+use crate::noted_readers::NotedReaders;
 use ra_text::OutOfMemory;
 use ra_truths::{Comparison, Comparisons};
 use std::alloc::Global;
@@ -18,7 +18,7 @@ const MOST: u32 = 1 << 30;
 pub struct Signals {
     pub(crate) nodes: u32,
     pub(crate) comparisons: Comparisons,
-    pub(crate) readers: Readers,
+    pub(crate) readers: NotedReaders,
     alloc: Global,
 }
 
@@ -48,8 +48,8 @@ impl Signals {
           readers = record { rows = replicate nodes []; due = replicate places true };
         }) }
     {
-        let readers = Readers::new(alloc, nodes as usize, places)?;
-        let comparisons = Comparisons::new(alloc);
+        let readers = NotedReaders::new(alloc, nodes as usize, places)?;
+        let comparisons = Comparisons::with_room(alloc, nodes as usize / 2)?;
         Ok(Signals {
             nodes,
             comparisons,
@@ -83,7 +83,7 @@ impl Signals {
             return Err(OutOfMemory);
         }
         if self.readers.nodes() == (self.nodes + count) as usize {
-            self.readers.add(self.alloc)?;
+            self.readers.add()?;
         }
         let number = self.comparisons.intern(comparison)?;
         self.readers.note(self.nodes + number, reader)

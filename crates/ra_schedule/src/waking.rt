@@ -1,8 +1,8 @@
 //! Readers that are woken at a frame.
 
 ghost use Rattle.std.specs.Prelude.{◌≡◌, ◌+◌, ◌<◌, ◌/◌, true, false, ℕ, length, nat_lt, slice_index};
-ghost use Rattle.ra_schedule.specs.Readers.{Wakes};
-ghost use Rattle.ra_schedule.specs.Schedules.{all_woken, signals_at};
+ghost use Rattle.ra_schedule.specs.Readers.{Wakes, all_woken};
+ghost use Rattle.ra_schedule.specs.Schedules.{signals_at};
 
 use crate::readers::Readers;
 use ra_memref::Table;

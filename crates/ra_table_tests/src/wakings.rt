@@ -2,7 +2,7 @@
 
 ghost use Rattle.std.specs.Prelude.{◌≡◌, length, IfOk};
 
-use ra_schedule::Readers;
+use ra_schedule::{NotedReaders, Readers};
 use ra_text::OutOfMemory;
 use std::alloc::Global;
 
@@ -11,21 +11,21 @@ fn noted(alloc: Global) -> Result<Readers, OutOfMemory>
     ensures rows { IfOk result (λ readers. length readers.rows ≡ 3) }
     ensures due { IfOk result (λ readers. length readers.due ≡ 3) }
 {
-    let mut readers = Readers::new(alloc, 3, 3)?;
-    note_all(&mut readers)?;
-    Ok(readers)
+    let mut noted = NotedReaders::new(alloc, 3, 3)?;
+    note_all(&mut noted)?;
+    Readers::new(alloc, &noted)
 }
 
-fn note_all(readers: &mut Readers) -> Result<(), OutOfMemory>
-    requires rows { length readers.old.rows ≡ 3 }
-    requires due { length readers.old.due ≡ 3 }
-    ensures rows { length readers.new.rows ≡ 3 }
-    ensures due { length readers.new.due ≡ 3 }
+fn note_all(noted: &mut NotedReaders) -> Result<(), OutOfMemory>
+    requires rows { length noted.old.rows ≡ 3 }
+    requires due { length noted.old.due ≡ 3 }
+    ensures rows { length noted.new.rows ≡ 3 }
+    ensures due { length noted.new.due ≡ 3 }
 {
-    readers.note(0, 1)?;
-    readers.note(2, 2)?;
-    readers.note(2, 2)?;
-    readers.note(2, 0)
+    noted.note(0, 1)?;
+    noted.note(2, 2)?;
+    noted.note(2, 2)?;
+    noted.note(2, 0)
 }
 
 // Which readers are due at first, while the first rests, and while all do.

@@ -9,8 +9,8 @@ use Rattle.ra_memref.specs.Table.{TableSeen}
 use Rattle.ra_truths.specs.declared.comparison.Comparison.{Comparison}
 use Rattle.ra_truths.specs.Comparisons.{comparison_at, holds_by}
 use Rattle.ra_truths.proofs.TakingLemmas.{truth_by}
-use Rattle.ra_schedule.specs.Readers.{IsListed, ReadersSeen, Reads, Wakes}
-use Rattle.ra_schedule.specs.Schedules.{Begins, IsHeard, ScheduleSeen, all_woken, is_due}
+use Rattle.ra_schedule.specs.Readers.{IsListed, ReadersSeen, Reads, Wakes, all_woken}
+use Rattle.ra_schedule.specs.Schedules.{Begins, IsHeard, ScheduleSeen, is_due}
 use Rattle.ra_schedule.specs.Signals.{AreFront}
 use Rattle.ra_member.specs.Members.{MemberContents}
 use Rattle.ra_schedule.specs.Inputs.{Instant, SeeSame, TestsSeeSame, ValuesSeeSame, MemberSeesSame}
@@ -19,7 +19,8 @@ use Rattle.ra_group.specs.declared.form.Form.TheVariants.{InTrigger, InValue}
 use Rattle.ra_member.specs.Frames.{lefts_at}
 use Rattle.ra_schedule.specs.Waking.{Agrees, AreChanged, IsTold, IsWoken}
 use Rattle.ra_schedule.proofs.Resting.Lefts.{give_through}
-use Rattle.ra_schedule.proofs.WhoReads.WakeLemmas.{listed_back, listed_front, listed_map}
+use Rattle.ra_links.proofs.Listed.{listed_back, listed_front}
+use Rattle.ra_schedule.proofs.WhoReads.WakeLemmas.{listed_map}
 
 -- what sees the same at a second instant as at a first, and at a third as at the second, sees the same at the third as at the first
 module _ (one two three : Instant) where

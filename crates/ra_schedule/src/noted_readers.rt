@@ -1,0 +1,85 @@
+ghost use Rattle.std.specs.Prelude.{◌≡◌, ◌++◌, ◌<◌, true, [], ◌∷◌, length, replicate, slice_index_or, IfOk, OnOk, OnErr};
+ghost use Rattle.ra_schedule.specs.Readers.{IsLast, Notes};
+
+use ra_links::Entry;
+use ra_text::OutOfMemory;
+use std::alloc::Global;
+use std::marker::Model;
+
+/// Which readers read each node of a table, while they are noted: docs/INTERNALS.md, "Readers of nodes".
+///
+/// Nodes and readers go by their numbers, from 0 on. All readers are due.
+#[derive(Drop)]
+pub struct NotedReaders {
+    pub(crate) entries: Vec<Entry>,
+    // for each node the reader that was noted for it last
+    lasts: Vec<Option<u32>>,
+    pub(crate) readers: usize,
+}
+
+impl Model for NotedReaders {
+    ghost use Rattle.ra_schedule.specs.Readers.{ReadersSeen};
+    ghost use Rattle.ra_schedule.specs.Noted.{AreNoted, noted_seen};
+
+    ghost Value = { ReadersSeen };
+
+    ghost view = { λ r. noted_seen r.entries.items r.lasts.items r.readers };
+
+    ghost invariant = { λ r. AreNoted r.entries.items r.lasts.items r.readers };
+}
+
+impl NotedReaders {
+    /// No reader reads any of this many nodes, and this many readers are all due. Memory is the only refusal.
+    pub fn new(alloc: Global, nodes: usize, readers: usize) -> Result<NotedReaders, OutOfMemory>
+        ensures { IfOk result (λ r. r ≡ record { rows = replicate nodes []; due = replicate readers true }) }
+    {
+        let entries = Vec::with_capacity(alloc, nodes / 2)?;
+        let lasts = vec![in alloc; None; nodes]?;
+        Ok(NotedReaders {
+            entries,
+            lasts,
+            readers,
+        })
+    }
+
+    /// How many nodes there are.
+    pub fn nodes(&self) -> usize
+        ensures { result ≡ length self.now.rows }
+    {
+        self.lasts.len()
+    }
+
+    /// Notes that a reader reads a node. The one that was noted last for the node is not put twice.
+    ///
+    /// `OutOfMemory` where memory ends, and then nothing is noted.
+    pub fn note(&mut self, node: u32, reader: u32) -> Result<(), OutOfMemory>
+        requires node { node < length self.old.rows }
+        requires reader { reader < length self.old.due }
+        ensures noted { OnOk result (Notes node reader self.old self.new) }
+        ensures err { OnErr result (self.new ≡ self.old) }
+        ensures again { IsLast reader (slice_index_or self.old.rows node []) → self.new ≡ self.old }
+        // Noted or not:
+        ensures rows { length self.new.rows ≡ length self.old.rows }
+        ensures due { self.new.due ≡ self.old.due }
+    {
+        if self.lasts[node as usize] == Some(reader) {
+            return Ok(());
+        }
+        let entry = Entry {
+            row: node,
+            number: reader,
+        };
+        self.entries.push(entry)?;
+        self.lasts[node as usize] = Some(reader);
+        Ok(())
+    }
+
+    /// Adds a node after the others, which no reader reads. Memory is the only refusal.
+    pub fn add(&mut self) -> Result<(), OutOfMemory>
+        ensures added { OnOk result (self.new ≡ record self.old { rows = self.old.rows ++ [] ∷ [] }) }
+        ensures err { OnErr result (self.new ≡ self.old) }
+    {
+        self.lasts.push(None)?;
+        Ok(())
+    }
+}
