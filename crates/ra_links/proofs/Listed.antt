@@ -104,7 +104,8 @@ each_one P entry here (suc k) below = absurd (omega (arith, below))
 
 -- a number that stands on a row is that of an entry
 pub number_of_one : (P : ℕ → Type 0) (entries : List Entry)
-    → ((k : ℕ) → k < length entries → P (entry_at entries k).number) → (n row : ℕ) → IsListed n (numbers_on row entries) → P n
+    → ((k : ℕ) → k < length entries → P (entry_at entries k).number) → (n row : ℕ)
+    → IsListed n (numbers_on row entries) → P n
 number_of_one P [] each n row is = absurd (none_listed n is)
 number_of_one P (entry ∷ entries) each n row is = elim (listed_in (entry ∷ []) entries n row is) [
   | inl first ↦ subst P (sym (is_here entry n row first).1) (each 0 (omega arith))

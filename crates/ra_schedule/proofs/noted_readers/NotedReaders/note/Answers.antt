@@ -18,8 +18,8 @@ index-requires c = omega (
 pub returns-then-eq-clause-noted : goal.returns-then-eq-clause-noted
 returns-then-eq-clause-noted c =
     let s = c.self.inside in
-    let node = in_nodes s.entries.items s.lasts.items s.readers c.args.self.now c.self.view_is c.args.node c.requires.node
-    in
+    let node =
+    in_nodes s.entries.items s.lasts.items s.readers c.args.self.now c.self.view_is c.args.node c.requires.node in
     let last = c.index.ensures ∙ get_or_default s.lasts.items c.args.node c.index.result.now None node in
     subst (λ r. Notes c.args.node c.args.reader r r) c.self.view_is
     (notes_again s.entries.items s.lasts.items s.readers c.self.invariant c.args.node c.args.reader node
@@ -36,8 +36,8 @@ index_mut-requires c = omega (
 pub invariant_of-self-2 : goal.invariant_of-self-2
 invariant_of-self-2 c =
     let s = c.self.inside in
-    let node = in_nodes s.entries.items s.lasts.items s.readers c.args.self.now c.self.view_is c.args.node c.requires.node
-    in
+    let node =
+    in_nodes s.entries.items s.lasts.items s.readers c.args.self.now c.self.view_is c.args.node c.requires.node in
     let reader : c.args.reader < s.readers = omega (
       arith,
       c.requires.reader,
@@ -49,8 +49,8 @@ invariant_of-self-2 c =
 pub returns-clause-noted : goal.returns-clause-noted
 returns-clause-noted c =
     let s = c.self.inside in
-    let node = in_nodes s.entries.items s.lasts.items s.readers c.args.self.now c.self.view_is c.args.node c.requires.node
-    in
+    let node =
+    in_nodes s.entries.items s.lasts.items s.readers c.args.self.now c.self.view_is c.args.node c.requires.node in
     let lasts = set s.lasts.items c.args.node (Some c.args.reader) in
     subst (λ r. Notes c.args.node c.args.reader r (noted_seen c.push.new.self.items lasts s.readers)) c.self.view_is
     (subst (λ es. Notes c.args.node c.args.reader (noted_seen s.entries.items s.lasts.items s.readers)
@@ -60,8 +60,8 @@ returns-clause-noted c =
 pub returns-clause-again : goal.returns-clause-again
 returns-clause-again c = λ again.
     let s = c.self.inside in
-    let node = in_nodes s.entries.items s.lasts.items s.readers c.args.self.now c.self.view_is c.args.node c.requires.node
-    in
+    let node =
+    in_nodes s.entries.items s.lasts.items s.readers c.args.self.now c.self.view_is c.args.node c.requires.node in
     let last = c.index.ensures ∙ get_or_default s.lasts.items c.args.node c.index.result.now None node in
     let known = is_known s.entries.items s.lasts.items s.readers c.self.invariant c.args.node c.args.reader node
     (subst (λ (r : ReadersSeen). IsLast c.args.reader (get_or r.rows c.args.node [])) (sym c.self.view_is) again) in

@@ -30,7 +30,8 @@ loop-node-preserved c =
     ∙ map-append (λ n. c.args.from + n) (take c.loop-node.node-index c.args.nodes.now)
     (get_or c.args.nodes.now c.loop-node.node-index 0 ∷ []) in
     subst (λ nodes. Wakes nodes first after) (sym more)
-    (wakes_more nodes node first before after c.loop-node.invariant refl (subst (λ row. SetsAll row before.due after.due) c.row.ensures c.set_all.ensures))
+    (wakes_more nodes node first before after c.loop-node.invariant refl
+    (subst (λ row. SetsAll row before.due after.due) c.row.ensures c.set_all.ensures))
 
 pub returns : goal.returns
 returns c =
