@@ -42,6 +42,14 @@ impl Pool {
         }
     }
 
+    /// A pool without nodes, with memory for this many. Memory is the only refusal.
+    pub fn with_room(alloc: Global, nodes: usize) -> Result<Pool, OutOfMemory>
+        ensures { IfOk result (λ pool. pool ≡ []) }
+    {
+        let nodes = IndexSet::with_capacity(alloc, nodes)?;
+        Ok(Pool { nodes, zero: None })
+    }
+
     /// How many nodes there are.
     pub fn len(&self) -> u32
         ensures len { result ≡ length self.now }
