@@ -12,7 +12,6 @@ pub mod OwnOrder
 pub mod OwnFile
 pub mod OwnNames
 pub mod Owns
-pub mod Pairs
 pub mod Passes
 pub mod Placed
 pub mod SaysOpening

@@ -1,7 +1,7 @@
 //! Progress files: what a set keeps between runs, in three versions.
 //!
-//! Version 3 is written, and versions 1, 2 and 3 are read. What takes memory is `order_of`, `Said::new`,
-//! `decode`, `encode`, and the calls that write a file piece by piece.
+//! Version 3 is written, and versions 1, 2 and 3 are read. What takes memory is `order_of`, `OrderRoom::new`,
+//! `Said::new`, `decode`, `encode`, and the calls that write a file piece by piece.
 #![tactic(auto)]
 
 mod checking;
@@ -37,7 +37,7 @@ pub use laws::both_ways;
 pub use layout::{cell_count, entry_after, entry_count, first_entry, prior_count};
 pub use named::Named;
 pub use names::name_at;
-pub use order::order_of;
+pub use order::{OrderRoom, order_of};
 pub use places::{frames_at, item_at, length, length_1, presence_at};
 pub use ra_text::word_at;
 pub use range::matches;
