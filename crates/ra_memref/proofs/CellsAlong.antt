@@ -16,7 +16,7 @@ cell_with nodes pointer offset width =
     record { pointer = tree_in (spelled_at (spelled_by nodes) pointer); address = offset; width = width }
 
 -- a node that is none spells none
-no_cell_with : (spelled : List Spelled) (node : Node)
+pub no_cell_with : (spelled : List Spelled) (node : Node)
     → ((pointer offset width : ℕ) → node ≡ CellNode pointer offset width → ⊥) → cell_in (spelled_with spelled node) ≡ []
 no_cell_with spelled (Const n) other = refl
 no_cell_with spelled (CellNode pointer offset width) other = absurd (other pointer offset width refl)

@@ -20,7 +20,7 @@ use Rattle.ra_indirect.proofs.PoolLemmas.{below_or_last}
 use Rattle.ra_indirect.proofs.Spelling.{spelled_of, length-spelled_by}
 use Rattle.ra_indirect.proofs.SpelledLemmas.{GivesCell, may_follow, cell_at_cell, all_alone}
 use Rattle.ra_memref.specs.declared.layout.TrackedMask.{TrackedMask}
-use Rattle.ra_memref.specs.Layout.{cells_before, tracked_before, tracked_there, HasSlot, NotesMask, TakesSlot, IsLaid, tracked_of_mask, IsOfCell, AreMasks}
+use Rattle.ra_memref.specs.Layout.{cells_before, tracked_before, tracked_there, HasSlot, TakesSlot, IsLaid, tracked_of_mask, IsOfCell, AreMasks}
 use Rattle.ra_memref.proofs.LaidLemmas.{cells_one, cells_same, tracked_same, tracked_more, prior_tracks, none_tracked, is_cell_there, cells_all, tracked_all}
 
 -- what stands when the nodes below k have their slots
@@ -193,24 +193,3 @@ laying_none nodes = record {
   few_cells = omega arith;
   of_cells = λ m there. absurd (omega (arith, there.1));
 }
-
--- these are the masks of the first nodes, whatever slots and places go with them
-abbrev pub IsMasking : List Node → List TrackedMask → ℕ → Type 0
-IsMasking nodes masks k = (slots : List ℕ) × (places : List ℕ) × IsLaying nodes slots places masks k
-
--- a node more has its mask noted
-pub masking_more : (nodes : List Node) (pool : IsPool nodes) (masks masks' : List TrackedMask) (k : ℕ) → k < length nodes → IsMasking nodes masks k
-    → (node : Node) → node ≡ node_at nodes k → NotesMask node masks masks' → IsMasking nodes masks' (k + 1)
-masking_more nodes pool masks masks' k within (slots, places, laying) node same notes = by_node node same notes where
-  lies : (node : Node) → node ≡ node_at nodes k → (places' : List ℕ) (slot : ℕ) → TakesSlot node places places' masks masks' slot → IsMasking nodes masks' (k + 1)
-  lies node same places' slot takes = (slots ++ slot ∷ [], places', laying_more nodes pool slots places places' masks masks' slot k within laying node same takes)
-
-  by_node : (node : Node) → node ≡ node_at nodes k → NotesMask node masks masks' → IsMasking nodes masks' (k + 1)
-  by_node (Const n) same notes = lies (Const n) same places 0 (refl, notes)
-  by_node (CellNode pointer offset width) same notes = lies (CellNode pointer offset width) same (places ++ offset ∷ []) (length places) (refl, refl, notes)
-  by_node (View Mem size c) same notes = lies (View Mem size c) same places 0 (refl, notes)
-  by_node (View Delta size c) same notes = lies (View Delta size c) same places 0 (refl, notes)
-  by_node (View Prior size c) same notes = lies (View Prior size c) same places notes.0 (refl, notes.1)
-  by_node (View Bcd size c) same notes = lies (View Bcd size c) same places 0 (refl, notes)
-  by_node (View Inverted size c) same notes = lies (View Inverted size c) same places 0 (refl, notes)
-  by_node (Arith op left right) same notes = lies (Arith op left right) same places 0 (refl, notes)

@@ -22,6 +22,7 @@ pub mod PassEnds
 pub mod PassLemmas
 pub mod Passed
 pub mod PriorLemmas
+pub mod PutNames
 pub mod PuttingLemmas
 pub mod QuietLemmas
 pub mod TableLemmas

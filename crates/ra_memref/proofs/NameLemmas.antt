@@ -1,11 +1,9 @@
 -- The name of a node is that of what it spells.
-use Rattle.std.proofs.Common.{◌≡◌, ℕ, suc, ◌+◌, ◌<◌, inl, inr, Bool, true, List, [], ◌∷◌, ◌++◌, refl, sym, ap, ap₂}
-use Rattle.std.proofs.Common.{subst, ◌∙◌, arith, length, map, get_or, length-append}
+use Rattle.std.proofs.Common.{◌≡◌, ℕ, ◌+◌, ◌<◌, inl, inr, Bool, true, List, [], ◌∷◌, ◌++◌, refl, sym, ap, ap₂}
+use Rattle.std.proofs.Common.{subst, ◌∙◌, arith, length, get_or, length-append}
 use Rattle.std.proofs.lemmas.Bool.{cases_lt}
 use Rattle.std.proofs.lemmas.List.{get_or_append_left}
-use Rattle.std.proofs.lemmas.Simd.{map-map}
 use Rattle.std.proofs.Math.Seq.{get_or-append_seam}
-use Rattle.std.specs.List.{Contains}
 use Rattle.ra_operand.specs.declared.size.Size.{Size}
 use Rattle.ra_operand.specs.declared.kind.Kind.{Kind}
 use Rattle.ra_operand.specs.Views.{width_of}
@@ -13,16 +11,13 @@ use Rattle.ra_indirect.specs.declared.node.Node.{Node}
 use Rattle.ra_indirect.specs.declared.node.Node.TheVariants.{Const, Cell as CellNode, View, Arith}
 use Rattle.ra_indirect.specs.Trees.{Cell}
 use Rattle.ra_indirect.specs.Pools.{Spelled, IsTree, IsCell, tree_in, view_in, spelled_at, spelled_with, spelled_by}
-use Rattle.ra_indirect.specs.Pools.{MayFollow, node_at, tracked_of}
+use Rattle.ra_indirect.specs.Pools.{MayFollow, node_at}
 use Rattle.ra_indirect.specs.Interned.{IsPool}
 use Rattle.ra_indirect.proofs.Spelling.{spelled_of}
 use Rattle.ra_indirect.proofs.SpelledLemmas.{GivesTree, GivesCell, tree_at_valued, cell_at_cell, may_follow}
-use Rattle.ra_memref.specs.declared.layout.TrackedMask.{TrackedMask}
-use Rattle.ra_memref.specs.Layout.{cells_before, cell_there, tracked_of_mask, IsOfCell, AreMasks}
-use Rattle.ra_memref.specs.Names.{tree_name, cell_name, tracked_name, tracked_name_by, spelled_name, name_with}
+use Rattle.ra_memref.specs.Names.{tree_name, spelled_name, name_with}
 use Rattle.ra_memref.specs.Names.{view_name_by, cell_name_by, join_name_by, NamesBelow}
 use Rattle.ra_memref.specs.Naming.{is_wanted, HasWanted, AreWanted, NameCells}
-use Rattle.ra_memref.proofs.CellsAlong.{cell_with, along_cell}
 use Rattle.ra_memref.proofs.Wanted.{names_earlier}
 
 named_tree : (s : Spelled) → GivesTree s → tree_name (tree_in s) ≡ spelled_name s
@@ -111,35 +106,3 @@ module _ (nodes : List Node) (pool : IsPool nodes) where
           (sym (spelled_of nodes pool n under) ∙ is))
           ∙ ap spelled_name is;
     }
-
-  module _ (names : List (List ℕ)) (named : NameCells nodes names) where
-    -- a cell more has its name
-    pub cells_named : (cells : List (List ℕ)) (k : ℕ) → k < length nodes
-        → cells ≡ map cell_name (cells_before spelled k) → (pointer offset width : ℕ)
-        → node_at nodes k ≡ CellNode pointer offset width
-        → cells ++ get_or names k [] ∷ [] ≡ map cell_name (cells_before spelled (k + 1))
-    cells_named cells k within are pointer offset width same =
-        let is = spelled_of nodes pool k within ∙ ap (spelled_with spelled) same in
-        ap (λ name. cells ++ name ∷ []) (named.each k (cell_with nodes pointer offset width) within is)
-        ∙ along_cell nodes pool (List ℕ) cell_name cells k within are pointer offset width same
-
-    -- the name of a mask, from that of its cell
-    abbrev pub mask_name : TrackedMask → List ℕ
-    mask_name m = tracked_name_by (get_or names m.cell []) m.mask
-
-    masks_named_in : (masks : List TrackedMask) → ((m : TrackedMask) → Contains masks m → IsOfCell nodes m)
-        → map mask_name masks ≡ map (λ m. tracked_name (tracked_of_mask nodes m)) masks
-    masks_named_in [] of_cells = refl
-    masks_named_in (m ∷ masks) of_cells =
-        let of = of_cells m (0, omega arith, refl) in
-        ap₂ (λ name more. name ∷ more)
-        (ap (λ name. tracked_name_by name m.mask)
-        (named.each m.cell (cell_there (spelled_at spelled m.cell)) of.0 of.1))
-        (masks_named_in masks (λ m' there. of_cells m' (suc there.0, omega (arith, there.1), there.2)))
-
-    -- the names of the tracked masks of the pool
-    pub masks_named : (masks : List TrackedMask) → AreMasks nodes masks
-        → map mask_name masks ≡ map tracked_name (tracked_of nodes)
-    masks_named masks are =
-        masks_named_in masks are.of_cells ∙ sym (map-map tracked_name (tracked_of_mask nodes) masks)
-        ∙ ap (map tracked_name) are.tracked

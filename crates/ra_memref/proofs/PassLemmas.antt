@@ -35,11 +35,11 @@ module _ (nodes : List Node) (pool : IsPool nodes) (slots : List ℕ) (laid : Is
   inside k within = omega (arith, length-spelled_by nodes)
 
   -- where the number of a cell's node is kept
-  record IsCellSlot (c slot : ℕ) : Type 0 where
-    here : slot ≡ length (cells_before spelled c)
-    stands : get_or (cells_of nodes) slot no_cell ≡ cell_there (spelled_at spelled c)
-    below : (k : ℕ) → c < k → slot < length (cells_before spelled k)
-    within : slot < length (cells_of nodes)
+  pub record IsCellSlot (c slot : ℕ) : Type 0 where
+    pub here : slot ≡ length (cells_before spelled c)
+    pub stands : get_or (cells_of nodes) slot no_cell ≡ cell_there (spelled_at spelled c)
+    pub below : (k : ℕ) → c < k → slot < length (cells_before spelled k)
+    pub within : slot < length (cells_of nodes)
 
   slot_by : (width c : ℕ) (node : Node) → node_at nodes c ≡ node → IsCellOf width node → HasSlot spelled c node (get_or slots c 0) → get_or slots c 0 ≡ length (cells_before spelled c)
   slot_by width c (Const n) same is has = absurd is
@@ -47,7 +47,7 @@ module _ (nodes : List Node) (pool : IsPool nodes) (slots : List ℕ) (laid : Is
   slot_by width c (View kind size d) same is has = absurd is
   slot_by width c (Arith op left right) same is has = absurd is
 
-  cell_slot : (width c : ℕ) → c < length nodes → IsCellOf width (node_at nodes c) → IsCellSlot c (get_or slots c 0)
+  pub cell_slot : (width c : ℕ) → c < length nodes → IsCellOf width (node_at nodes c) → IsCellSlot c (get_or slots c 0)
   cell_slot width c within is =
       let here = slot_by width c (node_at nodes c) refl is (laid.each c within) in
       let there = is_cell_there width (spelled_at spelled c) (cell_at_cell nodes pool width c within is) in
@@ -98,7 +98,7 @@ module _ (nodes : List Node) (pool : IsPool nodes) (slots : List ℕ) (laid : Is
     pub counts_same : (x : Spelled) → spelled_at spelled k ≡ x → cell_in x ≡ [] → cell_count nodes (suc k) ≡ cell_count nodes k
     counts_same x is none = ap length (cells_same spelled k x (inside k within) is none)
 
-    tracked_counts_same : (x : Spelled) → spelled_at spelled k ≡ x → tracked_at x ≡ [] → tracked_count nodes (suc k) ≡ tracked_count nodes k
+    pub tracked_counts_same : (x : Spelled) → spelled_at spelled k ≡ x → tracked_at x ≡ [] → tracked_count nodes (suc k) ≡ tracked_count nodes k
     tracked_counts_same x is none = ap length (tracked_same spelled k x (inside k within) is none)
 
     pub names : NamesBelow k (node_at nodes k)

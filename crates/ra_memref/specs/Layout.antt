@@ -1,5 +1,5 @@
 -- Where a table keeps the number of each cell and of each tracked mask: docs/DEFINITIONS.md, "Order of first occurrence".
-use Rattle.std.specs.Prelude.{◌≡◌, ℕ, suc, ◌<◌, List, [], ◌∷◌, ◌++◌, length, map, take, slice_index, Contains}
+use Rattle.std.specs.Prelude.{◌≡◌, ℕ, suc, ◌<◌, List, [], ◌∷◌, ◌++◌, length, map, take, slice_index, Option, None, Some, Contains}
 use Rattle.std.specs.List.{flat_map}
 use Rattle.ra_operand.specs.declared.size.Size.{Size}
 use Rattle.ra_operand.specs.declared.kind.Kind.TheVariants.{Prior}
@@ -49,10 +49,10 @@ TakesSlot (View Prior size c) places places' masks masks' slot =
     (places' ≡ places) × Interns masks masks' (record { cell = c; mask = mask_of size }) slot
 TakesSlot _ places places' masks masks' slot = (places' ≡ places) × (masks' ≡ masks)
 
--- the mask that a node tracks stands among the masks, last where it is new, and no other is new
-abbrev pub NotesMask : Node → (masks masks' : List TrackedMask) → Type 0
-NotesMask (View Prior size c) masks masks' = (slot : ℕ) × Interns masks masks' (record { cell = c; mask = mask_of size }) slot
-NotesMask _ masks masks' = masks' ≡ masks
+-- the mask that a node tracks, if it is a prior view
+abbrev pub mask_in : Node → Option TrackedMask
+mask_in (View Prior size c) = Some (record { cell = c; mask = mask_of size })
+mask_in _ = None
 
 -- the tracked mask that a mask of a node's cell stands for
 abbrev pub tracked_of_mask : List Node → TrackedMask → Tracked

@@ -1,10 +1,10 @@
 //! Where a table keeps the number of each cell and of each tracked mask.
 
-ghost use Rattle.std.specs.Prelude.{◌≡◌, ◌<◌, ◌≤◌, ◌^◌, ℕ, length, map, slice_index, IfOk, OnOk};
+ghost use Rattle.std.specs.Prelude.{◌≡◌, ◌<◌, ◌≤◌, ◌^◌, ℕ, length, map, slice_index, IfOk};
 ghost use Rattle.ra_memory.specs.Image.{IsReadWidth};
 ghost use Rattle.ra_indirect.specs.Pools.{cells_of};
 ghost use Rattle.ra_indirect.specs.Interned.{IsPool, Interns};
-ghost use Rattle.ra_memref.specs.Layout.{AreMasks, IsLaid, NotesMask, TakesSlot};
+ghost use Rattle.ra_memref.specs.Layout.{AreMasks, IsLaid, TakesSlot, mask_in};
 
 use indexmap::IndexSet;
 use ra_indirect::Node;
@@ -49,17 +49,20 @@ pub fn lay_out(alloc: Global, nodes: &[Node]) -> Result<Layout, OutOfMemory>
     })
 }
 
-/// The tracked masks of a pool, in order of first occurrence.
-pub fn masks_of(alloc: Global, nodes: &[Node]) -> Result<IndexSet<TrackedMask>, OutOfMemory>
-    requires pool { IsPool nodes.now }
-    requires few { length nodes.now ≤ 2 ^ 31 }
-    ensures { IfOk result (λ masks. AreMasks nodes.now masks.keys) }
+/// The mask that a node tracks, if it is a prior view.
+pub fn mask_of(node: Node) -> Option<TrackedMask>
+    ensures { result ≡ mask_in node }
 {
-    let mut masks = IndexSet::new(alloc);
-    for node in nodes {
-        note_mask(*node, &mut masks)?;
+    match node {
+        Node::View { kind, size, cell } => match kind {
+            Kind::Prior => Some(TrackedMask {
+                cell,
+                mask: mask(size),
+            }),
+            Kind::Mem | Kind::Delta | Kind::Bcd | Kind::Inverted => None,
+        },
+        Node::Cell { .. } | Node::Const(_) | Node::Arith { .. } => None,
     }
-    Ok(masks)
 }
 
 /// The width of each cell, in order of first occurrence.
@@ -99,19 +102,6 @@ fn slot_of(
         },
         Node::Const(_) | Node::Arith { .. } => Ok(0),
     }
-}
-
-// Notes the mask that a node tracks, if it tracks one.
-fn note_mask(node: Node, masks: &mut IndexSet<TrackedMask>) -> Result<(), OutOfMemory>
-    requires { length masks.old.keys < 2 ^ 31 }
-    ensures { OnOk result (NotesMask node masks.old.keys masks.new.keys) }
-{
-    if let Node::View { kind, size, cell } = node {
-        if let Kind::Prior = kind {
-            intern_mask(masks, cell, mask(size))?;
-        }
-    }
-    Ok(())
 }
 
 // The place of a tracked mask, which goes last where it is new.

@@ -12,6 +12,7 @@ mod flags;
 mod kept_cell;
 mod laws;
 mod layout;
+mod name_room;
 mod names;
 mod node_plan;
 mod numbers;
@@ -20,5 +21,6 @@ mod watches;
 
 pub use flags::{Flags, set_all};
 pub use laws::looking_back_holds;
+pub use name_room::NameRoom;
 pub use names::{Names, names_of};
 pub use table::{Table, nodes_of};

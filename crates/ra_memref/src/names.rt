@@ -1,15 +1,17 @@
 //! The names of the cells and of the tracked masks of a pool.
 
-ghost use Rattle.std.specs.Prelude.{◌≡◌, ◌<◌, ◌≤◌, ◌^◌, ℕ, true, length, map, slice_index_or, [], Contains, IfOk};
+ghost use Rattle.std.specs.Prelude.{◌≡◌, ◌<◌, ◌≤◌, true, false, length, map, replicate, IfOk};
+ghost use Rattle.std.specs.Vec.{vec_capacity};
 ghost use Rattle.ra_operand.specs.Same.{number_of_kind, number_of_size, number_of_op};
 ghost use Rattle.ra_indirect.specs.Pools.{cells_of, tracked_of};
 ghost use Rattle.ra_indirect.specs.Interned.{IsPool};
-ghost use Rattle.ra_memref.specs.declared.layout.TrackedMask.{TrackedMask};
+ghost use Rattle.ra_memref.specs.Layout.{IsLaid};
 ghost use Rattle.ra_memref.specs.Names as spec;
 ghost use Rattle.ra_memref.specs.Names.{tracked_name, name_with, NamesBelow};
 ghost use Rattle.ra_memref.specs.Naming.{wanted_after, AreWanted, NameCells};
 
-use crate::layout::{TrackedMask, masks_of};
+use crate::layout::{lay_out, mask_of};
+use crate::name_room::NameRoom;
 use crate::table::nodes_of;
 use md5::{Digest, Md5};
 use ra_indirect::{Node, Pool};
@@ -33,38 +35,39 @@ pub fn names_of(alloc: Global, pool: &Pool) -> Result<Names, OutOfMemory>
     ensures priors { IfOk result (λ names. names.priors.items ≡ map tracked_name (tracked_of pool.now)) }
 {
     let nodes = nodes_of(alloc, pool)?;
-    let names = node_names(alloc, &nodes)?;
-    let cells = cell_names(alloc, &nodes, &names)?;
-    let priors = mask_names(alloc, &nodes, &names)?;
+    let layout = lay_out(alloc, &nodes)?;
+    let mut room = NameRoom::new(alloc, nodes.len())?;
+    let mut cells = vec![in alloc; [0; 16]; layout.places.len()]?;
+    let mut priors = vec![in alloc; [0; 16]; layout.masks.len()]?;
+    room.put_names(&nodes, &layout.slots, &mut cells, &mut priors);
     Ok(Names { cells, priors })
 }
 
-// The name of each node that is a cell or that a cell's pointer reaches, and zeros for the others.
-fn node_names(alloc: Global, nodes: &[Node]) -> Result<Vec<[u8; 16]>, OutOfMemory>
-    requires { IsPool nodes.now }
-    ensures { IfOk result (λ names. NameCells nodes.now names.items) }
+/// Puts which nodes are to have names: the cells, and what their pointers reach. It goes over them backwards.
+pub fn put_wanted(wanted: &mut Vec<bool>, nodes: &[Node])
+    requires pool { IsPool nodes.now }
+    requires room { length nodes.now ≤ vec_capacity wanted.old }
+    ensures wanted { AreWanted nodes.now wanted.new.items }
+    ensures room { vec_capacity wanted.new ≡ vec_capacity wanted.old }
 {
-    let wanted = wanted_of(alloc, nodes)?;
-    let mut names = Vec::with_capacity(alloc, nodes.len())?;
-    for number in 0..nodes.len() {
-        let name = name_where(wanted[number], nodes[number], &names);
-        names.push(name)?;
-    }
-    Ok(names)
-}
-
-// Which nodes are to have names: the cells, and what their pointers reach. It goes over them backwards.
-fn wanted_of(alloc: Global, nodes: &[Node]) -> Result<Vec<bool>, OutOfMemory>
-    requires { IsPool nodes.now }
-    ensures { IfOk result (λ wanted. AreWanted nodes.now wanted.items) }
-{
-    let mut wanted = vec![in alloc; false; nodes.len()]?;
+    put_unwanted(wanted, nodes.len());
     let mut left = nodes.len();
     while left > 0 {
         left -= 1;
-        want(&mut wanted, nodes[left], left);
+        want(wanted, nodes[left], left);
     }
-    Ok(wanted)
+}
+
+// Puts that none of this many nodes is to have a name.
+fn put_unwanted(wanted: &mut Vec<bool>, count: usize)
+    requires { count ≤ vec_capacity wanted.old }
+    ensures none { wanted.new.items ≡ replicate count false }
+    ensures room { vec_capacity wanted.new ≡ vec_capacity wanted.old }
+{
+    wanted.clear();
+    while wanted.len() < count {
+        wanted.push_reserved(false);
+    }
 }
 
 // Marks a cell and its pointer, and what a marked node names.
@@ -93,55 +96,50 @@ fn want(wanted: &mut [bool], node: Node, number: usize)
     }
 }
 
-// The names of the cells, from those of the nodes.
-fn cell_names(
-    alloc: Global,
-    nodes: &[Node],
-    names: &[[u8; 16]],
-) -> Result<Vec<[u8; 16]>, OutOfMemory>
+/// Puts the name of each node that is a cell or that a cell's pointer reaches, and zeros for the others.
+pub fn put_node_names(names: &mut Vec<[u8; 16]>, nodes: &[Node], wanted: &[bool])
     requires pool { IsPool nodes.now }
-    requires names { NameCells nodes.now names.now }
-    ensures { IfOk result (λ cells. cells.items ≡ map spec.cell_name (cells_of nodes.now)) }
+    requires wanted { AreWanted nodes.now wanted.now }
+    requires room { length nodes.now ≤ vec_capacity names.old }
+    ensures names { NameCells nodes.now names.new.items }
+    ensures room { vec_capacity names.new ≡ vec_capacity names.old }
 {
-    let mut cells = Vec::new(alloc);
-    for (number, node) in nodes.iter().enumerate() {
-        if let Node::Cell { .. } = node {
-            cells.push(names[number])?;
+    names.clear();
+    for number in 0..nodes.len() {
+        let name = name_where(wanted[number], nodes[number], names);
+        names.push_reserved(name);
+    }
+}
+
+/// Puts the names of the cells at their slots, from those of the nodes.
+pub fn put_cells(nodes: &[Node], slots: &[u32], names: &[[u8; 16]], cells: &mut [[u8; 16]])
+    requires pool { IsPool nodes.now }
+    requires slots { IsLaid nodes.now slots.now }
+    requires names { NameCells nodes.now names.now }
+    requires long { length cells.old ≡ length (cells_of nodes.now) }
+    ensures { cells.new ≡ map spec.cell_name (cells_of nodes.now) }
+{
+    for number in 0..nodes.len() {
+        if let Node::Cell { .. } = nodes[number] {
+            cells[slots[number] as usize] = names[number];
         }
     }
-    Ok(cells)
 }
 
-// The names of the tracked masks, from those of the nodes.
-fn mask_names(
-    alloc: Global,
-    nodes: &[Node],
-    names: &[[u8; 16]],
-) -> Result<Vec<[u8; 16]>, OutOfMemory>
+/// Puts the names of the tracked masks at their slots, from those of the nodes.
+pub fn put_masks(nodes: &[Node], slots: &[u32], names: &[[u8; 16]], priors: &mut [[u8; 16]])
     requires pool { IsPool nodes.now }
-    requires few { length nodes.now ≤ 2 ^ 31 }
+    requires slots { IsLaid nodes.now slots.now }
     requires names { NameCells nodes.now names.now }
-    ensures { IfOk result (λ priors. priors.items ≡ map tracked_name (tracked_of nodes.now)) }
+    requires long { length priors.old ≡ length (tracked_of nodes.now) }
+    ensures { priors.new ≡ map tracked_name (tracked_of nodes.now) }
 {
-    let masks = masks_of(alloc, nodes)?;
-    names_of_masks(alloc, masks.as_slice(), names)
-}
-
-// The names of masks of cells, from the names of these.
-fn names_of_masks(
-    alloc: Global,
-    masks: &[TrackedMask],
-    names: &[[u8; 16]],
-) -> Result<Vec<[u8; 16]>, OutOfMemory>
-    requires { (mask : TrackedMask) → Contains masks.now mask → mask.cell < length names.now }
-    ensures { IfOk result (λ priors. priors.items
-        ≡ map (λ m. spec.tracked_name_by (slice_index_or names.now m.cell []) m.mask) masks.now) }
-{
-    let mut priors = Vec::new(alloc);
-    for mask in masks {
-        priors.push(mask_name(&names[mask.cell as usize], mask.mask))?;
+    for number in 0..nodes.len() {
+        if let Some(tracked) = mask_of(nodes[number]) {
+            let cell = &names[tracked.cell as usize];
+            priors[slots[number] as usize] = mask_name(cell, tracked.mask);
+        }
     }
-    Ok(priors)
 }
 
 // The name of a node that is to have one.

@@ -4,6 +4,7 @@ ghost use Rattle.ra_indirect.specs.Interned.{IsPool};
 use crate::agenda::{Agenda, gather};
 use crate::changes::Changes;
 use crate::layout::{lay_out, widths_of};
+use crate::name_room::NameRoom;
 use crate::node_plan::NodePlan;
 use crate::numbers::Numbers;
 use crate::watches::Watches;
@@ -40,7 +41,10 @@ impl Model for Table {
 }
 
 impl Table {
-    ghost use Rattle.ra_indirect.specs.Pools.{IsValued, node_at};
+    ghost use Rattle.std.specs.Prelude.{map};
+    ghost use Rattle.ra_indirect.specs.Pools.{IsValued, node_at, cells_of, tracked_of};
+    ghost use Rattle.ra_memref.specs.Names as spec;
+    ghost use Rattle.ra_memref.specs.Names.{tracked_name};
     ghost use Rattle.ra_memref.specs.Table.{IsFresh, IsTold, IsLooked, IsPutBack, Samples, ReadsWanted, ReadsLooked, ListsChanged, Agrees};
     ghost use Rattle.ra_memref.specs.Putting.{IsCellPut, IsPriorPut};
     ghost use Rattle.ra_text.specs.Words.{words_at};
@@ -214,6 +218,19 @@ impl Table {
         ensures { result.now ≡ self.now.priors }
     {
         self.numbers.priors()
+    }
+
+    /// Puts the name of each cell and of each tracked mask, in order of first occurrence:
+    /// docs/DEFINITIONS.md, "Names of cells and masks". No memory is taken.
+    pub fn put_names(&self, room: &mut NameRoom, cells: &mut [[u8; 16]], priors: &mut [[u8; 16]])
+        requires room { length self.now.nodes ≤ room.old }
+        requires cells { length cells.old ≡ length self.now.cells }
+        requires priors { length priors.old ≡ length self.now.priors }
+        ensures cells { cells.new ≡ map spec.cell_name (cells_of self.now.nodes) }
+        ensures priors { priors.new ≡ map tracked_name (tracked_of self.now.nodes) }
+        ensures room { room.new ≡ room.old }
+    {
+        room.put_names(&self.nodes, &self.slots, cells, priors);
     }
 
     /// Sets the kept numbers from little-endian words, the cells first.
