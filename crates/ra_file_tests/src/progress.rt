@@ -8,8 +8,8 @@ use ra_progress::ProgressRefused::{
     BadEntry, BadState, OtherSet, WrongLength, WrongMark, WrongVersion,
 };
 use ra_progress::{
-    ItemKept, ItemShape, Named, PresenceShape, ProgressRefused, Shape, Snapshot, check, decode,
-    encode, frames_at, item_at, length, length_1, matches, name_at, order_of, word_at,
+    ItemKept, ItemShape, Named, OrderRoom, PresenceShape, ProgressRefused, Shape, Snapshot, check,
+    decode, encode, frames_at, item_at, length, length_1, matches, name_at, order_of, word_at,
 };
 use ra_text::OutOfMemory;
 use std::alloc::Global;
@@ -48,6 +48,17 @@ fn equal_names_stand_by_number(rt: HostRuntime) -> Result<(), OutOfMemory> {
     let names = [CELL, ITEM, CELL, [0; 16], [255; 16]];
     let order = order_of(rt.alloc(), &names, &Some(CELL))?;
     assert_eq!(rt; order.as_slice(), [3, 0, 2, 5, 1, 4].as_slice());
+    Ok(())
+}
+
+#[test]
+fn names_of_one_front_are_put_in_order(rt: HostRuntime) -> Result<(), OutOfMemory> {
+    let mut greater = [7; 16];
+    greater[15] = 9;
+    let mut room = OrderRoom::new(rt.alloc(), 5)?;
+    let mut order = [0; 4];
+    room.put_order(&[greater, [7; 16], [0; 16], greater], &mut order);
+    assert_eq!(rt; order, [2, 1, 0, 3]);
     Ok(())
 }
 
