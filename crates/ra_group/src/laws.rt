@@ -35,8 +35,12 @@ pub fn outcome_holds()
         ↔ (((outcome_of form f).paused ≡ false) × ((outcome_of form f).reset ≡ false) × EachValid is_required f) }
     ensures primed { (form : Form) (f : Frame) → ((outcome_of form f).primed ≡ true)
         ↔ (((outcome_of form f).paused ≡ false) × ((outcome_of form f).reset ≡ false) × EachValid is_wanted f) }
+{}
 
-    // The measured number.
+/// What a group measures, by its conditions: docs/DEFINITIONS.md, "Group outcome".
+///
+/// A law; no effect at run time.
+pub fn measured_holds()
     ensures unmeasured { (form : Form) (f : Frame) → ((outcome_of form f).measured ≡ None)
         ↔ (((outcome_of form f).paused ≡ true) ⊎ NoneMeasured f) }
     ensures measured { (form : Form) (f : Frame) (n : ℕ) → (outcome_of form f).measured ≡ Some n

@@ -14,7 +14,7 @@ mod visit;
 
 pub use along::step_at;
 pub use form::Form;
-pub use laws::{equations_hold, handed_on_holds, outcome_holds};
+pub use laws::{equations_hold, handed_on_holds, measured_holds, outcome_holds};
 pub use outcome::Outcome;
 pub use pass::step;
 pub use standing::{Standing, stand};
