@@ -5,7 +5,7 @@ ghost use Rattle.ra_member.specs.Runs.{MayFill, IsFilled};
 ghost use Rattle.std.specs.Prelude.{map};
 ghost use Rattle.std.specs.Result.{OnOk};
 
-use crate::reading::read_conditions;
+use crate::reading::{Sides, read_conditions};
 use ra_chain::GroupPlan;
 use ra_condition::{Group, Part, TriggerText, ValueText};
 use ra_memref::Table;
@@ -47,14 +47,12 @@ impl Laid {
         requires sampled { table.now.sampled ≡ true }
         ensures { IsFilled table.now.values self.old self.new }
     {
-        read_conditions(
-            table,
-            &self.ops,
-            &self.plan.lefts,
-            &self.plan.rights,
-            &mut self.lefts,
-            &mut self.truths,
-        );
+        let sides = Sides {
+            ops: &self.ops,
+            left_nodes: &self.plan.lefts,
+            right_nodes: &self.plan.rights,
+        };
+        read_conditions(table, &sides, &mut self.lefts, &mut self.truths);
     }
 }
 

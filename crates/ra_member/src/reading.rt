@@ -7,27 +7,38 @@ ghost use Rattle.ra_member.specs.Readings.{numbers_at, truths_by, AreValued, sum
 use ra_memref::Table;
 use ra_operand::{Op, compare};
 
+// What some conditions compare: the operator of each, and the nodes of its left and of its right side.
+#[derive(Clone, Copy)]
+pub(crate) struct Sides<'a> {
+    pub ops: &'a [Op],
+    pub left_nodes: &'a [u32],
+    pub right_nodes: &'a [u32],
+}
+
 // Reads the number of each left node, and compares it with that of the right node beside it.
 pub(crate) fn read_conditions(
     table: &Table,
-    ops: &[Op],
-    left_nodes: &[u32],
-    right_nodes: &[u32],
+    sides: &Sides<'_>,
     lefts: &mut [u32],
     truths: &mut [bool],
 )
-    requires left_nodes { AreValued table.now.nodes left_nodes.now }
-    requires right_nodes { AreValued table.now.nodes right_nodes.now }
+    requires left_nodes { AreValued table.now.nodes sides.now.left_nodes.now }
+    requires right_nodes { AreValued table.now.nodes sides.now.right_nodes.now }
     requires sampled { table.now.sampled ≡ true }
-    requires left_count { length left_nodes.now ≡ length ops.now }
-    requires right_count { length right_nodes.now ≡ length ops.now }
-    requires lefts { length lefts.old ≡ length ops.now }
-    requires truths { length truths.old ≡ length ops.now }
+    requires left_count { length sides.now.left_nodes.now ≡ length sides.now.ops.now }
+    requires right_count { length sides.now.right_nodes.now ≡ length sides.now.ops.now }
+    requires lefts { length lefts.old ≡ length sides.now.ops.now }
+    requires truths { length truths.old ≡ length sides.now.ops.now }
 
-    ensures lefts { lefts.new ≡ numbers_at table.now.values left_nodes.now }
-    ensures truths { truths.new ≡ truths_by ops.now (numbers_at table.now.values left_nodes.now)
-        (numbers_at table.now.values right_nodes.now) }
+    ensures lefts { lefts.new ≡ numbers_at table.now.values sides.now.left_nodes.now }
+    ensures truths { truths.new ≡ truths_by sides.now.ops.now (numbers_at table.now.values sides.now.left_nodes.now)
+        (numbers_at table.now.values sides.now.right_nodes.now) }
 {
+    let Sides {
+        ops,
+        left_nodes,
+        right_nodes,
+    } = *sides;
     for place in 0..least(ops, left_nodes, right_nodes, lefts, truths) {
         let left = table.value(left_nodes[place]);
         lefts[place] = left;
