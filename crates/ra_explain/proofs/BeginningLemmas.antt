@@ -9,7 +9,7 @@ use Rattle.ra_trigger.specs.Steps.{TriggerKept, Together, together, kept_after, 
 use Rattle.ra_explain.specs.Explains.{row_at}
 use Rattle.ra_explain.specs.Replays.{said_by, hits_through, AllGoOn}
 use Rattle.ra_explain.specs.Beginnings.{replayed, clears_row, begins_by, UnlocksLast}
-use Rattle.ra_explain.proofs.GroupsLemmas.{length-hits_along}
+use Rattle.ra_trigger.proofs.GroupsLemmas.{length-hits_along}
 
 -- ---- one row
 

@@ -12,7 +12,7 @@ use Rattle.ra_explain.specs.Replays.{events_through}
 use Rattle.ra_explain.specs.Beginnings.{StandsAtUnlock, UnlocksLast, ExplainsRows, begins_by, replayed}
 use Rattle.ra_explain.specs.Unlocks.{rows_along, after_clear, waits_before, IsExplanation, ExplainsHistory}
 use Rattle.ra_explain.proofs.BeginningLemmas.{begins_within}
-use Rattle.ra_explain.proofs.GroupsLemmas.{length-hits_along}
+use Rattle.ra_trigger.proofs.GroupsLemmas.{length-hits_along}
 use Rattle.ra_explain.proofs.HistoryLemmas.{length_behind, length_along, begins_along, waits_along, triggered_before, triggered_after}
 use Rattle.ra_explain.proofs.TraceLemmas.{are_traced}
 

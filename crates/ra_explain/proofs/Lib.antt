@@ -7,7 +7,6 @@ pub mod CurrentLemmas
 pub mod ExplainedLemmas
 pub mod FollowLemmas
 pub mod FrameLemmas
-pub mod GroupsLemmas
 pub mod HistoryLemmas
 pub mod IndexLemmas
 pub mod LeftLemmas

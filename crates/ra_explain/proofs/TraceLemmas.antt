@@ -9,7 +9,7 @@ use Rattle.ra_trigger.specs.Steps.{Together, together}
 use Rattle.ra_explain.specs.declared.explanation.Event.{Event}
 use Rattle.ra_explain.specs.Explains.{ExplanationContents, AreRising, row_at, said_after, said_before, says_at, Explains}
 use Rattle.ra_explain.specs.Replays.{said_by, hits_through, events_through, GoesOn, AllGoOn, Strays}
-use Rattle.ra_explain.proofs.GroupsLemmas.{length-hits_along}
+use Rattle.ra_trigger.proofs.GroupsLemmas.{length-hits_along}
 use Rattle.ra_explain.proofs.NoteLemmas.{length_noted}
 use Rattle.ra_explain.proofs.FollowLemmas.{begins_with}
 use Rattle.ra_explain.proofs.ColumnLemmas.{HaveNoted, said_at, all_noted, said_last, said_earlier, none_noted, all_rise, all_same}

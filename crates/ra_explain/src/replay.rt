@@ -10,9 +10,9 @@ ghost use Rattle.ra_explain.specs.Replays.{AreOrders, IsReplay, StepsRow};
 
 use crate::orders::{Orders, orders_of};
 use ra_condition::TriggerText;
-use ra_group::{Form, step_at};
+use ra_group::Reads;
 use ra_text::OutOfMemory;
-use ra_trigger::{State, Trigger};
+use ra_trigger::{State, Trigger, step_groups};
 use std::alloc::Global;
 
 /// What the groups say together at a row.
@@ -112,17 +112,11 @@ fn resets(
     requires hits { length hits.old ≡ trigger_hits (trigger_contents text.now) }
     ensures { result ≡ (together (trigger_contents text.now) row.now lefts.now hits.old).reset }
 {
-    let form = Form::InTrigger;
-    let order = orders.order.as_slice();
-    let pauses = orders.pauses.as_slice();
-    let core = step_at(&text.core, form, 0, order, pauses[0], row, lefts, hits);
-    let mut resets = core.reset;
-    let mut start = text.core.conditions.len();
-    for (place, alt) in text.alts.iter().enumerate() {
-        let count = pauses[place + 1];
-        let outcome = step_at(alt, form, start, order, count, row, lefts, hits);
-        resets |= outcome.reset;
-        start += alt.conditions.len();
-    }
-    resets
+    let reads = Reads {
+        orders: &orders.order,
+        pauses: &orders.pauses,
+        truths: row,
+        lefts,
+    };
+    step_groups(text, &reads, hits).reset
 }

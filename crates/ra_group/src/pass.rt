@@ -1,6 +1,6 @@
 //! The pass over a group, in pass order.
 
-ghost use Rattle.std.specs.Prelude.{◌≡◌, ◌↔◌, ◌⊎◌, ◌≤◌, ◌^◌, None, true, length};
+ghost use Rattle.std.specs.Prelude.{◌≡◌, ◌↔◌, ◌⊎◌, ◌≤◌, ◌^◌, None, [], ◌∷◌, true, length};
 ghost use Rattle.ra_condition.specs.Contents.{group_contents};
 ghost use Rattle.ra_condition.specs.Chains.{pass_order};
 ghost use Rattle.ra_group.specs.Along.{pause_count};
@@ -10,6 +10,8 @@ ghost use Rattle.ra_group.specs.OutcomeLaws.{NoneMeasured};
 
 use crate::form::Form;
 use crate::outcome::Outcome;
+use crate::reads::Reads;
+use crate::shown::Shown;
 use crate::visit::Pass;
 use ra_condition::{Condition, Group};
 
@@ -44,7 +46,13 @@ pub fn step(
     if pauses == 0 {
         in_text_order(conditions, form, truths, lefts, hits)
     } else {
-        in_pass_order(conditions, form, order, pauses, truths, lefts, hits)
+        let reads = Reads {
+            orders: order,
+            pauses: &[pauses],
+            truths,
+            lefts,
+        };
+        in_pass_order(conditions, form, &reads, hits)
     }
 }
 
@@ -67,7 +75,12 @@ fn in_text_order(
 {
     let mut pass = Pass::new();
     for (place, condition) in conditions.iter().enumerate() {
-        let next = pass.visit(form, condition, truths[place], lefts[place], hits[place]);
+        let shown = Shown {
+            truth: truths[place],
+            left: lefts[place],
+            hits: hits[place],
+        };
+        let next = pass.visit(form, condition, shown);
         hits[place] = next;
     }
     pass.tally.outcome()
@@ -77,28 +90,39 @@ fn in_text_order(
 fn in_pass_order(
     conditions: &[Condition],
     form: Form,
-    order: &[u32],
-    pauses: u32,
-    truths: &[bool],
-    lefts: &[u32],
+    reads: &Reads<'_>,
     hits: &mut [u32],
 ) -> Outcome
-    requires order { order.now ≡ pass_order conditions.now }
-    requires pauses { pauses ≡ pause_count conditions.now }
-    requires truths { length truths.now ≡ length conditions.now }
-    requires lefts { length lefts.now ≡ length conditions.now }
+    requires order { reads.now.orders.now ≡ pass_order conditions.now }
+    requires pauses { reads.now.pauses.now ≡ pause_count conditions.now ∷ [] }
+    requires truths { length reads.now.truths.now ≡ length conditions.now }
+    requires lefts { length reads.now.lefts.now ≡ length conditions.now }
     requires hits { length hits.old ≡ length conditions.now }
 
-    ensures outcome { result ≡ outcome_of form (frame_of conditions.now truths.now lefts.now hits.old) }
-    ensures next { hits.new ≡ next_hits (frame_of conditions.now truths.now lefts.now hits.old) }
+    ensures outcome { result
+        ≡ outcome_of form (frame_of conditions.now reads.now.truths.now reads.now.lefts.now hits.old) }
+    ensures next { hits.new
+        ≡ next_hits (frame_of conditions.now reads.now.truths.now reads.now.lefts.now hits.old) }
 {
+    let Reads {
+        orders,
+        pauses,
+        truths,
+        lefts,
+    } = *reads;
+    let pauses = pauses[0] as usize;
     let mut pass = Pass::new();
-    for (turn, place) in order.iter().enumerate() {
-        let place = *place as usize;
+    for turn in 0..orders.len() {
+        let place = orders[turn] as usize;
         // Past the pause chains it is known whether the group is paused, and then its hits stay.
-        let frozen = pass.tally.paused && turn >= pauses as usize;
+        let frozen = pass.tally.paused && turn >= pauses;
         let condition = &conditions[place];
-        let next = pass.visit_any(form, condition, truths[place], lefts[place], hits[place]);
+        let shown = Shown {
+            truth: truths[place],
+            left: lefts[place],
+            hits: hits[place],
+        };
+        let next = pass.visit_any(form, condition, shown);
         if !frozen {
             hits[place] = next;
         }

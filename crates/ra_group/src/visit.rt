@@ -7,6 +7,7 @@ ghost use Rattle.ra_group.specs.Tallies.{StandsPlain, noted, no_tally};
 use crate::equations::hits_after;
 use crate::form::Form;
 use crate::settled::Settled;
+use crate::shown::Shown;
 use crate::tally::Tally;
 use ra_condition::{Condition, Flag};
 
@@ -33,27 +34,20 @@ impl Pass {
 
     /// Visits one condition more as `visit_any` does. Most are plain ones without a target, and alone.
     // The inner loop of most groups: what is seldom stands in `visit_any`.
-    pub fn visit(
-        &mut self,
-        form: Form,
-        condition: &Condition,
-        truth: bool,
-        left: u32,
-        hits: u32,
-    ) -> u32
+    pub fn visit(&mut self, form: Form, condition: &Condition, shown: Shown) -> u32
         requires { AddWithin (2 ^ 65) self.old.before }
         ensures carries { self.new.before ≡ seen_after condition.now
-            (settled condition.now truth hits self.old.before) self.old.before }
+            (settled condition.now shown.truth shown.hits self.old.before) self.old.before }
         ensures tallies { self.new.tally ≡ noted form condition.now
-            (settled condition.now truth hits self.old.before) left self.old.tally }
-        ensures hits { result ≡ (if hands_on condition.now.flag then hits
-            else (settled condition.now truth hits self.old.before).hit) }
+            (settled condition.now shown.truth shown.hits self.old.before) shown.left self.old.tally }
+        ensures hits { result ≡ (if hands_on condition.now.flag then shown.hits
+            else (settled condition.now shown.truth shown.hits self.old.before).hit) }
     {
         if self.is_plain(condition) {
-            self.tally.want(truth);
-            hits_after(false, truth, 0, hits)
+            self.tally.want(shown.truth);
+            hits_after(false, shown.truth, 0, shown.hits)
         } else {
-            self.visit_any(form, condition, truth, left, hits)
+            self.visit_any(form, condition, shown)
         }
     }
 
@@ -66,30 +60,23 @@ impl Pass {
 
     /// Visits one condition more, and gives its hits after the frame. Those of a condition that only
     /// hands a value on stay.
-    pub fn visit_any(
-        &mut self,
-        form: Form,
-        condition: &Condition,
-        truth: bool,
-        left: u32,
-        hits: u32,
-    ) -> u32
+    pub fn visit_any(&mut self, form: Form, condition: &Condition, shown: Shown) -> u32
         requires { AddWithin (2 ^ 65) self.old.before }
         ensures carries { self.new.before ≡ seen_after condition.now
-            (settled condition.now truth hits self.old.before) self.old.before }
+            (settled condition.now shown.truth shown.hits self.old.before) self.old.before }
         ensures tallies { self.new.tally ≡ noted form condition.now
-            (settled condition.now truth hits self.old.before) left self.old.tally }
-        ensures hits { result ≡ (if hands_on condition.now.flag then hits
-            else (settled condition.now truth hits self.old.before).hit) }
+            (settled condition.now shown.truth shown.hits self.old.before) shown.left self.old.tally }
+        ensures hits { result ≡ (if hands_on condition.now.flag then shown.hits
+            else (settled condition.now shown.truth shown.hits self.old.before).hit) }
     {
         if condition.flag.hands_on() {
-            return hits;
+            return shown.hits;
         }
-        let settled = Settled::of(condition, truth, hits, self.before);
+        let settled = Settled::of(condition, shown.truth, shown.hits, self.before);
         if condition.flag.combines() {
             self.before = Some(settled);
         } else {
-            self.tally.note(form, condition, &settled, left);
+            self.tally.note(form, condition, &settled, shown.left);
             self.before = None;
         }
         settled.hit

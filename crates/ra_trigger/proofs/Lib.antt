@@ -1,6 +1,6 @@
 pub mod CountLemmas
 mod GatherLemmas
-mod GroupsLemmas
+pub mod GroupsLemmas
 mod LawLemmas
 mod OrdersLemmas
 pub mod HitsLemmas

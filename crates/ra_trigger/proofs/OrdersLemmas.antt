@@ -1,46 +1,31 @@
--- The entries of one alt, in lists that run over the conditions of all groups.
-use Rattle.std.proofs.Common.{◌≡◌, ℕ, suc, ◌+◌, ◌<◌, ◌≤◌, List, [], ◌∷◌, ◌++◌, length, get_or, take, drop, map, sum_by, sym, ap, ◌∙◌, arith}
-use Rattle.std.specs.List.{flat_map}
+-- Where the groups of a trigger lie, in lists that run over the conditions of all of them.
+use Rattle.std.proofs.Common.{◌≡◌, ℕ, ◌+◌, ◌<◌, List, [], ◌∷◌, ◌++◌, length, get_or, take, map, sum_by, refl, sym, ap, ◌∙◌, arith, add-one}
 use Rattle.std.proofs.lemmas.List.{take-map, get_or-map, map_more, length-map}
-use Rattle.std.proofs.lemmas.List.Sums.{sum_by-cons, sum_by_more_le}
+use Rattle.std.proofs.lemmas.List.Sums.{sum_by-cons}
 use Rattle.ra_condition.specs.declared.condition.Condition.{Condition}
 use Rattle.ra_condition.specs.declared.group.Group.{Group}
 use Rattle.ra_condition.specs.Contents.{group_contents}
-use Rattle.ra_condition.specs.Chains.{pass_order}
-use Rattle.ra_group.specs.Along.{pause_count}
-use Rattle.ra_group.proofs.AlongLemmas.{flat_map-part, length-flat_map, length-pass_order}
+use Rattle.ra_group.specs.declared.reads.Reads.{Reads}
+use Rattle.ra_group.specs.Along.{ReadsGroups, LiesAlong}
+use Rattle.ra_group.proofs.AlongLemmas.{lies_along}
 
-module _ (core : List Condition) (alts : List Group) (orders : List ℕ) (are_orders : orders ≡ flat_map pass_order (core ∷ map group_contents alts)) where
-  pub order_core : take (length core) orders ≡ pass_order core
-  order_core = ap (take (length core)) are_orders ∙ flat_map-part pass_order length length-pass_order (core ∷ map group_contents alts) 0 core (omega arith)
-
-  pub length-orders : length orders ≡ sum_by length (core ∷ map group_contents alts)
-  length-orders = ap length are_orders ∙ length-flat_map pass_order length length-pass_order (core ∷ map group_contents alts)
+module _ (core : List Condition) (alts : List Group) (reads : Reads) (read : ReadsGroups (core ∷ map group_contents alts) reads) where
+  pub core_lies : LiesAlong core reads (record { number = 0; start = 0 })
+  core_lies = lies_along (core ∷ map group_contents alts) reads read 0 0 core (omega arith) refl refl
 
   module _ (k : ℕ) (alt : Group) (start : ℕ) (within : k < length alts) (here : alt ≡ get_or alts k alt) (starts : start ≡ length core + sum_by length (map group_contents (take k alts))) where
-    contents_here : get_or (map group_contents alts) k core ≡ group_contents alt
-    contents_here = get_or-map group_contents alts k alt core within ∙ ap group_contents (sym here)
+    contents_here : get_or (core ∷ map group_contents alts) (k + 1) (group_contents alt) ≡ group_contents alt
+    contents_here =
+        ap (λ n. get_or (core ∷ map group_contents alts) n (group_contents alt)) (add-one k)
+        ∙ get_or-map group_contents alts k alt (group_contents alt) within ∙ ap group_contents (sym here)
 
-    start_here : start ≡ sum_by length (take (suc k) (core ∷ map group_contents alts))
-    start_here = starts ∙ ap (λ gs. length core + sum_by length gs) (sym (take-map group_contents k alts)) ∙ sym (sum_by-cons length core (take k (map group_contents alts)))
+    start_here : start ≡ sum_by length (take (k + 1) (core ∷ map group_contents alts))
+    start_here =
+        starts ∙ ap (λ gs. length core + sum_by length gs) (sym (take-map group_contents k alts)) ∙ sym (sum_by-cons length core (take k (map group_contents alts)))
+        ∙ ap (λ n. sum_by length (take n (core ∷ map group_contents alts))) (sym (add-one k))
 
-    pub order_alt : take (length (group_contents alt)) (drop start orders) ≡ pass_order (group_contents alt)
-    order_alt =
-        ap (λ n. take (length (group_contents alt)) (drop n orders)) start_here
-        ∙ ap (λ xs. take (length (group_contents alt)) (drop (sum_by length (take (suc k) (core ∷ map group_contents alts))) xs)) are_orders
-        ∙ ap (λ cs. take (length cs) (drop (sum_by length (take (suc k) (core ∷ map group_contents alts))) (flat_map pass_order (core ∷ map group_contents alts)))) (sym contents_here)
-        ∙ flat_map-part pass_order length length-pass_order (core ∷ map group_contents alts) (suc k) core (omega (arith, length-map alts group_contents))
-        ∙ ap pass_order contents_here
-
-    pub pauses_alt : (pauses : List ℕ) → pauses ≡ map pause_count (core ∷ map group_contents alts) → get_or pauses (k + 1) 0 ≡ pause_count (group_contents alt)
-    pauses_alt pauses is =
-        let next : k + 1 ≡ suc k = omega arith in
-        ap (λ xs. get_or xs (k + 1) 0) is ∙ ap (λ n. get_or (map pause_count (core ∷ map group_contents alts)) n 0) next
-        ∙ get_or-map pause_count (core ∷ map group_contents alts) (suc k) core 0 (omega (arith, length-map alts group_contents))
-        ∙ ap pause_count contents_here
-
-    pub within_alt : start + length (group_contents alt) ≤ sum_by length (core ∷ map group_contents alts)
-    within_alt = omega (arith, start_here, ap length contents_here, sum_by_more_le length (core ∷ map group_contents alts) (suc k) core (omega (arith, length-map alts group_contents)))
+    pub alt_lies : LiesAlong (group_contents alt) reads (record { number = k + 1; start = start })
+    alt_lies = lies_along (core ∷ map group_contents alts) reads read (k + 1) start (group_contents alt) (omega (arith, length-map alts group_contents)) contents_here start_here
 
     pub alts_more : map group_contents (take (k + 1) alts) ≡ map group_contents (take k alts) ++ group_contents alt ∷ []
     alts_more = map_more group_contents alts k alt within ∙ ap (λ g. map group_contents (take k alts) ++ group_contents g ∷ []) (sym here)

@@ -2,6 +2,7 @@ use crate::change::Change;
 use crate::state::State;
 use crate::together::step_groups;
 use ra_condition::TriggerText;
+use ra_group::Reads;
 use ra_text::{OutOfMemory, read_words};
 use std::alloc::Global;
 use std::marker::Model;
@@ -81,7 +82,13 @@ impl Trigger {
                 measured: None,
             };
         }
-        let now = step_groups(text, orders, pauses, truths, lefts, &mut self.hits);
+        let reads = Reads {
+            orders,
+            pauses,
+            truths,
+            lefts,
+        };
+        let now = step_groups(text, &reads, &mut self.hits);
         let clears = before.is_cleared(&now);
         if clears {
             self.hits.fill(0);
@@ -128,7 +135,13 @@ impl Trigger {
         } }
         ensures count { length self.new.hits ≡ length self.old.hits }
     {
-        let now = step_groups(text, orders, pauses, truths, lefts, &mut self.hits);
+        let reads = Reads {
+            orders,
+            pauses,
+            truths,
+            lefts,
+        };
+        let now = step_groups(text, &reads, &mut self.hits);
         if now.reset {
             self.hits.fill(0);
         }

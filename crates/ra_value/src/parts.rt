@@ -2,39 +2,35 @@
 
 ghost use Rattle.std.specs.Prelude.{◌≡◌, length, map};
 ghost use Rattle.std.specs.List.{list_any, flat_map};
-ghost use Rattle.ra_condition.specs.Contents.{part_contents, value_contents, value_hits};
-ghost use Rattle.ra_value.specs.Kept.{orders_of, pauses_of, part_counts, uncounted};
+ghost use Rattle.ra_condition.specs.Contents.{part_contents, counted_in, value_contents, value_hits};
+ghost use Rattle.ra_group.specs.Along.{ReadsGroups};
+ghost use Rattle.ra_value.specs.Kept.{part_counts, uncounted};
 ghost use Rattle.ra_value.specs.Steps.{part_steps, step};
 
 use ra_condition::{Part, ValueText};
-use ra_group::{Form, counts_hits, step_at};
+use ra_group::{Form, GroupPlace, Reads, counts_hits, step_at};
 
-/// Steps the parts of a value by a frame. `orders`, `truths`, `lefts` and `hits` run over the
-/// conditions of all parts, `pauses`, `sums` and `numbers` over the parts.
+/// Steps the parts of a value by a frame. `hits` runs over the conditions of all parts, `sums` and
+/// `numbers` over the parts.
 pub fn step_value(
     text: &ValueText,
-    orders: &[u32],
-    pauses: &[u32],
-    truths: &[bool],
-    lefts: &[u32],
+    reads: &Reads<'_>,
     sums: &[u32],
     hits: &mut [u32],
     numbers: &mut [u32],
 )
-    requires orders { orders.now ≡ orders_of (value_contents text.now) }
-    requires pauses { pauses.now ≡ pauses_of (value_contents text.now) }
-    requires truths { length truths.now ≡ value_hits (value_contents text.now) }
-    requires lefts { length lefts.now ≡ value_hits (value_contents text.now) }
+    requires reads { ReadsGroups (map counted_in (value_contents text.now)) reads.now }
     requires hits { length hits.old ≡ value_hits (value_contents text.now) }
     requires sums { length sums.now ≡ length (value_contents text.now) }
     requires numbers { length numbers.old ≡ length (value_contents text.now) }
 
-    ensures hits { hits.new ≡ (step (value_contents text.now) truths.now lefts.now sums.now
+    ensures hits { hits.new ≡ (step (value_contents text.now) reads.now.truths.now reads.now.lefts.now sums.now
         (record { hits = hits.old; numbers = numbers.old })).hits }
-    ensures numbers { numbers.new ≡ (step (value_contents text.now) truths.now lefts.now sums.now
+    ensures numbers { numbers.new
+        ≡ (step (value_contents text.now) reads.now.truths.now reads.now.lefts.now sums.now
         (record { hits = hits.old; numbers = numbers.old })).numbers }
 {
-    if step_parts(text, orders, pauses, truths, lefts, sums, hits, numbers) {
+    if step_parts(text, reads, sums, hits, numbers) {
         hits.fill(0);
         clear_counted(text, numbers);
     }
@@ -43,28 +39,22 @@ pub fn step_value(
 // Steps all parts one by one, and says whether some part resets.
 fn step_parts(
     text: &ValueText,
-    orders: &[u32],
-    pauses: &[u32],
-    truths: &[bool],
-    lefts: &[u32],
+    reads: &Reads<'_>,
     sums: &[u32],
     hits: &mut [u32],
     numbers: &mut [u32],
 ) -> bool
-    requires orders { orders.now ≡ orders_of (value_contents text.now) }
-    requires pauses { pauses.now ≡ pauses_of (value_contents text.now) }
-    requires truths { length truths.now ≡ value_hits (value_contents text.now) }
-    requires lefts { length lefts.now ≡ value_hits (value_contents text.now) }
+    requires reads { ReadsGroups (map counted_in (value_contents text.now)) reads.now }
     requires hits { length hits.old ≡ value_hits (value_contents text.now) }
     requires sums { length sums.now ≡ length (value_contents text.now) }
     requires numbers { length numbers.old ≡ length (value_contents text.now) }
 
-    ensures reset { result ≡ list_any (λ part. part.reset)
-        (part_steps (value_contents text.now) truths.now lefts.now hits.old sums.now numbers.old) }
-    ensures hits { hits.new ≡ flat_map (λ part. part.hits)
-        (part_steps (value_contents text.now) truths.now lefts.now hits.old sums.now numbers.old) }
-    ensures numbers { numbers.new ≡ map (λ part. part.number)
-        (part_steps (value_contents text.now) truths.now lefts.now hits.old sums.now numbers.old) }
+    ensures reset { result ≡ list_any (λ part. part.reset) (part_steps (value_contents text.now)
+        reads.now.truths.now reads.now.lefts.now hits.old sums.now numbers.old) }
+    ensures hits { hits.new ≡ flat_map (λ part. part.hits) (part_steps (value_contents text.now)
+        reads.now.truths.now reads.now.lefts.now hits.old sums.now numbers.old) }
+    ensures numbers { numbers.new ≡ map (λ part. part.number) (part_steps (value_contents text.now)
+        reads.now.truths.now reads.now.lefts.now hits.old sums.now numbers.old) }
 {
     let mut resets = false;
     let mut start = 0;
@@ -72,8 +62,11 @@ fn step_parts(
         match part {
             Part::Terms(_) => numbers[place] = sums[place],
             Part::Conditions(group) => {
-                let (form, pauses) = (Form::InValue, pauses[place]);
-                let outcome = step_at(group, form, start, orders, pauses, truths, lefts, hits);
+                let here = GroupPlace {
+                    number: place,
+                    start,
+                };
+                let outcome = step_at(group, Form::InValue, reads, here, hits);
                 resets |= outcome.reset;
                 numbers[place] = outcome.measured.unwrap_or(numbers[place]);
                 start += group.conditions.len();

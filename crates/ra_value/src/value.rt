@@ -1,6 +1,7 @@
 use crate::greatest::greatest_of;
 use crate::parts::step_value;
 use ra_condition::{Part, ValueText};
+use ra_group::Reads;
 use ra_text::{OutOfMemory, read_words};
 use std::alloc::Global;
 use std::marker::Model;
@@ -78,16 +79,13 @@ impl Value {
         ensures hits { length self.new.hits ≡ length self.old.hits }
         ensures numbers { length self.new.numbers ≡ length self.old.numbers }
     {
-        step_value(
-            text,
+        let reads = Reads {
             orders,
             pauses,
             truths,
             lefts,
-            sums,
-            &mut self.hits,
-            &mut self.kept,
-        );
+        };
+        step_value(text, &reads, sums, &mut self.hits, &mut self.kept);
         greatest_of(&self.kept)
     }
 

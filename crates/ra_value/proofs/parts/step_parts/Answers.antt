@@ -1,48 +1,36 @@
-use Rattle.std.proofs.Common.{◌≡◌, ◌+◌, ◌<◌, ◌≤◌, ◌||◌, unwrap_or, length, get_or, take, drop, set, map, ap, ◌∙◌, subst, arith}
+use Rattle.std.proofs.Common.{◌+◌, ◌<◌, ◌≤◌, ◌||◌, unwrap_or, length, get_or, take, set, map, ap, ◌∙◌, subst, arith}
 use Rattle.std.proofs.lemmas.List.{length-map}
 use Rattle.ra_condition.specs.declared.part.Part.{Part}
-use Rattle.ra_condition.specs.Contents.{part_contents, group_contents, counted_in, value_hits}
-use Rattle.ra_condition.specs.Chains.{pass_order}
-use Rattle.ra_group.specs.Along.{pause_count}
+use Rattle.ra_condition.specs.Contents.{part_contents, group_contents, counted_in, value_contents}
 use Rattle.ra_group.specs.declared.outcome.Outcome.{Outcome}
-use Rattle.ra_value.proofs.OrdersLemmas.{length-orders, order_part, pauses_part, within_part, parts_more, parts_before}
+use Rattle.ra_group.specs.Along.{LiesAlong}
+use Rattle.ra_group.proofs.AlongLemmas.{has_entries}
+use Rattle.ra_value.proofs.OrdersLemmas.{counted_hits, part_lies, parts_more, parts_before}
 use Rattle.ra_value.proofs.TurnLemmas.{turn_terms, turn_group}
 use Rattle.ra_value.proofs.parts.step_parts.Goals as goal
 use Rattle.ra_value.proofs.parts.step_parts.Goals.{in-Terms, in-Conditions}
 
-pub step_at-outcome-requires-clause-order : goal.step_at-outcome-requires-clause-order
-step_at-outcome-requires-clause-order c =
+pub step_at-outcome-requires-clause-reads : goal.step_at-outcome-requires-clause-reads
+step_at-outcome-requires-clause-reads c =
+    let parts = value_contents c.args.text.now in
+    has_entries (map counted_in parts) c.args.reads.now c.requires.reads (length c.loop-place.hits) (omega (arith, counted_hits parts))
+
+pub step_at-outcome-requires-clause-lies : goal.step_at-outcome-requires-clause-lies
+step_at-outcome-requires-clause-lies c =
     let items = c.deref-part-items.ensures.value in
     let place = c.loop-place.place in
-    let order = order_part c.args.text.now.parts.items c.args.orders.now c.requires.orders place c.part-item.result c.loop-place.start (omega (arith, ap length items)) (c.part-item.is ∙ ap (λ xs. get_or xs place c.part-item.result) items) c.loop-place.invariant.starts in
-    subst (λ (p : Part). take (length (counted_in (part_contents p))) (drop c.loop-place.start c.args.orders.now) ≡ pass_order (counted_in (part_contents p))) c.in-Conditions.is order
-
-pub step_at-outcome-requires-clause-pauses : goal.step_at-outcome-requires-clause-pauses
-step_at-outcome-requires-clause-pauses c =
-    let items = c.deref-part-items.ensures.value in
-    let place = c.loop-place.place in
-    let here = c.part-item.is ∙ ap (λ xs. get_or xs place c.part-item.result) items in
-    let pauses = pauses_part c.args.text.now.parts.items c.args.orders.now c.requires.orders place c.part-item.result c.loop-place.start
-    (omega (arith, ap length items)) here c.loop-place.invariant.starts c.args.pauses.now c.requires.pauses in
-    subst (λ (p : Part). get_or c.args.pauses.now place 0 ≡ pause_count (counted_in (part_contents p))) c.in-Conditions.is pauses
-
-pub step_at-outcome-requires-clause-within : goal.step_at-outcome-requires-clause-within
-step_at-outcome-requires-clause-within c =
-    let items = c.deref-part-items.ensures.value in
-    let place = c.loop-place.place in
-    let within = within_part c.args.text.now.parts.items c.args.orders.now c.requires.orders place c.part-item.result c.loop-place.start (omega (arith, ap length items)) (c.part-item.is ∙ ap (λ xs. get_or xs place c.part-item.result) items) c.loop-place.invariant.starts in
-    omega (arith, subst (λ (p : Part). c.loop-place.start + length (counted_in (part_contents p)) ≤ value_hits (map part_contents c.args.text.now.parts.items)) c.in-Conditions.is within)
-
-pub step_at-outcome-requires-clause-orders : goal.step_at-outcome-requires-clause-orders
-step_at-outcome-requires-clause-orders c = omega (arith, length-orders c.args.text.now.parts.items c.args.orders.now c.requires.orders)
+    let lies = part_lies c.args.text.now.parts.items c.args.reads.now c.requires.reads place c.part-item.result c.loop-place.start (omega (arith, ap length items)) (c.part-item.is ∙ ap (λ xs. get_or xs place c.part-item.result) items) c.loop-place.invariant.starts in
+    subst (λ (p : Part). LiesAlong (counted_in (part_contents p)) c.args.reads.now (record { number = place; start = c.loop-place.start })) c.in-Conditions.is lies
 
 pub overflow_add-start : goal.overflow_add-start
 overflow_add-start c =
     let items = c.deref-part-items.ensures.value in
     let place = c.loop-place.place in
-    let within = within_part c.args.text.now.parts.items c.args.orders.now c.requires.orders place c.part-item.result c.loop-place.start (omega (arith, ap length items)) (c.part-item.is ∙ ap (λ xs. get_or xs place c.part-item.result) items) c.loop-place.invariant.starts in
-    let whole = subst (λ (p : Part). c.loop-place.start + length (counted_in (part_contents p)) ≤ value_hits (map part_contents c.args.text.now.parts.items)) c.in-Conditions.is within in
-    let fits : c.loop-place.start + c.len-start.result ≤ length c.args.hits.now = omega (arith, whole, c.len-start.ensures, c.in-Conditions.group.conditions.ok.0) in
+    let parts = value_contents c.args.text.now in
+    let lies = part_lies c.args.text.now.parts.items c.args.reads.now c.requires.reads place c.part-item.result c.loop-place.start (omega (arith, ap length items)) (c.part-item.is ∙ ap (λ xs. get_or xs place c.part-item.result) items) c.loop-place.invariant.starts in
+    let here = subst (λ (p : Part). LiesAlong (counted_in (part_contents p)) c.args.reads.now (record { number = place; start = c.loop-place.start })) c.in-Conditions.is lies in
+    let entries = has_entries (map counted_in parts) c.args.reads.now c.requires.reads (length c.args.hits.now) (omega (arith, counted_hits parts)) in
+    let fits : c.loop-place.start + c.len-start.result ≤ length c.args.hits.now = omega (arith, here.within, entries.orders, c.len-start.ensures, c.in-Conditions.group.conditions.ok.0) in
     omega arith
 
 pub loop-place-preserved : goal.loop-place-preserved
@@ -53,17 +41,17 @@ loop-place-preserved c =
     let here = c.part-item.is ∙ ap (λ xs. get_or xs place c.part-item.result) same in
     let within : place < length items = omega (arith, ap length same) in
     let parts = map part_contents (take place items) in
-    let before = parts_before items c.args.orders.now c.requires.orders place c.part-item.result c.loop-place.start within here c.loop-place.invariant.starts in
-    let more = parts_more items c.args.orders.now c.requires.orders place c.part-item.result c.loop-place.start within here c.loop-place.invariant.starts in
+    let before = parts_before items c.args.reads.now c.requires.reads place c.part-item.result c.loop-place.start within here c.loop-place.invariant.starts in
+    let more = parts_more items c.args.reads.now c.requires.reads place c.part-item.result c.loop-place.start within here c.loop-place.invariant.starts in
     let room : place < length c.args.numbers.now = omega (arith, length-map items part_contents) in
     elim c.match-part.branch [
       | in-Terms w ↦
-          turn_terms c.args.truths.now c.args.lefts.now c.args.hits.now c.args.sums.now c.args.numbers.now parts _ (part_contents c.part-item.result) place c.loop-place.start c.match-part.start c.loop-place.resets c.match-part.resets c.loop-place.hits c.match-part.hits c.loop-place.numbers c.match-part.numbers before room more c.loop-place.invariant
+          turn_terms c.args.reads.now.truths.now c.args.reads.now.lefts.now c.args.hits.now c.args.sums.now c.args.numbers.now parts _ (part_contents c.part-item.result) place c.loop-place.start c.match-part.start c.loop-place.resets c.match-part.resets c.loop-place.hits c.match-part.hits c.loop-place.numbers c.match-part.numbers before room more c.loop-place.invariant
           w.in-Terms.field-0.items (ap part_contents w.in-Terms.is) w.start-is w.resets-is w.hits-is w.numbers-is
       | in-Conditions w ↦
           let cs = group_contents w.in-Conditions.group in
           let outcome = w.step_at-outcome.ensures.outcome in
-          turn_group c.args.truths.now c.args.lefts.now c.args.hits.now c.args.sums.now c.args.numbers.now parts _ (part_contents c.part-item.result) place c.loop-place.start c.match-part.start c.loop-place.resets c.match-part.resets c.loop-place.hits c.match-part.hits c.loop-place.numbers c.match-part.numbers before room more c.loop-place.invariant
+          turn_group c.args.reads.now.truths.now c.args.reads.now.lefts.now c.args.hits.now c.args.sums.now c.args.numbers.now parts _ (part_contents c.part-item.result) place c.loop-place.start c.match-part.start c.loop-place.resets c.match-part.resets c.loop-place.hits c.match-part.hits c.loop-place.numbers c.match-part.numbers before room more c.loop-place.invariant
           cs (ap part_contents w.in-Conditions.is)
           (omega (arith, w.start-is, w.len-start.ensures, w.in-Conditions.group.conditions.ok.0))
           (w.resets-is ∙ ap (λ (o : Outcome). c.loop-place.resets || o.reset) outcome)
