@@ -1,5 +1,5 @@
 -- What the calls of an elaboration leave in a pool: the step between the code and docs/DEFINITIONS.md, "Trees of a group".
-use Rattle.std.specs.Prelude.{◌≡◌, ℕ, ◌<◌, Option, None, Some, List, [], length}
+use Rattle.std.specs.Prelude.{◌≡◌, ℕ, ◌+◌, ◌<◌, ◌≤◌, ◌^◌, Option, None, Some, List, [], length}
 use Rattle.ra_condition.specs.declared.flag.Flag.{Flag}
 use Rattle.ra_condition.specs.declared.flag.Flag.TheVariants.{AddSource, SubSource, AddAddress}
 use Rattle.ra_indirect.specs.declared.node.Node.{Node}
@@ -8,6 +8,11 @@ use Rattle.ra_indirect.specs.Trees.{Tree, constant}
 use Rattle.ra_indirect.specs.Pools.{Spells, IsValued, node_at}
 use Rattle.ra_indirect.specs.Interned.{IsPool}
 use Rattle.ra_indirect.specs.Growing.{IsFront, GrowsBy, AddsAtMost}
+
+-- the nodes are those of a pool, and this many more find room
+pub record HasRoom (nodes : List Node) (more : ℕ) : Type 0 where
+  pub pool : IsPool nodes
+  pub room : length nodes + more ≤ 2 ^ 31
 
 -- the number is that of a node with a value
 abbrev pub Names : List Node → ℕ → Type 0

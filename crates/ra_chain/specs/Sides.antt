@@ -8,9 +8,15 @@ use Rattle.ra_indirect.specs.declared.node.Node.{Node}
 use Rattle.ra_indirect.specs.Trees.{Tree}
 use Rattle.ra_indirect.specs.Pools.{Spells}
 use Rattle.ra_indirect.specs.Growing.{GrowsBy}
+use Rattle.ra_chain.specs.declared.sides.Named.{Named}
 use Rattle.ra_chain.specs.declared.trees.Passed.{Passed}
 use Rattle.ra_chain.specs.Elaboration.{tree_at, added, joined, handed_on, recall_of, sum_of, values_of, left_of, right_of}
-use Rattle.ra_chain.specs.Planting.{SpellsOrZero, SpellsSum, IsCarried}
+use Rattle.ra_chain.specs.Planting.{NamesSome, SpellsOrZero, SpellsSum, IsCarried}
+
+-- what a condition may name are nodes with values
+pub record AreNamed (nodes : List Node) (named : Named) : Type 0 where
+  pub pointer : NamesSome nodes named.pointer
+  pub recalled : NamesSome nodes named.recalled
 
 -- a condition that hands a value on has arithmetic or no operator
 abbrev pub JoinsValues : Condition → Type 0

@@ -1,13 +1,12 @@
 //! Trees put into a pool, a node or a few at a time.
 
-ghost use Rattle.std.specs.Prelude.{◌≡◌, ℕ, ◌+◌, ◌<◌, ◌≤◌, ◌^◌, Option, [], ◌∷◌, length, IsTrue, IfOk};
+ghost use Rattle.std.specs.Prelude.{ℕ, Option, [], ◌∷◌, IsTrue, IfOk};
 ghost use Rattle.ra_operand.specs.Operators.{is_arithmetic};
 ghost use Rattle.ra_indirect.specs.Trees.{Tree, constant, join, view};
 ghost use Rattle.ra_indirect.specs.Pools.{MayFollow, IsValued, Spells};
-ghost use Rattle.ra_indirect.specs.Interned.{IsPool};
 ghost use Rattle.ra_indirect.specs.Growing.{GainsNode};
 ghost use Rattle.ra_chain.specs.Elaboration.{operand_tree, added, subtracted, sum_after};
-ghost use Rattle.ra_chain.specs.Planting.{Names, NamesSome, SpellsOrZero, SpellsSum, Plants, PlantsSum, IsCarried, IsKept, cells_at, views_at};
+ghost use Rattle.ra_chain.specs.Planting.{Names, NamesSome, SpellsOrZero, SpellsSum, Plants, PlantsSum, HasRoom, IsCarried, IsKept, cells_at, views_at};
 
 use ra_condition::Flag;
 use ra_indirect::{Node, Pool};
@@ -16,9 +15,8 @@ use ra_text::OutOfMemory;
 
 // The number of a node, which goes last where it is new.
 fn node_of(pool: &mut Pool, node: Node) -> Result<u32, OutOfMemory>
-    requires pool { IsPool pool.old }
+    requires room { HasRoom pool.old 1 }
     requires follows { MayFollow pool.old node }
-    requires room { length pool.old < 2 ^ 31 }
     ensures ok { IfOk result (GainsNode pool.old pool.new node) }
     ensures named { IfOk result (λ n. IsValued node → Names pool.new n) }
     ensures kept { IsKept pool.old pool.new 1 (cells_at node) (views_at node) }
@@ -29,8 +27,7 @@ fn node_of(pool: &mut Pool, node: Node) -> Result<u32, OutOfMemory>
 
 /// A constant.
 pub fn constant_node(pool: &mut Pool, value: u32) -> Result<u32, OutOfMemory>
-    requires pool { IsPool pool.old }
-    requires room { length pool.old < 2 ^ 31 }
+    requires room { HasRoom pool.old 1 }
     ensures ok { IfOk result (Plants pool.old pool.new (constant value ∷ []) (constant value)) }
     ensures named { IfOk result (Names pool.new) }
     ensures kept { IsKept pool.old pool.new 1 0 0 }
@@ -41,8 +38,7 @@ pub fn constant_node(pool: &mut Pool, value: u32) -> Result<u32, OutOfMemory>
 
 // A node that is there, or else the constant 0.
 fn number_or_zero(pool: &mut Pool, number: Option<u32>) -> Result<u32, OutOfMemory>
-    requires pool { IsPool pool.old }
-    requires room { length pool.old < 2 ^ 31 }
+    requires room { HasRoom pool.old 1 }
     requires named { NamesSome pool.old number }
     ensures ok { IfOk result (λ n. (tree : Tree) → SpellsOrZero pool.old number tree
         → Plants pool.old pool.new [] tree n) }
@@ -66,8 +62,7 @@ fn view_node(
     pointer: u32,
     address: u32,
 ) -> Result<u32, OutOfMemory>
-    requires pool { IsPool pool.old }
-    requires room { length pool.old + 2 ≤ 2 ^ 31 }
+    requires room { HasRoom pool.old 2 }
     requires named { Names pool.old pointer }
     ensures ok { IfOk result (λ n. (p : Tree) → Spells pool.old pointer p
         → Plants pool.old pool.new (view kind size p address ∷ []) (view kind size p address) n) }
@@ -91,8 +86,7 @@ pub fn operand_node(
     pointer: Option<u32>,
     recalled: Option<u32>,
 ) -> Result<u32, OutOfMemory>
-    requires pool { IsPool pool.old }
-    requires room { length pool.old + 3 ≤ 2 ^ 31 }
+    requires room { HasRoom pool.old 3 }
     requires pointer { NamesSome pool.old pointer }
     requires recalled { NamesSome pool.old recalled }
     ensures ok { IfOk result (λ n. (p r : Tree) → SpellsOrZero pool.old pointer p → SpellsOrZero pool.old recalled r
@@ -119,8 +113,7 @@ pub fn operand_node(
 
 /// A value added to a sum, which may have nothing yet.
 pub fn added_node(pool: &mut Pool, sum: Option<u32>, value: u32) -> Result<u32, OutOfMemory>
-    requires pool { IsPool pool.old }
-    requires room { length pool.old < 2 ^ 31 }
+    requires room { HasRoom pool.old 1 }
     requires sum { NamesSome pool.old sum }
     requires value { Names pool.old value }
     ensures ok { IfOk result (λ n. (s : Option Tree) (v : Tree) → SpellsSum pool.old sum s → Spells pool.old value v
@@ -138,8 +131,7 @@ pub fn added_node(pool: &mut Pool, sum: Option<u32>, value: u32) -> Result<u32, 
 
 // A value taken from a sum, or from 0.
 fn subtracted_node(pool: &mut Pool, sum: Option<u32>, value: u32) -> Result<u32, OutOfMemory>
-    requires pool { IsPool pool.old }
-    requires room { length pool.old + 2 ≤ 2 ^ 31 }
+    requires room { HasRoom pool.old 2 }
     requires sum { NamesSome pool.old sum }
     requires value { Names pool.old value }
     ensures ok { IfOk result (λ n. (s : Option Tree) (v : Tree) → SpellsSum pool.old sum s → Spells pool.old value v
@@ -166,8 +158,7 @@ pub fn sum_node(
     value: u32,
     sum: Option<u32>,
 ) -> Result<Option<u32>, OutOfMemory>
-    requires pool { IsPool pool.old }
-    requires room { length pool.old + 2 ≤ 2 ^ 31 }
+    requires room { HasRoom pool.old 2 }
     requires sum { IsCarried flag → NamesSome pool.old sum }
     requires value { IsCarried flag → Names pool.old value }
     ensures ok { IfOk result (λ n. (v : Tree) (s : Option Tree) → (IsCarried flag → Spells pool.old value v)
@@ -190,8 +181,7 @@ pub fn sum_node(
 
 /// An operator over two trees that are there.
 pub fn joined_node(pool: &mut Pool, op: Op, left: u32, right: u32) -> Result<u32, OutOfMemory>
-    requires pool { IsPool pool.old }
-    requires room { length pool.old < 2 ^ 31 }
+    requires room { HasRoom pool.old 1 }
     requires arithmetic { IsTrue (is_arithmetic op) }
     requires left { Names pool.old left }
     requires right { Names pool.old right }

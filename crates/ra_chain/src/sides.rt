@@ -1,16 +1,15 @@
 //! The two trees of a condition, put into a pool.
 
-ghost use Rattle.std.specs.Prelude.{◌≡◌, ℕ, ◌+◌, ◌≤◌, ◌^◌, Option, List, ◌∷◌, ◌++◌, [], length, IsTrue, IfOk, ◌⊎◌};
+ghost use Rattle.std.specs.Prelude.{Option, List, ◌∷◌, ◌++◌, [], IsTrue, IfOk, ◌⊎◌};
 ghost use Rattle.ra_operand.specs.Operators.{is_arithmetic, is_bare};
 ghost use Rattle.ra_condition.specs.Flags.{hands_on};
 ghost use Rattle.ra_indirect.specs.declared.node.Node.{Node};
 ghost use Rattle.ra_indirect.specs.Trees.{Tree};
 ghost use Rattle.ra_indirect.specs.Pools.{Spells};
-ghost use Rattle.ra_indirect.specs.Interned.{IsPool};
 ghost use Rattle.ra_indirect.specs.Growing.{GrowsBy};
 ghost use Rattle.ra_chain.specs.Elaboration.{operand_tree, joined, handed_on};
-ghost use Rattle.ra_chain.specs.Planting.{Names, NamesSome, SpellsOrZero, SpellsSum, Plants, IsKept};
-ghost use Rattle.ra_chain.specs.Sides.{JoinsValues, left_side, right_side, GrewByLeft, PlantsSides};
+ghost use Rattle.ra_chain.specs.Planting.{Names, NamesSome, SpellsOrZero, SpellsSum, Plants, HasRoom, IsKept};
+ghost use Rattle.ra_chain.specs.Sides.{AreNamed, JoinsValues, left_side, right_side, GrewByLeft, PlantsSides};
 
 use crate::nodes::{added_node, joined_node, operand_node};
 use ra_condition::{Condition, Flag};
@@ -35,13 +34,11 @@ pub fn sides_node(
     left: u32,
     named: Named,
 ) -> Result<(u32, u32), OutOfMemory>
-    requires pool { IsPool pool.old }
-    requires room { length pool.old + 5 ≤ 2 ^ 31 }
+    requires room { HasRoom pool.old 5 }
     requires joins { JoinsValues condition.now }
     requires sum { NamesSome pool.old sum }
     requires left { Names pool.old left }
-    requires pointer { NamesSome pool.old named.pointer }
-    requires recalled { NamesSome pool.old named.recalled }
+    requires named { AreNamed pool.old named }
     ensures ok { IfOk result (λ n. (base : List Node) (s : Option Tree) (l p r : Tree)
         → SpellsSum pool.old sum s → Spells pool.old left l
         → SpellsOrZero pool.old named.pointer p → SpellsOrZero pool.old named.recalled r
@@ -68,14 +65,12 @@ fn value_node(
     left: u32,
     named: Named,
 ) -> Result<u32, OutOfMemory>
-    requires pool { IsPool pool.old }
-    requires room { length pool.old + 5 ≤ 2 ^ 31 }
+    requires room { HasRoom pool.old 5 }
     requires hands_on { IsTrue (hands_on condition.now.flag) }
     requires joins { JoinsValues condition.now }
     requires sum { NamesSome pool.old sum }
     requires left { Names pool.old left }
-    requires pointer { NamesSome pool.old named.pointer }
-    requires recalled { NamesSome pool.old named.recalled }
+    requires named { AreNamed pool.old named }
     ensures ok { IfOk result (λ n. (base : List Node) (s : Option Tree) (l p r : Tree)
         → SpellsSum pool.old sum s → Spells pool.old left l
         → SpellsOrZero pool.old named.pointer p → SpellsOrZero pool.old named.recalled r
@@ -102,12 +97,10 @@ fn with_right(
     left: u32,
     named: Named,
 ) -> Result<u32, OutOfMemory>
-    requires pool { IsPool pool.old }
-    requires room { length pool.old + 4 ≤ 2 ^ 31 }
+    requires room { HasRoom pool.old 4 }
     requires joins { IsTrue (is_bare condition.now.op) ⊎ IsTrue (is_arithmetic condition.now.op) }
     requires left { Names pool.old left }
-    requires pointer { NamesSome pool.old named.pointer }
-    requires recalled { NamesSome pool.old named.recalled }
+    requires named { AreNamed pool.old named }
     ensures ok { IfOk result (λ n. (base : List Node) (trees : List Tree) (l p r : Tree)
         → Spells pool.old left l
         → SpellsOrZero pool.old named.pointer p → SpellsOrZero pool.old named.recalled r

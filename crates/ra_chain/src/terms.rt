@@ -1,9 +1,8 @@
 //! The legacy sum of a part, as a node of a pool.
 
 ghost use Rattle.std.specs.Prelude.{◌≡◌, ℕ, ◌+◌, ◌*◌, ◌≤◌, ◌^◌, [], ◌∷◌, length, IfOk};
-ghost use Rattle.ra_indirect.specs.Interned.{IsPool};
 ghost use Rattle.ra_chain.specs.Elaboration.{term_tree, terms_tree};
-ghost use Rattle.ra_chain.specs.Planting.{Names, Plants, IsKept};
+ghost use Rattle.ra_chain.specs.Planting.{Names, Plants, HasRoom, IsKept};
 ghost use Rattle.ra_chain.specs.Terms.{PlantsTerms, terms_sum};
 
 use crate::nodes::{added_node, constant_node, joined_node, operand_node};
@@ -37,8 +36,7 @@ pub fn elaborate_terms(alloc: Global, terms: &[Term], pool: &mut Pool) -> Result
 
 // The sum of the terms, if there are some.
 fn summed_node(pool: &mut Pool, terms: &[Term]) -> Result<Option<u32>, OutOfMemory>
-    requires pool { IsPool pool.old }
-    requires room { length pool.old + 12 * length terms.now ≤ 2 ^ 31 }
+    requires room { HasRoom pool.old (12 * length terms.now) }
     ensures ok { IfOk result (PlantsTerms pool.old pool.new (terms_sum terms.now)) }
     ensures kept { IsKept pool.old pool.new (12 * length terms.now) (2 * length terms.now) (2 * length terms.now) }
 {
@@ -53,8 +51,7 @@ fn summed_node(pool: &mut Pool, terms: &[Term]) -> Result<Option<u32>, OutOfMemo
 
 // An operand, or an operand and its factor.
 fn term_node(pool: &mut Pool, term: Term) -> Result<u32, OutOfMemory>
-    requires pool { IsPool pool.old }
-    requires room { length pool.old + 7 ≤ 2 ^ 31 }
+    requires room { HasRoom pool.old 7 }
     ensures ok { IfOk result (Plants pool.old pool.new (term_tree term ∷ []) (term_tree term)) }
     ensures named { IfOk result (Names pool.new) }
     ensures kept { IsKept pool.old pool.new 7 2 2 }

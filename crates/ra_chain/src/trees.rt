@@ -5,11 +5,10 @@ ghost use Rattle.ra_condition.specs.Contents.{condition_at, group_contents};
 ghost use Rattle.ra_condition.specs.Flags.{is_remember};
 ghost use Rattle.ra_condition.specs.Chains.{in_pause_chain, places, pass_order};
 ghost use Rattle.ra_indirect.specs.declared.node.Node.{Node};
-ghost use Rattle.ra_indirect.specs.Interned.{IsPool};
 ghost use Rattle.ra_indirect.specs.Growing.{GrowsBy};
 ghost use Rattle.ra_chain.specs.Elaboration.{left_of, right_of, pointer_of, sum_of, values_of};
 ghost use Rattle.ra_chain.specs.Occurrence.{trees_in_group};
-ghost use Rattle.ra_chain.specs.Planting.{SpellsOrZero, PlantsSum, IsKept};
+ghost use Rattle.ra_chain.specs.Planting.{SpellsOrZero, PlantsSum, HasRoom, IsKept};
 ghost use Rattle.ra_chain.specs.Elaborates.{SpellsEach, AllJoin};
 ghost use Rattle.ra_chain.specs.Sides.{JoinsValues, IsSized, IsKnownBefore, TakesCondition};
 
@@ -69,9 +68,8 @@ fn take_conditions(
     conditions: &[Condition],
     order: &[u32],
 ) -> Result<(), OutOfMemory>
-    requires pool { IsPool pool.old }
+    requires room { HasRoom pool.old (12 * length conditions.now) }
     requires order { order.now ≡ pass_order conditions.now }
-    requires room { length pool.old + 12 * length conditions.now ≤ 2 ^ 31 }
     requires joins { AllJoin conditions.now }
     requires sized { IsSized passed.old (length conditions.now) }
     requires none { passed.old.recalled ≡ None }
@@ -125,8 +123,7 @@ impl Passed {
         conditions: &[Condition],
         place: usize,
     ) -> Result<(), OutOfMemory>
-        requires pool { IsPool pool.old }
-        requires room { length pool.old + 12 ≤ 2 ^ 31 }
+        requires room { HasRoom pool.old 12 }
         requires within { place < length conditions.now }
         requires joins { JoinsValues (condition_at conditions.now place) }
         requires sized { IsSized self.old (length conditions.now) }
@@ -174,8 +171,7 @@ impl Passed {
         conditions: &[Condition],
         place: usize,
     ) -> Result<Option<u32>, OutOfMemory>
-        requires pool { IsPool pool.old }
-        requires room { length pool.old + 2 ≤ 2 ^ 31 }
+        requires room { HasRoom pool.old 2 }
         requires within { place < length conditions.now }
         requires sized { IsSized self.now (length conditions.now) }
         requires known { IsKnownBefore conditions.now place self.now pool.old }

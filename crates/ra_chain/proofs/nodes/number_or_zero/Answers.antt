@@ -7,7 +7,7 @@ use Rattle.ra_chain.proofs.nodes.number_or_zero.Goals as goal
 pub returns-in-Some-clause-ok : goal.returns-in-Some-clause-ok
 returns-in-Some-clause-ok c =
     λ tree spells. record {
-      grows = grows_none c.args.pool.now c.requires.pool;
+      grows = grows_none c.args.pool.now c.requires.room.pool;
       spells = subst (λ o. SpellsOrZero c.args.pool.now o tree) c.in-Some.is spells;
     }
 

@@ -1,7 +1,7 @@
-use Rattle.std.proofs.Common.{◌≡◌, Bool, true, false, List, ◌++◌, length, get_or, map, ap, ◌∙◌, arith}
+use Rattle.std.proofs.Common.{true, false, ◌++◌, length, get_or, ap, ◌∙◌, arith}
 use Rattle.std.specs.Bool.{beq}
 use Rattle.std.proofs.lemmas.List.FromFn.{length-map-range_with_len}
-use Rattle.ra_condition.specs.Chains.{in_pause_chain, places}
+use Rattle.ra_condition.specs.Chains.{in_pause_chain}
 use Rattle.ra_condition.proofs.Passes.{chosen}
 use Rattle.ra_chain.proofs.Marks.{chosen_marked, chosen_unmarked}
 use Rattle.ra_chain.proofs.order.pauses_first.Goals as goal

@@ -10,8 +10,7 @@ pub joined_node-requires : goal.joined_node-requires
 joined_node-requires c =
     let e = c.in_ok-right-in_default.ensures in
     record {
-      pool = e.kept.pool;
-      room = omega (arith, e.kept.adds.nodes_too, c.requires.room);
+      room = record { pool = e.kept.pool; room = omega (arith, e.kept.adds.nodes_too, c.requires.room.room) };
       arithmetic = arithmetic_from c.args.condition.now.op c.in_default.not-Bare c.requires.joins;
       left = names_more c.args.pool.now c.operand_node.new.pool c.args.left e.kept.front c.requires.left;
       right = e.named;

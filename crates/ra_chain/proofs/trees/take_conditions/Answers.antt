@@ -9,12 +9,11 @@ use Rattle.ra_chain.proofs.PlantLemmas.{kept_through}
 use Rattle.ra_chain.proofs.WalkLemmas.{IsRunning, order_length, running_none, running_known, running_more, running_lefts, running_rights, running_grows}
 use Rattle.ra_chain.proofs.trees.take_conditions.Goals as goal
 
-pub take_condition-requires-clause-pool : goal.take_condition-requires-clause-pool
-take_condition-requires-clause-pool c = c.loop-place.invariant.kept.pool
-
 pub take_condition-requires-clause-room : goal.take_condition-requires-clause-room
-take_condition-requires-clause-room c =
-    omega (arith, c.loop-place.invariant.kept.adds.nodes_too, c.requires.room, c.loop-place-test.true, ap length c.requires.order, order_length c.args.conditions.now)
+take_condition-requires-clause-room c = record {
+  pool = c.loop-place.invariant.kept.pool;
+  room = omega (arith, c.loop-place.invariant.kept.adds.nodes_too, c.requires.room.room, c.loop-place-test.true, ap length c.requires.order, order_length c.args.conditions.now);
+}
 
 pub take_condition-requires-clause-within : goal.take_condition-requires-clause-within
 take_condition-requires-clause-within c =
@@ -35,7 +34,7 @@ take_condition-requires-clause-known c =
     subst (λ o. IsKnownBefore c.args.conditions.now (get_or o c.loop-place.place-index 0) c.loop-place.passed c.loop-place.pool) (sym c.requires.order) (running_known c.args.conditions.now c.args.pool.now c.loop-place.place-index c.loop-place.passed c.loop-place.pool turn c.loop-place.invariant)
 
 pub loop-place-init : goal.loop-place-init
-loop-place-init c = running_none c.args.conditions.now c.args.pool.now c.args.passed.now c.requires.pool c.requires.sized c.requires.none
+loop-place-init c = running_none c.args.conditions.now c.args.pool.now c.args.passed.now c.requires.room.pool c.requires.sized c.requires.none
 
 pub loop-place-preserved : goal.loop-place-preserved
 loop-place-preserved c =

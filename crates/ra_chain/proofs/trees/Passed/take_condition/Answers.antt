@@ -13,29 +13,27 @@ use Rattle.ra_chain.proofs.trees.Passed.take_condition.Goals as goal
 pub operand_node-requires-clause-pointer : goal.operand_node-requires-clause-pointer
 operand_node-requires-clause-pointer c =
     named_more c.args.pool.now c.sum_at.new.pool c.pointer_at.result c.in_ok-sum.ensures.kept.front
-    (named_or_zero c.args.pool.now c.pointer_at.result _ c.requires.pool (c.pointer_at.ensures c.args.pool.now c.requires.known))
+    (named_or_zero c.args.pool.now c.pointer_at.result _ c.requires.room.pool (c.pointer_at.ensures c.args.pool.now c.requires.known))
 
 pub operand_node-requires-clause-recalled : goal.operand_node-requires-clause-recalled
 operand_node-requires-clause-recalled c =
     named_more c.args.pool.now c.sum_at.new.pool c.args.self.now.recalled c.in_ok-sum.ensures.kept.front
-    (named_or_zero c.args.pool.now c.args.self.now.recalled _ c.requires.pool c.requires.known.recalled)
+    (named_or_zero c.args.pool.now c.args.self.now.recalled _ c.requires.room.pool c.requires.known.recalled)
 
 pub sides_node-requires-clause-sum : goal.sides_node-requires-clause-sum
 sides_node-requires-clause-sum c =
     named_more c.sum_at.new.pool c.operand_node.new.pool c.in_ok-sum.sum c.in_ok-left.ensures.kept.front
     (named_sum c.sum_at.new.pool c.in_ok-sum.sum _ c.in_ok-sum.ensures.kept.pool c.in_ok-sum.ensures.ok.spells)
 
-pub sides_node-requires-clause-pointer : goal.sides_node-requires-clause-pointer
-sides_node-requires-clause-pointer c =
-    named_more c.sum_at.new.pool c.operand_node.new.pool c.pointer_at.result c.in_ok-left.ensures.kept.front
-    (named_more c.args.pool.now c.sum_at.new.pool c.pointer_at.result c.in_ok-sum.ensures.kept.front
-    (named_or_zero c.args.pool.now c.pointer_at.result _ c.requires.pool (c.pointer_at.ensures c.args.pool.now c.requires.known)))
-
-pub sides_node-requires-clause-recalled : goal.sides_node-requires-clause-recalled
-sides_node-requires-clause-recalled c =
-    named_more c.sum_at.new.pool c.operand_node.new.pool c.args.self.now.recalled c.in_ok-left.ensures.kept.front
-    (named_more c.args.pool.now c.sum_at.new.pool c.args.self.now.recalled c.in_ok-sum.ensures.kept.front
-    (named_or_zero c.args.pool.now c.args.self.now.recalled _ c.requires.pool c.requires.known.recalled))
+pub sides_node-requires-clause-named : goal.sides_node-requires-clause-named
+sides_node-requires-clause-named c =
+    let front = front_through c.args.pool.now c.sum_at.new.pool c.operand_node.new.pool c.in_ok-sum.ensures.kept.front c.in_ok-left.ensures.kept.front in
+    record {
+      pointer = named_more c.args.pool.now c.operand_node.new.pool c.pointer_at.result front
+          (named_or_zero c.args.pool.now c.pointer_at.result _ c.requires.room.pool (c.pointer_at.ensures c.args.pool.now c.requires.known));
+      recalled = named_more c.args.pool.now c.operand_node.new.pool c.args.self.now.recalled front
+          (named_or_zero c.args.pool.now c.args.self.now.recalled _ c.requires.room.pool c.requires.known.recalled);
+    }
 
 pub returns-clause-ok : goal.returns-clause-ok
 returns-clause-ok c =
