@@ -22,7 +22,7 @@ use Rattle.ra_display.specs.declared.line_rests.LineRests.{LineRests}
 use Rattle.ra_display.specs.declared.presence_run.PresenceRun.{PresenceRun}
 use Rattle.ra_meaning.specs.LineMembers.{tests_in, line_member}
 use Rattle.ra_meaning.specs.Presence.{DisplayKept, line_holds, kept_display}
-use Rattle.ra_display.specs.PresenceRuns.{IsLineRun, StepsLine}
+use Rattle.ra_display.specs.PresenceRuns.{IsLineRun, IsOptionalPresence, StepsLine, StepsOptional}
 
 -- what a line is seen to keep, where it owes this many frames, or does not rest
 abbrev pub seen_line : Member → MemberCounts → Option ℕ → MemberKept
@@ -105,6 +105,12 @@ abbrev pub WereOptionalRests : TableSeen → Option ScriptContents → Option Pr
 WereOptionalRests table None None rests = Unit {0}
 WereOptionalRests table (Some script) (Some run) rests = WereLineRests table script.lines run.lines.items rests
 WereOptionalRests table _ _ rests = ⊥
+
+-- One frame of a display that may be missing: it is seen to keep what follows, and each of its lines goes on to rest by the new values.
+pub record StepsDisplay (table : TableSeen) (script : Option ScriptContents) (old new : Option PresenceRun) (before after : LineRests) : Type 0 where
+  pub run : IsOptionalPresence table.nodes script new
+  pub rests : AreOptionalRests table.nodes table.values script new after
+  pub steps : StepsOptional table script (optional_presence_seen old before) (optional_presence_seen new after)
 
 -- one frame of a line, from what it is seen to keep: what it is seen to keep after it, and whether it holds
 pub record StepsLineSeen (table : TableSeen) (line : LineContents) (old new : MemberKept) (holds : Bool) : Type 0 where

@@ -5,8 +5,8 @@ ghost use Rattle.ra_set.specs.Spelled.{OptionalScript};
 ghost use Rattle.ra_display.specs.NewPresence.{AreNewLines, IsNewPresence};
 ghost use Rattle.ra_meaning.specs.ShownLines.{IsShownLine};
 ghost use Rattle.ra_schedule.specs.Waking.{IsSomeFrame};
-ghost use Rattle.ra_display.specs.PresenceRuns.{IsOptionalPresence, IsPresenceRun, StepsOptional, StepsPresence, optional_presence_kept};
-ghost use Rattle.ra_display.specs.LineRests.{AreLineRests, AreOptionalRests, WereLineRests, WereOptionalRests, optional_presence_seen, presence_seen};
+ghost use Rattle.ra_display.specs.PresenceRuns.{IsOptionalPresence, IsPresenceRun, optional_presence_kept};
+ghost use Rattle.ra_display.specs.LineRests.{AreOptionalRests, StepsDisplay, WereLineRests, WereOptionalRests, optional_presence_seen};
 
 use crate::line_rests::LineRests;
 use crate::line_run::new_line;
@@ -101,9 +101,7 @@ pub fn step_presence(
     requires rests { WereOptionalRests table.now (option_map script_contents script.now) run.old rests.old }
     requires frame { IsSomeFrame table.now }
     requires sampled { table.now.sampled ≡ true }
-    ensures run { IsOptionalPresence table.now.nodes (option_map script_contents script.now) run.new }
-    ensures rests { AreOptionalRests table.now.nodes table.now.values (option_map script_contents script.now) run.new rests.new }
-    ensures steps { StepsOptional table.now (option_map script_contents script.now) (optional_presence_seen run.old rests.old) (optional_presence_seen run.new rests.new) }
+    ensures { StepsDisplay table.now (option_map script_contents script.now) run.old run.new rests.old rests.new }
 {
     if let (Some(run), Some(script)) = (run, script) {
         step_display(run, rests, script, table);
@@ -117,9 +115,7 @@ fn step_display(run: &mut PresenceRun, rests: &mut LineRests, script: &Script, t
     requires rests { WereLineRests table.now (script_contents script.now).lines run.old.lines.items rests.old }
     requires frame { IsSomeFrame table.now }
     requires sampled { table.now.sampled ≡ true }
-    ensures run { IsPresenceRun table.now.nodes (script_contents script.now) run.new }
-    ensures rests { AreLineRests table.now.nodes table.now.values (script_contents script.now).lines run.new.lines.items rests.new }
-    ensures steps { StepsPresence table.now (script_contents script.now) (presence_seen run.old rests.old) (presence_seen run.new rests.new) }
+    ensures { StepsDisplay table.now (Some (script_contents script.now)) (Some run.old) (Some run.new) rests.old rests.new }
 {
     rests.step(&mut run.lines, &script.lines, table);
     let first = rests.first();
