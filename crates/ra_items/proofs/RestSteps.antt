@@ -22,7 +22,7 @@ use Rattle.ra_items.specs.declared.rests.Rests.{Rests}
 use Rattle.ra_items.specs.AllRuns.{AreItemRuns, all_events}
 use Rattle.ra_items.specs.ItemRuns.{IsItemRun}
 use Rattle.ra_items.specs.Resting.{GoesOn, HasRoom, ItemSeesSame, StepsRest, seen_run}
-use Rattle.ra_items.specs.Rests.{AreRests, AreSteppedSeen, AreTold, HasPlace, IsSomeFrame, IsSteppedAt, StepsTold, due_below, events_at, events_of, maybe_events, seen_by}
+use Rattle.ra_items.specs.Rests.{AreRests, AreSteppedSeen, AreTold, HasPlace, IsSomeFrame, IsSteppedAt, StepsItems, StepsTold, due_below, events_at, events_of, maybe_events, seen_by}
 use Rattle.ra_items.specs.RunEvents.{run_events}
 use Rattle.ra_meaning.specs.Earned.{is_earned}
 use Rattle.ra_meaning.specs.Openings.{item_after}
@@ -309,7 +309,7 @@ module _ (table : TableSeen) (frame : IsSomeFrame table) (items : List ItemConte
       next_is : next_count before.schedule.clock ≡ next_count rests.schedule.clock
       next_is = sym (ap next_count (far.along.clock ∙ begun.clock))
 
-      pub rests_after : AreRests table.nodes table.values items runs items_after
+      rests_after : AreRests table.nodes table.values items runs items_after
       rests_after = record {
         many = far.each_many;
         heard = heard_after table values before.schedule start items_after.schedule were.heard begun far.along.truths;
@@ -333,7 +333,7 @@ module _ (table : TableSeen) (frame : IsSomeFrame table) (items : List ItemConte
       olds_many : length olds ≡ length items
       olds_many = length_runs table.nodes items olds were_runs
 
-      pub seen_after : AreSteppedSeen table items (seen_by olds before) (seen_by runs items_after) runs
+      seen_after : AreSteppedSeen table items (seen_by olds before) (seen_by runs items_after) runs
       seen_after =
           all_steps ItemContents KeptItem ItemRun (StepsTold table) items (seen_by olds before) (seen_by runs items_after) runs
           (seen_many ItemRun ItemCounts KeptItem seen_run (owed_at before.schedule) olds before.each.items (were.many ∙ sym olds_many) ∙ olds_many)
@@ -357,9 +357,12 @@ module _ (table : TableSeen) (frame : IsSomeFrame table) (items : List ItemConte
           let same = ap (λ (p : Place ItemSpot). p.due) ((far.under_way (element items k within) (a_run k within) (a_before k within)).same k (inl late)) in
           sym same ∙ none k late (omega (arith, within, due_many))
 
-      pub told_after : AreTold items runs items_after
+      told_after : AreTold items runs items_after
       told_after =
           sym (λ i. all_events (take_all (length items) items (omega arith) i) (take_all (length items) runs (omega (arith, runs_many)) i))
           ∙ all_told table items runs start.readers.due runs_many silent (length items) (omega arith)
           ∙ ap (events_of items runs) (due_between start.readers.due at (length items) far.within last)
           ∙ sym far.told
+
+      pub items_stepped : StepsItems table items olds runs before items_after
+      items_stepped = record { runs = far.runs_too; rests = rests_after; stepped = seen_after; told = told_after }

@@ -12,7 +12,7 @@ use Rattle.ra_meaning.specs.declared.event.Event.{Event}
 use Rattle.ra_items.specs.declared.item_run.ItemRun.{ItemRun}
 use Rattle.ra_items.specs.declared.rest.ItemCounts.{ItemCounts}
 use Rattle.ra_items.specs.declared.rests.Rests.{Rests}
-use Rattle.ra_items.specs.AllRuns.{all_events}
+use Rattle.ra_items.specs.AllRuns.{AreItemRuns, all_events}
 use Rattle.ra_items.specs.ItemRuns.{IsItemRun}
 use Rattle.ra_items.specs.Resting.{FitsRun, GoesOn, HasRoom, IsToldOf, StepsRest, StepsSeen, seen_run}
 use Rattle.ra_items.specs.RunEvents.{run_events}
@@ -61,6 +61,13 @@ StepsTold table item old new run = StepsSeen table item old new (run_events item
 -- one frame of each item, from what it is seen to keep
 abbrev pub AreSteppedSeen : TableSeen → List ItemContents → (olds news : List KeptItem) → List ItemRun → Type 0
 AreSteppedSeen table items olds news runs = AllSteps (StepsTold table) items olds news runs
+
+-- One frame of all items: each is one frame further and goes on to rest by the new values, and their events are those of the items that are listed.
+pub record StepsItems (table : TableSeen) (items : List ItemContents) (olds news : List ItemRun) (old new : Rests) : Type 0 where
+  pub runs : AreItemRuns table.nodes items news
+  pub rests : AreRests table.nodes table.values items news new
+  pub stepped : AreSteppedSeen table items (seen_by olds old) (seen_by news new) news
+  pub told : AreTold items news new
 
 -- the rests before a frame: they were at rest by earlier values, and each node that has another one is listed
 pub record WereRests (table : TableSeen) (items : List ItemContents) (runs : List ItemRun) (rests : Rests) : Type 0 where

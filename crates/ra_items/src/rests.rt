@@ -7,7 +7,7 @@ ghost use Rattle.ra_schedule.specs.Signals.{AreSignals};
 ghost use Rattle.ra_items.specs.declared.item_run.ItemRun.{ItemRun};
 ghost use Rattle.ra_items.specs.AllRuns.{AreItemRuns};
 ghost use Rattle.ra_items.specs.ItemRuns.{kept_run};
-ghost use Rattle.ra_items.specs.Rests.{HaveRooms, AreItemsTold, AreRests, AreTold, AreSteppedSeen, HasPlace, IsSomeFrame, IsSteppedAt, WereRests, seen_by};
+ghost use Rattle.ra_items.specs.Rests.{HaveRooms, AreItemsTold, AreRests, HasPlace, IsSomeFrame, IsSteppedAt, StepsItems, WereRests, seen_by};
 
 use crate::item_run::ItemRun;
 use crate::rest::{ItemCounts, note_item, pay_owed, step_rest};
@@ -69,10 +69,7 @@ impl Rests {
         requires frame { IsSomeFrame table.now }
         requires sampled { table.now.sampled ≡ true }
         requires few { length items.now < 2 ^ 32 }
-        ensures runs { AreItemRuns table.now.nodes (map item_contents items.now) runs.new }
-        ensures rests { AreRests table.now.nodes table.now.values (map item_contents items.now) runs.new self.new }
-        ensures stepped { AreSteppedSeen table.now (map item_contents items.now) (seen_by runs.old self.old) (seen_by runs.new self.new) runs.new }
-        ensures told { AreTold (map item_contents items.now) runs.new self.new }
+        ensures { StepsItems table.now (map item_contents items.now) runs.old runs.new self.old self.new }
     {
         self.schedule.begin(table);
         self.count = 0;

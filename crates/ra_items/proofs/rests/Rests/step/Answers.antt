@@ -4,8 +4,8 @@ use Rattle.ra_schedule.specs.Schedules.{ScheduleSeen}
 use Rattle.ra_schedule.proofs.MembersRest.Frames.{may_begin}
 use Rattle.ra_set.specs.Contents.{item_contents}
 use Rattle.ra_items.specs.declared.rests.Rests.{Rests}
-use Rattle.ra_items.specs.Rests.{AreRests, AreSteppedSeen, HasPlace, seen_by}
-use Rattle.ra_items.proofs.RestSteps.{IsFar, far_begins, far_on, place_here, rests_after, seen_after, told_after}
+use Rattle.ra_items.specs.Rests.{HasPlace, StepsItems}
+use Rattle.ra_items.proofs.RestSteps.{IsFar, far_begins, far_on, items_stepped, place_here}
 use Rattle.ra_items.proofs.rests.Rests.step.Goals as goal
 
 -- the rests with another schedule
@@ -36,35 +36,13 @@ loop-place-preserved c =
     let first = subst (λ (q : ScheduleSeen). IsFirstSet q.readers.due p.at c.in-Some.place) (sym same) c.in-Some.ensures.first in
     far_on c.args.table.now c.requires.frame contents c.args.runs.now c.args.self.now c.begin.new.self c.requires.rests.values c.requires.rests.are c.requires.runs c.begin.ensures p.runs (with_schedule p.self c.next_due.new.self) p.at far c.in-Some.place first c.step_at.new.runs c.step_at.new.self c.step_at.ensures
 
-pub returns-clause-rests : goal.returns-clause-rests
-returns-clause-rests c =
+pub returns : goal.returns
+returns c =
     let table = c.args.table.now in
     let contents = map item_contents c.args.items.now in
     let p = c.loop-place in
     let same = c.next_due.ensures.same in
     let far = subst (λ (q : ScheduleSeen). IsFar table contents c.args.runs.now c.args.self.now c.begin.new.self p.runs (with_schedule p.self q) p.at) (sym same) p.invariant in
     let none = subst (λ (q : ScheduleSeen). NoneSet q.readers.due p.at (length q.readers.due)) (sym same) (c.in_default.ensures.none refl) in
-    subst (λ (q : ScheduleSeen). AreRests table.nodes table.values contents p.runs (with_schedule p.self q)) (sym c.end.ensures)
-    (rests_after table c.requires.frame contents c.args.runs.now c.args.self.now c.begin.new.self c.requires.rests.values c.requires.rests.are c.requires.runs c.begin.ensures p.runs (with_schedule p.self c.next_due.new.self) p.at far c.requires.rests.changed none)
-
-pub returns-clause-stepped : goal.returns-clause-stepped
-returns-clause-stepped c =
-    let table = c.args.table.now in
-    let contents = map item_contents c.args.items.now in
-    let p = c.loop-place in
-    let old = seen_by c.args.runs.now c.args.self.now in
-    let same = c.next_due.ensures.same in
-    let far = subst (λ (q : ScheduleSeen). IsFar table contents c.args.runs.now c.args.self.now c.begin.new.self p.runs (with_schedule p.self q) p.at) (sym same) p.invariant in
-    let none = subst (λ (q : ScheduleSeen). NoneSet q.readers.due p.at (length q.readers.due)) (sym same) (c.in_default.ensures.none refl) in
-    subst (λ (q : ScheduleSeen). AreSteppedSeen table contents old (seen_by p.runs (with_schedule p.self q)) p.runs) (sym c.end.ensures)
-    (seen_after table c.requires.frame contents c.args.runs.now c.args.self.now c.begin.new.self c.requires.rests.values c.requires.rests.are c.requires.runs c.begin.ensures p.runs (with_schedule p.self c.next_due.new.self) p.at far c.requires.rests.changed none)
-
-pub returns-clause-told : goal.returns-clause-told
-returns-clause-told c =
-    let table = c.args.table.now in
-    let contents = map item_contents c.args.items.now in
-    let p = c.loop-place in
-    let same = c.next_due.ensures.same in
-    let far = subst (λ (q : ScheduleSeen). IsFar table contents c.args.runs.now c.args.self.now c.begin.new.self p.runs (with_schedule p.self q) p.at) (sym same) p.invariant in
-    let none = subst (λ (q : ScheduleSeen). NoneSet q.readers.due p.at (length q.readers.due)) (sym same) (c.in_default.ensures.none refl) in
-    told_after table c.requires.frame contents c.args.runs.now c.args.self.now c.begin.new.self c.requires.rests.values c.requires.rests.are c.requires.runs c.begin.ensures p.runs (with_schedule p.self c.next_due.new.self) p.at far c.requires.rests.changed none
+    subst (λ (q : ScheduleSeen). StepsItems table contents c.args.runs.now p.runs c.args.self.now (with_schedule p.self q)) (sym c.end.ensures)
+    (items_stepped table c.requires.frame contents c.args.runs.now c.args.self.now c.begin.new.self c.requires.rests.values c.requires.rests.are c.requires.runs c.begin.ensures p.runs (with_schedule p.self c.next_due.new.self) p.at far c.requires.rests.changed none)
