@@ -1,4 +1,4 @@
-ghost use Rattle.std.specs.Prelude.{◌≡◌, ◌↔◌, IsTrue, ◌+◌, ◌-◌, ◌*◌, ◌<◌, ◌≤◌, ◌^◌, ◌&&◌, not, true, ℕ, List, [], None, count_by, length, replicate, option_map, slice_index_or, IfOk, IfErr, OnErr};
+ghost use Rattle.std.specs.Prelude.{◌≡◌, ◌↔◌, IsTrue, ◌+◌, ◌*◌, ◌<◌, ◌≤◌, ◌^◌, ◌&&◌, not, true, ℕ, List, [], None, count_by, length, replicate, option_map, slice_index_or, IfOk, IfErr, OnErr};
 ghost use Rattle.std.specs.Result.{OnOk};
 ghost use Rattle.ra_condition.specs.Contents.{trigger_contents, trigger_hits};
 ghost use Rattle.ra_condition.specs.Spelled.{IsTrigger};
@@ -57,8 +57,8 @@ impl Model for Recording {
 }
 
 impl Recording {
-    ghost use Rattle.ra_explain.specs.Recorders.{KeepsHistories, KeepsSlots, KeepsOtherSlots, TakesFrame, RefusesFrame, IsFilled, TakesUpSlot, product_of, rows_in_order};
-    ghost use Rattle.ra_explain.specs.Recordings.{over, IsBegun, IsCurrent, IsTold, LooksAt, ReadsFew, ReadsLooked, SavesIn, TakesUp};
+    ghost use Rattle.ra_explain.specs.Recorders.{KeepsHistories, KeepsSlots, KeepsOtherSlots, IsFilled, TakesUpSlot, product_of, rows_in_order};
+    ghost use Rattle.ra_explain.specs.Recordings.{over, IsBegun, IsCurrent, IsTold, LooksAt, RefusesLooked, RefusesTold, SavesIn, StaysOver, TakesLooked, TakesTold, TakesUp};
     ghost use Rattle.ra_explain.specs.Explains.{explanation_contents};
     ghost use Rattle.ra_explain.specs.Compacts.{compact_contents};
     ghost use Rattle.ra_explain.specs.Unlocks.{ExplainsBehind, FitsRows};
@@ -146,22 +146,11 @@ impl Recording {
         requires size { length (I.bytes image.old) ≡ self.old.size }
         requires current { IsCurrent self.old (I.bytes image.old) }
 
-        ensures taken { IfOk result
-            (TakesFrame (over self.old (I.bytes image.old)) (over self.new (I.bytes image.old))) }
-        ensures slots { KeepsSlots (over self.old (I.bytes image.old))
-            (over self.new (I.bytes image.old)) }
-        ensures reads { OnOk result
-            (ReadsFew self.old self.new (I.bytes image.old) (I.reads image.new - I.reads image.old)) }
-        ensures counts { I.reads image.old ≤ I.reads image.new }
-
-        // refusals
-        ensures refused { IfErr result (RefusesFrame (over self.old (I.bytes image.old))) }
-        ensures err { OnErr result (self.new ≡ self.old) }
-        ensures unread { OnErr result (I.reads image.new ≡ I.reads image.old) }
+        ensures taken { IfOk result (TakesTold self.old self.new (I.bytes image.old) (I.reads image.old) (I.reads image.new)) }
+        ensures refused { IfErr result (RefusesTold self.old self.new (I.bytes image.old) (I.reads image.old) (I.reads image.new)) }
 
         // what stays
-        ensures current { IsCurrent self.new (I.bytes image.old) }
-        ensures size { self.new.size ≡ self.old.size }
+        ensures stays { StaysOver self.old self.new (I.bytes image.old) }
         ensures bytes { I.bytes image.new ≡ I.bytes image.old }
         ensures counter { I.counter image.new ≡ I.counter image.old }
     {
@@ -192,23 +181,11 @@ impl Recording {
     pub fn follow<I: Image>(&mut self, image: &mut I) -> Result<bool, ExplainRefused>
         requires size { length (I.bytes image.old) ≡ self.old.size }
 
-        ensures taken { IfOk result
-            (TakesFrame (over self.old (I.bytes image.old)) (over self.new (I.bytes image.old))) }
-        ensures slots { KeepsSlots (over self.old (I.bytes image.old))
-            (over self.new (I.bytes image.old)) }
-        ensures reads { OnOk result
-            (ReadsLooked self.old self.new (I.bytes image.old) (I.reads image.new - I.reads image.old)) }
-        ensures counts { I.reads image.old ≤ I.reads image.new }
-
-        // refusals
-        ensures refused { IfErr result (RefusesFrame (over self.old (I.bytes image.old))) }
-        ensures err { OnErr result (LooksAt self.old self.new (I.bytes image.old)) }
-        ensures looked { OnErr result
-            (I.reads image.new ≡ I.reads image.old + count_by not self.old.marked) }
+        ensures taken { IfOk result (TakesLooked self.old self.new (I.bytes image.old) (I.reads image.old) (I.reads image.new)) }
+        ensures refused { IfErr result (RefusesLooked self.old self.new (I.bytes image.old) (I.reads image.old) (I.reads image.new)) }
 
         // what stays
-        ensures current { IsCurrent self.new (I.bytes image.old) }
-        ensures size { self.new.size ≡ self.old.size }
+        ensures stays { StaysOver self.old self.new (I.bytes image.old) }
         ensures bytes { I.bytes image.new ≡ I.bytes image.old }
         ensures counter { I.counter image.new ≡ I.counter image.old }
     {

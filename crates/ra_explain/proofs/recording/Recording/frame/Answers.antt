@@ -74,32 +74,30 @@ returns-clause-taken g c =
     let kept : KeptRows = kept_by table run.trigger (rows_from c.fill.new.self.behind c.len.result) in
     let new : RecorderSeen = record { trigger = t; image = image; frames = length c.fill.new.self.behind - 1; kept = kept; slots = slots_kept t c.fill.new.self.behind r.slots.items; unlocked = unlock } in
     let product : product_of (over (recording_seen r) image) ≤ most_rows = subst (λ (o : RecordingSeen). product_of (over o image) ≤ most_rows) (sym c.self.view_is) (omega (arith, c.product-found.ensures, c.if-found-gt-MOST_ROWS.false)) in
-    subst (λ (old : RecordingSeen). TakesFrame (over old image) new unlock) c.self.view_is (record {
-      few = product;
-      rest = (λ i. record { trigger = t; image = image; frames = frames i; kept = kept; slots = slots i; unlocked = unlock });
-      stands = stands_on t r.table table image r.run run c.step-change.result r.rows c.fill.new.self r.latest c.len.result inv.over c.sample.ensures.taken c.step-change.ensures.run c.step-change.ensures.steps grown c.len.ensures;
-      answers = λ history stands. c.unlocks-self-inside.ensures ∙ frame_answers t r.table table image r.run run c.step-change.result (rows_from r.rows.behind r.latest) inv.over c.sample.ensures.taken c.step-change.ensures.run c.step-change.ensures.steps history stands;
-    })
+    record {
+      frame = subst (λ (old : RecordingSeen). TakesFrame (over old image) new unlock) c.self.view_is (record {
+        few = product;
+        rest = (λ i. record { trigger = t; image = image; frames = frames i; kept = kept; slots = slots i; unlocked = unlock });
+        stands = stands_on t r.table table image r.run run c.step-change.result r.rows c.fill.new.self r.latest c.len.result inv.over c.sample.ensures.taken c.step-change.ensures.run c.step-change.ensures.steps grown c.len.ensures;
+        answers = λ history stands. c.unlocks-self-inside.ensures ∙ frame_answers t r.table table image r.run run c.step-change.result (rows_from r.rows.behind r.latest) inv.over c.sample.ensures.taken c.step-change.ensures.run c.step-change.ensures.steps history stands;
+      });
+      reads = rw (← c.self.view_is) (record {
+        unmarked = c.sample.ensures.reads.unmarked ∙ ap (λ cs. replicate (length cs) false) inv.over.cells;
+        places = frame_places t r.table table image r.run run c.step-change.result (rows_from r.rows.behind r.latest) inv.over c.sample.ensures.taken c.step-change.ensures.run c.step-change.ensures.steps;
+        counted = c.sample.ensures.reads.counted;
+      });
+      counts = c.sample.ensures.counts;
+    }
 
-pub returns-clause-slots : goal.returns-clause-slots
-returns-clause-slots g c =
-    let rest = (returns-clause-taken g c).rest in
-    keeps_slots _ _ (ap (λ (r : RecorderSeen). r.trigger) rest) (ap (λ (r : RecorderSeen). r.slots) rest)
-
-pub returns-clause-reads : goal.returns-clause-reads
-returns-clause-reads g c =
-    let r = c.self.inside in
-    let image = g.I.Image.bytes c.args.image.now in
-    let over = c.self.invariant.over in
-    rw (← c.self.view_is) (record {
-      unmarked = c.sample.ensures.reads.unmarked ∙ ap (λ cs. replicate (length cs) false) over.cells;
-      places = frame_places (trigger_contents r.text) r.table c.sample.new.self image r.run c.step-change.new.self c.step-change.result (rows_from r.rows.behind r.latest) over c.sample.ensures.taken c.step-change.ensures.run c.step-change.ensures.steps;
-      counted = c.sample.ensures.reads.counted;
-    })
-
-pub returns-clause-current : goal.returns-clause-current
-returns-clause-current g c =
+pub returns-clause-stays : goal.returns-clause-stays
+returns-clause-stays g c =
     let r = c.self.inside in
     let t = trigger_contents r.text in
     let image = g.I.Image.bytes c.args.image.now in
-    current_agrees t c.sample.new.self image (over_after t r.table c.sample.new.self image c.self.invariant.over c.sample.ensures.taken) c.sample.ensures.taken.agrees
+    let table = c.sample.new.self in
+    let rest = (returns-clause-taken g c).frame.rest in
+    record {
+      slots = keeps_slots _ _ (ap (λ (r : RecorderSeen). r.trigger) rest) (ap (λ (r : RecorderSeen). r.slots) rest);
+      current = current_agrees t table image (over_after t r.table table image c.self.invariant.over c.sample.ensures.taken) c.sample.ensures.taken.agrees;
+      size = c.sample.ensures.taken.pool.1 ∙ ap (λ (s : RecordingSeen). s.size) c.self.view_is;
+    }
