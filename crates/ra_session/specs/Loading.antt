@@ -2,7 +2,7 @@
 use Rattle.std.specs.Prelude.{◌≡◌, ℕ, ⊤, ◌+◌, Option, None, Some, option_map, List, [], take}
 use Rattle.ra_memory.specs.Image.{History, AreBytes, AreImages}
 use Rattle.ra_set.specs.Accepted.{IsSet}
-use Rattle.ra_set.specs.Contents.{SetContents}
+use Rattle.ra_set.specs.Contents.{SetContents, set_contents}
 use Rattle.ra_set.specs.Refusals.{Refuses}
 use Rattle.ra_progress.specs.declared.refused.ProgressRefused.{ProgressRefused}
 use Rattle.ra_progress.specs.Contents.{Opening, IsOpening}
@@ -41,6 +41,11 @@ BeginsAt set (Some bytes) o behind earned =
 abbrev pub AreAccepted : SetContents → Option (List ℕ) → Type 0
 AreAccepted set None = ⊤
 AreAccepted set (Some bytes) = IsShape (shape_of set) × AreBytes bytes × (refusal (shape_of set) bytes ≡ None)
+
+-- A run may begin so: a runtime can be made for the set, and it accepts the progress bytes, where there are some.
+pub record MayBegin (beginning : Beginning) : Type 0 where
+  pub playable : IsPlayable (set_contents beginning.set)
+  pub accepted : AreAccepted (set_contents beginning.set) (progress_in beginning)
 
 -- the bytes are those of the file that is named, where these are told; none where none is named
 abbrev pub AreOfFile : (content : List ℕ → Option (List ℕ)) → (restore progress : Option (List ℕ)) → Type 0

@@ -79,6 +79,11 @@ pub record StandsSomewhere (runtime : RuntimeSeen) (slots : List (Option KeptSee
   pub earned : Earned
   pub stands : StandsAt set opening moment earned runtime slots
 
+-- A player may play what a reader reads: the header told the size of its image, and it stands at some moment.
+pub record MayPlay (reader : ReaderSeen) (runtime : RuntimeSeen) (slots : List (Option KeptSeen)) : Type 0 where
+  pub size : reader.size ≡ Some (length runtime.image)
+  pub stands : StandsSomewhere runtime slots
+
 -- a runtime takes up progress bytes, and stays as it is where there are none
 abbrev pub TakesUpFrom : Option (List ℕ) → RuntimeSeen → RuntimeSeen → Type 0
 TakesUpFrom None old new = new ≡ old

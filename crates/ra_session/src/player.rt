@@ -14,8 +14,8 @@ ghost use Rattle.ra_meaning.specs.Play.{Moment, moved, first_moment};
 ghost use Rattle.ra_meaning.specs.Runtime.{IsWritten, ShowsKept, TakesFrame};
 ghost use Rattle.ra_runtime.specs.Keeping.{IsKeptFor};
 ghost use Rattle.ra_replay.specs.Left.{IsEmptySlot};
-ghost use Rattle.ra_session.specs.Loading.{AreAccepted, BeginsAt, progress_in};
-ghost use Rattle.ra_session.specs.Playing.{HoldsState, StandsAt, StandsSomewhere, IsPlayable, TakesUpFrom, Plays, kept_bytes};
+ghost use Rattle.ra_session.specs.Loading.{BeginsAt, MayBegin, progress_in};
+ghost use Rattle.ra_session.specs.Playing.{HoldsState, StandsAt, StandsSomewhere, TakesUpFrom, Plays, kept_bytes};
 
 use crate::beginning::Beginning;
 use ra_memory::Steps;
@@ -105,8 +105,7 @@ impl Player {
     ///
     /// Before it came the frames whose progress bytes the run goes on from, where there are some.
     pub fn new(alloc: Global, beginning: Beginning, size: u32) -> Result<Player, OutOfMemory>
-        requires playable { IsPlayable (set_contents beginning.set) }
-        requires accepted { AreAccepted (set_contents beginning.set) (progress_in beginning) }
+        requires begins { MayBegin beginning }
         requires size { size ≤ 2 ^ 27 }
         ensures stands { IfOk result (λ p. (o : Opening) (behind : History) (earned : Earned) → BeginsAt (set_contents beginning.set) (progress_in beginning) o behind earned
             → StandsAt (set_contents beginning.set) o (first_moment size behind) earned p.runtime p.slots.items) }

@@ -1,6 +1,6 @@
 //! The records of a trace, played one after the other.
 
-ghost use Rattle.std.specs.Prelude.{◌≡◌, ◌≤◌, ◌<◌, ⊤, ℕ, List, Some, length, IfOk, IsErrOf, OnOk};
+ghost use Rattle.std.specs.Prelude.{◌≡◌, ◌≤◌, ◌<◌, ⊤, ℕ, List, Some, IfOk, IsErrOf, OnOk};
 ghost use Rattle.ra_io.specs.Causes.{Rose};
 ghost use Rattle.ra_io.specs.Files.{OnlyRead};
 ghost use Rattle.ra_set.specs.Contents.{SetContents};
@@ -11,7 +11,7 @@ ghost use Rattle.ra_meaning.specs.Play.{Moment, earned_after, moment_after};
 ghost use Rattle.ra_replay.specs.Left.{IsLeft};
 ghost use Rattle.ra_session.specs.Closing.{EndsBefore};
 ghost use Rattle.ra_session.specs.Failures.{ending_at};
-ghost use Rattle.ra_session.specs.Playing.{StandsAt, StandsSomewhere, TakesNext, says_from};
+ghost use Rattle.ra_session.specs.Playing.{MayPlay, StandsAt, TakesNext, says_from};
 
 use crate::failures::TraceFailed;
 use crate::player::{Player, Unplayed};
@@ -24,15 +24,13 @@ use std::alloc::Global;
 // record.
 #[inline(always)]
 fn play_next<F: Files, K: Sink>(
-    alloc: Global,
     reader: &mut Reader,
     player: &mut Player,
     text: &mut Vec<u8>,
     files: &mut F,
     out: &mut K,
 ) -> Result<bool, TraceFailed>
-    requires size { reader.old.size ≡ Some (length player.old.runtime.image) }
-    requires stands { StandsSomewhere player.old.runtime player.old.slots.items }
+    requires { MayPlay reader.old player.old.runtime player.old.slots.items }
 
     // What was played and printed, where the bytes of the trace are told.
     ensures next { (bytes : List ℕ) (set : SetContents) (o : Opening) (m : Moment) (earned : Earned) (left : Pieces) → F.content files.old reader.old.name ≡ Some bytes
@@ -40,8 +38,7 @@ fn play_next<F: Files, K: Sink>(
         → TakesNext bytes set o m earned left reader.new player.new.runtime player.new.slots.items (K.text out.old) (K.text out.new) result }
 
     // What stays, and why it stops.
-    ensures size { IfOk result (λ end. reader.new.size ≡ Some (length player.new.runtime.image)) }
-    ensures stands { IfOk result (λ end. StandsSomewhere player.new.runtime player.new.slots.items) }
+    ensures may { IfOk result (λ end. MayPlay reader.new player.new.runtime player.new.slots.items) }
     ensures name { reader.new.name ≡ reader.old.name }
     ensures further { IfOk result (λ end. (reader.old.next < reader.new.next) × (reader.new.next ≤ reader.new.limit) × (reader.new.limit ≡ reader.old.limit)) }
     ensures read { IsErrOf result TraceFailed.Read → Rose (F.read_faults files.old reader.old.name) (F.read_faults files.new reader.old.name) }
@@ -50,6 +47,7 @@ fn play_next<F: Files, K: Sink>(
     ensures later { K.faults out.old ≤ K.faults out.new }
 {
     text.clear();
+    let alloc = *text.allocator();
     let record = reader.next_record(files)?;
     match player.play(alloc, &record, text) {
         Ok(()) => {
@@ -77,8 +75,7 @@ pub fn play_records<F: Files, K: Sink>(
     files: &mut F,
     out: &mut K,
 ) -> Result<(), TraceFailed>
-    requires size { reader.old.size ≡ Some (length player.old.runtime.image) }
-    requires stands { StandsSomewhere player.old.runtime player.old.slots.items }
+    requires { MayPlay reader.old player.old.runtime player.old.slots.items }
 
     // What was printed, where the bytes of the trace are told.
     ensures printed { (bytes : List ℕ) (set : SetContents) (o : Opening) (m : Moment) (earned : Earned) (left : Pieces) → F.content files.old reader.old.name ≡ Some bytes
@@ -95,6 +92,6 @@ pub fn play_records<F: Files, K: Sink>(
     ensures later { K.faults out.old ≤ K.faults out.new }
 {
     let mut text = Vec::new(alloc);
-    while !play_next(alloc, reader, player, &mut text, files, out)? {}
+    while !play_next(reader, player, &mut text, files, out)? {}
     Ok(())
 }

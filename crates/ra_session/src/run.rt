@@ -11,9 +11,9 @@ ghost use Rattle.ra_meaning.specs.Earned.{Earned};
 ghost use Rattle.ra_session.specs.Closing.{EndsBefore};
 ghost use Rattle.ra_session.specs.Expected.{played};
 ghost use Rattle.ra_session.specs.Failures.{ending_at};
-ghost use Rattle.ra_session.specs.Loading.{AreAccepted, BeginsAt, progress_in};
+ghost use Rattle.ra_session.specs.Loading.{BeginsAt, MayBegin, progress_in};
 ghost use Rattle.ra_jobs.specs.Outside.{AnyRose, outside_of};
-ghost use Rattle.ra_session.specs.Playing.{IsPlayable, kept_bytes};
+ghost use Rattle.ra_session.specs.Playing.{kept_bytes};
 ghost use Rattle.ra_session.specs.RunFiles.{run_of};
 ghost use Rattle.ra_session.specs.Running.{HasBytes, Leaves, Ran};
 ghost use Rattle.ra_args.specs.Words.{Check, file_in};
@@ -43,8 +43,7 @@ pub fn play_trace<F: Files, K: Sink>(
     files: &mut F,
     out: &mut K,
 ) -> Result<Player, TraceFailed>
-    requires playable { IsPlayable (set_contents beginning.set) }
-    requires accepted { AreAccepted (set_contents beginning.set) (progress_in beginning) }
+    requires { MayBegin beginning }
 
     // What was printed, and what is kept at the end, where the bytes of the trace are told.
     ensures printed { (bytes : List ℕ) (o : Opening) (behind : History) (earned : Earned) → F.content files.old trace.now ≡ Some bytes → BeginsAt (set_contents beginning.set) (progress_in beginning) o behind earned

@@ -1,6 +1,7 @@
-use Rattle.std.proofs.Common.{◌≡◌, ◌∙◌, Ok, ap, sym, subst}
+use Rattle.std.proofs.Common.{◌≡◌, ◌∙◌, Ok, Some, ap, sym, subst}
 use Rattle.ra_io.specs.Sink.{grown}
 use Rattle.ra_trace.specs.Entries.{entry_of}
+use Rattle.ra_trace.specs.Reading.{ReaderSeen}
 use Rattle.ra_meaning.specs.Play.{moved, earned_next}
 use Rattle.ra_jobs.specs.Writing.{GrewByPart}
 use Rattle.ra_session.specs.Playing.{TakesNext}
@@ -37,7 +38,19 @@ returns-in-Err-EmptySlot-clause-next g c = λ bytes set o m earned left is_told 
     let moved = ok_at _ _ c.in_ok-record.record c.in_ok-record.was c.next_record.follows.holds-at-none.moved in
     next_empty bytes set o m earned left c.args.reader.now is (entry_of c.in_ok-record.record) (g.F.Files.content c.args.files.now c.args.reader.now.name) is_told c.in_ok-record.ensures.ok (g.K.Sink.text c.args.out.now) c.place.result (c.place.ensures ∙ moved.last) (c.in-Err-EmptySlot.ensures.empty c.in-Err-EmptySlot.field-0-is set o m earned stands)
 
-pub returns-in_ok-write_all-in-Ok-clause-stands : goal.returns-in_ok-write_all-in-Ok-clause-stands
-returns-in_ok-write_all-in-Ok-clause-stands g c =
+pub returns-in_ok-write_all-in-Ok-clause-may : goal.returns-in_ok-write_all-in-Ok-clause-may
+returns-in_ok-write_all-in-Ok-clause-may g c =
     let at = c.requires.stands in
-    record { set = at.set; opening = at.opening; moment = moved (entry_of c.in_ok-record.record) at.moment; earned = earned_next at.set at.opening (entry_of c.in_ok-record.record) (moved (entry_of c.in_ok-record.record) at.moment) at.earned; stands = (c.in-Ok.ensures.played at.set at.opening at.moment at.earned at.stands).stands }
+    let entry = entry_of c.in_ok-record.record in
+    let now : c.match-matches.reader ≡ c.next_record.follows.lender-at-none = elim c.match-matches.branch [ in-End w ↦ w.reader-is | in_default w ↦ w.reader-is ] in
+    let further = ok_at _ _ c.in_ok-record.record c.in_ok-record.was c.next_record.follows.holds-at-none.moved in
+    record {
+      size = ap (λ (r : ReaderSeen). r.size) now ∙ further.sized ∙ c.requires.size ∙ ap Some (sym c.in-Ok.ensures.image);
+      stands = record {
+        set = at.set;
+        opening = at.opening;
+        moment = moved entry at.moment;
+        earned = earned_next at.set at.opening entry (moved entry at.moment) at.earned;
+        stands = (c.in-Ok.ensures.played at.set at.opening at.moment at.earned at.stands).stands;
+      };
+    }

@@ -15,8 +15,7 @@ loop-text-preserved g c = record {
       let to = c.loop-text.invariant.to bytes set o m earned left told stands is in
       goes_on_with bytes set o m earned left c.loop-text.reader c.loop-text.player.runtime _ _ _ to c.play_next.new.reader c.play_next.new.player.runtime _ _ c.in_ok-play_next.field-0 c.if-not-branch.true
       (c.in_ok-play_next.ensures.next bytes set o to.moment to.now_earned to.rest (c.loop-text.invariant.stays.same.each c.loop-text.reader.name ∙ ap (g.F.Files.content c.args.files.now) c.loop-text.invariant.name ∙ told) to.stands to.left);
-  somewhere = c.in_ok-play_next.ensures.stands;
-  size = c.in_ok-play_next.ensures.size;
+  may = c.in_ok-play_next.ensures.may;
   name = c.play_next.ensures.name ∙ c.loop-text.invariant.name;
   stays = stays_after _ _ _ c.loop-text.invariant.stays c.in_ok-play_next.ensures.stays;
   later = omega (arith, c.play_next.ensures.later, c.loop-text.invariant.later);

@@ -1,4 +1,4 @@
-use Rattle.std.proofs.Common.{arith, ◌≡◌, ◌∙◌, Err, ap, subst, take, ℕ, List, Some}
+use Rattle.std.proofs.Common.{arith, ◌≡◌, ◌∙◌, Err, ap, subst, sym, take, ℕ, List, Some}
 use Rattle.ra_io.specs.Causes.{Rose}
 use Rattle.ra_set.specs.Contents.{set_contents}
 use Rattle.ra_meaning.specs.Play.{first_moment}
@@ -34,11 +34,20 @@ new-requires-clause-size g c = omega (arith, c.in_ok-size.ensures.most)
 pub returns-in_err-player-clause-printed : goal.returns-in_err-player-clause-printed
 returns-in_err-player-clause-printed g c = λ bytes o behind earned is_told at. no_memory_left (played (set_contents c.args.beginning.set) o behind earned bytes) c.from_residual-in_err-player.result (g.K.Sink.text c.args.out.now) c.from_residual-in_err-player.ensures.1
 
-pub play_records-requires-clause-stands : goal.play_records-requires-clause-stands
-play_records-requires-clause-stands g c =
+pub play_records-requires : goal.play_records-requires
+play_records-requires g c =
     let set = set_contents c.args.beginning.set in
     let (o, behind, earned, at) = begins_somewhere set (progress_in c.args.beginning) c.requires.playable c.requires.accepted in
-    record { set = set; opening = o; moment = first_moment c.in_ok-size.size behind; earned = earned; stands = c.in_ok-player.ensures.stands o behind earned at }
+    record {
+      size = c.in_ok-size.ensures.seen.sized ∙ ap Some (sym c.in_ok-player.ensures.image);
+      stands = record {
+        set = set;
+        opening = o;
+        moment = first_moment c.in_ok-size.size behind;
+        earned = earned;
+        stands = c.in_ok-player.ensures.stands o behind earned at;
+      };
+    }
 
 pub returns-in-Ok-clause-printed : goal.returns-in-Ok-clause-printed
 returns-in-Ok-clause-printed g c = λ bytes o behind earned is_told at.
