@@ -25,11 +25,9 @@ use ra_member::Member;
 use ra_progress::{put_achievement, put_board, put_presence, state_byte};
 use ra_schedule::{counted_row, pay};
 use ra_text::OutOfMemory;
-use std::alloc::Global;
 
 /// Writes what is kept of all items after other bytes, each with its name, and what they owe with it.
 pub fn put_runs(
-    alloc: Global,
     bytes: &mut Vec<u8>,
     names: &[[u8; 16]],
     runs: &[ItemRun],
@@ -45,14 +43,13 @@ pub fn put_runs(
 {
     for k in 0..runs.len() {
         let owed = rests.schedule.owed(k);
-        put_run(alloc, bytes, &names[k], &runs[k], &rests.each[k], owed)?;
+        put_run(bytes, &names[k], &runs[k], &rests.each[k], owed)?;
     }
     Ok(())
 }
 
 // Writes what is kept of an item after other bytes, with its name, and what it owes with it.
 fn put_run(
-    alloc: Global,
     bytes: &mut Vec<u8>,
     name: &[u8; 16],
     run: &ItemRun,
@@ -65,22 +62,18 @@ fn put_run(
     ensures fits { OnOk result (ItemFits (run_shape run.now) (seen_run run.now counts.now owed)) }
 {
     match owed {
-        Some(frames) => put_owed(alloc, bytes, name, run, counts, frames),
-        None => put_kept(alloc, bytes, name, run),
+        Some(frames) => put_owed(bytes, name, run, counts, frames),
+        None => put_kept(bytes, name, run),
     }
 }
 
 // Writes what is kept of an item that owes nothing after other bytes, with its name.
-fn put_kept(
-    alloc: Global,
-    bytes: &mut Vec<u8>,
-    name: &[u8; 16],
-    run: &ItemRun,
-) -> Result<(), OutOfMemory>
+fn put_kept(bytes: &mut Vec<u8>, name: &[u8; 16], run: &ItemRun) -> Result<(), OutOfMemory>
     requires { item_length (run_shape run.now) ≤ 8388608 }
     ensures bytes { OnOk result (bytes.new.items ≡ bytes.old.items ++ named_block name.now (item_bytes (kept_run run.now))) }
     ensures fits { OnOk result (ItemFits (run_shape run.now) (kept_run run.now)) }
 {
+    let alloc = *bytes.allocator();
     match run {
         ItemRun::Achievement(run) => put_achievement_run(bytes, name, run, run.run.trigger.hits()),
         ItemRun::Leaderboard(run) => {
@@ -94,7 +87,6 @@ fn put_kept(
 
 // Writes what is kept of an item that owes hits for this many frames after other bytes, with its name.
 fn put_owed(
-    alloc: Global,
     bytes: &mut Vec<u8>,
     name: &[u8; 16],
     run: &ItemRun,
@@ -106,6 +98,7 @@ fn put_owed(
     ensures bytes { OnOk result (bytes.new.items ≡ bytes.old.items ++ named_block name.now (item_bytes (owed_run frames counts.now run.now))) }
     ensures fits { OnOk result (ItemFits (run_shape run.now) (owed_run frames counts.now run.now)) }
 {
+    let alloc = *bytes.allocator();
     match (run, counts) {
         (ItemRun::Achievement(run), ItemCounts::Achievement(counts)) => {
             let mut hits = Vec::with_capacity(alloc, counts.counted.len())?;

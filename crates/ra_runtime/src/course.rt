@@ -164,13 +164,7 @@ impl Course {
         let cells = self.table.cells();
         let priors = self.table.priors();
         let mut bytes = begin(alloc, &self.shape, self.count, cells, priors)?;
-        put_runs(
-            alloc,
-            &mut bytes,
-            &self.shape.item_names,
-            &self.runs,
-            &self.rests,
-        )?;
+        put_runs(&mut bytes, &self.shape.item_names, &self.runs, &self.rests)?;
         put_display(
             alloc,
             &mut bytes,
