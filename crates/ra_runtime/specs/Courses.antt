@@ -10,7 +10,7 @@ use Rattle.ra_meaning.specs.Earned.{Earned, both_earned, earned_in, with_earned}
 use Rattle.ra_meaning.specs.Order.{set_cells, shape_of}
 use Rattle.ra_meaning.specs.Openings.{start_of, plain_opening}
 use Rattle.ra_meaning.specs.declared.event.Event.{Event}
-use Rattle.ra_meaning.specs.Runtime.{RuntimeSeen, StandsAfter}
+use Rattle.ra_meaning.specs.Runtime.{RuntimeSeen, StandsAfter, TakesFrame}
 
 -- what a caller sees of a course: a runtime but for its image, and the size of the images
 pub record CourseSeen : Type 0 where
@@ -62,6 +62,12 @@ pub record LooksAt (old new : CourseSeen) (image : List ℕ) : Type 0 where
   pub rest : new ≡ record old { marked = new.marked }
   pub marked : new.marked ≡ marks_seen image (set_cells old.set) old.places old.kept.cells old.marked
   pub current : IsCurrent (over new image)
+
+-- A course takes a frame of an image as a runtime does; the image is current after it, and the size stays.
+pub record TakesImage (old new : CourseSeen) (image : List ℕ) : Type 0 where
+  pub frame : TakesFrame (over old image) (over new image)
+  pub current : IsCurrent (over new image)
+  pub size : new.size ≡ old.size
 
 -- A frame that looks reads each cell that is not marked, and then each one that is marked by then or has moved; it leaves none marked.
 pub record ReadsLooked (old new : RuntimeSeen) (reads : ℕ) : Type 0 where

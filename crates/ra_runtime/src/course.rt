@@ -68,8 +68,8 @@ impl Model for Course {
 
 impl Course {
     ghost use Rattle.ra_meaning.specs.Lines.{IsTextOf};
-    ghost use Rattle.ra_meaning.specs.Runtime.{ReadsFew, ShowsKept, TakesFrame, TakesUp};
-    ghost use Rattle.ra_runtime.specs.Courses.{over, EarnsToo, IsBegun, IsCurrent, IsTold, LooksAt, ReadsLooked};
+    ghost use Rattle.ra_meaning.specs.Runtime.{ReadsFew, ShowsKept, TakesUp};
+    ghost use Rattle.ra_runtime.specs.Courses.{over, EarnsToo, IsBegun, IsCurrent, IsTold, LooksAt, ReadsLooked, TakesImage};
     ghost use Rattle.ra_runtime.specs.Keeping.{IsKeptFor, Takes};
     ghost use Rattle.ra_runtime.specs.Told.{GrewByFront};
 
@@ -291,11 +291,10 @@ impl Course {
     pub fn frame<I: Image>(&mut self, image: &mut I)
         requires size { length (I.bytes image.old) ≡ self.old.size }
         requires current { IsCurrent (over self.old (I.bytes image.old)) }
-        ensures taken { TakesFrame (over self.old (I.bytes image.old)) (over self.new (I.bytes image.old)) }
+        ensures taken { TakesImage self.old self.new (I.bytes image.old) }
         ensures reads { ReadsFew (over self.old (I.bytes image.old)) (over self.new (I.bytes image.old)) (I.reads image.new - I.reads image.old) }
         ensures counts { I.reads image.old ≤ I.reads image.new }
-        ensures current { IsCurrent (over self.new (I.bytes image.old)) }
-        ensures size { self.new.size ≡ self.old.size }
+
         ensures bytes { I.bytes image.new ≡ I.bytes image.old }
         ensures counter { I.counter image.new ≡ I.counter image.old }
     {
@@ -318,11 +317,9 @@ impl Course {
     /// It reads each cell that is not marked, and then each one that is marked by then or has moved.
     pub fn follow<I: Image>(&mut self, image: &mut I)
         requires size { length (I.bytes image.old) ≡ self.old.size }
-        ensures taken { TakesFrame (over self.old (I.bytes image.old)) (over self.new (I.bytes image.old)) }
+        ensures taken { TakesImage self.old self.new (I.bytes image.old) }
         ensures reads { ReadsLooked (over self.old (I.bytes image.old)) (over self.new (I.bytes image.old)) (I.reads image.new - I.reads image.old) }
         ensures counts { I.reads image.old ≤ I.reads image.new }
-        ensures current { IsCurrent (over self.new (I.bytes image.old)) }
-        ensures size { self.new.size ≡ self.old.size }
 
         ensures bytes { I.bytes image.new ≡ I.bytes image.old }
         ensures counter { I.counter image.new ≡ I.counter image.old }

@@ -6,6 +6,6 @@ use Rattle.ra_calls.proofs.held.Held.follow.Goals as goal
 pub invariant_of-self : goal.invariant_of-self
 invariant_of-self g c =
     let taken = c.follow.ensures.taken in
-    still_held c.self.inside _ c.self.invariant taken.set refl refl
+    still_held c.self.inside _ c.self.invariant taken.frame.set refl refl
     (framed_stands _ c.self.inside.course c.follow.new.self c.requires.are_bytes c.self.invariant.standing
-    (record { size = c.follow.ensures.size; taken = taken }))
+    (record { size = taken.size; taken = taken.frame }))

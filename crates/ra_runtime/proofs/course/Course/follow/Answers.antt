@@ -1,15 +1,29 @@
 use Rattle.std.proofs.Common.{◌≡◌, ◌-◌, ap, subst, ◌∙◌, arith}
 use Rattle.ra_memref.specs.Marks.{reads_of}
 use Rattle.ra_meaning.specs.Runtime.{ReadsFew, TakesFrame}
-use Rattle.ra_runtime.specs.Courses.{CourseSeen, over}
+use Rattle.ra_runtime.specs.Courses.{CourseSeen, over, TakesImage}
 use Rattle.ra_runtime.proofs.course.Course.follow.Goals as goal
 
 pub returns-clause-taken : goal.returns-clause-taken
 returns-clause-taken g c =
     let image = g.I.Image.bytes c.args.image.now in
-    let taken : TakesFrame (over c.look.new.self image) (over c.frame.new.self image) = subst (λ bytes. TakesFrame (over c.look.new.self bytes) (over c.frame.new.self bytes)) c.look.ensures.bytes c.frame.ensures.taken in
-    let t = subst (λ s. TakesFrame (over s image) (over c.frame.new.self image)) c.look.ensures.looked.rest taken in
-    record { set = t.set; image = t.image; kept = t.kept; earned = t.earned; events = t.events; lines = t.lines }
+    let new = c.frame.new.self in
+    let rest = c.look.ensures.looked.rest in
+    let taken : TakesImage c.look.new.self new image =
+    subst (TakesImage c.look.new.self new) c.look.ensures.bytes c.frame.ensures.taken in
+    let t = subst (λ s. TakesFrame (over s image) (over new image)) rest taken.frame in
+    record {
+      frame = record {
+        set = t.set;
+        image = t.image;
+        kept = t.kept;
+        earned = t.earned;
+        events = t.events;
+        lines = t.lines;
+      };
+      current = taken.current;
+      size = taken.size ∙ ap (λ (s : CourseSeen). s.size) rest;
+    }
 
 pub returns-clause-reads : goal.returns-clause-reads
 returns-clause-reads g c =

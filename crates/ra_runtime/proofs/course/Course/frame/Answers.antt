@@ -86,6 +86,7 @@ pub returns-clause-taken : goal.returns-clause-taken
 returns-clause-taken g c =
     let t = c.self.inside in
     let set = set_contents t.set in
+    let image = g.I.Image.bytes c.args.image.now in
     let now = c.sample.new.self in
     let count = t.count in
     let olds = seen_by t.runs.items t.rests in
@@ -101,11 +102,17 @@ returns-clause-taken g c =
     let over = c.self.invariant.over in
     let taken = c.sample.ensures.taken in
     let steps = c.step_presence.ensures.steps in
-    rw (← c.self.view_is) (takes_frame (whole (course_seen t) (g.I.Image.bytes c.args.image.now)) (whole (course_seen (record { set = t.set; shape = t.shape; said = t.said; table = now; runs = with_items t.runs news; rests = rests; presence = shown; line_rests = line_rests; size = t.size; count = c.saturating_add-self-inside.result; last = Some count })) (g.I.Image.bytes c.args.image.now)) refl refl
-    ((λ i. opening_by (c.saturating_add-self-inside.ensures i) now (seen_by (same i) rests) is) ∙ frame_kept set count t.table now (g.I.Image.bytes c.args.image.now) olds was over taken (seen_by news rests) news is stepped steps)
-    (frame_earned set count t.table now (g.I.Image.bytes c.args.image.now) olds was over taken (seen_by news rests) news is stepped steps (rests_seen t.table.nodes t.table.values set.items t.runs.items t.rests c.self.invariant.runs c.self.invariant.rests))
-    (ap (all_events set.items) same ∙ frame_events set count t.table now (g.I.Image.bytes c.args.image.now) olds was over taken (seen_by news rests) news is stepped steps)
-    (ap (λ rs. event_lines count (all_events set.items rs)) same ∙ frame_lines set count t.table now (g.I.Image.bytes c.args.image.now) olds was over taken (seen_by news rests) news is stepped steps small))
+    let new : CourseSeen = course_seen (record { set = t.set; shape = t.shape; said = t.said; table = now; runs = with_items t.runs news; rests = rests; presence = shown; line_rests = line_rests; size = t.size; count = c.saturating_add-self-inside.result; last = Some count }) in
+    rw (← c.self.view_is) (record {
+      frame =
+          takes_frame (whole (course_seen t) image) (whole new image) refl refl
+          ((λ i. opening_by (c.saturating_add-self-inside.ensures i) now (seen_by (same i) rests) is) ∙ frame_kept set count t.table now image olds was over taken (seen_by news rests) news is stepped steps)
+          (frame_earned set count t.table now image olds was over taken (seen_by news rests) news is stepped steps (rests_seen t.table.nodes t.table.values set.items t.runs.items t.rests c.self.invariant.runs c.self.invariant.rests))
+          (ap (all_events set.items) same ∙ frame_events set count t.table now image olds was over taken (seen_by news rests) news is stepped steps)
+          (ap (λ rs. event_lines count (all_events set.items rs)) same ∙ frame_lines set count t.table now image olds was over taken (seen_by news rests) news is stepped steps small);
+      current = current_agrees set now image (over_after set count t.table now image olds was over taken) taken.agrees;
+      size = refl;
+    })
 
 pub returns-clause-reads : goal.returns-clause-reads
 returns-clause-reads g c =
@@ -116,10 +123,3 @@ sample-requires-clause-agrees g c =
     let image = g.I.Image.bytes c.args.image.now in
     agrees_current (set_contents c.self.inside.set) c.self.inside.table image c.self.invariant.over
     (subst (λ (s : CourseSeen). IsCurrent (whole s image)) (sym c.self.view_is) c.requires.current)
-
-pub returns-clause-current : goal.returns-clause-current
-returns-clause-current g c =
-    let t = c.self.inside in
-    let set = set_contents t.set in
-    let image = g.I.Image.bytes c.args.image.now in
-    current_agrees set c.sample.new.self image (over_after set t.count t.table c.sample.new.self image (seen_by t.runs.items t.rests) (optional_presence_seen t.presence t.line_rests) c.self.invariant.over c.sample.ensures.taken) c.sample.ensures.taken.agrees
