@@ -13,19 +13,17 @@ pub(crate) fn words(alloc: Global, words: &[&str]) -> Result<Vec<String>, OutOfM
     Ok(all)
 }
 
-// Whether these words over files S and J answer this status and print this text.
+// Whether these words over a file S answer this status and print this text.
 fn says(
     alloc: Global,
     texts: &[&str],
     set: &[u8],
-    document: &[u8],
     status: u8,
     text: &[u8],
 ) -> Result<bool, OutOfMemory> {
     let given = words(alloc, texts)?;
     let mut files = SureFiles::new(alloc)?;
     files.add("S", set)?;
-    files.add("J", document)?;
     let mut out = SureSink::new(alloc);
     Ok(author(alloc, given.as_slice(), &mut files, &mut out) == status && out.taken() == text)
 }
@@ -53,7 +51,7 @@ fn other_words_have_the_usage(rt: HostRuntime) -> Result<(), OutOfMemory> {
         &[""],
     ];
     for texts in rows {
-        assert!(rt; says(rt.alloc(), texts, b"", b"", 2, USAGE)?, "{texts:?}");
+        assert!(rt; says(rt.alloc(), texts, b"", 2, USAGE)?, "{texts:?}");
     }
     Ok(())
 }
@@ -63,7 +61,7 @@ fn the_version_is_printed(rt: HostRuntime) -> Result<(), OutOfMemory> {
     let rows: [&[&str]; 2] = [&["version"], &["--version"]];
     for texts in rows {
         assert!(rt;
-            says(rt.alloc(), texts, b"", b"", 0, b"ra_author 1\n")?,
+            says(rt.alloc(), texts, b"", 0, b"ra_author 1\n")?,
             "{texts:?}"
         );
     }
@@ -156,7 +154,7 @@ fn worked_reviews_are_printed(rt: HostRuntime) -> Result<(), OutOfMemory> {
         (b"", 0, b"reviewed lines 0 refused 0 notices 0\n"),
     ];
     for (set, status, text) in rows {
-        assert!(rt; says(rt.alloc(), &["review", "S"], set, b"", status, text)?);
+        assert!(rt; says(rt.alloc(), &["review", "S"], set, status, text)?);
     }
     Ok(())
 }
@@ -226,16 +224,22 @@ fn holds(files: &mut MemFiles, bytes: &[u8]) -> bool {
     }
 }
 
-// Whether these words, over a document J and a name S that holds other bytes, answer this status, print this text and
-// leave these bytes in S. A write takes at most sixteen bytes.
+// How a call is to end: its status, its text, and what the name S holds then.
+#[derive(Clone, Copy, Debug)]
+struct Wanted {
+    status: u8,
+    text: &'static [u8],
+    left: &'static [u8],
+}
+
+// Whether these words, over a document J and a name S that holds other bytes, end so. A write takes at most sixteen
+// bytes.
 fn ends_so(
     alloc: Global,
     texts: &[&str],
     document: &[u8],
     faults: &Faults,
-    status: u8,
-    text: &[u8],
-    left: &[u8],
+    wanted: &Wanted,
 ) -> Result<bool, OutOfMemory> {
     let given = words(alloc, texts)?;
     let mut files = MemFiles::new(alloc)?;
@@ -243,9 +247,9 @@ fn ends_so(
     files.add("S", BEFORE)?;
     files.fail(faults.reads.to_vec(alloc)?, faults.puts.to_vec(alloc)?);
     let mut out = MemSink::new(alloc, 16, faults.writes.to_vec(alloc)?);
-    let ends = author(alloc, given.as_slice(), &mut files, &mut out) == status
-        && out.taken() == text;
-    Ok(ends && holds(&mut files, left))
+    let ends = author(alloc, given.as_slice(), &mut files, &mut out) == wanted.status
+        && out.taken() == wanted.text;
+    Ok(ends && holds(&mut files, wanted.left))
 }
 
 // A document, its status, its text, and what the name holds then.
@@ -286,15 +290,12 @@ const IMPORTS: [Row; 9] = [
 // The place of the first import that does not end so.
 fn other_import(alloc: Global, rows: &[Row]) -> Result<Option<usize>, OutOfMemory> {
     for (place, (document, status, text, left)) in rows.iter().enumerate() {
-        if !ends_so(
-            alloc,
-            &["import", "J", "S"],
-            *document,
-            &NONE,
-            *status,
-            *text,
-            *left,
-        )? {
+        let wanted = Wanted {
+            status: *status,
+            text: *text,
+            left: *left,
+        };
+        if !ends_so(alloc, &["import", "J", "S"], *document, &NONE, &wanted)? {
             return Ok(Some(place));
         }
     }
@@ -403,7 +404,12 @@ const FAULTS: [FaultRow; 8] = [
 // The place of the first call that does not end so.
 fn other_fault(alloc: Global, rows: &[FaultRow]) -> Result<Option<usize>, OutOfMemory> {
     for (place, (texts, faults, status, text, left)) in rows.iter().enumerate() {
-        if !ends_so(alloc, *texts, SETS, faults, *status, *text, *left)? {
+        let wanted = Wanted {
+            status: *status,
+            text: *text,
+            left: *left,
+        };
+        if !ends_so(alloc, *texts, SETS, faults, &wanted)? {
             return Ok(Some(place));
         }
     }
@@ -448,7 +454,7 @@ ra_author import 1234.json game.set
 fn the_help_text_is_printed(rt: HostRuntime) -> Result<(), OutOfMemory> {
     let rows: [&[&str]; 4] = [&[], &["help"], &["--help"], &["-h"]];
     for texts in rows {
-        assert!(rt; says(rt.alloc(), texts, b"", b"", 0, HELP)?, "{texts:?}");
+        assert!(rt; says(rt.alloc(), texts, b"", 0, HELP)?, "{texts:?}");
     }
     Ok(())
 }
