@@ -9,5 +9,5 @@ mod taking;
 mod watch;
 mod watching;
 
-pub use explaining::explain_job;
+pub use explaining::{AskedUnlock, explain_job};
 pub use laws::unlocks_are_told;

@@ -7,7 +7,7 @@ ghost use Rattle.ra_session.specs.Running.{Leaves, Ran};
 ghost use Rattle.ra_player.specs.Statuses.{Answers, LeavesFiles};
 
 use ra_args::{Job, read_job};
-use ra_explain_job::explain_job;
+use ra_explain_job::{AskedUnlock, explain_job};
 use ra_io::{Files, Sink};
 use ra_session::{
     Ending, RunFiles, check_job, finish, import_job, lint_job, make_job, normal_job, run_job,
@@ -46,7 +46,10 @@ fn do_job<F: Files, K: Sink>(alloc: Global, job: &Job<'_>, files: &mut F, out: &
         Job::Import { file, set } => import_job(alloc, file, set, files, out),
         Job::Lint { set } => lint_job(alloc, set, files, out),
         Job::Normal { set, out: file } => normal_job(alloc, set, file, files, out),
-        Job::Explain { set, trace, id } => explain_job(alloc, set, trace, id, files, out),
+        Job::Explain { set, trace, id } => {
+            let asked = AskedUnlock { set, trace, id };
+            explain_job(alloc, &asked, files, out)
+        }
     }
 }
 

@@ -2,7 +2,7 @@
 
 use crate::jobs::{FIVES, THREE_HITS, files_of};
 use crate::pieces::pieced;
-use ra_explain_job::explain_job;
+use ra_explain_job::{AskedUnlock, explain_job};
 use ra_io::{Files, SureSink};
 use ra_session::finish;
 use ra_text::OutOfMemory;
@@ -11,7 +11,12 @@ use std::alloc::Global;
 // Whether the explanation of an achievement of these files answers this status and prints this text.
 fn explains_so<F: Files>(alloc: Global, id: u32, files: &mut F, status: u8, text: &[u8]) -> bool {
     let mut out = SureSink::new(alloc);
-    let ending = explain_job(alloc, "S", "T", id, files, &mut out);
+    let asked = AskedUnlock {
+        set: "S",
+        trace: "T",
+        id,
+    };
+    let ending = explain_job(alloc, &asked, files, &mut out);
     finish(alloc, ending, &mut out) == status && out.taken() == text
 }
 
