@@ -1,8 +1,10 @@
 -- Room for what a progress file says, which is made once for a shape: docs/DEFINITIONS.md, "Progress file".
-use Rattle.std.specs.Prelude.{◌≡◌, ℕ, ◌+◌, ◌*◌, List, length}
+use Rattle.std.specs.Prelude.{◌≡◌, ℕ, ◌+◌, ◌*◌, ◌==◌, Bool, false, List, length}
+use Rattle.ra_progress.specs.declared.shape.Shape.{Shape}
 use Rattle.ra_progress.specs.declared.said.Said.{Said}
-use Rattle.ra_progress.specs.Contents.{ShapeContents, own_entries}
-use Rattle.ra_progress.specs.Layout.{cells_in, priors_in}
+use Rattle.ra_progress.specs.Contents.{ShapeContents, shape_contents, own_entries}
+use Rattle.ra_progress.specs.Layout.{cells_in, priors_in, version_in}
+use Rattle.ra_progress.specs.Reading.{of_this_set}
 use Rattle.ra_progress.specs.Saying.{said_numbers, own_places}
 
 -- there is a number for each cell and each tracked mask, and a place for each own entry
@@ -16,3 +18,7 @@ pub record Says (shape : ShapeContents) (bytes : List ℕ) (said : Said) : Type 
   pub cells : said.cells.items ≡ said_numbers shape bytes 29 shape.cells (cells_in bytes)
   pub priors : said.priors.items ≡ said_numbers shape bytes (29 + 4 * length shape.cells) shape.priors (priors_in bytes)
   pub places : said.places.items ≡ own_places shape bytes
+
+-- it is told whether a file is of the set, if the file has names
+abbrev pub IsToldOwn : Shape → List ℕ → Bool → Type 0
+IsToldOwn shape bytes own = (version_in bytes == 1) ≡ false → own ≡ of_this_set (shape_contents shape) bytes

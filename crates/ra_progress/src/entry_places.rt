@@ -5,6 +5,7 @@ ghost use Rattle.ra_progress.specs.Contents.{shape_contents, own_entries};
 ghost use Rattle.ra_progress.specs.Layout as layout;
 ghost use Rattle.ra_progress.specs.Names.{IsUsable};
 ghost use Rattle.ra_progress.specs.Reading as reading;
+ghost use Rattle.ra_progress.specs.Room.{IsToldOwn};
 ghost use Rattle.ra_progress.specs.Saying as spec;
 
 use crate::layout::{entry_after, entry_count, first_entry};
@@ -13,19 +14,20 @@ use crate::names::name_at;
 use crate::own::{block_length, own_shape};
 use crate::places::blocks_at_1;
 use crate::range::{fill_all, matches, put_all};
-use crate::relation::of_this_set;
 use crate::shape::Shape;
 
-/// Takes up where the block of each own entry stands, where there is one.
-pub(crate) fn read_places(places: &mut Vec<Option<u64>>, shape: &Shape, bytes: &[u8])
+/// Takes up where the block of each own entry stands, where there is one. `own` tells whether a file with names is of
+/// this set.
+pub(crate) fn read_places(places: &mut Vec<Option<u64>>, shape: &Shape, bytes: &[u8], own: bool)
     requires usable { IsUsable shape.now }
     requires accepted { reading.IsAccepted (shape_contents shape.now) bytes.now }
+    requires own { IsToldOwn shape.now bytes.now own }
     requires room { length places.old.items ≡ length (own_entries (shape_contents shape.now)) }
     ensures { places.new.items ≡ spec.own_places (shape_contents shape.now) bytes.now }
 {
     if bytes[4] == 1 {
         places_1(places, shape);
-    } else if of_this_set(shape, bytes) {
+    } else if own {
         places_beside(places, bytes);
     } else {
         places_named(places, shape, bytes);

@@ -38,7 +38,7 @@ pub use layout::{cell_count, entry_after, entry_count, first_entry, prior_count}
 pub use named::Named;
 pub use names::name_at;
 pub use order::{OrderRoom, order_of};
-pub use places::{frames_at, item_at, length, length_1, presence_at};
+pub use places::{file_length, frames_at, item_at, length, length_1, presence_at};
 pub use ra_text::word_at;
 pub use range::matches;
 pub use reading::{decode, is_earned, state_said};

@@ -5,6 +5,7 @@ ghost use Rattle.ra_progress.specs.Contents.{shape_contents};
 ghost use Rattle.ra_progress.specs.Layout as layout;
 ghost use Rattle.ra_progress.specs.Names.{IsUsable, names_of};
 ghost use Rattle.ra_progress.specs.Reading as reading;
+ghost use Rattle.ra_progress.specs.Room.{IsToldOwn};
 ghost use Rattle.ra_progress.specs.Saying as spec;
 
 use crate::layout::{cell_count, prior_count};
@@ -12,14 +13,14 @@ use crate::named::Named;
 use crate::names::name_at;
 use crate::numbered::Numbered;
 use crate::range::{fill_all, matches, order_of_names, put_all};
-use crate::relation::of_this_set;
 use crate::shape::Shape;
 use ra_text::{read_words, word_at};
 
-/// Takes up the number that the bytes say of each cell.
-pub(crate) fn read_cells(numbers: &mut Vec<u32>, shape: &Shape, bytes: &[u8])
+/// Takes up the number that the bytes say of each cell. `own` tells whether a file with names is of this set.
+pub(crate) fn read_cells(numbers: &mut Vec<u32>, shape: &Shape, bytes: &[u8], own: bool)
     requires usable { IsUsable shape.now }
     requires accepted { reading.IsAccepted (shape_contents shape.now) bytes.now }
+    requires own { IsToldOwn shape.now bytes.now own }
     requires room { length_of_list numbers.old.items ≡ length_of_list shape.now.cells.items }
     ensures says { numbers.new.items
         ≡ spec.said_numbers (shape_contents shape.now) bytes.now 29 shape.now.cells.items (layout.cells_in bytes.now) }
@@ -27,7 +28,7 @@ pub(crate) fn read_cells(numbers: &mut Vec<u32>, shape: &Shape, bytes: &[u8])
 {
     if bytes[4] == 1 {
         read_words(numbers, bytes, 29);
-    } else if of_this_set(shape, bytes) {
+    } else if own {
         read_numbers(numbers, bytes, 33);
     } else {
         let entries = Numbered {
@@ -39,10 +40,11 @@ pub(crate) fn read_cells(numbers: &mut Vec<u32>, shape: &Shape, bytes: &[u8])
     }
 }
 
-/// Takes up the number that the bytes say of each tracked mask.
-pub(crate) fn read_priors(numbers: &mut Vec<u32>, shape: &Shape, bytes: &[u8])
+/// The same of each tracked mask.
+pub(crate) fn read_priors(numbers: &mut Vec<u32>, shape: &Shape, bytes: &[u8], own: bool)
     requires usable { IsUsable shape.now }
     requires accepted { reading.IsAccepted (shape_contents shape.now) bytes.now }
+    requires own { IsToldOwn shape.now bytes.now own }
     requires room { length_of_list numbers.old.items ≡ length_of_list shape.now.priors.items }
     ensures says { numbers.new.items
         ≡ spec.said_numbers (shape_contents shape.now) bytes.now (29 + 4 * length_of_list shape.now.cells.items) shape.now.priors.items (layout.priors_in bytes.now) }
@@ -52,7 +54,7 @@ pub(crate) fn read_priors(numbers: &mut Vec<u32>, shape: &Shape, bytes: &[u8])
         read_words(numbers, bytes, 29 + 4 * shape.cells.len() as u64);
     } else {
         let at = 37 + 20 * u64::from(cell_count(bytes));
-        if of_this_set(shape, bytes) {
+        if own {
             read_numbers(numbers, bytes, at);
         } else {
             let entries = Numbered {

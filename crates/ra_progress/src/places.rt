@@ -3,7 +3,7 @@
 ghost use Rattle.std.specs.Prelude.{◌≡◌, ◌⊎◌, ◌+◌, ◌*◌, ◌<◌, ◌≤◌, ◌^◌, IsSome, length as length_of_list};
 ghost use Rattle.ra_progress.specs.Contents.{shape_contents};
 ghost use Rattle.ra_progress.specs.Layout as layout;
-ghost use Rattle.ra_progress.specs.Names.{IsSearchable, IsUsable};
+ghost use Rattle.ra_progress.specs.Names.{IsPaired, IsSearchable, IsUsable};
 
 use crate::own::{items_length, own_count, script_length};
 use crate::shape::Shape;
@@ -11,6 +11,16 @@ use crate::shape::Shape;
 /// How many bytes the set's own file has in versions 2 and 3: docs/DEFINITIONS.md, "Progress file".
 pub fn length(shape: &Shape) -> u64
     requires { IsSearchable shape.now }
+    ensures { result ≡ layout.length_of (shape_contents shape.now) }
+{
+    file_length(shape)
+}
+
+/// The same of a shape whose orders, and the bytes of whose names of cells and tracked masks, are not made yet.
+pub fn file_length(shape: &Shape) -> u64
+    requires paired { IsPaired (shape_contents shape.now) }
+    requires few_cells { length_of_list shape.now.cells.items ≤ 2 ^ 32 }
+    requires few_priors { length_of_list shape.now.priors.items ≤ 2 ^ 32 }
     ensures { result ≡ layout.length_of (shape_contents shape.now) }
 {
     let blocks = items_length(&shape.items) + script_length(&shape.presence);
@@ -84,7 +94,8 @@ pub(crate) fn blocks_at_1(shape: &Shape) -> u64
 
 // How many cells and tracked masks the set has.
 fn named(shape: &Shape) -> u64
-    requires { IsSearchable shape.now }
+    requires few_cells { length_of_list shape.now.cells.items ≤ 2 ^ 32 }
+    requires few_priors { length_of_list shape.now.priors.items ≤ 2 ^ 32 }
     ensures count { result ≡ length_of_list shape.now.cells.items + length_of_list shape.now.priors.items }
     ensures most { result ≤ 2 ^ 33 }
 {

@@ -5,6 +5,7 @@ ghost use Rattle.ra_progress.specs.Contents.{shape_contents, own_entries};
 ghost use Rattle.ra_progress.specs.Layout as layout;
 ghost use Rattle.ra_progress.specs.Names.{IsPaired, IsUsable};
 ghost use Rattle.ra_progress.specs.Reading as spec;
+ghost use Rattle.ra_progress.specs.Room.{IsToldOwn};
 
 use crate::layout::{cell_count, entry_after, entry_count, first_entry, prior_count};
 use crate::names::name_at;
@@ -23,6 +24,19 @@ pub fn of_this_set(shape: &Shape, bytes: &[u8]) -> bool
         && cell_count(bytes) as usize == shape.cells.len()
         && prior_count(bytes) as usize == shape.priors.len()
         && have_sizes(shape, bytes)
+}
+
+/// Whether an accepted file is of this set, if it has names. In version 1 no file has any.
+pub(crate) fn is_own(shape: &Shape, bytes: &[u8]) -> bool
+    requires usable { IsUsable shape.now }
+    requires accepted { spec.IsAccepted (shape_contents shape.now) bytes.now }
+    ensures { IsToldOwn shape.now bytes.now result }
+{
+    if bytes[4] == 1 {
+        true
+    } else {
+        of_this_set(shape, bytes)
+    }
 }
 
 // Whether the entries have the lengths of the own ones, one beside the other.

@@ -6,6 +6,7 @@ ghost use Rattle.ra_progress.specs.Reading.{IsAccepted};
 use crate::entry_places::read_places;
 use crate::numbers::{read_cells, read_priors};
 use crate::own::own_count;
+use crate::relation::is_own;
 use crate::shape::Shape;
 use ra_text::OutOfMemory;
 use std::alloc::Global;
@@ -52,9 +53,10 @@ impl Said {
         ensures says { Says (shape_contents shape.now) bytes.now self.new }
         ensures room { IsRoom (shape_contents shape.now) self.new }
     {
-        read_cells(&mut self.cells, shape, bytes);
-        read_priors(&mut self.priors, shape, bytes);
-        read_places(&mut self.places, shape, bytes);
+        let own = is_own(shape, bytes);
+        read_cells(&mut self.cells, shape, bytes, own);
+        read_priors(&mut self.priors, shape, bytes, own);
+        read_places(&mut self.places, shape, bytes, own);
     }
 
     /// Where the block of an own entry begins, in bytes from the start, where the file has one. Entries are

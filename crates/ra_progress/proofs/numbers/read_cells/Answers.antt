@@ -13,11 +13,6 @@ read_words-requires c =
     let long = numbers_in_1 (shape_contents c.args.shape.now) c.args.bytes.now c.requires.accepted.whole c.if-bytes-eq1.true in
     omega (arith, ap length c.deref_mut.ensures.value, c.requires.room, long)
 
-pub of_this_set-requires-clause-layout : goal.of_this_set-requires-clause-layout
-of_this_set-requires-clause-layout c =
-    whole_layout (shape_contents c.args.shape.now) c.args.bytes.now c.requires.accepted.whole
-    (ne_eqb (version_in c.args.bytes.now) 1 c.if-bytes-eq1.false)
-
 pub cell_count-requires : goal.cell_count-requires
 cell_count-requires c =
     whole_layout (shape_contents c.args.shape.now) c.args.bytes.now c.requires.accepted.whole
@@ -28,10 +23,10 @@ read_numbers-requires c =
     let shape = shape_contents c.args.shape.now in
     let layout = whole_layout shape c.args.bytes.now c.requires.accepted.whole
     (ne_eqb (version_in c.args.bytes.now) 1 c.if-bytes-eq1.false) in
-    let counts = counts_of_this_set shape c.args.bytes.now (sym c.of_this_set.ensures ∙ c.if-of_this_set.true) in
+    let counts = counts_of_this_set shape c.args.bytes.now (sym (c.requires.own (ne_eqb (version_in c.args.bytes.now) 1 c.if-bytes-eq1.false)) ∙ c.if-own.true) in
     omega (
       arith,
-      ap length c.deref_mut-then-of_this_set.ensures.value,
+      ap length c.deref_mut-then-own.ensures.value,
       c.requires.room,
       counts.0,
       numbers_named c.args.bytes.now layout,
@@ -55,29 +50,29 @@ returns-then-bytes-eq1-clause-says c =
     ∙ c.read_words.ensures ∙ ap (words_at bytes 29) long
     ∙ sym (said_in_1 (shape_contents c.args.shape.now) bytes 29 cells (cells_in bytes) c.if-bytes-eq1.true)
 
-pub returns-then-of_this_set-clause-says : goal.returns-then-of_this_set-clause-says
-returns-then-of_this_set-clause-says c =
+pub returns-then-own-clause-says : goal.returns-then-own-clause-says
+returns-then-own-clause-says c =
     let bytes = c.args.bytes.now in
     let shape = shape_contents c.args.shape.now in
     let cells = c.args.shape.now.cells.items in
     let other = ne_eqb (version_in bytes) 1 c.if-bytes-eq1.false in
-    let own = sym c.of_this_set.ensures ∙ c.if-of_this_set.true in
+    let own = sym (c.requires.own (ne_eqb (version_in c.args.bytes.now) 1 c.if-bytes-eq1.false)) ∙ c.if-own.true in
     let counts = counts_of_this_set shape bytes own in
-    let long : length c.deref_mut-then-of_this_set.result.now ≡ cell_count bytes = omega
-    (arith, ap length c.deref_mut-then-of_this_set.ensures.value, c.requires.room, counts.0) in
+    let long : length c.deref_mut-then-own.result.now ≡ cell_count bytes = omega
+    (arith, ap length c.deref_mut-then-own.ensures.value, c.requires.room, counts.0) in
     put_over c.args.numbers.now.len c.read_numbers.new.numbers c.args.numbers.now.items
-    (omega (arith, c.read_numbers.auto.numbers, ap length c.deref_mut-then-of_this_set.ensures.value, c.args.numbers.now.ok.0))
+    (omega (arith, c.read_numbers.auto.numbers, ap length c.deref_mut-then-own.ensures.value, c.args.numbers.now.ok.0))
     (omega (arith, c.args.numbers.now.ok.0))
     ∙ c.read_numbers.ensures ∙ ap (λ count. map (λ (n : Numbered). n.number) (numbered_at bytes 33 count)) long
     ∙ sym (said_by_place shape bytes 29 cells (cells_in bytes) other own)
 
-pub returns-else-of_this_set-clause-says : goal.returns-else-of_this_set-clause-says
-returns-else-of_this_set-clause-says c =
+pub returns-else-own-clause-says : goal.returns-else-own-clause-says
+returns-else-own-clause-says c =
     let bytes = c.args.bytes.now in
     let cells = c.args.shape.now.cells.items in
     let other = ne_eqb (version_in bytes) 1 c.if-bytes-eq1.false in
     let said = said_by_name (shape_contents c.args.shape.now) bytes 29 cells (cells_in bytes) other
-    (sym c.of_this_set.ensures ∙ c.if-of_this_set.false) in
+    (sym (c.requires.own (ne_eqb (version_in c.args.bytes.now) 1 c.if-bytes-eq1.false)) ∙ c.if-own.false) in
     c.read_named.ensures
     ∙ ap (λ count. map (λ name. last_number name (numbered_at bytes 33 count) 0) cells) c.cell_count.ensures
     ∙ sym said

@@ -18,20 +18,15 @@ cell_count-requires c =
     whole_layout (shape_contents c.args.shape.now) c.args.bytes.now c.requires.accepted.whole
     (ne_eqb (version_in c.args.bytes.now) 1 c.if-bytes-eq1.false)
 
-pub of_this_set-requires-clause-layout : goal.of_this_set-requires-clause-layout
-of_this_set-requires-clause-layout c =
-    whole_layout (shape_contents c.args.shape.now) c.args.bytes.now c.requires.accepted.whole
-    (ne_eqb (version_in c.args.bytes.now) 1 c.if-bytes-eq1.false)
-
 pub read_numbers-requires : goal.read_numbers-requires
 read_numbers-requires c =
     let shape = shape_contents c.args.shape.now in
     let layout = whole_layout shape c.args.bytes.now c.requires.accepted.whole
     (ne_eqb (version_in c.args.bytes.now) 1 c.if-bytes-eq1.false) in
-    let counts = counts_of_this_set shape c.args.bytes.now (sym c.of_this_set.ensures ∙ c.if-of_this_set.true) in
+    let counts = counts_of_this_set shape c.args.bytes.now (sym (c.requires.own (ne_eqb (version_in c.args.bytes.now) 1 c.if-bytes-eq1.false)) ∙ c.if-own.true) in
     omega (
       arith,
-      ap length c.deref_mut-then-of_this_set.ensures.value,
+      ap length c.deref_mut-then-own.ensures.value,
       c.requires.room,
       counts.1,
       c.from.ensures,
@@ -70,34 +65,34 @@ returns-then-bytes-eq1-clause-says c =
     ∙ c.read_words.ensures ∙ ap₂ (words_at bytes) place long
     ∙ sym (said_in_1 (shape_contents c.args.shape.now) bytes (29 + 4 * length cells) priors (priors_in bytes) c.if-bytes-eq1.true)
 
-pub returns-then-of_this_set-clause-says : goal.returns-then-of_this_set-clause-says
-returns-then-of_this_set-clause-says c =
+pub returns-then-own-clause-says : goal.returns-then-own-clause-says
+returns-then-own-clause-says c =
     let bytes = c.args.bytes.now in
     let shape = shape_contents c.args.shape.now in
     let priors = c.args.shape.now.priors.items in
     let other = ne_eqb (version_in bytes) 1 c.if-bytes-eq1.false in
-    let own = sym c.of_this_set.ensures ∙ c.if-of_this_set.true in
+    let own = sym (c.requires.own (ne_eqb (version_in c.args.bytes.now) 1 c.if-bytes-eq1.false)) ∙ c.if-own.true in
     let counts = counts_of_this_set shape bytes own in
-    let long : length c.deref_mut-then-of_this_set.result.now ≡ prior_count bytes = omega
-    (arith, ap length c.deref_mut-then-of_this_set.ensures.value, c.requires.room, counts.1) in
+    let long : length c.deref_mut-then-own.result.now ≡ prior_count bytes = omega
+    (arith, ap length c.deref_mut-then-own.ensures.value, c.requires.room, counts.1) in
     let place : 37 + 20 * c.from.result ≡ 37 + 20 * cell_count bytes = ap (λ n. 37 + 20 * n)
     (c.from.ensures ∙ c.cell_count.ensures) in
-    let numbered : numbered_at bytes (37 + 20 * c.from.result) (length c.deref_mut-then-of_this_set.result.now) ≡ priors_in bytes = ap₂
+    let numbered : numbered_at bytes (37 + 20 * c.from.result) (length c.deref_mut-then-own.result.now) ≡ priors_in bytes = ap₂
     (numbered_at bytes) place long in
     put_over c.args.numbers.now.len c.read_numbers.new.numbers c.args.numbers.now.items
-    (omega (arith, c.read_numbers.auto.numbers, ap length c.deref_mut-then-of_this_set.ensures.value, c.args.numbers.now.ok.0))
+    (omega (arith, c.read_numbers.auto.numbers, ap length c.deref_mut-then-own.ensures.value, c.args.numbers.now.ok.0))
     (omega (arith, c.args.numbers.now.ok.0))
     ∙ c.read_numbers.ensures ∙ ap (map (λ (n : Numbered). n.number)) numbered
     ∙ sym (said_by_place shape bytes (29 + 4 * length c.args.shape.now.cells.items) priors (priors_in bytes) other own)
 
-pub returns-else-of_this_set-clause-says : goal.returns-else-of_this_set-clause-says
-returns-else-of_this_set-clause-says c =
+pub returns-else-own-clause-says : goal.returns-else-own-clause-says
+returns-else-own-clause-says c =
     let bytes = c.args.bytes.now in
     let priors = c.args.shape.now.priors.items in
     let other = ne_eqb (version_in bytes) 1 c.if-bytes-eq1.false in
     let said = said_by_name (shape_contents c.args.shape.now) bytes
     (29 + 4 * length c.args.shape.now.cells.items) priors (priors_in bytes) other
-    (sym c.of_this_set.ensures ∙ c.if-of_this_set.false) in
+    (sym (c.requires.own (ne_eqb (version_in c.args.bytes.now) 1 c.if-bytes-eq1.false)) ∙ c.if-own.false) in
     let place : 37 + 20 * c.from.result ≡ 37 + 20 * cell_count bytes = ap (λ n. 37 + 20 * n)
     (c.from.ensures ∙ c.cell_count.ensures) in
     let numbered : numbered_at bytes (37 + 20 * c.from.result) c.prior_count.result ≡ priors_in bytes = ap₂

@@ -2,7 +2,7 @@ use Rattle.std.proofs.Common.{◌≡◌, ◌+◌, sym, sum_by, arith}
 use Rattle.ra_progress.specs.Contents.{shape_contents, own_entries}
 use Rattle.ra_progress.specs.Layout.{item_length, own_length}
 use Rattle.ra_progress.proofs.Owns.{own_total}
-use Rattle.ra_progress.proofs.places.length.Goals as goal
+use Rattle.ra_progress.proofs.places.file_length.Goals as goal
 
 pub returns : goal.returns
 returns c =
