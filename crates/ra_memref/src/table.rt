@@ -99,6 +99,13 @@ impl Table {
         })
     }
 
+    /// How many nodes the pool has.
+    pub fn node_count(&self) -> usize
+        ensures { result ≡ length self.now.nodes }
+    {
+        self.nodes.len()
+    }
+
     /// Tells the table that `count` bytes from the address `at` on may have changed:
     /// docs/INTERNALS.md, "Marked and moved cells".
     ///
