@@ -12,8 +12,8 @@ use Rattle.ra_progress.specs.Spelling.{progress_bytes}
 use Rattle.ra_progress.specs.declared.refused.ProgressRefused.{ProgressRefused}
 use Rattle.ra_meaning.specs.Openings.{plain_opening}
 use Rattle.ra_meaning.specs.Order.{shape_of}
-use Rattle.ra_meaning.specs.Runtime.{TakesFrame, TakesUp}
-use Rattle.ra_runtime.specs.Courses.{CourseSeen, over, EarnsToo, IsBegun}
+use Rattle.ra_meaning.specs.Runtime.{TakesUp}
+use Rattle.ra_runtime.specs.Courses.{CourseSeen, over, EarnsToo, IsBegun, TakesImage}
 use Rattle.ra_goals.specs.Goals.{goal_of}
 use Rattle.ra_goals.specs.Named.{is_named}
 use Rattle.ra_judge.specs.Codes.{done, memory, no_progress, out_of_range, empty}
@@ -40,15 +40,10 @@ Calls does code None None = code ≡ empty
 Calls does code (Some old) (Some new) = does old new
 Calls does code _ _ = ⊥
 
--- a frame of this memory is taken, and the size stays
-pub record TakesImage (image : List ℕ) (old new : CourseSeen) : Type 0 where
-  pub size : new.size ≡ old.size
-  pub taken : TakesFrame (over old image) (over new image)
-
 -- banks that have as many bytes as the game are a frame of it, and others are out of range and change nothing
 abbrev pub AnswersFrame : (banks : List Bank) → (code : ℕ) → (old new : CourseSeen) → Type 0
 AnswersFrame banks code old new =
-    ((code ≡ done) × (length (bytes_of banks) ≡ old.size) × TakesImage (bytes_of banks) old new)
+    ((code ≡ done) × (length (bytes_of banks) ≡ old.size) × TakesImage old new (bytes_of banks))
     ⊎ ((code ≡ out_of_range) × (length (bytes_of banks) ≢ old.size) × (new ≡ old))
 
 -- the bytes are no progress of the set, and nothing changes

@@ -60,7 +60,8 @@ fn copied(alloc: Global, text: &[u8]) -> Result<Vec<u8>, OutOfMemory>
 }
 
 impl Game {
-    ghost use Rattle.ra_calls.specs.Answers.{AnswersEarn, AnswersFrame, AreEventsOf, AreLinesOf, BeginsAgain, IsSaveOf, RefusesProgress, TakesImage, TakesProgress};
+    ghost use Rattle.ra_runtime.specs.Courses.{TakesImage};
+    ghost use Rattle.ra_calls.specs.Answers.{AnswersEarn, AnswersFrame, AreEventsOf, AreLinesOf, BeginsAgain, IsSaveOf, RefusesProgress, TakesProgress};
     ghost use Rattle.ra_calls.specs.Games.{IsNew};
     ghost use Rattle.ra_calls.specs.Recordings.{AnswersRecord, IsOfId, RecordsCall, RecordsFrame};
     ghost use Rattle.ra_calls.specs.Shows.{IsShownBy};
@@ -132,7 +133,7 @@ impl Game {
         requires name { blank.name ≡ L.name }
         requires parts { blank.parts ≡ L.parts }
         requires held { 0 < blank.parts }
-        ensures played { TakesImage (bytes_of banks.now) self.old.course self.new.course }
+        ensures played { TakesImage self.old.course self.new.course (bytes_of banks.now) }
         ensures recorded { RecordsFrame (bytes_of banks.now) self.old.recording self.new.recording }
         ensures slots { self.new.slots ≡ self.old.slots }
     {

@@ -63,7 +63,8 @@ fn course_of(alloc: Global, text: &[u8], size: u32) -> Result<(Course, Vec<Goal>
 }
 
 impl Held {
-    ghost use Rattle.ra_calls.specs.Answers.{AreEventsOf, AreLinesOf, BeginsAgain, EarnsIds, IsSaveOf, RefusesProgress, TakesImage, TakesProgress};
+    ghost use Rattle.ra_runtime.specs.Courses.{TakesImage};
+    ghost use Rattle.ra_calls.specs.Answers.{AreEventsOf, AreLinesOf, BeginsAgain, EarnsIds, IsSaveOf, RefusesProgress, TakesProgress};
     ghost use Rattle.ra_calls.specs.GameViews.{openings_of};
     ghost use Rattle.ra_calls.specs.Shows.{IsShownBy};
     ghost use Rattle.ra_calls.specs.Standing.{IsSlotOf};
@@ -79,8 +80,8 @@ impl Held {
         ensures loaded { IfOk result (IsLoaded text.now size) }
         ensures refused { IfErr result (λ why. why ≡ SetRefused.Memory ⊎ Refuses text.now why) }
     {
-        let (course, goals) = course_of(alloc, text, size)?;
-        match Held::first_of(alloc, &course) {
+        let (mut course, goals) = course_of(alloc, text, size)?;
+        match Held::first_of(alloc, &mut course) {
             Ok(first) => Ok(Held {
                 course,
                 first,
@@ -93,12 +94,15 @@ impl Held {
         }
     }
 
-    // The progress bytes of a course. The progress of a set is never too long.
-    fn first_of(alloc: Global, course: &Course) -> Result<Vec<u8>, OutOfMemory>
-        ensures short { length_of (shape_of course.now.set) ≤ 8388608 }
-        ensures first { IfOk result (λ first. IsSaveOf course.now first.items) }
+    // The progress bytes of a course, whose names are made, since each save has them. The progress of a set is never too
+    // long.
+    fn first_of(alloc: Global, course: &mut Course) -> Result<Vec<u8>, OutOfMemory>
+        ensures same { course.new ≡ course.old }
+        ensures short { length_of (shape_of course.old.set) ≤ 8388608 }
+        ensures first { IfOk result (λ first. IsSaveOf course.old first.items) }
     {
-        let _ = course.shape();
+        course.name();
+        let _size = course.save_size();
         course.save(alloc)
     }
 
@@ -120,7 +124,7 @@ impl Held {
     pub fn follow<I: Image>(&mut self, image: &mut I)
         requires size { length (I.bytes image.old) ≡ self.old.size }
         requires are_bytes { AreBytes (I.bytes image.old) }
-        ensures taken { TakesImage (I.bytes image.old) self.old self.new }
+        ensures taken { TakesImage self.old self.new (I.bytes image.old) }
         ensures bytes { I.bytes image.new ≡ I.bytes image.old }
     {
         self.course.follow(image);

@@ -5,10 +5,10 @@ ghost use Rattle.ra_memory.specs.Image.{History};
 ghost use Rattle.ra_meaning.specs.Earned.{Earned};
 ghost use Rattle.ra_meaning.specs.Play.{events};
 ghost use Rattle.ra_progress.specs.Contents.{Opening};
-ghost use Rattle.ra_runtime.specs.Courses.{CourseSeen};
+ghost use Rattle.ra_runtime.specs.Courses.{CourseSeen, TakesImage};
 ghost use Rattle.ra_runtime.specs.Keeping.{Takes};
 ghost use Rattle.ra_set.specs.Contents.{SetContents};
-ghost use Rattle.ra_calls.specs.Answers.{BeginsAgain, EarnsIds, TakesBytes, TakesImage};
+ghost use Rattle.ra_calls.specs.Answers.{BeginsAgain, EarnsIds, TakesBytes};
 ghost use Rattle.ra_calls.specs.Most.{most_events};
 
 use crate::handle::Handle;
@@ -26,7 +26,7 @@ pub fn events_are_few()
 ///
 /// A law; no effect at run time.
 pub fn sets_stay()
-    ensures frame { (image : List ℕ) (old new : CourseSeen) → TakesImage image old new → new.set ≡ old.set }
+    ensures frame { (image : List ℕ) (old new : CourseSeen) → TakesImage old new image → new.set ≡ old.set }
     ensures restore { (bytes : List ℕ) (old new : CourseSeen) → TakesBytes bytes old new → new.set ≡ old.set }
     ensures reset { (old new : CourseSeen) → BeginsAgain old new → new.set ≡ old.set }
     ensures earn { (ids : List ℕ) (old new : CourseSeen) → EarnsIds ids old new → new.set ≡ old.set }

@@ -8,6 +8,8 @@ use Rattle.ra_set.specs.Contents.{SetContents}
 use Rattle.ra_items.specs.declared.item_run.ItemRun.{ItemRun}
 use Rattle.ra_display.specs.declared.presence_run.PresenceRun.{PresenceRun}
 use Rattle.ra_memref.specs.declared.names.Names.{Names}
+use Rattle.ra_progress.specs.declared.shape.Shape.{Shape}
+use Rattle.ra_runtime.specs.declared.shapes.Naming.{Naming}
 use Rattle.ra_memref.specs.Names.{cell_name, tracked_name}
 use Rattle.ra_items.specs.ItemRuns.{kept_run}
 use Rattle.ra_items.specs.AllRuns.{AreItemRuns}
@@ -28,6 +30,13 @@ pub record IsOver (set : SetContents) (table : TableSeen) : Type 0 where
 pub record NameSet (set : SetContents) (names : Names) : Type 0 where
   pub cells : names.cells.items ≡ map cell_name (set_cells set)
   pub priors_too : names.priors.items ≡ map tracked_name (set_tracked set)
+
+-- a shape has these names of cells and tracked masks, in these orders
+pub record HasNaming (naming : Naming) (shape : Shape) : Type 0 where
+  pub cells : shape.cells.items ≡ naming.cells.items
+  pub priors_too : shape.priors.items ≡ naming.priors.items
+  pub cell_order : shape.cell_order.items ≡ naming.cell_order.items
+  pub prior_order : shape.prior_order.items ≡ naming.prior_order.items
 
 -- a table without a frame over the trees of a set, of at most 131,072 cells and as many tracked masks; runs that wait, and a display that shows its last line
 pub record IsLaidOut (set : SetContents) (size : ℕ) (table : TableSeen) (runs : List ItemRun) (presence : Option PresenceRun) : Type 0 where

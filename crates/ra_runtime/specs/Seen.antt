@@ -3,16 +3,16 @@ use Rattle.std.specs.Prelude.{◌≡◌, ◌≤◌, ◌^◌, ℕ, Option, None, 
 use Rattle.ra_set.specs.Contents.{set_contents}
 use Rattle.ra_set.specs.Limits.{IsWithinLimits}
 use Rattle.ra_set.specs.Spelled.{OptionalScript}
-use Rattle.ra_progress.specs.Contents.{shape_contents}
-use Rattle.ra_progress.specs.Names.{IsUsable}
 use Rattle.ra_progress.specs.Room.{IsRoom}
 use Rattle.ra_runtime.specs.declared.course.Course.TheInside.{Inside}
+use Rattle.ra_runtime.specs.declared.playthrough.Playthrough.TheInside.{Inside as PlayInside}
 use Rattle.ra_runtime.specs.declared.runtime.Runtime.TheInside.{Inside as RuntimeInside}
 use Rattle.ra_meaning.specs.Order.{shape_of}
 use Rattle.ra_meaning.specs.Runtime.{RuntimeSeen}
 use Rattle.ra_runtime.specs.Courses.{CourseSeen, over, IsCurrent}
 use Rattle.ra_items.specs.AllRuns.{AreItemRuns, HaveDigits, all_events}
 use Rattle.ra_runtime.specs.Laid.{IsOver, opening_by}
+use Rattle.ra_runtime.specs.Lazy.{IsLazy, IsWhole}
 use Rattle.ra_meaning.specs.declared.event.Event.{Event}
 use Rattle.ra_meaning.specs.Lines.{event_lines}
 use Rattle.ra_display.specs.LineRests.{AreOptionalRests, optional_presence_seen}
@@ -41,13 +41,15 @@ course_seen t = record {
   places = t.table.places;
 }
 
--- the set is within the limits, its shape can be searched and there is room for what a file says of it, the table is over its cells and images of its size, and there is a run for each item and for the display, and what rests goes on to rest
+-- the set is within the limits, its shape is there or can be made, with room for what a file says of it, the table is
+-- over its cells and images of its size, and there is a run for each item and for the display, and what rests goes on
+-- to rest
 pub record IsCourse (t : Inside) : Type 0 where
   pub script : OptionalScript (set_contents t.set).script
   pub limits : IsWithinLimits (set_contents t.set)
-  pub shape : shape_contents t.shape ≡ shape_of (set_contents t.set)
-  pub usable : IsUsable t.shape
-  pub room : IsRoom (shape_contents t.shape) t.said
+  pub lazy : IsLazy (shape_of (set_contents t.set)) t.shape
+  pub names : length t.table.nodes ≤ t.shape.room
+  pub room : IsRoom (shape_of (set_contents t.set)) t.said
   pub over : IsOver (set_contents t.set) t.table
   pub runs : AreItemRuns t.table.nodes (set_contents t.set).items t.runs.items
   pub rests : AreRests t.table.nodes t.table.values (set_contents t.set).items t.runs.items t.rests
@@ -58,11 +60,19 @@ pub record IsCourse (t : Inside) : Type 0 where
   pub size : t.table.size ≡ t.size
   pub small : t.size ≤ 2 ^ 27
 
--- what a caller sees of the inside of a runtime: its course, over its memory
-abbrev pub runtime_seen : RuntimeInside → RuntimeSeen
-runtime_seen t = over t.course t.memory
+-- what a caller sees of the inside of a playthrough: its course, over its memory
+abbrev pub playthrough_seen : PlayInside → RuntimeSeen
+playthrough_seen t = over t.course t.memory
 
 -- the memory is of the size of the course, and current
-pub record IsRuntime (t : RuntimeInside) : Type 0 where
+pub record IsPlaythrough (t : PlayInside) : Type 0 where
   pub size : t.course.size ≡ length t.memory
   pub current : IsCurrent (over t.course t.memory)
+
+-- what a caller sees of the inside of a runtime
+abbrev pub runtime_seen : RuntimeInside → RuntimeSeen
+runtime_seen t = t.play
+
+-- the shape is that of the set
+abbrev pub IsRuntime : RuntimeInside → Type 0
+IsRuntime t = IsWhole (shape_of t.play.set) t.shape

@@ -2,8 +2,8 @@ ghost use Rattle.std.specs.Prelude.{◌≡◌, ◌++◌, ◌+◌, ◌-◌, ◌�
 ghost use Rattle.ra_set.specs.Contents.{set_contents};
 ghost use Rattle.ra_set.specs.Limits.{IsWithinLimits};
 ghost use Rattle.ra_set.specs.Names.{IsNamed};
-ghost use Rattle.ra_progress.specs.Contents.{IsOpening, shape_contents};
-ghost use Rattle.ra_progress.specs.Names.{IsUsable};
+ghost use Rattle.ra_progress.specs.Contents.{IsOpening};
+ghost use Rattle.ra_progress.specs.Layout.{length_of};
 ghost use Rattle.ra_progress.specs.Reading.{IsAccepted, refusal};
 ghost use Rattle.ra_progress.specs.Spelling.{progress_bytes};
 ghost use Rattle.ra_items.specs.ItemStates.{state_at};
@@ -14,6 +14,7 @@ ghost use Rattle.ra_meaning.specs.Saving.{IsSaved};
 ghost use Rattle.ra_set.specs.Spelled.{IsSpelled};
 
 use crate::kept::{Kept, OtherSet};
+use crate::lazy_shape::LazyShape;
 use crate::numbers::take_numbers;
 use crate::shapes::{at_rest, shape_and_room};
 use crate::written::put_events;
@@ -25,7 +26,7 @@ use ra_items::{
 };
 use ra_memory::Image;
 use ra_memref::Table;
-use ra_progress::{ProgressRefused, Said, Shape, begin, check, close, frames_at};
+use ra_progress::{ProgressRefused, Said, Shape, begin, check, close, file_length, frames_at};
 use ra_set::Set;
 use ra_text::OutOfMemory;
 use std::alloc::Global;
@@ -38,7 +39,7 @@ use std::marker::Model;
 #[derive(Drop)]
 pub struct Course {
     set: Set,
-    shape: Shape,
+    shape: LazyShape,
     // room for what a progress file says, so that a restore takes no memory
     said: Said,
     table: Table,
@@ -71,6 +72,7 @@ impl Course {
     ghost use Rattle.ra_meaning.specs.Runtime.{ReadsFew, ShowsKept, TakesUp};
     ghost use Rattle.ra_runtime.specs.Courses.{over, EarnsToo, IsBegun, IsCurrent, IsTold, LooksAt, ReadsLooked, TakesImage};
     ghost use Rattle.ra_runtime.specs.Keeping.{IsKeptFor, Takes};
+    ghost use Rattle.ra_runtime.specs.Lazy.{IsWhole};
     ghost use Rattle.ra_runtime.specs.Told.{GrewByFront};
 
     /// A set over images of `size` bytes, before the first frame: docs/DEFINITIONS.md, "What a runtime keeps".
@@ -108,8 +110,8 @@ impl Course {
         requires size { size ≤ 2 ^ 27 }
         ensures { IfOk result (IsBegun (set_contents set) size) }
     {
-        let (table, runs, rests, presence, line_rests, names) = at_rest(alloc, &set, size, looks)?;
-        let (shape, said) = shape_and_room(alloc, &set, &runs, &presence, names)?;
+        let (table, runs, rests, presence, line_rests) = at_rest(alloc, &set, size, looks)?;
+        let (shape, said) = shape_and_room(alloc, &set, &runs, &presence, &table)?;
         Ok(Course {
             set,
             shape,
@@ -125,12 +127,29 @@ impl Course {
         })
     }
 
-    /// The shape of the set: docs/DEFINITIONS.md, "Shape of a set".
-    pub fn shape(&self) -> &Shape
-        ensures shape { shape_contents result.now ≡ shape_of self.now.set }
-        ensures usable { IsUsable result.now }
+    /// The shape of the set: docs/DEFINITIONS.md, "Shape of a set". Memory is the only refusal.
+    pub fn shape(&self, alloc: Global) -> Result<Shape, OutOfMemory>
+        ensures { IfOk result (IsWhole (shape_of self.now.set)) }
     {
-        &self.shape
+        self.shape.whole(alloc, &self.table)
+    }
+
+    /// Makes the names of cells and tracked masks, where a restore has not made them: docs/INTERNALS.md, "Names are made
+    /// where they are first needed".
+    ///
+    /// Each later save has them. Nothing that is seen changes, and no memory is taken.
+    pub fn name(&mut self)
+        ensures { self.new ≡ self.old }
+    {
+        self.shape.make(&self.table);
+    }
+
+    /// How many bytes a save takes: docs/DEFINITIONS.md, "Progress file".
+    pub fn save_size(&self) -> u64
+        ensures size { result ≡ length_of (shape_of self.now.set) }
+        ensures short { result ≤ 8388608 }
+    {
+        file_length(&self.shape.shape)
     }
 
     /// Tells that `count` bytes from the address `at` on may have changed.
@@ -161,14 +180,29 @@ impl Course {
         ensures saved { IfOk result (λ bytes. IsSaved self.now.set bytes.items) }
         ensures opening { OnOk result (IsOpening (shape_of self.now.set) self.now.kept) }
     {
+        if self.shape.named {
+            self.save_by(alloc, &self.shape.shape)
+        } else {
+            let shape = self.shape(alloc)?;
+            self.save_by(alloc, &shape)
+        }
+    }
+
+    // The same bytes, by the shape of the set.
+    pub(crate) fn save_by(&self, alloc: Global, shape: &Shape) -> Result<Vec<u8>, OutOfMemory>
+        requires { IsWhole (shape_of self.now.set) shape.now }
+        ensures bytes { IfOk result (λ bytes. bytes.items ≡ progress_bytes (shape_of self.now.set) self.now.kept) }
+        ensures saved { IfOk result (λ bytes. IsSaved self.now.set bytes.items) }
+        ensures opening { OnOk result (IsOpening (shape_of self.now.set) self.now.kept) }
+    {
         let cells = self.table.cells();
         let priors = self.table.priors();
-        let mut bytes = begin(alloc, &self.shape, self.count, cells, priors)?;
-        put_runs(&mut bytes, &self.shape.item_names, &self.runs, &self.rests)?;
+        let mut bytes = begin(alloc, shape, self.count, cells, priors)?;
+        put_runs(&mut bytes, &shape.item_names, &self.runs, &self.rests)?;
         put_display(
             alloc,
             &mut bytes,
-            &self.shape.presence_name,
+            &shape.presence_name,
             &self.presence,
             &self.line_rests,
         )?;
@@ -187,9 +221,19 @@ impl Course {
         ensures refused { IfErr result (λ why. refusal (shape_of self.old.set) bytes.now ≡ Some why) }
         ensures err { OnErr result (self.new ≡ self.old) }
     {
-        check(&self.shape, bytes)?;
+        self.accepts(bytes)?;
         self.take_up(bytes);
         Ok(())
+    }
+
+    // Whether progress bytes are accepted: the first check that refuses them.
+    fn accepts(&mut self, bytes: &[u8]) -> Result<(), ProgressRefused>
+        ensures same { self.new ≡ self.old }
+        ensures accepted { OnOk result (IsAccepted (shape_of self.old.set) bytes.now) }
+        ensures refused { IfErr result (λ why. refusal (shape_of self.old.set) bytes.now ≡ Some why) }
+    {
+        self.shape.make(&self.table);
+        check(&self.shape.shape, bytes)
     }
 
     /// Adds to what is earned, by an answer for each item in set order: docs/DEFINITIONS.md, "Earned achievements".
@@ -217,12 +261,18 @@ impl Course {
         ensures current { (image : List ℕ) → IsCurrent (over self.new image) }
         ensures size { self.new.size ≡ self.old.size }
     {
-        self.said.read(&self.shape, bytes);
+        self.shape.make(&self.table);
+        self.said.read(&self.shape.shape, bytes);
         take_numbers(&mut self.table, &self.said.cells, &self.said.priors);
         put_back_runs(&mut self.runs, bytes, &self.said.places);
         self.rests.forget();
         let display = self.said.place(self.runs.len());
-        put_back_presence(&mut self.presence, &self.shape.presence, bytes, display);
+        put_back_presence(
+            &mut self.presence,
+            &self.shape.shape.presence,
+            bytes,
+            display,
+        );
         self.line_rests.forget();
         self.count = frames_at(bytes);
         self.last = None;
@@ -232,7 +282,7 @@ impl Course {
     pub(crate) fn room(&self, alloc: Global) -> Result<Kept, OutOfMemory>
         ensures { IfOk result (IsKeptFor (shape_of self.now.set)) }
     {
-        Kept::room(alloc, &self.shape)
+        Kept::room(alloc, &self.shape.shape)
     }
 
     /// Keeps the present state in memory, numbers alone, in the place of the one that was kept there: docs/DEFINITIONS.md,
@@ -246,7 +296,7 @@ impl Course {
         ensures other { OnErr result (IsKeptFor (shape_of self.now.set) kept.old → ⊥) }
         ensures err { OnErr result (kept.new ≡ kept.old) }
     {
-        if !kept.is_for(&self.shape) {
+        if !kept.is_for(&self.shape.shape) {
             return Err(OtherSet);
         }
         kept.note_numbers(self.count, self.table.cells(), self.table.priors());
@@ -264,7 +314,7 @@ impl Course {
         ensures other { OnErr result (IsKeptFor (shape_of self.old.set) kept.now → ⊥) }
         ensures err { OnErr result (self.new ≡ self.old) }
     {
-        if !kept.is_for(&self.shape) {
+        if !kept.is_for(&self.shape.shape) {
             return Err(OtherSet);
         }
         self.take_kept(kept);
@@ -280,7 +330,12 @@ impl Course {
         take_numbers(&mut self.table, kept.cells(), kept.priors());
         put_back_runs(&mut self.runs, bytes, places);
         self.rests.forget();
-        put_back_presence(&mut self.presence, &self.shape.presence, bytes, display);
+        put_back_presence(
+            &mut self.presence,
+            &self.shape.shape.presence,
+            bytes,
+            display,
+        );
         self.line_rests.forget();
         self.count = kept.frames();
         let _last = self.last.take();

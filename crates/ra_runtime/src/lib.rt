@@ -5,7 +5,9 @@ mod cells;
 mod course;
 mod kept;
 mod laws;
+mod lazy_shape;
 mod numbers;
+mod playthrough;
 mod runtime;
 mod shapes;
 mod tallied;
@@ -15,6 +17,7 @@ pub use cells::{DirectCell, direct_cells};
 pub use course::Course;
 pub use kept::{Kept, OtherSet};
 pub use laws::taken_states_are_restored;
+pub use playthrough::Playthrough;
 pub use ra_items::{Events, ItemState};
 pub use ra_meaning::{
     Event, calls_succeed, changed_sets_go_on, earned_achievements_stay_earned, histories_are_folds,

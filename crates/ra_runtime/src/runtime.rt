@@ -13,25 +13,24 @@ ghost use Rattle.ra_meaning.specs.Play.{shown};
 ghost use Rattle.ra_meaning.specs.Saving.{IsSaved};
 ghost use Rattle.ra_set.specs.Spelled.{IsSpelled};
 
-use crate::course::Course;
 use crate::kept::{Kept, OtherSet};
-use crate::tallied::Tallied;
+use crate::playthrough::Playthrough;
 use ra_items::{Events, ItemState};
-use ra_memory::{Counted, Memory, Steps};
+use ra_memory::Steps;
 use ra_progress::{ProgressRefused, Shape};
 use ra_set::Set;
 use ra_text::OutOfMemory;
 use std::alloc::Global;
-use std::marker::{Brand, Model};
-use std::sync::ledger::{Blank, Ledger};
+use std::marker::Model;
+use std::sync::ledger::Ledger;
 
 /// A set over a memory, between frames: docs/DEFINITIONS.md, "What a runtime keeps".
 ///
 /// It is seen as its set, the image, the opening that it keeps, and the events and lines of the last frame.
 #[derive(Drop)]
 pub struct Runtime {
-    memory: Memory,
-    course: Course,
+    play: Playthrough,
+    shape: Shape,
 }
 
 impl Model for Runtime {
@@ -63,9 +62,9 @@ impl Runtime {
         requires size { size ≤ 2 ^ 27 }
         ensures { IfOk result (IsMade (set_contents set) size) }
     {
-        let memory = Memory::new(alloc, size)?;
-        let course = Course::new(alloc, set, size)?;
-        Ok(Runtime { memory, course })
+        let play = Playthrough::new(alloc, set, size)?;
+        let shape = play.shape(alloc)?;
+        Ok(Runtime { play, shape })
     }
 
     /// The shape of the set: docs/DEFINITIONS.md, "Shape of a set".
@@ -73,7 +72,7 @@ impl Runtime {
         ensures shape { shape_contents result.now ≡ shape_of self.now.set }
         ensures usable { IsUsable result.now }
     {
-        self.course.shape()
+        &self.shape
     }
 
     /// Writes the bytes from the address `at` on, and tells the table.
@@ -81,10 +80,7 @@ impl Runtime {
         requires { at + length bytes.now ≤ length self.old.image }
         ensures { IsWritten self.old self.new at bytes.now }
     {
-        let _size = self.memory.size();
-        let count = bytes.len() as u32;
-        let _ = self.memory.write(at, bytes);
-        self.course.tell(at, count);
+        self.play.write(at, bytes);
     }
 
     /// The progress bytes of the present state: docs/DEFINITIONS.md, "Progress file".
@@ -93,7 +89,7 @@ impl Runtime {
         ensures saved { IfOk result (λ bytes. IsSaved self.now.set bytes.items) }
         ensures opening { OnOk result (IsOpening (shape_of self.now.set) self.now.kept) }
     {
-        self.course.save(alloc)
+        self.play.save_by(alloc, &self.shape)
     }
 
     /// Takes up what progress bytes say, of this set or of a changed one: docs/DEFINITIONS.md, "What a runtime keeps".
@@ -105,7 +101,7 @@ impl Runtime {
         ensures refused { IfErr result (λ why. refusal (shape_of self.old.set) bytes.now ≡ Some why) }
         ensures err { OnErr result (self.new ≡ self.old) }
     {
-        self.course.restore(bytes)
+        self.play.restore(bytes)
     }
 
     /// The state that it keeps now, with room for each later one of its set: docs/DEFINITIONS.md, "States kept in
@@ -114,7 +110,7 @@ impl Runtime {
         ensures holds { IfOk result (λ kept. kept.opening ≡ self.now.kept) }
         ensures set { IfOk result (λ kept. IsKeptFor (shape_of self.now.set) kept) }
     {
-        Kept::new(alloc, &self.course)
+        self.play.kept(alloc)
     }
 
     /// Keeps the present state in memory, in the place of the one that was kept there: docs/DEFINITIONS.md, "States kept in
@@ -127,7 +123,7 @@ impl Runtime {
         ensures other { OnErr result (IsKeptFor (shape_of self.now.set) kept.old → ⊥) }
         ensures err { OnErr result (kept.new ≡ kept.old) }
     {
-        self.course.keep(kept)
+        self.play.keep(kept)
     }
 
     /// Takes up a kept state, as a restore does: docs/DEFINITIONS.md, "States kept in memory". The image stays.
@@ -140,7 +136,7 @@ impl Runtime {
         ensures other { OnErr result (IsKeptFor (shape_of self.old.set) kept.now → ⊥) }
         ensures err { OnErr result (self.new ≡ self.old) }
     {
-        self.course.take(kept)
+        self.play.take(kept)
     }
 
     /// Takes one frame of every item: docs/DEFINITIONS.md, "What a runtime keeps". No memory is taken.
@@ -149,10 +145,7 @@ impl Runtime {
         ensures reads { ReadsFew self.old self.new (steps.new - steps.old) }
         ensures counts { steps.old ≤ steps.new }
     {
-        self.course.frame(&mut Counted {
-            memory: &self.memory,
-            steps,
-        });
+        self.play.frame(steps);
     }
 
     /// Takes one frame, as `frame` does with a counter of its own, and answers how many reads it took, at most
@@ -162,26 +155,7 @@ impl Runtime {
         ensures reads { ReadsFew self.old self.new (reads_of self.old.marked self.old.places self.new.places) }
         ensures counted { CountsReads self.old self.new result }
     {
-        self.take_frame::<Brand>(Blank::new(1))
-    }
-
-    // Takes one frame, and counts what is read by this blank and by number.
-    fn take_frame<L: Ledger>(&mut self, blank: Blank) -> u64
-        requires name { blank.name ≡ L.name }
-        requires parts { blank.parts ≡ L.parts }
-        requires held { 0 < blank.parts }
-        ensures taken { TakesFrame self.old self.new }
-        ensures reads { ReadsFew self.old self.new (reads_of self.old.marked self.old.places self.new.places) }
-        ensures counted { CountsReads self.old self.new result }
-    {
-        let mut steps = Steps::<L>::open(blank);
-        let mut image = Tallied {
-            memory: &self.memory,
-            steps: &mut steps,
-            count: 0,
-        };
-        self.course.frame(&mut image);
-        image.count
+        self.play.advance()
     }
 
     /// The events of the last frame, items in set order: docs/DEFINITIONS.md, "Events". None where no
@@ -189,7 +163,7 @@ impl Runtime {
     pub fn events(&self) -> Events<'_>
         ensures { result ≡ self.now.events }
     {
-        self.course.events()
+        self.play.events()
     }
 
     /// The lines of the events of the last frame: docs/DEFINITIONS.md, "Printed lines". None where no
@@ -198,9 +172,7 @@ impl Runtime {
         ensures lines { IfOk result (λ text. text.items ≡ self.now.lines) }
         ensures of_events { IfOk result (λ text. IsTextOf text.items self.now.events) }
     {
-        let mut out = Vec::new(alloc);
-        self.course.tell_lines(&mut out)?;
-        Ok(out)
+        self.play.lines(alloc)
     }
 
     /// Puts the lines of the events of the last frame at the end of a text, in the room that it has:
@@ -210,35 +182,35 @@ impl Runtime {
         ensures put { OnOk result (text.new.items ≡ text.old.items ++ self.now.lines) }
         ensures front { OnErr result (GrewByFront text.old.items text.new.items self.now.lines) }
     {
-        self.course.tell_lines(text)
+        self.play.put_lines(text)
     }
 
     /// How many bytes the image has.
     pub fn size(&self) -> u32
         ensures { result ≡ length self.now.image }
     {
-        self.memory.size()
+        self.play.size()
     }
 
     /// The count of frames, which stops at 18,446,744,073,709,551,615.
     pub fn frames(&self) -> u64
         ensures { result ≡ self.now.kept.frames }
     {
-        self.course.frames()
+        self.play.frames()
     }
 
     /// Where the item at a place of the set stands; none past the last one.
     pub fn item(&self, place: usize) -> Option<ItemState>
         ensures { result ≡ state_at self.now.set self.now.kept place }
     {
-        self.course.item(place)
+        self.play.item(place)
     }
 
     /// The index of the display line that is shown; none where the set has no script.
     pub fn shown(&self) -> Option<u32>
         ensures { result ≡ option_map (λ presence. presence.shown) self.now.kept.presence }
     {
-        self.course.shown()
+        self.play.shown()
     }
 
     /// The presence line after the last frame, with the count of frames: docs/DEFINITIONS.md, "Presence
@@ -247,6 +219,6 @@ impl Runtime {
         ensures shows { IfOk result (λ text. ShowsKept self.now text.items) }
         ensures now { IfOk result (λ text. text.items ≡ shown self.now.set self.now.kept []) }
     {
-        self.course.show(alloc)
+        self.play.show(alloc)
     }
 }

@@ -19,7 +19,7 @@ ghost use Rattle.ra_session.specs.Playing.{HoldsState, StandsAt, StandsSomewhere
 
 use crate::beginning::Beginning;
 use ra_memory::Steps;
-use ra_runtime::{Kept, OtherSet, Runtime};
+use ra_runtime::{Kept, OtherSet, Playthrough};
 use ra_text::OutOfMemory;
 use ra_trace::Record;
 use std::alloc::Global;
@@ -39,7 +39,7 @@ pub enum Unplayed {
 /// A runtime, and the state that is kept in each save slot: docs/DEFINITIONS.md, "Save slots".
 #[derive(Drop)]
 pub struct Player {
-    runtime: Runtime,
+    runtime: Playthrough,
     slots: Vec<Option<Kept>>,
 }
 
@@ -55,7 +55,7 @@ impl From<OutOfMemory> for Unplayed {
 
 // Takes one frame, and counts no steps.
 #[inline(always)]
-fn take_frame<L: Ledger>(runtime: &mut Runtime, blank: Blank)
+fn take_frame<L: Ledger>(runtime: &mut Playthrough, blank: Blank)
     requires name { blank.name ≡ L.name }
     requires parts { blank.parts ≡ L.parts }
     requires held { 0 < blank.parts }
@@ -66,12 +66,12 @@ fn take_frame<L: Ledger>(runtime: &mut Runtime, blank: Blank)
 }
 
 // Takes up progress bytes, where there are some. The own bytes of the runtime's set are no longer than a file may be.
-fn take_up(runtime: &mut Runtime, progress: &Option<Vec<u8>>)
+fn take_up(runtime: &mut Playthrough, progress: &Option<Vec<u8>>)
     requires { IfSome progress.now (λ bytes. refusal (shape_of runtime.old.set) bytes.items ≡ None) }
     ensures taken { TakesUpFrom (option_map (λ bytes. bytes.items) progress.now) runtime.old runtime.new }
     ensures short { length_of (shape_of runtime.old.set) ≤ 8388608 }
 {
-    let _shape = runtime.shape();
+    let _size = runtime.save_size();
     if let Some(bytes) = progress {
         let _ = runtime.restore(bytes.as_slice());
     }
@@ -88,7 +88,7 @@ fn state_in(slots: &[Option<Kept>], slot: u8) -> Option<&Kept>
 }
 
 // Keeps the state of a runtime in a slot, in the room that stands there, or in a new one where it is empty.
-fn fill(alloc: Global, runtime: &Runtime, slot: &mut Option<Kept>) -> Result<(), OutOfMemory>
+fn fill(alloc: Global, runtime: &Playthrough, slot: &mut Option<Kept>) -> Result<(), OutOfMemory>
     ensures { OnOk result (IsOpening (shape_of runtime.now.set) runtime.now.kept → IfSome slot.old (IsKeptFor (shape_of runtime.now.set)) → HoldsState runtime.now slot.new) }
 {
     match slot {
@@ -115,7 +115,7 @@ impl Player {
         while slots.len() < SLOTS {
             slots.push(None)?;
         }
-        let mut runtime = Runtime::new(alloc, beginning.set, size)?;
+        let mut runtime = Playthrough::new(alloc, beginning.set, size)?;
         take_up(&mut runtime, &beginning.progress);
         Ok(Player { runtime, slots })
     }
