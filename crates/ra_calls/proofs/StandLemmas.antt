@@ -18,10 +18,10 @@ use Rattle.ra_meaning.specs.Openings.{plain_opening, snapshot}
 use Rattle.ra_meaning.specs.Order.{shape_of}
 use Rattle.ra_meaning.specs.declared.event.Event.{Event}
 use Rattle.ra_meaning.proofs.Openings.Snapshots.{has_lines, opening_comes_back, plain_is_opening, snapshot_none}
-use Rattle.ra_runtime.specs.Courses.{CourseSeen, EarnsToo, IsBegun}
+use Rattle.ra_runtime.specs.Courses.{CourseSeen, EarnsToo, IsBegun, TakesImage}
 use Rattle.ra_runtime.specs.Keeping.{Takes}
 use Rattle.ra_runtime.proofs.EarnedCourses.{stands_too}
-use Rattle.ra_calls.specs.Answers.{IsFirst, TakesImage}
+use Rattle.ra_calls.specs.Answers.{IsFirst}
 use Rattle.ra_calls.specs.Most.{most_events}
 use Rattle.ra_calls.specs.Standing.{HasStood, IsStanding}
 use Rattle.ra_calls.proofs.MostLemmas.{few-events}
@@ -74,10 +74,10 @@ begun_stands set size course spelled begun =
 
 -- after a frame it stands one image on
 pub framed_stands : (image : List ℕ) (old new : CourseSeen) → AreBytes image → IsStanding old
-    → TakesImage image old new → IsStanding new
+    → TakesImage old new image → IsStanding new
 framed_stands image old new fit standing takes =
     let at = standing.stood in
-    let taken = takes.taken in
+    let taken = takes.frame in
     let same = taken.set in
     let events = taken.events at.opening at.history at.opens at.images at.stands in
     let few = few-events old.set at.opening (image ∷ at.history) (earned_in old.kept) in

@@ -5,6 +5,7 @@ pub mod FrameLemmas
 pub mod KeptBlocks
 pub mod KeptRows
 pub mod LaidShapes
+pub mod LazyNames
 pub mod LineLemmas
 pub mod MadeLemmas
 pub mod MarkedLemmas

@@ -1,5 +1,5 @@
 -- A course whose table has other marks, and nothing else that is new.
-use Rattle.std.proofs.Common.{◌≡◌, ℕ, ◌∙◌, ap, sym, subst, length, List}
+use Rattle.std.proofs.Common.{◌≡◌, ◌≤◌, ℕ, ◌∙◌, ap, sym, subst, length, List}
 use Rattle.ra_indirect.specs.declared.node.Node.{Node}
 use Rattle.ra_indirect.specs.Pools.{cells_of, tracked_of}
 use Rattle.ra_memref.specs.Table.{TableSeen}
@@ -35,8 +35,8 @@ module _ (t : Inside) (is : IsCourse t) (table : TableSeen) (rest : table ≡ re
   marked_course = record {
     script = is.script;
     limits = is.limits;
-    shape = is.shape;
-    usable = is.usable;
+    lazy = is.lazy;
+    names = subst (λ (ns : List Node). length ns ≤ t.shape.room) nodes is.names;
     room = is.room;
     over = marked_over;
     runs = subst (λ (ns : List Node). AreItemRuns ns (set_contents t.set).items t.runs.items) nodes is.runs;

@@ -3,7 +3,7 @@ use Rattle.ra_runtime.specs.Courses.{CourseSeen}
 use Rattle.ra_calls.proofs.laws.sets_stay.Goals as goal
 
 pub returns-clause-frame : goal.returns-clause-frame
-returns-clause-frame c = λ image old new x. x.taken.set
+returns-clause-frame c = λ image old new x. x.frame.set
 
 pub returns-clause-restore : goal.returns-clause-restore
 returns-clause-restore c = λ bytes old new x. (x.taken []).set

@@ -13,7 +13,7 @@ shape_beside-requires-clause-names c =
     let set = set_contents c.args.set.now in
     let items = c.new_runs.new.pool in
     let pool = c.counted_presence.new.pool in
-    let first : GrowsByItems [] items set.items = rw (c.new-pool.ensures, c.deref.ensures.value) at c.in_ok-runs.ensures.grows in
+    let first : GrowsByItems [] items set.items = rw (c.in_ok-pool.ensures, c.deref.ensures.value) at c.in_ok-runs.ensures.grows in
     names_set set items pool c.requires.limits first c.in_ok-presence.ensures.grows c.in_ok-names.names c.in_ok-names.ensures.cells c.in_ok-names.ensures.priors
 
 pub shape_beside-requires-clause-short : goal.shape_beside-requires-clause-short
@@ -21,7 +21,7 @@ shape_beside-requires-clause-short c =
     let set = set_contents c.args.set.now in
     let items = c.new_runs.new.pool in
     let pool = c.counted_presence.new.pool in
-    let first : GrowsByItems [] items set.items = rw (c.new-pool.ensures, c.deref.ensures.value) at c.in_ok-runs.ensures.grows in
+    let first : GrowsByItems [] items set.items = rw (c.in_ok-pool.ensures, c.deref.ensures.value) at c.in_ok-runs.ensures.grows in
     let next = c.in_ok-presence.ensures.grows in
     small_shape set c.requires.limits c.requires.spelled (few_cells set items pool c.requires.limits first next) (few_tracked set items pool c.requires.limits first next)
 

@@ -7,5 +7,4 @@ pub invariant_of-self : goal.invariant_of-self
 invariant_of-self g c =
     let taken = c.follow.ensures.taken in
     still_held c.self.inside _ c.self.invariant taken.frame.set refl refl
-    (framed_stands _ c.self.inside.course c.follow.new.self c.requires.are_bytes c.self.invariant.standing
-    (record { size = taken.size; taken = taken.frame }))
+    (framed_stands _ c.self.inside.course c.follow.new.self c.requires.are_bytes c.self.invariant.standing taken)

@@ -8,7 +8,7 @@ use Rattle.ra_set.specs.Contents.{set_contents}
 use Rattle.ra_items.specs.declared.item_run.ItemRun.{ItemRun}
 use Rattle.ra_items.specs.Shapes.{run_shape, IsSmall}
 use Rattle.ra_runtime.proofs.CurrentLemmas.{current_agrees}
-use Rattle.ra_runtime.proofs.LaidShapes.{laid_shapes, laid_small, laid_presence, laid_small_presence}
+use Rattle.ra_runtime.proofs.LaidShapes.{laid_few, laid_shapes, laid_small, laid_presence, laid_small_presence}
 use Rattle.ra_items.proofs.ShapeLemmas.{have_digits}
 use Rattle.ra_meaning.proofs.Counts.SmallShape.{small_shape}
 use Rattle.ra_runtime.proofs.course.Course.begun.Goals as goal
@@ -16,6 +16,13 @@ use Rattle.ra_runtime.proofs.course.Course.begun.Goals as goal
 -- no frame came where there is no number of one
 none_came : false ≡ true → ⊥
 none_came same = cc
+
+pub shape_and_room-requires-clause-over : goal.shape_and_room-requires-clause-over
+shape_and_room-requires-clause-over c = c.in_ok-table.ensures.laid.over
+
+pub shape_and_room-requires-clause-few : goal.shape_and_room-requires-clause-few
+shape_and_room-requires-clause-few c =
+    laid_few (set_contents c.args.set) c.args.size c.in_ok-table.table c.in_ok-table.runs.items c.in_ok-table.presence c.in_ok-table.ensures.laid
 
 pub shape_and_room-requires-clause-short : goal.shape_and_room-requires-clause-short
 shape_and_room-requires-clause-short c =
@@ -45,8 +52,8 @@ invariant_of-result c =
     record {
       script = c.requires.spelled.script;
       limits = c.requires.limits;
-      shape = c.in_ok-shape.ensures.shape;
-      usable = c.in_ok-shape.ensures.usable;
+      lazy = c.in_ok-shape.ensures.shape;
+      names = c.in_ok-shape.ensures.names;
       room = c.in_ok-shape.ensures.room;
       over = laid.over;
       runs = laid.runs_too;

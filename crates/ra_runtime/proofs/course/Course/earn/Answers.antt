@@ -35,8 +35,8 @@ invariant_of-self c =
     record {
       script = inv.script;
       limits = inv.limits;
-      shape = inv.shape;
-      usable = inv.usable;
+      lazy = inv.lazy;
+      names = inv.names;
       room = inv.room;
       over = inv.over;
       runs = subst (λ (rs : List ItemRun). AreItemRuns t.table.nodes set.items rs) (sym same) (earned_are t.table.nodes set.items earned t.runs.items inv.runs);

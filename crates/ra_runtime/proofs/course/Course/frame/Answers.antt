@@ -1,4 +1,4 @@
-use Rattle.std.proofs.Common.{◌≡◌, ◌∙◌, ◌<◌, ◌^◌, Some, ap, sym, subst, refl, length, map, slice_index, List, rules, arith}
+use Rattle.std.proofs.Common.{◌≡◌, ◌∙◌, ◌<◌, ◌≤◌, ◌^◌, Some, ap, sym, subst, refl, length, map, slice_index, List, rules, arith}
 use Rattle.std.proofs.Math.Path.{transport}
 use Rattle.std.proofs.lemmas.List.{with_items_is}
 use Rattle.std.specs.Vec.{with_items}
@@ -68,8 +68,8 @@ invariant_of-self g c =
     record {
       script = c.self.invariant.script;
       limits = c.self.invariant.limits;
-      shape = c.self.invariant.shape;
-      usable = c.self.invariant.usable;
+      lazy = c.self.invariant.lazy;
+      names = subst (λ (ns : List Node). length ns ≤ t.shape.room) (sym c.sample.ensures.taken.pool.0) c.self.invariant.names;
       room = c.self.invariant.room;
       over = over_after set t.count t.table now (g.I.Image.bytes c.args.image.now) (seen_by t.runs.items t.rests) (optional_presence_seen t.presence t.line_rests) c.self.invariant.over c.sample.ensures.taken;
       runs = subst (λ (rs : List ItemRun). AreItemRuns now.nodes set.items rs) (sym same) runs;

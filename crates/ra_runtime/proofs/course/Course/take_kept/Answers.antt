@@ -1,4 +1,4 @@
-use Rattle.std.proofs.Common.{◌≡◌, ℕ, ◌<◌, true, false, Option, IfSome, IsSome, List, length, map, refl, sym, ◌∙◌, ap, subst, arith}
+use Rattle.std.proofs.Common.{◌≤◌, ◌≡◌, ℕ, ◌<◌, true, false, Option, IfSome, IsSome, List, length, map, refl, sym, ◌∙◌, ap, subst, arith}
 use Rattle.std.specs.Vec.{with_items}
 use Rattle.std.proofs.lemmas.List.{with_items_is, length-map}
 use Rattle.ra_indirect.specs.declared.node.Node.{Node}
@@ -66,14 +66,14 @@ put_back_runs-requires-clause-blocks c =
 pub put_back_presence-requires-clause-shape : goal.put_back_presence-requires-clause-shape
 put_back_presence-requires-clause-shape c =
     let t = c.self.inside in
-    ap (λ (s : ShapeContents). s.presence) c.self.invariant.shape ∙ sym (presence_shaped t.table.nodes (set_contents t.set).script t.presence c.self.invariant.presence)
+    ap (λ (s : ShapeContents). s.presence) c.self.invariant.lazy.shape ∙ sym (presence_shaped t.table.nodes (set_contents t.set).script t.presence c.self.invariant.presence)
 
 pub put_back_presence-requires-clause-block : goal.put_back_presence-requires-clause-block
 put_back_presence-requires-clause-block c =
     let t = c.self.inside in
     let set = set_contents t.set in
     let for_it : IsKeptFor (shape_of set) c.args.kept.now = subst (λ (s : ShapeContents). IsKeptFor s c.args.kept.now) (sym (ap (λ (r : CourseSeen). shape_of r.set) c.self.view_is)) c.requires in
-    let same : t.shape.presence ≡ c.args.kept.now.presence = ap (λ (s : ShapeContents). s.presence) c.self.invariant.shape ∙ sym for_it.presence in
+    let same : t.shape.shape.presence ≡ c.args.kept.now.presence = ap (λ (s : ShapeContents). s.presence) c.self.invariant.lazy.shape ∙ sym for_it.presence in
     subst (λ (p : Option PresenceShape). IfSome p (HasDisplay c.blocks-display.result.0.now c.blocks-display.result.2)) (sym same) c.blocks-display.ensures.shows
 
 pub invariant_of-self : goal.invariant_of-self
@@ -92,8 +92,8 @@ invariant_of-self c =
     record {
       script = inv.script;
       limits = inv.limits;
-      shape = inv.shape;
-      usable = inv.usable;
+      lazy = inv.lazy;
+      names = subst (λ (ns : List Node). length ns ≤ t.shape.room) (sym takes.pool.0) inv.names;
       room = inv.room;
       over = over_taken set t.table table inv.over kept for_it takes;
       runs = subst (λ (rs : List ItemRun). AreItemRuns table.nodes set.items rs) (sym same) (subst (λ (ns : List Node). AreItemRuns ns set.items news) (sym takes.pool.0) after);

@@ -1,4 +1,4 @@
-use Rattle.std.proofs.Common.{◌≡◌, ◌<◌, true, false, None, Option, List, length, map, slice_index_or, refl, sym, ◌∙◌, ap, subst, arith}
+use Rattle.std.proofs.Common.{◌≡◌, ◌<◌, ◌≤◌, true, false, None, Option, List, length, map, slice_index_or, refl, sym, ◌∙◌, ap, subst, arith}
 use Rattle.std.specs.Vec.{with_items}
 use Rattle.std.proofs.lemmas.List.{with_items_is, length-map}
 use Rattle.ra_indirect.specs.declared.node.Node.{Node}
@@ -22,6 +22,7 @@ use Rattle.ra_items.specs.Shapes.{run_shape}
 use Rattle.ra_items.proofs.RestoredRuns.{items_have, display_has}
 use Rattle.ra_items.proofs.ShapeLemmas.{runs_shaped}
 use Rattle.ra_runtime.proofs.LaidShapes.{presence_shaped}
+use Rattle.ra_runtime.proofs.LazyNames.{FitNumbers, course_made, numbers_fit}
 use Rattle.ra_meaning.proofs.Openings.Snapshots.{script_has_lines}
 use Rattle.ra_runtime.proofs.CurrentLemmas.{current_agrees}
 use Rattle.ra_runtime.proofs.TakenUp.{over_restored, marked_restored, kept_restored}
@@ -40,61 +41,93 @@ none_came same = cc
 pub read-requires-clause-accepted : goal.read-requires-clause-accepted
 read-requires-clause-accepted c =
     let seen = ap (λ (r : CourseSeen). shape_of r.set) c.self.view_is in
-    subst (λ (s : ShapeContents). IsAccepted s c.args.bytes.now) (sym (c.self.invariant.shape ∙ seen)) c.requires
+    let made = course_made c.self.inside c.self.invariant c.make.new.self c.make.ensures in
+    subst (λ (s : ShapeContents). IsAccepted s c.args.bytes.now) (sym (made.whole_now.same ∙ seen)) c.requires
+
+pub read-requires-clause-usable : goal.read-requires-clause-usable
+read-requires-clause-usable c =
+    (course_made c.self.inside c.self.invariant c.make.new.self c.make.ensures).whole_now.usable
+
+pub read-requires-clause-room : goal.read-requires-clause-room
+read-requires-clause-room c =
+    let t = c.self.inside in
+    let made = course_made c.self.inside c.self.invariant c.make.new.self c.make.ensures in
+    subst (λ (s : ShapeContents). IsRoom s t.said) (sym made.whole_now.same) c.self.invariant.room
+
+-- the numbers that are taken up fit the table
+fit : (c : goal.After-deref-2) → FitNumbers c.self.inside.table c.read.new.self.cells.items c.read.new.self.priors.items
+fit c = numbers_fit c.self.inside c.self.invariant c.make.new.self (course_made c.self.inside c.self.invariant c.make.new.self c.make.ensures) c.read.new.self c.read.ensures.room
+
+pub take_numbers-requires-clause-cells : goal.take_numbers-requires-clause-cells
+take_numbers-requires-clause-cells c = ap length c.deref.ensures.value ∙ (fit c).cells_many
+
+pub take_numbers-requires-clause-priors : goal.take_numbers-requires-clause-priors
+take_numbers-requires-clause-priors c = ap length c.deref-2.ensures.value ∙ (fit c).priors_many
+
+pub take_numbers-requires-clause-few_cells : goal.take_numbers-requires-clause-few_cells
+take_numbers-requires-clause-few_cells c = omega (arith, ap length c.deref.ensures.value, (fit c).few_cells)
+
+pub take_numbers-requires-clause-few_priors : goal.take_numbers-requires-clause-few_priors
+take_numbers-requires-clause-few_priors c = omega (arith, ap length c.deref-2.ensures.value, (fit c).few_priors)
 
 pub put_back_runs-requires-clause-many : goal.put_back_runs-requires-clause-many
 put_back_runs-requires-clause-many c =
     let t = c.self.inside in
-    let shape = shape_contents t.shape in
     let inv = c.self.invariant in
+    let made = course_made c.self.inside c.self.invariant c.make.new.self c.make.ensures in
+    let shape = shape_contents c.make.new.self.shape in
     let shaped = runs_shaped t.table.nodes (set_contents t.set).items t.runs.items inv.runs in
-    let runs : length t.runs.items ≡ length shape.items = sym (length-map t.runs.items run_shape) ∙ ap length shaped ∙ ap (λ (s : ShapeContents). length s.items) (sym inv.shape) in
-    omega (arith, ap length c.deref_mut.ensures.value, ap length c.deref-3.ensures.value, runs, c.read.ensures.room.places, own_count shape inv.usable.searchable.paired)
+    let runs : length t.runs.items ≡ length shape.items = sym (length-map t.runs.items run_shape) ∙ ap length shaped ∙ ap (λ (s : ShapeContents). length s.items) (sym made.whole_now.same) in
+    omega (arith, ap length c.deref_mut.ensures.value, ap length c.deref-3.ensures.value, runs, c.read.ensures.room.places, own_count shape made.whole_now.usable.searchable.paired)
 
 pub put_back_runs-requires-clause-blocks : goal.put_back_runs-requires-clause-blocks
 put_back_runs-requires-clause-blocks c =
     let t = c.self.inside in
-    let shape = shape_contents t.shape in
     let inv = c.self.invariant in
+    let made = course_made c.self.inside c.self.invariant c.make.new.self c.make.ensures in
+    let shape = shape_contents c.make.new.self.shape in
     let bytes = c.args.bytes.now in
     let seen = ap (λ (r : CourseSeen). shape_of r.set) c.self.view_is in
-    let accepted : IsAccepted shape bytes = subst (λ (s : ShapeContents). IsAccepted s bytes) (sym (inv.shape ∙ seen)) c.requires in
-    let shaped : map run_shape t.runs.items ≡ shape.items = runs_shaped t.table.nodes (set_contents t.set).items t.runs.items inv.runs ∙ ap (λ (s : ShapeContents). s.items) (sym inv.shape) in
+    let accepted : IsAccepted shape bytes = subst (λ (s : ShapeContents). IsAccepted s bytes) (sym (made.whole_now.same ∙ seen)) c.requires in
+    let shaped : map run_shape t.runs.items ≡ shape.items = runs_shaped t.table.nodes (set_contents t.set).items t.runs.items inv.runs ∙ ap (λ (s : ShapeContents). s.items) (sym made.whole_now.same) in
     let same : map run_shape c.deref_mut.result.now ≡ shape.items = ap (map run_shape) c.deref_mut.ensures.value ∙ shaped in
     let places = c.deref-3.ensures.value ∙ c.read.ensures.says.places in
     λ k d less.
     let below : k < length shape.items = omega (arith, less, ap length same, length-map c.deref_mut.result.now run_shape) in
-    rw (places, same) (items_have shape bytes inv.usable.searchable.paired accepted k d below)
+    rw (places, same) (items_have shape bytes made.whole_now.usable.searchable.paired accepted k d below)
 
 pub put_back_presence-requires-clause-shape : goal.put_back_presence-requires-clause-shape
 put_back_presence-requires-clause-shape c =
     let t = c.self.inside in
-    ap (λ (s : ShapeContents). s.presence) c.self.invariant.shape ∙ sym (presence_shaped t.table.nodes (set_contents t.set).script t.presence c.self.invariant.presence)
+    let made = course_made c.self.inside c.self.invariant c.make.new.self c.make.ensures in
+    ap (λ (s : ShapeContents). s.presence) made.whole_now.same ∙ sym (presence_shaped t.table.nodes (set_contents t.set).script t.presence c.self.invariant.presence)
 
 pub put_back_presence-requires-clause-block : goal.put_back_presence-requires-clause-block
 put_back_presence-requires-clause-block c =
     let t = c.self.inside in
     let set = set_contents t.set in
-    let shape = shape_contents t.shape in
     let inv = c.self.invariant in
+    let made = course_made c.self.inside c.self.invariant c.make.new.self c.make.ensures in
+    let shape = shape_contents c.make.new.self.shape in
     let bytes = c.args.bytes.now in
     let seen = ap (λ (r : CourseSeen). shape_of r.set) c.self.view_is in
-    let accepted : IsAccepted shape bytes = subst (λ (s : ShapeContents). IsAccepted s bytes) (sym (inv.shape ∙ seen)) c.requires in
+    let accepted : IsAccepted shape bytes = subst (λ (s : ShapeContents). IsAccepted s bytes) (sym (made.whole_now.same ∙ seen)) c.requires in
     let shaped = runs_shaped t.table.nodes set.items t.runs.items inv.runs in
-    let many : c.len.result ≡ length shape.items = omega (arith, c.len.ensures, c.put_back_runs.auto.runs, c.deref_mut.ensures.len, length-map t.runs.items run_shape, ap length shaped, ap (λ (s : ShapeContents). length s.items) inv.shape) in
+    let many : c.len.result ≡ length shape.items = omega (arith, c.len.ensures, c.put_back_runs.auto.runs, c.deref_mut.ensures.len, length-map t.runs.items run_shape, ap length shaped, ap (λ (s : ShapeContents). length s.items) made.whole_now.same) in
     let place : c.place-display.result ≡ slice_index_or (own_places shape bytes) (length shape.items) None = c.place-display.ensures ∙ (λ i. slice_index_or (c.read.ensures.says.places i) (many i) None) in
-    if_some (HasDisplay bytes c.place-display.result) t.shape.presence
-    (λ p some. subst (λ (o : Option _). HasDisplay bytes o p) (sym place) (display_has shape bytes inv.usable.searchable.paired accepted p some (script_has_lines set inv.script p (sym (ap (λ (s : ShapeContents). s.presence) inv.shape) ∙ some))))
+    if_some (HasDisplay bytes c.place-display.result) c.make.new.self.shape.presence
+    (λ p some. subst (λ (o : Option _). HasDisplay bytes o p) (sym place) (display_has shape bytes made.whole_now.usable.searchable.paired accepted p some (script_has_lines set inv.script p (sym (ap (λ (s : ShapeContents). s.presence) made.whole_now.same) ∙ some))))
 
 pub invariant_of-self : goal.invariant_of-self
 invariant_of-self c =
     let t = c.self.inside in
     let set = set_contents t.set in
     let inv = c.self.invariant in
+    let made = course_made c.self.inside c.self.invariant c.make.new.self c.make.ensures in
     let table = c.take_numbers.new.table in
     let said = c.read.new.self in
     let news = c.put_back_runs.new.runs in
-    let room : IsRoom (shape_of set) said = subst (λ (s : ShapeContents). IsRoom s said) inv.shape c.read.ensures.room in
+    let room : IsRoom (shape_of set) said = subst (λ (s : ShapeContents). IsRoom s said) made.whole_now.same c.read.ensures.room in
     let takes : TakesNumbers t.table table said.cells.items said.priors.items = rw (c.deref.ensures.value, c.deref-2.ensures.value) at c.take_numbers.ensures in
     let same : (with_items t.runs news).items ≡ news = with_items_is t.runs news (c.put_back_runs.auto.runs ∙ c.deref_mut.ensures.len) in
     let before : AreItemRuns t.table.nodes set.items c.deref_mut.result.now = subst (λ (rs : List ItemRun). AreItemRuns t.table.nodes set.items rs) (sym c.deref_mut.ensures.value) inv.runs in
@@ -102,9 +135,9 @@ invariant_of-self c =
     record {
       script = inv.script;
       limits = inv.limits;
-      shape = inv.shape;
-      usable = inv.usable;
-      room = c.read.ensures.room;
+      lazy = made.lazy;
+      names = subst (λ (ns : List Node). length ns ≤ c.make.new.self.room) (sym takes.pool.0) (subst (λ n. length t.table.nodes ≤ n) (sym made.room) inv.names);
+      room = room;
       over = over_restored set t.table table inv.over c.args.bytes.now said room takes;
       runs = subst (λ (rs : List ItemRun). AreItemRuns table.nodes set.items rs) (sym same) (subst (λ (ns : List Node). AreItemRuns ns set.items news) (sym takes.pool.0) after);
       rests = subst (λ (ns : List Node). AreRests ns table.values set.items (with_items t.runs news).items c.forget.new.self) (sym takes.pool.0)
@@ -123,13 +156,14 @@ returns-clause-taken c =
     let t = c.self.inside in
     let set = set_contents t.set in
     let inv = c.self.invariant in
+    let made = course_made c.self.inside c.self.invariant c.make.new.self c.make.ensures in
     let table = c.take_numbers.new.table in
     let said = c.read.new.self in
     let news = c.put_back_runs.new.runs in
     let display = c.put_back_presence.new.run in
     let bytes = c.args.bytes.now in
-    let room : IsRoom (shape_of set) said = subst (λ (s : ShapeContents). IsRoom s said) inv.shape c.read.ensures.room in
-    let says : Says (shape_of set) bytes said = subst (λ (s : ShapeContents). Says s bytes said) inv.shape c.read.ensures.says in
+    let room : IsRoom (shape_of set) said = subst (λ (s : ShapeContents). IsRoom s said) made.whole_now.same c.read.ensures.room in
+    let says : Says (shape_of set) bytes said = subst (λ (s : ShapeContents). Says s bytes said) made.whole_now.same c.read.ensures.says in
     let takes : TakesNumbers t.table table said.cells.items said.priors.items = rw (c.deref.ensures.value, c.deref-2.ensures.value) at c.take_numbers.ensures in
     let same : (with_items t.runs news).items ≡ news = with_items_is t.runs news (c.put_back_runs.auto.runs ∙ c.deref_mut.ensures.len) in
     let kept = rw (c.deref_mut.ensures.value, c.deref-3.ensures.value) at c.put_back_runs.ensures.kept in
@@ -153,8 +187,9 @@ returns-clause-current c =
     let t = c.self.inside in
     let set = set_contents t.set in
     let inv = c.self.invariant in
+    let made = course_made c.self.inside c.self.invariant c.make.new.self c.make.ensures in
     let table = c.take_numbers.new.table in
     let said = c.read.new.self in
-    let room : IsRoom (shape_of set) said = subst (λ (s : ShapeContents). IsRoom s said) inv.shape c.read.ensures.room in
+    let room : IsRoom (shape_of set) said = subst (λ (s : ShapeContents). IsRoom s said) made.whole_now.same c.read.ensures.room in
     let takes : TakesNumbers t.table table said.cells.items said.priors.items = rw (c.deref.ensures.value, c.deref-2.ensures.value) at c.take_numbers.ensures in
     λ image. current_agrees set table image (over_restored set t.table table inv.over c.args.bytes.now said room takes) (Agrees-marked table image _ takes.marked)

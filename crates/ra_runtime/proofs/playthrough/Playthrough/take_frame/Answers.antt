@@ -1,5 +1,5 @@
 use Rattle.std.proofs.Common.{arith, refl}
-use Rattle.ra_runtime.proofs.runtime.Runtime.take_frame.Goals as goal
+use Rattle.ra_runtime.proofs.playthrough.Playthrough.take_frame.Goals as goal
 
 pub returns-clause-reads : goal.returns-clause-reads
 returns-clause-reads g c = rw (← c.self.view_is) (record {

@@ -1,7 +1,7 @@
 use Rattle.std.proofs.Common.{◌∙◌, sym, subst}
 use Rattle.ra_runtime.specs.Courses.{CourseSeen, over, IsCurrent}
 use Rattle.ra_runtime.proofs.Results.{on_ok, either}
-use Rattle.ra_runtime.proofs.runtime.Runtime.restore.Goals as goal
+use Rattle.ra_runtime.proofs.playthrough.Playthrough.restore.Goals as goal
 
 pub invariant_of-self : goal.invariant_of-self
 invariant_of-self c =

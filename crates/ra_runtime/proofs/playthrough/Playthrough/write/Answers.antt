@@ -5,7 +5,7 @@ use Rattle.ra_memref.specs.Table.{DifferWithin}
 use Rattle.ra_memref.proofs.AgreeLemmas.{DifferWithin-written}
 use Rattle.ra_meaning.specs.Runtime.{RuntimeSeen}
 use Rattle.ra_runtime.specs.Courses.{CourseSeen}
-use Rattle.ra_runtime.proofs.runtime.Runtime.write.Goals as goal
+use Rattle.ra_runtime.proofs.playthrough.Playthrough.write.Goals as goal
 
 holds_by : {T E P : Type 0} (r : Result T E) → OnOk r P → (IsErr r → ⊥) → P
 holds_by (Ok x) h fine = h

@@ -1,6 +1,6 @@
 use Rattle.std.proofs.Common.{◌∙◌, ap, sym, length}
 use Rattle.std.proofs.lemmas.List.{length-replicate}
-use Rattle.ra_runtime.proofs.runtime.Runtime.new.Goals as goal
+use Rattle.ra_runtime.proofs.playthrough.Playthrough.new.Goals as goal
 
 pub invariant_of-result : goal.invariant_of-result
 invariant_of-result c = record {
