@@ -10,7 +10,6 @@ mod outcome;
 mod pass;
 mod reads;
 mod settled;
-mod shown;
 mod standing;
 mod tally;
 mod visit;

@@ -11,7 +11,6 @@ ghost use Rattle.ra_group.specs.OutcomeLaws.{NoneMeasured};
 use crate::form::Form;
 use crate::outcome::Outcome;
 use crate::reads::Reads;
-use crate::shown::Shown;
 use crate::visit::Pass;
 use ra_condition::{Condition, Group};
 
@@ -73,14 +72,9 @@ fn in_text_order(
     ensures outcome { result ≡ outcome_of form (frame_of conditions.now truths.now lefts.now hits.old) }
     ensures next { hits.new ≡ next_hits (frame_of conditions.now truths.now lefts.now hits.old) }
 {
-    let mut pass = Pass::new();
+    let mut pass = Pass::new(form);
     for (place, condition) in conditions.iter().enumerate() {
-        let shown = Shown {
-            truth: truths[place],
-            left: lefts[place],
-            hits: hits[place],
-        };
-        let next = pass.visit(form, condition, shown);
+        let next = pass.visit(condition, truths[place], lefts[place], hits[place]);
         hits[place] = next;
     }
     pass.tally.outcome()
@@ -111,18 +105,13 @@ fn in_pass_order(
         lefts,
     } = *reads;
     let pauses = pauses[0] as usize;
-    let mut pass = Pass::new();
+    let mut pass = Pass::new(form);
     for turn in 0..orders.len() {
         let place = orders[turn] as usize;
         // Past the pause chains it is known whether the group is paused, and then its hits stay.
         let frozen = pass.tally.paused && turn >= pauses;
         let condition = &conditions[place];
-        let shown = Shown {
-            truth: truths[place],
-            left: lefts[place],
-            hits: hits[place],
-        };
-        let next = pass.visit_any(form, condition, shown);
+        let next = pass.visit_any(condition, truths[place], lefts[place], hits[place]);
         if !frozen {
             hits[place] = next;
         }

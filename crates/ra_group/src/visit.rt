@@ -7,13 +7,14 @@ ghost use Rattle.ra_group.specs.Tallies.{StandsPlain, noted, no_tally};
 use crate::equations::hits_after;
 use crate::form::Form;
 use crate::settled::Settled;
-use crate::shown::Shown;
 use crate::tally::Tally;
 use ra_condition::{Condition, Flag};
 
 /// What a pass over a group carries from condition to condition.
 #[derive(Drop)]
 pub struct Pass {
+    /// What the group is stepped in.
+    pub form: Form,
     /// What the next condition sees before it in its chain.
     pub before: Option<Settled>,
     /// What the conditions visited so far say together.
@@ -22,11 +23,13 @@ pub struct Pass {
 
 impl Pass {
     /// Before the first condition.
-    pub fn new() -> Self
+    pub fn new(form: Form) -> Self
+        ensures form { result.form ≡ form }
         ensures before { result.before ≡ None }
         ensures tally { result.tally ≡ no_tally }
     {
         Pass {
+            form,
             before: None,
             tally: Tally::new(),
         }
@@ -34,20 +37,21 @@ impl Pass {
 
     /// Visits one condition more as `visit_any` does. Most are plain ones without a target, and alone.
     // The inner loop of most groups: what is seldom stands in `visit_any`.
-    pub fn visit(&mut self, form: Form, condition: &Condition, shown: Shown) -> u32
+    pub fn visit(&mut self, condition: &Condition, truth: bool, left: u32, hits: u32) -> u32
         requires { AddWithin (2 ^ 65) self.old.before }
         ensures carries { self.new.before ≡ seen_after condition.now
-            (settled condition.now shown.truth shown.hits self.old.before) self.old.before }
-        ensures tallies { self.new.tally ≡ noted form condition.now
-            (settled condition.now shown.truth shown.hits self.old.before) shown.left self.old.tally }
-        ensures hits { result ≡ (if hands_on condition.now.flag then shown.hits
-            else (settled condition.now shown.truth shown.hits self.old.before).hit) }
+            (settled condition.now truth hits self.old.before) self.old.before }
+        ensures tallies { self.new.tally ≡ noted self.old.form condition.now
+            (settled condition.now truth hits self.old.before) left self.old.tally }
+        ensures hits { result ≡ (if hands_on condition.now.flag then hits
+            else (settled condition.now truth hits self.old.before).hit) }
+        ensures form { self.new.form ≡ self.old.form }
     {
         if self.is_plain(condition) {
-            self.tally.want(shown.truth);
-            hits_after(false, shown.truth, 0, shown.hits)
+            self.tally.want(truth);
+            hits_after(false, truth, 0, hits)
         } else {
-            self.visit_any(form, condition, shown)
+            self.visit_any(condition, truth, left, hits)
         }
     }
 
@@ -60,23 +64,24 @@ impl Pass {
 
     /// Visits one condition more, and gives its hits after the frame. Those of a condition that only
     /// hands a value on stay.
-    pub fn visit_any(&mut self, form: Form, condition: &Condition, shown: Shown) -> u32
+    pub fn visit_any(&mut self, condition: &Condition, truth: bool, left: u32, hits: u32) -> u32
         requires { AddWithin (2 ^ 65) self.old.before }
         ensures carries { self.new.before ≡ seen_after condition.now
-            (settled condition.now shown.truth shown.hits self.old.before) self.old.before }
-        ensures tallies { self.new.tally ≡ noted form condition.now
-            (settled condition.now shown.truth shown.hits self.old.before) shown.left self.old.tally }
-        ensures hits { result ≡ (if hands_on condition.now.flag then shown.hits
-            else (settled condition.now shown.truth shown.hits self.old.before).hit) }
+            (settled condition.now truth hits self.old.before) self.old.before }
+        ensures tallies { self.new.tally ≡ noted self.old.form condition.now
+            (settled condition.now truth hits self.old.before) left self.old.tally }
+        ensures hits { result ≡ (if hands_on condition.now.flag then hits
+            else (settled condition.now truth hits self.old.before).hit) }
+        ensures form { self.new.form ≡ self.old.form }
     {
         if condition.flag.hands_on() {
-            return shown.hits;
+            return hits;
         }
-        let settled = Settled::of(condition, shown.truth, shown.hits, self.before);
+        let settled = Settled::of(condition, truth, hits, self.before);
         if condition.flag.combines() {
             self.before = Some(settled);
         } else {
-            self.tally.note(form, condition, &settled, shown.left);
+            self.tally.note(self.form, condition, &settled, left);
             self.before = None;
         }
         settled.hit

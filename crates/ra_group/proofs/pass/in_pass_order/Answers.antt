@@ -3,6 +3,7 @@ use Rattle.std.proofs.lemmas.List.{take_all}
 use Rattle.std.proofs.lemmas.Bool.{cond-true, cond-false}
 use Rattle.ra_condition.proofs.OrderLemmas.{pausing, place_below}
 use Rattle.ra_group.specs.Equations.{Frame, frame_of}
+use Rattle.ra_group.specs.Outcome.{outcome_of}
 use Rattle.ra_group.proofs.PassLemmas.{HasPassed, passed_outcome, passed_hits}
 use Rattle.ra_group.proofs.TurnLemmas.{IsVisited, turn_bound, turn_visited}
 use Rattle.ra_group.proofs.pass.in_pass_order.Goals as goal
@@ -27,7 +28,7 @@ pub visit_any-next-requires : goal.visit_any-next-requires
 visit_any-next-requires c =
     let f : Frame = frame_of c.args.conditions.now c.args.reads.now.truths.now c.args.reads.now.lefts.now c.args.hits.now in
     let fits = c.type_inv.orders c.loop-turn.turn in
-    turn_bound c.args.form f c.args.reads.now.orders.now c.loop-turn.turn c.requires.order c.loop-turn-test.true c.loop-turn.pass.before c.loop-turn.pass.tally c.loop-turn.hits c.loop-turn.invariant.small (omega arith) c.loop-turn.invariant.passed
+    turn_bound c.loop-turn.pass.form f c.args.reads.now.orders.now c.loop-turn.turn c.requires.order c.loop-turn-test.true c.loop-turn.pass.before c.loop-turn.pass.tally c.loop-turn.hits c.loop-turn.invariant.small (omega arith) c.loop-turn.invariant.passed
 
 -- whether the turn leaves the hits, and which hits it leaves
 frozen_paused : (frozen paused late : Bool) → paused ≡ true → frozen ≡ late → frozen ≡ (paused && late)
@@ -53,13 +54,14 @@ loop-turn-preserved c =
       | then-not-frozen w ↦ w.hits-is ∙ sym (cond-false _ _ _ w.if-not-frozen.true)
       | else-not-frozen w ↦ w.hits-is ∙ sym (cond-true _ _ _ w.if-not-frozen.false)
     ] in
-    let visited : IsVisited c.args.form f place c.if-pass.frozen c.loop-turn.pass.before c.visit_any-next.new.self.before c.loop-turn.pass.tally c.visit_any-next.new.self.tally c.loop-turn.hits c.if-not-frozen.hits = record {
+    let visited : IsVisited c.loop-turn.pass.form f place c.if-pass.frozen c.loop-turn.pass.before c.visit_any-next.new.self.before c.loop-turn.pass.tally c.visit_any-next.new.self.tally c.loop-turn.hits c.if-not-frozen.hits = record {
       carries = c.visit_any-next.ensures.carries;
       tallies = c.visit_any-next.ensures.tallies;
       writes = is_hits ∙ ap (λ n. cond c.if-pass.frozen c.loop-turn.hits (set c.loop-turn.hits place n)) c.visit_any-next.ensures.hits;
     } in
     record {
-      passed = turn_visited c.args.form f c.args.reads.now.orders.now turn c.requires.order c.loop-turn-test.true c.if-pass.frozen c.loop-turn.pass.before c.visit_any-next.new.self.before c.loop-turn.pass.tally c.visit_any-next.new.self.tally c.loop-turn.hits c.if-not-frozen.hits (omega arith) is_frozen visited c.loop-turn.invariant.passed;
+      passed = rw c.visit_any-next.ensures.form (turn_visited c.loop-turn.pass.form f c.args.reads.now.orders.now turn c.requires.order c.loop-turn-test.true c.if-pass.frozen c.loop-turn.pass.before c.visit_any-next.new.self.before c.loop-turn.pass.tally c.visit_any-next.new.self.tally c.loop-turn.hits c.if-not-frozen.hits (omega arith) is_frozen visited c.loop-turn.invariant.passed);
+      form = c.visit_any-next.ensures.form ∙ c.loop-turn.invariant.form;
       small = c.loop-turn.invariant.small;
     }
 
@@ -67,12 +69,12 @@ pub returns-clause-outcome : goal.returns-clause-outcome
 returns-clause-outcome c =
     let f : Frame = frame_of c.args.conditions.now c.args.reads.now.truths.now c.args.reads.now.lefts.now c.args.hits.now in
     let all = take_all c.loop-turn.turn c.args.reads.now.orders.now (omega arith) ∙ c.requires.order in
-    let passed = subst (λ (js : List ℕ). HasPassed c.args.form f js c.loop-turn.pass.before c.loop-turn.pass.tally c.loop-turn.hits) all c.loop-turn.invariant.passed in
-    c.outcome.ensures ∙ passed_outcome c.args.form f c.loop-turn.pass.before c.loop-turn.pass.tally c.loop-turn.hits passed
+    let passed = subst (λ (js : List ℕ). HasPassed c.loop-turn.pass.form f js c.loop-turn.pass.before c.loop-turn.pass.tally c.loop-turn.hits) all c.loop-turn.invariant.passed in
+    c.outcome.ensures ∙ passed_outcome c.loop-turn.pass.form f c.loop-turn.pass.before c.loop-turn.pass.tally c.loop-turn.hits passed ∙ ap (λ m. outcome_of m f) (c.loop-turn.invariant.form ∙ c.new-pass.ensures.form)
 
 pub returns-clause-next : goal.returns-clause-next
 returns-clause-next c =
     let f : Frame = frame_of c.args.conditions.now c.args.reads.now.truths.now c.args.reads.now.lefts.now c.args.hits.now in
     let all = take_all c.loop-turn.turn c.args.reads.now.orders.now (omega arith) ∙ c.requires.order in
-    let passed = subst (λ (js : List ℕ). HasPassed c.args.form f js c.loop-turn.pass.before c.loop-turn.pass.tally c.loop-turn.hits) all c.loop-turn.invariant.passed in
-    passed_hits c.args.form f c.loop-turn.pass.before c.loop-turn.pass.tally c.loop-turn.hits (omega arith) passed
+    let passed = subst (λ (js : List ℕ). HasPassed c.loop-turn.pass.form f js c.loop-turn.pass.before c.loop-turn.pass.tally c.loop-turn.hits) all c.loop-turn.invariant.passed in
+    passed_hits c.loop-turn.pass.form f c.loop-turn.pass.before c.loop-turn.pass.tally c.loop-turn.hits (omega arith) passed

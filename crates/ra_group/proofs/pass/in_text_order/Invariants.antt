@@ -1,4 +1,4 @@
-use Rattle.std.proofs.Common.{ℕ, ◌^◌, ◌<◌, take, get_or}
+use Rattle.std.proofs.Common.{ℕ, ◌≡◌, ◌^◌, ◌<◌, take, get_or}
 use Rattle.ra_condition.specs.Chains.{pass_order}
 use Rattle.ra_group.specs.Equations.{frame_of}
 use Rattle.ra_group.proofs.PassLemmas.{HasPassed}
@@ -7,6 +7,7 @@ use Rattle.ra_group.proofs.pass.in_text_order.Given as goal
 -- the pass has gone as far as the place
 abbrev pub invariant-loop-place : goal.invariant-loop-place
 invariant-loop-place l = record {
-  passed : HasPassed l.form (frame_of l.conditions l.truths l.lefts l.initial.hits) (take l.place (pass_order l.conditions)) l.pass.before l.pass.tally l.hits;
+  passed : HasPassed l.pass.form (frame_of l.conditions l.truths l.lefts l.initial.hits) (take l.place (pass_order l.conditions)) l.pass.before l.pass.tally l.hits;
+  form : l.pass.form ≡ l.initial.pass.form;
   small : (k : ℕ) → get_or l.initial.hits k 0 < 2 ^ 32;
 }
