@@ -13,7 +13,7 @@ use Rattle.ra_set.specs.declared.read_file.ReadFile.{ReadFile}
 use Rattle.ra_set.specs.declared.refused.Which.TheVariants.{Bytes, Items, Conditions, Macros, Lookup}
 use Rattle.ra_set.specs.declared.refused.SetRefused.{SetRefused}
 use Rattle.ra_set.specs.declared.refused.SetRefused.TheVariants.{Syntax, DuplicateId, Limit, Memory}
-use Rattle.ra_set.specs.Accepted.{IsSet, repeats}
+use Rattle.ra_set.specs.Accepted.{IsSet, named_by, repeats}
 use Rattle.ra_set.specs.Contents.{ItemContents, SetContents, item_contents}
 use Rattle.ra_set.specs.Grammar.{Line, FileContents, items_of}
 use Rattle.ra_set.specs.Limits.{KeepsLimits, PassesLimit, item_conditions}
@@ -178,6 +178,17 @@ pub record HasNames (file digest : List ℕ) (item_names : List (List ℕ)) (scr
   pub digest_is : digest ≡ md5 file
   pub items_are : item_names ≡ map md5 (item_texts file)
   pub script_is : script_name ≡ option_map md5 (script_text file)
+
+-- a set that these name is that of the file
+pub named-set : (file : List ℕ) (set : SetContents) (digest : List ℕ) (item_names : List (List ℕ))
+    (script_name : Option (List ℕ)) → HasNames file digest item_names script_name → IsSet file (named_by file set)
+    → IsSet file (record set { digest = digest; item_names = item_names; script_name = script_name })
+named-set file set digest item_names script_name names is =
+    subst (λ x. IsSet file (record set { digest = x; item_names = item_names; script_name = script_name }))
+    (sym names.digest_is)
+    (subst (λ x. IsSet file (record set { digest = md5 file; item_names = x; script_name = script_name }))
+    (sym names.items_are)
+    (subst (λ x. IsSet file (record (named_by file set) { script_name = x })) (sym names.script_is) is))
 
 -- a set of what was read, with a script
 abbrev pub set_of : ReadFile → (digest : List ℕ) (item_names : List (List ℕ)) (script_name : Option (List ℕ))

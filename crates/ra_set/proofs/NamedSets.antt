@@ -1,14 +1,15 @@
 -- A set has a name for each item, and one for its script where there is one.
-use Rattle.std.proofs.Common.{◌∙◌, ℕ, List, length, map, get_or, Option, Some, None, option_map, sym, ap, subst, subst₂}
+use Rattle.std.proofs.Common.{◌∙◌, ℕ, List, length, map, get_or, Option, Some, None, option_map, refl, sym, ap, subst, subst₂}
 use Rattle.std.specs.Prelude.{All}
 use Rattle.std.proofs.lemmas.List.{length-map}
 use Rattle.std.proofs.lemmas.List.Elements.{All-map}
 use Rattle.md5.specs.Md5.{md5}
 use Rattle.md5.proofs.StandardFacts.{length-md5}
+use Rattle.ra_richpresence.specs.Contents.{ScriptContents}
 use Rattle.ra_richpresence.specs.Grammar.{ScriptParts, script_of}
 use Rattle.ra_set.specs.Accepted.{IsSet}
 use Rattle.ra_set.specs.Contents.{SetContents}
-use Rattle.ra_set.specs.Names.{IsName, IsNamed, IsScriptText, NamesScript}
+use Rattle.ra_set.specs.Names.{HasZeroNames, IsName, IsNamed, IsScriptText, NamesScript, zero_name}
 use Rattle.ra_set.specs.Texts.{item_texts, script_text}
 use Rattle.ra_set.proofs.ItemTexts.{texts-spelled}
 
@@ -31,4 +32,17 @@ set-named file set s = let told = texts-spelled file s.spelled.contents s.spelle
   items = subst (All IsName) (sym s.item_names) (all-names (item_texts file));
   script = subst₂ NamesScript (sym s.script_name) (sym s.spelled.script)
       (script-named (script_text file) s.spelled.contents.script told.script);
+}
+
+-- zeros stand where a script does
+zeros-script : (script : Option ScriptContents) → NamesScript (option_map (λ script. zero_name) script) script
+zeros-script None = tt
+zeros-script (Some script) = refl
+
+-- and so is a set whose names are zeros
+pub zeros-named : (set : SetContents) → HasZeroNames set → IsNamed set
+zeros-named set zeros = record {
+  count = ap length zeros.items ∙ length-map set.items (λ item. zero_name);
+  items = subst (All IsName) (sym zeros.items) (All-map IsName (λ item. zero_name) set.items (λ k d less. refl));
+  script = subst (λ name. NamesScript name set.script) (sym zeros.script) (zeros-script set.script);
 }

@@ -22,3 +22,11 @@ pub record IsSet (file : List ℕ) (set : SetContents) : Type 0 where
   pub digest : set.digest ≡ md5 file
   pub item_names : set.item_names ≡ map md5 (item_texts file)
   pub script_name : set.script_name ≡ option_map md5 (script_text file)
+
+-- the set with the digest and the names of a file
+abbrev pub named_by : List ℕ → SetContents → SetContents
+named_by file set = record set {
+  digest = md5 file;
+  item_names = map md5 (item_texts file);
+  script_name = option_map md5 (script_text file);
+}

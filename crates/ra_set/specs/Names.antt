@@ -1,5 +1,5 @@
 -- Names of a set, and what the texts spell that they are taken of: docs/DEFINITIONS.md, "Names of items and scripts".
-use Rattle.std.specs.Prelude.{◌≡◌, ℕ, All, List, length, slice_get, Option, Some, None}
+use Rattle.std.specs.Prelude.{◌≡◌, ℕ, All, List, length, map, replicate, slice_get, Option, Some, None, option_map}
 use Rattle.ra_richpresence.specs.Contents.{ScriptContents}
 use Rattle.ra_richpresence.specs.Grammar.{ScriptParts, script_parts}
 use Rattle.ra_set.specs.Contents.{ItemContents, SetContents}
@@ -44,3 +44,13 @@ pub record IsNamed (set : SetContents) : Type 0 where
   pub count : length set.item_names ≡ length set.items
   pub items : All IsName set.item_names
   pub script : NamesScript set.script_name set.script
+
+-- sixteen zeros, in the place of a name
+abbrev pub zero_name : List ℕ
+zero_name = replicate 16 0
+
+-- the digest and each name of the set are zeros
+pub record HasZeroNames (set : SetContents) : Type 0 where
+  pub digest : set.digest ≡ zero_name
+  pub items : set.item_names ≡ map (λ item. zero_name) set.items
+  pub script : set.script_name ≡ option_map (λ script. zero_name) set.script

@@ -25,6 +25,6 @@ pub use counting::conditions;
 pub use item::Item;
 pub use laws::{item_lines, one_answer, one_file, spelled_sets};
 pub use limits::check_limits;
-pub use parse::parse_set;
+pub use parse::{parse_set, read_unnamed};
 pub use refused::{SetRefused, Which};
 pub use set::Set;
