@@ -7,6 +7,7 @@ pub mod PutLemmas
 pub mod ReadLemmas
 pub mod SaysLemmas
 pub mod RunLemmas
+pub mod Unnamed
 pub mod LoadLemmas
 pub mod EarnedLemmas
 pub mod ImportLemmas

@@ -58,7 +58,7 @@ pub set_read_of : (bytes file : List ℕ) (s : SetContents) → bytes ≡ take 4
 set_read_of bytes file s is set = subst (λ f. IsSet f s) (sym (read_all_of bytes file is set.size)) set
 
 -- endings of jobs that say the same end the same
-ends_same : (a b : Expected) (reads puts sink : Type 0) (ending : Ending) (old new : Option (List ℕ)) → a.pieces ≡ b.pieces → a.ending ≡ b.ending → a.puts_first ≡ b.puts_first → EndsBefore a reads puts sink ending old new → EndsBefore b reads puts sink ending old new
+pub ends_same : (a b : Expected) (reads puts sink : Type 0) (ending : Ending) (old new : Option (List ℕ)) → a.pieces ≡ b.pieces → a.ending ≡ b.ending → a.puts_first ≡ b.puts_first → EndsBefore a reads puts sink ending old new → EndsBefore b reads puts sink ending old new
 ends_same a b reads puts sink ending old new pieces end first before =
     subst (λ p. EndsBefore (record { pieces = p; ending = b.ending; saved = b.saved; puts_first = b.puts_first }) reads puts sink ending old new) pieces
     (subst (λ g. EndsBefore (record { pieces = a.pieces; ending = g; saved = b.saved; puts_first = b.puts_first }) reads puts sink ending old new) end

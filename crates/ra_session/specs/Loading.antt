@@ -1,7 +1,7 @@
 -- What a run begins with, and why it ends before its trace: docs/DEFINITIONS.md, "A run".
 use Rattle.std.specs.Prelude.{◌≡◌, ℕ, ⊤, ◌+◌, Option, None, Some, option_map, List, [], take}
 use Rattle.ra_memory.specs.Image.{History, AreBytes, AreImages}
-use Rattle.ra_set.specs.Accepted.{IsSet}
+use Rattle.ra_set.specs.Accepted.{IsSet, named_by}
 use Rattle.ra_set.specs.Contents.{SetContents, set_contents}
 use Rattle.ra_set.specs.Refusals.{Refuses}
 use Rattle.ra_progress.specs.declared.refused.ProgressRefused.{ProgressRefused}
@@ -63,6 +63,13 @@ pub record RefusesFile (set : SetContents) (content : List ℕ → Option (List 
 pub record IsTaken (file : Option (List ℕ)) (c : SetContents) : Type 0 where
   pub playable : IsPlayable c
   pub is_set : (bytes : List ℕ) → file ≡ Some bytes → IsSet bytes c
+
+-- What the file of a set tells of one that was accepted and read without its names: they are those of a text, which is
+-- what the file has.
+pub record IsTakenUnnamed (file : Option (List ℕ)) (c : SetContents) : Type 0 where
+  pub playable : IsPlayable c
+  pub text : List ℕ
+  pub taken : IsTaken file (named_by text c)
 
 -- why there is no set: memory ran out, a read of its file failed, or the file is refused, where its bytes are told
 abbrev pub HasNoSet : (file : Option (List ℕ)) → (rose : Type 0) → SetFailed → Type 0

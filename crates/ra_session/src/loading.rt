@@ -10,7 +10,7 @@ ghost use Rattle.ra_progress.specs.Reading.{refusal};
 ghost use Rattle.ra_memory.specs.Image.{AreBytes};
 ghost use Rattle.ra_meaning.specs.Order as order;
 ghost use Rattle.ra_session.specs.Expected.{progress_limit};
-ghost use Rattle.ra_session.specs.Loading.{AreAccepted, AreOfFile, HasNoProgress, HasNoSet, IsLoaded, IsNotLoaded, IsTaken, progress_in};
+ghost use Rattle.ra_session.specs.Loading.{AreAccepted, AreOfFile, HasNoProgress, HasNoSet, IsLoaded, IsNotLoaded, IsTaken, IsTakenUnnamed, progress_in};
 ghost use Rattle.ra_jobs.specs.Outside.{AnyRose};
 ghost use Rattle.ra_session.specs.Playing.{IsPlayable};
 ghost use Rattle.ra_args.specs.Words.{file_in};
@@ -22,7 +22,7 @@ use ra_io::Files;
 use ra_jobs::read_whole;
 use ra_progress::{ProgressRefused, Shape, check};
 use ra_runtime::shape_of;
-use ra_set::{Set, SetRefused, parse_set};
+use ra_set::{Set, SetRefused, parse_set, read_unnamed};
 use std::alloc::Global;
 
 /// A byte more than a set may have.
@@ -44,6 +44,21 @@ pub fn load_set<F: Files>(alloc: Global, name: &str, files: &mut F) -> Result<Se
 {
     let bytes = read_whole(alloc, name, SET_READ, files)?;
     match parse_set(alloc, bytes.as_slice()) {
+        Ok(set) => Ok(set),
+        Err(SetRefused::Memory) => Err(SetFailed::Memory),
+        Err(why) => Err(SetFailed::Refused(why)),
+    }
+}
+
+/// The set of a file, without its names, which a run needs only for progress files. No file changes.
+pub fn load_unnamed<F: Files>(alloc: Global, name: &str, files: &mut F) -> Result<Set, SetFailed>
+    ensures set { IfOk result (λ s. IsTakenUnnamed (F.content files.old name.now) (set_contents s)) }
+    ensures failed { IfErr result (HasNoSet (F.content files.old name.now) (Rose (F.read_faults files.old name.now) (F.read_faults files.new name.now))) }
+
+    ensures stays { OnlyRead F.content F.read_faults F.put_faults files.old files.new }
+{
+    let bytes = read_whole(alloc, name, SET_READ, files)?;
+    match read_unnamed(alloc, bytes.as_slice()) {
         Ok(set) => Ok(set),
         Err(SetRefused::Memory) => Err(SetFailed::Memory),
         Err(why) => Err(SetFailed::Refused(why)),
