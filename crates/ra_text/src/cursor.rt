@@ -120,6 +120,7 @@ impl<'a> Cursor<'a> {
     }
 
     /// Reads this letter, given in upper case, in either case, if it is next.
+    #[inline(always)]
     pub fn optional_letter(&mut self, upper: u8)
         requires { upper < 128 }
         ensures { optional_at (only_letters (upper ∷ [])) tt self.old.rest.now ≡ Ok (tt, self.new.rest.now) }
@@ -154,6 +155,7 @@ impl<'a> Cursor<'a> {
     /// Reads hexadecimal digits, as many as stand there: docs/DEFINITIONS.md, "Numbers in text".
     ///
     /// The number is at most 4294967295. `Stop` exactly where no digit is next.
+    #[inline(always)]
     pub fn hexadecimal(&mut self) -> Result<u32, Stop>
         ensures { Moves result self.new.rest.now (hexadecimal_at self.old.rest.now) }
     {
@@ -162,6 +164,7 @@ impl<'a> Cursor<'a> {
 
     // One or more digits, saturated.
     #[tactic(auto, unfolding(crate::specs::ReadingNumbers::saturated_at, crate::specs::ReadingNumbers::numeral_at))]
+    #[inline(always)]
     fn numeral(&mut self, base: Base) -> Result<u32, Stop>
         ensures { Moves result self.new.rest.now (saturated_at base self.old.rest.now) }
     {
@@ -170,6 +173,7 @@ impl<'a> Cursor<'a> {
     }
 
     // One digit.
+    #[inline(always)]
     fn digit(&mut self, base: Base) -> Result<u32, Stop>
         ensures { Moves result self.new.rest.now (one_at (digit_of base) self.old.rest.now) }
     {
@@ -183,17 +187,20 @@ impl<'a> Cursor<'a> {
     }
 
     // The number of a first digit and as many more as stand there, saturated.
+    #[inline(always)]
     fn digits_behind(&mut self, base: Base, first: u32) -> u32
         ensures { SumsDigits base first self.old.rest.now result self.new.rest.now }
     {
         let mut number = first;
-        while let [byte, after @ ..] = self.rest {
+        let mut rest = self.rest;
+        while let [byte, after @ ..] = rest {
             let Some(digit) = base.digit(*byte) else {
                 break;
             };
             number = number.saturating_mul(base.count()).saturating_add(digit);
-            self.rest = after;
+            rest = after;
         }
+        self.rest = rest;
         number
     }
 
@@ -202,6 +209,7 @@ impl<'a> Cursor<'a> {
     /// A negative number is at least -2147483648, and is given as two's complement of 32 bits.
     /// `Stop` exactly where no digit is next, after the sign if there is one.
     #[tactic(auto, unfolding(crate::specs::ReadingNumbers::signed_at))]
+    #[inline(always)]
     pub fn signed(&mut self) -> Result<u32, Stop>
         ensures { Moves result self.new.rest.now (signed_at self.old.rest.now) }
     {
