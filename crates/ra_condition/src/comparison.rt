@@ -8,6 +8,7 @@ use ra_text::{Cursor, Stop};
 
 // cmp
 #[tactic(auto, unfolding(crate::specs::Reading::comparison_at, crate::specs::Reading::unequal_or_ordered_at, crate::specs::Reading::less_or_greater_at))]
+#[inline(always)]
 pub fn take_comparison(cursor: &mut Cursor<'_>) -> Result<Op, Stop>
     ensures { Moves result cursor.new.rest.now (comparison_at cursor.old.rest.now) }
 {

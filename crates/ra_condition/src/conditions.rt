@@ -17,6 +17,7 @@ use ra_text::{Cursor, Stop};
 
 // cond, in a value vcond
 #[tactic(auto, unfolding(crate::specs::Reading::condition_at))]
+#[inline(always)]
 pub fn take_condition(cursor: &mut Cursor<'_>, setting: Setting) -> Result<Condition, Stop>
     ensures { Moves result cursor.new.rest.now (condition_at setting cursor.old.rest.now) }
 {
@@ -29,6 +30,7 @@ pub fn take_condition(cursor: &mut Cursor<'_>, setting: Setting) -> Result<Condi
 
 // flag ":" and what follows it
 #[tactic(auto, unfolding(crate::specs::Reading::flagged_at))]
+#[inline(never)]
 pub fn take_flagged(cursor: &mut Cursor<'_>, setting: Setting) -> Result<Condition, Stop>
     ensures { Moves result cursor.new.rest.now (flagged_at setting cursor.old.rest.now) }
 {
@@ -39,6 +41,7 @@ pub fn take_flagged(cursor: &mut Cursor<'_>, setting: Setting) -> Result<Conditi
 
 // A condition after its flag.
 #[tactic(auto, unfolding(crate::specs::Reading::unflagged_at))]
+#[inline(always)]
 fn take_unflagged(cursor: &mut Cursor<'_>, setting: Setting, flag: Flag) -> Result<Condition, Stop>
     ensures { Moves result cursor.new.rest.now (unflagged_at setting flag cursor.old.rest.now) }
 {
@@ -67,6 +70,7 @@ fn take_flag(cursor: &mut Cursor<'_>) -> Result<Flag, Stop>
 }
 
 // Whether a flag is next. The letters of flags that are prefixes of operands too need a colon.
+#[inline(always)]
 pub fn is_flag(text: &[u8]) -> bool
     ensures { result ≡ begins_flag text.now }
 {

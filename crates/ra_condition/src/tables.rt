@@ -9,6 +9,7 @@ use crate::setting::Setting;
 use ra_operand::Op;
 
 // The flag of a letter, in either case.
+#[inline(always)]
 pub fn flag_of(byte: u8) -> Option<Flag>
     ensures { result ≡ lookup flags byte }
 {

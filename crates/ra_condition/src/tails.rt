@@ -14,6 +14,7 @@ use ra_operand::{Op, take_operand};
 use ra_text::{Cursor, Stop};
 
 // What follows the left operand, by what the flag asks for.
+#[inline(always)]
 pub fn take_tail(cursor: &mut Cursor<'_>, hands_on: bool, stands_bare: bool) -> Result<Tail, Stop>
     ensures { Moves result cursor.new.rest.now (tail_at hands_on stands_bare cursor.old.rest.now) }
 {
@@ -28,6 +29,7 @@ pub fn take_tail(cursor: &mut Cursor<'_>, hands_on: bool, stands_bare: bool) -> 
 
 // [(cmp | arith) operand [target]], of which a comparison is ignored
 #[tactic(auto, unfolding(crate::specs::Reading::modified_at, crate::specs::Reading::computed_or_bare_at))]
+#[inline(never)]
 fn take_modified(cursor: &mut Cursor<'_>) -> Result<Tail, Stop>
     ensures { Moves result cursor.new.rest.now (modified_at cursor.old.rest.now) }
 {
@@ -42,6 +44,7 @@ fn take_modified(cursor: &mut Cursor<'_>) -> Result<Tail, Stop>
 
 // [cmp operand [target]]
 #[tactic(auto, unfolding(crate::specs::Reading::compared_or_bare_at))]
+#[inline(never)]
 fn take_compared_or_bare(cursor: &mut Cursor<'_>) -> Result<Tail, Stop>
     ensures { Moves result cursor.new.rest.now (compared_or_bare_at cursor.old.rest.now) }
 {
@@ -54,6 +57,7 @@ fn take_compared_or_bare(cursor: &mut Cursor<'_>) -> Result<Tail, Stop>
 
 // cmp operand [target]
 #[tactic(auto, unfolding(crate::specs::Reading::compared_at))]
+#[inline(always)]
 fn take_compared(cursor: &mut Cursor<'_>) -> Result<Tail, Stop>
     ensures { Moves result cursor.new.rest.now (compared_at cursor.old.rest.now) }
 {
@@ -122,6 +126,7 @@ fn is_operator(text: &[u8]) -> bool
 
 // [target], where none is 0
 #[tactic(auto, unfolding(crate::specs::Reading::target_at, crate::specs::Reading::bracketed_or_none_at, crate::specs::Reading::dotted_at, crate::specs::Reading::bracketed_at))]
+#[inline(always)]
 fn take_target(cursor: &mut Cursor<'_>) -> Result<u32, Stop>
     ensures { Moves result cursor.new.rest.now (target_at cursor.old.rest.now) }
 {
@@ -136,6 +141,7 @@ fn take_target(cursor: &mut Cursor<'_>) -> Result<u32, Stop>
 
 // A number between two bytes.
 #[tactic(auto, unfolding(crate::specs::Reading::between_at))]
+#[inline(never)]
 fn take_between(cursor: &mut Cursor<'_>, opening: u8, closing: u8) -> Result<u32, Stop>
     ensures { Moves result cursor.new.rest.now (between_at opening closing cursor.old.rest.now) }
 {

@@ -18,6 +18,7 @@ use ra_text::{Cursor, Stop};
 /// `Stop` exactly where what stands before the first byte that goes on with no operand is no whole
 /// operand; the cursor then stands before that byte.
 #[tactic(auto, unfolding(crate::specs::Reading::operand_at))]
+#[inline(always)]
 pub fn take_operand(cursor: &mut Cursor<'_>) -> Result<Operand, Stop>
     ensures { Moves result cursor.new.rest.now (operand_at cursor.old.rest.now) }
 {
@@ -30,6 +31,7 @@ pub fn take_operand(cursor: &mut Cursor<'_>) -> Result<Operand, Stop>
 
 // `{recall}`
 #[tactic(auto, unfolding(crate::specs::Reading::recall_at))]
+#[inline(never)]
 fn take_recall(cursor: &mut Cursor<'_>) -> Result<Operand, Stop>
     ensures { Moves result cursor.new.rest.now (recall_at cursor.old.rest.now) }
 {
@@ -39,6 +41,7 @@ fn take_recall(cursor: &mut Cursor<'_>) -> Result<Operand, Stop>
 
 // A 0 may begin either.
 #[tactic(auto, unfolding(crate::specs::Reading::cell_or_constant_at))]
+#[inline(always)]
 fn take_cell_or_constant(cursor: &mut Cursor<'_>) -> Result<Operand, Stop>
     ensures { Moves result cursor.new.rest.now (cell_or_constant_at cursor.old.rest.now) }
 {
@@ -50,6 +53,7 @@ fn take_cell_or_constant(cursor: &mut Cursor<'_>) -> Result<Operand, Stop>
 }
 
 // Whether memory begins here: with a prefix, or with `0x`.
+#[inline(always)]
 fn is_memory(text: &[u8]) -> bool
     ensures { result ≡ begins_memory text.now }
 {
@@ -67,6 +71,7 @@ fn is_memory(text: &[u8]) -> bool
 
 // [d | p | b | ~] 0x [size] hexnum
 #[tactic(auto, unfolding(crate::specs::Reading::memory_at))]
+#[inline(always)]
 fn take_memory(cursor: &mut Cursor<'_>) -> Result<Operand, Stop>
     ensures { Moves result cursor.new.rest.now (memory_at cursor.old.rest.now) }
 {
@@ -79,6 +84,7 @@ fn take_memory(cursor: &mut Cursor<'_>) -> Result<Operand, Stop>
 }
 
 // [d | p | b | ~]
+#[inline(always)]
 fn take_kind(cursor: &mut Cursor<'_>) -> Kind
     ensures { optional_at (lookup kinds) Kind.Mem cursor.old.rest.now ≡ Ok (result, cursor.new.rest.now) }
 {
@@ -92,6 +98,7 @@ fn take_kind(cursor: &mut Cursor<'_>) -> Kind
 }
 
 // [size]
+#[inline(always)]
 fn take_size(cursor: &mut Cursor<'_>) -> Size
     ensures { optional_at (lookup sizes) Size.Two cursor.old.rest.now ≡ Ok (result, cursor.new.rest.now) }
 {
@@ -106,6 +113,7 @@ fn take_size(cursor: &mut Cursor<'_>) -> Size
 
 // [v] h hexnum | [v] [+ | -] dec
 #[tactic(auto, unfolding(crate::specs::Reading::constant_at))]
+#[inline(always)]
 fn take_constant(cursor: &mut Cursor<'_>) -> Result<Operand, Stop>
     ensures { Moves result cursor.new.rest.now (constant_at cursor.old.rest.now) }
 {
@@ -115,6 +123,7 @@ fn take_constant(cursor: &mut Cursor<'_>) -> Result<Operand, Stop>
 
 // h hexnum | [+ | -] dec
 #[tactic(auto, unfolding(crate::specs::Reading::unsigned_at))]
+#[inline(always)]
 fn take_unsigned(cursor: &mut Cursor<'_>) -> Result<Operand, Stop>
     ensures { Moves result cursor.new.rest.now (unsigned_at cursor.old.rest.now) }
 {
@@ -127,6 +136,7 @@ fn take_unsigned(cursor: &mut Cursor<'_>) -> Result<Operand, Stop>
 
 // h hexnum
 #[tactic(auto, unfolding(crate::specs::Reading::hex_constant_at))]
+#[inline(never)]
 fn take_hex_constant(cursor: &mut Cursor<'_>) -> Result<Operand, Stop>
     ensures { Moves result cursor.new.rest.now (hex_constant_at cursor.old.rest.now) }
 {
@@ -136,6 +146,7 @@ fn take_hex_constant(cursor: &mut Cursor<'_>) -> Result<Operand, Stop>
 
 // [+ | -] dec
 #[tactic(auto, unfolding(crate::specs::Reading::decimal_constant_at))]
+#[inline(always)]
 fn take_decimal_constant(cursor: &mut Cursor<'_>) -> Result<Operand, Stop>
     ensures { Moves result cursor.new.rest.now (decimal_constant_at cursor.old.rest.now) }
 {

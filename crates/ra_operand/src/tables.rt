@@ -22,6 +22,7 @@ pub fn begins_operand(byte: u8) -> bool
 
 /// The kind of a prefix, in either case: docs/DEFINITIONS.md, "Operands". `None` for any other
 /// byte.
+#[inline(always)]
 pub fn kind_of(byte: u8) -> Option<Kind>
     ensures { result ≡ lookup kinds byte }
 {
@@ -35,6 +36,7 @@ pub fn kind_of(byte: u8) -> Option<Kind>
 }
 
 /// The size of a letter, in either case, or of the blank.
+#[inline(always)]
 pub fn size_of(byte: u8) -> Option<Size>
     ensures { result ≡ lookup sizes byte }
 {
