@@ -1,24 +1,28 @@
 -- What is kept of lines while they are read: the step between the code and docs/DEFINITIONS.md, "Set file" and "Repeated ids".
 use Rattle.std.specs.Prelude.{◌≡◌, ℕ, ◌+◌, ◌||◌, if◌then◌else◌, Bool, List, length, map, Option, Some, None, Result, Ok, Err}
-use Rattle.std.specs.BTreeSet.{contains}
 use Rattle.std.specs.List.{IsDistinct, list_any}
-use Rattle.std.specs.Ordering.{nat_cmp}
 use Rattle.ra_condition.specs.declared.fault.Fault.{Fault}
 use Rattle.ra_condition.specs.declared.fault.Fault.TheVariants.{Stop, Memory}
 use Rattle.ra_set.specs.declared.file_lines.FileLines.{FileLines}
 use Rattle.ra_set.specs.declared.ids.Ids.{Ids}
 use Rattle.ra_set.specs.declared.kept_lines.KeptLines.{KeptLines}
 use Rattle.ra_set.specs.declared.kept_lines.Repeat.{Repeat}
+use Rattle.ra_set.specs.declared.seen_ids.SeenIds.{SeenIds}
 use Rattle.ra_set.specs.Accepted.{repeats}
 use Rattle.ra_set.specs.Contents.{ItemContents, Unlocks, Ranks, item_contents}
 use Rattle.ra_set.specs.Grammar.{Line, items_of}
 use Rattle.ra_set.specs.Refusals.{FirstRepeat, id_of}
+use Rattle.ra_set.specs.Seen.{is_among}
 use Rattle.ra_text.specs.Reading.{Outcome}
+
+-- an id came
+abbrev pub is_seen : SeenIds → ℕ → Bool
+is_seen seen id = is_among seen.rising.items seen.earlier id
 
 -- the id of an item is among those of its letter
 abbrev pub has_id : Ids → ItemContents → Bool
-has_id ids (Unlocks id t) = contains nat_cmp ids.achievements id
-has_id ids (Ranks id format b) = contains nat_cmp ids.leaderboards id
+has_id ids (Unlocks id t) = is_seen ids.achievements id
+has_id ids (Ranks id format b) = is_seen ids.leaderboards id
 
 -- the first repeat is this one, or no line repeats an id
 abbrev pub TellsRepeat : Option Repeat → List Line → Type 0

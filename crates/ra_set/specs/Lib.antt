@@ -12,6 +12,7 @@ pub mod Reading
 pub mod Refusals
 pub mod Runs
 pub mod ScriptLimits
+pub mod Seen
 pub mod Spelled
 pub mod Texts
 pub mod Words

@@ -1,12 +1,12 @@
 use crate::item::Item;
+use crate::seen_ids::SeenIds;
 use std::alloc::{AllocFailed, Global};
-use std::collections::BTreeSet;
 
 /// The ids of items, those of each letter for themselves.
 #[derive(Drop)]
 pub struct Ids {
-    achievements: BTreeSet<u32>,
-    leaderboards: BTreeSet<u32>,
+    achievements: SeenIds,
+    leaderboards: SeenIds,
 }
 
 impl Ids {
@@ -20,8 +20,8 @@ impl Ids {
         ensures { (x : ItemContents) → has_id result x ≡ false }
     {
         Ids {
-            achievements: BTreeSet::new(alloc),
-            leaderboards: BTreeSet::new(alloc),
+            achievements: SeenIds::none(alloc),
+            leaderboards: SeenIds::none(alloc),
         }
     }
 
@@ -32,8 +32,8 @@ impl Ids {
             ((x : ItemContents) → has_id self.new x ≡ (repeats (item_contents item.now) x || has_id self.old x)) }
     {
         match item {
-            Item::Achievement { id, .. } => self.achievements.insert(*id),
-            Item::Leaderboard { id, .. } => self.leaderboards.insert(*id),
+            Item::Achievement { id, .. } => self.achievements.add(*id),
+            Item::Leaderboard { id, .. } => self.leaderboards.add(*id),
         }
     }
 }

@@ -18,6 +18,7 @@ mod read_file;
 mod refused;
 mod row;
 mod runs;
+mod seen_ids;
 mod set;
 
 pub use alone::read_line;
