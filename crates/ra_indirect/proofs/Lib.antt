@@ -1,3 +1,4 @@
+pub mod BucketLemmas
 pub mod ClosedLemmas
 pub mod FirstsLemmas
 pub mod GrowingLemmas

@@ -1,5 +1,6 @@
 -- What a pool is, and what it does with a node: docs/DEFINITIONS.md, "Trees, cells and tracked masks".
-use Rattle.std.specs.Prelude.{◌≡◌, ◌≢◌, ◌⊎◌, ℕ, ◌<◌, List, [], ◌∷◌, ◌++◌, length, take, slice_get, Option, None, Some, Contains}
+use Rattle.std.specs.Prelude.{◌≡◌, ◌≢◌, ◌⊎◌, ℕ, ◌+◌, ◌<◌, List, [], ◌∷◌, ◌++◌}
+use Rattle.std.specs.Prelude.{length, take, slice_get, slice_index, Some, Contains}
 use Rattle.ra_indirect.specs.declared.node.Node.{Node}
 use Rattle.ra_indirect.specs.declared.node.Node.TheVariants.{Const}
 use Rattle.ra_indirect.specs.Pools.{MayFollow, node_at, spelled_at, spelled_by}
@@ -29,7 +30,7 @@ abbrev pub IsAlone : List Node → ℕ → Type 0
 IsAlone nodes n =
     (k : ℕ) → k < length nodes → spelled_at (spelled_by nodes) k ≡ spelled_at (spelled_by nodes) n → k ≡ n
 
--- the constant 0 stands at the number, where one is known
-abbrev pub IsZero : List Node → Option ℕ → Type 0
-IsZero nodes None = Unit {0}
-IsZero nodes (Some n) = slice_get nodes n ≡ Some (Const 0)
+-- a constant stands at the number before its place, where it has one that is not 0
+abbrev pub HaveConstants : List Node → List ℕ → Type 0
+HaveConstants nodes places =
+    (n k : ℕ) → slice_index places n ≡ k + 1 → slice_get nodes k ≡ Some (Const n)

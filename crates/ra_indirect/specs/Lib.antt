@@ -1,5 +1,5 @@
+pub mod Buckets
 pub mod Growing
 pub mod Interned
-pub mod Packing
 pub mod Pools
 pub mod Trees

@@ -1,6 +1,7 @@
 //! The pool of expressions: each operand's tree as shared nodes.
 #![tactic(auto)]
 
+mod buckets;
 mod node;
 mod pool;
 

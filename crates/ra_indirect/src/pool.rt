@@ -1,30 +1,37 @@
 ghost use Rattle.std.specs.Prelude.{◌≡◌, ◌==◌, ◌<◌, ◌≤◌, ◌^◌, [], length, slice_get, Some, IfOk, OnErr};
 
+use crate::buckets::Buckets;
 use crate::node::Node;
-use indexmap::IndexSet;
 use ra_text::OutOfMemory;
 use std::alloc::Global;
 use std::marker::Model;
+
+// How many constants are small.
+const SMALL: usize = 256;
 
 /// Nodes that each name earlier ones, and none of them twice:
 /// docs/DEFINITIONS.md, "Trees, cells and tracked masks".
 #[derive(Drop)]
 pub struct Pool {
-    nodes: IndexSet<Node>,
-    // The number of the constant 0, once it is there: each cell without a pointer names it.
-    zero: Option<u32>,
+    nodes: Vec<Node>,
+    buckets: Buckets,
+    // The place of each small constant: its number and one, or 0 where none is known.
+    constants: Vec<u32>,
 }
 
 impl Model for Pool {
     ghost use Rattle.std.specs.Prelude.{List, ◌≤◌, ◌^◌, length};
     ghost use Rattle.ra_indirect.specs.declared.node.Node.{Node};
-    ghost use Rattle.ra_indirect.specs.Interned.{IsPool, IsZero};
+    ghost use Rattle.ra_indirect.specs.Interned.{IsPool, HaveConstants};
+    ghost use Rattle.ra_indirect.specs.Buckets.{AreFiled};
 
     ghost Value = { List Node };
 
-    ghost view = { λ p. p.nodes.keys };
+    ghost view = { λ p. p.nodes.items };
 
-    ghost invariant = { λ p. IsPool p.nodes.keys × (length p.nodes.keys ≤ 2 ^ 31) × IsZero p.nodes.keys p.zero };
+    ghost invariant = { λ p. IsPool p.nodes.items × (length p.nodes.items ≤ 2 ^ 31)
+        × HaveConstants p.nodes.items p.constants.items
+        × AreFiled p.nodes.items p.buckets };
 }
 
 impl Pool {
@@ -37,8 +44,9 @@ impl Pool {
         ensures { result ≡ [] }
     {
         Pool {
-            nodes: IndexSet::new(alloc),
-            zero: None,
+            nodes: Vec::new(alloc),
+            buckets: Buckets::none(alloc),
+            constants: Vec::new(alloc),
         }
     }
 
@@ -46,8 +54,14 @@ impl Pool {
     pub fn with_room(alloc: Global, nodes: usize) -> Result<Pool, OutOfMemory>
         ensures { IfOk result (λ pool. pool ≡ []) }
     {
-        let nodes = IndexSet::with_capacity(alloc, nodes)?;
-        Ok(Pool { nodes, zero: None })
+        let buckets = Buckets::with_room(alloc, nodes.min(1 << 31))?;
+        let nodes = Vec::with_capacity(alloc, nodes)?;
+        let constants = vec![in alloc; 0; SMALL]?;
+        Ok(Pool {
+            nodes,
+            buckets,
+            constants,
+        })
     }
 
     /// How many nodes there are.
@@ -72,7 +86,7 @@ impl Pool {
         ensures node { slice_get self.now number ≡ Some result }
         ensures alone { IsAlone self.now number }
     {
-        self.nodes.as_slice()[number as usize]
+        self.nodes[number as usize]
     }
 
     /// The number of the node, which goes last where it is new.
@@ -87,35 +101,56 @@ impl Pool {
         ensures pool { IsPool self.new }
     {
         match node {
-            Node::Const(0) => self.intern_zero(),
-            _ => self.insert(node),
+            Node::Const(constant) => self.intern_constant(constant),
+            _ => self.look_up(node),
         }
     }
 
-    // The number of the constant 0, which is looked up once.
-    fn intern_zero(&mut self) -> Result<u32, OutOfMemory>
+    // The number of a constant, from the row where it has a place there.
+    fn intern_constant(&mut self, constant: u32) -> Result<u32, OutOfMemory>
         requires room { length self.old < 2 ^ 31 }
-        ensures ok { IfOk result (Interns self.old self.new (Const 0)) }
+        ensures ok { IfOk result (Interns self.old self.new (Const constant)) }
         ensures err { OnErr result (self.new ≡ self.old) }
         ensures pool { IsPool self.new }
     {
-        if let Some(number) = self.zero {
-            return Ok(number);
+        if let Some(place) = self.constants.get(constant as usize).copied()
+            && place != 0
+        {
+            return Ok(place - 1);
         }
-        let number = self.insert(Node::Const(0))?;
-        self.zero = Some(number);
+        let number = self.look_up(Node::Const(constant))?;
+        if let Some(place) = self.constants.get_mut(constant as usize) {
+            *place = number + 1;
+        }
         Ok(number)
     }
 
-    // The number of a node, which is looked up.
-    fn insert(&mut self, node: Node) -> Result<u32, OutOfMemory>
+    // The number of a node, which is looked up in its bucket.
+    fn look_up(&mut self, node: Node) -> Result<u32, OutOfMemory>
         requires follows { MayFollow self.old node }
         requires room { length self.old < 2 ^ 31 }
         ensures ok { IfOk result (Interns self.old self.new node) }
         ensures err { OnErr result (self.new ≡ self.old) }
         ensures pool { IsPool self.new }
     {
-        let (place, _) = self.nodes.insert_full(node)?;
-        Ok(place as u32)
+        self.buckets.make_room(&self.nodes)?;
+        let bucket = self.buckets.bucket(node);
+        match self.buckets.find(&self.nodes, node, bucket) {
+            Some(number) => Ok(number),
+            None => {
+                let number = self.nodes.len();
+                self.nodes.push(node)?;
+                self.buckets.put(number, bucket);
+                Ok(number as u32)
+            }
+        }
+    }
+
+    /// The nodes, in order, of a pool that is given up.
+    pub fn into_nodes(self) -> Vec<Node>
+        ensures nodes { result.items ≡ self }
+        ensures pool { IsPool self }
+    {
+        self.nodes
     }
 }
