@@ -35,7 +35,7 @@ pub fn lay_out(alloc: Global, nodes: &[Node]) -> Result<Layout, OutOfMemory>
     ensures places { IfOk result (λ layout. layout.places.items ≡ map (λ c. c.address) (cells_of nodes.now)) }
     ensures masks { IfOk result (λ layout. AreMasks nodes.now layout.masks.keys) }
 {
-    let mut slots = Vec::new(alloc);
+    let mut slots = Vec::with_capacity(alloc, nodes.len())?;
     let mut places = Vec::new(alloc);
     let mut masks = IndexSet::new(alloc);
     for node in nodes {

@@ -82,7 +82,7 @@ impl Table {
         requires few { length pool < 2 ^ 30 }
         ensures { IfOk result (IsFresh pool size) }
     {
-        let nodes = taken_from(alloc, pool)?;
+        let nodes = pool.into_nodes();
         let layout = lay_out(alloc, &nodes)?;
         let widths = widths_of(alloc, &nodes)?;
         let watches = Watches::new(alloc, size, listed, layout.places, widths)?;
@@ -277,14 +277,6 @@ impl Table {
         self.agenda.all = true;
         self.sampled = false;
     }
-}
-
-// The nodes of a pool, which is given up.
-fn taken_from(alloc: Global, pool: Pool) -> Result<Vec<Node>, OutOfMemory>
-    ensures nodes { IfOk result (λ nodes. nodes.items ≡ pool) }
-    ensures pool { IsPool pool }
-{
-    nodes_of(alloc, &pool)
 }
 
 /// The nodes of a pool, in order. Memory is the only refusal.
