@@ -4,18 +4,6 @@ use Rattle.std.proofs.lemmas.Bool.{cases_eq}
 use Rattle.std.proofs.Math.Nat.{mul-le-mul_right}
 use Rattle.ra_account.specs.Marks.{IsWidth}
 
--- the width stays where not all columns are full
-pub kept_width : (n w full begun : ℕ) → full * w + begun ≡ n → begun < w → full < 60 → IsWidth n w → IsWidth (suc n) w
-kept_width n w full begun long within room known =
-    let more : suc full ≤ 60 = room in
-    let enough : full * w + w ≤ 60 * w = omega (arith, mul-le-mul_right w more) in
-    record {
-      exponent = known.exponent;
-      power = known.power;
-      enough = omega arith;
-      least = λ e fits. known.least e (omega arith);
-    }
-
 -- a frame more than sixty full columns have takes more than this power of two
 past_power : (n w exponent e : ℕ) → 60 * w ≡ n → w ≡ 2 ^ exponent → suc n ≤ 60 * 2 ^ e → exponent ≤ e → suc exponent ≤ e
 past_power n w exponent e full power fits below = elim (cases_eq e exponent) [

@@ -34,9 +34,6 @@ pub record AreLeft (all rest : List ℕ) (at left : ℕ) : Type 0 where
   pub all_is : all ≡ before ++ rest
   pub left_is : length before + left ≡ at
 
-pub left_none : (all : List ℕ) (at : ℕ) → AreLeft all all at at
-left_none all at = record { before = []; all_is = refl; left_is = omega arith }
-
 module _ (banks : List Bank) (i : ℕ) (d : Bank) (below : i < length banks) (all : List ℕ) (at left : ℕ) (are : AreLeft all (bytes_of (drop i banks)) at left) where
   -- this bank and those behind it
   split : all ≡ are.before ++ ((get_or banks i d).bytes.now ++ bytes_of (drop (i + 1) banks))

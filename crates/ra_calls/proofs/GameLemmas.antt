@@ -24,12 +24,6 @@ use Rattle.ra_calls.specs.declared.recording.Told.{Told}
 use Rattle.ra_calls.specs.declared.told_unlock.ToldHits.{ToldHits}
 use Rattle.ra_calls.specs.declared.told_unlock.ToldUnlock.{ToldUnlock}
 
--- a new recording of an id is over memories of the game's size
-pub sized_of_id : (id : ℕ) (course : CourseSeen) (recording : Option RecordingSeen) → IsOfId id course recording
-    → IfSome recording (λ r. r.size ≡ course.size)
-sized_of_id id course None is = tt
-sized_of_id id course (Some r) is = is.1.size_too
-
 -- a new recording of the trigger of an id is one of this id
 pub begun_of_id : (id : ℕ) (course : CourseSeen) (t : TriggerContents) (size : ℕ) (r : RecordingSeen)
     → trigger_of id course.set.items ≡ Some t → size ≡ course.size → IsBegun t size r → IsOfId id course (Some r)

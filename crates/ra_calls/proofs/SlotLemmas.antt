@@ -21,10 +21,3 @@ kept-with shape old new is opening same =
       items = is.items;
       presence = is.presence;
     })
-
--- what holds of all holds of one
-pub all-some : {X : Type 0} (P : X → Type 0) (xs : List X) (i : ℕ) (x : X) → All P xs → slice_get xs i ≡ Some x → P x
-all-some P [] i x all is = absurd (cc is)
-all-some P (y ∷ ys) zero x all is = let same : y ≡ x = cc is in subst P same (all 0 y (omega arith))
-all-some P (y ∷ ys) (suc i) x all is =
-    all-some P ys i x (λ k d within. all (suc k) d (omega (arith, within))) is

@@ -65,9 +65,6 @@ unfolding group_at
 reader-group = reader-or_else conditions (Spell []) conditions_at (λ text. Ok ([], text)) begins_condition (In condition_keys) (In group_rest) reader-conditions (reader-spell [] (In group_rest)) begins-conditions
     (λ c is. opens-conditions c (begins-in c is)) (λ c is. in_within condition_keys group_rest refl c (begins-in c is)) (λ c s v is h. absurd (cc h.empty)) begins-not_in
 
-pub firsts-group : Firsts group (In condition_keys)
-firsts-group = firsts-or conditions (Spell []) (In condition_keys) (firsts-begins conditions (In condition_keys) begins-conditions) (firsts-spell [] (In condition_keys))
-
 -- ---- triggers
 
 abbrev pub trigger_rest : List ℕ

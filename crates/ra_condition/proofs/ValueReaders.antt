@@ -169,10 +169,6 @@ reader-part = reader-or condition_part term_part condition_part_at term_part_at 
     (reads-of condition_part condition_part_at (In part_rest) reader-condition_part) (reads-of term_part term_part_at (In part_rest) reader-term_part)
     begins-condition_part begins-term_part opens-condition_part opens-term_part part-needs_colon part-no_colon)
 
-begins-part : Begins part (In condition_keys)
-begins-part = begins-or condition_part term_part (In condition_keys) (begins-wider condition_part (In flag_keys) (In condition_keys) (in_within flag_keys condition_keys refl) begins-condition_part)
-    (begins-wider term_part (In operand_keys) (In condition_keys) (in_within operand_keys condition_keys refl) begins-term_part)
-
 -- ---- values
 
 abbrev pub value_rest : List ℕ
@@ -184,9 +180,6 @@ reader-value = reader-joined (only (codes "$")) part part_at (In value_rest) (In
     (λ c h on. in_apart (codes "$") part_rest refl c (listed_in (marks (codes "$")) c h) on)
     (in_within part_rest value_rest refl)
     (λ c h. in_within (codes "$") value_rest refl c (listed_in (marks (codes "$")) c h))
-
-pub begins-value : Begins value (In condition_keys)
-begins-value = begins-then part (λ first. Then (Chain {S = Unit {0}} (λ s. only (codes "$")) (λ s tag. part) (λ s v. s) (λ s. true) tt) (λ behind. Spell (first ∷ behind))) (In condition_keys) begins-part
 
 pub reads-value : (text : List ℕ) → Reads value text (value_at text)
 reads-value = reads-of value value_at (In value_rest) reader-value

@@ -49,11 +49,3 @@ display_cleared bytes old new shown some stay kept =
       kept = (λ i. record { shown = shown i; hits = hits i; numbers = numbers i });
       run = display_stays old new stay (omega (arith, shown, some));
     }
-
--- what holds of a display holds of one that may be missing
-pub presence_back : (bytes : List ℕ) (place : Option ℕ) (old new : PresenceRun) → PutsBackDisplay bytes place old new → PutsBackPresence bytes place (Some old) (Some new)
-presence_back bytes place old new back = record { kept = ap Some back.kept; run = run }
-  where
-    run : (nodes : List Node) (script : Option ScriptContents) → IsOptionalPresence nodes script (Some old) → IsOptionalPresence nodes script (Some new)
-    run nodes None are = absurd are
-    run nodes (Some script) are = back.run nodes script are

@@ -84,19 +84,6 @@ module _ (old new : RecorderSeen) (m : Moment) (f : Follows old m) where
     pub framed_here : unlock ≡ true → UnlocksHere old new Framed m
     framed_here some = record { framed = refl; stands = stands_on; decides = λ entries. framed_by entries true some }
 
-  pub framed_past : (found : ℕ) → RefusesFrame old (Rows found) → PassesRows old Framed m found
-  framed_past found past = record {
-    framed = refl;
-    decides = λ entries.
-        let many : nat_lt most_rows (rows_with old.trigger old.frames) ≡ true = lt-ltb most_rows (product_of old) past.0 in
-        (λ i. (cond (many i) (record { records = 0; reason = AtRows (rows_with old.trigger old.frames) }) (later entries)).reason) ∙ ap AtRows (sym past.1);
-  }
-    where
-      later : List Entry → Decided
-      later entries =
-          let d = decided_from old.trigger (moved Framed m) (old.frames + 1) entries in
-          cond (unlocks_at old.trigger m.image m.behind) (record { records = 0; reason = AtUnlock m.image m.behind }) (record { records = d.records + 1; reason = d.reason })
-
   -- ---- a save
 
   pub saved_on : (slot : ℕ) → slot ≤ 15 → IsSaved old new slot → KeepsHistories old new → KeepsOtherSlots old new slot → GoesOn old new (Saved slot) m

@@ -143,12 +143,6 @@ trace_read s id t bytes e says = by_reason (decided_in t bytes).reason e refl sa
           omega (arith, some, all, many_pieces s m (none_earned s) (trace_in bytes).entries, length-append (replicate {A = List ℕ} (decided_in t bytes).records []) [], length-replicate {A = List ℕ} (decided_in t bytes).records []);
     }
 
--- the end of a trace is no fault
-never_fault : (s : Stop) → ending_of s ≡ SinkFault → ⊥
-never_fault (Reached at) is = cc
-never_fault (RefusedAt at why) is = cc
-never_fault PastLimit is = cc
-
 -- ---- a text that is all that is printed
 
 -- it is printed behind records that print nothing

@@ -24,10 +24,6 @@ pub record LeavesRest (first now : Option (List ℕ)) (whole rest : List ℕ) : 
   pub all : front ++ rest ≡ whole
   pub grew : now ≡ grown first front
 
--- before the first piece
-pub leaves_all : (first : Option (List ℕ)) (whole rest : List ℕ) → rest ≡ whole → LeavesRest first first whole rest
-leaves_all first whole rest is = record { front = []; all = is; grew = sym (grown-nil first) }
-
 -- a piece more
 pub leaves_less : (first mid now : Option (List ℕ)) (whole piece rest before : List ℕ) → before ≡ piece ++ rest → LeavesRest first mid whole before → now ≡ grown mid piece → LeavesRest first now whole rest
 leaves_less first mid now whole piece rest before is to more = record {

@@ -18,16 +18,6 @@ pub record IsLeft (half : ℕ) (nodes : List Node) (node : Node) (place : ℕ) :
   pub left : (k : ℕ) → k < length nodes → node_at nodes k ≡ node → k < place
 
 module _ (half : ℕ) (nodes : List Node) (latest earlier : List ℕ) (filed : AreChained half nodes latest earlier) where
-  pub IsLeft-first : (node : Node) (bucket : ℕ) → bucket ≡ bucket_of half node → bucket < 2 * half
-      → IsLeft half nodes node (slice_index latest bucket)
-  IsLeft-first node bucket is within =
-      let head = filed.heads bucket within in
-      record {
-        within = head.within;
-        there = λ k at. head.there k at ∙ is;
-        left = λ k below same. head.latest k below (ap (bucket_of half) same ∙ sym is);
-      }
-
   pub IsLeft-next : (node : Node) (place number : ℕ) → place ≡ number + 1 → node_at nodes number ≢ node
       → IsLeft half nodes node place → IsLeft half nodes node (slice_index earlier number)
   IsLeft-next node place number at other was =

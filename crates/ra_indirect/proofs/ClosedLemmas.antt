@@ -27,9 +27,6 @@ view_parts k k' s s' p address (IsCell c) gives same =
     let widths : c.width ≡ width_of s = gives ∙ ap width_of sizes in
     (λ i. IsCell (record { pointer = pointers i; address = addresses i; width = widths i }))
 
-no_constant_view : (k k' : Kind) (s : Size) (p : Tree) (address n : ℕ) → IsTree (constant n) ≡ IsTree (view k s p address) → ⊥
-no_constant_view k k' s p address n same = cc
-
 module _ (nodes : List Node) (pool : IsPool nodes) where
   abbrev at : ℕ → Spelled
   at n = spelled_at (spelled_by nodes) n

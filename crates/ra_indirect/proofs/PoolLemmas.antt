@@ -40,10 +40,6 @@ MayFollow-more nodes nodes' (Arith op left right) longer same may = (
 pub node_at-append : (nodes more : List Node) (k : ℕ) → k < length nodes → node_at (nodes ++ more) k ≡ node_at nodes k
 node_at-append nodes more k below = get_or_append_left nodes more (Const 0) k below
 
-pub MayFollow-append : (nodes more : List Node) (node : Node) → MayFollow nodes node → MayFollow (nodes ++ more) node
-MayFollow-append nodes more node may =
-    MayFollow-more nodes (nodes ++ more) node (omega (arith, length-append nodes more)) (node_at-append nodes more) may
-
 module _ (nodes : List Node) (node : Node) (pool : IsPool nodes) (may : MayFollow nodes node)
     (absent : Contains nodes node → ⊥) where
   named_by : (k : ℕ) → (k < length nodes) ⊎ (k ≡ length nodes)

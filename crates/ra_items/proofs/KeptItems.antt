@@ -37,10 +37,6 @@ use Rattle.ra_items.proofs.SaveLemmas.{achievement_kept_fits, board_kept_fits}
 abbrev pub seen_trigger : AchievementRun → Counts → Option ℕ → TriggerKept
 seen_trigger run b owed = record run.run.trigger { hits = seen_hits owed b.counted.items run.run.trigger.hits }
 
-pub seen_achievement : (run : AchievementRun) (b : Counts) (owed : Option ℕ) → kept_achievement run.earned (seen_trigger run b owed) ≡ seen_run (Achievement run) (counts.Achievement b) owed
-seen_achievement run b None = refl
-seen_achievement run b (Some n) = refl
-
 pub seen_board : (run : BoardRun) (b : MemberCounts) (owed : Option ℕ) → CountsFit (counts_of b) (kept_by run.member)
     → OfBoard (board_byte run.board) (saved_hits (seen_line run.member b owed)) (saved_numbers (kept_by run.member)) ≡ seen_run (Leaderboard run) (counts.Leaderboard b) owed
 seen_board run b None shape = refl

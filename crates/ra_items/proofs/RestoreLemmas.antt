@@ -64,13 +64,6 @@ achievement_back bytes at old new good laid earned trigger =
       run = achievement_stays old new laid (ap (λ (k : TriggerKept). length k.hits) trigger ∙ length-words_at bytes (at + 5) many);
     }
 
--- an achievement without a block is cleared, and stays earned
-pub achievement_cleared : (bytes : List ℕ) (old new : AchievementRun) → new.run.laid ≡ old.run.laid → new.earned ≡ earned_by old → new.run.trigger ≡ record { state = Waiting; measured = 0; hits = cleared old.run.trigger.hits } → PutsBackItem bytes None (Achievement old) (Achievement new)
-achievement_cleared bytes old new laid earned trigger = record {
-  kept = ap₂ kept_achievement earned trigger;
-  run = achievement_stays old new laid (ap (λ (k : TriggerKept). length k.hits) trigger ∙ length-replicate (length old.run.trigger.hits) 0);
-}
-
 -- a board whose state and member are put back from its block
 pub board_back : (bytes : List ℕ) (at numbers : ℕ) (old new : BoardRun) → nat_lt (slice_index bytes at) 5 ≡ true → new.board ≡ board_state_of (slice_index bytes at) → StaysMember old.member new.member → numbers ≡ at + 1 + 4 * length (saved_hits (kept_by old.member))
     → saved_hits (kept_by new.member) ≡ words_at bytes (at + 1) (length (saved_hits (kept_by old.member)))

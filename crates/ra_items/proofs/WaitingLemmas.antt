@@ -42,14 +42,6 @@ module _ (old new : List Node) (front : IsFront old new) where
   item_runs_more (item ∷ items) [] are = absurd are
   item_runs_more (item ∷ items) (run ∷ runs) are = (item_run_more item run are.0, item_runs_more items runs are.1)
 
--- an item that waits
-pub achievement_made : (old new : List Node) (id : ℕ) (t : _) (run : AchievementRun) → IsNewAchievement old new t run → IsNewItem old new (Unlocks id t) (Achievement run)
-achievement_made old new id t run made = record {
-  grows = made.trigger.grows;
-  run_too = made.trigger.run_too;
-  plain = ap₂ kept_achievement made.earned made.trigger.plain;
-}
-
 pub leaderboard_made : (old new : List Node) (id : ℕ) (format : Format) (b : BoardContents) (run : BoardRun) → IsNewBoard old new b run → IsNewItem old new (Ranks id format b) (Leaderboard run)
 leaderboard_made old new id format b run made =
     let m : MemberContents = board_member b in

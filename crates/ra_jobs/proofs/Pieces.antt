@@ -18,9 +18,6 @@ pub grown-nil : (o : Option (List ℕ)) → grown o [] ≡ o
 grown-nil None = refl
 grown-nil (Some text) = ap Some (append-nil text)
 
-pub none_written : (first : Option (List ℕ)) (bytes : List ℕ) → Written first first bytes bytes
-none_written first bytes = record { len = 0; within = omega arith; left = refl; text = sym (grown-nil first) }
-
 pub more_written : (first old now : Option (List ℕ)) (bytes rest : List ℕ) (n : ℕ) → Written first old bytes rest → n ≤ length rest → now ≡ grown old (take n rest) → Written first now bytes (drop n rest)
 more_written first old now bytes rest n w fits is = record {
   len = w.len + n;
@@ -29,6 +26,3 @@ more_written first old now bytes rest n w fits is = record {
   text = is ∙ ap (λ o. grown o (take n rest)) w.text ∙ grown-grown first (take w.len bytes) (take n rest)
       ∙ ap (λ r. grown first (take w.len bytes ++ take n r)) w.left ∙ ap (grown first) (sym (take-add w.len n bytes));
 }
-
-pub all_written : (first now : Option (List ℕ)) (bytes rest : List ℕ) → Written first now bytes rest → length rest ≡ 0 → now ≡ grown first bytes
-all_written first now bytes rest w none = w.text ∙ ap (grown first) (take_all w.len bytes (omega (arith, ap length w.left, length-drop w.len bytes)))

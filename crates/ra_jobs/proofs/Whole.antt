@@ -22,9 +22,6 @@ front_at_end first now old new more n limit end same reads is within all told =
     let same_len : length new ≡ length old = omega (arith, reads.longer) in
     (front_grows first now old new more n same reads is).front all told ∙ take_all (length new) all (omega arith) ∙ sym (take_all limit all (omega arith))
 
-pub front_at_limit : (first : Option (List ℕ)) (bytes : List ℕ) (limit : ℕ) → IsFront first bytes → length bytes ≡ limit → (all : List ℕ) → first ≡ Some all → bytes ≡ take limit all
-front_at_limit first bytes limit is at all told = is.front all told ∙ ap (λ k. take k all) at
-
 pub if_some : {T : Type 0} (o : Option T) (P : T → Type 0) → ((x : T) → o ≡ Some x → P x) → IfSome o P
 if_some None P h = tt
 if_some (Some x) P h = h x refl

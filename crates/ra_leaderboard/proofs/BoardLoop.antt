@@ -54,11 +54,6 @@ fields-next h tags text old whole f rest is free read s = record {
   is = s.is;
 }
 
-pub fields-fail : (h : HeldSoFar) (tags : SomeTags) (text old : List ℕ) (whole : Outcome ℕ BoardContents) (rest : List ℕ) → old ≡ 58 ∷ text → separator h 58 ≡ Some tags → FieldsSoFar h old whole → next_field_at tags text ≡ Err rest → whole ≡ Err rest
-fields-fail h tags text old whole rest is free s fails = s.is ∙ ap (λ o. o >>= λ fs. Ok (board_of (with_fields s.first fs.0), fs.1))
-    (loop-fails separator (λ h tags. next_field_at tags) with_field is_whole (λ h tags. next_field-shorter tags) s.so_far h 58 tags text s.others rest free fails
-    (subst (λ t. Looping separator (λ h tags. next_field_at tags) with_field is_whole s.so_far h t s.others) is s.loops))
-
 -- less is left behind a separator and a field
 pub fields-smaller : (tags : SomeTags) (text old : List ℕ) (f : FieldContents) (rest : List ℕ) → old ≡ 58 ∷ text → next_field_at tags text ≡ Ok (f, rest) → length rest < length old
 fields-smaller tags text old f rest is read =

@@ -266,20 +266,3 @@ reads-board = reads-of board board_at (In board_rest) reader-board
 -- the first letters of the tags
 abbrev pub board_keys : List ℕ
 board_keys = codes "SsCcVvPp"
-
-first-key : (t : Tag) (c : ℕ) → has_letter 0 c t ≡ true → In board_keys c
-first-key Start c e = in_within (codes "Ss") board_keys refl c (is_in-in (letter_marks (codes "S")) c e)
-first-key Cancel c e = in_within (codes "Cc") board_keys refl c (is_in-in (letter_marks (codes "C")) c e)
-first-key Submit c e = in_within (codes "Ss") board_keys refl c (is_in-in (letter_marks (codes "S")) c e)
-first-key Value c e = in_within (codes "Vv") board_keys refl c (is_in-in (letter_marks (codes "V")) c e)
-first-key Progress c e = in_within (codes "Pp") board_keys refl c (is_in-in (letter_marks (codes "P")) c e)
-
-begins-tag : Begins tag (In board_keys)
-begins-tag = record {
-  not_empty = λ t h. absurd (let is = (tag-word t [] h).is in cc is);
-  first = λ c s t h. let word = tag-word t (c ∷ s) h in first-key t c (let same : c ≡ word.first = cc word.is in subst (λ x. has_letter 0 x t ≡ true) (sym same) word.at_first);
-}
-
-pub begins-board : Begins board (In board_keys)
-begins-board = begins-then fields Arranged (In board_keys)
-    (begins-then field (λ first. Then others (λ behind. Spell (first ∷ behind))) (In board_keys) (begins-then tag (λ t. Then (One (only (codes ":"))) (λ colon. held t)) (In board_keys) begins-tag))

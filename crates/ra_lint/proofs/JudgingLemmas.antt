@@ -43,13 +43,6 @@ pub record IsRanged (nodes : List Node) (ranges : List Range) (count : ℕ) : Ty
   pub each : (k : ℕ) → k < count → range_at ranges k ≡ range_of (tree_of nodes k)
   pub ordered : AreOrdered ranges
 
-pub ranged_none : (nodes : List Node) → IsRanged nodes [] 0
-ranged_none nodes = record {
-  whole = refl;
-  each = λ k below. absurd (omega arith);
-  ordered = λ k below. absurd (omega arith);
-}
-
 module _ (nodes : List Node) (pool : IsPool nodes) where
   -- the range of a node by those before it
   by_node : (ranges : List Range) (n : ℕ) (node : Node) → MayFollow nodes node → NamesBelow n node

@@ -18,14 +18,6 @@ use Rattle.ra_lint.specs.Warnings.{may_hold, are_dead, group_warnings, warnings_
 abbrev pub is_dead_group : List Condition → Bool
 is_dead_group cs = is_dead cs (may_hold cs)
 
--- there are groups, and each is dead
-pub dead_groups : (groups : List (List Condition))
-    → are_dead groups ≡ (not (eqb (length groups) 0) && list_all is_dead_group groups)
-dead_groups [] = refl
-dead_groups (cs ∷ groups) =
-    let some : eqb (length (cs ∷ groups)) 0 ≡ false = ne_eqb (length (cs ∷ groups)) 0 (λ e. omega (arith, e)) in
-    ap (λ b. not b && list_all is_dead_group (cs ∷ groups)) (sym some)
-
 all_and : (b : Bool) → (b && true) ≡ b
 all_and true = refl
 all_and false = refl

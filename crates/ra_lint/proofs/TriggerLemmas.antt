@@ -47,12 +47,6 @@ along_may (cs ∷ groups) truths lefts hits b h =
           (along_may groups (drop (length cs) truths) (drop (length cs) lefts) (drop (length cs) hits) b.1 h.1),
     )
 
--- no hits are of no condition
-none_have : (n j : ℕ) → slice_index (replicate n 0) j ≡ 0
-none_have zero j = refl
-none_have (suc n) zero = refl
-none_have (suc n) (suc j) = none_have n j
-
 -- ---- a dead trigger
 
 -- the outcome of a dead group is not valid

@@ -4,14 +4,6 @@ use Rattle.std.proofs.lemmas.List.{get_or_past}
 use Rattle.std.proofs.Math.Nat.{pow-suc}
 use Rattle.ra_memory.specs.Image.{raw, AreBytes}
 
--- at the end and past it there are zeros alone
-pub raw_past : (width : ℕ) (image : List ℕ) (at : ℕ) → length image ≤ at → raw width image at ≡ 0
-raw_past zero image at past = refl
-raw_past (suc width) image at past =
-    let rest = raw_past width image (suc at) (omega arith) in
-    let here : get_or image at 0 ≡ 0 = get_or_past image at 0 past in
-    omega arith
-
 -- a byte of an image is below 256, past the end too
 pub byte_below : (image : List ℕ) → AreBytes image → (at : ℕ) → get_or image at 0 < 256
 byte_below [] bytes at = lit< tt

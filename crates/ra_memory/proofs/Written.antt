@@ -12,13 +12,6 @@ module _ (image bytes : List ℕ) (at : ℕ) (fits : at + length bytes ≤ lengt
   length-written =
       omega (arith, length-append (take at image) (bytes ++ drop (at + length bytes) image), length-append bytes (drop (at + length bytes) image), length-drop (at + length bytes) image, front)
 
-  -- a written byte
-  pub get_or-written : (k : ℕ) → k < length bytes → get_or (written image at bytes) (at + k) 0 ≡ get_or bytes k 0
-  get_or-written k within =
-      get_or-append_right (take at image) (bytes ++ drop (at + length bytes) image) at (at + k) 0 front (omega arith)
-      ∙ ap (λ i. get_or (bytes ++ drop (at + length bytes) image) i 0) (let back : at + k - at ≡ k = omega arith in back)
-      ∙ get_or_append_left bytes (drop (at + length bytes) image) 0 k within
-
   before : (k : ℕ) → k < at → get_or (written image at bytes) k 0 ≡ get_or image k 0
   before k below =
       get_or_append_left (take at image) (bytes ++ drop (at + length bytes) image) 0 k (omega (arith, front))
@@ -30,8 +23,3 @@ module _ (image bytes : List ℕ) (at : ℕ) (fits : at + length bytes ≤ lengt
       ∙ get_or-append_right bytes (drop (at + length bytes) image) (length bytes) (k - at) 0 refl (omega arith)
       ∙ get_or-drop (at + length bytes) image (k - at - length bytes) 0
       ∙ ap (λ i. get_or image i 0) (let here : at + length bytes + (k - at - length bytes) ≡ k = omega arith in here)
-
-  -- a byte before those that are written, or after them
-  pub get_or-written_other : (k : ℕ) → (k < at) ⊎ (at + length bytes ≤ k) → get_or (written image at bytes) k 0 ≡ get_or image k 0
-  get_or-written_other k (inl below) = before k below
-  get_or-written_other k (inr above) = after k above

@@ -62,11 +62,6 @@ progress_is (Some parts) is = value_is parts is
 pub board_is : (b : BoardContents) → IsBoard b → IsBoard (normal_board b)
 board_is b is = record { start = is.start; cancel = is.cancel; submit = is.submit; value = value_is b.value is.value; progress = progress_is b.progress is.progress }
 
--- the normal item of an item that some line spells is one
-pub item_is : (x : ItemContents) → IsItem x → IsItem (normal_item x)
-item_is (Unlocks id t) is = is
-item_is (Ranks id format b) is = (board_is b is.0, is.1)
-
 -- ---- twice is once
 
 part_again : (part : PartContents) → normal_part (normal_part part) ≡ normal_part part

@@ -117,10 +117,6 @@ splits kind (d ∷ ds) texts (x ∷ items) all b = let s = splits kind ds texts 
   others = s.others;
 }
 
-no-texts : (items : List ItemContents) → Beside [] items → items ≡ []
-no-texts [] b = refl
-no-texts (x ∷ items) b = absurd b
-
 -- ---- ids
 
 all-front : (test : ItemContents → Bool) (xs ys : List ItemContents) → AllByRecursion (λ y. test y ≡ false) (xs ++ ys)

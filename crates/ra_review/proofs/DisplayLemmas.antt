@@ -443,9 +443,6 @@ without_test old rest other s = record {
         let line = u.parts ∙ ap (λ t. u.front ++ t) u.of_next.empty ∙ append-nil u.front in
         s.halts symbol others is (record { more = more; v = u.v; whole = subst (λ t. pieces t u.v) (sym line) u.of_first })
 
-pub stops_within : {V : Type 0} (form : Form ℕ V) (text rest : List ℕ) → Stops form text rest → length rest ≤ length text
-stops_within form text rest s = omega (arith, ap length s.parts, length-append s.front rest)
-
 -- ---- what calls say
 
 pub test_fault : (fault : Fault) (old rest : List ℕ) → is_tested old ≡ true → GivesUnlessFull {X = TriggerText} trigger_contents (Err fault) rest (test_at old) → StopsLine (Err fault) old rest

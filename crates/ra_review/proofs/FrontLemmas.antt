@@ -55,19 +55,6 @@ pub record FrontSoFar (file rest : List ℕ) (report : Report) : Type 0 where
   pub many : length (front_lines (lines_of file)) ≡ length rows + length (front_lines (lines_of rest))
   pub behind : script_lines (lines_of file) ≡ script_lines (lines_of rest)
 
-pub nothing_then : (found : Findings) → then_more nothing found ≡ found
-nothing_then found = refl
-
-pub front_starts : (file : List ℕ) (report : Report) → Reports report [] nothing → FrontSoFar file file report
-front_starts file report h = record {
-  rows = [];
-  found = nothing;
-  reports = h;
-  goes_on = λ others finds. finds;
-  many = omega arith;
-  behind = refl;
-}
-
 then_assoc : (f g h : Findings) → then_more (then_more f g) h ≡ then_more f (then_more g h)
 then_assoc f g h = (λ i. record {
   refusals = append_assoc f.refusals g.refusals h.refusals i;

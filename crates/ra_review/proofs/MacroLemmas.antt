@@ -39,23 +39,6 @@ none_left script (n ∷ ns) = refl
 nothing_added : (entries : Entries) (lines : List (List ℕ)) → AreEntries entries lines → AreEntries entries (lines ++ [])
 nothing_added entries lines h = subst (AreEntries entries) (sym (append-nil lines)) h
 
--- a line before the display, or its head
-pub passes_head : (script : ScriptContents) (number : ℕ) (content : List ℕ) (passed : Passed) (entries : Entries) (shown : Bool) → passed.shown ≡ false
-    → shown ≡ bytes_eq (codes "Display:") (left_of content) → PassesLine script number content passed entries (record { shown = shown; lines = passed.lines }) entries
-passes_head script number content passed entries shown before is = record {
-  given = [];
-  added = λ lines h. nothing_added entries lines h;
-  rest = λ contents. ap (λ b. macro_notices script (numbers_left b number (content ∷ contents)) (drop passed.lines script.lines)) before
-      ∙ by_head (bytes_eq (codes "Display:") (left_of content)) contents
-      ∙ ap (λ b. macro_notices script (numbers_left b (suc number) contents) (drop passed.lines script.lines)) (sym is);
-}
-  where
-    by_head : (head : Bool) (contents : List (List ℕ))
-        → macro_notices script (if head then kept_numbers (suc number) contents else display_numbers (suc number) contents) (drop passed.lines script.lines)
-        ≡ macro_notices script (numbers_left head (suc number) contents) (drop passed.lines script.lines)
-    by_head true contents = refl
-    by_head false contents = refl
-
 -- a line of which nothing remains, or one behind the display
 pub passes_over : (script : ScriptContents) (number : ℕ) (content : List ℕ) (passed : Passed) (entries : Entries) → passed.shown ≡ true
     → (length (left_of content) == 0) ≡ true → PassesLine script number content passed entries passed entries
@@ -100,10 +83,6 @@ pub record MacrosLeft (script : ScriptContents) (all : List (List ℕ)) (start n
   pub given : List (List ℕ)
   pub added : (entries : List (List ℕ)) → AreEntries start entries → AreEntries now (entries ++ given)
   pub left : all ≡ given ++ notices_left script passed number (contents_of rest)
-
-pub macros_start : (script : ScriptContents) (number : ℕ) (text : List ℕ) (start : Entries)
-    → MacrosLeft script (macro_notices script (display_numbers number (contents_of text)) script.lines) start start (record { shown = false; lines = 0 }) number text
-macros_start script number text start = record { given = []; added = λ lines h. nothing_added start lines h; left = refl }
 
 pub macros_next : (script : ScriptContents) (all : List (List ℕ)) (start old new : Entries) (passed next : Passed) (number at : ℕ) (rest content behind : List ℕ)
     → SplitsLine rest content behind → (rest ≡ [] → ⊥) → at ≡ number + 1 → PassesLine script number content passed old next new

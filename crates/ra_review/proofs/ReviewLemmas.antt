@@ -153,10 +153,6 @@ judges_none file report h =
 
 -- ---- the end
 
-pub some_refused : (n : ℕ) (items : List ItemContents) (parts : Option ScriptParts) → 0 < n → IsLimit n items parts None
-some_refused zero items parts some = absurd (omega (arith, some))
-some_refused (suc n) items parts some = refl
-
 pub finishes : (file : List ℕ) (report : Report) (read : Option ReadScript) (script lines : ℕ) (review : Reviewed) (refusals notices : List ℕ)
     → Judges file report read script → lines ≡ report.lines + script
     → ((parts : Option ScriptParts) → IsReadOf parts read → IsLimit report.refusals.count (map item_contents report.items.items) parts review.limit)

@@ -39,9 +39,6 @@ pub record WalkSoFar (text rest : List ℕ) (walked : Walked) : Type 0 where
   pub lines : length (lines_of text) ≡ walked.lines + length (lines_of rest)
   pub display : opens walked.display (map left_of (contents_of rest)) ≡ is_open_after false (map left_of (contents_of text))
 
-pub walk_starts : (text : List ℕ) → WalkSoFar text text (record { lines = 0; display = opening.Before })
-walk_starts text = record { lines = omega arith; display = refl }
-
 pub walk_next : (text rest content behind : List ℕ) (old : Walked) (lines : ℕ) (d : Display) → SplitsLine rest content behind → (rest ≡ [] → ⊥)
     → lines ≡ old.lines + 1 → d ≡ display_after old.display (left_of content) → WalkSoFar text rest old → WalkSoFar text behind (record { lines = lines; display = d })
 walk_next text rest content behind old lines d s some more is h = record {

@@ -184,11 +184,3 @@ kept-left (line ∷ lines) all =
     let l : Left line = is-left line all.0 in
     let some : not (is_nothing (left_of line)) ≡ true = ap (λ t. not (is_nothing t)) l.same ∙ ap not l.some in
     rw some (ap (λ t. t ∷ kept_of lines) l.same ∙ ap (λ ls. line ∷ ls) (kept-left lines all.1))
-
--- what is kept of lines without line feeds may be left
-pub kept-is_left : (lines : List (List ℕ)) → AllByRecursion (λ line. has_no_feed line ≡ true) lines → AllByRecursion (λ line. is_left line ≡ true) (kept_of lines)
-kept-is_left [] all = tt
-kept-is_left (line ∷ lines) all = cases (is_nothing (left_of line)) refl (kept-is_left lines all.1) where
-  cases : (nothing : Bool) → is_nothing (left_of line) ≡ nothing → AllByRecursion (λ line. is_left line ≡ true) (kept_of lines) → AllByRecursion (λ line. is_left line ≡ true) (if not nothing then left_of line ∷ kept_of lines else kept_of lines)
-  cases true is others = others
-  cases false is others = (left-is_left line all.0 is, others)

@@ -93,13 +93,6 @@ exact-map {V} {W} a of f exact = record {
   spelled line w (Some v) is e = record { front = line; behind = []; v = v; parts = sym (append-nil line); of_first = exact.spells line v is; of_next = record { empty = refl; is = (let same : f v ≡ w = cc e in sym same) } }
   spelled line w None is e = absurd (cc e)
 
--- readings that agree are as exact
-pub exact-same : {V : Type 0} (form : Form ℕ V) (of same : List ℕ → Option V) → ((line : List ℕ) → of line ≡ same line) → Exact form of → Exact form same
-exact-same form of same agree exact = record {
-  reads = λ line v h. sym (agree line) ∙ exact.reads line v h;
-  spells = λ line v e. exact.spells line v (agree line ∙ e);
-}
-
 -- what two values that are one are
 same-some : {A : Type 0} {x y : A} → Some x ≡ Some y → x ≡ y
 same-some e = cc e

@@ -45,9 +45,6 @@ reader-name = reader-then (One name_byte) (λ first. Then (many (One name_byte))
     (λ first. reader-map (many (One name_byte)) (run_at name_byte) (IsListed name_byte) (λ others. first ∷ others) (reader-run name_byte))
     (λ first c s x h on. on) (λ first x h c on. absurd on)
 
-pub begins-name : Begins name (IsListed name_byte)
-begins-name = begins-then (One name_byte) (λ first. Then (many (One name_byte)) (λ others. Spell (first ∷ others))) (IsListed name_byte) (begins-one name_byte)
-
 -- ---- keys
 
 reader-hex_key : Reader hex_key hex_key_at (In (keys_of hex_digits))

@@ -125,12 +125,6 @@ least at from (o ∷ os) (u ∷ us) over under is =
           let below : u.from ≤ from = omega (arith, false-lt o.from from high) in
           omega (arith, no-more from (o ∷ os), first-fewer from u us below)
 
-pub none-left : (os us : List Span) → least_from os us ≡ None → (os ≡ []) × (us ≡ [])
-none-left [] [] is = (refl, refl)
-none-left (o ∷ os) [] is = absurd (cc is)
-none-left [] (u ∷ us) is = absurd (cc is)
-none-left (o ∷ os) (u ∷ us) is = absurd (cc is)
-
 -- the spans so far are those of two rows up to a number, with the line there, and what is left of the two rows
 pub record Merging (over under spans : List Span) (first second : Option ℕ) (os us : List Span)
     (line : Option ℕ) : Type 0 where
@@ -229,13 +223,6 @@ module _ (over under spans new : List Span) (first second : Option ℕ) (os us :
       (left_behind span.from os) (left_behind span.from us) span.line
   merging-next (inl e) = rw e pushed
   merging-next (inr e) = rw e.1 (same e.0)
-
-pub merging-ends : (over under spans : List Span) (first second : Option ℕ) (os us : List Span) (line : Option ℕ)
-    → Merging over under spans first second os us line → least_from os us ≡ None
-    → (n : ℕ) → line_at None spans n ≡ option_or (line_at None over n) (line_at None under n)
-merging-ends over under spans first second os us line m is n = cases (nat_le m.at n) refl where
-  none : (os ≡ []) × (us ≡ [])
-  none = none-left os us is
 
   cases : (b : Bool) → nat_le m.at n ≡ b → line_at None spans n ≡ option_or (line_at None over n) (line_at None under n)
   cases true low = m.here n (true-le m.at n low) ∙ m.line_is ∙ sym

@@ -125,24 +125,12 @@ pub record CutSoFar (line rest : List ℕ) : Type 0 where
   pub parts : line ≡ front ++ rest
   pub same : uncommented line ≡ front ++ uncommented rest
 
-pub cut-starts : (line : List ℕ) → CutSoFar line line
-cut-starts line = record { front = []; parts = refl; same = refl }
-
 pub cut-more : (line : List ℕ) (byte : ℕ) (rest : List ℕ) → begins_comment (byte ∷ rest) ≡ false → CutSoFar line (byte ∷ rest) → CutSoFar line rest
 cut-more line byte rest none l = record {
   front = l.front ++ byte ∷ [];
   parts = l.parts ∙ sym (append_assoc l.front (byte ∷ []) rest);
   same = l.same ∙ ap (λ comment. l.front ++ (if comment then [] else byte ∷ uncommented rest)) none ∙ sym (append_assoc l.front (byte ∷ []) (uncommented rest));
 }
-
-pub cut-ends : (line rest : List ℕ) → uncommented rest ≡ [] → CutSoFar line rest → take (length line - length rest) line ≡ uncommented line
-cut-ends line rest none l = front-taken line l.front rest l.parts ∙ sym (l.same ∙ ap (λ t. l.front ++ t) none ∙ append-nil l.front) where
-  front-taken : (line front rest : List ℕ) → line ≡ front ++ rest → take (length line - length rest) line ≡ front
-  front-taken line front rest e = ap (λ n. take n line) (let n : length line - length rest ≡ length front = omega (arith, ap length e, length-append front rest) in n) ∙ ap (take (length front)) e ∙ take_at front rest (length front) refl
-
-pub comment-ends : (rest : List ℕ) → begins_comment rest ≡ true → uncommented rest ≡ []
-comment-ends [] e = refl
-comment-ends (c ∷ rest) e = rw e refl
 
 -- ---- the lines of a text
 
@@ -153,35 +141,6 @@ pub record LinesSoFar (text : List ℕ) (lines : List (ℕ × List ℕ)) (rest :
 
 pub lines-start : (text : List ℕ) → LinesSoFar text [] text
 lines-start text = record { within = omega arith; same = ap (λ at. placed at (lines_of text)) (let none : 0 ≡ length text - length text = omega arith in none) }
-
-pub lines-finish : (text : List ℕ) (lines : List (ℕ × List ℕ)) → LinesSoFar text lines [] → lines ≡ placed 0 (lines_of text)
-lines-finish text lines l = sym (l.same ∙ append-nil lines)
-
--- the place behind a line
-behind-line : (text rest first behind : List ℕ) → length rest ≤ length text → rest ≡ first ++ behind → (length text - length rest) + length first ≡ length text - length behind
-behind-line text rest first behind within parts = omega (arith, ap length parts, length-append first behind)
-
-pub lines-skip : (text : List ℕ) (lines : List (ℕ × List ℕ)) (rest line behind : List ℕ) → (rest ≡ [] → ⊥) → SplitsLine rest line behind → left_of line ≡ [] → LinesSoFar text lines rest → LinesSoFar text lines behind
-lines-skip text lines rest line behind some s nothing l =
-    let none : is_nothing (left_of (content_of s.first)) ≡ true = subst (λ t. is_nothing (left_of t) ≡ true) s.content (subst (λ t. is_nothing t ≡ true) (sym nothing) refl) in
-    record {
-      within = (let less : length behind < length rest = s.shorter some in let w : length rest ≤ length text = l.within in omega arith);
-      same = l.same ∙ ap (λ t. lines ++ placed (length text - length rest) t) (s.lines some)
-          ∙ ap (λ nothing. lines ++ (if nothing then placed ((length text - length rest) + length s.first) (lines_of behind) else (length text - length rest, left_of (content_of s.first)) ∷ placed ((length text - length rest) + length s.first) (lines_of behind))) none
-          ∙ ap (λ at. lines ++ placed at (lines_of behind)) (behind-line text rest s.first behind l.within s.parts);
-    }
-
-pub lines-more : (text : List ℕ) (lines : List (ℕ × List ℕ)) (rest line behind : List ℕ) → (rest ≡ [] → ⊥) → SplitsLine rest line behind → is_nothing (left_of line) ≡ false → LinesSoFar text lines rest → LinesSoFar text (lines ++ (length text - length rest, left_of line) ∷ []) behind
-lines-more text lines rest line behind some s kept l =
-    let none : is_nothing (left_of (content_of s.first)) ≡ false = subst (λ t. is_nothing (left_of t) ≡ false) s.content kept in
-    record {
-      within = (let less : length behind < length rest = s.shorter some in let w : length rest ≤ length text = l.within in omega arith);
-      same = l.same ∙ ap (λ t. lines ++ placed (length text - length rest) t) (s.lines some)
-          ∙ ap (λ nothing. lines ++ (if nothing then placed ((length text - length rest) + length s.first) (lines_of behind) else (length text - length rest, left_of (content_of s.first)) ∷ placed ((length text - length rest) + length s.first) (lines_of behind))) none
-          ∙ ap (λ at. lines ++ (length text - length rest, left_of (content_of s.first)) ∷ placed at (lines_of behind)) (behind-line text rest s.first behind l.within s.parts)
-          ∙ ap (λ t. lines ++ (length text - length rest, left_of t) ∷ placed (length text - length behind) (lines_of behind)) (sym s.content)
-          ∙ sym (append_assoc lines ((length text - length rest, left_of line) ∷ []) (placed (length text - length behind) (lines_of behind)));
-    }
 
 -- ---- the first and the last of a list
 

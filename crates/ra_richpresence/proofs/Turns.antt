@@ -92,9 +92,6 @@ pub record RunningSoFar (old text new : List ℕ) : Type 0 where
   pub shorter : length new + length text ≤ length old
   pub some : text ≡ [] → new ≡ old
 
-pub running-starts : (old : List ℕ) → RunningSoFar old [] old
-running-starts old = record { reads = same-map (all_at piece_at (length old) old); shorter = omega arith; some = λ e. refl }
-
 -- a character that begins no macro is a piece
 character-piece : (c : ℕ) (t : List ℕ) (v : ℕ) (rest : List ℕ) → (c == 64) ≡ false → character_at (c ∷ t) ≡ Ok (v, rest) → piece_at (c ∷ t) ≡ Ok (Bytes (v ∷ []), rest)
 character-piece c t v rest is read = rw is (ap (λ x. Ok (Bytes (x.0 ∷ []), x.1)) (same-ok (character_of c t) (v, rest) read))
@@ -115,9 +112,6 @@ running-more old text (c ∷ t) v new goes_on read l = record {
   some = λ e. absurd (no-end text v e);
 }
 
-pub running-ends : (old text new : List ℕ) → ends_run new ≡ true → RunningSoFar old text new → Run old text new
-running-ends old text new ends l = record { reads = l.reads; ends = ends; shorter = l.shorter; some = λ goes_on e. (let same : ends_run new ≡ ends_run old = ap ends_run (l.some e) in cc (same, ends, goes_on)) }
-
 -- ---- pieces
 
 -- the pieces so far
@@ -131,18 +125,6 @@ map-joined None = refl
 pub pieces-start : (text : List ℕ) → PiecesSoFar [] text (pieces_of text)
 unfolding pieces_of
 pieces-start text = map-joined (all_at piece_at (length text) text)
-
-pub pieces-end : (so_far : List PieceContents) (whole : Option (List PieceContents)) → PiecesSoFar so_far [] whole → whole ≡ Some so_far
-pieces-end so_far whole l = l ∙ ap (λ t. Some t) (append-nil so_far)
-
--- no piece stands there
-pub pieces-fail : (so_far : List PieceContents) (c : ℕ) (t : List ℕ) (whole : Option (List PieceContents)) (left : List ℕ) → piece_at (c ∷ t) ≡ Err left → PiecesSoFar so_far (c ∷ t) whole → whole ≡ None
-pieces-fail so_far c t whole left fails l = l ∙ ap (λ o. option_map (λ pieces. so_far ++ joined_texts pieces) (found o)) fails where
-  found : Outcome ℕ PieceContents → Option (List PieceContents)
-  found o = elim o [
-    | Ok x ↦ option_map (λ vs. x.0 ∷ vs) (all_at piece_at (length t) x.1)
-    | Err left ↦ None
-  ]
 
 -- a macro more
 macro-twice : (so_far : List PieceContents) (name : List ℕ) (value : List PartContents) (found : Option (List PieceContents)) → option_map (λ pieces. so_far ++ joined_texts pieces) (option_map (λ pieces. Shows name value ∷ pieces) found) ≡ option_map (λ pieces. (so_far ++ Shows name value ∷ []) ++ joined_texts pieces) found
@@ -202,10 +184,6 @@ pub run-more : (so_far : List PieceContents) (old text new : List ℕ) (whole : 
 run-more so_far old [] new whole goes_on r l = absurd (r.some goes_on refl)
 run-more so_far old (c ∷ text) new whole goes_on r l = l ∙ ap (option_map (λ pieces. so_far ++ joined_texts pieces)) r.reads ∙ run-twice so_far c text (all_at piece_at (length new) new) (behind-run new r.ends)
 
-pub run-smaller : (old text new : List ℕ) → ends_run old ≡ false → Run old text new → length new < length old
-run-smaller old [] new goes_on r = absurd (r.some goes_on refl)
-run-smaller old (c ∷ text) new goes_on r = (let s : length new + length (c ∷ text) ≤ length old = r.shorter in omega arith)
-
 -- ---- what the code tests
 
 -- the test for a macro, and the byte
@@ -227,11 +205,6 @@ macro-turn so_far (c ∷ t) v new whole at read l = let cut : (front : List ℕ)
 pub macro-smaller : (old : List ℕ) (v : PieceContents) (new : List ℕ) → begins (is_in (only (64 ∷ []))) old ≡ true → macro_at old ≡ Ok (v, new) → length new < length old
 macro-smaller [] v new at read = absurd (cc at)
 macro-smaller (c ∷ t) v new at read = smaller-piece (c ∷ t) v new (rw (sym (is-macro c) ∙ at) read)
-
--- no macro stands where one begins
-pub macro-fails : (so_far : List PieceContents) (old : List ℕ) (left : List ℕ) (whole : Option (List PieceContents)) → begins (is_in (only (64 ∷ []))) old ≡ true → macro_at old ≡ Err left → PiecesSoFar so_far old whole → whole ≡ None
-macro-fails so_far [] left whole at fails l = absurd (cc at)
-macro-fails so_far (c ∷ t) left whole at fails l = pieces-fail so_far c t whole left (rw (sym (is-macro c) ∙ at) fails) l
 
 -- a run goes on where something is left and no macro begins
 pub run-goes_on : (old : List ℕ) → (length old == 0) ≡ false → begins (is_in (only (64 ∷ []))) old ≡ false → ends_run old ≡ false
@@ -257,10 +230,6 @@ entries-more most name found after entry line rest whole listed adds l = record 
   made = adds l.entries l.made;
   so_far = run-next (left_only entry_of) l.entries line entry rest whole listed l.so_far;
 }
-
-pub entries-end : (most : ℕ) (name : List ℕ) (found : ReadLookup) (rest : List ScriptLine) (whole : Outcome (List ℕ) (List EntryContents)) → ((c : List ℕ) (t : List (List ℕ)) → bytes_of rest ≡ c ∷ t → left_only entry_of c ≡ None) → EntriesSoFar most name found (bytes_of rest) whole
-    → MovesAs (λ (found : ReadLookup) (entries : List EntryContents). IsLookupOf most name entries found) found rest whole
-entries-end most name found rest whole none l = record { value = l.entries; read = run-ends (left_only entry_of) l.entries (bytes_of rest) whole none l.so_far; is = l.made }
 
 pub entries-turn : (most : ℕ) (name : List ℕ) (found after : ReadLookup) (entry : EntryContents) (line : ScriptLine) (rest : List ScriptLine) (whole : Outcome (List ℕ) (List EntryContents)) → 1 ≤ length rest → line ≡ get_or rest 0 line → left_only entry_of line.bytes.now ≡ Some entry
     → ((entries : List EntryContents) → IsLookupOf most name entries found → IsLookupOf most name (entries ++ entry ∷ []) after)
@@ -296,13 +265,6 @@ sections-more most before kept after line lines rest whole head s listed read ad
   keeps = subst (λ sections. Keeps most sections after) (append_assoc before l.sections (s ∷ [])) (adds (before ++ l.sections) l.keeps);
   so_far = loop-next {S = Unit {0}} (λ s. left_only section_head_of) (λ s. section_behind_at) (λ s v. s) (λ s. true) (λ s tag lines. section_behind-shorter tag lines) l.sections tt line head lines whole s rest listed read l.so_far;
 }
-
-pub sections-fail : (most : ℕ) (before : List SectionContents) (kept : Kept) (line : List ℕ) (lines rest : List (List ℕ)) (whole : Outcome (List ℕ) (List SectionContents)) (head : HeadContents) → left_only section_head_of line ≡ Some head → section_behind_at head lines ≡ Err rest → SectionsSoFar most before kept (line ∷ lines) whole → whole ≡ Err rest
-sections-fail most before kept line lines rest whole head listed fails l =
-    loop-fails {S = Unit {0}} (λ s. left_only section_head_of) (λ s. section_behind_at) (λ s v. s) (λ s. true) (λ s tag lines. section_behind-shorter tag lines) l.sections tt line head lines whole rest listed fails l.so_far
-
-pub sections-end : (most : ℕ) (before : List SectionContents) (kept : Kept) (rest : List (List ℕ)) (whole : Outcome (List ℕ) (List SectionContents)) → ((c : List ℕ) (t : List (List ℕ)) → rest ≡ c ∷ t → left_only section_head_of c ≡ None) → (l : SectionsSoFar most before kept rest whole) → whole ≡ Ok (l.sections, rest)
-sections-end most before kept rest whole none l = loop-ends {S = Unit {0}} (λ s. left_only section_head_of) (λ s. section_behind_at) (λ s v. s) (λ s. true) l.sections tt rest whole none refl l.so_far
 
 -- want of memory at a section more
 pub fault-keeps : (most : ℕ) (before : List SectionContents) (fault : Fault) (fact : Type 0) (kept : Kept) (rest : List ScriptLine) (outcome : Outcome (List ℕ) (List SectionContents)) → AddsUnlessFull (Err fault) fact → KeepsUnlessFull most before (Err fault) kept rest outcome

@@ -49,14 +49,6 @@ module _ (job : Job) (old new : Outside) (line : Expected) (done : line.ending �
     counted = line_counted ending before;
   }
 
--- a job that wanted memory before it printed
-pub ran_without_memory : (job : Job) (old new : Outside) → new.text ≡ old.text → Ran job old new NoMemory
-ran_without_memory job old new same = record {
-  printed = λ e says. part_none old.text new.text (concat e.pieces) same;
-  said = λ told. absurd told;
-  counted = tt;
-}
-
 -- ---- a text of a set
 
 -- A job reads one set and no other file, and prints a text of its contents.

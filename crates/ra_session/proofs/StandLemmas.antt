@@ -25,29 +25,9 @@ use Rattle.ra_session.specs.Loading.{AreAccepted, BeginsAt}
 use Rattle.ra_session.proofs.EarnedLemmas.{earned_self, earned_later, kept_earned, earns_hold, save_holds, restored_with, none_and_file, opened_with, opened_holds, plain_earned}
 use Rattle.ra_session.specs.Playing.{StandsAt, IsPlayable, IsSaveOf, HoldsKept, HoldEachKept, TakesUpFrom, Plays, HoldsState}
 
--- bytes of parts are bytes of the whole
-append_bytes : (a b : List ℕ) → AreBytes a → AreBytes b → AreBytes (a ++ b)
-append_bytes [] b of_a of_b = of_b
-append_bytes (x ∷ a) b of_a of_b = (of_a.0, append_bytes a b of_a.1 of_b)
-
-take_bytes : (n : ℕ) (a : List ℕ) → AreBytes a → AreBytes (take n a)
-take_bytes zero a of_a = tt
-take_bytes (suc n) [] of_a = tt
-take_bytes (suc n) (x ∷ a) of_a = (of_a.0, take_bytes n a of_a.1)
-
-drop_bytes : (n : ℕ) (a : List ℕ) → AreBytes a → AreBytes (drop n a)
-drop_bytes zero a of_a = of_a
-drop_bytes (suc n) [] of_a = tt
-drop_bytes (suc n) (x ∷ a) of_a = drop_bytes n a of_a.1
-
 zero_bytes : (n : ℕ) → AreBytes (replicate n 0)
 zero_bytes zero = tt
 zero_bytes (suc n) = (omega arith, zero_bytes n)
-
-written_bytes : (image : List ℕ) (at : ℕ) (bytes : List ℕ) → AreBytes image → AreBytes bytes → AreBytes (written image at bytes)
-written_bytes image at bytes of_image of_bytes =
-    append_bytes (take at image) (bytes ++ drop (at + length bytes) image) (take_bytes at image of_image)
-    (append_bytes bytes (drop (at + length bytes) image) of_bytes (drop_bytes (at + length bytes) image of_image))
 
 module _ (set : SetContents) (o : Opening) (earned : Earned) where
   hold_at : (kepts : List (Option History)) (slots : List (Option KeptSeen)) → HoldEachKept set o earned kepts slots → (k : ℕ) → HoldsKept set o earned (slice_index_or kepts k None) (slice_index_or slots k None)
@@ -160,25 +140,6 @@ plays_frame set o m earned old new slots text takes is stands =
     let framed = subst (λ (s : SetContents). StandsAt s o m earned old slots → StandsAt s o (moved Framed m) (earns s o (m.image ∷ m.behind) earned) new slots × (new.lines ≡ lines s o (m.image ∷ m.behind) earned)) stands.same (own_frame old new o m earned slots takes) stands in
     record { filled = λ no. no; stands = framed.0; prints = is ∙ framed.1 }
 
--- a write changes the image alone
-pub plays_write : (set : SetContents) (o : Opening) (m : Moment) (earned : Earned) (old new : RuntimeSeen) (slots : List (Option KeptSeen)) (at : ℕ) (bytes : List ℕ) → AreBytes bytes → IsWritten old new at bytes → StandsAt set o m earned old slots → Plays set o (Written at bytes) m earned new slots []
-plays_write set o m earned old new slots at bytes are is stands = record {
-  filled = λ no. no;
-  stands = record {
-    same = ap (λ (r : RuntimeSeen). r.set) is.rest ∙ stands.same;
-    playable = stands.playable;
-    shape = stands.shape;
-    opening = stands.opening;
-    image = ap (λ (r : RuntimeSeen). r.image) is.rest ∙ ap (λ i. written i at bytes) stands.image;
-    bytes = written_bytes m.image at bytes stands.bytes are;
-    behind = stands.behind;
-    kept = ap (λ (r : RuntimeSeen). r.kept) is.rest ∙ stands.kept;
-    holds = stands.holds;
-    held = stands.held;
-  };
-  prints = refl;
-}
-
 -- a show tells what the set shows over the frames that lie behind
 own_show : (runtime : RuntimeSeen) (o : Opening) (m : Moment) (earned : Earned) (slots : List (Option KeptSeen)) (text : List ℕ) → ShowsKept runtime text → StandsAt runtime.set o m earned runtime slots → text ≡ shown runtime.set o m.behind
 own_show runtime o m earned slots text shows stands = shows o m.behind stands.opening stands.behind (stands_after o m earned runtime slots stands).0
@@ -189,9 +150,6 @@ plays_show set o m earned runtime slots text shows stands = record {
   stands = stands;
   prints = subst (λ (s : SetContents). StandsAt s o m earned runtime slots → text ≡ shown s o m.behind) stands.same (own_show runtime o m earned slots text shows) stands;
 }
-
-pub plays_end : (set : SetContents) (o : Opening) (m : Moment) (earned : Earned) (runtime : RuntimeSeen) (slots : List (Option KeptSeen)) → StandsAt set o m earned runtime slots → Plays set o Ended m earned runtime slots []
-plays_end set o m earned runtime slots stands = record { filled = λ no. no; stands = stands; prints = refl }
 
 -- The bytes of what an opening and a history leave are accepted, and say it again.
 pub record SavedComesBack (set : SetContents) (kept : Opening) : Type 0 where
@@ -325,18 +283,3 @@ stands_first set size None o behind earned made runtime slots playable shape is 
     (subst (λ (r : RuntimeSeen). StandsAt set (plain_opening set) (first_moment size []) (none_earned set) r slots) (sym takes) (stands_anew set size made slots playable shape is none))))
 stands_first set size (Some bytes) o behind earned made runtime slots playable shape is takes begins none =
     stands_behind set size o behind earned bytes made runtime slots playable shape is takes begins none
-
--- a record that is read, played by a player that is seen so
-pub plays_by : (set : SetContents) (o : Opening) (m : Moment) (earned : Earned) (record_read : Record) (e : Record) (old new : Player) (text told : List ℕ) → record_read ≡ e → new ≡ old → text ≡ told
-    → Plays set o (entry_of e) m earned old.runtime old.slots.items told → Plays set o (entry_of record_read) m earned new.runtime new.slots.items text
-plays_by set o m earned record_read e old new text told is same one plays =
-    subst (λ (t : List ℕ). Plays set o (entry_of record_read) m earned new.runtime new.slots.items t) (sym one)
-    (subst (λ (p : Player). Plays set o (entry_of record_read) m earned p.runtime p.slots.items told) (sym same)
-    (subst (λ (r : Record). Plays set o (entry_of r) m earned old.runtime old.slots.items told) (sym is) plays))
-
--- a save prints nothing, and neither does a restore
-pub plays_saved : (set : SetContents) (o : Opening) (m : Moment) (earned : Earned) (k : ℕ) (runtime : RuntimeSeen) (slots : List (Option KeptSeen)) → StandsAt set o (moved (Saved k) m) earned runtime slots → Plays set o (Saved k) m earned runtime slots []
-plays_saved set o m earned k runtime slots stands = record { filled = λ empty. empty; stands = stands; prints = refl }
-
-pub plays_restored : (set : SetContents) (o : Opening) (m : Moment) (earned : Earned) (k : ℕ) (runtime : RuntimeSeen) (slots : List (Option KeptSeen)) → StandsAt set o (moved (Restored k) m) earned runtime slots × (IsEmptySlot (Restored k) m → ⊥) → Plays set o (Restored k) m earned runtime slots []
-plays_restored set o m earned k runtime slots stands = record { filled = stands.1; stands = stands.0; prints = refl }

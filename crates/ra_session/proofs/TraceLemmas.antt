@@ -42,11 +42,6 @@ pub record PlayedTo (bytes : List ℕ) (set : SetContents) (o : Opening) (m : Mo
   pub last : moment_after moment rest.entries ≡ moment_after m all.entries
   pub last_earned : earned_after set o moment now_earned rest.entries ≡ earned_after set o m earned all.entries
 
--- before the first record nothing is printed
-pub played_none : (bytes : List ℕ) (set : SetContents) (o : Opening) (m : Moment) (earned : Earned) (all : Pieces) (reader : ReaderSeen) (runtime : RuntimeSeen) (slots : List (Option KeptSeen)) (first : Option (List ℕ))
-    → StandsAt set o m earned runtime slots → IsLeft bytes m reader all → PlayedTo bytes set o m earned all reader runtime slots first first
-played_none bytes set o m earned all reader runtime slots first stands left = record { moment = m; now_earned = earned; rest = all; left = left; stands = stands; before = []; pieces = refl; text = sym (grown-nil first); stop = refl; last = refl; last_earned = refl }
-
 module _ (bytes : List ℕ) (set : SetContents) (o : Opening) (m : Moment) (earned : Earned) (all : Pieces) (reader : ReaderSeen) (runtime : RuntimeSeen) (slots : List (Option KeptSeen)) (first now : Option (List ℕ)) (to : PlayedTo bytes set o m earned all reader runtime slots first now) where
   abbrev more : List (List ℕ)
   more = pieces_from set o to.moment to.now_earned to.rest.entries

@@ -15,10 +15,6 @@ module _ {X Y : Type 0} (f : Y → ℕ) (g : X → Y) where
   pub sum-map : (xs : List X) → sum_by f (map g xs) ≡ sum_by (λ x. f (g x)) xs
   sum-map xs = sum-from 0 xs
 
-  -- one more of the sum is no more than all of it
-  pub sum-part : (xs : List X) (i : ℕ) (d : X) → i < length xs → sum_by (λ x. f (g x)) (take i xs) + f (g (get_or xs i d)) ≤ sum_by f (map g xs)
-  sum-part xs i d less = subst (λ n. sum_by (λ x. f (g x)) (take i xs) + f (g (get_or xs i d)) ≤ n) (sym (sum-map xs)) (sum_by_more_le (λ x. f (g x)) xs i d less)
-
 -- the conditions of the macros among pieces are those of the pieces
 pub pieces_sum : (pieces : List PieceContents) → sum_by value_conditions (filter_map value_in pieces) ≡ sum_by piece_conditions pieces
 pieces_sum [] = refl

@@ -170,25 +170,6 @@ cut-script text is = ap (λ script. cut_on script (first_line text) (lines_from 
 
 -- ---- the loops
 
--- a byte before the first LF is one of its line
-pub line-next : (text : List ℕ) (k : ℕ) → k < length text → (get_or text k 0 ≡ 10 → ⊥)
-    → length (first_line (drop k text)).line ≡ suc (length (first_line (drop (suc k) text)).line)
-line-next [] k less other = absurd (omega (arith, less))
-line-next (byte ∷ text) zero less other = cases (byte == 10) refl where
-  cases : (same : Bool) → (byte == 10) ≡ same
-      → length (begun_by same byte text).line ≡ suc (length (first_line text).line)
-  cases true e = absurd (other (eqb-true byte 10 e))
-  cases false e = refl
-line-next (byte ∷ text) (suc k) less other = line-next text k (omega (arith, less)) other
-
--- an LF, or the end, is not
-pub line-ends : (text : List ℕ) (k : ℕ) → (k < length text → get_or text k 0 ≡ 10)
-    → length (first_line (drop k text)).line ≡ 0
-line-ends [] zero here = refl
-line-ends [] (suc k) here = refl
-line-ends (byte ∷ text) zero here = rw (here (omega arith)) refl
-line-ends (byte ∷ text) (suc k) here = line-ends text k (λ less. here (omega (arith, less)))
-
 -- the text of a line
 pub text-more : (first : FirstLine) (rest line text : List ℕ) (some : Bool) → first.rest ≡ Some rest
     → line ≡ first.line → some ≡ true → text ≡ (if some then without_return line else line) → text ≡ text_of first

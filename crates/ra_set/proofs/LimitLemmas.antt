@@ -135,9 +135,6 @@ module _ (set : SetContents) (script : Option ScriptParts) (is : set.script ≡ 
 
 -- ---- one limit is told
 
-some-same : (found : Option ℕ) (n m : ℕ) → found ≡ Some n → found ≡ Some m → n ≡ m
-some-same found n m a b = cc (a, b)
-
 -- where a limit is passed not all are kept
 pub keeps-not_passes : (items : List ItemContents) (script : Option ScriptParts) (why : SetRefused) → KeepsLimits items script → PassesLimit items script why → ⊥
 keeps-not_passes items script (Limit Items found) keeps passes = absurd (let le = keeps.items in let lt = passes.0 in omega (arith, le, lt))

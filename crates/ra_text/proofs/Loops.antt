@@ -80,10 +80,6 @@ module _ {A T S V : Type 0} (separator : S → A → Option T) (item_at : S → 
   pub loop-stops : (so_far : List V) (s : S) (text : List A) (whole : Outcome A (List V)) → ((c : A) (t : List A) → text ≡ c ∷ t → separator s c ≡ None) → done s ≡ false → Looping so_far s text whole → whole ≡ Err text
   loop-stops so_far s text whole none may l = l.is ∙ ap (λ o. o >>= λ others. Ok (so_far ++ others.0, others.1)) (rest-end s text none ∙ ap (λ b. ends_at b text) may)
 
-  -- a first item was read
-  pub loop-starts : (v : V) (s : S) (rest : List A) → Looping (v ∷ []) s rest (rest_at s rest >>= λ others. Ok (v ∷ others.0, others.1))
-  loop-starts v s rest = record { is = refl }
-
 -- The same for items of one form, with one kind of separator between them.
 module _ {A T V : Type 0} (separator : A → Option T) (item_at : List A → Outcome A V) where
   abbrev pub JoinedSoFar : List V → List A → Outcome A (List V) → Type 0
@@ -109,7 +105,3 @@ module _ {A T V : Type 0} (separator : A → Option T) (item_at : List A → Out
     joined-smaller c text old v rest is read =
         let left : length rest ≤ length text = subst (λ o. length (rest_of o) ≤ length text) read (shorter text) in
         omega (arith, ap length is)
-
-  -- no separator is next
-  pub joined-ends : (so_far : List V) (text : List A) (whole : Outcome A (List V)) → ((c : A) (t : List A) → text ≡ c ∷ t → separator c ≡ None) → JoinedSoFar so_far text whole → whole ≡ Ok (so_far, text)
-  joined-ends so_far text whole none l = loop-ends {S = Unit {0}} (λ s. separator) (λ s tag. item_at) (λ s v. s) (λ s. true) so_far tt text whole none refl l

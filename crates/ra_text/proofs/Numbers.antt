@@ -22,10 +22,6 @@ no-digits table base so_far K t w h = record { front = []; behind = t; v = so_fa
 digit-more : {W : Type 0} (table : ℕ → Option ℕ) (base so_far : ℕ) (K : ℕ → Form ℕ W) (c d : ℕ) → table c ≡ Some d → (t : List ℕ) (w : W) → Then (Digits table base (so_far * base + d)) K t w → Then (Digits table base so_far) K (c ∷ t) w
 digit-more table base so_far K c d listed t w h = record { front = c ∷ h.front; behind = h.behind; v = h.v; parts = ap (λ x. c ∷ x) h.parts; of_first = (d, listed, h.of_first); of_next = h.of_next }
 
-digits-empty : {W : Type 0} (table : ℕ → Option ℕ) (base so_far : ℕ) (K : ℕ → Form ℕ W) (front behind : List ℕ) (n : ℕ) (w : W) → Digits table base so_far front n → K n behind w → front ≡ [] → K so_far (front ++ behind) w
-digits-empty table base so_far K [] behind n w h k e = subst (λ x. K x behind w) h k
-digits-empty table base so_far K (c ∷ front) behind n w h k e = absurd (cc e)
-
 -- digits, of which the first is this one
 digits-first : (table : ℕ → Option ℕ) (base so_far c : ℕ) (front : List ℕ) (n : ℕ) → Digits table base so_far (c ∷ front) n → IsListed table c
 digits-first table base so_far c front n h = (h.0, h.1)

@@ -35,6 +35,3 @@ digits-next base first old number byte rest d listed so_far = record {
 -- no digit more
 pub digits-stop : (base : Base) (first : ℕ) (old : List ℕ) (number byte : ℕ) (rest : List ℕ) → digit_of base byte ≡ None → DigitsSoFar base first old number (byte ∷ rest) → SumsDigits base first old number (byte ∷ rest)
 digits-stop base first old number byte rest none so_far = record { all = so_far.all; read = so_far.same ∙ (rw (none, digits_at)); is = so_far.is }
-
-pub digits-end : (base : Base) (first : ℕ) (old : List ℕ) (number : ℕ) → DigitsSoFar base first old number [] → SumsDigits base first old number []
-digits-end base first old number so_far = record { all = so_far.all; read = so_far.same; is = so_far.is }

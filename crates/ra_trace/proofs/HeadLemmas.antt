@@ -15,13 +15,6 @@ entry_length (Restored slot) = refl
 entry_length Shown = refl
 entry_length Ended = refl
 
--- the head of a write of which all bytes are there
-pub written_head : (rest : List ℕ) → 6 + count_in rest ≤ length rest
-    → heads.Write (place_in rest) (count_in rest) ≡ head_of (Written (place_in rest) (take (count_in rest) (drop 6 rest)))
-written_head rest long =
-    let there : length (take (count_in rest) (drop 6 rest)) ≡ count_in rest = length-take-le (count_in rest) (drop 6 rest) (omega (arith, long, length-drop 6 rest)) in
-    ap (heads.Write (place_in rest)) (sym there)
-
 -- the head of a frame is of no other record
 pub framed_head : (entry : Entry) → heads.Frame ≡ head_of entry → entry ≡ Framed
 framed_head Framed is = refl

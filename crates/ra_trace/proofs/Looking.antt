@@ -169,10 +169,6 @@ knows_by content size more why old new inside same sized last next here holds en
 pub holds_opened : (reader : ReaderSeen) (bytes : List ℕ) → reader ≡ opened reader.name reader.limit → Holds reader bytes
 holds_opened reader bytes is = rw is (record { within = omega arith; behind = omega arith; held = refl })
 
--- a record stands whole where nothing is refused
-pub whole_by : (size : ℕ) (why : Option Why) (bytes : List ℕ) → why ≡ refusal size (replicate 16 true) bytes → why ≡ None → IsWhole bytes
-whole_by size why bytes here none = record { size = size; good = sym here ∙ none }
-
 -- a cut record is past the limit where that was taken, and all that may be seen was taken
 cut_stop : (limit taken long next at : ℕ) (b : Bool) → (taken == limit) ≡ b → taken ≡ min limit long → at ≡ next
     → IsStop (if b then errors.TooLong else errors.Refused at Cut) (Some (stop_within (nat_le limit long) (RefusedAt next Cut)))
@@ -202,20 +198,6 @@ stops_by content size known why old new bytes knows told holds is_size =
     let seen : refusal known (replicate 16 true) (seen_from old.limit old.next bytes) ≡ Some why
     = ap (λ n. refusal n (replicate 16 true) (seen_from old.limit old.next bytes)) (sym is_size) ∙ knows.told bytes told holds in
     rw seen (stop_by new why old.limit (length bytes) old.next knows.same.limit knows.next (λ cut. knows.cut bytes told holds (ap Some cut)))
-
--- the answer for a cut record is no failed read
-cut_not_by_fault : (b : Bool) (at before now : ℕ) → ByFault (if b then errors.TooLong else errors.Refused at Cut) before now
-cut_not_by_fault true at before now = tt
-cut_not_by_fault false at before now = tt
-
--- no such answer is a failed read
-pub not_by_fault : (reader : ReaderSeen) (why : Why) (before now : ℕ) → ByFault (refused_as reader why) before now
-not_by_fault reader Cut before now = cut_not_by_fault (reader.taken == reader.limit) reader.next before now
-not_by_fault reader Header before now = tt
-not_by_fault reader Kind before now = tt
-not_by_fault reader PastMemory before now = tt
-not_by_fault reader Slot before now = tt
-not_by_fault reader EmptySlot before now = tt
 
 -- the record that stands next, where nothing is refused
 pub found_by : (content : Option (List ℕ)) (size : ℕ) (why : Option Why) (old : ReaderSeen) (new : ReaderSeen) (at count : ℕ)

@@ -68,9 +68,6 @@ pub record HasStepped (truths : List Bool) (lefts hits sums numbers : List ℕ) 
   pub numbered : numbers' ≡ map (λ s. s.number) (part_steps parts truths lefts hits sums numbers) ++ drop (length parts) numbers
 
 module _ (truths : List Bool) (lefts hits sums numbers : List ℕ) where
-  pub stepped_none : HasStepped truths lefts hits sums numbers [] 0 false hits numbers
-  stepped_none = record { starts = refl; reset = refl; written = refl; numbered = refl }
-
   long : (parts : List PartContents) (start : ℕ) → start ≡ value_hits parts → length (flat_map (λ s. s.hits) (part_steps parts truths lefts hits sums numbers)) ≡ start
   long parts start e = length-hits_of parts truths lefts hits sums numbers ∙ sym e
 
@@ -161,9 +158,3 @@ module _ (truths : List Bool) (lefts hits sums numbers : List ℕ) where
       so.written
       ∙ ap (λ xs. flat_map (λ s. s.hits) (part_steps parts truths lefts hits sums numbers) ++ xs) (drop_all start hits (omega arith))
       ∙ append-nil (flat_map (λ s. s.hits) (part_steps parts truths lefts hits sums numbers))
-
-  pub stepped_numbers : (parts : List PartContents) (start : ℕ) (resets : Bool) (hits' numbers' : List ℕ) → length numbers ≡ length parts → HasStepped truths lefts hits sums numbers parts start resets hits' numbers' → numbers' ≡ map (λ s. s.number) (part_steps parts truths lefts hits sums numbers)
-  stepped_numbers parts start resets hits' numbers' all so =
-      so.numbered
-      ∙ ap (λ xs. map (λ s. s.number) (part_steps parts truths lefts hits sums numbers) ++ xs) (drop_all (length parts) numbers (omega arith))
-      ∙ append-nil (map (λ s. s.number) (part_steps parts truths lefts hits sums numbers))

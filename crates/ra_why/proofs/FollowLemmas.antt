@@ -112,16 +112,6 @@ module _ (old new : Watcher) (m : Moment) (f : Follows old m) where
               (slice_index_or m.slots slot None) meets empty;
         }
 
-  pub empty_on : (slot : ℕ) → TakesUp old new slot false → IsEmptySlot (Restored slot) m
-  empty_on slot takes =
-      empty_meets (slice_index_or m.slots slot None)
-      (subst (λ (s : Option Kept). SlotMeets (trigger_in old) (length old.memory) s (slice_index_or m.slots slot None))
-      takes.0 (f.slots slot))
-    where
-      empty_meets : (at : Option History) → SlotMeets (trigger_in old) (length old.memory) None at → at ≡ None
-      empty_meets None meets = refl
-      empty_meets (Some history) meets = absurd meets
-
 -- slots that meet frames, of which one is set
 set_meets : (t : TriggerContents) (size : ℕ) (slots : List (Option Kept)) (kept_frames : List (Option History))
     (named : ℕ) (kept : Kept) (history : History) → length slots ≡ length kept_frames

@@ -196,10 +196,6 @@ module _ (content : List ℕ → Option (List ℕ)) (set trace : List ℕ) (id :
     found_replies t now same found (Ok r) says own = found_decides t r.status r.text.items found own (λ more told. says more (same ∙ told))
     found_replies t now same found (Err e) says own = tt
 
--- a status of a trace is one that `why` gives
-pub traced_own : (status : ℕ) → is_traced status ≡ true → is_own status ≡ true
-traced_own status is = ap (λ b. b || (status == 3 || status == 12)) is
-
 -- ---- where the status is 0
 
 module _ (content : List ℕ → Option (List ℕ)) (set trace file bytes : List ℕ) (id : ℕ) (is_file : content set ≡ Some file) (is_trace : content trace ≡ Some bytes) where

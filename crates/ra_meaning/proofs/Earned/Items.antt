@@ -143,13 +143,6 @@ plain_earned [] = refl
 plain_earned (Unlocks id t ∷ items) = ap (λ es. false ∷ es) (plain_earned items)
 plain_earned (Ranks id format b ∷ items) = ap (λ es. false ∷ es) (plain_earned items)
 
--- beside nothing, what is earned is that
-pub none_and : (items : List ItemContents) (earned : Earned) → length earned ≡ length items → both_earned (map (λ item. false) items) earned ≡ earned
-none_and [] [] long = refl
-none_and [] (e ∷ earned) long = absurd (omega (arith, long))
-none_and (item ∷ items) [] long = absurd (omega (arith, long))
-none_and (item ∷ items) (e ∷ earned) long = ap (λ es. e ∷ es) (none_and items earned (omega (arith, long)))
-
 -- an opening with exactly these achievements earned
 pub opening_with : (set : SetContents) (o : Opening) (earned : Earned) → IsOpening (shape_of set) o → HoldTriggered earned o.items → IsOpening (shape_of set) (with_earned o earned)
 opening_with set o earned is hold = record {

@@ -156,8 +156,3 @@ pub opening_comes_back : (set : SetContents) (o : Opening) → IsShape (shape_of
 opening_comes_back set o shape is =
     let back : ComesBack (shape_of set) o = comes_back (shape_of set) o shape is in
     (accepted_none (shape_of set) (progress_bytes (shape_of set) o) back.accepted, back.says_it)
-
--- and what is kept after a history is said again by its own bytes
-pub saved_fits : (set : SetContents) (o : Opening) (history : History) → IsSpelled set → IsShape (shape_of set) → IsOpening (shape_of set) o → AreImages history → ComesBackTo set (snapshot set o history)
-saved_fits set o history spelled shape is images =
-    opening_comes_back set (snapshot set o history) shape (snapshot_fits set o history spelled is images)
