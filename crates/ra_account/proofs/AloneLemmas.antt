@@ -1,5 +1,6 @@
 -- A group in which none leaves anything for the next one in its chain.
-use Rattle.std.proofs.Common.{◌≡◌, ℕ, zero, suc, ◌+◌, ◌<◌, ◌&&◌, ◌||◌, not, Bool, true, false, None, Some, [], ◌∷◌, ◌++◌, length, slice_index, slice_index_or, refl, sym, ap, ◌∙◌, add-one, arith}
+use Rattle.std.proofs.Common.{◌≡◌, ℕ, zero, suc, ◌+◌, ◌<◌, ◌&&◌, ◌||◌, not, Bool, true, false, None, Some, [], ◌∷◌}
+use Rattle.std.proofs.Common.{◌++◌, length, slice_index, slice_index_or, refl, sym, ap, ◌∙◌, add-one, arith}
 use Rattle.std.specs.Prelude.{if◌then◌else◌}
 use Rattle.std.specs.List.{list_any, range_with_len}
 use Rattle.ra_condition.specs.Contents.{condition_at}
@@ -28,13 +29,15 @@ none_before f (suc i) alone within =
 
 -- so each stands as one alone
 pub stands_apart : (f : Frame) (j : ℕ) → StandAlone f.conditions → j < length f.conditions
-    → stands_alone (condition_at f.conditions j) (slice_index_or f.truths j false) (slice_index f.hits j) ≡ standing_at f j
+    → stands_alone (condition_at f.conditions j) (slice_index_or f.truths j false)
+    (slice_index f.hits j) ≡ standing_at f j
 stands_apart f j alone within =
     let c = condition_at f.conditions j in
     let t = slice_index_or f.truths j false in
     let h = slice_index f.hits j in
     let before = sym (none_before f j alone (omega arith)) in
-    (λ k. record { met = met (before k) t; reset = (settled c t h (before k)).reset; total = (settled c t h (before k)).total; valid = (settled c t h (before k)).valid })
+    (λ k. record
+    { met = met (before k) t; reset = (settled c t h (before k)).reset; total = (settled c t h (before k)).total; valid = (settled c t h (before k)).valid })
 
 -- the first of some places from the first on is that place
 from_none : (n : ℕ) → n ≡ 0 + n

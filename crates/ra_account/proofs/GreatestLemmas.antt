@@ -11,12 +11,14 @@ above_greatest n [] above = refl
 above_greatest n (now ∷ earlier) above = grind (arith, common_steps, above_greatest n earlier)
 
 -- the greatest of some numbers is one of them
-pub greatest_there : (now : ℕ) (earlier : List ℕ) → 0 < count_of (map (λ m. m == greatest_of (now ∷ earlier)) (now ∷ earlier))
+pub greatest_there : (now : ℕ) (earlier : List ℕ)
+    → 0 < count_of (map (λ m. m == greatest_of (now ∷ earlier)) (now ∷ earlier))
 greatest_there now [] = grind (arith, common_steps)
 greatest_there now (before ∷ earlier) = grind (arith, common_steps, greatest_there before earlier)
 
 -- a number above all before it is the greatest, and its frame the first that has it
-pub best_above : (now : ℕ) (earlier : List ℕ) → greatest_of earlier < now → best_of (now ∷ earlier) ≡ record { total = now; at = length earlier }
+pub best_above : (now : ℕ) (earlier : List ℕ) → greatest_of earlier < now → best_of (now ∷ earlier)
+    ≡ record { total = now; at = length earlier }
 best_above now earlier above = grind (arith, common_steps, above_greatest now earlier)
 
 -- a number that is not above all before it changes nothing

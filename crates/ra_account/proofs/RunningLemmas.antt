@@ -1,5 +1,6 @@
 -- The account of a condition of which the last frames are still to be counted.
-use Rattle.std.proofs.Common.{◌≡◌, ℕ, suc, ◌+◌, ◌<◌, Bool, List, [], ◌∷◌, ◌++◌, length, map, replicate, refl, sym, ap, ap₂, ◌∙◌, subst, arith, length-append}
+use Rattle.std.proofs.Common.{◌≡◌, ℕ, suc, ◌+◌, ◌<◌, Bool, List, [], ◌∷◌, ◌++◌, length, map, replicate, refl, sym, ap}
+use Rattle.std.proofs.Common.{ap₂, ◌∙◌, subst, arith, length-append}
 use Rattle.std.specs.Prelude.{max, min}
 use Rattle.std.proofs.lemmas.List.{length-map, map-append}
 use Rattle.ra_account.specs.declared.condition.ConditionAccount.{ConditionAccount}
@@ -21,7 +22,8 @@ first_by [] other = other
 first_by (b ∷ bs) other = b
 
 -- frames that are alike, and those before them
-alike_held : {A : Type 0} (f : A → Bool) (latest before all : List A) (now : Bool) (n : ℕ) → all ≡ latest ++ before → n ≡ length latest
+alike_held : {A : Type 0} (f : A → Bool) (latest before all : List A) (now : Bool) (n : ℕ) → all
+    ≡ latest ++ before → n ≡ length latest
     → map f latest ≡ replicate (length latest) now → replicate n now ++ map f before ≡ map f all
 alike_held f latest before all now n split long held =
     ap (λ k. replicate k now ++ map f before) long
@@ -30,11 +32,14 @@ alike_held f latest before all now n split long held =
     ∙ ap (map f) (sym split)
 
 -- all frames are counted once the last ones are
-pub all_counted : (frames : List Facts) (r : Running) (n : ℕ) (a : ConditionAccount) (known : Runs frames r) → n + r.since ≡ length frames
-    → HasCounted (replicate n r.counts ++ map (λ f. f.counts) known.before) (replicate n r.past ++ map (λ f. f.past) known.before) a
+pub all_counted : (frames : List Facts) (r : Running) (n : ℕ) (a : ConditionAccount)
+    (known : Runs frames r) → n + r.since ≡ length frames
+    → HasCounted (replicate n r.counts ++ map (λ f. f.counts) known.before)
+    (replicate n r.past ++ map (λ f. f.past) known.before) a
     → HasCounted (map (λ f. f.counts) frames) (map (λ f. f.past) frames) a
 all_counted frames r n a known long counted =
-    let many : n ≡ length known.latest = omega (arith, long, known.since_too, ap length known.split, length-append known.latest known.before) in
+    let many : n ≡ length known.latest =
+    omega (arith, long, known.since_too, ap length known.split, length-append known.latest known.before) in
     subst (λ (xs : List Bool). HasCounted xs (map (λ f. f.past) frames) a)
     (alike_held (λ f. f.counts) known.latest known.before frames r.counts n known.split many known.counts_too)
     (subst (λ (xs : List Bool). HasCounted (replicate n r.counts ++ map (λ f. f.counts) known.before) xs a)
@@ -42,7 +47,8 @@ all_counted frames r n a known long counted =
 
 -- then there are none that are still to be counted
 pub none_latest : (frames : List Facts) (r : Running) → r.since ≡ length frames
-    → HasCounted (map (λ f. f.counts) frames) (map (λ f. f.past) frames) r.account → HasSeen frames r.account → Runs frames r
+    → HasCounted (map (λ f. f.counts) frames) (map (λ f. f.past) frames) r.account
+    → HasSeen frames r.account → Runs frames r
 none_latest frames r since counted seen = record {
   latest = [];
   before = frames;
@@ -56,7 +62,8 @@ none_latest frames r since counted seen = record {
 
 -- it has counted as far as before, where its counts and columns stay
 pub counted_like : (counts past : List Bool) (old new : ConditionAccount)
-    → new.counts ≡ old.counts → new.past ≡ old.past → new.columns ≡ old.columns → HasCounted counts past old → HasCounted counts past new
+    → new.counts ≡ old.counts → new.past ≡ old.past → new.columns ≡ old.columns
+    → HasCounted counts past old → HasCounted counts past new
 counted_like counts past old new first second third known = record {
   as_many = known.as_many;
   counts_too = first ∙ known.counts_too;
@@ -65,7 +72,8 @@ counted_like counts past old new first second third known = record {
 }
 
 -- one frame more that is like the last ones
-pub one_latest : (frames : List Facts) (old new : Running) (now : Facts) (known : Runs frames old) → now.counts ≡ old.counts → now.past ≡ old.past
+pub one_latest : (frames : List Facts) (old new : Running) (now : Facts) (known : Runs frames old)
+    → now.counts ≡ old.counts → now.past ≡ old.past
     → new.since ≡ old.since → new.counts ≡ old.counts → new.past ≡ old.past
     → HasCounted (map (λ f. f.counts) known.before) (map (λ f. f.past) known.before) new.account
     → HasSeen (now ∷ frames) new.account → IsRunning (now ∷ frames) new
@@ -75,8 +83,10 @@ one_latest frames old new now known counts past since same same_past counted see
     before = known.before;
     split = ap (λ xs. now ∷ xs) known.split;
     since_too = since ∙ known.since_too;
-    counts_too = ap₂ (λ x xs. x ∷ xs) counts known.counts_too ∙ ap (λ b. replicate (suc (length known.latest)) b) (sym same);
-    past_too = ap₂ (λ x xs. x ∷ xs) past known.past_too ∙ ap (λ b. replicate (suc (length known.latest)) b) (sym same_past);
+    counts_too = ap₂ (λ x xs. x ∷ xs) counts known.counts_too
+        ∙ ap (λ b. replicate (suc (length known.latest)) b) (sym same);
+    past_too = ap₂ (λ x xs. x ∷ xs) past known.past_too
+        ∙ ap (λ b. replicate (suc (length known.latest)) b) (sym same_past);
     counted = counted;
     seen = seen;
   };
@@ -94,7 +104,8 @@ best_again : (now : ℕ) (earlier : List ℕ) → best_of (now ∷ now ∷ earli
 best_again now earlier = best_below now (now ∷ earlier) (omega arith)
 
 -- the same frame once more
-seen_again : (now : Facts) (earlier : List Facts) (a : ConditionAccount) → HasSeen (now ∷ earlier) a → HasSeen (now ∷ now ∷ earlier) a
+seen_again : (now : Facts) (earlier : List Facts) (a : ConditionAccount) → HasSeen (now ∷ earlier) a
+    → HasSeen (now ∷ now ∷ earlier) a
 seen_again now earlier a known = record {
   best = known.best ∙ sym (best_again now.total (map (λ f. f.total) earlier));
   left = known.left ∙ sym (range_again now.left (map (λ f. f.left) earlier));
@@ -102,14 +113,16 @@ seen_again now earlier a known = record {
 }
 
 -- what is the first of frames that are alike is like them
-first_alike : {A : Type 0} (f : A → Bool) (now : A) (earlier latest before : List A) (held : Bool) → now ∷ earlier ≡ latest ++ before
+first_alike : {A : Type 0} (f : A → Bool) (now : A) (earlier latest before : List A) (held : Bool)
+    → now ∷ earlier ≡ latest ++ before
     → length before < suc (length earlier) → map f latest ≡ replicate (length latest) held → f now ≡ held
 first_alike f now earlier [] before held split some alike = grind (arith, ap length split)
 first_alike f now earlier (x ∷ latest) before held split some alike =
     ap (λ xs. head_by f xs held) split ∙ ap (λ bs. first_by bs held) alike
 
 -- a frame that shows what the last one did
-pub again : (now : Facts) (earlier : List Facts) (r : Running) → IsRunning (now ∷ earlier) r → IsRunning (now ∷ now ∷ earlier) r
+pub again : (now : Facts) (earlier : List Facts) (r : Running) → IsRunning (now ∷ earlier) r
+    → IsRunning (now ∷ now ∷ earlier) r
 again now earlier r known =
     let runs = known.runs in
     let some : length runs.before < suc (length earlier) = omega (arith, known.some (omega arith), runs.since_too) in
@@ -141,7 +154,8 @@ parts_account frames a counted seen = record {
 }
 
 -- the best and the values of these frames, where they stay
-pub numbers_like : (frames : List Facts) (old new : ConditionAccount) → HasNumbersOf old new → HasSeen frames old → HasSeen frames new
+pub numbers_like : (frames : List Facts) (old new : ConditionAccount) → HasNumbersOf old new
+    → HasSeen frames old → HasSeen frames new
 numbers_like frames old new same known = record {
   best = same.best ∙ known.best;
   left = same.left ∙ known.left;

@@ -1,5 +1,6 @@
 -- What an account tells is what its frames tell.
-use Rattle.std.proofs.Common.{◌≡◌, ℕ, zero, suc, ◌+◌, ◌-◌, ◌⊎◌, ◌*◌, ◌^◌, ◌<◌, ◌≤◌, nat_lt, Bool, true, false, List, length, map, refl, sym, ap, subst, ◌∙◌, inl, inr, arith}
+use Rattle.std.proofs.Common.{◌≡◌, ℕ, zero, suc, ◌+◌, ◌-◌, ◌⊎◌, ◌*◌, ◌^◌, ◌<◌, ◌≤◌, nat_lt, Bool, true, false, List}
+use Rattle.std.proofs.Common.{length, map, refl, sym, ap, subst, ◌∙◌, inl, inr, arith}
 use Rattle.std.specs.Prelude.{if◌then◌else◌, ◌==◌, count_by}
 use Rattle.std.specs.List.{range_with_len}
 use Rattle.std.proofs.lemmas.Bool.{cases_eq, cases_lt, lt-ltb, le-ltb, ltb-true, ltb-false, eq-eqb, ne_eqb}
@@ -13,7 +14,8 @@ use Rattle.ra_account.specs.declared.columns.Columns.{Columns}
 use Rattle.ra_account.specs.declared.condition.ConditionAccount.{ConditionAccount}
 use Rattle.ra_account.specs.declared.mark.Mark.TheVariants.{Never}
 use Rattle.ra_account.specs.Conditions.{IsAccountOf}
-use Rattle.ra_account.specs.Marks.{IsSound, IsTimeline, IsWidth, column_of, columns_with, marks_in, timeline_of, width_of}
+use Rattle.ra_account.specs.Marks.{IsSound, IsTimeline, IsWidth, column_of, columns_with, marks_in, timeline_of}
+use Rattle.ra_account.specs.Marks.{width_of}
 use Rattle.ra_account.specs.Text.{told_by, told_of}
 
 -- a power of two is not 0
@@ -22,7 +24,8 @@ power_some zero = omega arith
 power_some (suc e) = omega (arith, power_some e)
 
 -- the least power of two with one frame more
-width_by : (n : ℕ) → IsWidth n (width_of n) → (b : Bool) → nat_lt (60 * width_of n) (suc n) ≡ b → IsWidth (suc n) (if b then width_of n + width_of n else width_of n)
+width_by : (n : ℕ) → IsWidth n (width_of n) → (b : Bool) → nat_lt (60 * width_of n) (suc n) ≡ b
+    → IsWidth (suc n) (if b then width_of n + width_of n else width_of n)
 width_by n known true past =
     let some : 0 < width_of n = subst (λ w. 0 < w) (sym known.power) (power_some known.exponent) in
     doubled_width n (width_of n) (omega (arith, ltb-true (60 * width_of n) (suc n) past, known.enough)) some known
@@ -41,7 +44,8 @@ width_is (suc n) = width_by n (width_is n) (nat_lt (60 * width_of n) (suc n)) re
 -- two powers of two that are the least are one
 pub one_width : (n v w : ℕ) → IsWidth n v → IsWidth n w → v ≡ w
 one_width n v w a b =
-    let same : a.exponent ≡ b.exponent = omega (arith, a.least b.exponent (subst (λ x. n ≤ 60 * x) b.power b.enough), b.least a.exponent (subst (λ x. n ≤ 60 * x) a.power a.enough)) in
+    let same : a.exponent ≡ b.exponent =
+    omega (arith, a.least b.exponent (subst (λ x. n ≤ 60 * x) b.power b.enough), b.least a.exponent (subst (λ x. n ≤ 60 * x) a.power a.enough)) in
     a.power ∙ ap (λ e. 2 ^ e) same ∙ sym b.power
 
 -- how many of some numbers that follow are below another
@@ -71,14 +75,18 @@ column_has : (w full begun k : ℕ) → begun < w → nat_lt (k * w) (full * w +
 column_has w full begun k some = elim (cases_eq begun 0) [
   | inl none ↦ elim (cases_lt k full) [
     | inl below ↦ (let more : suc k ≤ full = below in
-        lt-ltb (k * w) (full * w + begun) (omega (arith, some, none, mul-le-mul_right w more)) ∙ sym (lt-ltb k (begun_too full begun) (omega (arith, below, none_too full begun none))))
-    | inr above ↦ le-ltb (k * w) (full * w + begun) (omega (arith, none, mul-le-mul_right w above)) ∙ sym (le-ltb k (begun_too full begun) (omega (arith, above, none_too full begun none)))
+        lt-ltb (k * w) (full * w + begun) (omega (arith, some, none, mul-le-mul_right w more))
+        ∙ sym (lt-ltb k (begun_too full begun) (omega (arith, below, none_too full begun none))))
+    | inr above ↦ le-ltb (k * w) (full * w + begun) (omega (arith, none, mul-le-mul_right w above))
+        ∙ sym (le-ltb k (begun_too full begun) (omega (arith, above, none_too full begun none)))
   ]
   | inr one ↦ elim (cases_lt k (full + 1)) [
     | inl below ↦ (let most : k ≤ full = omega (arith, below) in
-        lt-ltb (k * w) (full * w + begun) (omega (arith, one, mul-le-mul_right w most)) ∙ sym (lt-ltb k (begun_too full begun) (omega (arith, below, one_too full begun one))))
+        lt-ltb (k * w) (full * w + begun) (omega (arith, one, mul-le-mul_right w most))
+        ∙ sym (lt-ltb k (begun_too full begun) (omega (arith, below, one_too full begun one))))
     | inr above ↦ (let past : suc full ≤ k = omega (arith, above) in
-        le-ltb (k * w) (full * w + begun) (omega (arith, some, mul-le-mul_right w past)) ∙ sym (le-ltb k (begun_too full begun) (omega (arith, above, one_too full begun one))))
+        le-ltb (k * w) (full * w + begun) (omega (arith, some, mul-le-mul_right w past))
+        ∙ sym (le-ltb k (begun_too full begun) (omega (arith, above, one_too full begun one))))
   ]
 ]
 
@@ -94,7 +102,8 @@ few_columns full begun few none = elim (cases_eq begun 0) [
 
 -- a column that is one of them has a frame
 has_frame : (w full begun k : ℕ) → begun < w → k < begun_too full begun → k * w < full * w + begun
-has_frame w full begun k some below = ltb-true (k * w) (full * w + begun) (column_has w full begun k some ∙ lt-ltb k (begun_too full begun) below)
+has_frame w full begun k some below = ltb-true (k * w) (full * w + begun)
+    (column_has w full begun k some ∙ lt-ltb k (begun_too full begun) below)
 
 -- the marks of columns are those of their frames
 pub marks_are : (counts : List Bool) (c : Columns) → IsTimeline counts c → IsSound c → marks_in c ≡ timeline_of counts
@@ -104,16 +113,20 @@ marks_are counts c is sound =
     let frames = is.columns_too.frames in
     let few : m ≤ 60 = few_columns c.full c.begun sound.full sound.none_begun in
     let width : c.width ≡ width_of n = one_width n c.width (width_of n) is.width_too (width_is n) in
-    let same : ◌≡◌ {A = ℕ → Bool} (λ k. nat_lt (k * c.width) n) (λ k. nat_lt k m) = (λ i k. (ap (nat_lt (k * c.width)) (sym frames) ∙ column_has c.width c.full c.begun k sound.begun) i) in
-    let count : columns_with c.width n ≡ m = ap (λ p. count_by p (range_with_len 0 60)) same ∙ below_count m 0 60 (omega (arith, few)) ∙ omega arith in
+    let same : ◌≡◌ {A = ℕ → Bool} (λ k. nat_lt (k * c.width) n) (λ k. nat_lt k m) = (λ i k.
+    (ap (nat_lt (k * c.width)) (sym frames) ∙ column_has c.width c.full c.begun k sound.begun) i) in
+    let count : columns_with c.width n ≡ m = ap (λ p. count_by p (range_with_len 0 60)) same
+    ∙ below_count m 0 60 (omega (arith, few)) ∙ omega arith in
     fill_by_all (λ k. column_of c.width k counts) (marks_in c) m Never
     (length-take-le m c.marks.items (omega (arith, few, sound.sixty)))
-    (λ k below. get_or-take m c.marks.items k Never below ∙ is.columns_too.marks_too k (subst (λ f. k * c.width < f) frames (has_frame c.width c.full c.begun k sound.begun below)))
+    (λ k below. get_or-take m c.marks.items k Never below ∙ is.columns_too.marks_too k
+    (subst (λ f. k * c.width < f) frames (has_frame c.width c.full c.begun k sound.begun below)))
     ∙ ap (λ count. map (λ k. column_of c.width k counts) (range_with_len 0 count)) (sym count)
     ∙ ap (λ w. map (λ k. column_of w k counts) (range_with_len 0 (columns_with w n))) width
 
 -- what an account tells is what its frames tell
-pub told_is : (frames : List Facts) (a : ConditionAccount) → IsAccountOf frames a → IsSound a.columns → told_by a ≡ told_of frames
+pub told_is : (frames : List Facts) (a : ConditionAccount) → IsAccountOf frames a
+    → IsSound a.columns → told_by a ≡ told_of frames
 told_is frames a is sound = (λ i. record {
   counts = is.counts i;
   past = is.past i;

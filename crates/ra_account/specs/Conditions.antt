@@ -1,4 +1,5 @@
--- The account of one condition: docs/DEFINITIONS.md, "Account of an achievement". A list has what each frame shows of it, the newest first.
+-- The account of one condition: docs/DEFINITIONS.md, "Account of an achievement". A list has what each frame shows of
+-- it, the newest first.
 use Rattle.std.specs.Prelude.{◌≡◌, ℕ, ◌<◌, List, length, map, slice_index_or}
 use Rattle.ra_account.specs.declared.facts.Facts.{Facts}
 use Rattle.ra_account.specs.declared.condition.ConditionAccount.{ConditionAccount}

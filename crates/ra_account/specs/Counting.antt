@@ -1,4 +1,5 @@
--- At how many frames something was so, and when: docs/DEFINITIONS.md, "Account of an achievement". A list has an entry for each frame, the newest first.
+-- At how many frames something was so, and when: docs/DEFINITIONS.md, "Account of an achievement". A list has an entry
+-- for each frame, the newest first.
 use Rattle.std.specs.Prelude.{ℕ, suc, Bool, ◌&&◌, if◌then◌else◌, ◌==◌, List, [], ◌∷◌, length}
 use Rattle.ra_account.specs.declared.times.Times.{Times}
 

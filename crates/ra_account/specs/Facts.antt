@@ -1,5 +1,6 @@
 -- What a frame shows of each condition of a trigger: docs/DEFINITIONS.md, "Account of an achievement".
-use Rattle.std.specs.Prelude.{ℕ, zero, suc, ◌+◌, ◌%◌, ◌^◌, Bool, false, not, ◌&&◌, ◌||◌, if◌then◌else◌, nat_lt, List, slice_index}
+use Rattle.std.specs.Prelude.{ℕ, zero, suc, ◌+◌, ◌%◌, ◌^◌, Bool, false, not, ◌&&◌, ◌||◌, if◌then◌else◌, nat_lt, List}
+use Rattle.std.specs.Prelude.{slice_index}
 use Rattle.ra_operand.specs.declared.operand.Operand.{Operand}
 use Rattle.ra_operand.specs.declared.operand.Operand.TheVariants.{Cell}
 use Rattle.ra_operand.specs.declared.size.Size.{Size}
@@ -46,7 +47,8 @@ facts_by c standing around left right = record {
   right = right;
 }
 
--- the frame wants the condition: it has to be valid and is not, or its group is paused; or it is a PauseIf that is valid
+-- the frame wants the condition: it has to be valid and is not, or its group is paused; or it is a PauseIf that is
+-- valid
 abbrev pub wanted_by : Flag → (paused valid : Bool) → Bool
 wanted_by flag paused valid = (is_required flag && (paused || not valid)) || (is_pause flag && valid)
 
@@ -65,12 +67,14 @@ pointer_at f (suc i) = pointer_by (flag_at f.conditions i) (slice_index f.lefts 
 
 -- what the group is for its condition at j, over a memory of this many bytes
 abbrev pub around_at : Frame → (size : ℕ) → ℕ → Around
-around_at f size j = record { paused = is_paused f; in_pause_chain = in_pause_chain f.conditions j; pointer = pointer_at f j; size = size }
+around_at f size j =
+    record { paused = is_paused f; in_pause_chain = in_pause_chain f.conditions j; pointer = pointer_at f j; size = size }
 
 -- what the frame shows of the condition at j
 abbrev pub facts_at : Frame → List ℕ → (size : ℕ) → ℕ → Facts
 facts_at f rights size j =
-    facts_by (condition_at f.conditions j) (standing_at f j) (around_at f size j) (slice_index f.lefts j) (slice_index rights j)
+    facts_by (condition_at f.conditions j) (standing_at f j) (around_at f size j)
+    (slice_index f.lefts j) (slice_index rights j)
 
 -- the frame wants the condition at j
 abbrev pub wanted_at : Frame → ℕ → Bool

@@ -1,4 +1,5 @@
--- The least and the greatest of the numbers of frames: docs/DEFINITIONS.md, "Account of an achievement". A list has an entry for each frame, the newest first.
+-- The least and the greatest of the numbers of frames: docs/DEFINITIONS.md, "Account of an achievement". A list has an
+-- entry for each frame, the newest first.
 use Rattle.std.specs.Prelude.{ℕ, max, min, ◌==◌, List, [], ◌∷◌, map}
 use Rattle.ra_account.specs.Counting.{first_of}
 use Rattle.ra_account.specs.declared.best.Best.{Best}

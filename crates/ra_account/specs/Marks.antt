@@ -1,5 +1,6 @@
 -- The columns of a timeline: docs/DEFINITIONS.md, "Account of an achievement".
-use Rattle.std.specs.Prelude.{◌≡◌, ℕ, zero, suc, nat_lt, count_by, map, ◌+◌, ◌*◌, ◌^◌, ◌<◌, ◌≤◌, Bool, not, if◌then◌else◌, ◌==◌, List, length, take, drop, reverse, slice_index_or}
+use Rattle.std.specs.Prelude.{◌≡◌, ℕ, zero, suc, nat_lt, count_by, map, ◌+◌, ◌*◌, ◌^◌, ◌<◌, ◌≤◌, Bool, not}
+use Rattle.std.specs.Prelude.{if◌then◌else◌, ◌==◌, List, length, take, drop, reverse, slice_index_or}
 use Rattle.std.specs.List.{list_all, range_with_len}
 use Rattle.ra_account.specs.declared.columns.Columns.{Columns}
 use Rattle.ra_account.specs.declared.mark.Mark.{Mark}
@@ -20,7 +21,8 @@ joined Always Always = Always
 joined Never Never = Never
 joined _ _ = Sometimes
 
--- the frames of a column: of those of a history, the oldest first, `width` from the place that the columns before it leave
+-- the frames of a column: of those of a history, the oldest first, `width` from the place that the columns before it
+-- leave
 abbrev pub frames_in : (width column : ℕ) → List Bool → List Bool
 frames_in width column counts = take width (drop (column * width) counts)
 
@@ -32,7 +34,8 @@ column_of width column counts = mark_of (frames_in width column (reverse counts)
 abbrev pub mark_more : ℕ → Mark → Bool → Mark
 mark_more begun mark now = if begun == 0 then mark_at now else joined mark (mark_at now)
 
--- columns are within their bounds: the last one is not full, the width is not 0, and was not doubled before it had to be
+-- columns are within their bounds: the last one is not full, the width is not 0, and was not doubled before it had to
+-- be
 pub record IsSound (c : Columns) : Type 0 where
   pub sixty : length c.marks.items ≡ 60
   pub full : c.full ≤ 60
@@ -42,7 +45,8 @@ pub record IsSound (c : Columns) : Type 0 where
 -- they have the marks of these frames
 pub record HasColumns (counts : List Bool) (c : Columns) : Type 0 where
   pub frames : c.full * c.width + c.begun ≡ length counts
-  pub marks_too : (k : ℕ) → k * c.width < length counts → slice_index_or c.marks.items k Never ≡ column_of c.width k counts
+  pub marks_too : (k : ℕ) → k * c.width < length counts → slice_index_or c.marks.items k Never
+      ≡ column_of c.width k counts
 
 -- the width is the least power of two with which 60 columns have room for this many frames
 pub record IsWidth (frames width : ℕ) : Type 0 where
@@ -72,4 +76,5 @@ columns_with width frames = count_by (λ k. nat_lt (k * width) frames) (range_wi
 -- the marks of the columns of these frames that have one, of the least width
 abbrev pub timeline_of : List Bool → List Mark
 timeline_of counts =
-    let width = width_of (length counts) in map (λ k. column_of width k counts) (range_with_len 0 (columns_with width (length counts)))
+    let width = width_of (length counts) in
+    map (λ k. column_of width k counts) (range_with_len 0 (columns_with width (length counts)))

@@ -1,4 +1,5 @@
--- The frame at which the fewest conditions were missing: docs/DEFINITIONS.md, "Account of an achievement". A list has an entry for each frame, the newest first.
+-- The frame at which the fewest conditions were missing: docs/DEFINITIONS.md, "Account of an achievement". A list has
+-- an entry for each frame, the newest first.
 use Rattle.std.specs.Prelude.{◌≡◌, ℕ, Bool, true, not, ◌&&◌, ◌||◌, nat_lt, Option, Some, List, [], ◌∷◌, map, find}
 use Rattle.std.specs.List.{list_any}
 use Rattle.ra_account.specs.declared.nearest.Nearest.{Nearest}

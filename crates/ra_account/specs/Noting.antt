@@ -15,7 +15,8 @@ frame_in n = row_frame n.conditions.now (row_in n.row)
 -- no pointer has another value than before
 abbrev pub PointAlike : List Condition → List Sight → GroupRow → Type 0
 PointAlike cs seen row = (j : ℕ) → j < length cs
-    → pointer_by (flag_at cs j) (slice_index_or seen j no_sight).left ≡ pointer_by (flag_at cs j) (slice_index row.lefts j)
+    → pointer_by (flag_at cs j) (slice_index_or seen j no_sight).left
+    ≡ pointer_by (flag_at cs j) (slice_index row.lefts j)
 
 -- this is the first of a list
 pub record FirstIs {A : Type 0} (x : A) (xs : List A) : Type 0 where

@@ -14,7 +14,8 @@ use Rattle.ra_account.specs.declared.mark.Mark.{Mark}
 use Rattle.ra_account.specs.declared.mark.Mark.TheVariants.{Never, Sometimes, Always}
 use Rattle.ra_account.specs.declared.times.Times.{Times}
 
--- what the lines of a condition tell: where it counts and is past memory, its best, its values, and the columns that have a frame
+-- what the lines of a condition tell: where it counts and is past memory, its best, its values, and the columns that
+-- have a frame
 pub record Told : Type 0 where
   pub counts : Times
   pub past : Times
@@ -25,7 +26,8 @@ pub record Told : Type 0 where
 
 -- what an account tells
 abbrev pub told_by : ConditionAccount → Told
-told_by a = record { counts = a.counts; past = a.past; best = a.best; left = a.left; right = a.right; marks = marks_in a.columns }
+told_by a =
+    record { counts = a.counts; past = a.past; best = a.best; left = a.left; right = a.right; marks = marks_in a.columns }
 
 -- what some frames tell of a condition, the newest first
 abbrev pub told_of : List Facts → Told

@@ -1,5 +1,6 @@
 -- What a frame wants of all conditions of a trigger: docs/DEFINITIONS.md, "Account of an achievement".
-use Rattle.std.specs.Prelude.{ℕ, ◌+◌, ◌==◌, min, Bool, false, if◌then◌else◌, List, [], ◌∷◌, ◌++◌, length, map, replicate}
+use Rattle.std.specs.Prelude.{ℕ, ◌+◌, ◌==◌, min, Bool, false, if◌then◌else◌, List, [], ◌∷◌, ◌++◌, length, map}
+use Rattle.std.specs.Prelude.{replicate}
 use Rattle.std.specs.List.{flat_map, range_with_len}
 use Rattle.ra_condition.specs.declared.condition.Condition.{Condition}
 use Rattle.ra_condition.specs.Contents.{TriggerContents}
@@ -28,7 +29,8 @@ of_alts alts = of_first (fewest_of alts) alts
 -- what a frame wants of each alt, whose conditions start at a place of the row
 abbrev pub alt_wants : List (List Condition) → (from : ℕ) → GroupRow → List (List Bool)
 alt_wants alts from row =
-    map (λ g. wants_of (group_at alts g) (part_of (group_at alts g) (from + start_at alts g) row)) (range_with_len 0 (length alts))
+    map (λ g. wants_of (group_at alts g) (part_of (group_at alts g) (from + start_at alts g) row))
+    (range_with_len 0 (length alts))
 
 -- what a frame wants: conditions of the core, and of the alt of which it wants the fewest, the first of such alts
 abbrev pub trigger_wants : TriggerContents → GroupRow → List Bool

@@ -1,6 +1,7 @@
 -- The values that clap gives.
 use Rattle.std.proofs.Common.{◌≡◌, ◌∙◌, ◌||◌, ap, ap₂, codes, refl, Bool, true, false, Bor, Some}
-use Rattle.clap.specs.Words.{AddsArg, App, Rule, Text, app_of, new_app, new_rule, first_of, first_value, is_simple, rows_of, rule_of, with_rule}
+use Rattle.clap.specs.Words.{AddsArg, App, Rule, Text, app_of, new_app, new_rule, first_of, first_value, is_simple}
+use Rattle.clap.specs.Words.{rows_of, rule_of, with_rule}
 use Rattle.clap.specs.Simple.{app_of_fields}
 use Rattle.clap.specs.declared.builder.action.ArgAction.TheVariants.{Set}
 use Rattle.clap.specs.declared.builder.arg.Arg.{Arg}
@@ -21,7 +22,8 @@ unfolding clap_on_literals
 simple = refl
 
 -- the command without a name before its words
-pub bare : (old new : Command) → out-Command new ≡ record (out-Command old) { no_binary_name = true } → app_of old ≡ new_app (codes "ra_player") → app_of new ≡ bare_app
+pub bare : (old new : Command) → out-Command new ≡ record (out-Command old)
+    { no_binary_name = true } → app_of old ≡ new_app (codes "ra_player") → app_of new ≡ bare_app
 bare old new is app =
     ap app_of_fields is ∙ ap (λ (a : App). record a { top = record a.top { no_binary_name = true } }) app
 
@@ -33,7 +35,8 @@ required_by new asked set id rule asks sets =
     ∙ ap (λ (r : Rule). record r { required = true; action = Some Set }) rule
 
 -- a new argument that was given a flag, and then set by its values, has the rule of an option
-pub option_by : (new named set : Arg) (id : Bor Text) → rule_of new ≡ new_rule id.now → named ≡ record new { long = Some id }
+pub option_by : (new named set : Arg) (id : Bor Text) → rule_of new ≡ new_rule id.now → named
+    ≡ record new { long = Some id }
     → set ≡ record named { action = Some Set } → rule_of set ≡ option_rule id.now
 option_by new named set id rule names sets =
     ap rule_of sets ∙ ap (λ (a : Arg). rule_of (record a { action = Some Set })) names

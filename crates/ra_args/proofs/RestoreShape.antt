@@ -6,11 +6,13 @@ use Rattle.ra_args.specs.Words.{Run}
 use Rattle.ra_args.specs.JobCommand.{player_app, job_read}
 
 -- no file begins with `-`
-module _ (c d e : ℕ) (cs ds es : List ℕ) (hc : (c == 45) ≡ false) (hd : (d == 45) ≡ false) (he : (e == 45) ≡ false) where
+module _ (c d e : ℕ) (cs ds es : List ℕ) (hc : (c == 45) ≡ false) (hd : (d == 45) ≡ false)
+    (he : (e == 45) ≡ false) where
   pub taken : takes player_app (codes "run" ∷ (c ∷ cs) ∷ (d ∷ ds) ∷ codes "--restore" ∷ (e ∷ es) ∷ []) ≡ true
   unfolding clap_on_literals
   taken = rw (hc, hc) (rw (hd, hd) (rw (he, he) refl))
 
-  pub read : job_read (codes "run" ∷ (c ∷ cs) ∷ (d ∷ ds) ∷ codes "--restore" ∷ (e ∷ es) ∷ []) ≡ Some (Run (c ∷ cs) (d ∷ ds) (Some (e ∷ es)) None)
+  pub read : job_read (codes "run" ∷ (c ∷ cs) ∷ (d ∷ ds) ∷ codes "--restore" ∷ (e ∷ es) ∷ [])
+      ≡ Some (Run (c ∷ cs) (d ∷ ds) (Some (e ∷ es)) None)
   unfolding clap_on_literals
   read = rw (hc, hc) (rw (hd, hd) (rw (he, he) refl))

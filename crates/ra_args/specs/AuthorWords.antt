@@ -1,11 +1,13 @@
 -- The job of the words of the program for authors: docs/DEFINITIONS.md, "Jobs for authors".
-use Rattle.std.specs.Prelude.{ℕ, ◌&&◌, ◌||◌, Bool, if◌then◌else◌, Option, None, Some, option_map, List, [], ◌∷◌, codes, bytes_eq}
+use Rattle.std.specs.Prelude.{ℕ, ◌&&◌, ◌||◌, Bool, if◌then◌else◌, Option, None, Some, option_map, List, [], ◌∷◌, codes}
+use Rattle.std.specs.Prelude.{bytes_eq}
 use Rattle.ra_args.specs.JobWords.{number_of}
 use Rattle.ra_args.specs.Words.{is_name}
 use Rattle.ra_args.specs.declared.author_words.AuthorJob.{AuthorJob as ReadJob}
 use Rattle.ra_args.specs.declared.author_words.AuthorJob.TheVariants as read
 
--- what the words ask for: to review a set, to tell why an achievement did or did not unlock over a trace, to put the set
+-- what the words ask for: to review a set, to tell why an achievement did or did not unlock over a trace, to put the
+-- set
 -- that is left of a document, the help text, or the version
 pub data AuthorJob : Type 0 where
   Review : (set : List ℕ) → AuthorJob

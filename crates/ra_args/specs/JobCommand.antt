@@ -1,6 +1,8 @@
 -- The command line as clap reads it: docs/DEFINITIONS.md, "Jobs".
-use Rattle.std.specs.Prelude.{Option, Some, None, true, List, codes, bytes_eq, if◌then◌else◌, option_map, option_and_then}
-use Rattle.clap.specs.Words.{App, Row, Rule, Text, new_app, new_rule, with_rule, with_subcommand, first_of, subcommand_of}
+use Rattle.std.specs.Prelude.{Option, Some, None, true, List, codes, bytes_eq, if◌then◌else◌, option_map}
+use Rattle.std.specs.Prelude.{option_and_then}
+use Rattle.clap.specs.Words.{App, Row, Rule, Text, new_app, new_rule, with_rule, with_subcommand, first_of}
+use Rattle.clap.specs.Words.{subcommand_of}
 use Rattle.clap.specs.declared.builder.action.ArgAction.TheVariants.{Set}
 use Rattle.ra_args.specs.Words.{Job, Run, Check, Make, Import, Lint, Normal, Explain}
 use Rattle.ra_args.specs.JobWords.{number_of}
@@ -16,7 +18,8 @@ option_rule id = record (new_rule id) { long = Some id; action = Some Set }
 -- `run SET TRACE [--restore FILE] [--save FILE]`
 abbrev pub run_app : App
 run_app =
-    with_rule (with_rule (with_rule (with_rule (new_app (codes "run")) (required_rule (codes "SET"))) (required_rule (codes "TRACE")))
+    with_rule (with_rule (with_rule (with_rule (new_app (codes "run"))
+    (required_rule (codes "SET"))) (required_rule (codes "TRACE")))
     (option_rule (codes "restore"))) (option_rule (codes "save"))
 
 -- a command with one word after its name
@@ -38,7 +41,8 @@ bare_app = let app = new_app (codes "ra_player") in record app { top = record ap
 -- the command with its jobs
 abbrev pub player_app : App
 player_app =
-    with_subcommand (with_subcommand (with_subcommand (with_subcommand (with_subcommand (with_subcommand (with_subcommand bare_app run_app.top)
+    with_subcommand (with_subcommand (with_subcommand
+    (with_subcommand (with_subcommand (with_subcommand (with_subcommand bare_app run_app.top)
     (short_app (codes "check") (codes "SET")).top) (short_app (codes "make") (codes "N")).top)
     (pair_app (codes "import") (codes "FILE") (codes "SET")).top) (short_app (codes "lint") (codes "SET")).top)
     (pair_app (codes "normal") (codes "SET") (codes "OUT")).top) explain_app.top
@@ -51,7 +55,8 @@ run_with _ _ restore save = None
 -- the run of the values that were given
 abbrev pub run_given : List Row → Option Job
 run_given rows =
-    run_with (first_of (codes "SET") rows) (first_of (codes "TRACE") rows) (first_of (codes "restore") rows) (first_of (codes "save") rows)
+    run_with (first_of (codes "SET") rows) (first_of (codes "TRACE") rows)
+    (first_of (codes "restore") rows) (first_of (codes "save") rows)
 
 -- the check of the value that was given
 abbrev pub check_given : List Row → Option Job
@@ -78,7 +83,9 @@ normal_given rows =
 -- the explanation of the values that were given
 abbrev pub explain_given : List Row → Option Job
 explain_given rows =
-    option_and_then (λ set. option_and_then (λ trace. option_map (Explain set trace) (option_and_then number_of (first_of (codes "ID") rows))) (first_of (codes "TRACE") rows)) (first_of (codes "SET") rows)
+    option_and_then (λ set. option_and_then (λ trace. option_map (Explain set trace)
+    (option_and_then number_of (first_of (codes "ID") rows))) (first_of (codes "TRACE") rows))
+    (first_of (codes "SET") rows)
 
 -- the job of a name, with the values that were given
 abbrev pub job_given : Text → List Row → Option Job

@@ -1,5 +1,6 @@
 -- The job of the words: docs/DEFINITIONS.md, "Jobs".
-use Rattle.std.specs.Prelude.{ℕ, ◌+◌, ◌-◌, ◌*◌, ◌^◌, ◌&&◌, Bool, not, if◌then◌else◌, nat_lt, Option, None, Some, option_map, List, [], ◌∷◌, fold, codes, bytes_eq, decimal}
+use Rattle.std.specs.Prelude.{ℕ, ◌+◌, ◌-◌, ◌*◌, ◌^◌, ◌&&◌, Bool, not, if◌then◌else◌, nat_lt, Option, None, Some}
+use Rattle.std.specs.Prelude.{option_map, List, [], ◌∷◌, fold, codes, bytes_eq, decimal}
 use Rattle.ra_args.specs.Words.{Job, Run, Check, Make, Import, Lint, Normal, Explain, is_name}
 use Rattle.ra_args.specs.declared.job_words.Job.{Job as ReadJob}
 use Rattle.ra_args.specs.declared.job_words.Job.TheVariants as read
@@ -33,7 +34,8 @@ options_of _ = None
 -- the words after `run`: a set, a trace, and options
 abbrev pub run_of : List (List ℕ) → Option Job
 run_of (set ∷ trace ∷ options) =
-    if is_name set && is_name trace then option_map (λ files. Run set trace files.0 files.1) (options_of options) else None
+    if is_name set && is_name trace
+    then option_map (λ files. Run set trace files.0 files.1) (options_of options) else None
 run_of _ = None
 
 -- the words after `check`: a set
@@ -63,7 +65,8 @@ normal_of _ = None
 
 -- the words after `explain`: a set, a trace and the id of an achievement
 abbrev pub explain_of : List (List ℕ) → Option Job
-explain_of (set ∷ trace ∷ id ∷ []) = if is_name set && is_name trace then option_map (Explain set trace) (number_of id) else None
+explain_of (set ∷ trace ∷ id ∷ []) =
+    if is_name set && is_name trace then option_map (Explain set trace) (number_of id) else None
 explain_of _ = None
 
 -- the job that the words ask for, where they are one

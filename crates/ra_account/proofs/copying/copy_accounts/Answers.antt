@@ -17,8 +17,10 @@ loop-account-preserved c =
       many = ap length items ∙ length-append olds (next ∷ []) ∙ ap (λ n. n + 1) known.many;
       same = λ frames was. subst (λ (xs : List Running). AreRunning frames xs) (sym items)
           (each_pushed (λ j a. IsRunning (frames j) a) olds next place known.many (known.same frames was)
-          (c.in_ok-copy_running.ensures.same (frames place) (subst (λ (a : Running). IsRunning (frames place) a) (sym c.account-item.is) (was place within own))));
+          (c.in_ok-copy_running.ensures.same (frames place) (subst (λ (a : Running). IsRunning
+          (frames place) a) (sym c.account-item.is) (was place within own))));
       stand = λ count was. subst (λ (xs : List Running). AllRunAt count xs) (sym items)
           (each_pushed (λ j a. RunsAt count a) olds next place known.many (known.stand count was)
-          (c.in_ok-copy_running.ensures.stands count (subst (λ (a : Running). RunsAt count a) (sym c.account-item.is) (was place within own))));
+          (c.in_ok-copy_running.ensures.stands count (subst (λ (a : Running). RunsAt count a)
+          (sym c.account-item.is) (was place within own))));
     }

@@ -8,6 +8,7 @@ use Rattle.ra_account.proofs.copying.copy_accounts.Given as goal
 abbrev pub invariant-loop-account : goal.invariant-loop-account
 invariant-loop-account l = record {
   many : length l.copy.items ≡ l.account-index;
-  same : (frames : ℕ → List Facts) → AreRunning frames l.accounts → (j : ℕ) → j < length l.copy.items → (d : Running) → IsRunning (frames j) (get_or l.copy.items j d);
+  same : (frames : ℕ → List Facts) → AreRunning frames l.accounts → (j : ℕ)
+      → j < length l.copy.items → (d : Running) → IsRunning (frames j) (get_or l.copy.items j d);
   stand : (count : ℕ) → AllRunAt count l.accounts → AllRunAt count l.copy.items;
 }

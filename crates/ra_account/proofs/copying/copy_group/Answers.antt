@@ -8,7 +8,8 @@ pub returns-clause-same : goal.returns-clause-same
 returns-clause-same c = λ cs size frames was. record {
   count = was.count;
   each = c.in_ok-conditions.ensures.same (λ j. map (shown cs size j) frames)
-      (subst (λ (xs : List Running). AreRunning (λ j. map (shown cs size j) frames) xs) (sym c.deref.ensures.value) was.each);
+      (subst (λ (xs : List Running). AreRunning (λ j. map (shown cs size j) frames) xs)
+      (sym c.deref.ensures.value) was.each);
   last = λ yes. absurd (cc);
 }
 

@@ -8,6 +8,7 @@ abbrev pub invariant-loop-group : goal.invariant-loop-group
 invariant-loop-group l = record {
   many : length l.copy.items ≡ l.group-index;
   fit : (gs : List (List Condition)) → AllFit gs l.groups → AllFit gs l.copy.items;
-  same : (gs : List (List Condition)) (from size : ℕ) (frames : List GroupRow) → AreGroupAccounts gs from size frames l.groups → AreGroupAccounts gs from size frames l.copy.items;
+  same : (gs : List (List Condition)) (from size : ℕ) (frames : List GroupRow) → AreGroupAccounts gs
+      from size frames l.groups → AreGroupAccounts gs from size frames l.copy.items;
   stand : (count : ℕ) → AllGroupsStandAt count l.groups → AllGroupsStandAt count l.copy.items;
 }

@@ -13,7 +13,8 @@ loop-preserved c =
     record {
       many = ap length items ∙ length-append olds (next ∷ []) ∙ ap (λ n. n + 1) known.many;
       begun = subst (λ (xs : List Running). AreRunning (λ j. []) xs) (sym items)
-          (each_pushed (λ j a. IsRunning [] a) olds next c.loop.counter known.many known.begun c.in_ok-new.ensures.begun);
+          (each_pushed (λ j a. IsRunning [] a) olds next c.loop.counter known.many known.begun
+          c.in_ok-new.ensures.begun);
       stand = subst (λ (xs : List Running). AllRunAt 0 xs) (sym items)
           (each_pushed (λ j a. RunsAt 0 a) olds next c.loop.counter known.many known.stand c.in_ok-new.ensures.stands);
     }

@@ -16,7 +16,8 @@ invariant-loop-place l = record {
       → get_or l.fn.seen j no_sight ≡ sight_at (row_in l.frame.row) j
       → FirstIs (facts_at (frame_in l.frame) l.frame.row.rights.now l.frame.size j) (earlier j))
       → AreRunning earlier l.fn.accounts → (j : ℕ) → j < l.place → (d : Running)
-      → IsRunning (facts_at (frame_in l.frame) l.frame.row.rights.now l.frame.size j ∷ earlier j) (get_or l.accounts j d);
+      → IsRunning (facts_at (frame_in l.frame) l.frame.row.rights.now l.frame.size j ∷ earlier j)
+      (get_or l.accounts j d);
   stand : (j : ℕ) → j < l.place → (d : Running) → RunsAt (l.frame.at + 1) (get_or l.accounts j d);
   wanted : (j : ℕ) → j < l.place → get_or l.wants j false ≡ wanted_at (frame_in l.frame) j;
   seen_too : (j : ℕ) → j < l.place → get_or l.seen j no_sight ≡ sight_at (row_in l.frame.row) j;

@@ -18,9 +18,11 @@ loop-place-preserved c =
     let resets : ℕ → Bool = λ j. is_reset (flag_at f.conditions j) && (settled_at f j).valid in
     record {
       pauses = any_more pauses place c.loop-place.paused c.is_pausing-paused.result known.pauses
-          (c.is_pausing-paused.ensures ∙ ap (λ (s : Standing). is_pause (flag_at f.conditions place) && s.valid) stands);
+          (c.is_pausing-paused.ensures
+          ∙ ap (λ (s : Standing). is_pause (flag_at f.conditions place) && s.valid) stands);
       resets_too = any_more resets place c.loop-place.resets c.is_resetting-resets.result known.resets_too
-          (c.is_resetting-resets.ensures ∙ ap (λ (s : Standing). is_reset (flag_at f.conditions place) && s.valid) stands);
+          (c.is_resetting-resets.ensures
+          ∙ ap (λ (s : Standing). is_reset (flag_at f.conditions place) && s.valid) stands);
       moved_too = λ stays.
           let both = neither c.loop-place.moved c.is_moved-moved.result stays in
           below_more _ _ (known.moved_too both.0) (c.is_moved-moved.ensures both.1);

@@ -15,6 +15,7 @@ invariant-loop-place l = record {
       && (settled_at (row_frame l.conditions (row_in l.row)) j).valid) (range_with_len 0 l.place);
   resets_too : l.resets ≡ list_any (λ j. is_reset (flag_at l.conditions j)
       && (settled_at (row_frame l.conditions (row_in l.row)) j).valid) (range_with_len 0 l.place);
-  moved_too : l.moved ≡ false → (j : ℕ) → j < l.place → pointer_by (flag_at l.conditions j) (slice_index_or l.seen j no_sight).left
+  moved_too : l.moved ≡ false → (j : ℕ) → j < l.place
+      → pointer_by (flag_at l.conditions j) (slice_index_or l.seen j no_sight).left
       ≡ pointer_by (flag_at l.conditions j) (slice_index (row_in l.row).lefts j);
 }

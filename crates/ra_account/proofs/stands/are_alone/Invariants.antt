@@ -5,4 +5,5 @@ use Rattle.ra_account.proofs.stands.are_alone.Given as goal
 
 -- none so far leaves anything
 abbrev pub invariant-loop-place : goal.invariant-loop-place
-invariant-loop-place l = (j : ℕ) → j < l.place → (combines (flag_at l.conditions j) && not (hands_on (flag_at l.conditions j))) ≡ false
+invariant-loop-place l = (j : ℕ) → j < l.place
+    → (combines (flag_at l.conditions j) && not (hands_on (flag_at l.conditions j))) ≡ false

@@ -15,5 +15,6 @@ loop-place-preserved c = λ valid.
 pub returns : goal.returns
 returns c = λ none valid.
     let passes : ℕ → Bool = λ j. is_pause (flag_at c.args.conditions.now j) && valid j in
-    let all : length c.args.conditions.now ≡ c.loop-place.place = omega (arith, c.loop-place-test.false, c.loop-place.auto.place-end) in
+    let all : length c.args.conditions.now ≡ c.loop-place.place =
+    omega (arith, c.loop-place-test.false, c.loop-place.auto.place-end) in
     ap (λ n. list_any passes (range_with_len 0 n)) all ∙ c.loop-place.invariant valid

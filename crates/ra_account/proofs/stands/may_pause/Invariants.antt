@@ -6,4 +6,5 @@ use Rattle.ra_account.proofs.stands.may_pause.Given as goal
 
 -- none so far is a PauseIf
 abbrev pub invariant-loop-place : goal.invariant-loop-place
-invariant-loop-place l = (valid : ℕ → Bool) → list_any (λ j. is_pause (flag_at l.conditions j) && valid j) (range_with_len 0 l.place) ≡ false
+invariant-loop-place l = (valid : ℕ → Bool) → list_any
+    (λ j. is_pause (flag_at l.conditions j) && valid j) (range_with_len 0 l.place) ≡ false

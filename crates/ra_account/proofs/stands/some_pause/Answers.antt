@@ -12,5 +12,6 @@ loop-place-preserved c =
     let place = c.loop-place.place in
     let passes : ℕ → Bool = λ j. is_pause (flag_at f.conditions j) && (settled_at f j).valid in
     let here : c.is_valid_pause-paused.result ≡ passes place =
-    c.is_valid_pause-paused.ensures ∙ ap (λ (s : Standing). is_pause (flag_at f.conditions place) && s.valid) (c.requires.standings place (omega arith)) in
+    c.is_valid_pause-paused.ensures ∙ ap (λ (s : Standing). is_pause (flag_at f.conditions place)
+    && s.valid) (c.requires.standings place (omega arith)) in
     any_more passes place c.loop-place.paused c.is_valid_pause-paused.result c.loop-place.invariant here

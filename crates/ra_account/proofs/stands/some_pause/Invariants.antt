@@ -7,4 +7,5 @@ use Rattle.ra_account.proofs.stands.some_pause.Given as goal
 
 -- some PauseIf so far is valid
 abbrev pub invariant-loop-place : goal.invariant-loop-place
-invariant-loop-place l = l.paused ≡ list_any (λ j. is_pause (flag_at l.conditions j) && (settled_at (frame_of l.conditions l.truths [] l.hits) j).valid) (range_with_len 0 l.place)
+invariant-loop-place l = l.paused ≡ list_any (λ j. is_pause (flag_at l.conditions j)
+    && (settled_at (frame_of l.conditions l.truths [] l.hits) j).valid) (range_with_len 0 l.place)

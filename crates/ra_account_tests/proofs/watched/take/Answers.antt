@@ -5,4 +5,5 @@ returns-in_ok-save-in-Save-clause-watches c = c.in_ok-save-in-Save.ensures.watch
 
 pub returns-in_ok-restore-in-Restore-clause-watches :
     goal.returns-in_ok-restore-in-Restore-clause-watches
-returns-in_ok-restore-in-Restore-clause-watches c = c.in_ok-restore-in-Restore.ensures.watches c.args.at c.requires.watches
+returns-in_ok-restore-in-Restore-clause-watches c =
+    c.in_ok-restore-in-Restore.ensures.watches c.args.at c.requires.watches

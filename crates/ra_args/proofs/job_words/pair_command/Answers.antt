@@ -4,11 +4,14 @@ use Rattle.ra_args.proofs.job_words.pair_command.Goals as goal
 
 pub returns-clause-app : goal.returns-clause-app
 returns-clause-app c =
-    let before = ruled _ _ _ c.in_ok-arg.ensures c.required.ensures.local _ _ c.new.ensures.app c.required.ensures.rule in
-    IfOk-weaker c.arg-2.result _ _ (λ new adds. ruled _ _ _ adds c.required-2.ensures.local _ _ before c.required-2.ensures.rule)
+    let before = ruled _ _ _ c.in_ok-arg.ensures c.required.ensures.local _ _ c.new.ensures.app
+    c.required.ensures.rule in
+    IfOk-weaker c.arg-2.result _ _
+    (λ new adds. ruled _ _ _ adds c.required-2.ensures.local _ _ before c.required-2.ensures.rule)
     c.arg-2.ensures
 
 pub returns-clause-local : goal.returns-clause-local
 returns-clause-local c =
     let before = still_local _ _ _ c.in_ok-arg.ensures c.required.ensures.local c.new.ensures.local in
-    IfOk-weaker c.arg-2.result _ _ (λ new adds. still_local _ _ _ adds c.required-2.ensures.local before) c.arg-2.ensures
+    IfOk-weaker c.arg-2.result _ _
+    (λ new adds. still_local _ _ _ adds c.required-2.ensures.local before) c.arg-2.ensures

@@ -14,6 +14,7 @@ returns c =
     let make = λ (a : App). with_subcommand a (short_app (codes "make") (codes "N")).top in
     let check = λ (a : App). with_subcommand a (short_app (codes "check") (codes "SET")).top in
     let run = λ (a : App). with_subcommand a run_app.top in
-    let before = c.in_ok-normal.ensures ∙ ap normal (c.in_ok-lint.ensures ∙ ap lint (c.in_ok-import.ensures ∙ ap import_ (c.in_ok-make.ensures ∙ ap make (c.in_ok-check.ensures
+    let before = c.in_ok-normal.ensures ∙ ap normal (c.in_ok-lint.ensures ∙ ap lint
+    (c.in_ok-import.ensures ∙ ap import_ (c.in_ok-make.ensures ∙ ap make (c.in_ok-check.ensures
     ∙ ap check (c.in_ok-run.ensures ∙ ap run (bare _ _ c.no_binary_name-bare.ensures c.new.ensures.app)))))) in
     IfOk-weaker c.with_explain.result _ _ (λ new is. is ∙ ap explain before) c.with_explain.ensures

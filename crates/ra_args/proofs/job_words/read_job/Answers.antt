@@ -9,7 +9,8 @@ use Rattle.ra_args.proofs.job_words.read_job.Goals as goal
 pub returns-in-Ok : goal.returns-in-Ok
 returns-in-Ok c =
     let job : is_some (job_of (map string_bytes c.args.words.now)) ≡ true = search rules in
-    c.job_read.ensures ∙ ap (option_and_then (λ found. job_given found.0 found.1)) c.in-Ok.ensures.found ∙ (job_taken (map string_bytes c.args.words.now) job).read
+    c.job_read.ensures ∙ ap (option_and_then (λ found. job_given found.0 found.1))
+    c.in-Ok.ensures.found ∙ (job_taken (map string_bytes c.args.words.now) job).read
 
 pub unreachable-requires : goal.unreachable-requires
 unreachable-requires c =

@@ -6,5 +6,6 @@ use Rattle.ra_args.proofs.job_words.with_explain.Goals as goal
 pub returns-in-Ok : goal.returns-in-Ok
 returns-in-Ok c =
     IfOk-weaker c.subcommand.result _ _
-    (λ new adds. adds.shape c.in-Ok.ensures.local ∙ ap (λ (a : App). with_subcommand (app_of c.args.command) a.top) c.in-Ok.ensures.app)
+    (λ new adds. adds.shape c.in-Ok.ensures.local
+    ∙ ap (λ (a : App). with_subcommand (app_of c.args.command) a.top) c.in-Ok.ensures.app)
     c.subcommand.ensures

@@ -12,5 +12,7 @@ returns-then-self-eq-COLUMNS-clause-width c = λ earlier known more past room.
     let sixty : t.full * t.width ≡ 60 * t.width = ap (λ n. n * t.width) full in
     let frames = known.columns_too.frames in
     let fits : more ≤ 60 * (t.width + t.width) = omega (arith, room, c.fold.ensures.width) in
-    let doubled = doubled_width (length earlier) t.width (omega (arith, frames)) (omega (arith, c.requires.sound.begun)) known.width_too in
-    subst (λ (w : ℕ). IsWidth more w) (sym c.fold.ensures.width) (more_width (suc (length earlier)) more (t.width + t.width) past fits doubled)
+    let doubled = doubled_width (length earlier) t.width (omega (arith, frames))
+    (omega (arith, c.requires.sound.begun)) known.width_too in
+    subst (λ (w : ℕ). IsWidth more w) (sym c.fold.ensures.width)
+    (more_width (suc (length earlier)) more (t.width + t.width) past fits doubled)

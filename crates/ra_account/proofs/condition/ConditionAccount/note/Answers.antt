@@ -1,4 +1,5 @@
-use Rattle.std.proofs.Common.{◌≡◌, ◌∷◌, ◌+◌, ◌-◌, ◌++◌, ℕ, Bool, List, length, map, replicate, sym, ap, subst, ◌∙◌, arith}
+use Rattle.std.proofs.Common.{◌≡◌, ◌∷◌, ◌+◌, ◌-◌, ◌++◌, ℕ, Bool, List, length, map, replicate, sym, ap, subst, ◌∙◌}
+use Rattle.std.proofs.Common.{arith}
 use Rattle.std.proofs.lemmas.List.{length-map}
 use Rattle.ra_account.specs.declared.columns.Columns.{Columns}
 use Rattle.ra_account.specs.declared.condition.ConditionAccount.{ConditionAccount}
@@ -25,11 +26,13 @@ returns-clause-noted c = λ earlier known.
     let now = c.args.now in
     let here = known.columns.columns_too.frames in
     let there = stands.account.columns.columns_too.frames in
-    let long : length earlier ≡ c.args.at = omega (arith, here, there, length-map earlier (λ (f : Facts). f.counts), length-map stands.frames (λ (f : Facts). f.counts), stands.long) in
+    let long : length earlier ≡ c.args.at =
+    omega (arith, here, there, length-map earlier (λ (f : Facts). f.counts), length-map stands.frames (λ (f : Facts). f.counts), stands.long) in
     let counts : List Bool = map (λ (f : Facts). f.counts) earlier in
     let past : List Bool = map (λ (f : Facts). f.past) earlier in
     let one : c.args.at + 1 - c.args.at ≡ 1 = omega arith in
-    let run = subst (λ (n : ℕ). HasCounted (replicate n now.counts ++ counts) (replicate n now.past ++ past) c.note_run.new.self) one
+    let run = subst (λ (n : ℕ). HasCounted (replicate n now.counts ++ counts)
+    (replicate n now.past ++ past) c.note_run.new.self) one
     (c.note_run.ensures.noted counts past (account_parts earlier c.args.self.now known)) in
     let seen = numbers_like earlier c.args.self.now c.note_run.new.self c.note_run.ensures.rest
     (record { best = known.best; left = known.left; right = known.right }) in
@@ -47,5 +50,6 @@ returns-clause-stands c =
       frames = c.args.now ∷ stands.frames;
       long = omega (arith, stands.long);
       account = returns-clause-noted c stands.frames stands.account;
-      sound = subst (λ (cs : Columns). IsSound cs) (sym (ap (λ (a : ConditionAccount). a.columns) c.note_numbers.ensures.rest)) c.note_run.ensures.sound;
+      sound = subst (λ (cs : Columns). IsSound cs) (sym (ap (λ (a : ConditionAccount). a.columns)
+          c.note_numbers.ensures.rest)) c.note_run.ensures.sound;
     }

@@ -10,7 +10,8 @@ pub returns-clause-noted : goal.returns-clause-noted
 returns-clause-noted c = λ earlier long was.
     let known = c.turn.ensures.runs earlier long was.runs in
     let rest = c.note_numbers.ensures.rest in
-    one_latest earlier c.turn.new.self _ c.args.now known (sym c.turn.ensures.counts) (sym c.turn.ensures.past) refl refl refl
+    one_latest earlier c.turn.new.self _ c.args.now known (sym c.turn.ensures.counts)
+    (sym c.turn.ensures.past) refl refl refl
     (counted_like (map (λ (f : Facts). f.counts) known.before) (map (λ (f : Facts). f.past) known.before)
     c.turn.new.self.account c.note_numbers.new.self
     (ap (λ (a : ConditionAccount). a.counts) rest) (ap (λ (a : ConditionAccount). a.past) rest)
@@ -24,5 +25,6 @@ returns-clause-stands c =
       frames = c.args.now ∷ stands.frames;
       long = omega (arith, stands.long);
       running = returns-clause-noted c stands.frames stands.long stands.running;
-      sound = subst (λ (cs : Columns). IsSound cs) (sym (ap (λ (a : ConditionAccount). a.columns) c.note_numbers.ensures.rest)) c.turn.ensures.sound;
+      sound = subst (λ (cs : Columns). IsSound cs) (sym (ap
+          (λ (a : ConditionAccount). a.columns) c.note_numbers.ensures.rest)) c.turn.ensures.sound;
     }

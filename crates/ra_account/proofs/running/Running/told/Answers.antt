@@ -39,7 +39,8 @@ returns-clause-told c = λ history long known.
     let past = map (λ (f : Facts). f.past) runs.before in
     parts_account history c.note_run.new.self
     (all_counted history old n c.note_run.new.self runs many
-    (c.note_run.ensures.noted counts past (copy_counted counts past old.account copy c.in_ok-account.ensures runs.counted)))
+    (c.note_run.ensures.noted counts past
+    (copy_counted counts past old.account copy c.in_ok-account.ensures runs.counted)))
     (numbers_like history copy c.note_run.new.self c.note_run.ensures.rest
     (copy_seen history old.account copy c.in_ok-account.ensures runs.seen))
 

@@ -11,5 +11,6 @@ returns-then-counts-self-clause-runs c = λ earlier long known.
     omega (arith, long, known.since_too, ap length known.split, length-append known.latest known.before) in
     none_latest earlier _ (sym long)
     (all_counted earlier old n c.note_run.new.self known many
-    (c.note_run.ensures.noted (map (λ (f : Facts). f.counts) known.before) (map (λ (f : Facts). f.past) known.before) known.counted))
+    (c.note_run.ensures.noted (map (λ (f : Facts). f.counts) known.before)
+    (map (λ (f : Facts). f.past) known.before) known.counted))
     (numbers_like earlier old.account c.note_run.new.self c.note_run.ensures.rest known.seen)

@@ -17,7 +17,8 @@ returns-after-self-eq0 c = λ earlier long was.
     let truly = ap (λ b. times_of (replicate n b ++ earlier)) (sym c.if-now.true) in
     elim c.if-self-eq0.branch [
       | then-self-eq0 w ↦
-          (let first = from ∙ sym (ap (λ b. if b then length earlier else t.first) (eq-eqb t.count 0 w.if-self-eq0.true)) in
+          (let first = from ∙ sym
+          (ap (λ b. if b then length earlier else t.first) (eq-eqb t.count 0 w.if-self-eq0.true)) in
           ap (λ (s : Times). record { count = s.count + n; first = s.first; last = c.args.to - 1 }) w.self-is
           ∙ (λ i. record { count = t.count + n; first = first i; last = last i })
           ∙ sym run ∙ truly)
