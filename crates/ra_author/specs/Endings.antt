@@ -18,7 +18,8 @@ module _ (old new : Outside) where
   abbrev pub Prints : (own : ℕ) → (text : List ℕ) → (status : ℕ) → Type 0
   Prints own text status = Closes own text old.text new.text (SinkRose old new) status
 
-  -- How an answer is put and printed: a put of its file failed, there was no memory for the put, or the file has what it
+  -- How an answer is put and printed: a put of its file failed, there was no memory for the put, or the file has what
+  -- it
   -- says and its text was printed.
   pub data AnswerEnds (job : AuthorJob) (e : Expected) (status : ℕ) : Type 0 where
     unsaved : PutsRose (author_puts job) old new → Prints 9 save_line status → AnswerEnds job e status
@@ -37,7 +38,8 @@ module _ (old new : Outside) where
 
   -- How a call ends: the words are no job, or as their job ends.
   pub data Ends (words : List (List ℕ)) (status : ℕ) : Type 0 where
-    no_job : author_job_of words ≡ None → SameContent old.content new.content → Prints 2 usage_line status → Ends words status
+    no_job : author_job_of words ≡ None → SameContent old.content new.content
+        → Prints 2 usage_line status → Ends words status
     of_job : (job : AuthorJob) → author_job_of words ≡ Some job → JobEnds job status → Ends words status
 
   -- no file changes but the one that the job puts

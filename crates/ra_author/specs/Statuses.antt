@@ -47,11 +47,13 @@ module _ (words : List (List ℕ)) (old new : Outside) where
 
   -- Without a fault the words that are no job have the usage line, unless memory ran out.
   abbrev pub IsUsage : ℕ → Type 0
-  IsUsage status = author_job_of words ≡ None → (SinkRose old new → ⊥) → (status ≡ 1) ⊎ ((status ≡ 2) × GrewBy old new usage_line)
+  IsUsage status = author_job_of words ≡ None → (SinkRose old new → ⊥)
+      → (status ≡ 1) ⊎ ((status ≡ 2) × GrewBy old new usage_line)
 
   -- Without a fault a job is done as the told files say, and all of it is printed, unless memory ran out.
   abbrev pub IsWhole : ℕ → Type 0
-  IsWhole status = (job : AuthorJob) (e : Expected) → author_job_of words ≡ Some job → JobSays old.content job e → MeetsNoFault job
+  IsWhole status = (job : AuthorJob) (e : Expected) → author_job_of words ≡ Some job
+      → JobSays old.content job e → MeetsNoFault job
       → (status ≡ 1) ⊎ ((status ≡ e.status) × GrewBy old new e.text)
 
   -- What each status says.
@@ -76,11 +78,14 @@ module _ (words : List (List ℕ)) (old new : Outside) where
     pub saved : (job : AuthorJob) (e : Expected) → author_job_of words ≡ Some job → JobSays old.content job e
         → HasSaved job e.saved old.content new.content
 
-  -- What a call that answers this status leaves of the files: the file that the words put changes only where the job was
-  -- done, and then it has the bytes that the job says; where a put of it failed; or where the text after the put was not
+  -- What a call that answers this status leaves of the files: the file that the words put changes only where the job
+  -- was
+  -- done, and then it has the bytes that the job says; where a put of it failed; or where the text after the put was
+  -- not
   -- written whole.
   pub record LeavesFiles (status : ℕ) : Type 0 where
     pub only : (status ≡ 0) ⊎ (PutsRose (puts_in (author_job_of words)) old new
         ⊎ (SameContent old.content new.content ⊎ PutsBeforeText status))
-    pub saved : status ≡ 0 → (job : AuthorJob) (e : Expected) → author_job_of words ≡ Some job → JobSays old.content job e
+    pub saved : status ≡ 0 → (job : AuthorJob) (e : Expected) → author_job_of words ≡ Some job
+        → JobSays old.content job e
         → HasSaved job e.saved old.content new.content

@@ -1,5 +1,6 @@
 -- A review has status 0 exactly where its file is a set.
-use Rattle.std.proofs.Common.{◌≡◌, ◌∙◌, ◌↔◌, inl, inr, ℕ, zero, suc, ◌+◌, ◌<◌, ◌≤◌, List, length, take, Option, None, Some, refl, sym, ap, subst, arith}
+use Rattle.std.proofs.Common.{◌≡◌, ◌∙◌, ◌↔◌, inl, inr, ℕ, zero, suc, ◌+◌, ◌<◌, ◌≤◌, List, length, take, Option, None}
+use Rattle.std.proofs.Common.{Some, refl, sym, ap, subst, arith}
 use Rattle.std.proofs.lemmas.Bool.{cases_lt}
 use Rattle.std.proofs.lemmas.List.{length-take-le, take_all}
 use Rattle.ra_set.specs.Accepted.{IsSet}
@@ -27,21 +28,25 @@ cut-set file s h =
 
 whole-set : (file : List ℕ) (s : SetContents) → IsSet (take (most_bytes + 1) file) s → IsSet file s
 whole-set file s h = elim (cases_lt most_bytes (length file)) [
-  | inl long ↦ absurd (let size = h.size in let count = length-take-le (most_bytes + 1) file (omega (arith, long)) in omega (arith, size, count))
+  | inl long ↦ absurd (let size = h.size in let count =
+      length-take-le (most_bytes + 1) file (omega (arith, long)) in omega (arith, size, count))
   | inr fits ↦ subst (λ t. IsSet t s) (take_all (most_bytes + 1) file (omega (arith, fits))) h
 ]
 
 -- what is read of a file, where it is told
 module _ (file : List ℕ) (said : Said) (is : IsReview (take (most_bytes + 1) file) said) where
   to-set : review_status said.refused said.limit ≡ 0 → (s : SetContents) × IsSet file s
-  to-set e = let s = reviewed_set (take (most_bytes + 1) file) said is (passed said.refused said.limit e) in (s.0, whole-set file s.0 s.1)
+  to-set e = let s = reviewed_set (take (most_bytes + 1) file) said is
+      (passed said.refused said.limit e) in (s.0, whole-set file s.0 s.1)
 
   from-set : (s : SetContents) × IsSet file s → review_status said.refused said.limit ≡ 0
-  from-set s = passes said.refused said.limit (set_reviewed (take (most_bytes + 1) file) said is (s.0, cut-set file s.0 s.1))
+  from-set s = passes said.refused said.limit
+      (set_reviewed (take (most_bytes + 1) file) said is (s.0, cut-set file s.0 s.1))
 
 pub review-passes : (content : List ℕ → Option (List ℕ)) (set file : List ℕ) (e : Expected) → content set ≡ Some file
     → ReviewSays content set e → (e.status ≡ 0) ↔ ((s : SetContents) × IsSet file s)
 review-passes content set file e is (reviews told said there review) =
     let same : told ≡ file = (let both : Some told ≡ Some file = sym there ∙ is in cc both) in
-    let here : IsReview (take (most_bytes + 1) file) said = subst (λ t. IsReview (take (most_bytes + 1) t) said) same review in
+    let here : IsReview (take (most_bytes + 1) file) said =
+    subst (λ t. IsReview (take (most_bytes + 1) t) said) same review in
     (to-set file said here, from-set file said here)

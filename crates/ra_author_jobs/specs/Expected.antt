@@ -1,5 +1,6 @@
 -- What a job of the program for authors says over files: docs/DEFINITIONS.md, "Jobs for authors".
-use Rattle.std.specs.Prelude.{◌≡◌, ◌⊎◌, ℕ, zero, suc, ◌+◌, ◌==◌, ◌||◌, Bool, Option, None, Some, option_map, List, ◌++◌, take, codes, is_some, true}
+use Rattle.std.specs.Prelude.{◌≡◌, ◌⊎◌, ℕ, zero, suc, ◌+◌, ◌==◌, ◌||◌, Bool, Option, None, Some, option_map, List, ◌++◌}
+use Rattle.std.specs.Prelude.{take, codes, is_some, true}
 use Rattle.std.specs.List.{AllByRecursion}
 use Rattle.ra_io.specs.Files.{SameContent}
 use Rattle.ra_args.specs.AuthorWords.{AuthorJob, Review, Why, Import, Help, Version, author_puts, author_reads}
@@ -62,13 +63,15 @@ IsOfDocument _ = Unit {0}
 
 -- what is said of the bytes of a document
 pub data SaysOfBytes (bytes : List ℕ) : Expected → Type 0 where
-  refuses_document : (why : DocumentRefused) → LeavesNothing bytes why → SaysOfBytes bytes (prints 10 (refused_document why))
+  refuses_document : (why : DocumentRefused) → LeavesNothing bytes why
+      → SaysOfBytes bytes (prints 10 (refused_document why))
   leaves : (text : List ℕ) (left_out : List LeftOut) (e : Expected) → LeavesDocument bytes text left_out
       → SaysOfLeft text left_out e → SaysOfBytes bytes e
 
 -- what `import` of this document says, where its bytes are told: at most a byte more than a document may have is read
 pub data ImportSays (content : List ℕ → Option (List ℕ)) (file : List ℕ) : Expected → Type 0 where
-  of_bytes : (bytes : List ℕ) (e : Expected) → content file ≡ Some bytes → SaysOfBytes (take (document_limit + 1) bytes) e
+  of_bytes : (bytes : List ℕ) (e : Expected) → content file ≡ Some bytes
+      → SaysOfBytes (take (document_limit + 1) bytes) e
       → ImportSays content file e
 
 -- what a job says over files whose bytes are told
@@ -79,7 +82,8 @@ JobSays content (Import file set) e = ImportSays content file e
 JobSays content Help e = e ≡ prints 0 help_text
 JobSays content Version e = e ≡ prints 0 version_text
 
--- the files that decide that a job says something with this status: those that it reads; of `why` the set alone, where it is
+-- the files that decide that a job says something with this status: those that it reads; of `why` the set alone, where
+-- it is
 -- refused or has no such achievement
 abbrev pub deciding : AuthorJob → (status : ℕ) → List (List ℕ)
 deciding (Why set trace id) status = decided_by set trace status

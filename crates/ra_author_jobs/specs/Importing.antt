@@ -53,7 +53,8 @@ cause_text cause.Again = codes "again"
 
 -- the line of what is left out
 abbrev pub left_line : LeftOut → List ℕ
-left_line row = codes "left out " ++ place_text row.list row.index row.id ++ codes " " ++ cause_text row.cause ++ codes "\n"
+left_line row = codes "left out " ++ place_text row.list row.index row.id ++ codes " "
+    ++ cause_text row.cause ++ codes "\n"
 
 -- the counts of what stays and of what is left out, without the end of their line
 abbrev pub counts_text : (achievements boards scripts left_out : ℕ) → List ℕ

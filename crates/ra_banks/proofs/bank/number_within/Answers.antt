@@ -13,9 +13,12 @@ returns c =
     let two : at + 2 ≡ suc (suc at) = omega arith in
     let three : at + 3 ≡ suc (suc (suc at)) = omega arith in
     let four : c.from_le_bytes.result ≡ raw 4 bytes at = c.from_le_bytes.ensures
-    ∙ ap (λ k. from_le_bytes w32 (get_or bytes at 0 ∷ get_or bytes k 0 ∷ get_or bytes (at + 2) 0 ∷ get_or bytes (at + 3) 0 ∷ [])) one
-    ∙ ap (λ k. from_le_bytes w32 (get_or bytes at 0 ∷ get_or bytes (suc at) 0 ∷ get_or bytes k 0 ∷ get_or bytes (at + 3) 0 ∷ [])) two
-    ∙ ap (λ k. from_le_bytes w32 (get_or bytes at 0 ∷ get_or bytes (suc at) 0 ∷ get_or bytes (suc (suc at)) 0 ∷ get_or bytes k 0 ∷ [])) three
+    ∙ ap (λ k. from_le_bytes w32 (get_or bytes at 0 ∷ get_or bytes k 0 ∷ get_or bytes (at + 2) 0
+    ∷ get_or bytes (at + 3) 0 ∷ [])) one
+    ∙ ap (λ k. from_le_bytes w32 (get_or bytes at 0 ∷ get_or bytes (suc at) 0 ∷ get_or bytes k 0
+    ∷ get_or bytes (at + 3) 0 ∷ [])) two
+    ∙ ap (λ k. from_le_bytes w32 (get_or bytes at 0 ∷ get_or bytes (suc at) 0
+    ∷ get_or bytes (suc (suc at)) 0 ∷ get_or bytes k 0 ∷ [])) three
     ∙ omega arith in
     ap₂ (λ n w. bit_and n (slice_index_or masks w 0)) four c.from.ensures
     ∙ masked (raw 4 c.args.bytes.now c.args.at) c.args.width c.requires.width

@@ -15,5 +15,7 @@ returns-then-left-self-clause-number c =
     let few = at_most_four c.args.width c.requires in
     c.number_within.ensures
     ∙ ap (raw c.args.width row.here.now) same
-    ∙ sym (raw-part c.args.width (bytes_of row.banks.now) row.here.now (bytes_of (drop row.next row.banks.now)) row.start at here.part from (omega (arith, same, c.if-left-self.true, here.four, few)))
+    ∙ sym (raw-part c.args.width (bytes_of row.banks.now) row.here.now
+    (bytes_of (drop row.next row.banks.now)) row.start at here.part from
+    (omega (arith, same, c.if-left-self.true, here.four, few)))
     ∙ ap (λ bytes. raw c.args.width bytes at) c.self.view_is
