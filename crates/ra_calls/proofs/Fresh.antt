@@ -1,5 +1,6 @@
 -- The progress of a set before its first frame is accepted.
-use Rattle.std.proofs.Common.{◌≡◌, ◌≤◌, ℕ, List, [], ◌∷◌, map, Option, None, Some, option_map, Result, Ok, Err, IfOk, OnOk, ap, subst, sym, ◌∙◌}
+use Rattle.std.proofs.Common.{◌≡◌, ◌≤◌, ℕ, List, [], ◌∷◌, map, Option, None, Some, option_map, Result, Ok, Err, IfOk}
+use Rattle.std.proofs.Common.{OnOk, ap, subst, sym, ◌∙◌}
 use Rattle.std.specs.Prelude.{IfSome, length}
 use Rattle.std.specs.List.{AllByRecursion}
 use Rattle.md5.specs.Md5.{md5}
@@ -51,18 +52,23 @@ digests_of text set is = record {
 }
 
 -- the progress before the first frame is accepted
-first_accepted : (text : List ℕ) (set : SetContents) (bytes : List ℕ) → IsFirst set bytes → IsSet text set → IsSpelled set → IsNamed set → length_of (shape_of set) ≤ 8388608 → refusal (shape_of set) bytes ≡ None
+first_accepted : (text : List ℕ) (set : SetContents) (bytes : List ℕ) → IsFirst set bytes
+    → IsSet text set → IsSpelled set → IsNamed set → length_of (shape_of set) ≤ 8388608
+    → refusal (shape_of set) bytes ≡ None
 first_accepted text set bytes first is spelled named short =
     ap (refusal (shape_of set)) first.is
-    ∙ (opening_comes_back set (plain_opening set) (is_shape set is.limits spelled named (digests_of text set is) short) (plain_is_opening set spelled)).0
+    ∙ (opening_comes_back set (plain_opening set) (is_shape set is.limits spelled named
+    (digests_of text set is) short) (plain_is_opening set spelled)).0
 
 -- bytes that are those of what is kept are a save
-pub save_is : (course : CourseSeen) (bytes : List ℕ) → bytes ≡ progress_bytes (shape_of course.set) course.kept → IsSaveOf course bytes
+pub save_is : (course : CourseSeen) (bytes : List ℕ) → bytes
+    ≡ progress_bytes (shape_of course.set) course.kept → IsSaveOf course bytes
 unfolding IsSaveOf
 save_is course bytes is = is
 
 -- a save is the bytes of what is kept
-pub of_save : (course : CourseSeen) (bytes : List ℕ) → IsSaveOf course bytes → bytes ≡ progress_bytes (shape_of course.set) course.kept
+pub of_save : (course : CourseSeen) (bytes : List ℕ) → IsSaveOf course bytes → bytes
+    ≡ progress_bytes (shape_of course.set) course.kept
 unfolding IsSaveOf
 of_save course bytes is = is
 
@@ -79,9 +85,11 @@ long_save items course (Ok v) shape is opening =
 long_save items course (Err why) shape is opening = tt
 
 -- a save right after a course was begun
-first_saved : (set : SetContents) (size : ℕ) (course : CourseSeen) (bytes : List ℕ) → IsBegun set size course → IsSaveOf course bytes → IsFirst course.set bytes
+first_saved : (set : SetContents) (size : ℕ) (course : CourseSeen) (bytes : List ℕ)
+    → IsBegun set size course → IsSaveOf course bytes → IsFirst course.set bytes
 first_saved set size course bytes begun saved = record {
-  is = of_save course bytes saved ∙ ap (progress_bytes (shape_of course.set)) begun.kept ∙ ap (λ (s : SetContents). progress_bytes (shape_of course.set) (plain_opening s)) (sym begun.set_too);
+  is = of_save course bytes saved ∙ ap (progress_bytes (shape_of course.set)) begun.kept ∙ ap (λ (s
+      : SetContents). progress_bytes (shape_of course.set) (plain_opening s)) (sym begun.set_too);
 }
 
 -- what is held right after a course was begun
@@ -91,13 +99,18 @@ pub record IsFresh (course : CourseSeen) (first : List ℕ) : Type 0 where
   pub accepted : refusal (shape_of course.set) first ≡ None
   pub long : length first ≡ length_of (shape_of course.set)
 
-pub is_fresh : (text : List ℕ) (set : SetContents) (size : ℕ) (course : CourseSeen) (first : List ℕ) → IsSet text course.set → IsSpelled course.set → IsNamed course.set → IsBegun set size course → IsSaveOf course first → length_of (shape_of course.set) ≤ 8388608 → IsFresh course first
+pub is_fresh : (text : List ℕ) (set : SetContents) (size : ℕ) (course : CourseSeen) (first : List ℕ)
+    → IsSet text course.set → IsSpelled course.set → IsNamed course.set → IsBegun set size course
+    → IsSaveOf course first → length_of (shape_of course.set) ≤ 8388608 → IsFresh course first
 is_fresh text set size course first is spelled named begun saved short =
     let begins = first_saved set size course first begun saved in
     let shape = is_shape course.set is.limits spelled named (digests_of text course.set is) short in
-    let back : ComesBack (shape_of course.set) (plain_opening course.set) = comes_back (shape_of course.set) (plain_opening course.set) shape (plain_is_opening course.set spelled) in
+    let back : ComesBack (shape_of course.set) (plain_opening course.set) = comes_back
+    (shape_of course.set) (plain_opening course.set) shape (plain_is_opening course.set spelled) in
     record { shape = shape; first_too = begins; accepted = first_accepted text course.set first begins is spelled named short; long = ap length begins.is ∙ back.long }
 
 -- the goals of a new course are those of its set, and each format that they have has digits
-pub has_digits : (set : SetContents) (goals : List Goal) → goals ≡ map goal_of set.items → IsSpelled set → (id : ℕ) (format : Format) → format_in id goals ≡ Some format → HasDigits format
-has_digits set goals same spelled id format is = digits_in id format set.items (have_digits set.items spelled.items) (ap (format_in id) (sym same) ∙ is)
+pub has_digits : (set : SetContents) (goals : List Goal) → goals ≡ map goal_of set.items → IsSpelled
+    set → (id : ℕ) (format : Format) → format_in id goals ≡ Some format → HasDigits format
+has_digits set goals same spelled id format is = digits_in id format set.items
+    (have_digits set.items spelled.items) (ap (format_in id) (sym same) ∙ is)

@@ -1,5 +1,6 @@
 -- The text of a presence line is what is shown.
-use Rattle.std.proofs.Common.{◌≡◌, ℕ, ◌-◌, ◌<◌, Bool, true, false, Option, None, Some, List, [], ◌∷◌, ◌++◌, length, take, drop, codes, decimal, refl, sym, ap, ◌∙◌, arith, length-append, cond}
+use Rattle.std.proofs.Common.{◌≡◌, ℕ, ◌-◌, ◌<◌, Bool, true, false, Option, None, Some, List, [], ◌∷◌, ◌++◌, length}
+use Rattle.std.proofs.Common.{take, drop, codes, decimal, refl, sym, ap, ◌∙◌, arith, length-append, cond}
 use Rattle.std.specs.Prelude.{nat_lt, slice_range}
 use Rattle.std.proofs.Math.Seq.{take-append_seam, drop-append_seam}
 use Rattle.std.proofs.lemmas.Bool.{lt-ltb, ltb-true}
@@ -15,7 +16,8 @@ use Rattle.ra_display.proofs.ShownWords.{shown_words}
 use Rattle.ra_calls.specs.Shows.{head_of, text_in, text_after}
 
 -- what stands behind some bytes and before a line feed
-between : (head text : List ℕ) → slice_range (head ++ (text ++ 10 ∷ [])) (length head) (length (head ++ (text ++ 10 ∷ [])) - 1) ≡ text
+between : (head text : List ℕ) → slice_range (head ++ (text ++ 10 ∷ [])) (length head)
+    (length (head ++ (text ++ 10 ∷ [])) - 1) ≡ text
 between head text =
     let whole = length-append head (text ++ 10 ∷ []) in
     let tail = length-append text (10 ∷ []) in
@@ -46,11 +48,13 @@ nothing_in n = by_test (nat_lt n 0) refl
     by_test false is = refl
 
 -- the line is the head, the text and a line feed
-line_is : (count : ℕ) (text : List ℕ) → line_of (codes "presence" ∷ decimal count ∷ text ∷ []) ≡ head_of count ++ (text ++ 10 ∷ [])
+line_is : (count : ℕ) (text : List ℕ) → line_of (codes "presence" ∷ decimal count ∷ text ∷ [])
+    ≡ head_of count ++ (text ++ 10 ∷ [])
 line_is count text = sym (shown_words (decimal count) text) ∙ append_assoc (head_of count) text (10 ∷ [])
 
 -- the text of the line that is shown
-pub shown_cut : (count : ℕ) (head : List ℕ) (start : Start) (history : History) (script : Option ScriptContents) (opened : Option KeptPresence) → head ≡ head_of count
+pub shown_cut : (count : ℕ) (head : List ℕ) (start : Start) (history : History)
+    (script : Option ScriptContents) (opened : Option KeptPresence) → head ≡ head_of count
     → text_in (length head) (shown_by start count history script opened) ≡ text_after start history script opened
 shown_cut count head start history None opened is = nothing_in (length head)
 shown_cut count head start history (Some script) None is = nothing_in (length head)

@@ -65,7 +65,8 @@ pub record TakesProgress (bytes : List ℕ) (old new : CourseSeen) : Type 0 wher
 abbrev pub AnswersRestore : (bytes : List ℕ) → (why : Refusal) → (code : ℕ) → (old new : CourseSeen) → Type 0
 AnswersRestore bytes why code old new =
     ((code ≡ done) × TakesProgress bytes old new)
-    ⊎ ((code ≡ no_progress) × ((reason : ProgressRefused) × (why ≡ progress_reason reason) × RefusesProgress bytes reason old new))
+    ⊎ ((code ≡ no_progress) × ((reason : ProgressRefused) × (why ≡ progress_reason reason)
+    × RefusesProgress bytes reason old new))
 
 -- the bytes are the progress of a set before its first frame
 pub record IsFirst (set : SetContents) (bytes : List ℕ) : Type 0 where
@@ -82,7 +83,8 @@ abbrev pub AnswersReset : (code : ℕ) → (old new : CourseSeen) → Type 0
 AnswersReset code old new = (code ≡ done) × BeginsAgain old new
 
 -- a text of this kind is given, where there is memory for it, and the game stays
-abbrev pub AnswersTold : {A : Type 0} → (CourseSeen → List A → Type 0) → (before after : List A) → (count code : ℕ) → (old new : CourseSeen) → Type 0
+abbrev pub AnswersTold : {A : Type 0} → (CourseSeen → List A → Type 0) → (before after : List A)
+    → (count code : ℕ) → (old new : CourseSeen) → Type 0
 AnswersTold {A} is_told before after count code old new =
     (new ≡ old) × ((code ≡ memory) ⊎ ((told : List A) × is_told old told × Gives told before after count code))
 

@@ -58,18 +58,21 @@ AnswersRecord id course code old new =
     ⊎ (((code ≡ memory) ⊎ ((code ≡ out_of_range) × IsUnrecorded id course)) × (new ≡ old))
 
 -- an explanation of each history for which the recording stands is given, its rows where the events have room
-pub record TellsUnlock (r : RecordingSeen) (before after : List ToldHits) (count : ℕ) (unlock : ToldUnlock) (code : ℕ) : Type 0 where
+pub record TellsUnlock (r : RecordingSeen) (before after : List ToldHits) (count : ℕ)
+    (unlock : ToldUnlock) (code : ℕ) : Type 0 where
   pub told : ExplanationContents
   pub explains : (image : List ℕ) → ExplainsBehind (over r image) told
   pub given : Gives (all_hits 0 told.events) before after count code
   pub headed : code ≡ done → unlock ≡ told_unlock told
 
 -- where the last frame was an unlock it is explained, if there is memory; else there is nothing to explain
-abbrev pub ExplainsWhere : Bool → RecordingSeen → (before after : List ToldHits) → (count : ℕ) → (unlock : ToldUnlock) → (code : ℕ) → Type 0
+abbrev pub ExplainsWhere : Bool → RecordingSeen → (before after : List ToldHits) → (count : ℕ)
+    → (unlock : ToldUnlock) → (code : ℕ) → Type 0
 ExplainsWhere false r before after count unlock code = code ≡ nothing
 ExplainsWhere true r before after count unlock code = (code ≡ memory) ⊎ TellsUnlock r before after count unlock code
 
 -- an unlock of the recorded achievement at the last frame is explained
-abbrev pub AnswersExplain : Option RecordingSeen → (before after : List ToldHits) → (count : ℕ) → (unlock : ToldUnlock) → (code : ℕ) → Type 0
+abbrev pub AnswersExplain : Option RecordingSeen → (before after : List ToldHits) → (count : ℕ)
+    → (unlock : ToldUnlock) → (code : ℕ) → Type 0
 AnswersExplain None before after count unlock code = code ≡ nothing
 AnswersExplain (Some r) before after count unlock code = ExplainsWhere r.unlocked r before after count unlock code

@@ -1,5 +1,6 @@
 -- The presence text of a game: docs/DEFINITIONS.md, "Calls from C" and "Presence over frames".
-use Rattle.std.specs.Prelude.{◌≡◌, ℕ, ◌-◌, nat_lt, if◌then◌else◌, Option, Some, List, [], ◌∷◌, ◌++◌, length, codes, decimal, slice_range}
+use Rattle.std.specs.Prelude.{◌≡◌, ℕ, ◌-◌, nat_lt, if◌then◌else◌, Option, Some, List, [], ◌∷◌, ◌++◌, length, codes}
+use Rattle.std.specs.Prelude.{decimal, slice_range}
 use Rattle.ra_memory.specs.Image.{History, AreImages}
 use Rattle.ra_memref.specs.Values.{Start}
 use Rattle.ra_richpresence.specs.Contents.{ScriptContents}
@@ -18,7 +19,8 @@ text_after start history _ _ = []
 -- the text that is shown after every opening and history after which the game stands
 abbrev pub IsShownBy : CourseSeen → List ℕ → Type 0
 IsShownBy course text =
-    (o : Opening) (history : History) → IsOpening (shape_of course.set) o → AreImages history → StandsAfter (over course []) o history
+    (o : Opening) (history : History) → IsOpening (shape_of course.set) o → AreImages history
+    → StandsAfter (over course []) o history
     → text ≡ text_after (start_of course.set o) history course.set.script o.presence
 
 -- what stands before the text of a presence line

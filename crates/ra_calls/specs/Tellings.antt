@@ -31,12 +31,14 @@ TellsRecorded None (Some told) = ⊥
 TellsRecorded (Some r) told = TellsLast r told
 
 -- an explanation is given, its rows where its events have room
-pub record GivesUnlock (told : Told) (before after : List ToldHits) (count : ℕ) (unlock : ToldUnlock) (code : ℕ) : Type 0 where
+pub record GivesUnlock (told : Told) (before after : List ToldHits) (count : ℕ)
+    (unlock : ToldUnlock) (code : ℕ) : Type 0 where
   pub given : Gives told.hits.items before after count code
   pub headed : code ≡ done → unlock ≡ told.head
 
 -- what is told is given, and else it is said that there is nothing, or no memory
-abbrev pub GivesTold : {E : Type 0} → Result (Option Told) E → (before after : List ToldHits) → (count : ℕ) → (unlock : ToldUnlock) → (code : ℕ) → Type 0
+abbrev pub GivesTold : {E : Type 0} → Result (Option Told) E → (before after : List ToldHits)
+    → (count : ℕ) → (unlock : ToldUnlock) → (code : ℕ) → Type 0
 GivesTold (Ok (Some told)) before after count unlock code = GivesUnlock told before after count unlock code
 GivesTold (Ok None) before after count unlock code = code ≡ nothing
 GivesTold (Err why) before after count unlock code = code ≡ memory

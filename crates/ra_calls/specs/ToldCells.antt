@@ -9,7 +9,8 @@ use Rattle.ra_calls.specs.declared.told_cell.ToldCell.{ToldCell}
 
 -- a cell over memories of this size: it lies whole in them where its end does not lie behind theirs
 abbrev pub told_cell : (size : ℕ) → DirectCell → ToldCell
-told_cell size c = record { address = c.place; width = c.width; whole = if nat_lt size (c.place + c.width) then 0 else 1 }
+told_cell size c = record
+    { address = c.place; width = c.width; whole = if nat_lt size (c.place + c.width) then 0 else 1 }
 
 -- the direct cells of a set over memories of this size
 abbrev pub told_cells : (size : ℕ) → SetContents → List ToldCell

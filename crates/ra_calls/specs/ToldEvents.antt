@@ -1,7 +1,8 @@
 -- Events as C reads them: docs/DEFINITIONS.md, "Calls from C".
 use Rattle.std.specs.Prelude.{ℕ, ℤ, pos}
 use Rattle.ra_meaning.specs.declared.event.Event.{Event}
-use Rattle.ra_meaning.specs.declared.event.Event.TheVariants.{Measured, Primed, Unprimed, Unlock, Start, Track, Cancel, Submit}
+use Rattle.ra_meaning.specs.declared.event.Event.TheVariants.{Measured, Primed, Unprimed, Unlock, Start, Track, Cancel}
+use Rattle.ra_meaning.specs.declared.event.Event.TheVariants.{Submit}
 use Rattle.ra_calls.specs.declared.told_event.ToldEvent.{ToldEvent}
 
 -- an event of this kind, with the item and the number that is told

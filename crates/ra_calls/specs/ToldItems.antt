@@ -1,5 +1,6 @@
 -- How the items of a set stand, as C reads it: docs/DEFINITIONS.md, "Calls from C".
-use Rattle.std.specs.Prelude.{ℕ, ℤ, ◌⊎◌, ◌+◌, pos, Bool, true, false, ◌≡◌, Option, None, Some, option_map, List, [], ◌∷◌, map, slice_index_or}
+use Rattle.std.specs.Prelude.{ℕ, ℤ, ◌⊎◌, ◌+◌, pos, Bool, true, false, ◌≡◌, Option, None, Some, option_map, List, []}
+use Rattle.std.specs.Prelude.{◌∷◌, map, slice_index_or}
 use Rattle.ra_leaderboard.specs.States.{board_byte}
 use Rattle.ra_leaderboard.specs.declared.state.BoardState.{BoardState}
 use Rattle.ra_leaderboard.specs.declared.state.BoardState.TheVariants.{Started}
@@ -50,8 +51,10 @@ item_with goal earned state measured running number = record {
 
 -- how an item that aims at this stands, earned or not; one that stands nowhere waits
 abbrev pub told_item : Goal → (earned : Bool) → Option ItemState → ToldItem
-told_item goal earned (Some (states.Achievement state measured)) = item_with goal earned (state_byte state) measured 0 (pos 0)
-told_item goal earned (Some (states.Leaderboard state tracked)) = item_with goal earned (board_byte state) 0 (flag_of (is_started state)) tracked
+told_item goal earned (Some (states.Achievement state measured)) =
+    item_with goal earned (state_byte state) measured 0 (pos 0)
+told_item goal earned (Some (states.Leaderboard state tracked)) =
+    item_with goal earned (board_byte state) 0 (flag_of (is_started state)) tracked
 told_item goal earned None = item_with goal earned 0 0 0 (pos 0)
 
 -- whether the item at a place of the set is earned
@@ -61,7 +64,8 @@ earned_at course place = slice_index_or (earned_in course.kept) place false
 -- how the items from a place of the set on stand
 abbrev pub told_from : CourseSeen → (place : ℕ) → List Goal → List ToldItem
 told_from course place [] = []
-told_from course place (goal ∷ goals) = told_item goal (earned_at course place) (state_at course.set course.kept place) ∷ told_from course (place + 1) goals
+told_from course place (goal ∷ goals) = told_item goal (earned_at course place)
+    (state_at course.set course.kept place) ∷ told_from course (place + 1) goals
 
 -- how the items of the set stand, in its order
 abbrev pub AreItemsOf : CourseSeen → List ToldItem → Type 0
@@ -76,6 +80,7 @@ abbrev pub number_in : CourseSeen → (id : ℕ) → (number : ℤ) → Option (
 number_in course id number = number_text (format_in id (map goal_of course.set.items)) number
 
 -- the number in the format of the leaderboard of an id is given, where there is memory for it, and the game stays
-abbrev pub AnswersNumber : (id : ℕ) → (number : ℤ) → (before after : List ℕ) → (count code : ℕ) → (old new : CourseSeen) → Type 0
+abbrev pub AnswersNumber : (id : ℕ) → (number : ℤ) → (before after : List ℕ) → (count code : ℕ)
+    → (old new : CourseSeen) → Type 0
 AnswersNumber id number before after count code old new =
     (new ≡ old) × ((code ≡ memory) ⊎ GivesText (number_in old id number) before after count code)

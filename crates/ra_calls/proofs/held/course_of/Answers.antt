@@ -23,4 +23,6 @@ pub returns-in-Ok-clause-named : goal.returns-in-Ok-clause-named
 returns-in-Ok-clause-named c = subst IsNamed (sym c.in-Ok.ensures.set_too) c.in_ok-set.ensures.named
 
 pub returns-in-Ok-clause-goals : goal.returns-in-Ok-clause-goals
-returns-in-Ok-clause-goals c = c.in_ok-goals.ensures ∙ ap (λ (items : List Item). map goal_of (map item_contents items)) c.deref.ensures.value ∙ ap (λ (set : SetContents). map goal_of set.items) (sym c.in-Ok.ensures.set_too)
+returns-in-Ok-clause-goals c = c.in_ok-goals.ensures
+    ∙ ap (λ (items : List Item). map goal_of (map item_contents items)) c.deref.ensures.value
+    ∙ ap (λ (set : SetContents). map goal_of set.items) (sym c.in-Ok.ensures.set_too)

@@ -10,6 +10,8 @@ pub returns-in_ok-recording-in-Some : goal.returns-in_ok-recording-in-Some
 returns-in_ok-recording-in-Some c =
     let held = c.self.inside.held in
     let r = c.in_ok-recording-in-Some.recording in
-    let found = c.in_ok-text.ensures held.set (subst (λ (bytes : List ℕ). IsSet bytes held.set) (sym c.deref.ensures.value) c.self.invariant.spelled) in
+    let found = c.in_ok-text.ensures held.set (subst (λ (bytes : List ℕ). IsSet bytes held.set)
+    (sym c.deref.ensures.value) c.self.invariant.spelled) in
     subst (λ (g : GameSeen). IsOfId c.args.id g.course (Some r)) c.self.view_is
-    (begun_of_id c.args.id held (trigger_contents c.in-Some.text) c.size.result r (sym found.same ∙ ap (option_map trigger_contents) c.in-Some.is) c.size.ensures c.in_ok-recording-in-Some.ensures)
+    (begun_of_id c.args.id held (trigger_contents c.in-Some.text) c.size.result r (sym found.same ∙
+    ap (option_map trigger_contents) c.in-Some.is) c.size.ensures c.in_ok-recording-in-Some.ensures)

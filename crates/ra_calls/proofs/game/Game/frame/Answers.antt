@@ -5,5 +5,6 @@ use Rattle.ra_calls.proofs.game.Game.frame.Goals as goal
 pub returns-in_default-2-clause-played : goal.returns-in_default-2-clause-played
 returns-in_default-2-clause-played c =
     let over = c.in_default.ensures.none refl in
-    let small : c.args.self.now.course.size ≤ 2 ^ 27 = subst (λ (g : GameSeen). g.course.size ≤ 2 ^ 27) c.self.view_is c.self.invariant.small in
+    let small : c.args.self.now.course.size ≤ 2 ^ 27 =
+    subst (λ (g : GameSeen). g.course.size ≤ 2 ^ 27) c.self.view_is c.self.invariant.small in
     inr (refl, (λ same. omega (arith, over, small, same)), refl)

@@ -8,4 +8,5 @@ use Rattle.ra_calls.proofs.Taken.{if_ok}
 use Rattle.ra_calls.proofs.held.Held.first_of.Goals as goal
 
 pub returns-clause-first : goal.returns-clause-first
-returns-clause-first c = if_ok c.save.result _ (λ bytes. IsSaveOf c.args.course.now bytes.items) (λ bytes is. save_is c.args.course.now bytes.items is) (rw c.name.ensures at c.save.ensures.bytes)
+returns-clause-first c = if_ok c.save.result _ (λ bytes. IsSaveOf c.args.course.now bytes.items) (λ
+    bytes is. save_is c.args.course.now bytes.items is) (rw c.name.ensures at c.save.ensures.bytes)

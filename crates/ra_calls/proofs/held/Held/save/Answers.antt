@@ -10,7 +10,8 @@ use Rattle.ra_calls.proofs.held.Held.save.Goals as goal
 
 pub returns-clause-saved : goal.returns-clause-saved
 returns-clause-saved c =
-    let saved = if_ok c.save.result _ (λ bytes. IsSaveOf c.self.inside.course bytes.items) (λ bytes is. save_is c.self.inside.course bytes.items is) c.save.ensures.bytes in
+    let saved = if_ok c.save.result _ (λ bytes. IsSaveOf c.self.inside.course bytes.items)
+    (λ bytes is. save_is c.self.inside.course bytes.items is) c.save.ensures.bytes in
     subst (λ (r : CourseSeen). IfOk c.save.result (λ bytes. IsSaveOf r bytes.items)) c.self.view_is saved
 
 pub returns-clause-long : goal.returns-clause-long

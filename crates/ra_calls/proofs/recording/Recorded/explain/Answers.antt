@@ -13,7 +13,8 @@ use Rattle.ra_calls.proofs.recording.Recorded.explain.Goals as goal
 pub hits_of-requires : goal.hits_of-requires
 hits_of-requires c =
     let e = c.in_ok-explanation.explanation in
-    let fits : length (map (λ (own : Events). own.list.items) e.events.items) ≡ trigger_hits c.self.inside.recording.trigger = (c.in_ok-explanation.ensures.fits []).events in
+    let fits : length (map (λ (own : Events). own.list.items) e.events.items)
+    ≡ trigger_hits c.self.inside.recording.trigger = (c.in_ok-explanation.ensures.fits []).events in
     let long : length c.deref.result.now ≡ length e.events.items = ap length c.deref.ensures.value in
     omega (arith, long, fits, c.self.invariant.few, length-map e.events.items (λ (own : Events). own.list.items))
 
@@ -24,7 +25,8 @@ returns-clause-told c =
       ap (λ (r : RecordingSeen). r.unlocked) (sym c.self.view_is) ∙ sym c.self.invariant.unlocked ∙ unlocked,
       record {
         of = of;
-        explains = subst (λ (r : RecordingSeen). (image : List ℕ) → ExplainsBehind (over r image) of) c.self.view_is c.in_ok-explanation.ensures.explains;
+        explains = subst (λ (r : RecordingSeen). (image : List ℕ)
+            → ExplainsBehind (over r image) of) c.self.view_is c.in_ok-explanation.ensures.explains;
         head = c.head_of.ensures;
         hits = c.in_ok-hits.ensures ∙ ap (λ events. all_hits 0 (contents_of events)) c.deref.ensures.value;
       },
