@@ -3,7 +3,9 @@ use Rattle.std.proofs.Common.{◌≡◌, ℕ, zero, suc, ◌≤◌, Bool, true, 
 use Rattle.std.proofs.lemmas.List.{drop_all}
 use Rattle.std.proofs.lemmas.Bool.{cond-true, cond-false, false≢true}
 use Rattle.ra_condition.specs.declared.flag.Flag.{Flag}
-use Rattle.ra_condition.specs.declared.flag.Flag.TheVariants.{Plain, PauseIf, ResetIf, AddSource, SubSource, AddHits, SubHits, AndNext, OrNext, Measured, MeasuredPercent, MeasuredIf, AddAddress, TriggerIf, ResetNextIf, Remember}
+use Rattle.ra_condition.specs.declared.flag.Flag.TheVariants.{Plain, PauseIf, ResetIf, AddSource, SubSource, AddHits}
+use Rattle.ra_condition.specs.declared.flag.Flag.TheVariants.{SubHits, AndNext, OrNext, Measured, MeasuredPercent}
+use Rattle.ra_condition.specs.declared.flag.Flag.TheVariants.{MeasuredIf, AddAddress, TriggerIf, ResetNextIf, Remember}
 use Rattle.ra_condition.specs.declared.condition.Condition.{Condition}
 use Rattle.ra_condition.specs.Flags.{combines, hands_on, is_pause}
 use Rattle.ra_condition.specs.Contents.{flag_at}
@@ -28,13 +30,15 @@ pub record KeepsChains (cs : List Condition) (q : ℕ → Bool) : Type 0 where
   pub within : (j : ℕ) → combines (flag_at cs j) ≡ true → q j ≡ q (suc j)
 
 -- a condition that combines stands in a pause chain as the one after it does
-pub in_pause_chain-combines : (cs : List Condition) (j : ℕ) → combines (flag_at cs j) ≡ true → in_pause_chain cs j ≡ in_pause_chain cs (suc j)
+pub in_pause_chain-combines : (cs : List Condition) (j : ℕ) → combines (flag_at cs j) ≡ true
+    → in_pause_chain cs j ≡ in_pause_chain cs (suc j)
 in_pause_chain-combines [] j h = absurd (false≢true h)
 in_pause_chain-combines (c ∷ cs) zero h = cond-true (combines c.flag) (ends_in_pause cs) (is_pause c.flag) h
 in_pause_chain-combines (c ∷ cs) (suc j) h = in_pause_chain-combines cs j h
 
 -- a condition that ends its chain stands in a pause chain exactly if it is a PauseIf
-pub in_pause_chain-last : (cs : List Condition) (j : ℕ) → combines (flag_at cs j) ≡ false → in_pause_chain cs j ≡ is_pause (flag_at cs j)
+pub in_pause_chain-last : (cs : List Condition) (j : ℕ) → combines (flag_at cs j) ≡ false
+    → in_pause_chain cs j ≡ is_pause (flag_at cs j)
 in_pause_chain-last [] zero h = refl
 in_pause_chain-last [] (suc j) h = refl
 in_pause_chain-last (c ∷ cs) zero h = cond-false (combines c.flag) (ends_in_pause cs) (is_pause c.flag) h

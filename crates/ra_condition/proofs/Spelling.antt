@@ -1,5 +1,7 @@
 -- The canonical text of a trigger or value that has its structure spells it.
-use Rattle.std.proofs.Common.{◌≡◌, ◌∙◌, inl, inr, ℕ, zero, suc, ◌<◌, Bool, true, false, not, ◌||◌, List, [], ◌∷◌, ◌++◌, Option, Some, None, refl, sym, subst, arith, ne_eqb, suc-ne-zero, ◌==◌, if◌then◌else◌, append-nil, codes}
+use Rattle.std.proofs.Common.{◌≡◌, ◌∙◌, inl, inr, ℕ, zero, suc, ◌<◌, Bool, true, false, not, ◌||◌, List, [], ◌∷◌, ◌++◌}
+use Rattle.std.proofs.Common.{Option, Some, None, refl, sym, subst, arith, ne_eqb, suc-ne-zero, ◌==◌, if◌then◌else◌}
+use Rattle.std.proofs.Common.{append-nil, codes}
 use Rattle.std.specs.Fmt.{decimal}
 use Rattle.std.specs.List.{flat_map, AllByRecursion}
 use Rattle.std.proofs.lemmas.List.Elements.{recursion_from_All}
@@ -13,16 +15,21 @@ use Rattle.ra_operand.specs.Operators.{is_arithmetic, is_bare}
 use Rattle.ra_operand.proofs.Printing.{operand-spelled}
 use Rattle.ra_condition.specs.declared.condition.Condition.{Condition}
 use Rattle.ra_condition.specs.declared.flag.Flag.{Flag}
-use Rattle.ra_condition.specs.declared.flag.Flag.TheVariants.{Plain, PauseIf, ResetIf, AddSource, SubSource, AddHits, SubHits, AndNext, OrNext, Measured, MeasuredPercent, MeasuredIf, AddAddress, TriggerIf, ResetNextIf, Remember}
+use Rattle.ra_condition.specs.declared.flag.Flag.TheVariants.{Plain, PauseIf, ResetIf, AddSource, SubSource, AddHits}
+use Rattle.ra_condition.specs.declared.flag.Flag.TheVariants.{SubHits, AndNext, OrNext, Measured, MeasuredPercent}
+use Rattle.ra_condition.specs.declared.flag.Flag.TheVariants.{MeasuredIf, AddAddress, TriggerIf, ResetNextIf, Remember}
 use Rattle.ra_condition.specs.declared.part.Term.{Term}
 use Rattle.ra_condition.specs.declared.setting.Setting.{Setting}
 use Rattle.ra_condition.specs.declared.setting.Setting.TheVariants.{InTrigger, InValue}
 use Rattle.ra_condition.specs.declared.tail.Tail.{Tail}
-use Rattle.ra_condition.specs.Canonical.{flag_text, op_text, target_text, tail_text, condition_text, joined_text, group_text, trigger_text, factor_text, term_text, part_text, value_text}
+use Rattle.ra_condition.specs.Canonical.{flag_text, op_text, target_text, tail_text, condition_text, joined_text}
+use Rattle.ra_condition.specs.Canonical.{group_text, trigger_text, factor_text, term_text, part_text, value_text}
 use Rattle.ra_condition.specs.Contents.{TriggerContents, PartContents, Legacy, Grouped}
 use Rattle.ra_condition.specs.Flags.{hands_on, is_measured}
-use Rattle.ra_condition.specs.Grammar.{flags, comparison, operators, target, bare, compared, computed, stands_bare, tail_of, unflagged, flagged, condition, group, trigger}
-use Rattle.ra_condition.specs.Spelled.{takes_op, IsCondition, IsTriggerGroup, IsTrigger, IsValueGroup, FitsFactor, IsTerm, IsPart, IsValue}
+use Rattle.ra_condition.specs.Grammar.{flags, comparison, operators, target, bare, compared, computed, stands_bare}
+use Rattle.ra_condition.specs.Grammar.{tail_of, unflagged, flagged, condition, group, trigger}
+use Rattle.ra_condition.specs.Spelled.{takes_op, IsCondition, IsTriggerGroup, IsTrigger, IsValueGroup, FitsFactor}
+use Rattle.ra_condition.specs.Spelled.{IsTerm, IsPart, IsValue}
 use Rattle.ra_condition.specs.Values.{measured_by, measured_conditions, times, term, part, value}
 use Rattle.ra_condition.proofs.Structure.{measured-chain}
 use Rattle.ra_text.specs.Form.{Spell, One, ◌or◌}
@@ -33,12 +40,18 @@ use Rattle.ra_text.proofs.Numerals.{decimal-spelled}
 -- ---- tails
 
 comparison-spelled : (op : Op) → not (is_bare op || is_arithmetic op) ≡ true → comparison (op_text op) op
-comparison-spelled Eq e = inl (record { front = codes "="; behind = []; v = tt; parts = refl; of_first = one-byte 61 refl; of_next = record { front = []; behind = []; v = tt; parts = refl; of_first = inr (record { empty = refl; is = refl }); of_next = record { empty = refl; is = refl } } })
-comparison-spelled Ne e = inr (inl (record { front = codes "!"; behind = codes "="; v = tt; parts = refl; of_first = one-byte 33 refl; of_next = record { front = codes "="; behind = []; v = tt; parts = refl; of_first = one-byte 61 refl; of_next = record { empty = refl; is = refl } } }))
-comparison-spelled Lt e = inr (inr (inl (record { front = codes "<"; behind = []; v = tt; parts = refl; of_first = one-byte 60 refl; of_next = inr (record { empty = refl; is = refl }) })))
-comparison-spelled Le e = inr (inr (inl (record { front = codes "<"; behind = codes "="; v = tt; parts = refl; of_first = one-byte 60 refl; of_next = inl (record { symbol = 61; alone = refl; listed = refl }) })))
-comparison-spelled Gt e = inr (inr (inr (record { front = codes ">"; behind = []; v = tt; parts = refl; of_first = one-byte 62 refl; of_next = inr (record { empty = refl; is = refl }) })))
-comparison-spelled Ge e = inr (inr (inr (record { front = codes ">"; behind = codes "="; v = tt; parts = refl; of_first = one-byte 62 refl; of_next = inl (record { symbol = 61; alone = refl; listed = refl }) })))
+comparison-spelled Eq e = inl (record
+    { front = codes "="; behind = []; v = tt; parts = refl; of_first = one-byte 61 refl; of_next = record { front = []; behind = []; v = tt; parts = refl; of_first = inr (record { empty = refl; is = refl }); of_next = record { empty = refl; is = refl } } })
+comparison-spelled Ne e = inr (inl (record
+    { front = codes "!"; behind = codes "="; v = tt; parts = refl; of_first = one-byte 33 refl; of_next = record { front = codes "="; behind = []; v = tt; parts = refl; of_first = one-byte 61 refl; of_next = record { empty = refl; is = refl } } }))
+comparison-spelled Lt e = inr (inr (inl (record
+    { front = codes "<"; behind = []; v = tt; parts = refl; of_first = one-byte 60 refl; of_next = inr (record { empty = refl; is = refl }) })))
+comparison-spelled Le e = inr (inr (inl (record
+    { front = codes "<"; behind = codes "="; v = tt; parts = refl; of_first = one-byte 60 refl; of_next = inl (record { symbol = 61; alone = refl; listed = refl }) })))
+comparison-spelled Gt e = inr (inr (inr (record
+    { front = codes ">"; behind = []; v = tt; parts = refl; of_first = one-byte 62 refl; of_next = inr (record { empty = refl; is = refl }) })))
+comparison-spelled Ge e = inr (inr (inr (record
+    { front = codes ">"; behind = codes "="; v = tt; parts = refl; of_first = one-byte 62 refl; of_next = inl (record { symbol = 61; alone = refl; listed = refl }) })))
 comparison-spelled _ e = absurd (cc e)
 
 operator-spelled : (op : Op) → is_arithmetic op ≡ true → One (lookup operators) (op_text op) op
@@ -68,11 +81,14 @@ target-spelled (suc n) small = subst (λ t. target t (suc n)) (sym (some-target 
     v = suc n;
     parts = refl;
     of_first = decimal-spelled (suc n) small;
-    of_next = record { front = codes "."; behind = []; v = tt; parts = refl; of_first = one-byte 46 refl; of_next = record { empty = refl; is = refl } };
+    of_next =
+        record { front = codes "."; behind = []; v = tt; parts = refl; of_first = one-byte 46 refl; of_next = record { empty = refl; is = refl } };
   };
 }))
 
-compared-spelled : (op : Op) (right : Operand) (n : ℕ) → not (is_bare op || is_arithmetic op) ≡ true → Fits32 right → n < 4294967296 → compared (op_text op ++ (operand_text right ++ target_text n)) (record { op = op; right = right; target = n })
+compared-spelled : (op : Op) (right : Operand) (n : ℕ) → not (is_bare op || is_arithmetic op) ≡ true
+    → Fits32 right → n < 4294967296 → compared (op_text op ++ (operand_text right ++ target_text n))
+    (record { op = op; right = right; target = n })
 compared-spelled op right n compares fits small = record {
   front = op_text op;
   behind = operand_text right ++ target_text n;
@@ -85,11 +101,14 @@ compared-spelled op right n compares fits small = record {
     v = right;
     parts = refl;
     of_first = operand-spelled right fits;
-    of_next = record { front = target_text n; behind = []; v = n; parts = sym (append-nil (target_text n)); of_first = target-spelled n small; of_next = record { empty = refl; is = refl } };
+    of_next =
+        record { front = target_text n; behind = []; v = n; parts = sym (append-nil (target_text n)); of_first = target-spelled n small; of_next = record { empty = refl; is = refl } };
   };
 }
 
-computed-spelled : (op : Op) (right : Operand) → is_arithmetic op ≡ true → Fits32 right → computed (op_text op ++ (operand_text right ++ target_text 0)) (record { op = op; right = right; target = 0 })
+computed-spelled : (op : Op) (right : Operand) → is_arithmetic op ≡ true → Fits32 right
+    → computed (op_text op ++ (operand_text right ++ target_text 0))
+    (record { op = op; right = right; target = 0 })
 computed-spelled op right arithmetic fits = record {
   front = op_text op;
   behind = operand_text right ++ target_text 0;
@@ -102,7 +121,8 @@ computed-spelled op right arithmetic fits = record {
     v = right;
     parts = refl;
     of_first = operand-spelled right fits;
-    of_next = record { front = []; behind = []; v = 0; parts = refl; of_first = inr (inr (record { empty = refl; is = refl })); of_next = record { empty = refl; is = refl } };
+    of_next =
+        record { front = []; behind = []; v = 0; parts = refl; of_first = inr (inr (record { empty = refl; is = refl })); of_next = record { empty = refl; is = refl } };
   };
 }
 
@@ -124,29 +144,40 @@ not-either : (b a : Bool) → b ≡ false → not a ≡ true → not (b || a) �
 not-either true a none other = absurd (cc none)
 not-either false a none other = other
 
-some-spelled : (hands may : Bool) (op : Op) (right : Operand) (n : ℕ) → is_bare op ≡ false → takes_op hands may op ≡ true → Fits32 right → n < 4294967296 → (hands ≡ true → n ≡ 0)
-    → tail_of hands may (op_text op ++ (operand_text right ++ target_text n)) (record { op = op; right = right; target = n })
-some-spelled true may op right n some takes fits small none = inr (inl (subst (λ n. computed (op_text op ++ (operand_text right ++ target_text n)) (record { op = op; right = right; target = n })) (sym (none refl))
+some-spelled : (hands may : Bool) (op : Op) (right : Operand) (n : ℕ) → is_bare op ≡ false
+    → takes_op hands may op ≡ true → Fits32 right → n < 4294967296 → (hands ≡ true → n ≡ 0)
+    → tail_of hands may (op_text op ++ (operand_text right ++ target_text n))
+    (record { op = op; right = right; target = n })
+some-spelled true may op right n some takes fits small none =
+    inr (inl (subst (λ n. computed (op_text op ++ (operand_text right ++ target_text n))
+    (record { op = op; right = right; target = n })) (sym (none refl))
     (computed-spelled op right (or-second (is_bare op) (is_arithmetic op) some takes) fits)))
-some-spelled false true op right n some takes fits small none = inl (compared-spelled op right n (not-either (is_bare op) (is_arithmetic op) some takes) fits small)
+some-spelled false true op right n some takes fits small none = inl
+    (compared-spelled op right n (not-either (is_bare op) (is_arithmetic op) some takes) fits small)
 some-spelled false false op right n some takes fits small none = compared-spelled op right n takes fits small
 
-tail-spelled : (hands may : Bool) (op : Op) (right : Operand) (n : ℕ) → takes_op hands may op ≡ true → Fits32 right → n < 4294967296 → (is_bare op ≡ true → right ≡ Const 0) → (is_bare op ≡ true → n ≡ 0) → (hands ≡ true → n ≡ 0)
+tail-spelled : (hands may : Bool) (op : Op) (right : Operand) (n : ℕ) → takes_op hands may op ≡ true
+    → Fits32 right → n < 4294967296 → (is_bare op ≡ true → right ≡ Const 0)
+    → (is_bare op ≡ true → n ≡ 0) → (hands ≡ true → n ≡ 0)
     → tail_of hands may (tail_text op right n) (record { op = op; right = right; target = n })
 tail-spelled hands may op right n takes fits small bare_right bare_target none = cases (is_bare op) refl where
   value : Tail
   value = record { op = op; right = right; target = n }
 
   bare-value : is_bare op ≡ true → bare ≡ record { op = op; right = right; target = n }
-  bare-value e = let o : op ≡ Bare = bare-only op e in let r : right ≡ Const 0 = bare_right e in let t : n ≡ 0 = bare_target e in rw (o, r, t)
+  bare-value e = let o : op ≡ Bare = bare-only op e in let r : right ≡ Const 0 = bare_right e in
+      let t : n ≡ 0 = bare_target e in rw (o, r, t)
 
-  cases : (b : Bool) → is_bare op ≡ b → tail_of hands may (if b then [] else op_text op ++ (operand_text right ++ target_text n)) (record { op = op; right = right; target = n })
-  cases true e = subst (λ v. tail_of hands may [] v) (bare-value e) (bare-spelled hands may (subst (λ o. takes_op hands may o ≡ true) (bare-only op e) takes))
+  cases : (b : Bool) → is_bare op ≡ b → tail_of hands may (if b then [] else op_text op
+      ++ (operand_text right ++ target_text n)) (record { op = op; right = right; target = n })
+  cases true e = subst (λ v. tail_of hands may [] v) (bare-value e)
+      (bare-spelled hands may (subst (λ o. takes_op hands may o ≡ true) (bare-only op e) takes))
   cases false e = some-spelled hands may op right n e takes fits small none
 
 -- ---- conditions
 
-unflagged-spelled : (setting : Setting) (c : Condition) → IsCondition setting c → unflagged setting c.flag (operand_text c.left ++ tail_text c.op c.right c.target) c
+unflagged-spelled : (setting : Setting) (c : Condition) → IsCondition setting c
+    → unflagged setting c.flag (operand_text c.left ++ tail_text c.op c.right c.target) c
 unflagged-spelled setting c h = record {
   front = operand_text c.left;
   behind = tail_text c.op c.right c.target;
@@ -158,12 +189,15 @@ unflagged-spelled setting c h = record {
     behind = [];
     v = record { op = c.op; right = c.right; target = c.target };
     parts = sym (append-nil (tail_text c.op c.right c.target));
-    of_first = tail-spelled (hands_on c.flag) (stands_bare setting c.flag) c.op c.right c.target h.op h.right h.target h.bare_right h.bare_target h.handed_target;
+    of_first = tail-spelled (hands_on c.flag) (stands_bare setting c.flag) c.op c.right c.target
+        h.op h.right h.target h.bare_right h.bare_target h.handed_target;
     of_next = record { empty = refl; is = refl };
   };
 }
 
-flagged-by : (setting : Setting) (letter : ℕ) (flag : Flag) (rest : List ℕ) (c : Condition) → lookup flags letter ≡ Some flag → unflagged setting flag rest c → flagged setting (letter ∷ (58 ∷ rest)) c
+flagged-by : (setting : Setting) (letter : ℕ) (flag : Flag) (rest : List ℕ) (c : Condition)
+    → lookup flags letter ≡ Some flag → unflagged setting flag rest c
+    → flagged setting (letter ∷ (58 ∷ rest)) c
 flagged-by setting letter flag rest c listed h = record {
   front = letter ∷ [];
   behind = 58 ∷ rest;
@@ -173,7 +207,8 @@ flagged-by setting letter flag rest c listed h = record {
   of_next = record { front = 58 ∷ []; behind = rest; v = tt; parts = refl; of_first = one-byte 58 refl; of_next = h };
 }
 
-flagged-spelled : (setting : Setting) (flag : Flag) (rest : List ℕ) (c : Condition) → (flag ≡ Plain → ⊥) → unflagged setting flag rest c → flagged setting (flag_text flag ++ rest) c
+flagged-spelled : (setting : Setting) (flag : Flag) (rest : List ℕ) (c : Condition) → (flag ≡ Plain
+    → ⊥) → unflagged setting flag rest c → flagged setting (flag_text flag ++ rest) c
 flagged-spelled setting Plain rest c some h = absurd (some refl)
 flagged-spelled setting PauseIf rest c some h = flagged-by setting 80 PauseIf rest c refl h
 flagged-spelled setting ResetIf rest c some h = flagged-by setting 82 ResetIf rest c refl h
@@ -192,7 +227,8 @@ flagged-spelled setting ResetNextIf rest c some h = flagged-by setting 90 ResetN
 flagged-spelled setting Remember rest c some h = flagged-by setting 75 Remember rest c refl h
 
 -- a condition without a flag, or behind one
-any-spelled : (setting : Setting) (flag : Flag) (rest : List ℕ) (c : Condition) → unflagged setting flag rest c → condition setting (flag_text flag ++ rest) c
+any-spelled : (setting : Setting) (flag : Flag) (rest : List ℕ) (c : Condition)
+    → unflagged setting flag rest c → condition setting (flag_text flag ++ rest) c
 any-spelled setting Plain rest c h = inr h
 any-spelled setting PauseIf rest c h = inl (flagged-by setting 80 PauseIf rest c refl h)
 any-spelled setting ResetIf rest c h = inl (flagged-by setting 82 ResetIf rest c refl h)
@@ -210,19 +246,24 @@ any-spelled setting TriggerIf rest c h = inl (flagged-by setting 84 TriggerIf re
 any-spelled setting ResetNextIf rest c h = inl (flagged-by setting 90 ResetNextIf rest c refl h)
 any-spelled setting Remember rest c h = inl (flagged-by setting 75 Remember rest c refl h)
 
-pub condition-spelled : (setting : Setting) (c : Condition) → IsCondition setting c → condition setting (condition_text c) c
-condition-spelled setting c h = any-spelled setting c.flag (operand_text c.left ++ tail_text c.op c.right c.target) c (unflagged-spelled setting c h)
+pub condition-spelled : (setting : Setting) (c : Condition) → IsCondition setting c
+    → condition setting (condition_text c) c
+condition-spelled setting c h = any-spelled setting c.flag
+    (operand_text c.left ++ tail_text c.op c.right c.target) c (unflagged-spelled setting c h)
 
 -- ---- groups and triggers
 
-each-by : {X : Type 0} (P Q : X → Type 0) → ((x : X) → P x → Q x) → (xs : List X) → AllByRecursion P xs → AllByRecursion Q xs
+each-by : {X : Type 0} (P Q : X → Type 0) → ((x : X) → P x → Q x) → (xs : List X)
+    → AllByRecursion P xs → AllByRecursion Q xs
 each-by P Q into [] each = tt
 each-by P Q into (x ∷ xs) each = (into x each.0, each-by P Q into xs each.1)
 
 group-spelled : (cs : List Condition) → IsTriggerGroup cs → group (group_text cs) cs
 group-spelled [] h = inr (record { empty = refl; is = refl })
 group-spelled (c ∷ cs) h = let each = recursion_from_All (IsCondition InTrigger) (c ∷ cs) h in
-    inl (joined-spelled (only (95 ∷ [])) (condition InTrigger) 95 tt condition_text refl c cs (condition-spelled InTrigger c each.0) (each-by (IsCondition InTrigger) (λ c. condition InTrigger (condition_text c) c) (condition-spelled InTrigger) cs each.1))
+    inl (joined-spelled (only (95 ∷ [])) (condition InTrigger) 95 tt condition_text refl c cs
+    (condition-spelled InTrigger c each.0) (each-by (IsCondition InTrigger)
+    (λ c. condition InTrigger (condition_text c) c) (condition-spelled InTrigger) cs each.1))
 
 -- the canonical text of a trigger spells it
 pub trigger-spelled : (t : TriggerContents) → IsTrigger t → trigger (trigger_text t) t
@@ -231,7 +272,9 @@ trigger-spelled t h = record {
   behind = [];
   v = t.core ∷ t.alts;
   parts = sym (append-nil (trigger_text t));
-  of_first = joined-spelled (only_letters (83 ∷ [])) group 83 tt group_text refl t.core t.alts (group-spelled t.core h.core) (each-by IsTriggerGroup (λ g. group (group_text g) g) group-spelled t.alts (recursion_from_All IsTriggerGroup t.alts h.alts));
+  of_first = joined-spelled (only_letters (83 ∷ [])) group 83 tt group_text refl t.core t.alts
+      (group-spelled t.core h.core) (each-by IsTriggerGroup (λ g. group (group_text g) g)
+      group-spelled t.alts (recursion_from_All IsTriggerGroup t.alts h.alts));
   of_next = record { empty = refl; is = refl };
 }
 
@@ -246,14 +289,18 @@ conditions-spelled (c ∷ cs) h =
       behind = flat_map (λ y. 95 ∷ condition_text y) cs;
       v = c;
       parts = refl;
-      of_first = flagged-spelled InValue c.flag (operand_text c.left ++ tail_text c.op c.right c.target) c h.flagged (unflagged-spelled InValue c each.0);
+      of_first = flagged-spelled InValue c.flag (operand_text c.left
+          ++ tail_text c.op c.right c.target) c h.flagged (unflagged-spelled InValue c each.0);
       of_next = record {
         front = flat_map (λ y. 95 ∷ condition_text y) cs;
         behind = [];
         v = cs;
         parts = sym (append-nil (flat_map (λ y. 95 ∷ condition_text y) cs));
-        of_first = chain-spelled (λ so_far. only (95 ∷ [])) (λ so_far tag. condition InValue) measured_by (λ so_far. so_far) 95 tt condition_text (λ so_far. refl) (is_measured c.flag) cs
-            (each-by (IsCondition InValue) (λ c. (so_far : Bool) → condition InValue (condition_text c) c) (λ c h so_far. condition-spelled InValue c h) cs each.1)
+        of_first = chain-spelled (λ so_far. only (95 ∷ [])) (λ so_far tag. condition InValue)
+            measured_by (λ so_far. so_far) 95 tt condition_text (λ so_far. refl)
+            (is_measured c.flag) cs
+            (each-by (IsCondition InValue) (λ c. (so_far : Bool) → condition InValue
+            (condition_text c) c) (λ c h so_far. condition-spelled InValue c h) cs each.1)
             (measured-chain (is_measured c.flag) cs ∙ h.measured);
         of_next = record { empty = refl; is = refl };
       };
@@ -267,7 +314,8 @@ factor-spelled (Some o) h = inl (record {
   v = tt;
   parts = refl;
   of_first = one-byte 42 refl;
-  of_next = record { front = operand_text o; behind = []; v = o; parts = sym (append-nil (operand_text o)); of_first = operand-spelled o h; of_next = record { empty = refl; is = refl } };
+  of_next =
+      record { front = operand_text o; behind = []; v = o; parts = sym (append-nil (operand_text o)); of_first = operand-spelled o h; of_next = record { empty = refl; is = refl } };
 })
 
 term-spelled : (t : Term) → IsTerm t → term (term_text t) t
@@ -277,7 +325,8 @@ term-spelled t h = record {
   v = t.operand;
   parts = refl;
   of_first = operand-spelled t.operand h.operand;
-  of_next = record { front = factor_text t.factor; behind = []; v = t.factor; parts = sym (append-nil (factor_text t.factor)); of_first = factor-spelled t.factor h.factor; of_next = record { empty = refl; is = refl } };
+  of_next =
+      record { front = factor_text t.factor; behind = []; v = t.factor; parts = sym (append-nil (factor_text t.factor)); of_first = factor-spelled t.factor h.factor; of_next = record { empty = refl; is = refl } };
 }
 
 part-spelled : (p : PartContents) → IsPart p → part (part_text p) p
@@ -288,13 +337,16 @@ part-spelled (Legacy (t ∷ ts)) h = let each = recursion_from_All IsTerm (t ∷
       behind = [];
       v = t ∷ ts;
       parts = sym (append-nil (joined_text 95 term_text (t ∷ ts)));
-      of_first = joined-spelled (only (95 ∷ [])) term 95 tt term_text refl t ts (term-spelled t each.0) (each-by IsTerm (λ t. term (term_text t) t) term-spelled ts each.1);
+      of_first = joined-spelled (only (95 ∷ [])) term 95 tt term_text refl t ts (term-spelled t
+          each.0) (each-by IsTerm (λ t. term (term_text t) t) term-spelled ts each.1);
       of_next = record { empty = refl; is = refl };
     })
-part-spelled (Grouped cs) h = inl (record { front = group_text cs; behind = []; v = cs; parts = sym (append-nil (group_text cs)); of_first = conditions-spelled cs h; of_next = record { empty = refl; is = refl } })
+part-spelled (Grouped cs) h = inl (record
+    { front = group_text cs; behind = []; v = cs; parts = sym (append-nil (group_text cs)); of_first = conditions-spelled cs h; of_next = record { empty = refl; is = refl } })
 
 -- the canonical text of a value spells it
 pub value-spelled : (v : List PartContents) → IsValue v → value (value_text v) v
 value-spelled [] h = absurd (omega (arith, h.some))
 value-spelled (p ∷ ps) h = let each = recursion_from_All IsPart (p ∷ ps) h.each in
-    joined-spelled (only (36 ∷ [])) part 36 tt part_text refl p ps (part-spelled p each.0) (each-by IsPart (λ p. part (part_text p) p) part-spelled ps each.1)
+    joined-spelled (only (36 ∷ [])) part 36 tt part_text refl p ps (part-spelled p each.0)
+    (each-by IsPart (λ p. part (part_text p) p) part-spelled ps each.1)
