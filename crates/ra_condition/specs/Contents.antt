@@ -1,4 +1,5 @@
--- What groups, triggers and values contain, without where it lies in memory: docs/DEFINITIONS.md, "Conditions", "Triggers" and "Values".
+-- What groups, triggers and values contain, without where it lies in memory: docs/DEFINITIONS.md, "Conditions",
+-- "Triggers" and "Values".
 use Rattle.std.specs.Prelude.{ℕ, List, [], ◌∷◌, length, map, sum_by, slice_index_or}
 use Rattle.ra_operand.specs.declared.kind.Kind.TheVariants.{Mem}
 use Rattle.ra_operand.specs.declared.size.Size.TheVariants.{Bit0}

@@ -1,4 +1,5 @@
--- How a call that reads a list follows the reading of a form, unless memory runs out: the step between the code and docs/DEFINITIONS.md, "First bad place".
+-- How a call that reads a list follows the reading of a form, unless memory runs out: the step between the code and
+-- docs/DEFINITIONS.md, "First bad place".
 use Rattle.std.specs.Prelude.{◌≡◌, ℕ, List, Result, Ok, Err}
 use Rattle.ra_condition.specs.declared.fault.Fault.{Fault}
 use Rattle.ra_condition.specs.declared.fault.Fault.TheVariants.{Stop, Memory}

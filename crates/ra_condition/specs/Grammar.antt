@@ -6,7 +6,9 @@ use Rattle.ra_operand.specs.declared.operand.Operand.TheVariants.{Const}
 use Rattle.ra_operand.specs.Grammar.{operand}
 use Rattle.ra_condition.specs.declared.condition.Condition.{Condition}
 use Rattle.ra_condition.specs.declared.flag.Flag.{Flag}
-use Rattle.ra_condition.specs.declared.flag.Flag.TheVariants.{Plain, PauseIf, ResetIf, AddSource, SubSource, AddHits, SubHits, AndNext, OrNext, Measured, MeasuredPercent, MeasuredIf, AddAddress, TriggerIf, ResetNextIf, Remember}
+use Rattle.ra_condition.specs.declared.flag.Flag.TheVariants.{Plain, PauseIf, ResetIf, AddSource, SubSource, AddHits}
+use Rattle.ra_condition.specs.declared.flag.Flag.TheVariants.{SubHits, AndNext, OrNext, Measured, MeasuredPercent}
+use Rattle.ra_condition.specs.declared.flag.Flag.TheVariants.{MeasuredIf, AddAddress, TriggerIf, ResetNextIf, Remember}
 use Rattle.ra_condition.specs.declared.setting.Setting.{Setting}
 use Rattle.ra_condition.specs.declared.setting.Setting.TheVariants.{InTrigger, InValue}
 use Rattle.ra_condition.specs.declared.tail.Tail.{Tail}
@@ -20,9 +22,12 @@ use Rattle.ra_text.specs.Table.{lookup, letters, bytes_for, only, only_letters}
 -- the letters of the flags, in either case
 abbrev pub flags : List (ℕ × Flag)
 flags =
-    letters (codes "P") PauseIf ++ letters (codes "R") ResetIf ++ letters (codes "A") AddSource ++ letters (codes "B") SubSource ++ letters (codes "C") AddHits ++ letters (codes "D") SubHits
-    ++ letters (codes "N") AndNext ++ letters (codes "O") OrNext ++ letters (codes "M") Measured ++ letters (codes "G") MeasuredPercent ++ letters (codes "Q") MeasuredIf
-    ++ letters (codes "I") AddAddress ++ letters (codes "T") TriggerIf ++ letters (codes "Z") ResetNextIf ++ letters (codes "K") Remember
+    letters (codes "P") PauseIf ++ letters (codes "R") ResetIf ++ letters (codes "A") AddSource
+    ++ letters (codes "B") SubSource ++ letters (codes "C") AddHits ++ letters (codes "D") SubHits
+    ++ letters (codes "N") AndNext ++ letters (codes "O") OrNext ++ letters (codes "M") Measured
+    ++ letters (codes "G") MeasuredPercent ++ letters (codes "Q") MeasuredIf
+    ++ letters (codes "I") AddAddress ++ letters (codes "T") TriggerIf
+    ++ letters (codes "Z") ResetNextIf ++ letters (codes "K") Remember
 
 -- "=" | "=="
 abbrev pub equal : Form ℕ Op
@@ -57,7 +62,8 @@ comparison = equal or (unequal or (less or greater))
 -- arith, as a table of the operators
 abbrev pub operators : List (ℕ × Op)
 operators =
-    bytes_for (codes "*") Mul ++ bytes_for (codes "/") Div ++ bytes_for (codes "&") And ++ bytes_for (codes "^") Xor ++ bytes_for (codes "%") Rem
+    bytes_for (codes "*") Mul ++ bytes_for (codes "/") Div ++ bytes_for (codes "&") And
+    ++ bytes_for (codes "^") Xor ++ bytes_for (codes "%") Rem
     ++ bytes_for (codes "+") Add ++ bytes_for (codes "-") Sub
 
 -- "." dec "."

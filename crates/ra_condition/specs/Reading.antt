@@ -1,4 +1,5 @@
--- Reading conditions, groups and triggers from left to right: the step between the code and docs/DEFINITIONS.md, "Conditions" and "Triggers".
+-- Reading conditions, groups and triggers from left to right: the step between the code and docs/DEFINITIONS.md,
+-- "Conditions" and "Triggers".
 use Rattle.std.specs.Prelude.{ℕ, ◌&&◌, ◌||◌, not, Bool, true, false, List, [], ◌∷◌, Ok, codes}
 use Rattle.ra_operand.specs.declared.op.Op.{Op}
 use Rattle.ra_operand.specs.declared.op.Op.TheVariants.{Eq, Ne, Lt, Le, Gt, Ge}
@@ -140,7 +141,8 @@ flagged_at setting text = do
 -- a flag begins: a letter of one, before a colon or where it begins no operand
 abbrev pub begins_flag : List ℕ → Bool
 begins_flag [] = false
-begins_flag (byte ∷ rest) = is_in (lookup flags) byte && (begins (is_in (only (codes ":"))) rest || not (is_in (lookup kinds) byte))
+begins_flag (byte ∷ rest) = is_in (lookup flags) byte
+    && (begins (is_in (only (codes ":"))) rest || not (is_in (lookup kinds) byte))
 
 -- cond, in a value vcond
 unfoldable pub condition_at : Setting → List ℕ → Outcome ℕ Condition

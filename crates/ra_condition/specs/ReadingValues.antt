@@ -16,7 +16,8 @@ use Rattle.ra_text.specs.Table.{is_in, only}
 unfoldable pub measured_conditions_at : List ℕ → Outcome ℕ (List Condition)
 measured_conditions_at text = do
   first ← flagged_at InValue text
-  others ← chain_at (λ so_far. only (codes "_")) (λ so_far tag. condition_at InValue) measured_by (λ so_far. so_far) (length first.1) (is_measured first.0.flag) first.1
+  others ← chain_at (λ so_far. only (codes "_")) (λ so_far tag. condition_at InValue) measured_by
+      (λ so_far. so_far) (length first.1) (is_measured first.0.flag) first.1
   Ok (first.0 ∷ others.0, others.1)
 
 -- a part of conditions

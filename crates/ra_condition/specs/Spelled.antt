@@ -1,5 +1,6 @@
 -- The structure of the triggers and values that some text spells: docs/DEFINITIONS.md, "What texts spell".
-use Rattle.std.specs.Prelude.{◌≡◌, ◌^◌, ◌<◌, Bool, true, false, not, ◌||◌, List, [], ◌∷◌, length, Option, Some, None, All}
+use Rattle.std.specs.Prelude.{◌≡◌, ◌^◌, ◌<◌, Bool, true, false, not, ◌||◌, List, [], ◌∷◌, length, Option, Some, None}
+use Rattle.std.specs.Prelude.{All}
 use Rattle.ra_operand.specs.declared.op.Op.{Op}
 use Rattle.ra_operand.specs.declared.operand.Operand.{Operand}
 use Rattle.ra_operand.specs.declared.operand.Operand.TheVariants.{Const}
@@ -14,7 +15,8 @@ use Rattle.ra_condition.specs.Contents.{TriggerContents, PartContents, Legacy, G
 use Rattle.ra_condition.specs.Flags.{hands_on, is_measured}
 use Rattle.ra_condition.specs.Grammar.{stands_bare}
 
--- the operator fits a condition: arithmetic or none where it hands a value on, else a comparison, or none where it may stand bare
+-- the operator fits a condition: arithmetic or none where it hands a value on, else a comparison, or none where it may
+-- stand bare
 abbrev pub takes_op : (hands_on stands_bare : Bool) → Op → Bool
 takes_op true may op = is_bare op || is_arithmetic op
 takes_op false true op = not (is_arithmetic op)

@@ -20,7 +20,8 @@ measured_by so_far c = so_far || is_measured c.flag
 abbrev pub measured_conditions : Form ℕ (List Condition)
 measured_conditions = do
   first ← flagged InValue
-  others ← Chain (λ so_far. only (codes "_")) (λ so_far tag. condition InValue) measured_by (λ so_far. so_far) (is_measured first.flag)
+  others ← Chain (λ so_far. only (codes "_")) (λ so_far tag. condition InValue) measured_by
+      (λ so_far. so_far) (is_measured first.flag)
   Spell (first ∷ others)
 
 -- a part of conditions, whose measured number counts

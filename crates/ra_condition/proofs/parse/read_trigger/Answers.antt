@@ -8,19 +8,27 @@ use Rattle.ra_text.proofs.Places.{rest_fits, ends_ok, ends_err}
 use Rattle.ra_condition.proofs.parse.read_trigger.Goals as goal
 
 pub place-requires : goal.place-requires
-place-requires c = rest_fits trigger trigger_at reads-trigger c.args.text.now c.args.at c.new-cursor.result.rest.now c.new-cursor.ensures (Ok (trigger_contents c.in-Ok.trigger, c.take_trigger.new.cursor.rest.now)) c.in-Ok.ensures
+place-requires c = rest_fits trigger trigger_at reads-trigger c.args.text.now c.args.at
+    c.new-cursor.result.rest.now c.new-cursor.ensures
+    (Ok (trigger_contents c.in-Ok.trigger, c.take_trigger.new.cursor.rest.now)) c.in-Ok.ensures
 
 pub place-requires-in-Err-Stop : goal.place-requires-in-Err-Stop
 place-requires-in-Err-Stop c = let e = rw c.in-Err-Stop.field-0-is at c.in-Err-Stop.ensures in
-    rest_fits trigger trigger_at reads-trigger c.args.text.now c.args.at c.new-cursor.result.rest.now c.new-cursor.ensures (Err c.take_trigger.new.cursor.rest.now) e
+    rest_fits trigger trigger_at reads-trigger c.args.text.now c.args.at
+    c.new-cursor.result.rest.now c.new-cursor.ensures (Err c.take_trigger.new.cursor.rest.now) e
 
 pub returns-in-Ok-clause-ok : goal.returns-in-Ok-clause-ok
-returns-in-Ok-clause-ok c = ends_ok trigger trigger_at reads-trigger c.args.text.now c.args.at c.new-cursor.result.rest.now c.new-cursor.ensures c.requires (trigger_contents c.in-Ok.trigger) c.take_trigger.new.cursor.rest.now c.in-Ok.ensures c.place.result c.place.ensures
+returns-in-Ok-clause-ok c = ends_ok trigger trigger_at reads-trigger c.args.text.now c.args.at
+    c.new-cursor.result.rest.now c.new-cursor.ensures c.requires (trigger_contents c.in-Ok.trigger)
+    c.take_trigger.new.cursor.rest.now c.in-Ok.ensures c.place.result c.place.ensures
 
 pub returns-in-Err-Stop-clause-err : goal.returns-in-Err-Stop-clause-err
 returns-in-Err-Stop-clause-err c = let e = rw c.in-Err-Stop.field-0-is at c.in-Err-Stop.ensures in
-    ends_err trigger trigger_at reads-trigger c.args.text.now c.args.at c.new-cursor.result.rest.now c.new-cursor.ensures c.requires c.take_trigger.new.cursor.rest.now e c.place-in-Err-Stop.result c.place-in-Err-Stop.ensures
+    ends_err trigger trigger_at reads-trigger c.args.text.now c.args.at c.new-cursor.result.rest.now
+    c.new-cursor.ensures c.requires c.take_trigger.new.cursor.rest.now e c.place-in-Err-Stop.result
+    c.place-in-Err-Stop.ensures
 
 pub returns-in-Ok-clause-structure : goal.returns-in-Ok-clause-structure
 returns-in-Ok-clause-structure c = let r = reads-trigger c.new-cursor.result.rest.now in
-    trigger-structure r.front (trigger_contents c.in-Ok.trigger) (r.spelled (trigger_contents c.in-Ok.trigger) c.take_trigger.new.cursor.rest.now c.in-Ok.ensures)
+    trigger-structure r.front (trigger_contents c.in-Ok.trigger) (r.spelled
+    (trigger_contents c.in-Ok.trigger) c.take_trigger.new.cursor.rest.now c.in-Ok.ensures)

@@ -6,5 +6,6 @@ use Rattle.ra_condition.proofs.print.print_trigger.Goals as goal
 
 pub returns-clause-spelled : goal.returns-clause-spelled
 returns-clause-spelled c =
-    let same : c.into_bytes.result.items ≡ trigger_text (trigger_contents c.args.text.now) = cc (c.into_bytes.ensures.value, c.in_ok-write_trigger.ensures, c.new-canonical.ensures.bytes) in
+    let same : c.into_bytes.result.items ≡ trigger_text (trigger_contents c.args.text.now) =
+    cc (c.into_bytes.ensures.value, c.in_ok-write_trigger.ensures, c.new-canonical.ensures.bytes) in
     rw same (trigger-spelled (trigger_contents c.args.text.now) c.requires)

@@ -6,5 +6,6 @@ use Rattle.ra_condition.proofs.print.print_value.Goals as goal
 
 pub returns-clause-spelled : goal.returns-clause-spelled
 returns-clause-spelled c =
-    let same : c.into_bytes.result.items ≡ value_text (value_contents c.args.text.now) = cc (c.into_bytes.ensures.value, c.in_ok-write_value.ensures, c.new-canonical.ensures.bytes) in
+    let same : c.into_bytes.result.items ≡ value_text (value_contents c.args.text.now) =
+    cc (c.into_bytes.ensures.value, c.in_ok-write_value.ensures, c.new-canonical.ensures.bytes) in
     rw same (value-spelled (value_contents c.args.text.now) c.requires)

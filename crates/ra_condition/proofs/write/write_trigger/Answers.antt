@@ -6,5 +6,8 @@ use Rattle.ra_condition.proofs.write.write_trigger.Goals as goal
 
 pub returns : goal.returns
 returns c =
-    let core : string_bytes c.write_conditions.new.text ≡ string_bytes c.args.text.now ++ group_text (group_contents c.args.trigger.now.core) = cc (c.in_ok-write_conditions.ensures, c.deref.ensures.value) in
-    all-written group_contents (λ alt. 83 ∷ group_text alt) c.args.trigger.now.alts.items c.loop-alt.alt-index _ _ _ _ (omega arith) core c.loop-alt.invariant
+    let core : string_bytes c.write_conditions.new.text
+    ≡ string_bytes c.args.text.now ++ group_text (group_contents c.args.trigger.now.core) =
+    cc (c.in_ok-write_conditions.ensures, c.deref.ensures.value) in
+    all-written group_contents (λ alt. 83 ∷ group_text alt) c.args.trigger.now.alts.items
+    c.loop-alt.alt-index _ _ _ _ (omega arith) core c.loop-alt.invariant

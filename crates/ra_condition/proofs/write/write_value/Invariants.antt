@@ -5,4 +5,5 @@ use Rattle.ra_condition.specs.Contents.{part_contents}
 use Rattle.ra_condition.proofs.write.write_value.Given as goal
 
 abbrev pub invariant-loop-other : goal.invariant-loop-other
-invariant-loop-other l = string_bytes l.text ≡ string_bytes l.initial.text ++ flat_map (λ y. 36 ∷ part_text (part_contents y)) (take l.other-index l.others)
+invariant-loop-other l = string_bytes l.text ≡ string_bytes l.initial.text
+    ++ flat_map (λ y. 36 ∷ part_text (part_contents y)) (take l.other-index l.others)
