@@ -1,5 +1,6 @@
 -- The trees of a group of which no condition hands a value on, and what their operands leave in a pool.
-use Rattle.std.proofs.Common.{◌≡◌, ◌==◌, ℕ, zero, suc, ◌+◌, ◌<◌, false, cond, Option, None, List, [], ◌∷◌, ◌++◌, length, take, get_or, refl, sym, ◌∙◌, ap, ap₂, subst, arith, inl, inr}
+use Rattle.std.proofs.Common.{◌≡◌, ◌==◌, ℕ, zero, suc, ◌+◌, ◌<◌, false, cond, Option, None, List, [], ◌∷◌, ◌++◌, length}
+use Rattle.std.proofs.Common.{take, get_or, refl, sym, ◌∙◌, ap, ap₂, subst, arith, inl, inr}
 use Rattle.std.specs.List.{before_first}
 use Rattle.std.proofs.lemmas.List.{append-nil, take_more}
 use Rattle.ra_operand.specs.declared.size.Size.{Size}
@@ -8,7 +9,9 @@ use Rattle.ra_operand.specs.declared.kind.Kind.{Kind}
 use Rattle.ra_operand.specs.declared.kind.Kind.TheVariants as kinds
 use Rattle.ra_operand.specs.Views.{width_of}
 use Rattle.ra_condition.specs.declared.flag.Flag.{Flag}
-use Rattle.ra_condition.specs.declared.flag.Flag.TheVariants.{Plain, PauseIf, ResetIf, AddSource, SubSource, AddHits, SubHits, AndNext, OrNext, Measured, MeasuredPercent, MeasuredIf, AddAddress, TriggerIf, ResetNextIf, Remember}
+use Rattle.ra_condition.specs.declared.flag.Flag.TheVariants.{Plain, PauseIf, ResetIf, AddSource, SubSource, AddHits}
+use Rattle.ra_condition.specs.declared.flag.Flag.TheVariants.{SubHits, AndNext, OrNext, Measured, MeasuredPercent}
+use Rattle.ra_condition.specs.declared.flag.Flag.TheVariants.{MeasuredIf, AddAddress, TriggerIf, ResetNextIf, Remember}
 use Rattle.ra_condition.specs.declared.condition.Condition.{Condition}
 use Rattle.ra_condition.specs.Contents.{condition_at, flag_at}
 use Rattle.ra_condition.specs.Chains.{pass_order}
@@ -16,10 +19,12 @@ use Rattle.ra_condition.specs.Flags.{hands_on, is_address, is_remember}
 use Rattle.ra_indirect.specs.declared.node.Node.{Node}
 use Rattle.ra_indirect.specs.declared.node.Node.TheVariants.{Cell as CellNode}
 use Rattle.ra_indirect.specs.Trees.{Tree, constant, view, Cell, cell_of, same_cell, same_tracked, tracked_by}
-use Rattle.ra_indirect.specs.Pools.{IsCell, IsWidth, Spells, spelled_by, spelled_with, tree_in, tracked_at, cell_in, cells_of, tracked_of}
+use Rattle.ra_indirect.specs.Pools.{IsCell, IsWidth, Spells, spelled_by, spelled_with, tree_in, tracked_at, cell_in}
+use Rattle.ra_indirect.specs.Pools.{cells_of, tracked_of}
 use Rattle.ra_indirect.specs.Interned.{IsPool}
 use Rattle.ra_indirect.specs.Growing.{grown, GrowsBy, GainsNode}
-use Rattle.ra_chain.specs.Elaboration.{tree_at, operand_tree, pointer_of, last_remembered, recall_of, added, sum_after, sum_of, left_operand, right_operand, values_of, left_of, right_of}
+use Rattle.ra_chain.specs.Elaboration.{tree_at, operand_tree, pointer_of, last_remembered, recall_of, added, sum_after}
+use Rattle.ra_chain.specs.Elaboration.{sum_of, left_operand, right_operand, values_of, left_of, right_of}
 use Rattle.ra_chain.specs.Elaborates.{trees_along}
 use Rattle.ra_chain.proofs.PlantLemmas.{spells_at, grows_through}
 use Rattle.ra_member.proofs.PlanLemmas.{one_more}
