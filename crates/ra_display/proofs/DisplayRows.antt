@@ -9,9 +9,11 @@ use Rattle.ra_member.specs.MemberRuns.{kept_by}
 use Rattle.ra_display.specs.PresenceBack.{hits_of_lines, numbers_of_lines}
 
 -- what lines keep, one behind the other
-rows : (f : MemberKept → List ℕ) (runs : List Member) → concat (map f (map kept_by runs)) ≡ flat_map (λ (run : Member). f (kept_by run)) runs
+rows : (f : MemberKept → List ℕ) (runs : List Member) → concat (map f (map kept_by runs))
+    ≡ flat_map (λ (run : Member). f (kept_by run)) runs
 rows f runs =
-    concat_is (map f (map kept_by runs)) ∙ flat_map-map (λ (row : List ℕ). row) f (map kept_by runs) ∙ flat_map-map f kept_by runs
+    concat_is (map f (map kept_by runs)) ∙ flat_map-map (λ (row : List ℕ). row) f (map kept_by runs)
+    ∙ flat_map-map f kept_by runs
 
 pub lines_hits : (runs : List Member) → concat (map saved_hits (map kept_by runs)) ≡ hits_of_lines runs
 lines_hits runs = rows saved_hits runs

@@ -7,7 +7,8 @@ use Rattle.ra_truths.specs.declared.comparison.Comparison.{Comparison}
 use Rattle.ra_schedule.specs.Readers.{ReadersSeen}
 use Rattle.ra_richpresence.specs.Contents.{LineContents}
 use Rattle.ra_member.specs.declared.member.Member.{Member}
-use Rattle.ra_member.specs.Members.{HasShape, MemberContents, MemberKept, member_next, tests_hold, tests_next, values_next}
+use Rattle.ra_member.specs.Members.{HasShape, MemberContents, MemberKept, member_next, tests_hold, tests_next}
+use Rattle.ra_member.specs.Members.{values_next}
 use Rattle.ra_member.specs.MemberRuns.{kept_by}
 use Rattle.ra_member.proofs.Shaped.{member_shape}
 use Rattle.ra_schedule.specs.declared.member_counts.MemberCounts.{MemberCounts}
@@ -18,14 +19,16 @@ use Rattle.ra_schedule.specs.Owing.{owed_member}
 use Rattle.ra_schedule.specs.Waking.{Agrees, AreValuesAt, IsMemberTold, IsSomeFrame, first_frame}
 use Rattle.ra_schedule.specs.Schedules.{as_hits_tell}
 use Rattle.ra_schedule.proofs.MembersRest.Counted.{counted_owes_member, member_by_at_most}
-use Rattle.ra_schedule.proofs.MembersRest.GoesOn.{tests_go_on, tests_say_on, values_go_on, tests_owe_nothing, values_owe_nothing}
+use Rattle.ra_schedule.proofs.MembersRest.GoesOn.{tests_go_on, tests_say_on, values_go_on, tests_owe_nothing}
+use Rattle.ra_schedule.proofs.MembersRest.GoesOn.{values_owe_nothing}
 use Rattle.ra_schedule.proofs.MembersRest.Woken.{member_through}
 use Rattle.ra_meaning.specs.LineMembers.{line_member}
 use Rattle.ra_display.specs.LineRests.{LineGoesOn, LineRested, StepsLineSeen, StepsNoted, seen_line}
 use Rattle.ra_meaning.specs.Presence.{line_holds}
 
 -- hits tell no more than the most frames that they can count
-pub seen_as_told : (run : Member) (c : MemberCounts) (owed : Option ℕ) → seen_line run c (as_hits_tell owed) ≡ seen_line run c owed
+pub seen_as_told : (run : Member) (c : MemberCounts) (owed : Option ℕ)
+    → seen_line run c (as_hits_tell owed) ≡ seen_line run c owed
 seen_as_told run c None = refl
 seen_as_told run c (Some n) = member_by_at_most n (counts_of c) (kept_by run)
 
@@ -68,20 +71,26 @@ module _ (table : TableSeen) (line : LineContents) (seen : MemberKept) (rests : 
   line_starts =
       let small = rested.small in
       let keeps = rested.keeps in
-      let tests = tests_owe_nothing start h m.tests old.tests now.tests shape.tests tests_stepped small.tests keeps.tests in
-      let values = values_owe_nothing start h m.values old.values now.values shape.hits values_stepped small.values keeps.values in
+      let tests = tests_owe_nothing start h m.tests old.tests now.tests shape.tests tests_stepped
+      small.tests keeps.tests in
+      let values = values_owe_nothing start h m.values old.values now.values shape.hits
+      values_stepped small.values keeps.values in
       owes 0 ∙ (λ i. record { tests = tests i; values = values i })
 
-  module _ (start' : Start) (image' : List ℕ) (same : MemberSeesSame (first_frame start image) (first_frame start' image') m) (n : ℕ) where
+  module _ (start' : Start) (image' : List ℕ)
+      (same : MemberSeesSame (first_frame start image) (first_frame start' image') m) (n : ℕ) where
     kept_later : member_next start' m (image' ∷ []) (owed_member n old now) ≡ owed_member (n + 1) old now
     kept_later =
         let small = rested.small in
         let keeps = rested.keeps in
-        let tests = tests_go_on (first_frame start image) (first_frame start' image') m.tests old.tests now.tests shape.tests same.tests tests_stepped small.tests keeps.tests n in
-        let values = values_go_on (first_frame start image) (first_frame start' image') m.values old.values now.values shape.hits same.values values_stepped small.values keeps.values n in
+        let tests = tests_go_on (first_frame start image) (first_frame start' image') m.tests
+        old.tests now.tests shape.tests same.tests tests_stepped small.tests keeps.tests n in
+        let values = values_go_on (first_frame start image) (first_frame start' image') m.values
+        old.values now.values shape.hits same.values values_stepped small.values keeps.values n in
         (λ i. record { tests = tests i; values = values i })
 
-    goes_on : member_next start' m (image' ∷ []) (owed_member_by n (counts_of c) now) ≡ owed_member_by (n + 1) (counts_of c) now
+    goes_on : member_next start' m (image' ∷ []) (owed_member_by n (counts_of c) now)
+        ≡ owed_member_by (n + 1) (counts_of c) now
     goes_on = ap (member_next start' m (image' ∷ [])) (owes n) ∙ kept_later ∙ sym (owes (n + 1))
 
     holds_on : line_holds (tests_hold start' m.tests (image' ∷ []) (owed_member_by n (counts_of c) now).tests) ≡ holds
@@ -89,7 +98,8 @@ module _ (table : TableSeen) (line : LineContents) (seen : MemberKept) (rests : 
         let small = rested.small in
         let keeps = rested.keeps in
         ap (λ (k : MemberKept). line_holds (tests_hold start' m.tests (image' ∷ []) k.tests)) (owes n)
-        ∙ ap line_holds (tests_say_on (first_frame start image) (first_frame start' image') m.tests old.tests now.tests shape.tests same.tests tests_stepped small.tests keeps.tests n)
+        ∙ ap line_holds (tests_say_on (first_frame start image) (first_frame start' image') m.tests
+        old.tests now.tests shape.tests same.tests tests_stepped small.tests keeps.tests n)
         ∙ sym (steps.steps.truth start h has)
 
   pub line_rests_on : LineGoesOn table.nodes table.values line c new holds
@@ -101,10 +111,13 @@ module _ (table : TableSeen) (line : LineContents) (seen : MemberKept) (rests : 
   }
 
 -- a line that goes on to rest by earlier values, where it reads the same still
-module _ (table : TableSeen) (values : List ℕ) (line : LineContents) (c : MemberCounts) (run : Member) (holds : Bool) (on : LineGoesOn table.nodes values line c run holds)
-    (comparisons : List Comparison) (readers : ReadersSeen) (reader : ℕ) (told : IsMemberTold table.nodes comparisons readers (line_member line) reader)
+module _ (table : TableSeen) (values : List ℕ) (line : LineContents) (c : MemberCounts)
+    (run : Member) (holds : Bool) (on : LineGoesOn table.nodes values line c run holds)
+    (comparisons : List Comparison) (readers : ReadersSeen) (reader : ℕ)
+    (told : IsMemberTold table.nodes comparisons readers (line_member line) reader)
     (same : Agrees (length table.nodes) comparisons readers reader values table.values) where
-  sees : (start : Start) (image : List ℕ) → AreValuesAt table.nodes table.values (first_frame start image) → MemberSeesSame on.now (first_frame start image) (line_member line)
+  sees : (start : Start) (image : List ℕ) → AreValuesAt table.nodes table.values
+      (first_frame start image) → MemberSeesSame on.now (first_frame start image) (line_member line)
   sees start image has = told values table.values on.now (first_frame start image) on.at has same
 
   pub still_on : IsSomeFrame table → LineGoesOn table.nodes table.values line c run holds
@@ -114,11 +127,14 @@ module _ (table : TableSeen) (values : List ℕ) (line : LineContents) (c : Memb
       record {
         now = next;
         at = frame.has;
-        kept = λ start image seen n. on.kept start image (member_through on.now next (first_frame start image) (line_member line) first seen) n;
-        truth = λ start image seen n. on.truth start image (member_through on.now next (first_frame start image) (line_member line) first seen) n;
+        kept = λ start image seen n. on.kept start image
+            (member_through on.now next (first_frame start image) (line_member line) first seen) n;
+        truth = λ start image seen n. on.truth start image
+            (member_through on.now next (first_frame start image) (line_member line) first seen) n;
       }
 
-  pub skipped : (n : ℕ) → StepsLineSeen table line (owed_member_by n (counts_of c) (kept_by run)) (owed_member_by (n + 1) (counts_of c) (kept_by run)) holds
+  pub skipped : (n : ℕ) → StepsLineSeen table line (owed_member_by n (counts_of c) (kept_by run))
+      (owed_member_by (n + 1) (counts_of c) (kept_by run)) holds
   skipped n = record {
     kept = λ start image has. sym (on.kept start image (sees start image has) n);
     truth = λ start image has. sym (on.truth start image (sees start image has) n);

@@ -15,32 +15,43 @@ use Rattle.ra_display.specs.PresenceShapes.{presence_run_shape}
 use Rattle.ra_display.proofs.DisplayRows.{lines_hits, lines_numbers}
 
 -- a display of which only the shown line and the kept numbers change
-display_stays : (old new : PresenceRun) → StayLines old.lines.items new.lines.items → new.shown < length old.lines.items → (nodes : List Node) (script : ScriptContents) → IsPresenceRun nodes script old → IsPresenceRun nodes script new
+display_stays : (old new : PresenceRun) → StayLines old.lines.items new.lines.items
+    → new.shown < length old.lines.items → (nodes : List Node) (script : ScriptContents)
+    → IsPresenceRun nodes script old → IsPresenceRun nodes script new
 display_stays old new stay within nodes script are = record {
   lines = stay nodes script.lines are.lines;
   shown = omega (arith, within, beside_length (IsLineRun nodes) script.lines old.lines.items are.lines);
 }
 
 -- a display whose shown line and lines are put back
-pub display_back : (bytes : List ℕ) (at hits numbers : ℕ) (old new : PresenceRun) → new.shown ≡ word_at bytes at → word_at bytes at < length old.lines.items → StayLines old.lines.items new.lines.items
+pub display_back : (bytes : List ℕ) (at hits numbers : ℕ) (old new : PresenceRun) → new.shown
+    ≡ word_at bytes at → word_at bytes at < length old.lines.items
+    → StayLines old.lines.items new.lines.items
     → hits_of_lines new.lines.items ≡ words_at bytes hits (length (hits_of_lines old.lines.items))
     → numbers_of_lines new.lines.items ≡ words_at bytes numbers (length (numbers_of_lines old.lines.items))
     → hits ≡ at + 4 → numbers ≡ at + 4 + 4 * (presence_run_shape old).hits → PutsBackDisplay bytes (Some at) old new
 display_back bytes at hits numbers old new shown within stay all_hits all_numbers is is_too =
-    let hit_words : concat (map saved_hits (map kept_by new.lines.items)) ≡ words_at bytes hits (presence_run_shape old).hits =
-    lines_hits new.lines.items ∙ all_hits ∙ ap (λ xs. words_at bytes hits (length xs)) (sym (lines_hits old.lines.items)) in
-    let number_words : concat (map saved_numbers (map kept_by new.lines.items)) ≡ words_at bytes numbers (presence_run_shape old).parts =
-    lines_numbers new.lines.items ∙ all_numbers ∙ ap (λ xs. words_at bytes numbers (length xs)) (sym (lines_numbers old.lines.items)) in
+    let hit_words : concat (map saved_hits (map kept_by new.lines.items))
+    ≡ words_at bytes hits (presence_run_shape old).hits =
+    lines_hits new.lines.items ∙ all_hits
+    ∙ ap (λ xs. words_at bytes hits (length xs)) (sym (lines_hits old.lines.items)) in
+    let number_words : concat (map saved_numbers (map kept_by new.lines.items))
+    ≡ words_at bytes numbers (presence_run_shape old).parts =
+    lines_numbers new.lines.items ∙ all_numbers
+    ∙ ap (λ xs. words_at bytes numbers (length xs)) (sym (lines_numbers old.lines.items)) in
     record {
       kept =
           (λ i. record { shown = shown i; hits = hit_words i; numbers = number_words i })
-          ∙ (λ i. record { shown = word_at bytes at; hits = words_at bytes (is i) (presence_run_shape old).hits; numbers = words_at bytes (is_too i) (presence_run_shape old).parts });
+          ∙ (λ i. record
+          { shown = word_at bytes at; hits = words_at bytes (is i) (presence_run_shape old).hits; numbers = words_at bytes (is_too i) (presence_run_shape old).parts });
       run = display_stays old new stay (omega (arith, shown, within));
     }
 
 -- a display without a block shows its last line, and is cleared
-pub display_cleared : (bytes : List ℕ) (old new : PresenceRun) → new.shown ≡ length old.lines.items - 1 → 0 < length old.lines.items → StayLines old.lines.items new.lines.items
-    → map kept_by new.lines.items ≡ map cleared_member (map kept_by old.lines.items) → PutsBackDisplay bytes None old new
+pub display_cleared : (bytes : List ℕ) (old new : PresenceRun) → new.shown ≡ length
+    old.lines.items - 1 → 0 < length old.lines.items → StayLines old.lines.items new.lines.items
+    → map kept_by new.lines.items ≡ map cleared_member (map kept_by old.lines.items)
+    → PutsBackDisplay bytes None old new
 display_cleared bytes old new shown some stay kept =
     let zero = all_cleared (map kept_by old.lines.items) in
     let hits = ap (λ ks. concat (map saved_hits ks)) kept ∙ zero.0 in
