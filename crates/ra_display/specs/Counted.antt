@@ -32,6 +32,7 @@ pub record CountsLines (old new : List Node) (lines : List LineContents) (hits n
   pub few_numbers : numbers ≤ sum_by line_conditions lines
 
 -- the pool grows by the trees of a display that may be missing, and its shape is told
-pub record CountsPresence (old new : List Node) (script : Option ScriptContents) (shape : Option PresenceShape) : Type 0 where
+pub record CountsPresence (old new : List Node) (script : Option ScriptContents)
+    (shape : Option PresenceShape) : Type 0 where
   pub grows : GrowsWithin old new (flat_map trees_in_line (lines_in script)) (script_conditions script)
   pub shape_too : shape ≡ option_map presence_shape script

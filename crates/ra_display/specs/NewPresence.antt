@@ -1,4 +1,5 @@
--- What a new display leaves in a pool, and what it keeps before the first frame: docs/DEFINITIONS.md, "Openings and snapshots".
+-- What a new display leaves in a pool, and what it keeps before the first frame: docs/DEFINITIONS.md, "Openings and
+-- snapshots".
 use Rattle.std.specs.Prelude.{◌≡◌, Option, option_map, List, map, sum_by}
 use Rattle.std.specs.List.{flat_map}
 use Rattle.ra_indirect.specs.declared.node.Node.{Node}
@@ -26,7 +27,8 @@ pub record AreNewLines (old new : List Node) (lines : List LineContents) (runs :
   pub plain : map kept_by runs ≡ map no_member (map line_member lines)
 
 -- a display that may be missing has its plans over the pool; it shows its last line, and keeps nothing else yet
-pub record IsNewPresence (old new : List Node) (script : Option ScriptContents) (run : Option PresenceRun) : Type 0 where
+pub record IsNewPresence (old new : List Node) (script : Option ScriptContents)
+    (run : Option PresenceRun) : Type 0 where
   pub grows : GrowsWithin old new (flat_map trees_in_line (lines_in script)) (script_conditions script)
   pub run_too : IsOptionalPresence new script run
   pub plain : optional_presence_kept run ≡ option_map plain_presence (option_map presence_shape script)

@@ -12,7 +12,8 @@ use Rattle.ra_member.specs.declared.member.Member.{Member}
 use Rattle.ra_display.specs.declared.presence_run.PresenceRun.{PresenceRun}
 use Rattle.ra_member.specs.Members.{saved_hits, saved_numbers}
 use Rattle.ra_member.specs.MemberRuns.{kept_by}
-use Rattle.ra_display.specs.PresenceRuns.{AreLineRuns, IsPresenceRun, IsOptionalPresence, presence_kept, optional_presence_kept}
+use Rattle.ra_display.specs.PresenceRuns.{AreLineRuns, IsPresenceRun, IsOptionalPresence, presence_kept}
+use Rattle.ra_display.specs.PresenceRuns.{optional_presence_kept}
 use Rattle.ra_display.specs.PresenceShapes.{presence_run_shape, optional_run_shape}
 
 -- the block at a place lies within bytes that have a version
@@ -40,10 +41,14 @@ StayLines olds news =
 
 -- a display is what its block says, or plain without one, and stays one with its plans
 pub record PutsBackDisplay (bytes : List ℕ) (place : Option ℕ) (old new : PresenceRun) : Type 0 where
-  pub kept : presence_kept new ≡ said_or (said_presence bytes (presence_run_shape old)) (plain_presence (presence_run_shape old)) place
-  pub run : (nodes : List Node) (script : ScriptContents) → IsPresenceRun nodes script old → IsPresenceRun nodes script new
+  pub kept : presence_kept new ≡ said_or (said_presence bytes (presence_run_shape old))
+      (plain_presence (presence_run_shape old)) place
+  pub run : (nodes : List Node) (script : ScriptContents) → IsPresenceRun nodes script old
+      → IsPresenceRun nodes script new
 
 -- the same of a display that may be missing
 pub record PutsBackPresence (bytes : List ℕ) (place : Option ℕ) (old new : Option PresenceRun) : Type 0 where
-  pub kept : optional_presence_kept new ≡ option_map (λ p. said_or (said_presence bytes p) (plain_presence p) place) (optional_run_shape old)
-  pub run : (nodes : List Node) (script : Option ScriptContents) → IsOptionalPresence nodes script old → IsOptionalPresence nodes script new
+  pub kept : optional_presence_kept new ≡ option_map
+      (λ p. said_or (said_presence bytes p) (plain_presence p) place) (optional_run_shape old)
+  pub run : (nodes : List Node) (script : Option ScriptContents)
+      → IsOptionalPresence nodes script old → IsOptionalPresence nodes script new

@@ -48,13 +48,16 @@ optional_presence_kept run = option_map presence_kept run
 
 -- One frame of a line, from what it keeps: what it keeps after it, and whether its test holds.
 pub record StepsLine (table : TableSeen) (line : LineContents) (old new : Member) (holds : Bool) : Type 0 where
-  pub kept : (start : Start) (history : History) → HasValues table start history → kept_by new ≡ member_next start (line_member line) history (kept_by old)
-  pub truth : (start : Start) (history : History) → HasValues table start history → holds ≡ line_holds (tests_hold start (tests_in line.test) history (kept_by old).tests)
+  pub kept : (start : Start) (history : History) → HasValues table start history → kept_by new
+      ≡ member_next start (line_member line) history (kept_by old)
+  pub truth : (start : Start) (history : History) → HasValues table start history → holds
+      ≡ line_holds (tests_hold start (tests_in line.test) history (kept_by old).tests)
 
 -- One frame of a display, from what is kept of it.
 abbrev pub StepsPresence : TableSeen → ScriptContents → (old new : KeptPresence) → Type 0
 StepsPresence table script old new =
-    (start : Start) (image : List ℕ) → HasValues table start (image ∷ []) → new ≡ presence_after start script old (image ∷ [])
+    (start : Start) (image : List ℕ) → HasValues table start (image ∷ []) → new
+    ≡ presence_after start script old (image ∷ [])
 
 -- one frame of a display that may be missing
 abbrev pub StepsOptional : TableSeen → Option ScriptContents → (old new : Option KeptPresence) → Type 0

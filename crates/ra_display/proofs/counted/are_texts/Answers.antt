@@ -10,4 +10,5 @@ loop-piece-preserved c =
     let k = c.loop-piece.piece-index in
     let piece = c.piece-item.result in
     rw (taken_next piece_contents pieces k piece c.loop-piece-test.true c.piece-item.is)
-    (none_more (map piece_contents (take k pieces)) (piece_contents piece) c.loop-piece.invariant (sym c.if-is_macro.ensures))
+    (none_more (map piece_contents (take k pieces)) (piece_contents piece) c.loop-piece.invariant
+    (sym c.if-is_macro.ensures))

@@ -11,7 +11,8 @@ loop-line-init c = no_lines c.args.pool.now c.len.ensures.pool
 
 pub counted_line-requires-clause-spelled : goal.counted_line-requires-clause-spelled
 counted_line-requires-clause-spelled c =
-    holds_at line_contents c.args.lines.now c.loop-line.line-index c.line-item.result c.loop-line-test.true c.line-item.is IsShownLine c.requires.spelled
+    holds_at line_contents c.args.lines.now c.loop-line.line-index c.line-item.result
+    c.loop-line-test.true c.line-item.is IsShownLine c.requires.spelled
 
 pub counted_line-requires-clause-room : goal.counted_line-requires-clause-room
 counted_line-requires-clause-room c =
@@ -34,5 +35,9 @@ loop-line-preserved c =
     let lines = c.args.lines.now in
     let k = c.loop-line.line-index in
     let line = c.line-item.result in
-    let next : map line_contents (take (k + 1) lines) ≡ map line_contents (take k lines) ++ line_contents line ∷ [] = taken_next line_contents lines k line c.loop-line-test.true c.line-item.is in
-    rw next (counts_more c.args.pool.now c.loop-line.pool c.counted_line.new.pool (map line_contents (take k lines)) (line_contents line) c.loop-line.hits c.loop-line.numbers c.in_ok-kept.kept c.loop-line.invariant c.in_ok-kept.ensures)
+    let next : map line_contents (take (k + 1) lines) ≡ map line_contents (take k lines)
+    ++ line_contents line ∷ [] =
+    taken_next line_contents lines k line c.loop-line-test.true c.line-item.is in
+    rw next (counts_more c.args.pool.now c.loop-line.pool c.counted_line.new.pool
+    (map line_contents (take k lines)) (line_contents line) c.loop-line.hits c.loop-line.numbers
+    c.in_ok-kept.kept c.loop-line.invariant c.in_ok-kept.ensures)

@@ -37,7 +37,8 @@ put_hits-next-requires-clause-room c =
     let e = c.index-values-place.result in
     let long = rows_long c.args.owed counts (map hits runs) c.requires.as_long in
     subst (λ (xs : List ℕ). HasWords p.row p.next xs) (sym c.hits-hits.ensures)
-    (row_room hits runs (seen_rows c.args.owed counts (map hits runs)) long c.args.row.now p.row c.args.at p.next p.place
+    (row_room hits runs (seen_rows c.args.owed counts (map hits runs)) long c.args.row.now p.row
+    c.args.at p.next p.place
     (omega (arith, c.loop-place-test.true)) p.invariant.puts e c.requires.room)
 
 pub loop-place-init : goal.loop-place-init
@@ -58,7 +59,8 @@ loop-place-preserved c =
     let same : one ≡ seen_hits c.args.owed (bits (get_or counts p.place d)) (hits (get_or runs p.place e)) =
     ap₂ (seen_hits c.args.owed) c.deref.ensures.value c.hits-hits.ensures in
     let here : get_or seen p.place one ≡ one =
-    subst (λ x. get_or seen p.place x ≡ x) (sym same) (row_at bits hits c.args.owed counts runs p.place d e many within) in
+    subst (λ x. get_or seen p.place x ≡ x) (sym same)
+    (row_at bits hits c.args.owed counts runs p.place d e many within) in
     record {
       puts =
           row_more hits runs seen long c.args.row.now p.row c.args.at p.next p.place within p.invariant.puts

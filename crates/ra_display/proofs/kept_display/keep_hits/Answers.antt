@@ -24,8 +24,11 @@ put_member_hits-next-requires-clause-fit c =
     let counts = c.args.rests.now.each.items in
     let b = c.index.result.now in
     let line = c.index-lines-place.result in
-    let at = fitting_at c.loop-place.place c.args.lines.now counts line b (omega (arith, c.loop-place-test.true)) c.requires.fit in
-    subst (λ (e : MemberCounts). CountsFit (counts_of e) (kept_by line)) (sym c.index.ensures) (subst (λ (m : Member). CountsFit (counts_of (get_or counts c.loop-place.place b)) (kept_by m)) (sym c.index-lines-place.is) at)
+    let at = fitting_at c.loop-place.place c.args.lines.now counts line b
+    (omega (arith, c.loop-place-test.true)) c.requires.fit in
+    subst (λ (e : MemberCounts). CountsFit (counts_of e) (kept_by line)) (sym c.index.ensures)
+    (subst (λ (m : Member). CountsFit (counts_of (get_or counts c.loop-place.place b)) (kept_by m))
+    (sym c.index-lines-place.is) at)
 
 pub put_member_hits-next-requires-clause-room : goal.put_member_hits-next-requires-clause-room
 put_member_hits-next-requires-clause-room c =
@@ -33,7 +36,9 @@ put_member_hits-next-requires-clause-room c =
     let lines = c.args.lines.now in
     let line = c.index-lines-place.result in
     subst (λ (m : Member). HasWords p.row p.next (saved_hits (kept_by m))) (sym c.index-lines-place.is)
-    (line_room saved_hits c.args.row.now p.row c.args.at p.next lines (seen_lines lines c.args.rests.now) p.place (omega (arith, c.loop-place-test.true)) p.invariant.puts line (hits_seen lines c.args.rests.now c.requires.fit) c.requires.room)
+    (line_room saved_hits c.args.row.now p.row c.args.at p.next lines
+    (seen_lines lines c.args.rests.now) p.place (omega (arith, c.loop-place-test.true))
+    p.invariant.puts line (hits_seen lines c.args.rests.now c.requires.fit) c.requires.room)
 
 pub loop-place-init : goal.loop-place-init
 loop-place-init c = record { puts = no_words c.args.row.now c.args.at }
@@ -51,11 +56,14 @@ loop-place-preserved c =
     let kept = seen_lines lines rests in
     let one = seen_line line b c.owed-owed.result in
     let there : get_or kept k one ≡ one =
-    seen_at Member MemberCounts MemberKept seen_line (owed_at rests.schedule) k lines rests.each.items line b one below many
+    seen_at Member MemberCounts MemberKept seen_line
+    (owed_at rests.schedule) k lines rests.each.items line b one below many
     ∙ (λ i. seen_line (sym c.index-lines-place.is i) (sym c.index.ensures i) (owed_at rests.schedule k))
     ∙ sym (ap (seen_line line b) c.owed-owed.ensures ∙ seen_as_told line b (owed_at rests.schedule k)) in
     record {
-      puts = line_more saved_hits c.args.row.now p.row c.args.at p.next lines kept k below p.invariant.puts c.put_member_hits-next.new.row c.put_member_hits-next.result one (lines_many lines rests c.requires.fit) there c.put_member_hits-next.ensures;
+      puts = line_more saved_hits c.args.row.now p.row c.args.at p.next lines kept k below
+          p.invariant.puts c.put_member_hits-next.new.row c.put_member_hits-next.result one
+          (lines_many lines rests c.requires.fit) there c.put_member_hits-next.ensures;
     }
 
 pub returns : goal.returns
@@ -63,4 +71,6 @@ returns c =
     let p = c.loop-place in
     let lines = c.args.lines.now in
     let kept = seen_lines lines c.args.rests.now in
-    line_all saved_hits c.args.row.now p.row c.args.at p.next kept p.place (omega (arith, c.loop-place-test.false, lines_many lines c.args.rests.now c.requires.fit)) p.invariant.puts
+    line_all saved_hits c.args.row.now p.row c.args.at p.next kept p.place
+    (omega (arith, c.loop-place-test.false, lines_many lines c.args.rests.now c.requires.fit))
+    p.invariant.puts

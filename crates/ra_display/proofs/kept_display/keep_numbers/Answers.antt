@@ -14,7 +14,8 @@ put_member_numbers-next-requires c =
     let lines = c.args.lines.now in
     let line = c.index-lines-place.result in
     subst (λ (m : Member). HasWords p.row p.next (saved_numbers (kept_by m))) (sym c.index-lines-place.is)
-    (line_room saved_numbers c.args.row.now p.row c.args.at p.next lines (map kept_by lines) p.place (omega (arith, c.loop-place-test.true)) p.invariant.puts line refl c.requires)
+    (line_room saved_numbers c.args.row.now p.row c.args.at p.next lines (map kept_by lines) p.place
+    (omega (arith, c.loop-place-test.true)) p.invariant.puts line refl c.requires)
 
 pub loop-place-init : goal.loop-place-init
 loop-place-init c = record { puts = no_words c.args.row.now c.args.at }
@@ -25,13 +26,18 @@ loop-place-preserved c =
     let lines = c.args.lines.now in
     let line = c.index-lines-place.result in
     let below : p.place < length lines = omega (arith, c.loop-place-test.true) in
-    let there : get_or (map kept_by lines) p.place (kept_by line) ≡ kept_by line = get_or-map kept_by lines p.place line (kept_by line) below ∙ ap kept_by (sym c.index-lines-place.is) in
+    let there : get_or (map kept_by lines) p.place (kept_by line) ≡ kept_by line = get_or-map
+    kept_by lines p.place line (kept_by line) below ∙ ap kept_by (sym c.index-lines-place.is) in
     record {
-      puts = line_more saved_numbers c.args.row.now p.row c.args.at p.next lines (map kept_by lines) p.place below p.invariant.puts c.put_member_numbers-next.new.row c.put_member_numbers-next.result (kept_by line) (length-map lines kept_by) there c.put_member_numbers-next.ensures;
+      puts = line_more saved_numbers c.args.row.now p.row c.args.at p.next lines
+          (map kept_by lines) p.place below p.invariant.puts c.put_member_numbers-next.new.row
+          c.put_member_numbers-next.result (kept_by line)
+          (length-map lines kept_by) there c.put_member_numbers-next.ensures;
     }
 
 pub returns : goal.returns
 returns c =
     let p = c.loop-place in
     let lines = c.args.lines.now in
-    line_all saved_numbers c.args.row.now p.row c.args.at p.next (map kept_by lines) p.place (omega (arith, c.loop-place-test.false, length-map lines kept_by)) p.invariant.puts
+    line_all saved_numbers c.args.row.now p.row c.args.at p.next (map kept_by lines) p.place
+    (omega (arith, c.loop-place-test.false, length-map lines kept_by)) p.invariant.puts

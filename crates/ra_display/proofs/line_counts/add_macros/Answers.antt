@@ -17,7 +17,8 @@ moved : (m : MemberContents) (one other : List (List PartContents)) (c : MemberC
 moved m one other c same are = subst (λ vs. AreFor (record m { values = vs }) c) same are
 
 pub loop-piece-init : goal.loop-piece-init
-loop-piece-init c = record { adds = λ m are. moved m m.values (m.values ++ []) c.args.counts.now (sym (append-nil m.values)) are }
+loop-piece-init c =
+    record { adds = λ m are. moved m m.values (m.values ++ []) c.args.counts.now (sym (append-nil m.values)) are }
 
 pub loop-piece-preserved : goal.loop-piece-preserved
 loop-piece-preserved c =
@@ -32,9 +33,11 @@ loop-piece-preserved c =
           more ∙ ap (λ p. done ++ filter_map value_in (piece_contents p ∷ [])) w.in-Macro.is in
           rw w.counts-is (record {
             adds = λ m are.
-                moved m ((m.values ++ done) ++ parts ∷ []) (m.values ++ macros_in (take (k + 1) pieces)) w.add_value.new.self
+                moved m ((m.values ++ done) ++ parts ∷ [])
+                (m.values ++ macros_in (take (k + 1) pieces)) w.add_value.new.self
                 (append_assoc m.values done (parts ∷ []) ∙ ap (λ xs. m.values ++ xs) (sym next))
-                (w.in_ok-add_value.ensures (record m { values = m.values ++ done }) (c.loop-piece.invariant.adds m are));
+                (w.in_ok-add_value.ensures (record m { values = m.values ++ done })
+                (c.loop-piece.invariant.adds m are));
           })
       | in_default w ↦
           let next : macros_in (take (k + 1) pieces) ≡ done =

@@ -14,5 +14,7 @@ returns c =
     let tests = tests_in (option_map trigger_contents c.args.line.now.test) in
     let tested = c.in_ok-add_test.ensures none c.new-counts.ensures in
     let all = c.in_ok-add_macros.ensures (record { tests = tests; values = [] }) tested in
-    subst (λ (ps : List Piece). AreFor (record { tests = tests; values = filter_map value_in (map piece_contents ps) }) c.add_macros.new.counts)
+    subst (λ (ps : List Piece). AreFor
+    (record { tests = tests; values = filter_map value_in (map piece_contents ps) })
+    c.add_macros.new.counts)
     c.deref.ensures.value all

@@ -15,12 +15,14 @@ loop-line-preserved c =
     let line = c.line-item.result in
     let each = c.loop-line.each.items in
     let done = map line_contents (take k lines) in
-    let more = beside_more HasLineRoom done each (line_contents line) c.in_ok-counts.counts c.loop-line.invariant.rooms c.in_ok-counts.ensures in
+    let more = beside_more HasLineRoom done each
+    (line_contents line) c.in_ok-counts.counts c.loop-line.invariant.rooms c.in_ok-counts.ensures in
     let next = taken_next line_contents lines k line c.loop-line-test.true c.line-item.is in
     record {
       rooms =
           subst (λ ls. HaveLineRooms ls c.push.new.self.items) (sym next)
-          (subst (λ (cs : List MemberCounts). HaveLineRooms (done ++ line_contents line ∷ []) cs) (sym c.in_ok-push.ensures.items) more);
+          (subst (λ (cs : List MemberCounts). HaveLineRooms (done ++ line_contents line ∷ []) cs)
+          (sym c.in_ok-push.ensures.items) more);
     }
 
 pub returns : goal.returns

@@ -11,7 +11,9 @@ returns-clause-told c = λ values values' now later at at' agree.
     let last = c.note_macros.new.signals in
     let macros = c.in_ok-note_macros.ensures in
     record {
-      tests = told_still (λ (now later : Instant). TestsSeeSame now later m.tests) c.args.table.now.nodes mid.comparisons last.comparisons mid.readers last.readers c.args.reader
+      tests = told_still (λ (now later : Instant). TestsSeeSame now later m.tests)
+          c.args.table.now.nodes mid.comparisons last.comparisons mid.readers last.readers
+          c.args.reader
           macros.keeps.front macros.keeps.kept c.in_ok-note_test.ensures.told values values' now later at at' agree;
       values = rw c.deref.ensures.value at (macros.told values values' now later at at' agree);
     }

@@ -10,5 +10,6 @@ abbrev pub invariant-loop-piece : goal.invariant-loop-piece
 invariant-loop-piece l = record {
   keeps : KeepsAll l.table.nodes l.initial.signals l.signals;
   place : l.place ≡ length (macros_in (take l.piece-index l.pieces));
-  told : IsTold (λ now later. ValuesSeeSame now later (macros_in (take l.piece-index l.pieces))) l.table.nodes l.signals.comparisons l.signals.readers l.reader;
+  told : IsTold (λ now later. ValuesSeeSame now later (macros_in (take l.piece-index l.pieces)))
+      l.table.nodes l.signals.comparisons l.signals.readers l.reader;
 }

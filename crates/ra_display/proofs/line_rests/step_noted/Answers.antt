@@ -19,15 +19,18 @@ judge-requires c =
     c.note-noted.new.self (kept_by run) (member_shape nodes m run c.requires.run) (c.note-noted.ensures c.if-noted.true)
 
 -- what is judged is what the line kept before its step and after it
-judges : (c : goal.After-keep_all-rests) → Judges c.args.counts.now c.judge.new.self (kept_by c.args.run.now) (kept_by c.step_line-holds.new.member) c.judge.result
+judges : (c : goal.After-keep_all-rests) → Judges c.args.counts.now c.judge.new.self
+    (kept_by c.args.run.now) (kept_by c.step_line-holds.new.member) c.judge.result
 judges c =
     let m = line_member (line_contents c.args.line.now) in
     let nodes = c.args.table.now.nodes in
     let run = c.args.run.now in
     let new = c.step_line-holds.new.member in
     subst (λ (k : MemberKept). Judges c.args.counts.now c.judge.new.self k (kept_by new) c.judge.result)
-    (held_again m c.args.counts.now c.requires.room (kept_by new) (member_shape nodes m new c.step_line-holds.ensures.run)
-    c.note-noted.new.self (kept_by run) (member_shape nodes m run c.requires.run) (c.note-noted.ensures c.if-noted.true))
+    (held_again m c.args.counts.now c.requires.room (kept_by new)
+    (member_shape nodes m new c.step_line-holds.ensures.run)
+    c.note-noted.new.self (kept_by run) (member_shape nodes m run c.requires.run)
+    (c.note-noted.ensures c.if-noted.true))
     c.judge.ensures
 
 pub returns-then-noted-clause-room : goal.returns-then-noted-clause-room
@@ -54,7 +57,9 @@ returns-then-noted-clause-rests c = λ both.
       bits = λ i. record { tests = told.tests.bits i; values = told.values.bits i };
       small = (c.note-noted.ensures c.if-noted.true).small;
       keeps = record {
-        tests = judged_tests m c.args.counts.now c.judge.new.self (kept_by run) (kept_by new) judged c.requires.room shape shape_too told (and_left judged.tests judged.values keep);
-        values = judged_values m c.args.counts.now c.judge.new.self (kept_by run) (kept_by new) judged c.requires.room shape shape_too told (and_right judged.tests judged.values keep);
+        tests = judged_tests m c.args.counts.now c.judge.new.self (kept_by run) (kept_by new) judged
+            c.requires.room shape shape_too told (and_left judged.tests judged.values keep);
+        values = judged_values m c.args.counts.now c.judge.new.self (kept_by run) (kept_by new)
+            judged c.requires.room shape shape_too told (and_right judged.tests judged.values keep);
       };
     }

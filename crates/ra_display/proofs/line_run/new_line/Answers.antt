@@ -1,4 +1,5 @@
-use Rattle.std.proofs.Common.{◌≡◌, ◌+◌, ◌<◌, ◌∷◌, ◌++◌, [], length, map, take, get_or, option_map, sym, ◌∙◌, ap, subst, arith}
+use Rattle.std.proofs.Common.{◌≡◌, ◌+◌, ◌<◌, ◌∷◌, ◌++◌, [], length, map, take, get_or, option_map, sym, ◌∙◌, ap, subst}
+use Rattle.std.proofs.Common.{arith}
 use Rattle.std.specs.List.{filter_map}
 use Rattle.std.proofs.lemmas.List.{take_all}
 use Rattle.std.proofs.lemmas.List.Elements.{filter_map-append}
@@ -19,7 +20,8 @@ put_piece-requires-clause-spelled c =
     let k = c.loop-piece.piece-index in
     let piece = c.piece-item.result in
     let within : k < length pieces = omega (arith, c.deref-piece-items.ensures.len) in
-    let is : piece ≡ get_or pieces k piece = c.piece-item.is ∙ ap (λ xs. get_or xs k piece) c.deref-piece-items.ensures.value in
+    let is : piece ≡ get_or pieces k piece =
+    c.piece-item.is ∙ ap (λ xs. get_or xs k piece) c.deref-piece-items.ensures.value in
     holds_at piece_contents pieces k piece within is IsPiece c.requires.spelled.pieces
 
 pub put_piece-requires-clause-room : goal.put_piece-requires-clause-room
@@ -28,7 +30,8 @@ put_piece-requires-clause-room c =
     let k = c.loop-piece.piece-index in
     let piece = c.piece-item.result in
     let within : k < length pieces = omega (arith, c.deref-piece-items.ensures.len) in
-    let is : piece ≡ get_or pieces k piece = c.piece-item.is ∙ ap (λ xs. get_or xs k piece) c.deref-piece-items.ensures.value in
+    let is : piece ≡ get_or pieces k piece =
+    c.piece-item.is ∙ ap (λ xs. get_or xs k piece) c.deref-piece-items.ensures.value in
     omega (arith, weight_at piece_contents pieces k piece within is (λ p. optional_value (value_in p)), c.loop-piece.invariant.grows.few, c.requires.room, macro_conditions (map piece_contents (take k pieces)), macro_conditions (map piece_contents pieces), test_conditions (line_contents c.args.line.now).test)
 
 pub loop-piece-preserved : goal.loop-piece-preserved
@@ -38,11 +41,17 @@ loop-piece-preserved c =
     let k = c.loop-piece.piece-index in
     let piece = c.piece-item.result in
     let within : k < length pieces = omega (arith, c.deref-piece-items.ensures.len) in
-    let is : piece ≡ get_or pieces k piece = c.piece-item.is ∙ ap (λ xs. get_or xs k piece) c.deref-piece-items.ensures.value in
+    let is : piece ≡ get_or pieces k piece =
+    c.piece-item.is ∙ ap (λ xs. get_or xs k piece) c.deref-piece-items.ensures.value in
     let before = map piece_contents (take k pieces) in
-    let next : filter_map value_in (map piece_contents (take (k + 1) pieces)) ≡ filter_map value_in before ++ filter_map value_in (piece_contents piece ∷ []) = ap (filter_map value_in) (taken_next piece_contents pieces k piece within is) ∙ filter_map-append value_in before (piece_contents piece ∷ []) in
-    subst (λ vs. IsNewMember c.args.pool.now c.put_piece.new.pool (record { tests = tests; values = vs }) c.put_piece.new.member) (sym next)
-    (c.in_ok-put_piece.ensures c.args.pool.now (record { tests = tests; values = filter_map value_in before }) c.loop-piece.invariant)
+    let next : filter_map value_in (map piece_contents (take (k + 1) pieces))
+    ≡ filter_map value_in before ++ filter_map value_in (piece_contents piece ∷ []) =
+    ap (filter_map value_in) (taken_next piece_contents pieces k piece within is)
+    ∙ filter_map-append value_in before (piece_contents piece ∷ []) in
+    subst (λ vs. IsNewMember c.args.pool.now c.put_piece.new.pool
+    (record { tests = tests; values = vs }) c.put_piece.new.member) (sym next)
+    (c.in_ok-put_piece.ensures c.args.pool.now
+    (record { tests = tests; values = filter_map value_in before }) c.loop-piece.invariant)
 
 pub returns : goal.returns
 returns c =

@@ -8,4 +8,5 @@ returns-in_ok-add_value-in-Macro c = λ before m is. rw c.in-Macro.is (c.in_ok-a
 
 pub returns-in-Text : goal.returns-in-Text
 returns-in-Text c = λ before m is.
-    rw c.in-Text.is (subst (λ vs. IsNewMember before c.args.pool.now (record m { values = vs }) c.args.member.now) (sym (append-nil m.values)) is)
+    rw c.in-Text.is (subst (λ vs. IsNewMember before c.args.pool.now
+    (record m { values = vs }) c.args.member.now) (sym (append-nil m.values)) is)

@@ -8,7 +8,8 @@ use Rattle.ra_display.proofs.presence_run.new_lines.Goals as goal
 
 pub new_line-requires-clause-spelled : goal.new_line-requires-clause-spelled
 new_line-requires-clause-spelled c =
-    holds_at line_contents c.args.lines.now c.loop-line.line-index c.line-item.result c.loop-line-test.true c.line-item.is IsShownLine c.requires.spelled
+    holds_at line_contents c.args.lines.now c.loop-line.line-index c.line-item.result
+    c.loop-line-test.true c.line-item.is IsShownLine c.requires.spelled
 
 pub new_line-requires-clause-room : goal.new_line-requires-clause-room
 new_line-requires-clause-room c =
@@ -19,6 +20,10 @@ loop-line-preserved c =
     let lines = c.args.lines.now in
     let k = c.loop-line.line-index in
     let line = c.line-item.result in
-    let next : map line_contents (take (k + 1) lines) ≡ map line_contents (take k lines) ++ line_contents line ∷ [] = taken_next line_contents lines k line c.loop-line-test.true c.line-item.is in
-    let more = lines_more c.args.pool.now c.loop-line.pool c.new_line.new.pool (map line_contents (take k lines)) c.loop-line.runs.items (line_contents line) c.in_ok-run.run' c.loop-line.invariant c.in_ok-run.ensures in
+    let next : map line_contents (take (k + 1) lines) ≡ map line_contents (take k lines)
+    ++ line_contents line ∷ [] =
+    taken_next line_contents lines k line c.loop-line-test.true c.line-item.is in
+    let more = lines_more c.args.pool.now c.loop-line.pool c.new_line.new.pool
+    (map line_contents (take k lines)) c.loop-line.runs.items
+    (line_contents line) c.in_ok-run.run' c.loop-line.invariant c.in_ok-run.ensures in
     rw (next, c.in_ok-push.ensures.items) more

@@ -13,7 +13,8 @@ pub new_lines-requires-clause-spelled : goal.new_lines-requires-clause-spelled
 new_lines-requires-clause-spelled c =
     let script = script_contents c.in-Some.script in
     let spelled = rw c.in-Some.is at c.requires.spelled in
-    subst (λ (ls : List Line). All IsShownLine (map line_contents ls)) (sym c.deref.ensures.value) (shown_lines script.lines spelled.0.lines)
+    subst (λ (ls : List Line). All IsShownLine (map line_contents ls)) (sym c.deref.ensures.value)
+    (shown_lines script.lines spelled.0.lines)
 
 pub returns-in_ok-lines-in-Some : goal.returns-in_ok-lines-in-Some
 returns-in_ok-lines-in-Some c =
@@ -23,6 +24,8 @@ returns-in_ok-lines-in-Some c =
     let new = c.new_lines.new.pool in
     let runs = c.in_ok-lines-in-Some.lines in
     let run : PresenceRun = record { lines = runs; shown = c.len.result - 1 } in
-    let are = subst (λ (ls : List Line). AreNewLines old new (map line_contents ls) runs.items) c.deref.ensures.value c.in_ok-lines-in-Some.ensures in
-    let last : c.len.result - 1 ≡ length script.lines - 1 = omega (arith, c.len.ensures, length-map c.in-Some.script.lines.items line_contents) in
+    let are = subst (λ (ls : List Line). AreNewLines old new (map line_contents ls) runs.items)
+    c.deref.ensures.value c.in_ok-lines-in-Some.ensures in
+    let last : c.len.result - 1 ≡ length script.lines - 1 =
+    omega (arith, c.len.ensures, length-map c.in-Some.script.lines.items line_contents) in
     rw c.in-Some.is (presence_made old new script run are spelled.0.lines last)

@@ -18,7 +18,9 @@ loop-place-preserved c =
     let within : p.place < length olds = omega arith in
     let within_too : p.place < length p.lines = omega arith in
     record {
-      stay = λ nodes lines are. beside_set (IsLineRun nodes) lines p.lines p.place d new within_too (λ line is. e.stays nodes (line_member line) is) (p.invariant.stay nodes lines are);
-      kept = mapped_next p.place olds p.lines d within within_too p.invariant.rest kept_by (λ (m : Member). cleared_member (kept_by m)) new e.kept p.invariant.kept;
+      stay = λ nodes lines are. beside_set (IsLineRun nodes) lines p.lines p.place d new within_too
+          (λ line is. e.stays nodes (line_member line) is) (p.invariant.stay nodes lines are);
+      kept = mapped_next p.place olds p.lines d within within_too p.invariant.rest kept_by
+          (λ (m : Member). cleared_member (kept_by m)) new e.kept p.invariant.kept;
       rest = rest_next p.place olds p.lines d within within_too p.invariant.rest new;
     }

@@ -8,6 +8,7 @@ use Rattle.ra_display.proofs.restored_presence.clear_lines.Given as goal
 abbrev pub invariant-loop-place : goal.invariant-loop-place
 invariant-loop-place l = record {
   stay : StayLines l.fn.lines l.lines;
-  kept : map kept_by (take l.place l.lines) ≡ map (λ (m : Member). cleared_member (kept_by m)) (take l.place l.fn.lines);
+  kept : map kept_by (take l.place l.lines)
+      ≡ map (λ (m : Member). cleared_member (kept_by m)) (take l.place l.fn.lines);
   rest : drop l.place l.lines ≡ drop l.place l.fn.lines;
 }

@@ -13,14 +13,19 @@ put_back-at-requires-clause-hits c =
     let p = c.loop-place in
     let within : p.place < length c.args.lines.now = omega arith in
     let within_too : p.place < length p.lines = omega arith in
-    within_bytes p.place c.args.lines.now p.lines c.index-lines-place.result within within_too p.invariant.rest (λ (m : Member). saved_hits (kept_by m)) c.args.bytes.now c.args.from.hits p.at.hits p.invariant.hits (length c.args.bytes.now) c.requires.hits
+    within_bytes p.place c.args.lines.now p.lines c.index-lines-place.result within within_too
+    p.invariant.rest (λ (m : Member). saved_hits (kept_by m)) c.args.bytes.now c.args.from.hits
+    p.at.hits p.invariant.hits (length c.args.bytes.now) c.requires.hits
 
 pub put_back-at-requires-clause-numbers : goal.put_back-at-requires-clause-numbers
 put_back-at-requires-clause-numbers c =
     let p = c.loop-place in
     let within : p.place < length c.args.lines.now = omega arith in
     let within_too : p.place < length p.lines = omega arith in
-    within_bytes p.place c.args.lines.now p.lines c.index-lines-place.result within within_too p.invariant.rest (λ (m : Member). saved_numbers (kept_by m)) c.args.bytes.now c.args.from.numbers p.at.numbers p.invariant.numbers (length c.args.bytes.now) c.requires.numbers
+    within_bytes p.place c.args.lines.now p.lines c.index-lines-place.result within within_too
+    p.invariant.rest (λ (m : Member). saved_numbers (kept_by m)) c.args.bytes.now
+    c.args.from.numbers p.at.numbers p.invariant.numbers
+    (length c.args.bytes.now) c.requires.numbers
 
 pub loop-place-preserved : goal.loop-place-preserved
 loop-place-preserved c =
@@ -34,18 +39,25 @@ loop-place-preserved c =
     let within : p.place < length olds = omega arith in
     let within_too : p.place < length p.lines = omega arith in
     record {
-      stay = λ nodes lines are. beside_set (IsLineRun nodes) lines p.lines p.place d new within_too (λ line is. e.stays nodes (line_member line) is) (p.invariant.stay nodes lines are);
-      hits = row_next p.place olds p.lines d within within_too p.invariant.rest (λ (m : Member). saved_hits (kept_by m)) bytes c.args.from.hits p.at.hits p.invariant.hits new at.hits e.hits e.next_hits;
-      numbers = row_next p.place olds p.lines d within within_too p.invariant.rest (λ (m : Member). saved_numbers (kept_by m)) bytes c.args.from.numbers p.at.numbers p.invariant.numbers new at.numbers e.numbers e.next_numbers;
+      stay = λ nodes lines are. beside_set (IsLineRun nodes) lines p.lines p.place d new within_too
+          (λ line is. e.stays nodes (line_member line) is) (p.invariant.stay nodes lines are);
+      hits = row_next p.place olds p.lines d within within_too p.invariant.rest
+          (λ (m : Member). saved_hits (kept_by m)) bytes c.args.from.hits p.at.hits p.invariant.hits
+          new at.hits e.hits e.next_hits;
+      numbers = row_next p.place olds p.lines d within within_too p.invariant.rest
+          (λ (m : Member). saved_numbers (kept_by m)) bytes c.args.from.numbers p.at.numbers
+          p.invariant.numbers new at.numbers e.numbers e.next_numbers;
       rest = rest_next p.place olds p.lines d within within_too p.invariant.rest new;
     }
 
 pub returns-clause-hits : goal.returns-clause-hits
 returns-clause-hits c =
     let p = c.loop-place in
-    (row_ends (λ (m : Member). saved_hits (kept_by m)) c.args.bytes.now c.args.from.hits p.at.hits p.place c.args.lines.now p.lines (omega arith) (omega arith) p.invariant.hits).0
+    (row_ends (λ (m : Member). saved_hits (kept_by m)) c.args.bytes.now c.args.from.hits p.at.hits
+    p.place c.args.lines.now p.lines (omega arith) (omega arith) p.invariant.hits).0
 
 pub returns-clause-numbers : goal.returns-clause-numbers
 returns-clause-numbers c =
     let p = c.loop-place in
-    (row_ends (λ (m : Member). saved_numbers (kept_by m)) c.args.bytes.now c.args.from.numbers p.at.numbers p.place c.args.lines.now p.lines (omega arith) (omega arith) p.invariant.numbers).0
+    (row_ends (λ (m : Member). saved_numbers (kept_by m)) c.args.bytes.now c.args.from.numbers
+    p.at.numbers p.place c.args.lines.now p.lines (omega arith) (omega arith) p.invariant.numbers).0

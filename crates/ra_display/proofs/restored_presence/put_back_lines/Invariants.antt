@@ -10,6 +10,7 @@ abbrev pub invariant-loop-place : goal.invariant-loop-place
 invariant-loop-place l = record {
   stay : StayLines l.fn.lines l.lines;
   hits : IsRowBack (λ (m : Member). saved_hits (kept_by m)) l.bytes l.fn.from.hits l.at.hits l.place l.fn.lines l.lines;
-  numbers : IsRowBack (λ (m : Member). saved_numbers (kept_by m)) l.bytes l.fn.from.numbers l.at.numbers l.place l.fn.lines l.lines;
+  numbers : IsRowBack (λ (m : Member). saved_numbers (kept_by m)) l.bytes l.fn.from.numbers
+      l.at.numbers l.place l.fn.lines l.lines;
   rest : drop l.place l.lines ≡ drop l.place l.fn.lines;
 }

@@ -8,5 +8,6 @@ returns c =
     let all = c.in_ok-extend_from_slice.ensures.items in
     record {
       all = all;
-      fit = fit_behind c.args.hits.now.items c.args.own.now (subst FitWords all (words_of c.extend_from_slice.new.self.items c.type_inv.hits));
+      fit = fit_behind c.args.hits.now.items c.args.own.now
+          (subst FitWords all (words_of c.extend_from_slice.new.self.items c.type_inv.hits));
     }

@@ -7,6 +7,8 @@ use Rattle.ra_display.proofs.saved_presence.put_lines.Given as goal
 
 abbrev pub invariant-loop-place : goal.invariant-loop-place
 invariant-loop-place l = record {
-  hits : PutsBehind l.initial.rows.hits.items l.rows.hits.items (flat_map saved_hits (take l.place (seen_lines l.lines l.rests)));
-  numbers : PutsBehind l.initial.rows.numbers.items l.rows.numbers.items (flat_map saved_numbers (take l.place (seen_lines l.lines l.rests)));
+  hits : PutsBehind l.initial.rows.hits.items l.rows.hits.items
+      (flat_map saved_hits (take l.place (seen_lines l.lines l.rests)));
+  numbers : PutsBehind l.initial.rows.numbers.items l.rows.numbers.items
+      (flat_map saved_numbers (take l.place (seen_lines l.lines l.rests)));
 }

@@ -12,20 +12,24 @@ pay-requires c =
     let kept = kept_by c.args.line.now in
     let hits : c.save.new.hits.items ≡ saved_hits kept =
     c.in_ok-save.ensures.hits.all ∙ ap (λ xs. xs ++ saved_hits kept) c.new-own.ensures.items in
-    ap length (c.deref.ensures.value ∙ c.in_ok-counted.ensures) ∙ bits_many (counts_of c.args.counts.now) kept c.requires.fits
+    ap length (c.deref.ensures.value ∙ c.in_ok-counted.ensures)
+    ∙ bits_many (counts_of c.args.counts.now) kept c.requires.fits
     ∙ sym (ap length (c.deref_mut.ensures.value ∙ hits))
 
 -- the hits that are put are those that are owed
-own_is : (c : goal.After-drop-own-2) → c.deref-2.result.now ≡ saved_hits (owed_member_by c.args.frames (counts_of c.args.counts.now) (kept_by c.args.line.now))
+own_is : (c : goal.After-drop-own-2) → c.deref-2.result.now ≡ saved_hits
+    (owed_member_by c.args.frames (counts_of c.args.counts.now) (kept_by c.args.line.now))
 own_is c =
     let counts = counts_of c.args.counts.now in
     let kept = kept_by c.args.line.now in
     let frames = c.args.frames in
     let row : c.deref.result.now ≡ bits_in counts = c.deref.ensures.value ∙ c.in_ok-counted.ensures in
     let were : c.deref_mut.result.now ≡ saved_hits kept =
-    c.deref_mut.ensures.value ∙ c.in_ok-save.ensures.hits.all ∙ ap (λ xs. xs ++ saved_hits kept) c.new-own.ensures.items in
+    c.deref_mut.ensures.value ∙ c.in_ok-save.ensures.hits.all
+    ∙ ap (λ xs. xs ++ saved_hits kept) c.new-own.ensures.items in
     let paid_hits = c.pay.new.hits in
-    let long : length paid_hits ≡ c.save.new.hits.len = omega (arith, c.pay.auto.hits, c.deref_mut.ensures.len, c.save.new.hits.ok) in
+    let long : length paid_hits ≡ c.save.new.hits.len =
+    omega (arith, c.pay.auto.hits, c.deref_mut.ensures.len, c.save.new.hits.ok) in
     let now : c.deref-2.result.now ≡ paid_hits =
     c.deref-2.ensures.value
     ∙ take-append-le c.save.new.hits.len paid_hits (drop (length paid_hits) c.save.new.hits.items) (omega (arith, long))
@@ -34,11 +38,13 @@ own_is c =
 
 pub returns-clause-hits : goal.returns-clause-hits
 returns-clause-hits c =
-    subst (λ xs. PutsBehind c.args.rows.now.hits.items c.put_after.new.hits.items xs) (own_is c) c.in_ok-put_after.ensures
+    subst (λ xs. PutsBehind c.args.rows.now.hits.items c.put_after.new.hits.items xs)
+    (own_is c) c.in_ok-put_after.ensures
 
 pub returns-clause-numbers : goal.returns-clause-numbers
 returns-clause-numbers c =
-    let same = sym (saved_stay_by c.args.frames (counts_of c.args.counts.now) (kept_by c.args.line.now) c.requires.fits) in
+    let same = sym (saved_stay_by c.args.frames (counts_of c.args.counts.now)
+    (kept_by c.args.line.now) c.requires.fits) in
     record {
       all = c.in_ok-save.ensures.numbers.all ∙ ap (λ xs. c.args.rows.now.numbers.items ++ xs) same;
       fit = subst FitWords same c.in_ok-save.ensures.numbers.fit;

@@ -32,7 +32,9 @@ pub returns-in-Some : goal.returns-in-Some
 returns-in-Some c =
     let run = c.in-Some.run' in
     let kept = c.kept_by_lines-kept.ensures in
-    let hits = kept.hits ∙ ap (λ runs. length (hits_of_lines runs)) c.deref.ensures.value ∙ ap length (sym (lines_hits run.lines.items)) in
-    let numbers = kept.numbers ∙ ap (λ runs. length (numbers_of_lines runs)) c.deref.ensures.value ∙ ap length (sym (lines_numbers run.lines.items)) in
+    let hits = kept.hits ∙ ap (λ runs. length (hits_of_lines runs)) c.deref.ensures.value
+    ∙ ap length (sym (lines_hits run.lines.items)) in
+    let numbers = kept.numbers ∙ ap (λ runs. length (numbers_of_lines runs)) c.deref.ensures.value
+    ∙ ap length (sym (lines_numbers run.lines.items)) in
     let lines = c.len.ensures ∙ run.lines.ok.0 in
     rw c.in-Some.is (λ i. Some (record { lines = lines i; hits = hits i; parts = numbers i }))

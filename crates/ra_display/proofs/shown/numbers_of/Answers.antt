@@ -12,4 +12,5 @@ returns c =
     let lines = c.args.run.now.lines.items in
     let k = c.loop-line.line-index in
     let all : take k lines ≡ lines = take_all k lines (omega (arith, ap length c.deref-line-items.ensures.value)) in
-    c.loop-line.invariant ∙ ap (flat_map (λ (r : Member). line_numbers (kept_by r))) all ∙ sym (flat_map-map line_numbers kept_by lines)
+    c.loop-line.invariant ∙ ap (flat_map (λ (r : Member). line_numbers (kept_by r))) all
+    ∙ sym (flat_map-map line_numbers kept_by lines)

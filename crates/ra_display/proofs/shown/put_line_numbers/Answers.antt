@@ -10,5 +10,6 @@ returns c =
     let runs = c.args.line.now.values.items in
     let k = c.loop-run.run-index in
     let all : take k runs ≡ runs = take_all k runs (omega (arith, ap length c.deref-run-items.ensures.value)) in
-    let row = ap (map (λ (r : ValueRun). signed_greatest r.value.numbers)) all ∙ sym (map-map (λ (v : ValueKept). signed_greatest v.numbers) (λ (r : ValueRun). r.value) runs) in
+    let row = ap (map (λ (r : ValueRun). signed_greatest r.value.numbers)) all ∙ sym
+    (map-map (λ (v : ValueKept). signed_greatest v.numbers) (λ (r : ValueRun). r.value) runs) in
     c.loop-run.invariant ∙ ap (λ xs. c.args.numbers.now.items ++ xs) row

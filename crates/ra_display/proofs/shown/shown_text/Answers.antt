@@ -14,6 +14,8 @@ returns c =
     let text = display_text script (display_kept run) in
     let begun = c.in_ok-extend_from_slice.ensures.items ∙ ap (λ t. t ++ codes "presence ") c.in_ok-out.ensures.items in
     c.in_ok-push-2.ensures.items
-    ∙ ap (λ t. t ++ 10 ∷ []) (c.in_ok-put_line.ensures ∙ ap (λ vs. c.push.new.self.items ++ line_text script run.shown vs) numbers
-    ∙ ap (λ t. t ++ text) (c.in_ok-push.ensures.items ∙ ap (λ t. t ++ 32 ∷ []) (c.in_ok-put_unsigned.ensures ∙ ap (λ t. t ++ decimal c.args.count) begun)))
+    ∙ ap (λ t. t ++ 10 ∷ []) (c.in_ok-put_line.ensures
+    ∙ ap (λ vs. c.push.new.self.items ++ line_text script run.shown vs) numbers
+    ∙ ap (λ t. t ++ text) (c.in_ok-push.ensures.items ∙ ap (λ t. t ++ 32 ∷ [])
+    (c.in_ok-put_unsigned.ensures ∙ ap (λ t. t ++ decimal c.args.count) begun)))
     ∙ shown_words (decimal c.args.count) text

@@ -6,4 +6,5 @@ pub returns-in-Some-clause-first : goal.returns-in-Some-clause-first
 returns-in-Some-clause-first c = first_set c.args.self.now.holds c.in-Some.place c.in-Some.ensures.first
 
 pub returns-in-None-clause-first : goal.returns-in-None-clause-first
-returns-in-None-clause-first c = omega (arith, c.len.ensures, c.requires, none_set c.args.self.now.holds (c.first.ensures.none c.in-None.is))
+returns-in-None-clause-first c =
+    omega (arith, c.len.ensures, c.requires, none_set c.args.self.now.holds (c.first.ensures.none c.in-None.is))

@@ -29,16 +29,20 @@ pay_owed-requires c =
     let within : place < length contents = omega (arith, c.requires.here, length-map c.args.lines.now line_contents) in
     let a_line = element contents place within in
     let m = line_member (get_or contents place a_line) in
-    let shape = member_shape nodes m (get_or runs place run) (run_at nodes contents runs c.requires.runs place a_line run within) in
-    subst (λ (e : MemberCounts). CountsFit (counts_of e) (kept_by (get_or runs place run))) (sym c.index_mut-counts.ensures.value)
-    (counts_fit m (get_or c.args.self.now.each.items place had) (c.requires.place.rooms a_line had) (kept_by (get_or runs place run)) shape)
+    let shape = member_shape nodes m (get_or runs place run)
+    (run_at nodes contents runs c.requires.runs place a_line run within) in
+    subst (λ (e : MemberCounts). CountsFit (counts_of e) (kept_by (get_or runs place run)))
+    (sym c.index_mut-counts.ensures.value)
+    (counts_fit m (get_or c.args.self.now.each.items place had) (c.requires.place.rooms a_line had)
+    (kept_by (get_or runs place run)) shape)
 
 pub step_noted-stepped-requires-clause-run : goal.step_noted-stepped-requires-clause-run
 step_noted-stepped-requires-clause-run c =
     let line = c.index-lines-place.result in
     let nodes = c.args.table.now.nodes in
     c.pay_owed.ensures.stays nodes (line_member (line_contents line))
-    (own_run nodes c.args.lines.now c.args.runs.now c.args.place line c.index-runs-place.result c.requires.here c.index-lines-place.is c.requires.runs)
+    (own_run nodes c.args.lines.now c.args.runs.now c.args.place line c.index-runs-place.result
+    c.requires.here c.index-lines-place.is c.requires.runs)
 
 pub step_noted-stepped-requires-clause-room : goal.step_noted-stepped-requires-clause-room
 step_noted-stepped-requires-clause-room c =
@@ -74,7 +78,8 @@ returns c =
     stepped.ensures.run stepped.ensures.room
     (record {
       mid = c.pay_owed.new.run;
-      is = c.pay_owed.ensures.stays table.nodes (line_member (line_contents line)) (own_run table.nodes lines runs place line run within c.index-lines-place.is c.requires.runs);
+      is = c.pay_owed.ensures.stays table.nodes (line_member (line_contents line)) (own_run
+          table.nodes lines runs place line run within c.index-lines-place.is c.requires.runs);
       kept = c.pay_owed.ensures.kept;
       rested = stepped.ensures.rests;
       steps = stepped.ensures.steps;
