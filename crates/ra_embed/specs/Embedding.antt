@@ -21,10 +21,17 @@ pub record PlaysFrame (old new : RuntimeSeen) (at : ℕ) (bytes : List ℕ) : Ty
   pub set : new.set ≡ old.set
   pub image : new.image ≡ written old.image at bytes
   pub size : length new.image ≡ length old.image
-  pub kept : (o : Opening) (history : History) → IsOpening (shape_of old.set) o → AreImages history → StandsAfter old o history → StandsAfter new o (written old.image at bytes ∷ history)
-  pub earned : (o : Opening) (history : History) → IsOpening (shape_of old.set) o → AreImages history → StandsAfter old o history → earned_in new.kept ≡ earns old.set o (written old.image at bytes ∷ history) (earned_in old.kept)
-  pub happened : (o : Opening) (history : History) → IsOpening (shape_of old.set) o → AreImages history → StandsAfter old o history → new.events ≡ events old.set o (written old.image at bytes ∷ history) (earned_in old.kept)
-  pub printed : (o : Opening) (history : History) → IsOpening (shape_of old.set) o → AreImages history → StandsAfter old o history → new.lines ≡ lines old.set o (written old.image at bytes ∷ history) (earned_in old.kept)
+  pub kept : (o : Opening) (history : History) → IsOpening (shape_of old.set) o → AreImages history
+      → StandsAfter old o history → StandsAfter new o (written old.image at bytes ∷ history)
+  pub earned : (o : Opening) (history : History) → IsOpening (shape_of old.set) o
+      → AreImages history → StandsAfter old o history → earned_in new.kept
+      ≡ earns old.set o (written old.image at bytes ∷ history) (earned_in old.kept)
+  pub happened : (o : Opening) (history : History) → IsOpening (shape_of old.set) o
+      → AreImages history → StandsAfter old o history → new.events
+      ≡ events old.set o (written old.image at bytes ∷ history) (earned_in old.kept)
+  pub printed : (o : Opening) (history : History) → IsOpening (shape_of old.set) o
+      → AreImages history → StandsAfter old o history → new.lines
+      ≡ lines old.set o (written old.image at bytes ∷ history) (earned_in old.kept)
 
 -- the events are the last ones, and the texts are the presence line and the progress file of what the runtime keeps
 pub record TellsOf (runtime : RuntimeSeen) (last : List Event) (presence progress : List ℕ) : Type 0 where
