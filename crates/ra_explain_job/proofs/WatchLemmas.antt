@@ -1,5 +1,7 @@
 -- A trace file that is watched from the plain opening on.
-use Rattle.std.proofs.Common.{◌≡◌, ℕ, zero, suc, length, take, nat_le, replicate, slice_index_or, Bool, true, false, Option, None, Some, Result, Ok, Err, List, [], is_some, if◌then◌else◌, refl, sym, ap, subst, ◌∙◌}
+use Rattle.std.proofs.Common.{◌≡◌, ℕ, zero, suc, length, take, nat_le, replicate, slice_index_or, Bool, true, false}
+use Rattle.std.proofs.Common.{Option, None, Some, Result, Ok, Err, List, [], is_some, if◌then◌else◌, refl, sym, ap}
+use Rattle.std.proofs.Common.{subst, ◌∙◌}
 use Rattle.std.specs.Result.{IsErrAnd}
 use Rattle.std.proofs.lemmas.List.{length-replicate}
 use Rattle.std.proofs.lemmas.Option.{none-some}
@@ -49,7 +51,8 @@ module _ (t : TriggerContents) (bytes : List ℕ) where
   seen = take trace_limit bytes
 
   abbrev reason_by : Option ℕ → Reason
-  reason_by header = (decided_from t (first_moment (trace_behind no_slots header seen).size []) 0 (trace_behind no_slots header seen).entries).reason
+  reason_by header = (decided_from t (first_moment (trace_behind no_slots header seen).size []) 0
+      (trace_behind no_slots header seen).entries).reason
 
   abbrev stop_by : Option ℕ → Ending
   stop_by header = ending_of (stop_within full (trace_behind no_slots header seen).stop)
@@ -58,32 +61,46 @@ module _ (t : TriggerContents) (bytes : List ℕ) where
   some_same x y same = cc
 
   -- a header that is refused
-  pub bad_header : (why : TraceError) → IsStop why (header_stop trace_limit bytes) → IsReason (decided_in t bytes).reason (ending_of (trace_in bytes).stop) (watch.Trace why)
+  pub bad_header : (why : TraceError) → IsStop why (header_stop trace_limit bytes)
+      → IsReason (decided_in t bytes).reason (ending_of (trace_in bytes).stop) (watch.Trace why)
   bad_header why stop = by_header why (header_size seen) refl stop
     where
       stop_of_header : Option ℕ → Option Stop
       stop_of_header header = if is_some header then None else Some (RefusedAt 0 Header)
 
-      by_header : (why : TraceError) (header : Option ℕ) → header_size seen ≡ header → IsStop why (stop_of_header header) → IsReason (reason_by (header_size seen)) (stop_by (header_size seen)) (watch.Trace why)
+      by_header : (why : TraceError) (header : Option ℕ) → header_size seen ≡ header
+          → IsStop why (stop_of_header header)
+          → IsReason (reason_by (header_size seen)) (stop_by (header_size seen)) (watch.Trace why)
       by_header errors.Read header is stop = tt
-      by_header (errors.Refused at w) None is stop = (ap reason_by is, ap stop_by is ∙ ap ending_of (some_same (RefusedAt 0 Header) (RefusedAt at w) stop))
+      by_header (errors.Refused at w) None is stop =
+          (ap reason_by is, ap stop_by is ∙ ap ending_of (some_same (RefusedAt 0 Header) (RefusedAt at w) stop))
       by_header errors.TooLong None is stop = absurd (cc)
       by_header (errors.Refused at w) (Some size) is stop = absurd (cc)
       by_header errors.TooLong (Some size) is stop = absurd (cc)
 
   -- behind a good header the records decide
-  pub watched_behind : (size : ℕ) (first new : RecorderSeen) (r : Result Bool WatchFailed) → header_size seen ≡ Some size → IsNew t size first
-      → EndsFor (reason_at first (first_moment size []) (pieces_of size bytes).entries) (stop_of bytes (pieces_of size bytes)) new r → EndsFor (decided_in t bytes).reason (ending_of (trace_in bytes).stop) new r
+  pub watched_behind : (size : ℕ) (first new : RecorderSeen) (r : Result Bool WatchFailed)
+      → header_size seen ≡ Some size → IsNew t size first
+      → EndsFor (reason_at first (first_moment size []) (pieces_of size bytes).entries)
+      (stop_of bytes (pieces_of size bytes)) new r
+      → EndsFor (decided_in t bytes).reason (ending_of (trace_in bytes).stop) new r
   watched_behind size first new r is made ends =
-      let plain : reason_at first (first_moment size []) (pieces_of size bytes).entries ≡ reason_by (Some size) = (λ i. (decided_from (made.trigger i) (first_moment size []) (made.frames i) (pieces_of size bytes).entries).reason) in
-      subst (λ header. EndsFor (reason_by header) (stop_by header) new r) (sym is) (subst (λ (k : Reason). EndsFor k (stop_by (Some size)) new r) plain ends)
+      let plain : reason_at first (first_moment size []) (pieces_of size bytes).entries
+      ≡ reason_by (Some size) = (λ i. (decided_from (made.trigger i) (first_moment size [])
+      (made.frames i) (pieces_of size bytes).entries).reason) in
+      subst (λ header. EndsFor (reason_by header) (stop_by header) new r) (sym is)
+      (subst (λ (k : Reason). EndsFor k (stop_by (Some size)) new r) plain ends)
 
 -- why a trace is watched no further is handed on
-pub failed_watch : (t : TriggerContents) (bytes : List ℕ) (failed : WatchFailed) (r : Result Watch WatchFailed) → IsErrAnd r (λ e. e ≡ failed) → IsReason (decided_in t bytes).reason (ending_of (trace_in bytes).stop) failed → EndsWatch t bytes r
+pub failed_watch : (t : TriggerContents) (bytes : List ℕ) (failed : WatchFailed)
+    (r : Result Watch WatchFailed) → IsErrAnd r (λ e. e ≡ failed) → IsReason
+    (decided_in t bytes).reason (ending_of (trace_in bytes).stop) failed → EndsWatch t bytes r
 failed_watch t bytes failed (Ok w) is why = absurd is
-failed_watch t bytes failed (Err e) is why = subst (IsReason (decided_in t bytes).reason (ending_of (trace_in bytes).stop)) (sym is) why
+failed_watch t bytes failed (Err e) is why =
+    subst (IsReason (decided_in t bytes).reason (ending_of (trace_in bytes).stop)) (sym is) why
 
 -- an end of watching is where it was watched to
-pub watched_to : (reason : Reason) (stop : Ending) (new : RecorderSeen) (unlocked : Bool) → EndsFor reason stop new (Ok unlocked) → WatchedTo unlocked new reason
+pub watched_to : (reason : Reason) (stop : Ending) (new : RecorderSeen) (unlocked : Bool)
+    → EndsFor reason stop new (Ok unlocked) → WatchedTo unlocked new reason
 watched_to reason stop new true ends = ends
 watched_to reason stop new false ends = ends

@@ -10,7 +10,9 @@ use Rattle.ra_explain_job.proofs.watching.watch.Given as goal
 -- the records so far have decided nothing
 abbrev pub invariant-loop : goal.invariant-loop
 invariant-loop g l = record {
-  to : (bytes : List ℕ) (m : Moment) (left : Pieces) → g.F.Files.content l.initial.files l.initial.reader.name ≡ Some bytes → Follows l.initial.recorder m → IsLeft bytes m l.initial.reader left
+  to : (bytes : List ℕ) (m : Moment) (left : Pieces) → g.F.Files.content l.initial.files
+      l.initial.reader.name ≡ Some bytes → Follows l.initial.recorder m
+      → IsLeft bytes m l.initial.reader left
       → LeadsTo bytes l.initial.recorder m left l.reader l.recorder;
   size : l.reader.size ≡ Some (length l.recorder.image);
   name : l.reader.name ≡ l.initial.reader.name;
