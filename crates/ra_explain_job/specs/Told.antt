@@ -29,9 +29,12 @@ earned_of id (Unlocks other t ∷ items) (earned ∷ more) = if other == id then
 earned_of id (Ranks other format b ∷ items) (earned ∷ more) = earned_of id items more
 earned_of id _ _ = true
 
--- from the plain opening on, the unlock of an achievement that was not earned before is told at a frame exactly where it
+-- from the plain opening on, the unlock of an achievement that was not earned before is told at a frame exactly where
+-- it
 -- unlocks there by itself
 abbrev pub UnlocksAreTold : SetContents → Type 0
 UnlocksAreTold set =
-    (id : ℕ) (t : TriggerContents) (image : List ℕ) (earlier : History) (earned : Earned) → IsDistinct repeats set.items → trigger_of id set.items ≡ Some t → earned_of id set.items earned ≡ false
+    (id : ℕ) (t : TriggerContents) (image : List ℕ) (earlier : History) (earned : Earned)
+    → IsDistinct repeats set.items → trigger_of id set.items ≡ Some t
+    → earned_of id set.items earned ≡ false
     → tells_unlock id (events set (plain_opening set) (image ∷ earlier) earned) ≡ unlocks_at t image earlier

@@ -1,5 +1,6 @@
 -- A recorder that watches a trace, and what a record does to it: docs/DEFINITIONS.md, "Explanations".
-use Rattle.std.specs.Prelude.{◌≡◌, ℕ, ⊤, Bool, true, false, nat_le, None, Some, Result, Ok, Err, List, ◌∷◌, length, slice_index_or}
+use Rattle.std.specs.Prelude.{◌≡◌, ℕ, ⊤, Bool, true, false, nat_le, None, Some, Result, Ok, Err, List, ◌∷◌, length}
+use Rattle.std.specs.Prelude.{slice_index_or}
 use Rattle.ra_condition.specs.Contents.{TriggerContents}
 use Rattle.ra_memory.specs.Image.{History}
 use Rattle.ra_trace.specs.declared.error.TraceError.TheVariants as errors
@@ -78,7 +79,8 @@ abbrev pub stop_of : (bytes : List ℕ) → Pieces → Ending
 stop_of bytes left = ending_of (stop_within (nat_le trace_limit (length bytes)) left.stop)
 
 -- One record of those that are left was taken, and it decided nothing.
-pub record TakesOn (bytes : List ℕ) (m : Moment) (left : Pieces) (reader : ReaderSeen) (old new : RecorderSeen) : Type 0 where
+pub record TakesOn (bytes : List ℕ) (m : Moment) (left : Pieces) (reader : ReaderSeen)
+    (old new : RecorderSeen) : Type 0 where
   pub entry : Entry
   pub rest : Pieces
   pub first : left ≡ with_entry entry rest
@@ -93,7 +95,8 @@ pub record StandsAtIt (r : RecorderSeen) (reason : Reason) : Type 0 where
   pub is : reason ≡ AtUnlock image earlier
 
 -- what reading and taking the next record does
-abbrev pub TakesNext : (bytes : List ℕ) → Moment → Pieces → ReaderSeen → (old new : RecorderSeen) → Result Taken WatchFailed → Type 0
+abbrev pub TakesNext : (bytes : List ℕ) → Moment → Pieces → ReaderSeen → (old new : RecorderSeen)
+    → Result Taken WatchFailed → Type 0
 TakesNext bytes m left reader old new (Ok On) = TakesOn bytes m left reader old new
 TakesNext bytes m left reader old new (Ok Unlock) = StandsAtIt new (reason_at old m left.entries)
 TakesNext bytes m left reader old new (Ok End) = reason_at old m left.entries ≡ AtEnd
