@@ -55,7 +55,8 @@ target_of c = if c.target == 0 then constant c.right else c.target
 -- what an achievement aims at, by its first condition that measures
 abbrev pub achievement_goal : (id : ℕ) → Option Condition → Goal
 achievement_goal id None = record { kind = Achievement; id = id; target = 0; percent = false; format = Value }
-achievement_goal id (Some c) = record { kind = Achievement; id = id; target = target_of c; percent = is_percent c.flag; format = Value }
+achievement_goal id (Some c) =
+    record { kind = Achievement; id = id; target = target_of c; percent = is_percent c.flag; format = Value }
 
 -- what an item aims at
 abbrev pub goal_of : ItemContents → Goal

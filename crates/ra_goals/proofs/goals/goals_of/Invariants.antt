@@ -5,7 +5,8 @@ use Rattle.ra_goals.proofs.goals.goals_of.Given as goal
 
 -- the items that are left are not yet looked at
 abbrev pub invariant-loop-item : goal.invariant-loop-item
-invariant-loop-item l = l.goals.items ++ map spec.goal_of (map item_contents l.rest) ≡ map spec.goal_of (map item_contents l.items)
+invariant-loop-item l = l.goals.items ++ map spec.goal_of (map item_contents l.rest)
+    ≡ map spec.goal_of (map item_contents l.items)
 
 abbrev pub decreases-loop-item : goal.decreases-loop-item
 decreases-loop-item l = length l.rest
