@@ -1,5 +1,6 @@
 -- The hits that a chain adds stay within as many times 2 ^ 32 as places were visited.
-use Rattle.std.proofs.Common.{◌≡◌, ℕ, zero, suc, ◌+◌, ◌*◌, ◌^◌, ◌<◌, ◌≤◌, Bool, true, false, cond, Option, None, Some, slice_index, slice_index_or, ℤ, pos, ◌+ℤ◌, ◌≤ℤ◌, arith}
+use Rattle.std.proofs.Common.{◌≡◌, ℕ, zero, suc, ◌+◌, ◌*◌, ◌^◌, ◌<◌, ◌≤◌, Bool, true, false, cond, Option, None, Some}
+use Rattle.std.proofs.Common.{slice_index, slice_index_or, ℤ, pos, ◌+ℤ◌, ◌≤ℤ◌, arith}
 use Rattle.std.proofs.lemmas.Int.{ints}
 use Rattle.ra_condition.specs.declared.flag.Flag.{Flag}
 use Rattle.ra_condition.specs.declared.flag.Flag.TheVariants.{AddHits, SubHits}
@@ -23,9 +24,12 @@ IsSmall most (Some before) = Within most before.add × (before.hit < 2 ^ 32)
 wider : (most more : ℕ) (sum : ℤ) → most ≤ more → Within most sum → Within more sum
 wider most more sum l w = record { low = omega (arith, ints, w.low); high = omega (arith, ints, w.high) }
 
-add_after-within : (flag : Flag) (sum : ℤ) (hit most : ℕ) → hit < 2 ^ 32 → Within most sum → Within (most + 2 ^ 32) (add_after flag sum hit)
-add_after-within AddHits sum hit most l w = record { low = omega (arith, ints, w.low); high = omega (arith, ints, w.high) }
-add_after-within SubHits sum hit most l w = record { low = omega (arith, ints, w.low); high = omega (arith, ints, w.high) }
+add_after-within : (flag : Flag) (sum : ℤ) (hit most : ℕ) → hit < 2 ^ 32 → Within most sum
+    → Within (most + 2 ^ 32) (add_after flag sum hit)
+add_after-within AddHits sum hit most l w =
+    record { low = omega (arith, ints, w.low); high = omega (arith, ints, w.high) }
+add_after-within SubHits sum hit most l w =
+    record { low = omega (arith, ints, w.low); high = omega (arith, ints, w.high) }
 add_after-within _ sum hit most l w = wider most (most + 2 ^ 32) sum (omega arith) w
 
 pub add_by-within : (prev : Option Settled) (most : ℕ) → IsSmall most prev → Within (most + 2 ^ 32) (add_by prev)
@@ -35,7 +39,8 @@ add_by-within (Some prev) most small = add_after-within prev.flag prev.add prev.
 hits_after-small : (reset m : Bool) (target h : ℕ) → h < 2 ^ 32 → hits_after reset m target h < 2 ^ 32
 hits_after-small reset m target h l = grind arith
 
-small_either : (most : ℕ) (h c : Bool) (prev : Option Settled) (here : Settled) → IsSmall most prev → IsSmall most (Some here) → IsSmall most (cond h prev (cond c (Some here) None))
+small_either : (most : ℕ) (h c : Bool) (prev : Option Settled) (here : Settled) → IsSmall most prev
+    → IsSmall most (Some here) → IsSmall most (cond h prev (cond c (Some here) None))
 small_either most true c prev here small own = small
 small_either most false true prev here small own = own
 small_either most false false prev here small own = tt
@@ -44,7 +49,8 @@ small_wider : (most more : ℕ) (prev : Option Settled) → most ≤ more → Is
 small_wider most more None l small = tt
 small_wider most more (Some prev) l small = (wider most more prev.add l small.0, small.1)
 
-pub small-prev_of : (f : Frame) → ((k : ℕ) → slice_index f.hits k < 2 ^ 32) → (m : ℕ) → IsSmall (m * 2 ^ 32) (prev_of f m)
+pub small-prev_of : (f : Frame) → ((k : ℕ) → slice_index f.hits k < 2 ^ 32) → (m : ℕ)
+    → IsSmall (m * 2 ^ 32) (prev_of f m)
 small-prev_of f small zero = tt
 small-prev_of f small (suc m) =
     let most : m * 2 ^ 32 + 2 ^ 32 ≡ suc m * 2 ^ 32 = omega arith in
@@ -56,7 +62,8 @@ small-prev_of f small (suc m) =
     (wider (m * 2 ^ 32 + 2 ^ 32) (suc m * 2 ^ 32) (add_by (prev_of f m)) (omega arith) own, hits_after-small (reset_by (prev_of f m)) (met (prev_of f m) (slice_index_or f.truths m false)) c.target (slice_index f.hits m) (small m))
 
 -- what settling a condition asks of what is seen before it
-pub AddWithin-prev_of : (f : Frame) → ((k : ℕ) → slice_index f.hits k < 2 ^ 32) → (m : ℕ) → m < 2 ^ 32 → AddWithin (2 ^ 65) (prev_of f m)
+pub AddWithin-prev_of : (f : Frame) → ((k : ℕ) → slice_index f.hits k < 2 ^ 32) → (m : ℕ)
+    → m < 2 ^ 32 → AddWithin (2 ^ 65) (prev_of f m)
 AddWithin-prev_of f small m l = from_small (prev_of f m) (m * 2 ^ 32) (omega arith) (small-prev_of f small m)
   where
     from_small : (prev : Option Settled) (most : ℕ) → most ≤ 2 ^ 65 → IsSmall most prev → AddWithin (2 ^ 65) prev

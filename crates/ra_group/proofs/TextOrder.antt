@@ -1,5 +1,6 @@
 -- A group without pause chains: its pass order is that of its text, and it is not paused.
-use Rattle.std.proofs.Common.{◌≡◌, ℕ, ◌<◌, ◌≤◌, ◌-◌, ◌^◌, Bool, true, false, not, ◌&&◌, cond, leb, Option, List, [], ◌∷◌, ◌++◌, length, get_or, take, refl, sym, ap, ◌∙◌, inl, inr, arith}
+use Rattle.std.proofs.Common.{◌≡◌, ℕ, ◌<◌, ◌≤◌, ◌-◌, ◌^◌, Bool, true, false, not, ◌&&◌, cond, leb, Option, List, []}
+use Rattle.std.proofs.Common.{◌∷◌, ◌++◌, length, get_or, take, refl, sym, ap, ◌∙◌, inl, inr, arith}
 use Rattle.std.specs.List.{filter}
 use Rattle.std.proofs.lemmas.Bool.{cases_lt}
 use Rattle.std.proofs.lemmas.List.FromFn.{get_or-range_with_len}
@@ -27,7 +28,9 @@ all_others : (q : ℕ → Bool) (xs : List ℕ) → filter q xs ≡ [] → filte
 all_others q [] e = refl
 all_others q (x ∷ xs) e = by_test (all_others q xs) (q x) e
   where
-    by_test : (filter q xs ≡ [] → filter (λ j. not (q j)) xs ≡ xs) → (b : Bool) → cond b (x ∷ filter q xs) (filter q xs) ≡ [] → cond (not b) (x ∷ filter (λ j. not (q j)) xs) (filter (λ j. not (q j)) xs) ≡ x ∷ xs
+    by_test : (filter q xs ≡ [] → filter (λ j. not (q j)) xs ≡ xs) → (b : Bool)
+        → cond b (x ∷ filter q xs) (filter q xs) ≡ []
+        → cond (not b) (x ∷ filter (λ j. not (q j)) xs) (filter (λ j. not (q j)) xs) ≡ x ∷ xs
     by_test rest true e = cc
     by_test rest false e = ap (λ ys. x ∷ ys) (rest e)
 
@@ -37,29 +40,38 @@ pausing_none cs e = none_of_length (pausing cs) e
 in_text : (cs : List Condition) → pause_count cs ≡ 0 → pass_order cs ≡ places cs
 in_text cs e =
     let none : filter (in_pause_chain cs) (places cs) ≡ [] = pausing_none cs e in
-    ap (λ js. js ++ filter (λ j. not (in_pause_chain cs j)) (places cs)) none ∙ all_others (in_pause_chain cs) (places cs) none
+    ap (λ js. js ++ filter (λ j. not (in_pause_chain cs j)) (places cs)) none
+    ∙ all_others (in_pause_chain cs) (places cs) none
 
 -- the place of each turn is its number
 pub turn_in_text : (cs : List Condition) (k : ℕ) → pause_count cs ≡ 0 → k < length cs → get_or (pass_order cs) k 0 ≡ k
-turn_in_text cs k e l = ap (λ js. get_or js k 0) (in_text cs e) ∙ get_or-range_with_len 0 (length cs) k 0 l ∙ omega arith
+turn_in_text cs k e l = ap (λ js. get_or js k 0) (in_text cs e)
+    ∙ get_or-range_with_len 0 (length cs) k 0 l ∙ omega arith
 
 -- and nothing pauses it
-pub open_in_text : (form : Form) (f : Frame) (k : ℕ) (before : Option Settled) (tally : Tally) (hits : List ℕ) → pause_count f.conditions ≡ 0 → k < length f.conditions → HasPassed form f (take k (pass_order f.conditions)) before tally hits → false ≡ (tally.paused && leb (length (pausing f.conditions)) k)
+pub open_in_text : (form : Form) (f : Frame) (k : ℕ) (before : Option Settled) (tally : Tally)
+    (hits : List ℕ) → pause_count f.conditions ≡ 0 → k < length f.conditions
+    → HasPassed form f (take k (pass_order f.conditions)) before tally hits → false
+    ≡ (tally.paused && leb (length (pausing f.conditions)) k)
 open_in_text form f k before tally hits e l p =
-    let none : some_valid is_pause f (pausing f.conditions) ≡ false = ap (some_valid is_pause f) (pausing_none f.conditions e) in
+    let none : some_valid is_pause f (pausing f.conditions) ≡ false =
+    ap (some_valid is_pause f) (pausing_none f.conditions e) in
     elim (each_turn form f (pass_order f.conditions) k refl (omega (arith, length-pass_order f.conditions))) [
       | inl early ↦ absurd (omega (arith, early.0, ap length (pausing_none f.conditions e)))
       | inr late ↦
-          let paused : tally.paused ≡ false = ap (λ t. t.paused) p.tallied ∙ late.1.known ∙ sym (paused-places f) ∙ none in
+          let paused : tally.paused ≡ false = ap (λ t. t.paused) p.tallied ∙ late.1.known
+          ∙ sym (paused-places f) ∙ none in
           sym (ap (λ b. b && leb (length (pausing f.conditions)) k) paused)
     ]
 
 -- it has no more places than are written in an order of words
-pub few_in_text : (cs : List Condition) (order : List ℕ) → order ≡ pass_order cs → pause_count cs ≡ 0 → ((k : ℕ) → get_or order k 0 < 2 ^ 32) → length cs ≤ 2 ^ 32
+pub few_in_text : (cs : List Condition) (order : List ℕ) → order ≡ pass_order cs → pause_count cs
+    ≡ 0 → ((k : ℕ) → get_or order k 0 < 2 ^ 32) → length cs ≤ 2 ^ 32
 few_in_text cs order is e fits =
     elim (cases_lt 0 (length cs)) [
       | inl some ↦
-          let last : get_or order (length cs - 1) 0 ≡ length cs - 1 = ap (λ js. get_or js (length cs - 1) 0) is ∙ turn_in_text cs (length cs - 1) e (omega arith) in
+          let last : get_or order (length cs - 1) 0 ≡ length cs - 1 = ap (λ js. get_or js
+          (length cs - 1) 0) is ∙ turn_in_text cs (length cs - 1) e (omega arith) in
           omega (arith, fits (length cs - 1))
       | inr none ↦ omega arith
     ]

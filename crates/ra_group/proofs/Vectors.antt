@@ -15,12 +15,14 @@ with flag target = record { flag = flag; left = Const 0; op = Eq; right = Const 
 
 -- a target is reached by added hits, though the condition itself is reset
 abbrev reset_next : Frame
-reset_next = frame_of (with AddHits 0 ∷ with ResetNextIf 0 ∷ with Plain 3 ∷ []) (true ∷ true ∷ false ∷ []) (0 ∷ 0 ∷ 0 ∷ []) (2 ∷ 0 ∷ 0 ∷ [])
+reset_next = frame_of (with AddHits 0 ∷ with ResetNextIf 0 ∷ with Plain 3 ∷ [])
+    (true ∷ true ∷ false ∷ []) (0 ∷ 0 ∷ 0 ∷ []) (2 ∷ 0 ∷ 0 ∷ [])
 
 reset_next-hits : next_hits reset_next ≡ 3 ∷ 1 ∷ 0 ∷ []
 reset_next-hits = refl
 
-reset_next-totals : (settled_at reset_next 0).total ∷ (settled_at reset_next 1).total ∷ (settled_at reset_next 2).total ∷ [] ≡ 3 ∷ 4 ∷ 3 ∷ []
+reset_next-totals : (settled_at reset_next 0).total ∷ (settled_at reset_next 1).total
+    ∷ (settled_at reset_next 2).total ∷ [] ≡ 3 ∷ 4 ∷ 3 ∷ []
 reset_next-totals = refl
 
 reset_next-valid : (outcome_of InTrigger reset_next).valid ≡ true
@@ -28,7 +30,8 @@ reset_next-valid = refl
 
 -- a paused group does not reset, and only its pause chain counts
 abbrev paused_reset : Frame
-paused_reset = frame_of (with PauseIf 0 ∷ with ResetIf 0 ∷ with Plain 5 ∷ []) (true ∷ true ∷ true ∷ []) (0 ∷ 0 ∷ 0 ∷ []) (0 ∷ 0 ∷ 2 ∷ [])
+paused_reset = frame_of (with PauseIf 0 ∷ with ResetIf 0 ∷ with Plain 5 ∷ [])
+    (true ∷ true ∷ true ∷ []) (0 ∷ 0 ∷ 0 ∷ []) (0 ∷ 0 ∷ 2 ∷ [])
 
 paused_reset-hits : next_hits paused_reset ≡ 1 ∷ 0 ∷ 2 ∷ []
 paused_reset-hits = refl
@@ -38,11 +41,13 @@ paused_reset-reset = refl
 
 -- hits of a chain are added and taken away one after the other
 abbrev added : Frame
-added = frame_of (with AddHits 0 ∷ with AddHits 0 ∷ with SubHits 0 ∷ with Plain 5 ∷ []) (false ∷ false ∷ false ∷ false ∷ []) (0 ∷ 0 ∷ 0 ∷ 0 ∷ []) (1 ∷ 2 ∷ 1 ∷ 3 ∷ [])
+added = frame_of (with AddHits 0 ∷ with AddHits 0 ∷ with SubHits 0 ∷ with Plain 5 ∷ [])
+    (false ∷ false ∷ false ∷ false ∷ []) (0 ∷ 0 ∷ 0 ∷ 0 ∷ []) (1 ∷ 2 ∷ 1 ∷ 3 ∷ [])
 
 added-total : (settled_at added 3).total ≡ 5
 added-total = refl
 
 -- more taken away than counted is 0
-taken-total : (settled_at (frame_of (with SubHits 0 ∷ with Plain 5 ∷ []) (false ∷ false ∷ []) (0 ∷ 0 ∷ []) (4 ∷ 3 ∷ [])) 1).total ≡ 0
+taken-total : (settled_at (frame_of (with SubHits 0 ∷ with Plain 5 ∷ []) (false ∷ false ∷ [])
+    (0 ∷ 0 ∷ []) (4 ∷ 3 ∷ [])) 1).total ≡ 0
 taken-total = refl

@@ -1,5 +1,7 @@
--- Groups side by side, with lists that run over the conditions of all: docs/DEFINITIONS.md, "Triggers over frames" and "Values over frames".
-use Rattle.std.specs.Prelude.{◌≡◌, ℕ, ◌+◌, ◌<◌, ◌≤◌, Bool, List, ◌++◌, length, map, take, drop, filter, sum_by, slice_index}
+-- Groups side by side, with lists that run over the conditions of all: docs/DEFINITIONS.md, "Triggers over frames" and
+-- "Values over frames".
+use Rattle.std.specs.Prelude.{◌≡◌, ℕ, ◌+◌, ◌<◌, ◌≤◌, Bool, List, ◌++◌, length, map, take, drop, filter, sum_by}
+use Rattle.std.specs.Prelude.{slice_index}
 use Rattle.std.specs.List.{flat_map}
 use Rattle.ra_condition.specs.declared.condition.Condition.{Condition}
 use Rattle.ra_condition.specs.Chains.{in_pause_chain, places, pass_order}

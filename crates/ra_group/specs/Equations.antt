@@ -1,5 +1,6 @@
 -- The equations of one condition, by looking back in its chain: docs/DEFINITIONS.md, "Equations of a condition".
-use Rattle.std.specs.Prelude.{ℕ, zero, suc, ◌+◌, min, Bool, false, if◌then◌else◌, not, ◌&&◌, ◌||◌, ◌==◌, nat_lt, nat_le, Option, None, Some, List, slice_index, slice_index_or, pos, negsuc, ℤ, ◌+ℤ◌, ◌-ℤ◌}
+use Rattle.std.specs.Prelude.{ℕ, zero, suc, ◌+◌, min, Bool, false, if◌then◌else◌, not, ◌&&◌, ◌||◌, ◌==◌, nat_lt, nat_le}
+use Rattle.std.specs.Prelude.{Option, None, Some, List, slice_index, slice_index_or, pos, negsuc, ℤ, ◌+ℤ◌, ◌-ℤ◌}
 use Rattle.ra_condition.specs.declared.flag.Flag.{Flag}
 use Rattle.ra_condition.specs.declared.flag.Flag.TheVariants.{AddHits, SubHits, AndNext, OrNext, ResetNextIf}
 use Rattle.ra_condition.specs.declared.condition.Condition.{Condition}
@@ -94,8 +95,10 @@ seen_after c here prev =
 abbrev pub prev_of : Frame → ℕ → Option Settled
 prev_of f zero = None
 prev_of f (suc i) =
-    seen_after (condition_at f.conditions i) (settled (condition_at f.conditions i) (slice_index_or f.truths i false) (slice_index f.hits i) (prev_of f i)) (prev_of f i)
+    seen_after (condition_at f.conditions i) (settled (condition_at f.conditions i)
+    (slice_index_or f.truths i false) (slice_index f.hits i) (prev_of f i)) (prev_of f i)
 
 -- the condition at j by the equations
 abbrev pub settled_at : Frame → ℕ → Settled
-settled_at f j = settled (condition_at f.conditions j) (slice_index_or f.truths j false) (slice_index f.hits j) (prev_of f j)
+settled_at f j = settled (condition_at f.conditions j) (slice_index_or f.truths j false)
+    (slice_index f.hits j) (prev_of f j)

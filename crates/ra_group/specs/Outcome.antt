@@ -1,5 +1,6 @@
 -- What a group says at a frame, and the hits after it: docs/DEFINITIONS.md, "Group outcome".
-use Rattle.std.specs.Prelude.{ℕ, max, min, Bool, true, false, if◌then◌else◌, not, ◌&&◌, ◌||◌, ◌==◌, Option, None, Some, List, [], ◌∷◌, slice_index, map}
+use Rattle.std.specs.Prelude.{ℕ, max, min, Bool, true, false, if◌then◌else◌, not, ◌&&◌, ◌||◌, ◌==◌, Option, None, Some}
+use Rattle.std.specs.Prelude.{List, [], ◌∷◌, slice_index, map}
 use Rattle.std.specs.List.{list_any, list_all}
 use Rattle.ra_operand.specs.Operators.{is_bare}
 use Rattle.ra_condition.specs.declared.flag.Flag.{Flag}
@@ -39,7 +40,8 @@ larger (Some a) (Some b) = Some (max a b)
 -- the number that the condition at j offers, if it is measured
 abbrev pub offer : Form → Frame → ℕ → Option ℕ
 offer form f j =
-    if is_measured (condition_at f.conditions j).flag then Some (number_of form (condition_at f.conditions j) (settled_at f j).total (slice_index f.lefts j)) else None
+    if is_measured (condition_at f.conditions j).flag then Some (number_of form
+    (condition_at f.conditions j) (settled_at f j).total (slice_index f.lefts j)) else None
 
 -- the greatest of the numbers that the conditions at the places offer, if one does
 abbrev pub greatest : Form → Frame → List ℕ → Option ℕ
@@ -64,13 +66,15 @@ outcome_of form f =
       valid = not paused && not reset && all_valid is_required f js;
       primed = not paused && not reset && all_valid is_wanted f js;
       measured = if paused then None else option_if (all_valid is_measured_if f js) (greatest form f js);
-      from_hits = list_any (λ j. is_measured (condition_at f.conditions j).flag && from_total form (condition_at f.conditions j)) js;
+      from_hits = list_any (λ j. is_measured (condition_at f.conditions j).flag
+          && from_total form (condition_at f.conditions j)) js;
     }
 
 -- the hits of the condition at j after the frame
 abbrev pub next_hit : Frame → ℕ → ℕ
 next_hit f j =
-    if not (hands_on (condition_at f.conditions j).flag) && (not (some_valid is_pause f (places f.conditions)) || in_pause_chain f.conditions j)
+    if not (hands_on (condition_at f.conditions j).flag)
+    && (not (some_valid is_pause f (places f.conditions)) || in_pause_chain f.conditions j)
     then (settled_at f j).hit else slice_index f.hits j
 
 -- the hits of all conditions after the frame

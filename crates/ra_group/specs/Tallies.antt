@@ -1,4 +1,5 @@
--- What the conditions visited so far say together, and the outcome that it comes to: the step between the code and docs/DEFINITIONS.md, "Group outcome".
+-- What the conditions visited so far say together, and the outcome that it comes to: the step between the code and
+-- docs/DEFINITIONS.md, "Group outcome".
 use Rattle.std.specs.Prelude.{◌≡◌, ℕ, true, false, if◌then◌else◌, not, ◌&&◌, ◌||◌, Option, None, Some}
 use Rattle.ra_condition.specs.declared.condition.Condition.{Condition}
 use Rattle.ra_condition.specs.declared.flag.Flag.TheVariants.{Plain}
@@ -11,7 +12,8 @@ use Rattle.ra_group.specs.Outcome.{from_total, number_of, larger, option_if}
 
 -- what is noted before the first condition
 abbrev pub no_tally : Tally
-no_tally = record { paused = false; reset = false; valid = true; primed = true; counting = true; greatest = None; from_hits = false }
+no_tally =
+    record { paused = false; reset = false; valid = true; primed = true; counting = true; greatest = None; from_hits = false }
 
 -- the number that a condition offers, if it is measured
 abbrev pub offered : Form → Condition → Settled → ℕ → Option ℕ

@@ -7,7 +7,8 @@ use Rattle.ra_group.proofs.pass.in_text_order.Given as goal
 -- the pass has gone as far as the place
 abbrev pub invariant-loop-place : goal.invariant-loop-place
 invariant-loop-place l = record {
-  passed : HasPassed l.pass.form (frame_of l.conditions l.truths l.lefts l.initial.hits) (take l.place (pass_order l.conditions)) l.pass.before l.pass.tally l.hits;
+  passed : HasPassed l.pass.form (frame_of l.conditions l.truths l.lefts l.initial.hits)
+      (take l.place (pass_order l.conditions)) l.pass.before l.pass.tally l.hits;
   form : l.pass.form ≡ l.initial.pass.form;
   small : (k : ℕ) → get_or l.initial.hits k 0 < 2 ^ 32;
 }

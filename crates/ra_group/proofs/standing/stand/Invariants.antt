@@ -7,5 +7,6 @@ use Rattle.ra_group.proofs.standing.stand.Given as goal
 abbrev pub invariant-loop-place : goal.invariant-loop-place
 invariant-loop-place l = record {
   carries : l.before ≡ prev_of (frame_of l.conditions l.truths [] l.hits) l.place;
-  done : (j : ℕ) → j < l.place → get_or l.standings j no_standing ≡ standing_at (frame_of l.conditions l.truths [] l.hits) j;
+  done : (j : ℕ) → j < l.place → get_or l.standings j no_standing
+      ≡ standing_at (frame_of l.conditions l.truths [] l.hits) j;
 }

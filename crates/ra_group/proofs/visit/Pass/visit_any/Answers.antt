@@ -13,4 +13,5 @@ returns-then-hands_on-clause-tallies c =
 pub returns-then-combines-clause-tallies : goal.returns-then-combines-clause-tallies
 returns-then-combines-clause-tallies c =
     let here = settled c.args.condition.now c.args.truth c.args.hits c.args.self.now.before in
-    sym (noted_combining c.args.self.now.form c.args.condition.now here c.args.left c.args.self.now.tally (sym c.combines.ensures ∙ c.if-combines.true))
+    sym (noted_combining c.args.self.now.form c.args.condition.now here c.args.left
+    c.args.self.now.tally (sym c.combines.ensures ∙ c.if-combines.true))
