@@ -2,7 +2,8 @@
 use Rattle.std.proofs.Common.{◌≡◌, ℕ, ◌==◌, ◌&&◌, true, [], ◌∷◌, refl, ap, sym, ◌∙◌, slice_index_or}
 use Rattle.std.proofs.lemmas.Bool.{eqb-true, eq-eqb, and_parts, and_from, false≢true}
 use Rattle.ra_operand.specs.declared.size.Size.{Size}
-use Rattle.ra_operand.specs.declared.size.Size.TheVariants.{Bit0, Bit1, Bit2, Bit3, Bit4, Bit5, Bit6, Bit7, Low, High, Byte, Two, Three, Four, Count, TwoBig, ThreeBig, FourBig}
+use Rattle.ra_operand.specs.declared.size.Size.TheVariants.{Bit0, Bit1, Bit2, Bit3, Bit4, Bit5, Bit6, Bit7, Low, High}
+use Rattle.ra_operand.specs.declared.size.Size.TheVariants.{Byte, Two, Three, Four, Count, TwoBig, ThreeBig, FourBig}
 use Rattle.ra_operand.specs.declared.kind.Kind.{Kind}
 use Rattle.ra_operand.specs.declared.kind.Kind.TheVariants.{Mem, Delta, Prior, Bcd, Inverted}
 use Rattle.ra_operand.specs.declared.op.Op.{Op}
@@ -13,7 +14,8 @@ use Rattle.ra_indirect.specs.Trees.{Tree, constant, join, view, same_tree, Cell,
 -- a size, a kind, an operator by its number
 sized : ℕ → Size
 sized n =
-    slice_index_or (Bit0 ∷ Bit1 ∷ Bit2 ∷ Bit3 ∷ Bit4 ∷ Bit5 ∷ Bit6 ∷ Bit7 ∷ Low ∷ High ∷ Byte ∷ Two ∷ Three ∷ Four ∷ Count ∷ TwoBig ∷ ThreeBig ∷ FourBig ∷ []) n Bit0
+    slice_index_or (Bit0 ∷ Bit1 ∷ Bit2 ∷ Bit3 ∷ Bit4 ∷ Bit5 ∷ Bit6 ∷ Bit7 ∷ Low ∷ High ∷ Byte ∷ Two
+    ∷ Three ∷ Four ∷ Count ∷ TwoBig ∷ ThreeBig ∷ FourBig ∷ []) n Bit0
 
 kinded : ℕ → Kind
 kinded n = slice_index_or (Mem ∷ Delta ∷ Prior ∷ Bcd ∷ Inverted ∷ []) n Mem
@@ -81,17 +83,21 @@ tree_itself (join o x y) =
     and_from (same_op o o) (same_tree x x && same_tree y y) (eq-eqb (number_of_op o) (number_of_op o) refl)
     (and_from (same_tree x x) (same_tree y y) (tree_itself x) (tree_itself y))
 tree_itself (view k s p a) =
-    and_from (same_kind k k) (same_size s s && (a == a && same_tree p p)) (eq-eqb (number_of_kind k) (number_of_kind k) refl)
+    and_from (same_kind k k) (same_size s s && (a == a && same_tree p p))
+    (eq-eqb (number_of_kind k) (number_of_kind k) refl)
     (and_from (same_size s s) (a == a && same_tree p p) (eq-eqb (number_of_size s) (number_of_size s) refl)
     (and_from (a == a) (same_tree p p) (eq-eqb a a refl) (tree_itself p)))
 
 pub cell_itself : (c : Cell) → same_cell c c ≡ true
 cell_itself c =
-    and_from (c.address == c.address) (c.width == c.width && same_tree c.pointer c.pointer) (eq-eqb c.address c.address refl)
-    (and_from (c.width == c.width) (same_tree c.pointer c.pointer) (eq-eqb c.width c.width refl) (tree_itself c.pointer))
+    and_from (c.address == c.address) (c.width == c.width && same_tree c.pointer c.pointer)
+    (eq-eqb c.address c.address refl)
+    (and_from (c.width == c.width) (same_tree c.pointer c.pointer) (eq-eqb c.width c.width refl)
+    (tree_itself c.pointer))
 
 pub tracked_itself : (t : Tracked) → same_tracked t t ≡ true
-tracked_itself t = and_from (t.mask == t.mask) (same_cell t.cell t.cell) (eq-eqb t.mask t.mask refl) (cell_itself t.cell)
+tracked_itself t = and_from (t.mask == t.mask) (same_cell t.cell t.cell) (eq-eqb t.mask t.mask refl)
+    (cell_itself t.cell)
 
 pub cell_is : (c d : Cell) → same_cell c d ≡ true → c ≡ d
 cell_is c d same =

@@ -1,4 +1,5 @@
--- A pool of nodes, and the tree or the cell that each node spells: docs/DEFINITIONS.md, "Trees, cells and tracked masks".
+-- A pool of nodes, and the tree or the cell that each node spells: docs/DEFINITIONS.md, "Trees, cells and tracked
+-- masks".
 use Rattle.std.specs.Prelude.{◌≡◌, ℕ, ◌<◌, ◌⊎◌, IsTrue, List, [], ◌∷◌, ◌++◌, length, slice_get, slice_index_or, Some}
 use Rattle.std.specs.List.{flat_map}
 use Rattle.ra_operand.specs.declared.size.Size.{Size}
@@ -7,7 +8,8 @@ use Rattle.ra_operand.specs.Views.{width_of}
 use Rattle.ra_operand.specs.Operators.{is_arithmetic}
 use Rattle.ra_indirect.specs.declared.node.Node.{Node}
 use Rattle.ra_indirect.specs.declared.node.Node.TheVariants.{Const, Cell as CellNode, View, Arith}
-use Rattle.ra_indirect.specs.Trees.{Tree, constant, join, view, Cell, cell_of, Tracked, same_tracked, tracked_by, firsts}
+use Rattle.ra_indirect.specs.Trees.{Tree, constant, join, view, Cell, cell_of, Tracked, same_tracked, tracked_by}
+use Rattle.ra_indirect.specs.Trees.{firsts}
 
 -- what a node spells: a tree, or a cell
 pub data Spelled : Type 0 where
@@ -71,9 +73,11 @@ IsWidth width = (width ≡ 1) ⊎ ((width ≡ 2) ⊎ (width ≡ 4))
 -- the node may come after these: it names earlier nodes alone, and such as it needs
 abbrev pub MayFollow : List Node → Node → Type 0
 MayFollow nodes (Const n) = Unit {0}
-MayFollow nodes (CellNode pointer offset width) = (pointer < length nodes) × IsValued (node_at nodes pointer) × IsWidth width
+MayFollow nodes (CellNode pointer offset width) =
+    (pointer < length nodes) × IsValued (node_at nodes pointer) × IsWidth width
 MayFollow nodes (View kind size c) = (c < length nodes) × IsCellOf (width_of size) (node_at nodes c)
-MayFollow nodes (Arith op left right) = (left < length nodes) × IsValued (node_at nodes left) × (right < length nodes) × IsValued (node_at nodes right) × IsTrue (is_arithmetic op)
+MayFollow nodes (Arith op left right) = (left < length nodes) × IsValued (node_at nodes left)
+    × (right < length nodes) × IsValued (node_at nodes right) × IsTrue (is_arithmetic op)
 
 -- the cell that a node spells, if it spells one
 abbrev pub cell_in : Spelled → List Cell

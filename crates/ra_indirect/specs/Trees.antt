@@ -1,4 +1,5 @@
--- Trees, and the cells and tracked masks in them: docs/DEFINITIONS.md, "Trees, cells and tracked masks" and "Order of first occurrence".
+-- Trees, and the cells and tracked masks in them: docs/DEFINITIONS.md, "Trees, cells and tracked masks" and "Order of
+-- first occurrence".
 use Rattle.std.specs.Prelude.{ℕ, ◌==◌, ◌&&◌, Bool, false, not, List, [], ◌∷◌, ◌++◌, filter}
 use Rattle.ra_operand.specs.declared.size.Size.{Size}
 use Rattle.ra_operand.specs.declared.kind.Kind.{Kind}

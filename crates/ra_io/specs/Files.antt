@@ -20,8 +20,10 @@ pub record SameContent (old new : List ℕ → Option (List ℕ)) : Type 0 where
 pub record SameBut (changed : List ℕ) (old new : List ℕ → Option (List ℕ)) : Type 0 where
   pub each : (name : List ℕ) → name ≢ changed → new name ≡ old name
 
--- Files of which was read at most: no name's content changes, and no count of faults falls. It takes the ghost members of the files.
-pub record OnlyRead {F : Type 0} (content : F → List ℕ → Option (List ℕ)) (read_faults put_faults : F → List ℕ → ℕ) (old new : F) : Type 0 where
+-- Files of which was read at most: no name's content changes, and no count of faults falls. It takes the ghost members
+-- of the files.
+pub record OnlyRead {F : Type 0} (content : F → List ℕ → Option (List ℕ))
+    (read_faults put_faults : F → List ℕ → ℕ) (old new : F) : Type 0 where
   pub same : SameContent (content old) (content new)
   pub reads : NoneFell (read_faults old) (read_faults new)
   pub puts : NoneFell (put_faults old) (put_faults new)

@@ -1,5 +1,6 @@
 -- Files and a sink in memory, and the calls on them that are to fail: docs/DEFINITIONS.md, "Files in memory".
-use Rattle.std.specs.Prelude.{◌≡◌, ◌≢◌, ℕ, Bool, true, false, if◌then◌else◌, Option, Some, Result, Ok, Err, List, [], Contains, unwrap_or}
+use Rattle.std.specs.Prelude.{◌≡◌, ◌≢◌, ℕ, Bool, true, false, if◌then◌else◌, Option, Some, Result, Ok, Err, List, []}
+use Rattle.std.specs.Prelude.{Contains, unwrap_or}
 use Rattle.ra_io.specs.Causes.{next_count}
 use Rattle.ra_io.specs.declared.files.PutFailed.{PutFailed}
 use Rattle.ra_io.specs.declared.files.PutFailed.TheVariants as put
@@ -37,7 +38,8 @@ IsListed calls = Contains calls.failing (next_count calls.made)
 
 -- the calls after one more, which failed or did not
 abbrev pub counted : Bool → CallsSeen → CallsSeen
-counted failed calls = record calls { made = next_count calls.made; faults = if failed then next_count calls.faults else calls.faults }
+counted failed calls = record calls
+    { made = next_count calls.made; faults = if failed then next_count calls.faults else calls.faults }
 
 -- whether a put met a fault
 abbrev pub put_failed : Result (Unit {0}) PutFailed → Bool
