@@ -1,5 +1,6 @@
 -- Events of items, one item after the other, and the formats of their numbers.
-use Rattle.std.proofs.Common.{◌≡◌, ℕ, ◌&&◌, ◌||◌, not, Bool, true, false, if◌then◌else◌, Option, None, Some, List, [], ◌∷◌, ◌++◌, sym, ◌∙◌, ap, append_assoc}
+use Rattle.std.proofs.Common.{◌≡◌, ℕ, ◌&&◌, ◌||◌, not, Bool, true, false, if◌then◌else◌, Option, None, Some, List, []}
+use Rattle.std.proofs.Common.{◌∷◌, ◌++◌, sym, ◌∙◌, ap, append_assoc}
 use Rattle.std.specs.List.{AllByRecursion}
 use Rattle.std.specs.Option.{IfNone, is_some, option_to_list}
 use Rattle.ra_value_format.specs.declared.format.Format.{Format}
@@ -36,15 +37,18 @@ measured_has id (Some number) = (tt, tt)
 -- four rows, one behind the other
 rows_have : (a b c d : List Event) → Have a → Have b → Have c → Have d → Have (((a ++ b) ++ c) ++ d)
 rows_have a b c d first second third fourth =
-    each_append HasEventDigits ((a ++ b) ++ c) d (each_append HasEventDigits (a ++ b) c (each_append HasEventDigits a b first second) third) fourth
+    each_append HasEventDigits ((a ++ b) ++ c) d (each_append HasEventDigits (a ++ b) c
+    (each_append HasEventDigits a b first second) third) fourth
 
 change_has : (id : ℕ) (change : Change) → Have (change_events id change)
 change_has id change =
     let primed = not (is_primed change.before) && is_primed change.after in
     let unprimed = is_primed change.before && not (is_primed change.after) in
     let unlocked = not (is_triggered change.before) && is_triggered change.after in
-    rows_have (measured_event id change.measured) (event_if primed (events.Primed id)) (event_if unprimed (events.Unprimed id)) (event_if unlocked (events.Unlock id))
-    (measured_has id change.measured) (one_of primed (events.Primed id) tt) (one_of unprimed (events.Unprimed id) tt) (one_of unlocked (events.Unlock id) tt)
+    rows_have (measured_event id change.measured) (event_if primed (events.Primed id))
+    (event_if unprimed (events.Unprimed id)) (event_if unlocked (events.Unlock id))
+    (measured_has id change.measured) (one_of primed (events.Primed id) tt)
+    (one_of unprimed (events.Unprimed id) tt) (one_of unlocked (events.Unlock id) tt)
 
 board_has : (id : ℕ) (format : Format) (run : BoardRun) → HasDigits format → Have (board_run_events id format run)
 board_has id format run has =
@@ -54,8 +58,10 @@ board_has id format run has =
     let cancelled = became_cancelled run.change.before run.change.after in
     let submitted = became_submitted run.change.before run.change.after in
     let submit = events.Submit id (value_number (board_kept run)) format in
-    rows_have (event_if started (events.Start id)) (event_if told (events.Track id tracked format)) (event_if cancelled (events.Cancel id)) (event_if submitted submit)
-    (one_of started (events.Start id) tt) (one_of told (events.Track id tracked format) has) (one_of cancelled (events.Cancel id) tt) (one_of submitted submit has)
+    rows_have (event_if started (events.Start id)) (event_if told (events.Track id tracked format))
+    (event_if cancelled (events.Cancel id)) (event_if submitted submit)
+    (one_of started (events.Start id) tt) (one_of told (events.Track id tracked format) has)
+    (one_of cancelled (events.Cancel id) tt) (one_of submitted submit has)
 
 -- an achievement that was earned has none
 achievement_has : (id : ℕ) (change : Change) (earned : Bool) → Have (if earned then [] else change_events id change)
@@ -72,10 +78,13 @@ pub events_have : (items : List ItemContents) (runs : List ItemRun) → HaveDigi
 events_have [] runs have = tt
 events_have (item ∷ items) [] have = tt
 events_have (item ∷ items) (run ∷ runs) have =
-    each_append HasEventDigits (run_events item run) (all_events items runs) (item_has item run have.0) (events_have items runs have.1)
+    each_append HasEventDigits (run_events item run) (all_events items runs)
+    (item_has item run have.0) (events_have items runs have.1)
 
 -- the first place is gone through: what is left of its events stands in front of those of the others
-pub walk_on : (items : List ItemContents) (runs : List ItemRun) (places others : List ℕ) (place : ℕ) (told event rest : List Event) → places ≡ place ∷ others → told ≡ events_at items runs place → told ≡ event ++ rest
+pub walk_on : (items : List ItemContents) (runs : List ItemRun) (places others : List ℕ) (place : ℕ)
+    (told event rest : List Event) → places ≡ place ∷ others → told ≡ events_at items runs place
+    → told ≡ event ++ rest
     → events_of items runs places ≡ event ++ (rest ++ events_of items runs others)
 walk_on items runs places others place told event rest is is_told splits =
     ap (events_of items runs) is
@@ -83,6 +92,7 @@ walk_on items runs places others place told event rest is is_told splits =
     ∙ append_assoc event rest (events_of items runs others)
 
 -- where no event is left of an item, only those of the others are
-pub walk_past : (event : Option Event) (told behind : List Event) → is_some event ≡ false → IfNone event (told ≡ []) → option_to_list event ++ (told ++ behind) ≡ behind
+pub walk_past : (event : Option Event) (told behind : List Event) → is_some event ≡ false
+    → IfNone event (told ≡ []) → option_to_list event ++ (told ++ behind) ≡ behind
 walk_past None told behind is none = ap (λ l. l ++ behind) none
 walk_past (Some event) told behind is none = absurd (let bad : true ≡ false = is in cc)

@@ -4,7 +4,8 @@ use Rattle.std.specs.List.{slice_get}
 use Rattle.ra_items.specs.declared.item_run.ItemRun.{ItemRun}
 
 -- the run at a place within the runs, and none past their end
-pub run_within : (runs : List ItemRun) (place : ℕ) (d : ItemRun) → place < length runs → slice_get runs place ≡ Some (get_or runs place d)
+pub run_within : (runs : List ItemRun) (place : ℕ) (d : ItemRun) → place < length runs
+    → slice_get runs place ≡ Some (get_or runs place d)
 run_within [] place d within = absurd (omega arith)
 run_within (run ∷ runs) zero d within = refl
 run_within (run ∷ runs) (suc place) d within = run_within runs place d (omega arith)

@@ -1,5 +1,6 @@
 -- An item that rested at a frame goes on to rest while it sees the same.
-use Rattle.std.proofs.Common.{◌≡◌, ℕ, zero, suc, ◌+◌, ◌-◌, ◌==◌, ◌&&◌, ◌||◌, not, Bool, true, false, if◌then◌else◌, List, [], ◌∷◌, ◌++◌, length, map, get_or, refl, sym, ◌∙◌, ap, ap₂}
+use Rattle.std.proofs.Common.{◌≡◌, ℕ, zero, suc, ◌+◌, ◌-◌, ◌==◌, ◌&&◌, ◌||◌, not, Bool, true, false, if◌then◌else◌}
+use Rattle.std.proofs.Common.{List, [], ◌∷◌, ◌++◌, length, map, get_or, refl, sym, ◌∙◌, ap, ap₂}
 use Rattle.std.proofs.lemmas.Bool.{eq-eqb}
 use Rattle.std.proofs.lemmas.List.{length-map}
 use Rattle.ra_condition.specs.Contents.{TriggerContents, groups_of, trigger_hits, PartContents, value_hits}
@@ -18,13 +19,15 @@ use Rattle.ra_set.specs.Contents.{ItemContents, Unlocks, Ranks}
 use Rattle.ra_schedule.specs.Triggers.{owed_trigger}
 use Rattle.ra_progress.specs.Contents.{KeptItem, OfAchievement}
 use Rattle.ra_member.specs.Frames.{truths_at, lefts_at}
-use Rattle.ra_member.specs.Members.{MemberContents, MemberKept, HasShape, tests_next, tests_hold, values_next, no_values}
+use Rattle.ra_member.specs.Members.{MemberContents, MemberKept, HasShape, tests_next, tests_hold, values_next}
+use Rattle.ra_member.specs.Members.{no_values}
 use Rattle.ra_member.proofs.Shaped.{member_shape}
 use Rattle.ra_schedule.specs.Inputs.{SeeSame, MemberSeesSame}
 use Rattle.ra_schedule.specs.Owing.{ValuesKeep, owed_member, owed_values}
 use Rattle.ra_group.specs.declared.form.Form.TheVariants.{InTrigger}
 use Rattle.ra_schedule.proofs.Resting.Lefts.{achievement_same}
-use Rattle.ra_schedule.proofs.MembersRest.GoesOn.{tests_go_on, tests_say_on, values_go_on, tests_owe_nothing, values_owe_nothing, values_stay, numbers_long, owed_fits, as_many}
+use Rattle.ra_schedule.proofs.MembersRest.GoesOn.{tests_go_on, tests_say_on, values_go_on, tests_owe_nothing}
+use Rattle.ra_schedule.proofs.MembersRest.GoesOn.{values_owe_nothing, values_stay, numbers_long, owed_fits, as_many}
 use Rattle.ra_schedule.proofs.MembersRest.OneOn.{achievement_goes_on, achievement_owes_nothing}
 use Rattle.ra_items.specs.declared.achievement_run.AchievementRun.{AchievementRun}
 use Rattle.ra_items.specs.declared.board_run.BoardRun.{BoardRun}
@@ -38,7 +41,8 @@ use Rattle.ra_schedule.specs.declared.counts.Counts.{Counts}
 use Rattle.ra_schedule.specs.declared.member_counts.MemberCounts.{MemberCounts}
 use Rattle.ra_schedule.specs.Counted.{owed_by, owed_member_by}
 use Rattle.ra_schedule.proofs.MembersRest.Counted.{counted_owes, counted_owes_member}
-use Rattle.ra_meaning.specs.Boards.{BoardKept, board_after, board_next, kept_board, number_at, opened_board, running_values, state_by, tracked_number}
+use Rattle.ra_meaning.specs.Boards.{BoardKept, board_after, board_next, kept_board, number_at, opened_board}
+use Rattle.ra_meaning.specs.Boards.{running_values, state_by, tracked_number}
 use Rattle.ra_items.specs.BoardRuns.{IsBoardRun, board_kept}
 use Rattle.ra_meaning.specs.Earned.{is_earned}
 use Rattle.ra_meaning.specs.Events.{achievement_events, board_events, event_if, is_started, same_number}
@@ -47,7 +51,8 @@ use Rattle.ra_items.specs.ItemRuns.{IsItemRun, StepsItem, kept_run}
 use Rattle.ra_meaning.specs.Openings.{item_after, kept_achievement, opened_achievement}
 use Rattle.ra_meaning.specs.Order.{board_member}
 use Rattle.ra_meaning.specs.Play.{item_events, unless_earned}
-use Rattle.ra_items.specs.Resting.{AreValuesAt, BoardRested, GoesOn, Rested, TriggerRested, board_owed, first_frame, owed_run, trigger_owed}
+use Rattle.ra_items.specs.Resting.{AreValuesAt, BoardRested, GoesOn, Rested, TriggerRested, board_owed, first_frame}
+use Rattle.ra_items.specs.Resting.{owed_run, trigger_owed}
 use Rattle.ra_items.specs.RunEvents.{run_events}
 use Rattle.ra_meaning.proofs.Openings.Again.{achievement_again, board_again}
 use Rattle.ra_meaning.proofs.Counts.Fitting.{BoardFits, board_fits}
@@ -67,18 +72,22 @@ both_not : (b : Bool) → (b && not b) ≡ false
 both_not true = refl
 both_not false = refl
 
-nothing_unless : (earned : Bool) (tells : ItemContents × KeptItem → List Event) (item : ItemContents × KeptItem) → tells item ≡ [] → unless_earned tells (earned, item) ≡ []
+nothing_unless : (earned : Bool) (tells : ItemContents × KeptItem → List Event) (item : ItemContents
+    × KeptItem) → tells item ≡ [] → unless_earned tells (earned, item) ≡ []
 nothing_unless true tells item nothing = refl
 nothing_unless false tells item nothing = nothing
 
 -- an achievement that keeps its state and its measured number tells nothing
-achievement_silent : (id : ℕ) (old new : TriggerKept) → new.state ≡ old.state → new.measured ≡ old.measured → achievement_events id old new ≡ []
+achievement_silent : (id : ℕ) (old new : TriggerKept) → new.state ≡ old.state → new.measured
+    ≡ old.measured → achievement_events id old new ≡ []
 achievement_silent id old new state measured =
     let number : (old.measured == new.measured) ≡ true = eq-eqb old.measured new.measured (sym measured) in
     let from_primed = ap (λ s. is_primed old.state && not (is_primed s)) state ∙ both_not (is_primed old.state) in
     let to_primed = ap (λ s. not (is_primed old.state) && is_primed s) state ∙ not_both (is_primed old.state) in
     let unlocked = ap (λ s. not (is_triggered old.state) && is_triggered s) state ∙ not_both (is_triggered old.state) in
-    (λ i. event_if (not (number i)) (events.Measured id new.measured) ++ event_if (to_primed i) (events.Primed id) ++ event_if (from_primed i) (events.Unprimed id) ++ event_if (unlocked i) (events.Unlock id))
+    (λ i. event_if (not (number i)) (events.Measured id new.measured)
+    ++ event_if (to_primed i) (events.Primed id) ++ event_if (from_primed i) (events.Unprimed id)
+    ++ event_if (unlocked i) (events.Unlock id))
 
 -- a board's state that stays begins no attempt, and ends none
 stays_begins : (s : BoardState) → begins s s ≡ false
@@ -114,16 +123,23 @@ not_told : (started changed : Bool) → (started ≡ true → changed ≡ false)
 not_told false changed same = refl
 not_told true changed same = same refl
 
-board_silent : (id : ℕ) (format : Format) (old new : BoardKept) → new.state ≡ old.state → (is_started new.state ≡ true → tracked_number old ≡ tracked_number new) → board_events id format old new ≡ []
+board_silent : (id : ℕ) (format : Format) (old new : BoardKept) → new.state ≡ old.state
+    → (is_started new.state ≡ true → tracked_number old ≡ tracked_number new)
+    → board_events id format old new ≡ []
 board_silent id format old new state tracked =
     let s = old.state in
     let started : became_started s new.state ≡ false = ap (became_started s) state ∙ stays_started s in
-    let unchanged : is_started new.state ≡ true → not (same_number (tracked_number old) (tracked_number new)) ≡ false = λ runs.
+    let unchanged : is_started new.state ≡ true
+    → not (same_number (tracked_number old) (tracked_number new)) ≡ false = λ runs.
     ap (λ v. not (same_number v (tracked_number new))) (tracked runs) ∙ ap not (eq-eqb _ _ refl) in
-    let track = ap (λ b. is_started new.state && (b || not (same_number (tracked_number old) (tracked_number new)))) started ∙ not_told (is_started new.state) (not (same_number (tracked_number old) (tracked_number new))) unchanged in
+    let track = ap (λ b. is_started new.state && (b
+    || not (same_number (tracked_number old) (tracked_number new)))) started ∙ not_told (is_started
+    new.state) (not (same_number (tracked_number old) (tracked_number new))) unchanged in
     let cancelled = ap (became_cancelled s) state ∙ stays_cancelled s in
     let submitted = ap (became_submitted s) state ∙ stays_submitted s in
-    (λ i. event_if (started i) (events.Start id) ++ event_if (track i) (events.Track id (tracked_number new) format) ++ event_if (cancelled i) (events.Cancel id) ++ event_if (submitted i) (events.Submit id (number_at new.member.values 0) format))
+    (λ i. event_if (started i) (events.Start id) ++ event_if (track i) (events.Track id
+    (tracked_number new) format) ++ event_if (cancelled i) (events.Cancel id) ++ event_if
+    (submitted i) (events.Submit id (number_at new.member.values 0) format))
 
 -- achievements
 module _ (table : TableSeen) (id : ℕ) (t : TriggerContents) (mid new : AchievementRun) (c : Counts)
@@ -155,42 +171,53 @@ module _ (table : TableSeen) (id : ℕ) (t : TriggerContents) (mid new : Achieve
   stepped =
       sym (achievement_again new.earned new_kept)
       ∙ ap opened_achievement (steps.kept start image has)
-      ∙ achievement_again (is_earned (kept_run (Achievement mid))) (achievement_after start t (opened_achievement (kept_run (Achievement mid))) (image ∷ []))
+      ∙ achievement_again (is_earned (kept_run (Achievement mid)))
+      (achievement_after start t (opened_achievement (kept_run (Achievement mid))) (image ∷ []))
       ∙ ap (achievement_step t truths lefts) (achievement_again mid.earned mid.run.trigger)
 
-  goes_on : (n : ℕ) → achievement_step t truths lefts (owed_trigger n old_kept.hits new_kept) ≡ owed_trigger (n + 1) old_kept.hits new_kept
-  goes_on n = achievement_goes_on t truths lefts old_kept new_kept long rested.small stepped rested.rests.state rested.rests.measured rested.rests.hits n
+  goes_on : (n : ℕ) → achievement_step t truths lefts (owed_trigger n old_kept.hits new_kept)
+      ≡ owed_trigger (n + 1) old_kept.hits new_kept
+  goes_on n = achievement_goes_on t truths lefts old_kept new_kept long rested.small stepped
+      rested.rests.state rested.rests.measured rested.rests.hits n
 
   pub achievement_starts : owed_run 0 (counts.Achievement c) (Achievement new) ≡ kept_run (Achievement new)
   achievement_starts =
       trigger_owes 0
-      ∙ ap (kept_achievement new.earned) (achievement_owes_nothing t truths lefts old_kept new_kept long rested.small stepped rested.rests.state rested.rests.measured rested.rests.hits)
+      ∙ ap (kept_achievement new.earned) (achievement_owes_nothing t truths lefts old_kept new_kept
+      long rested.small stepped rested.rests.state rested.rests.measured rested.rests.hits)
 
-  module _ (start' : Start) (image' : List ℕ) (same : SeeSame InTrigger (first_frame start image) (first_frame start' image') (groups_of t)) (n : ℕ) where
+  module _ (start' : Start) (image' : List ℕ) (same : SeeSame InTrigger (first_frame start image)
+      (first_frame start' image') (groups_of t)) (n : ℕ) where
     abbrev kept_now : TriggerKept
     kept_now = owed_trigger n old_kept.hits new_kept
 
     abbrev kept_then : TriggerKept
     kept_then = owed_trigger (n + 1) old_kept.hits new_kept
 
-    later : achievement_after start' t (opened_achievement (kept_achievement new.earned kept_now)) (image' ∷ []) ≡ kept_then
+    later : achievement_after start' t (opened_achievement (kept_achievement new.earned kept_now))
+        (image' ∷ []) ≡ kept_then
     later =
         ap (λ k. achievement_after start' t k (image' ∷ [])) (achievement_again new.earned kept_now)
-        ∙ achievement_same t (truths_at start' (image' ∷ []) (groups_of t)) lefts (lefts_at start' (image' ∷ []) (groups_of t)) kept_now same.lefts
+        ∙ achievement_same t (truths_at start' (image' ∷ []) (groups_of t)) lefts
+        (lefts_at start' (image' ∷ []) (groups_of t)) kept_now same.lefts
         ∙ ap (λ ts. achievement_step t ts lefts kept_now) same.truths
         ∙ goes_on n
 
-    kept_later : item_after start' (image' ∷ []) (achievement, owed_run n (counts.Achievement c) (Achievement new)) ≡ owed_run (n + 1) (counts.Achievement c) (Achievement new)
+    kept_later : item_after start' (image' ∷ [])
+        (achievement, owed_run n (counts.Achievement c) (Achievement new))
+        ≡ owed_run (n + 1) (counts.Achievement c) (Achievement new)
     kept_later =
         ap (λ k. item_after start' (image' ∷ []) (achievement, k)) (trigger_owes n)
         ∙ ap (kept_achievement (is_earned (kept_achievement new.earned kept_now))) later
-        ∙ ap (OfAchievement (state_byte new_kept.state) new_kept.measured kept_then.hits) (once_more new.earned (is_triggered new_kept.state))
+        ∙ ap (OfAchievement (state_byte new_kept.state) new_kept.measured kept_then.hits)
+        (once_more new.earned (is_triggered new_kept.state))
         ∙ sym (trigger_owes (n + 1))
 
     silent_later : item_events start' image' [] (achievement, owed_run n (counts.Achievement c) (Achievement new)) ≡ []
     silent_later =
         ap (λ k. item_events start' image' [] (achievement, k)) (trigger_owes n)
-        ∙ ap₂ (achievement_events id) (achievement_again new.earned kept_now) later ∙ achievement_silent id kept_now kept_then refl refl
+        ∙ ap₂ (achievement_events id) (achievement_again new.earned kept_now) later
+        ∙ achievement_silent id kept_now kept_then refl refl
 
   told_now : run_events achievement (Achievement new) ≡ []
   told_now =
@@ -225,7 +252,8 @@ started_runs boards.Cancelled started = started
 started_runs boards.Submitted started = refl
 
 -- values that keep their numbers have the same ones
-keep_numbers : (values : List (List PartContents)) (olds news : List ValueKept) → ValuesKeep values olds news → map (λ (v : ValueKept). v.numbers) olds ≡ map (λ (v : ValueKept). v.numbers) news
+keep_numbers : (values : List (List PartContents)) (olds news : List ValueKept) → ValuesKeep values
+    olds news → map (λ (v : ValueKept). v.numbers) olds ≡ map (λ (v : ValueKept). v.numbers) news
 keep_numbers [] [] [] keep = refl
 keep_numbers [] [] (new ∷ news) keep = absurd keep
 keep_numbers [] (old ∷ olds) news keep = absurd keep
@@ -235,16 +263,23 @@ keep_numbers (parts ∷ values) (old ∷ olds) (new ∷ news) keep =
     ap₂ (λ x xs. x ∷ xs) (sym keep.0.numbers) (keep_numbers values olds news keep.1)
 
 -- the tracked number is that of the last value
-pub tracked_by : (olds news : List ValueKept) → map (λ (v : ValueKept). v.numbers) olds ≡ map (λ (v : ValueKept). v.numbers) news → number_at olds (length olds - 1) ≡ number_at news (length news - 1)
+pub tracked_by : (olds news : List ValueKept) → map (λ (v : ValueKept). v.numbers) olds
+    ≡ map (λ (v : ValueKept). v.numbers) news → number_at olds (length olds - 1)
+    ≡ number_at news (length news - 1)
 tracked_by olds news same =
-    let one : (vs : List ValueKept) (k : ℕ) → number_at vs k ≡ signed_greatest (get_or (map (λ (v : ValueKept). v.numbers) vs) k []) = λ vs k. ap signed_greatest (sym (get_mapped (λ (v : ValueKept). v.numbers) vs k (no_value []))) in
-    let many : length olds ≡ length news = sym (length-map olds (λ (v : ValueKept). v.numbers)) ∙ ap length same ∙ length-map news (λ (v : ValueKept). v.numbers) in
-    one olds (length olds - 1) ∙ (λ i. signed_greatest (get_or (same i) (many i - 1) [])) ∙ sym (one news (length news - 1))
+    let one : (vs : List ValueKept) (k : ℕ) → number_at vs k
+    ≡ signed_greatest (get_or (map (λ (v : ValueKept). v.numbers) vs) k []) = λ vs k. ap
+    signed_greatest (sym (get_mapped (λ (v : ValueKept). v.numbers) vs k (no_value []))) in
+    let many : length olds ≡ length news = sym (length-map olds (λ (v : ValueKept). v.numbers))
+    ∙ ap length same ∙ length-map news (λ (v : ValueKept). v.numbers) in
+    one olds (length olds - 1) ∙ (λ i. signed_greatest (get_or (same i) (many i - 1) []))
+    ∙ sym (one news (length news - 1))
 
 -- there are as many values as texts
 pub rows_many : (m : MemberContents) (kept : MemberKept) → HasShape m kept → length kept.values ≡ length m.values
 rows_many m kept fits =
-    sym (length-map kept.values (λ (v : ValueKept). v.hits)) ∙ as_many (map (λ (v : ValueKept). v.hits) kept.values) m.values value_hits fits.hits
+    sym (length-map kept.values (λ (v : ValueKept). v.hits))
+    ∙ as_many (map (λ (v : ValueKept). v.hits) kept.values) m.values value_hits fits.hits
 
 -- boards
 module _ (table : TableSeen) (id : ℕ) (format : Format) (b : BoardContents) (mid new : BoardRun) (c : MemberCounts)
@@ -309,12 +344,14 @@ module _ (table : TableSeen) (id : ℕ) (format : Format) (b : BoardContents) (m
   values_run : is_running now.state ≡ true → now.member.values ≡ values_next start m.values h old.member.values
   values_run runs =
       values_followed
-      ∙ (λ i. if runs i then values_next start m.values h (if begins_none i then no_values m.values else old.member.values) else old.member.values)
+      ∙ (λ i. if runs i then values_next start m.values h (if begins_none i then no_values m.values
+      else old.member.values) else old.member.values)
 
   values_wait : is_running now.state ≡ false → now.member.values ≡ old.member.values
   values_wait waits =
       values_followed
-      ∙ ap (λ r. if r then values_next start m.values h (if begins old.state now.state then no_values m.values else old.member.values) else old.member.values) waits
+      ∙ ap (λ r. if r then values_next start m.values h (if begins old.state now.state
+      then no_values m.values else old.member.values) else old.member.values) waits
 
   values_many : length old.member.values ≡ length now.member.values
   values_many = rows_many m old.member fits_old ∙ sym (rows_many m now.member fits_new)
@@ -322,7 +359,8 @@ module _ (table : TableSeen) (id : ℕ) (format : Format) (b : BoardContents) (m
   -- the tracked number stays where an attempt runs
   tracked_same : is_started now.state ≡ true → tracked_number old ≡ tracked_number now
   tracked_same started =
-      let numbers = keep_numbers m.values old.member.values now.member.values (rested.rests.values (started_runs now.state started)) in
+      let numbers = keep_numbers m.values old.member.values now.member.values
+      (rested.rests.values (started_runs now.state started)) in
       tracked_by old.member.values now.member.values numbers
 
   -- nothing is owed at once
@@ -330,15 +368,20 @@ module _ (table : TableSeen) (id : ℕ) (format : Format) (b : BoardContents) (m
   values_start = by_run (is_running now.state) refl
     where
       by_run : (r : Bool) → is_running now.state ≡ r → owed_values 0 old_hits now.member.values ≡ now.member.values
-      by_run true runs = values_owe_nothing start h m.values old.member.values now.member.values fits_old.hits (values_run runs) rested.small.values (rested.rests.values runs)
-      by_run false waits = ap (owed_values 0 old_hits) (values_wait waits) ∙ values_stay 0 old.member.values ∙ sym (values_wait waits)
+      by_run true runs = values_owe_nothing start h m.values old.member.values now.member.values
+          fits_old.hits (values_run runs) rested.small.values (rested.rests.values runs)
+      by_run false waits = ap (owed_values 0 old_hits) (values_wait waits)
+          ∙ values_stay 0 old.member.values ∙ sym (values_wait waits)
 
   pub board_starts : owed_run 0 (counts.Leaderboard c) (Leaderboard new) ≡ kept_run (Leaderboard new)
   board_starts =
-      let tests = tests_owe_nothing start h m.tests old.member.tests now.member.tests fits_old.tests tests_stepped rested.small.tests rested.rests.tests in
-      board_owes 0 ∙ (λ i. kept_board (record { state = now.state; member = record { tests = tests i; values = values_start i } }))
+      let tests = tests_owe_nothing start h m.tests old.member.tests now.member.tests fits_old.tests
+      tests_stepped rested.small.tests rested.rests.tests in
+      board_owes 0 ∙ (λ i. kept_board (record
+      { state = now.state; member = record { tests = tests i; values = values_start i } }))
 
-  module _ (start' : Start) (image' : List ℕ) (same : MemberSeesSame (first_frame start image) (first_frame start' image') m) (n : ℕ) where
+  module _ (start' : Start) (image' : List ℕ)
+      (same : MemberSeesSame (first_frame start image) (first_frame start' image') m) (n : ℕ) where
     abbrev h' : History
     h' = image' ∷ []
 
@@ -350,23 +393,32 @@ module _ (table : TableSeen) (id : ℕ) (format : Format) (b : BoardContents) (m
 
     state_later : state_by now.state (tests_hold start' m.tests h' owes.member.tests) ≡ now.state
     state_later =
-        ap (state_by now.state) (tests_say_on (first_frame start image) (first_frame start' image') m.tests old.member.tests now.member.tests fits_old.tests same.tests tests_stepped rested.small.tests rested.rests.tests n)
+        ap (state_by now.state) (tests_say_on (first_frame start image)
+        (first_frame start' image') m.tests old.member.tests now.member.tests fits_old.tests
+        same.tests tests_stepped rested.small.tests rested.rests.tests n)
         ∙ ap (λ s. state_by s (tests_hold start m.tests h old.member.tests)) rested.rests.state
         ∙ sym state_stepped
 
     tests_later : tests_next start' m.tests h' owes.member.tests ≡ owes_more.member.tests
     tests_later =
-        tests_go_on (first_frame start image) (first_frame start' image') m.tests old.member.tests now.member.tests fits_old.tests same.tests tests_stepped rested.small.tests rested.rests.tests n
+        tests_go_on (first_frame start image) (first_frame start' image') m.tests old.member.tests
+        now.member.tests fits_old.tests same.tests tests_stepped rested.small.tests
+        rested.rests.tests n
 
     values_later : running_values start' m.values h' now.state now.state owes.member.values ≡ owes_more.member.values
     values_later = by_run (is_running now.state) refl
       where
-        by_run : (r : Bool) → is_running now.state ≡ r → running_values start' m.values h' now.state now.state owes.member.values ≡ owes_more.member.values
+        by_run : (r : Bool) → is_running now.state ≡ r → running_values start' m.values h' now.state
+            now.state owes.member.values ≡ owes_more.member.values
         by_run true runs =
-            (λ i. if runs i then values_next start' m.values h' (if stays_begins now.state i then no_values m.values else owes.member.values) else owes.member.values)
-            ∙ values_go_on (first_frame start image) (first_frame start' image') m.values old.member.values now.member.values fits_old.hits same.values (values_run runs) rested.small.values (rested.rests.values runs) n
+            (λ i. if runs i then values_next start' m.values h' (if stays_begins now.state i
+            then no_values m.values else owes.member.values) else owes.member.values)
+            ∙ values_go_on (first_frame start image)
+            (first_frame start' image') m.values old.member.values now.member.values fits_old.hits
+            same.values (values_run runs) rested.small.values (rested.rests.values runs) n
         by_run false waits =
-            ap (λ r. if r then values_next start' m.values h' (if begins now.state now.state then no_values m.values else owes.member.values) else owes.member.values) waits
+            ap (λ r. if r then values_next start' m.values h' (if begins now.state now.state
+            then no_values m.values else owes.member.values) else owes.member.values) waits
             ∙ ap (owed_values n old_hits) (values_wait waits) ∙ values_stay n old.member.values
             ∙ sym (ap (owed_values (n + 1) old_hits) (values_wait waits) ∙ values_stay (n + 1) old.member.values)
 
@@ -378,12 +430,17 @@ module _ (table : TableSeen) (id : ℕ) (format : Format) (b : BoardContents) (m
         ap (λ k. board_after start' b k h') (board_again b owes fits_owes)
         ∙ (λ i. record {
           state = state_later i;
-          member = record { tests = tests_later i; values = running_values start' m.values h' now.state (state_later i) owes.member.values };
+          member = record
+              { tests = tests_later i; values = running_values start' m.values h' now.state (state_later i) owes.member.values };
         })
-        ∙ (λ i. record { state = now.state; member = record { tests = owes_more.member.tests; values = values_later i } })
+        ∙ (λ i. record
+        { state = now.state; member = record { tests = owes_more.member.tests; values = values_later i } })
 
-    board_kept_later : item_after start' h' (Ranks id format b, owed_run n (counts.Leaderboard c) (Leaderboard new)) ≡ owed_run (n + 1) (counts.Leaderboard c) (Leaderboard new)
-    board_kept_later = ap (λ k. item_after start' h' (Ranks id format b, k)) (board_owes n) ∙ ap kept_board board_later ∙ sym (board_owes (n + 1))
+    board_kept_later : item_after start' h'
+        (Ranks id format b, owed_run n (counts.Leaderboard c) (Leaderboard new))
+        ≡ owed_run (n + 1) (counts.Leaderboard c) (Leaderboard new)
+    board_kept_later = ap (λ k. item_after start' h' (Ranks id format b, k)) (board_owes n)
+        ∙ ap kept_board board_later ∙ sym (board_owes (n + 1))
 
     tracked_stays : tracked_number owes ≡ tracked_number now
     tracked_stays =
@@ -404,24 +461,33 @@ module _ (table : TableSeen) (id : ℕ) (format : Format) (b : BoardContents) (m
     kept = λ start' image' same n. board_kept_later start' image' same n;
     silent = λ start' image' same n.
         ap (λ k. item_events start' image' [] (Ranks id format b, k)) (board_owes n)
-        ∙ ap₂ (board_events id format) (board_again b (owed_board n) (fits_owes start' image' same n)) (board_later start' image' same n)
+        ∙ ap₂ (board_events id format) (board_again b (owed_board n)
+        (fits_owes start' image' same n)) (board_later start' image' same n)
         ∙ board_silent id format (owed_board n) (owed_board (n + 1)) refl
         (λ runs. tracked_stays start' image' same n ∙ sym (tracked_stays start' image' same (n + 1)));
     told = told_by_board;
   }
 
 -- an item that rested at a step owes nothing at once, and goes on to rest
-pub item_rests : (table : TableSeen) (item : ItemContents) (c : ItemCounts) (mid new : ItemRun) → IsItemRun table.nodes item mid → IsItemRun table.nodes item new
+pub item_rests : (table : TableSeen) (item : ItemContents) (c : ItemCounts) (mid new : ItemRun)
+    → IsItemRun table.nodes item mid → IsItemRun table.nodes item new
     → StepsItem table item mid new → Rested item c mid new
     → (start : Start) (image : List ℕ) → AreValuesAt table.nodes table.values (first_frame start image)
     → (owed_run 0 c new ≡ kept_run new) × GoesOn table.nodes table.values item c new
-item_rests table (Unlocks id t) (counts.Achievement c) (Achievement mid) (Achievement new) is is_new steps rested start image has =
+item_rests table (Unlocks id t) (counts.Achievement c) (Achievement mid)
+    (Achievement new) is is_new steps rested start image has =
     (achievement_starts table id t mid new c is.hits steps rested start image has, achievement_rests_on table id t mid new c is.hits steps rested start image has)
 item_rests table (Unlocks id t) (counts.Leaderboard c) mid new is is_new steps rested start image has = absurd rested
-item_rests table (Unlocks id t) (counts.Achievement c) (Leaderboard mid) new is is_new steps rested start image has = absurd is
-item_rests table (Unlocks id t) (counts.Achievement c) (Achievement mid) (Leaderboard new) is is_new steps rested start image has = absurd is_new
-item_rests table (Ranks id format b) (counts.Leaderboard c) (Leaderboard mid) (Leaderboard new) is is_new steps rested start image has =
+item_rests table (Unlocks id t) (counts.Achievement c)
+    (Leaderboard mid) new is is_new steps rested start image has = absurd is
+item_rests table (Unlocks id t) (counts.Achievement c) (Achievement mid)
+    (Leaderboard new) is is_new steps rested start image has = absurd is_new
+item_rests table (Ranks id format b) (counts.Leaderboard c) (Leaderboard mid)
+    (Leaderboard new) is is_new steps rested start image has =
     (board_starts table id format b mid new c is is_new steps rested start image has, board_rests_on table id format b mid new c is is_new steps rested start image has)
-item_rests table (Ranks id format b) (counts.Achievement c) mid new is is_new steps rested start image has = absurd rested
-item_rests table (Ranks id format b) (counts.Leaderboard c) (Achievement mid) new is is_new steps rested start image has = absurd is
-item_rests table (Ranks id format b) (counts.Leaderboard c) (Leaderboard mid) (Achievement new) is is_new steps rested start image has = absurd is_new
+item_rests table (Ranks id format b)
+    (counts.Achievement c) mid new is is_new steps rested start image has = absurd rested
+item_rests table (Ranks id format b) (counts.Leaderboard c)
+    (Achievement mid) new is is_new steps rested start image has = absurd is
+item_rests table (Ranks id format b) (counts.Leaderboard c) (Leaderboard mid)
+    (Achievement new) is is_new steps rested start image has = absurd is_new
