@@ -28,11 +28,13 @@ module _ (nodes : List Node) where
       let long = saved_long (board_member b) (kept_by run.member) (member_shape nodes (board_member b) run.member is) in
       ap₂ shapes.Leaderboard long.0 long.1
 
-  pub runs_shaped : (items : List ItemContents) (runs : List ItemRun) → AreItemRuns nodes items runs → map run_shape runs ≡ map item_shape items
+  pub runs_shaped : (items : List ItemContents) (runs : List ItemRun) → AreItemRuns nodes items runs
+      → map run_shape runs ≡ map item_shape items
   runs_shaped [] [] are = refl
   runs_shaped [] (run ∷ runs) are = absurd are
   runs_shaped (item ∷ items) [] are = absurd are
-  runs_shaped (item ∷ items) (run ∷ runs) are = ap₂ (λ x xs. x ∷ xs) (run_shaped item run are.0) (runs_shaped items runs are.1)
+  runs_shaped (item ∷ items) (run ∷ runs) are =
+      ap₂ (λ x xs. x ∷ xs) (run_shaped item run are.0) (runs_shaped items runs are.1)
 
 -- an item within the limits of a set has a small shape, and so have all items of a set
 item_small : (item : ItemContents) → IsItem item → item_conditions item ≤ 65536 → IsSmall (item_shape item)
@@ -41,9 +43,11 @@ item_small (Ranks id format b) is few =
     let within = board_within id format b is.0 in
     (omega (arith, few, within.0), omega (arith, few, within.1))
 
-pub items_small : (items : List ItemContents) → All IsItem items → sum_by item_conditions items ≤ 65536 → All IsSmall (map item_shape items)
+pub items_small : (items : List ItemContents) → All IsItem items
+    → sum_by item_conditions items ≤ 65536 → All IsSmall (map item_shape items)
 items_small items spelled few =
-    All-map IsSmall item_shape items (λ k d within. item_small (get_or items k d) (spelled k d within) (omega (arith, few, get_or-le-sum_by item_conditions items k d within)))
+    All-map IsSmall item_shape items (λ k d within. item_small (get_or items k d)
+    (spelled k d within) (omega (arith, few, get_or-le-sum_by item_conditions items k d within)))
 
 -- what a line spells has digits
 pub have_digits : (items : List ItemContents) → All IsItem items → HaveDigits items

@@ -36,26 +36,34 @@ module _ (old new : List Node) (front : IsFront old new) where
   item_run_more (Ranks id format b) (Achievement run) is = absurd is
   item_run_more (Ranks id format b) (Leaderboard run) is = member_more old new front (board_member b) run.member is
 
-  pub item_runs_more : (items : List ItemContents) (runs : List ItemRun) → AreItemRuns old items runs → AreItemRuns new items runs
+  pub item_runs_more : (items : List ItemContents) (runs : List ItemRun)
+      → AreItemRuns old items runs → AreItemRuns new items runs
   item_runs_more [] [] are = tt
   item_runs_more [] (run ∷ runs) are = absurd are
   item_runs_more (item ∷ items) [] are = absurd are
   item_runs_more (item ∷ items) (run ∷ runs) are = (item_run_more item run are.0, item_runs_more items runs are.1)
 
-pub leaderboard_made : (old new : List Node) (id : ℕ) (format : Format) (b : BoardContents) (run : BoardRun) → IsNewBoard old new b run → IsNewItem old new (Ranks id format b) (Leaderboard run)
+pub leaderboard_made : (old new : List Node) (id : ℕ) (format : Format) (b : BoardContents) (run
+    : BoardRun) → IsNewBoard old new b run → IsNewItem old new (Ranks id format b) (Leaderboard run)
 leaderboard_made old new id format b run made =
     let m : MemberContents = board_member b in
     let zero = none_saved m in
     record {
-      grows = within_as old new (trees_in_member m) (trees_in_member m) (member_conditions m) (item_conditions (Ranks id format b)) refl (omega (arith, board_conditions b id format)) made.made.grows;
+      grows = within_as old new (trees_in_member m) (trees_in_member m) (member_conditions m)
+          (item_conditions (Ranks id format b)) refl
+          (omega (arith, board_conditions b id format)) made.made.grows;
       run_too = made.made.member_too;
-      plain = (λ i. kept_board (record { state = made.waits i; member = made.made.plain i })) ∙ ap₂ (OfBoard 0) zero.0 zero.1;
+      plain = (λ i. kept_board (record { state = made.waits i; member = made.made.plain i }))
+          ∙ ap₂ (OfBoard 0) zero.0 zero.1;
     }
 
-pub waiting_more : (a b c : List Node) (items : List ItemContents) (runs : List ItemRun) (item : ItemContents) (run : ItemRun) → AreWaiting a b items runs → IsNewItem b c item run → AreWaiting a c (items ++ item ∷ []) (runs ++ run ∷ [])
+pub waiting_more : (a b c : List Node) (items : List ItemContents) (runs : List ItemRun)
+    (item : ItemContents) (run : ItemRun) → AreWaiting a b items runs → IsNewItem b c item run
+    → AreWaiting a c (items ++ item ∷ []) (runs ++ run ∷ [])
 waiting_more a b c items runs item run are new = record {
   grows = grows_more trees_in_item item_conditions a b c items item are.grows new.grows;
-  runs_too = runs_more c items runs item run (item_runs_more b c new.grows.grows.front items runs are.runs_too) new.run_too;
+  runs_too = runs_more c items runs item run
+      (item_runs_more b c new.grows.grows.front items runs are.runs_too) new.run_too;
   plain =
       map-append kept_run runs (run ∷ [])
       ∙ ap₂ (λ xs x. xs ++ x ∷ []) are.plain new.plain

@@ -29,13 +29,16 @@ pub record IsNewBoard (old new : List Node) (b : BoardContents) (run : BoardRun)
   pub waits : run.board ≡ Waiting
 
 -- the values of a board at a frame at which its state goes from one to another; its tests stay
-pub record FollowsValues (table : TableSeen) (values : List (List PartContents)) (before after : BoardState) (old new : Member) : Type 0 where
-  pub kept : (start : Start) (history : History) → HasValues table start history → (kept_by new).values ≡ running_values start values history before after (kept_by old).values
+pub record FollowsValues (table : TableSeen) (values : List (List PartContents))
+    (before after : BoardState) (old new : Member) : Type 0 where
+  pub kept : (start : Start) (history : History) → HasValues table start history
+      → (kept_by new).values ≡ running_values start values history before after (kept_by old).values
   pub tests : (kept_by new).tests ≡ (kept_by old).tests
 
 -- one frame of a board, and the record of it
 pub record StepsBoard (table : TableSeen) (b : BoardContents) (old new : BoardRun) : Type 0 where
-  pub kept : (start : Start) (image : List ℕ) → HasValues table start (image ∷ []) → board_kept new ≡ board_after start b (board_kept old) (image ∷ [])
+  pub kept : (start : Start) (image : List ℕ) → HasValues table start (image ∷ []) → board_kept new
+      ≡ board_after start b (board_kept old) (image ∷ [])
   pub before : new.change.before ≡ old.board
   pub after : new.change.after ≡ new.board
   pub tracked : new.tracked_before ≡ tracked_number (board_kept old)

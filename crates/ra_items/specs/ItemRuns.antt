@@ -38,5 +38,8 @@ pub record IsNewItem (old new : List Node) (item : ItemContents) (run : ItemRun)
 
 -- One frame of an item, from what it keeps: what it keeps after it, and its events, which are none where it was earned.
 pub record StepsItem (table : TableSeen) (item : ItemContents) (old new : ItemRun) : Type 0 where
-  pub kept : (start : Start) (image : List ℕ) → HasValues table start (image ∷ []) → kept_run new ≡ item_after start (image ∷ []) (item, kept_run old)
-  pub events : (start : Start) (image : List ℕ) → HasValues table start (image ∷ []) → run_events item new ≡ unless_earned (item_events start image []) (is_earned (kept_run old), (item, kept_run old))
+  pub kept : (start : Start) (image : List ℕ) → HasValues table start (image ∷ []) → kept_run new
+      ≡ item_after start (image ∷ []) (item, kept_run old)
+  pub events : (start : Start) (image : List ℕ) → HasValues table start (image ∷ [])
+      → run_events item new
+      ≡ unless_earned (item_events start image []) (is_earned (kept_run old), (item, kept_run old))

@@ -1,4 +1,5 @@
--- What planning leaves in a pool, and how many nodes it takes at most: docs/DEFINITIONS.md, "Trees, cells and tracked masks".
+-- What planning leaves in a pool, and how many nodes it takes at most: docs/DEFINITIONS.md, "Trees, cells and tracked
+-- masks".
 use Rattle.std.specs.Prelude.{◌≡◌, List, map, sum_by}
 use Rattle.std.specs.List.{flat_map}
 use Rattle.ra_indirect.specs.declared.node.Node.{Node}

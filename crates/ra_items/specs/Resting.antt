@@ -1,4 +1,5 @@
--- Which conditions of items counted at a frame, what these owe while they rest, and when they do: docs/INTERNALS.md, "Items at rest".
+-- Which conditions of items counted at a frame, what these owe while they rest, and when they do: docs/INTERNALS.md,
+-- "Items at rest".
 use Rattle.std.specs.Prelude.{◌≡◌, ℕ, ◌+◌, Bool, true, Option, None, Some, List, [], ◌∷◌, length}
 use Rattle.ra_condition.specs.Contents.{TriggerContents, groups_of}
 use Rattle.ra_group.specs.declared.form.Form.TheVariants.{InTrigger}
@@ -42,11 +43,13 @@ pub use Rattle.ra_schedule.specs.Waking.{AreValuesAt, first_frame}
 
 -- what an achievement keeps after n frames more at rest, where these of its conditions count
 abbrev pub trigger_owed : ℕ → Counts → AchievementRun → KeptItem
-trigger_owed n c run = kept_achievement run.earned (record run.run.trigger { hits = owed_by n c.counted.items run.run.trigger.hits })
+trigger_owed n c run = kept_achievement run.earned
+    (record run.run.trigger { hits = owed_by n c.counted.items run.run.trigger.hits })
 
 -- the same of a board
 abbrev pub board_owed : ℕ → MemberCounts → BoardRun → KeptItem
-board_owed n c run = kept_board (record { state = run.board; member = owed_member_by n (counts_of c) (kept_by run.member) })
+board_owed n c run = kept_board
+    (record { state = run.board; member = owed_member_by n (counts_of c) (kept_by run.member) })
 
 -- what an item keeps after n frames more at rest, where these of its conditions count
 abbrev pub owed_run : ℕ → ItemCounts → ItemRun → KeptItem
@@ -77,7 +80,8 @@ pub record HoldsBoard (rooms : Rooms) (run : BoardRun) : Type 0 where
   pub state : rooms.board ≡ run.board
   pub member : Holds rooms.member (kept_by run.member)
 
--- an achievement keeps its state and its measured number at a frame, and each of its conditions its hits, or is free and has one more
+-- an achievement keeps its state and its measured number at a frame, and each of its conditions its hits, or is free
+-- and has one more
 pub record TriggerRests (t : TriggerContents) (old new : TriggerKept) : Type 0 where
   pub state : new.state ≡ old.state
   pub measured : new.measured ≡ old.measured
@@ -101,7 +105,8 @@ pub record JudgesTrigger (old new : Counts) (rooms : Rooms) (run : AchievementRu
 pub record JudgesBoard (old new : MemberCounts) (rooms : Rooms) (run : BoardRun) (rests : Bool) : Type 0 where
   pub tests_told : Bool
   pub values_told : Bool
-  pub judges : Judges old new (held rooms.member (kept_by run.member)) (kept_by run.member) (record { tests = tests_told; values = values_told })
+  pub judges : Judges old new (held rooms.member (kept_by run.member)) (kept_by run.member)
+      (record { tests = tests_told; values = values_told })
   pub tests : rests ≡ true → tests_told ≡ true
   pub values : rests ≡ true → is_running run.board ≡ true → values_told ≡ true
   pub state : rests ≡ true → run.board ≡ rooms.board
@@ -131,10 +136,12 @@ ItemSeesSame now later (Ranks id format b) = MemberSeesSame now later (board_mem
 
 -- a reader is told of all that an item sees
 abbrev pub IsToldOf : List Node → List Comparison → ReadersSeen → ItemContents → (reader : ℕ) → Type 0
-IsToldOf nodes comparisons readers item reader = IsTold (λ now later. ItemSeesSame now later item) nodes comparisons readers reader
+IsToldOf nodes comparisons readers item reader =
+    IsTold (λ now later. ItemSeesSame now later item) nodes comparisons readers reader
 
 -- While an item sees what it sees at these values, each frame more adds to what it owes, and it tells nothing.
-pub record GoesOn (nodes : List Node) (values : List ℕ) (item : ItemContents) (b : ItemCounts) (run : ItemRun) : Type 0 where
+pub record GoesOn (nodes : List Node) (values : List ℕ) (item : ItemContents) (b : ItemCounts)
+    (run : ItemRun) : Type 0 where
   pub now : Instant
   pub at : AreValuesAt nodes values now
   pub kept : (start : Start) (image : List ℕ) → ItemSeesSame now (first_frame start image) item
@@ -150,7 +157,8 @@ FitsRun (counts.Leaderboard c) (Leaderboard run) = CountsFit (counts_of c) (kept
 FitsRun _ _ = ⊥
 
 -- an item is stepped with what it owes paid, and it is noted which of its conditions counted where it rests
-pub record StepsRest (table : TableSeen) (item : ItemContents) (seen : KeptItem) (rests : Bool) (c : ItemCounts) (new : ItemRun) : Type 0 where
+pub record StepsRest (table : TableSeen) (item : ItemContents) (seen : KeptItem) (rests : Bool)
+    (c : ItemCounts) (new : ItemRun) : Type 0 where
   pub mid : ItemRun
   pub is : IsItemRun table.nodes item mid
   pub kept : kept_run mid ≡ seen
@@ -159,8 +167,10 @@ pub record StepsRest (table : TableSeen) (item : ItemContents) (seen : KeptItem)
 
 -- one frame of an item, from what it is seen to keep: what it is seen to keep after it, and what it tells
 pub record StepsSeen (table : TableSeen) (item : ItemContents) (old new : KeptItem) (told : List Event) : Type 0 where
-  pub kept : (start : Start) (image : List ℕ) → HasValues table start (image ∷ []) → new ≡ item_after start (image ∷ []) (item, old)
-  pub events : (start : Start) (image : List ℕ) → HasValues table start (image ∷ []) → told ≡ unless_earned (item_events start image []) (is_earned old, (item, old))
+  pub kept : (start : Start) (image : List ℕ) → HasValues table start (image ∷ []) → new
+      ≡ item_after start (image ∷ []) (item, old)
+  pub events : (start : Start) (image : List ℕ) → HasValues table start (image ∷ []) → told
+      ≡ unless_earned (item_events start image []) (is_earned old, (item, old))
 
 -- an item is one with its plans where the old one was
 abbrev pub StaysItem : (old new : ItemRun) → Type 0

@@ -23,7 +23,8 @@ HasItem bytes None shape = Unit {0}
 HasItem bytes (Some at) shape =
     Holds bytes at (item_length shape) × (is_state (version_in bytes) shape (slice_index bytes at) ≡ true)
 
--- what an item keeps after a restore: what its block says, or the plain item without one; earned where it was, or is said to be
+-- what an item keeps after a restore: what its block says, or the plain item without one; earned where it was, or is
+-- said to be
 abbrev pub restored_item : List ℕ → ItemRun → Option ℕ → KeptItem
 restored_item bytes run place =
     let said = said_or (said_item bytes (run_shape run)) (plain_item (run_shape run)) place in
@@ -36,7 +37,8 @@ restored_items bytes _ _ = []
 
 -- a board is what its block says, or plain without one, and stays one with its plans
 pub record PutsBackBoard (bytes : List ℕ) (place : Option ℕ) (old new : BoardRun) : Type 0 where
-  pub kept : kept_board (board_kept new) ≡ said_or (said_item bytes (board_run_shape old)) (plain_item (board_run_shape old)) place
+  pub kept : kept_board (board_kept new)
+      ≡ said_or (said_item bytes (board_run_shape old)) (plain_item (board_run_shape old)) place
   pub run : (nodes : List Node) (b : BoardContents) → IsBoardRun nodes b old → IsBoardRun nodes b new
 
 -- an item is what its block says, or plain without one, but stays earned, and stays one with its plans

@@ -1,5 +1,6 @@
 -- All items of a set, of which those that rest are not stepped: docs/INTERNALS.md, "Items at rest".
-use Rattle.std.specs.Prelude.{◌≡◌, ℕ, zero, suc, ◌<◌, ◌≤◌, Bool, true, false, if◌then◌else◌, Option, Some, List, [], ◌∷◌, ◌++◌, length, take, get_or, set, ◌+◌, slice_get, slice_index_or, slice_set}
+use Rattle.std.specs.Prelude.{◌≡◌, ℕ, zero, suc, ◌<◌, ◌≤◌, Bool, true, false, if◌then◌else◌, Option, Some, List, []}
+use Rattle.std.specs.Prelude.{◌∷◌, ◌++◌, length, take, get_or, set, ◌+◌, slice_get, slice_index_or, slice_set}
 use Rattle.std.specs.List.{flat_map}
 use Rattle.ra_indirect.specs.declared.node.Node.{Node}
 use Rattle.ra_memref.specs.Table.{TableSeen}
@@ -35,15 +36,20 @@ events_of items runs places = flat_map (events_at items runs) places
 abbrev pub AreItemsTold : List Node → List ItemContents → SignalsSeen → ℕ → Type 0
 AreItemsTold nodes items s k = (item : ItemContents) → IsToldOf nodes s.comparisons s.readers (get_or items k item) k
 
--- beside each item: it is told of what the item sees, and there is room for what the item keeps; where it is not due, it goes on to rest by these values
-pub record AreRests (nodes : List Node) (values : List ℕ) (items : List ItemContents) (runs : List ItemRun) (rests : Rests) : Type 0 where
+-- beside each item: it is told of what the item sees, and there is room for what the item keeps; where it is not due,
+-- it goes on to rest by these values
+pub record AreRests (nodes : List Node) (values : List ℕ) (items : List ItemContents)
+    (runs : List ItemRun) (rests : Rests) : Type 0 where
   pub many : length rests.each.items ≡ length items
   pub heard : IsHeard nodes values rests.schedule
   pub room : length rests.stepped.items ≡ length items
   pub few : rests.count ≤ length items
-  pub told_of : (k : ℕ) → k < length items → (item : ItemContents) → IsToldOf nodes rests.schedule.truths.comparisons rests.schedule.readers (get_or items k item) k
-  pub rooms : (k : ℕ) → k < length items → (item : ItemContents) (b : ItemCounts) → HasRoom (get_or items k item) (get_or rests.each.items k b)
-  pub at_rest : AreAtRest (λ k. (item : ItemContents) (b : ItemCounts) (run : ItemRun) → GoesOn nodes values (get_or items k item) (get_or rests.each.items k b) (get_or runs k run))
+  pub told_of : (k : ℕ) → k < length items → (item : ItemContents) → IsToldOf nodes
+      rests.schedule.truths.comparisons rests.schedule.readers (get_or items k item) k
+  pub rooms : (k : ℕ) → k < length items → (item : ItemContents) (b : ItemCounts)
+      → HasRoom (get_or items k item) (get_or rests.each.items k b)
+  pub at_rest : AreAtRest (λ k. (item : ItemContents) (b : ItemCounts) (run : ItemRun)
+      → GoesOn nodes values (get_or items k item) (get_or rests.each.items k b) (get_or runs k run))
       (length items) rests.schedule
 
 -- what the items are seen to keep
@@ -62,15 +68,18 @@ StepsTold table item old new run = StepsSeen table item old new (run_events item
 abbrev pub AreSteppedSeen : TableSeen → List ItemContents → (olds news : List KeptItem) → List ItemRun → Type 0
 AreSteppedSeen table items olds news runs = AllSteps (StepsTold table) items olds news runs
 
--- One frame of all items: each is one frame further and goes on to rest by the new values, and their events are those of the items that are listed.
-pub record StepsItems (table : TableSeen) (items : List ItemContents) (olds news : List ItemRun) (old new : Rests) : Type 0 where
+-- One frame of all items: each is one frame further and goes on to rest by the new values, and their events are those
+-- of the items that are listed.
+pub record StepsItems (table : TableSeen) (items : List ItemContents) (olds news : List ItemRun)
+    (old new : Rests) : Type 0 where
   pub runs : AreItemRuns table.nodes items news
   pub rests : AreRests table.nodes table.values items news new
   pub stepped : AreSteppedSeen table items (seen_by olds old) (seen_by news new) news
   pub told : AreTold items news new
 
 -- the rests before a frame: they were at rest by earlier values, and each node that has another one is listed
-pub record WereRests (table : TableSeen) (items : List ItemContents) (runs : List ItemRun) (rests : Rests) : Type 0 where
+pub record WereRests (table : TableSeen) (items : List ItemContents) (runs : List ItemRun)
+    (rests : Rests) : Type 0 where
   pub values : List ℕ
   pub are : AreRests table.nodes values items runs rests
   pub changed : AreChanged table values
@@ -86,10 +95,12 @@ pub record HasPlace (items : List ItemContents) (rests : Rests) (place : ℕ) : 
   pub due : length rests.schedule.readers.due ≡ length items
   pub room : length rests.stepped.items ≡ length items
   pub few : rests.count < length items
-  pub rooms : (item : ItemContents) (b : ItemCounts) → HasRoom (get_or items place item) (get_or rests.each.items place b)
+  pub rooms : (item : ItemContents) (b : ItemCounts)
+      → HasRoom (get_or items place item) (get_or rests.each.items place b)
 
 -- the item at a place is stepped, with what it owed, and listed where it may tell something; no other item changes
-pub record IsSteppedAt (table : TableSeen) (items : List ItemContents) (place : ℕ) (olds news : List ItemRun) (old new : Rests) : Type 0 where
+pub record IsSteppedAt (table : TableSeen) (items : List ItemContents) (place : ℕ)
+    (olds news : List ItemRun) (old new : Rests) : Type 0 where
   pub run : ItemRun
   pub before : ItemCounts
   pub rests : Bool
@@ -103,7 +114,8 @@ pub record IsSteppedAt (table : TableSeen) (items : List ItemContents) (place : 
   pub is : (item : ItemContents) → IsItemRun table.nodes (get_or items place item) run
   pub room : (item : ItemContents) → HasRoom (get_or items place item) before
   pub steps : (item : ItemContents) (r : ItemRun) (b : ItemCounts)
-      → StepsRest table (get_or items place item) (seen_run (get_or olds place r) (get_or old.each.items place b) (owed_at old.schedule place)) rests before run
+      → StepsRest table (get_or items place item) (seen_run (get_or olds place r)
+      (get_or old.each.items place b) (owed_at old.schedule place)) rests before run
 
 -- beside each run there is a bit for each of its hits
 abbrev pub AreFitting : List ItemRun → List ItemCounts → Type 0

@@ -40,7 +40,8 @@ board_run_events id format run =
     event_if started (events.Start id)
     ++ event_if (is_started run.change.after && (started || changed)) (events.Track id tracked format)
     ++ event_if (became_cancelled run.change.before run.change.after) (events.Cancel id)
-    ++ event_if (became_submitted run.change.before run.change.after) (events.Submit id (value_number (board_kept run)) format)
+    ++ event_if (became_submitted run.change.before run.change.after)
+    (events.Submit id (value_number (board_kept run)) format)
 
 -- the events of an achievement, which has none where it was earned before its last frame
 abbrev pub achievement_run_events : (id : ℕ) → AchievementRun → List Event

@@ -20,7 +20,8 @@ pub record IsNewAchievement (old new : List Node) (t : TriggerContents) (run : A
 abbrev pub earned_by : AchievementRun → Bool
 earned_by run = run.earned || is_triggered run.run.trigger.state
 
--- one frame of an achievement, and the record of it: it is silent where it was earned before the frame, and stays earned
+-- one frame of an achievement, and the record of it: it is silent where it was earned before the frame, and stays
+-- earned
 pub record StepsAchievement (table : TableSeen) (t : TriggerContents) (old new : AchievementRun) : Type 0 where
   pub trigger : StepsTrigger table t old.run new.run new.change
   pub earned : new.earned ≡ earned_by old

@@ -8,7 +8,8 @@ pub step_values-requires-clause-run : goal.step_values-requires-clause-run
 step_values-requires-clause-run c =
     elim c.if-begins.branch [
       | then-begins w ↦
-          rw w.member-is (w.reset_values.ensures.stays c.args.table.now.nodes (board_member (board_contents c.args.text.now)) c.requires.run)
+          rw w.member-is (w.reset_values.ensures.stays c.args.table.now.nodes
+          (board_member (board_contents c.args.text.now)) c.requires.run)
       | else-begins w ↦ rw w.member-is c.requires.run
     ]
 

@@ -16,7 +16,8 @@ loop-place-preserved c =
     let within_runs : p.place < length p.runs = omega arith in
     let placed : p.place < length earned = omega (arith, c.requires) in
     record {
-      done = earned_next earned p.place olds p.runs d within within_runs placed p.invariant.rest new _ refl c.earn_run.ensures ∙ p.invariant.done;
+      done = earned_next earned p.place olds p.runs d within within_runs placed p.invariant.rest new
+          _ refl c.earn_run.ensures ∙ p.invariant.done;
       rest = rest_more p.runs olds p.place d new within_runs within p.invariant.rest;
     }
 

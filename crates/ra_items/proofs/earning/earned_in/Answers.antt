@@ -18,4 +18,5 @@ pub returns-else-place-runs : goal.returns-else-place-runs
 returns-else-place-runs c =
     let runs = c.args.runs.now in
     let kept = map kept_run runs in
-    sym (get_or_past (map is_earned kept) c.args.place false (omega (arith, length-map kept is_earned, length-map runs kept_run)))
+    sym (get_or_past (map is_earned kept) c.args.place false
+    (omega (arith, length-map kept is_earned, length-map runs kept_run)))

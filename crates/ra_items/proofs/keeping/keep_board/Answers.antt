@@ -17,4 +17,7 @@ put_member_numbers-requires c =
 
 pub returns-clause-fits : goal.returns-clause-fits
 returns-clause-fits c =
-    board_fits c.args.run.now c.args.counts.now c.args.owed c.put_byte-next.new.row c.put_member_hits-next.new.row c.put_member_numbers.new.row c.put_byte-next.result c.put_member_hits-next.result c.put_member_numbers.result c.requires.fits c.put_member_hits-next.ensures c.put_member_numbers.ensures
+    board_fits c.args.run.now c.args.counts.now c.args.owed c.put_byte-next.new.row
+    c.put_member_hits-next.new.row c.put_member_numbers.new.row c.put_byte-next.result
+    c.put_member_hits-next.result c.put_member_numbers.result c.requires.fits
+    c.put_member_hits-next.ensures c.put_member_numbers.ensures

@@ -14,4 +14,5 @@ returns c =
     let two = c.in_ok-add_test-2.ensures (record none { tests = start ∷ [] }) one in
     let three = c.in_ok-add_test-3.ensures (record none { tests = start ∷ cancel ∷ [] }) two in
     let valued = c.in_ok-add_value.ensures (record none { tests = start ∷ cancel ∷ submit ∷ [] }) three in
-    c.in_ok-add_progress.ensures (record { tests = start ∷ cancel ∷ submit ∷ []; values = value_contents text.value ∷ [] }) valued
+    c.in_ok-add_progress.ensures (record
+    { tests = start ∷ cancel ∷ submit ∷ []; values = value_contents text.value ∷ [] }) valued

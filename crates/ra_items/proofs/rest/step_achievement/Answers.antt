@@ -1,4 +1,5 @@
-use Rattle.std.proofs.Common.{◌≡◌, ℕ, zero, suc, ◌==◌, ◌<◌, not, Bool, true, List, [], ◌∷◌, length, slice_index, slice_index_or, refl, sym, ◌∙◌, ap, arith}
+use Rattle.std.proofs.Common.{◌≡◌, ℕ, zero, suc, ◌==◌, ◌<◌, not, Bool, true, List, [], ◌∷◌, length, slice_index}
+use Rattle.std.proofs.Common.{slice_index_or, refl, sym, ◌∙◌, ap, arith}
 use Rattle.std.proofs.lemmas.List.FromFn.{length-map-range_with_len}
 use Rattle.ra_condition.specs.Contents.{TriggerContents, groups_of, trigger_contents, trigger_hits}
 use Rattle.ra_group.specs.declared.form.Form.TheVariants.{InTrigger}
@@ -32,19 +33,23 @@ returns-then-noted-clause-room c =
     let judged = c.judge_trigger.ensures in
     record {
       is = ap (λ v. v.items) judged.free ∙ c.requires.room.is;
-      many = ap length judged.bits ∙ length-counted _ _ ∙ c.step.ensures.run.hits ∙ sym (length-free InTrigger (groups_of t));
+      many = ap length judged.bits ∙ length-counted _ _ ∙ c.step.ensures.run.hits
+          ∙ sym (length-free InTrigger (groups_of t));
     }
 
 -- one row passes
 pass_one : (free : List Bool) (before after : List ℕ) → all_keep_by free before after ≡ true
-    → (k : ℕ) → k < 1 → all_keep_by (slice_index_or (free ∷ []) k []) (slice_index_or (before ∷ []) k []) (slice_index_or (after ∷ []) k []) ≡ true
+    → (k : ℕ) → k < 1 → all_keep_by (slice_index_or (free ∷ []) k [])
+    (slice_index_or (before ∷ []) k []) (slice_index_or (after ∷ []) k []) ≡ true
 pass_one free before after keep zero below = keep
 pass_one free before after keep (suc k) below = absurd (omega (arith, below))
 
 -- a trigger whose hits stayed, or are free and one more
-keeps : (t : TriggerContents) (before after : List ℕ) → length after ≡ trigger_hits t → all_keep_by (free_test t) before after ≡ true → groups_keep InTrigger (groups_of t) before after ≡ true
+keeps : (t : TriggerContents) (before after : List ℕ) → length after ≡ trigger_hits t → all_keep_by
+    (free_test t) before after ≡ true → groups_keep InTrigger (groups_of t) before after ≡ true
 keeps t before after long keep =
-    (tests_keep (t ∷ []) (free_test t ∷ []) (before ∷ []) (after ∷ []) refl refl (ap (λ n. n ∷ []) long) (pass_one (free_test t) before after keep)).0
+    (tests_keep (t ∷ []) (free_test t ∷ []) (before ∷ []) (after ∷ []) refl refl
+    (ap (λ n. n ∷ []) long) (pass_one (free_test t) before after keep)).0
 
 pub returns-then-noted-clause-rests : goal.returns-then-noted-clause-rests
 returns-then-noted-clause-rests c = λ rested.

@@ -14,9 +14,12 @@ returns-in-Some c =
     let block = c.board_block-block.ensures in
     let old = c.args.run.now in
     let new : BoardRun = record old { member = c.put_back-in-Some.new.self; board = c.put_back.new.self } in
-    let has : HasItem bytes (Some at) (board_run_shape old) = subst (λ (place : Option ℕ). HasItem bytes place (board_run_shape old)) c.in-Some.is c.requires in
+    let has : HasItem bytes (Some at) (board_run_shape old) = subst
+    (λ (place : Option ℕ). HasItem bytes place (board_run_shape old)) c.in-Some.is c.requires in
     subst (λ (place : Option ℕ). PutsBackBoard bytes place old new) (sym c.in-Some.is)
-    (board_back bytes at (at + 1 + 4 * c.shape.result.hits) old new has.1 (c.put_back.ensures ∙ c.of_byte.ensures ∙ ap board_state_of block.state) back.stays (omega (arith, c.shape.ensures.hits)) (rw block.hits at back.hits) (rw block.numbers at back.numbers))
+    (board_back bytes at (at + 1 + 4 * c.shape.result.hits) old new has.1 (c.put_back.ensures
+    ∙ c.of_byte.ensures ∙ ap board_state_of block.state) back.stays (omega
+    (arith, c.shape.ensures.hits)) (rw block.hits at back.hits) (rw block.numbers at back.numbers))
 
 pub returns-in-None : goal.returns-in-None
 returns-in-None c =

@@ -9,4 +9,6 @@ pub returns-in-Leaderboard : goal.returns-in-Leaderboard
 returns-in-Leaderboard c =
     let old = c.in-Leaderboard.run' in
     let new = c.put_back_board.new.run in
-    subst (λ (run : ItemRun). PutsBackItem c.args.bytes.now c.args.place run (Leaderboard new)) (sym c.in-Leaderboard.is) (leaderboard_back c.args.bytes.now c.args.place old new c.put_back_board.ensures)
+    subst (λ (run : ItemRun). PutsBackItem c.args.bytes.now c.args.place run (Leaderboard new))
+    (sym c.in-Leaderboard.is)
+    (leaderboard_back c.args.bytes.now c.args.place old new c.put_back_board.ensures)

@@ -13,9 +13,11 @@ loop-item-preserved c =
     let k = c.loop-item.item-index in
     let item = c.item-item.result in
     rw (taken_next item_contents items k item c.loop-item-test.true c.item-item.is, c.in_ok-push.ensures.items)
-    (rooms_more (map item_contents (take k items)) c.loop-item.counts.items (item_contents item) c.in_ok-own.own c.loop-item.invariant c.in_ok-own.ensures)
+    (rooms_more (map item_contents (take k items)) c.loop-item.counts.items
+    (item_contents item) c.in_ok-own.own c.loop-item.invariant c.in_ok-own.ensures)
 
 pub returns : goal.returns
 returns c =
     let items = c.args.items.now in
-    subst (λ (is : List Item). HaveRooms (map item_contents is) c.loop-item.counts.items) (take_all c.loop-item.item-index items (omega (arith, c.loop-item-test.false))) c.loop-item.invariant
+    subst (λ (is : List Item). HaveRooms (map item_contents is) c.loop-item.counts.items) (take_all
+    c.loop-item.item-index items (omega (arith, c.loop-item-test.false))) c.loop-item.invariant

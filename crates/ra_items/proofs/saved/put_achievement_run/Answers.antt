@@ -10,6 +10,7 @@ pub returns-clause-fits : goal.returns-clause-fits
 returns-clause-fits c =
     let run = c.args.run.now in
     let measured : run.run.trigger.measured < 2 ^ 32 = omega arith in
-    let kept : TriggerKept = record { state = run.run.trigger.state; measured = run.run.trigger.measured; hits = c.args.hits.now } in
+    let kept : TriggerKept =
+    record { state = run.run.trigger.state; measured = run.run.trigger.measured; hits = c.args.hits.now } in
     subst (λ (n : ℕ). ItemFits (shapes.Achievement n) (kept_achievement run.earned kept)) c.requires.many
     (achievement_kept_fits run.earned kept measured c.in_ok-put_achievement.ensures.hits)

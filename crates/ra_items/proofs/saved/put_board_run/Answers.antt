@@ -7,4 +7,5 @@ pub returns-clause-fits : goal.returns-clause-fits
 returns-clause-fits c =
     let hits = c.args.hits.now in
     let numbers = c.args.numbers.now in
-    board_kept_fits c.args.run.now hits numbers c.requires.hits (ap length c.requires.numbers) (all_fit hits c.type_inv.hits) (all_fit numbers c.type_inv.numbers)
+    board_kept_fits c.args.run.now hits numbers c.requires.hits (ap length c.requires.numbers)
+    (all_fit hits c.type_inv.hits) (all_fit numbers c.type_inv.numbers)

@@ -8,6 +8,7 @@ use Rattle.ra_items.proofs.saved.put_runs.Given as goal
 -- the items so far with their names and lengths
 abbrev pub invariant-loop-k : goal.invariant-loop-k
 invariant-loop-k l = record {
-  bytes : l.bytes.items ≡ l.initial.bytes.items ++ named_blocks (take l.k l.names) (take l.k (map item_bytes (seen_by l.runs l.rests)));
+  bytes : l.bytes.items ≡ l.initial.bytes.items
+      ++ named_blocks (take l.k l.names) (take l.k (map item_bytes (seen_by l.runs l.rests)));
   fit : ItemsFit (map run_shape (take l.k l.runs)) (take l.k (seen_by l.runs l.rests));
 }

@@ -7,7 +7,8 @@ use Rattle.ra_items.proofs.events.EventsIterator.next.Given as goal
 
 abbrev pub invariant-loop-event : goal.invariant-loop-event
 invariant-loop-event l = record {
-  left : l.fn.self ≡ option_to_list l.event ++ (told_events l.self-inside.told ++ events_of (map item_contents l.self-inside.items.now) l.self-inside.runs.now l.self-inside.places.now);
+  left : l.fn.self ≡ option_to_list l.event ++ (told_events l.self-inside.told ++ events_of
+      (map item_contents l.self-inside.items.now) l.self-inside.runs.now l.self-inside.places.now);
   none : IfNone l.event (told_events l.self-inside.told ≡ []);
 }
 

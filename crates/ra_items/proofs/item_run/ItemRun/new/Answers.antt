@@ -8,7 +8,8 @@ pub returns-in_ok-run-in-Leaderboard : goal.returns-in_ok-run-in-Leaderboard
 returns-in_ok-run-in-Leaderboard c =
     let item = c.in-Leaderboard in
     let run = c.in_ok-run-in-Leaderboard in
-    rw item.is (leaderboard_made c.args.pool.now c.new-in-Leaderboard.new.pool item.id item.format (board_contents item.text) run.run' run.ensures)
+    rw item.is (leaderboard_made c.args.pool.now c.new-in-Leaderboard.new.pool item.id item.format
+    (board_contents item.text) run.run' run.ensures)
 
 pub new-requires-in-Leaderboard-clause-room : goal.new-requires-in-Leaderboard-clause-room
 new-requires-in-Leaderboard-clause-room c =

@@ -9,4 +9,6 @@ returns-clause-each c = λ nodes values later items before runs are.
 
 pub returns-clause-kept : goal.returns-clause-kept
 returns-clause-kept c = λ runs long.
-    awake_kept runs c.args.self.now.each.items c.forget.new.self c.args.self.now.schedule.readers (forgotten c.args.self.now.schedule.truths) c.args.self.now.schedule.clock c.forget.ensures (sym long)
+    awake_kept runs c.args.self.now.each.items c.forget.new.self c.args.self.now.schedule.readers
+    (forgotten c.args.self.now.schedule.truths) c.args.self.now.schedule.clock c.forget.ensures
+    (sym long)

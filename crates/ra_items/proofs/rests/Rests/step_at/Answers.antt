@@ -25,7 +25,8 @@ pay_owed-requires c =
     let within : place < length contents = omega (arith, c.requires.here, length-map c.args.items.now item_contents) in
     let an_item = element contents place within in
     subst (λ (e : ItemCounts). FitsRun e (get_or runs place run)) (sym c.index_mut-counts.ensures.value)
-    (one_shape nodes (get_or contents place an_item) (get_or c.args.self.now.each.items place had) (get_or runs place run)
+    (one_shape nodes (get_or contents place an_item) (get_or c.args.self.now.each.items place had)
+    (get_or runs place run)
     (run_at nodes contents runs c.requires.runs place an_item run within) (c.requires.place.rooms an_item had))
 
 pub step_rest-rests-requires-clause-run : goal.step_rest-rests-requires-clause-run
@@ -33,15 +34,19 @@ step_rest-rests-requires-clause-run c =
     let item = c.index-items-place.result in
     let nodes = c.args.table.now.nodes in
     c.pay_owed.ensures.run nodes (item_contents item)
-    (own_run nodes c.args.items.now c.args.runs.now c.args.place item c.index-runs-place.result c.requires.here c.index-items-place.is c.requires.runs)
+    (own_run nodes c.args.items.now c.args.runs.now c.args.place item c.index-runs-place.result
+    c.requires.here c.index-items-place.is c.requires.runs)
 
 pub step_rest-rests-requires-clause-room : goal.step_rest-rests-requires-clause-room
 step_rest-rests-requires-clause-room c =
     let items = c.args.items.now in
     let item = c.index-items-place.result in
     let had = c.index_mut-counts.result.now in
-    subst (λ (i : ItemContents). HasRoom i had) (contents_at items c.args.place item (item_contents item) c.requires.here c.index-items-place.is)
-    (subst (λ (b : ItemCounts). HasRoom (get_or (map item_contents items) c.args.place (item_contents item)) b) (sym c.index_mut-counts.ensures.value) (c.requires.place.rooms (item_contents item) had))
+    subst (λ (i : ItemContents). HasRoom i had) (contents_at items c.args.place item
+    (item_contents item) c.requires.here c.index-items-place.is)
+    (subst (λ (b : ItemCounts). HasRoom (get_or (map item_contents items) c.args.place
+    (item_contents item)) b) (sym c.index_mut-counts.ensures.value)
+    (c.requires.place.rooms (item_contents item) had))
 
 pub returns : goal.returns
 returns c =
@@ -55,14 +60,20 @@ returns c =
     let was = get_or runs place run in
     let stepped = c.step_rest-rests in
     let had = c.index_mut-counts.result.now in
-    let within_runs : place < length runs = omega (arith, c.requires.here, length_runs table.nodes contents runs c.requires.runs, length-map items item_contents) in
-    let within_each : place < length c.args.self.now.each.items = omega (arith, c.requires.here, c.requires.place.many, length-map items item_contents) in
-    stepped_at table items place runs _ c.args.self.now _ item was stepped.new.run had stepped.new.counts c.owed-owed.result stepped.result c.may_tell.result
-    c.requires.here c.index-items-place.is within_runs within_each (get_or_default runs place run was within_runs) c.index_mut-counts.ensures.value c.owed-owed.ensures
-    refl refl c.note.ensures refl (ap (λ n. c.args.self.now.count + n) (c.from.ensures ∙ counted c.may_tell.result)) c.may_tell.ensures stepped.ensures.run stepped.ensures.room
+    let within_runs : place < length runs =
+    omega (arith, c.requires.here, length_runs table.nodes contents runs c.requires.runs, length-map items item_contents) in
+    let within_each : place < length c.args.self.now.each.items =
+    omega (arith, c.requires.here, c.requires.place.many, length-map items item_contents) in
+    stepped_at table items place runs _ c.args.self.now _ item was stepped.new.run had
+    stepped.new.counts c.owed-owed.result stepped.result c.may_tell.result
+    c.requires.here c.index-items-place.is within_runs within_each (get_or_default runs place run
+    was within_runs) c.index_mut-counts.ensures.value c.owed-owed.ensures
+    refl refl c.note.ensures refl (ap (λ n. c.args.self.now.count + n) (c.from.ensures
+    ∙ counted c.may_tell.result)) c.may_tell.ensures stepped.ensures.run stepped.ensures.room
     (record {
       mid = c.pay_owed.new.run;
-      is = c.pay_owed.ensures.run table.nodes (item_contents item) (own_run table.nodes items runs place item run c.requires.here c.index-items-place.is c.requires.runs);
+      is = c.pay_owed.ensures.run table.nodes (item_contents item) (own_run table.nodes items runs
+          place item run c.requires.here c.index-items-place.is c.requires.runs);
       kept = c.pay_owed.ensures.kept;
       rested = stepped.ensures.rests;
       steps = stepped.ensures.steps;
