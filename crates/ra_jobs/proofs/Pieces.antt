@@ -1,5 +1,6 @@
 -- A text that is written piece by piece.
-use Rattle.std.proofs.Common.{arith, ◌≡◌, ◌≤◌, ap, sym, refl, ◌∙◌, ℕ, ◌+◌, List, [], ◌++◌, length, take, drop, take-add, append_assoc, append-nil, Option, Some, None}
+use Rattle.std.proofs.Common.{arith, ◌≡◌, ◌≤◌, ap, sym, refl, ◌∙◌, ℕ, ◌+◌, List, [], ◌++◌, length, take, drop, take-add}
+use Rattle.std.proofs.Common.{append_assoc, append-nil, Option, Some, None}
 use Rattle.std.proofs.lemmas.List.{take_all, drop-drop, length-drop}
 use Rattle.ra_io.specs.Sink.{grown}
 
@@ -18,7 +19,9 @@ pub grown-nil : (o : Option (List ℕ)) → grown o [] ≡ o
 grown-nil None = refl
 grown-nil (Some text) = ap Some (append-nil text)
 
-pub more_written : (first old now : Option (List ℕ)) (bytes rest : List ℕ) (n : ℕ) → Written first old bytes rest → n ≤ length rest → now ≡ grown old (take n rest) → Written first now bytes (drop n rest)
+pub more_written : (first old now : Option (List ℕ)) (bytes rest : List ℕ) (n : ℕ)
+    → Written first old bytes rest → n ≤ length rest → now ≡ grown old (take n rest)
+    → Written first now bytes (drop n rest)
 more_written first old now bytes rest n w fits is = record {
   len = w.len + n;
   within = omega (arith, ap length w.left, length-drop w.len bytes, w.within);

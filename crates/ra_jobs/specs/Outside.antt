@@ -15,8 +15,10 @@ pub record Outside : Type 0 where
   pub faults : ℕ
 
 -- what files and a sink show
-abbrev pub outside_of : (content : List ℕ → Option (List ℕ)) → (read_faults put_faults : List ℕ → ℕ) → (text : Option (List ℕ)) → (faults : ℕ) → Outside
-outside_of content read_faults put_faults text faults = record { content = content; read_faults = read_faults; put_faults = put_faults; text = text; faults = faults }
+abbrev pub outside_of : (content : List ℕ → Option (List ℕ)) → (read_faults put_faults : List ℕ → ℕ)
+    → (text : Option (List ℕ)) → (faults : ℕ) → Outside
+outside_of content read_faults put_faults text faults =
+    record { content = content; read_faults = read_faults; put_faults = put_faults; text = text; faults = faults }
 
 -- a count of one of these names rose
 abbrev pub AnyRose : (before now : List ℕ → ℕ) → List (List ℕ) → Type 0

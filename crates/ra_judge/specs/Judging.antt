@@ -1,5 +1,6 @@
 -- Whether a set with one item alone is accepted: docs/DEFINITIONS.md, "Calls from C".
-use Rattle.std.specs.Prelude.{◌≡◌, ◌⊎◌, ℕ, ◌+◌, ◌-◌, ◌<◌, ◌==◌, ◌||◌, if◌then◌else◌, Option, None, Some, List, [], ◌∷◌, ◌++◌, length, codes}
+use Rattle.std.specs.Prelude.{◌≡◌, ◌⊎◌, ℕ, ◌+◌, ◌-◌, ◌<◌, ◌==◌, ◌||◌, if◌then◌else◌, Option, None, Some, List, [], ◌∷◌}
+use Rattle.std.specs.Prelude.{◌++◌, length, codes}
 use Rattle.ra_set.specs.Accepted.{IsSet}
 use Rattle.ra_set.specs.Contents.{SetContents}
 use Rattle.ra_set.specs.Limits.{most_bytes}
@@ -13,7 +14,8 @@ use Rattle.ra_judge.specs.declared.refusal.Refusal.{Refusal}
 
 -- the kind of a number, where it is one
 abbrev pub kind_of : ℕ → Option Kind
-kind_of n = if n == 1 then Some Achievement else (if n == 2 then Some Leaderboard else (if n == 3 then Some Presence else None))
+kind_of n = if n == 1 then Some Achievement
+    else (if n == 2 then Some Leaderboard else (if n == 3 then Some Presence else None))
 
 -- what stands before the text of an item in a set file
 abbrev pub head_of : Kind → List ℕ

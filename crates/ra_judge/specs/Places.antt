@@ -9,7 +9,8 @@ first_place = record { line = 1; column = 1 }
 -- the place after a byte: a line feed ends the line
 abbrev pub place_behind : ℕ → Place → Place
 place_behind byte place =
-    if byte == 10 then record { line = place.line + 1; column = 1 } else record { line = place.line; column = place.column + 1 }
+    if byte == 10 then record { line = place.line + 1; column = 1 }
+    else record { line = place.line; column = place.column + 1 }
 
 -- the place after some bytes
 abbrev pub place_after : List ℕ → Place → Place

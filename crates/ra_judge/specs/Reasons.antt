@@ -11,17 +11,20 @@ use Rattle.ra_patch.specs.declared.document_refused.DocumentRefused.TheVariants 
 use Rattle.ra_patch.specs.declared.document_refused.RootField.{RootField}
 use Rattle.ra_patch.specs.declared.document_refused.RootField.TheVariants.{PatchData, Sets, Achievements, Leaderboards}
 use Rattle.ra_progress.specs.declared.refused.ProgressRefused.{ProgressRefused}
-use Rattle.ra_progress.specs.declared.refused.ProgressRefused.TheVariants.{WrongLength, WrongMark, WrongVersion, WrongSum, OtherSet, BadEntry, BadState}
+use Rattle.ra_progress.specs.declared.refused.ProgressRefused.TheVariants.{WrongLength, WrongMark, WrongVersion}
+use Rattle.ra_progress.specs.declared.refused.ProgressRefused.TheVariants.{WrongSum, OtherSet, BadEntry, BadState}
 use Rattle.ra_judge.specs.Places.{place_in}
 use Rattle.ra_judge.specs.declared.refusal.Refusal.{Refusal}
 
 -- a reason of this kind, with its numbers, which is at no line
 abbrev pub reason_of : (kind id at found wanted : ℕ) → Refusal
-reason_of kind id at found wanted = record { kind = kind; id = id; at = at; found = found; wanted = wanted; line = 0; column = 0 }
+reason_of kind id at found wanted =
+    record { kind = kind; id = id; at = at; found = found; wanted = wanted; line = 0; column = 0 }
 
 -- a text is outside its grammar, with the first bad place and its line and column
 abbrev pub syntax_reason : List ℕ → ℕ → Refusal
-syntax_reason text at = record (reason_of 1 0 at 0 0) { line = (place_in text at).line; column = (place_in text at).column }
+syntax_reason text at = record
+    (reason_of 1 0 at 0 0) { line = (place_in text at).line; column = (place_in text at).column }
 
 -- the kind of a passed limit
 abbrev pub kind_of_limit : Which → ℕ

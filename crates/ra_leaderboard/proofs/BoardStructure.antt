@@ -1,5 +1,6 @@
 -- What texts spell boards: their structure, and a text for each board that has it.
-use Rattle.std.proofs.Common.{ℕ, true, List, [], ◌∷◌, ◌++◌, map, Option, Some, None, IfSome, refl, sym, subst, append-nil, codes}
+use Rattle.std.proofs.Common.{ℕ, true, List, [], ◌∷◌, ◌++◌, map, Option, Some, None, IfSome, refl, sym, subst}
+use Rattle.std.proofs.Common.{append-nil, codes}
 use Rattle.std.specs.List.{filter_map, cons_option, flat_map, AllByRecursion}
 use Rattle.ra_condition.specs.Contents.{TriggerContents, PartContents}
 use Rattle.ra_condition.specs.Canonical.{trigger_text, value_text}
@@ -11,7 +12,8 @@ use Rattle.ra_condition.proofs.Structure.{trigger-structure, value-structure}
 use Rattle.ra_leaderboard.specs.declared.tag.Tag.{Tag}
 use Rattle.ra_leaderboard.specs.declared.tag.Tag.TheVariants.{Start, Cancel, Submit, Value, Progress}
 use Rattle.ra_leaderboard.specs.Contents.{BoardContents}
-use Rattle.ra_leaderboard.specs.Fields.{FieldContents, OfStart, OfCancel, OfSubmit, OfValue, OfProgress, start_in, cancel_in, submit_in, value_in, progress_in}
+use Rattle.ra_leaderboard.specs.Fields.{FieldContents, OfStart, OfCancel, OfSubmit, OfValue, OfProgress, start_in}
+use Rattle.ra_leaderboard.specs.Fields.{cancel_in, submit_in, value_in, progress_in}
 use Rattle.ra_leaderboard.specs.Grammar.{in_either_case, held, field, next_field, fields, at_most_one, Arranged, board}
 use Rattle.ra_leaderboard.specs.Spelled.{IsBoard}
 use Rattle.ra_leaderboard.specs.Tags.{word_of}
@@ -46,12 +48,16 @@ fields-structure text fs h = subst (AllByRecursion IsField) (sym h.of_next.of_ne
     (field-structure h.front h.v h.of_first, chain-each {S = Unit {0}} (λ s. only (codes ":")) (λ s colon. next_field) (λ s f. s) (λ s. true) IsField (λ s tag t f item. field-structure item.behind f item.of_next) tt h.of_next.front h.of_next.v h.of_next.of_first)
 
 -- what holds of each field holds of what one kind of them holds
-picked : {X : Type 0} (P : X → Type 0) (pick : FieldContents → Option X) → ((f : FieldContents) → IsField f → AllByRecursion P (at_most_one (pick f))) → (fs : List FieldContents) → AllByRecursion IsField fs → AllByRecursion P (filter_map pick fs)
+picked : {X : Type 0} (P : X → Type 0) (pick : FieldContents → Option X)
+    → ((f : FieldContents) → IsField f → AllByRecursion P (at_most_one (pick f)))
+    → (fs : List FieldContents) → AllByRecursion IsField fs → AllByRecursion P (filter_map pick fs)
 picked P pick holds [] each = tt
-picked {X} P pick holds (f ∷ fs) each = cases (pick f) (holds f each.0) (filter_map pick fs) (picked P pick holds fs each.1) where
-  cases : (o : Option X) → AllByRecursion P (at_most_one o) → (xs : List X) → AllByRecursion P xs → AllByRecursion P (cons_option o xs)
-  cases (Some x) here xs more = (here.0, more)
-  cases None here xs more = more
+picked {X} P pick holds (f ∷ fs) each =
+    cases (pick f) (holds f each.0) (filter_map pick fs) (picked P pick holds fs each.1) where
+      cases : (o : Option X) → AllByRecursion P (at_most_one o) → (xs : List X) → AllByRecursion P xs
+          → AllByRecursion P (cons_option o xs)
+      cases (Some x) here xs more = (here.0, more)
+      cases None here xs more = more
 
 start-holds : (f : FieldContents) → IsField f → AllByRecursion IsTrigger (at_most_one (start_in f))
 start-holds (OfStart t) h = (h, tt)
@@ -101,7 +107,8 @@ board-structure text b h =
       cancel = (subst (AllByRecursion IsTrigger) h.of_next.cancel (picked IsTrigger cancel_in cancel-holds h.v each)).0;
       submit = (subst (AllByRecursion IsTrigger) h.of_next.submit (picked IsTrigger submit_in submit-holds h.v each)).0;
       value = (subst (AllByRecursion IsValue) h.of_next.value (picked IsValue value_in value-holds h.v each)).0;
-      progress = optional-holds b.progress (subst (AllByRecursion IsValue) h.of_next.progress (picked IsValue progress_in progress-holds h.v each));
+      progress = optional-holds b.progress (subst (AllByRecursion IsValue) h.of_next.progress
+          (picked IsValue progress_in progress-holds h.v each));
     }
 
 -- ---- a text for each board
@@ -127,28 +134,36 @@ tagged t text f h = record {
   v = t;
   parts = refl;
   of_first = upper-spelled (word_of t);
-  of_next = record { front = 58 ∷ []; behind = text; v = tt; parts = refl; of_first = record { symbol = 58; alone = refl; listed = refl }; of_next = h };
+  of_next =
+      record { front = 58 ∷ []; behind = text; v = tt; parts = refl; of_first = record { symbol = 58; alone = refl; listed = refl }; of_next = h };
 }
 
 field-spelled : (f : FieldContents) → IsField f → field (field_text f) f
-field-spelled (OfStart t) h = tagged Start (trigger_text t) (OfStart t) (changed trigger (λ t. OfStart t) (trigger_text t) t (trigger-spelled t h))
-field-spelled (OfCancel t) h = tagged Cancel (trigger_text t) (OfCancel t) (changed trigger (λ t. OfCancel t) (trigger_text t) t (trigger-spelled t h))
-field-spelled (OfSubmit t) h = tagged Submit (trigger_text t) (OfSubmit t) (changed trigger (λ t. OfSubmit t) (trigger_text t) t (trigger-spelled t h))
-field-spelled (OfValue v) h = tagged Value (value_text v) (OfValue v) (changed value (λ v. OfValue v) (value_text v) v (value-spelled v h))
-field-spelled (OfProgress v) h = tagged Progress (value_text v) (OfProgress v) (changed value (λ v. OfProgress v) (value_text v) v (value-spelled v h))
+field-spelled (OfStart t) h = tagged Start (trigger_text t) (OfStart t)
+    (changed trigger (λ t. OfStart t) (trigger_text t) t (trigger-spelled t h))
+field-spelled (OfCancel t) h = tagged Cancel (trigger_text t) (OfCancel t)
+    (changed trigger (λ t. OfCancel t) (trigger_text t) t (trigger-spelled t h))
+field-spelled (OfSubmit t) h = tagged Submit (trigger_text t) (OfSubmit t)
+    (changed trigger (λ t. OfSubmit t) (trigger_text t) t (trigger-spelled t h))
+field-spelled (OfValue v) h = tagged Value (value_text v) (OfValue v)
+    (changed value (λ v. OfValue v) (value_text v) v (value-spelled v h))
+field-spelled (OfProgress v) h = tagged Progress (value_text v) (OfProgress v)
+    (changed value (λ v. OfProgress v) (value_text v) v (value-spelled v h))
 
 -- the second colon, and a field
 abbrev next_text : FieldContents → List ℕ
 next_text f = 58 ∷ field_text f
 
 next-spelled : (f : FieldContents) → IsField f → next_field (next_text f) f
-next-spelled f h = record { front = 58 ∷ []; behind = field_text f; v = tt; parts = refl; of_first = record { symbol = 58; alone = refl; listed = refl }; of_next = field-spelled f h }
+next-spelled f h =
+    record { front = 58 ∷ []; behind = field_text f; v = tt; parts = refl; of_first = record { symbol = 58; alone = refl; listed = refl }; of_next = field-spelled f h }
 
 -- fields with two colons between them
 abbrev fields_text : FieldContents → List FieldContents → List ℕ
 fields_text first others = field_text first ++ flat_map (λ f. 58 ∷ next_text f) others
 
-fields-spelled : (first : FieldContents) (others : List FieldContents) → IsField first → AllByRecursion IsField others → fields (fields_text first others) (first ∷ others)
+fields-spelled : (first : FieldContents) (others : List FieldContents) → IsField first
+    → AllByRecursion IsField others → fields (fields_text first others) (first ∷ others)
 fields-spelled first others h each = record {
   front = field_text first;
   behind = flat_map (λ f. 58 ∷ next_text f) others;
@@ -160,17 +175,20 @@ fields-spelled first others h each = record {
     behind = [];
     v = others;
     parts = sym (append-nil (flat_map (λ f. 58 ∷ next_text f) others));
-    of_first = chain-spelled {S = Unit {0}} (λ s. only (codes ":")) (λ s colon. next_field) (λ s f. s) (λ s. true) 58 tt next_text (λ s. refl) tt others (each-next others each) refl;
+    of_first = chain-spelled {S = Unit {0}} (λ s. only (codes ":")) (λ s colon. next_field)
+        (λ s f. s) (λ s. true) 58 tt next_text (λ s. refl) tt others (each-next others each) refl;
     of_next = record { empty = refl; is = refl };
   };
 } where
-  each-next : (fs : List FieldContents) → AllByRecursion IsField fs → AllByRecursion (λ f. (s : Unit {0}) → next_field (next_text f) f) fs
+  each-next : (fs : List FieldContents) → AllByRecursion IsField fs
+      → AllByRecursion (λ f. (s : Unit {0}) → next_field (next_text f) f) fs
   each-next [] all = tt
   each-next (f ∷ fs) all = (λ s. next-spelled f all.0, each-next fs all.1)
 
 -- the fields of a board behind the first, in the order of their tags
 abbrev other_fields : BoardContents → List FieldContents
-other_fields b = OfCancel b.cancel ∷ OfSubmit b.submit ∷ OfValue b.value ∷ map (λ v. OfProgress v) (at_most_one b.progress)
+other_fields b = OfCancel b.cancel ∷ OfSubmit b.submit ∷ OfValue b.value
+    ∷ map (λ v. OfProgress v) (at_most_one b.progress)
 
 -- a text of the board
 abbrev pub board_text : BoardContents → List ℕ
@@ -183,14 +201,20 @@ board-spelled b h = record {
   behind = [];
   v = OfStart b.start ∷ other_fields b;
   parts = sym (append-nil (board_text b));
-  of_first = fields-spelled (OfStart b.start) (other_fields b) h.start (h.cancel, (h.submit, (h.value, progress-fields b.progress h.progress)));
+  of_first = fields-spelled (OfStart b.start) (other_fields b) h.start
+      (h.cancel, (h.submit, (h.value, progress-fields b.progress h.progress)));
   of_next = arranged b.start b.cancel b.submit b.value b.progress;
 } where
-  progress-fields : (o : Option (List PartContents)) → IfSome o IsValue → AllByRecursion IsField (map (λ v. OfProgress v) (at_most_one o))
+  progress-fields : (o : Option (List PartContents)) → IfSome o IsValue
+      → AllByRecursion IsField (map (λ v. OfProgress v) (at_most_one o))
   progress-fields (Some v) h = (h, tt)
   progress-fields None h = tt
 
   arranged : (start cancel submit : TriggerContents) (v : List PartContents) (progress : Option (List PartContents))
-      → Arranged (OfStart start ∷ OfCancel cancel ∷ OfSubmit submit ∷ OfValue v ∷ map (λ v. OfProgress v) (at_most_one progress)) [] (record { start = start; cancel = cancel; submit = submit; value = v; progress = progress })
-  arranged start cancel submit v (Some progress) = record { empty = refl; start = refl; cancel = refl; submit = refl; value = refl; progress = refl }
-  arranged start cancel submit v None = record { empty = refl; start = refl; cancel = refl; submit = refl; value = refl; progress = refl }
+      → Arranged (OfStart start ∷ OfCancel cancel ∷ OfSubmit submit ∷ OfValue v
+      ∷ map (λ v. OfProgress v) (at_most_one progress)) []
+      (record { start = start; cancel = cancel; submit = submit; value = v; progress = progress })
+  arranged start cancel submit v (Some progress) = record
+      { empty = refl; start = refl; cancel = refl; submit = refl; value = refl; progress = refl }
+  arranged start cancel submit v None = record
+      { empty = refl; start = refl; cancel = refl; submit = refl; value = refl; progress = refl }

@@ -6,7 +6,8 @@ use Rattle.ra_condition.specs.Values.{value}
 use Rattle.ra_leaderboard.specs.declared.tag.Tag.{Tag}
 use Rattle.ra_leaderboard.specs.declared.tag.Tag.TheVariants.{Start, Cancel, Submit, Value, Progress}
 use Rattle.ra_leaderboard.specs.Contents.{BoardContents}
-use Rattle.ra_leaderboard.specs.Fields.{FieldContents, OfStart, OfCancel, OfSubmit, OfValue, OfProgress, start_in, cancel_in, submit_in, value_in, progress_in}
+use Rattle.ra_leaderboard.specs.Fields.{FieldContents, OfStart, OfCancel, OfSubmit, OfValue, OfProgress, start_in}
+use Rattle.ra_leaderboard.specs.Fields.{cancel_in, submit_in, value_in, progress_in}
 use Rattle.ra_leaderboard.specs.Tags.{word_of}
 use Rattle.ra_text.specs.Chain.{Chain}
 use Rattle.ra_text.specs.Form.{Form, Spell, One, ◌>>=◌}
@@ -56,7 +57,8 @@ abbrev pub at_most_one : {V : Type 0} → Option V → List V
 at_most_one (Some v) = v ∷ []
 at_most_one None = []
 
--- the text ends, and the fields are those of the board in some order, the first four tags once each and PRO at most once
+-- the text ends, and the fields are those of the board in some order, the first four tags once each and PRO at most
+-- once
 pub record Arranged (in_order : List FieldContents) (text : List ℕ) (b : BoardContents) : Type 0 where
   pub empty : text ≡ []
   pub start : filter_map start_in in_order ≡ b.start ∷ []

@@ -1,5 +1,6 @@
 -- Reading boards from left to right: the step between the code and docs/DEFINITIONS.md, "Boards".
-use Rattle.std.specs.Prelude.{ℕ, Bool, ◌&&◌, ◌==◌, if◌then◌else◌, List, [], ◌∷◌, length, Option, Some, None, is_some, is_none, unwrap_or, Ok, codes}
+use Rattle.std.specs.Prelude.{ℕ, Bool, ◌&&◌, ◌==◌, if◌then◌else◌, List, [], ◌∷◌, length, Option, Some, None, is_some}
+use Rattle.std.specs.Prelude.{is_none, unwrap_or, Ok, codes}
 use Rattle.ra_condition.specs.Contents.{TriggerContents, PartContents}
 use Rattle.ra_condition.specs.Reading.{trigger_at}
 use Rattle.ra_condition.specs.ReadingValues.{value_at}

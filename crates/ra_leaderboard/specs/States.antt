@@ -14,7 +14,8 @@ board_byte Submitted = 4
 -- the state of a byte from 0 to 4
 abbrev pub board_state_of : ℕ → BoardState
 board_state_of byte =
-    if byte == 0 then Waiting else if byte == 1 then Active else if byte == 2 then Started else if byte == 3 then Cancelled else Submitted
+    if byte == 0 then Waiting else if byte == 1 then Active else if byte == 2 then Started
+    else if byte == 3 then Cancelled else Submitted
 
 -- the state after a frame, by the truths of start, cancel and submit
 abbrev pub state_after : BoardState → (start cancel submit : Bool) → BoardState

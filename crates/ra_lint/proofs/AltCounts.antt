@@ -1,5 +1,6 @@
 -- A text spells no more alt groups than it has bytes.
-use Rattle.std.proofs.Common.{◌≡◌, ℕ, ◌+◌, ◌≤◌, Bool, true, List, [], ◌∷◌, ◌++◌, length, Option, option_to_list, refl, ap, arith, codes, length-append, inl, inr}
+use Rattle.std.proofs.Common.{◌≡◌, ℕ, ◌+◌, ◌≤◌, Bool, true, List, [], ◌∷◌, ◌++◌, length, Option, option_to_list, refl}
+use Rattle.std.proofs.Common.{ap, arith, codes, length-append, inl, inr}
 use Rattle.std.specs.List.{sum_by, filter_map}
 use Rattle.std.proofs.lemmas.List.Sums.{sum_by-cons, sum_by-append}
 use Rattle.ra_condition.specs.Contents.{TriggerContents}
@@ -7,7 +8,8 @@ use Rattle.ra_condition.specs.Grammar.{group, trigger, trigger_of}
 use Rattle.ra_leaderboard.specs.declared.tag.Tag.{Tag}
 use Rattle.ra_leaderboard.specs.declared.tag.Tag.TheVariants.{Start, Cancel, Submit, Value, Progress}
 use Rattle.ra_leaderboard.specs.Contents.{BoardContents}
-use Rattle.ra_leaderboard.specs.Fields.{FieldContents, OfStart, OfCancel, OfSubmit, OfValue, OfProgress, start_in, cancel_in, submit_in}
+use Rattle.ra_leaderboard.specs.Fields.{FieldContents, OfStart, OfCancel, OfSubmit, OfValue, OfProgress, start_in}
+use Rattle.ra_leaderboard.specs.Fields.{cancel_in, submit_in}
 use Rattle.ra_leaderboard.specs.Grammar.{held, field, next_field, board}
 use Rattle.ra_set.specs.Accepted.{IsSet}
 use Rattle.ra_set.specs.Contents.{Unlocks, Ranks, SetContents}

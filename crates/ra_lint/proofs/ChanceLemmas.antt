@@ -1,5 +1,7 @@
 -- Each condition of a frame comes to what it may come to.
-use Rattle.std.proofs.Common.{◌≡◌, ◌⊎◌, ℕ, zero, suc, ◌<◌, Bool, true, false, not, cond, eqb, leb, ◌&&◌, ◌||◌, ℤ, pos, negsuc, ◌+ℤ◌, ◌≤ℤ◌, Option, None, Some, slice_index, slice_index_or, refl, sym, subst, inl, inr, arith}
+use Rattle.std.proofs.Common.{◌≡◌, ◌⊎◌, ℕ, zero, suc, ◌<◌, Bool, true, false, not, cond, eqb, leb, ◌&&◌, ◌||◌, ℤ, pos}
+use Rattle.std.proofs.Common.{negsuc, ◌+ℤ◌, ◌≤ℤ◌, Option, None, Some, slice_index, slice_index_or, refl, sym, subst}
+use Rattle.std.proofs.Common.{inl, inr, arith}
 use Rattle.std.proofs.lemmas.Int.{ints}
 use Rattle.std.proofs.lemmas.Bool.{false≢true, or_left, or_right, leb-true}
 use Rattle.ra_condition.specs.declared.flag.Flag.{Flag}
@@ -8,9 +10,11 @@ use Rattle.ra_condition.specs.declared.condition.Condition.{Condition}
 use Rattle.ra_condition.specs.Flags.{combines, hands_on}
 use Rattle.ra_condition.specs.Contents.{condition_at}
 use Rattle.ra_group.specs.declared.settled.Settled.{Settled}
-use Rattle.ra_group.specs.Equations.{Frame, met_after, met, hits_after, valid_alone, add_after, add_by, clamped, reached, settled, seen_after, prev_of, settled_at, reset_by}
+use Rattle.ra_group.specs.Equations.{Frame, met_after, met, hits_after, valid_alone, add_after, add_by, clamped}
+use Rattle.ra_group.specs.Equations.{reached, settled, seen_after, prev_of, settled_at, reset_by}
 use Rattle.ra_lint.specs.declared.chance.Chance.{Chance}
-use Rattle.ra_lint.specs.Chances.{may_meet_after, may_meet, may_add_after, may_add, may_reach, chance, next_chance, chance_before, chance_at}
+use Rattle.ra_lint.specs.Chances.{may_meet_after, may_meet, may_add_after, may_add, may_reach, chance, next_chance}
+use Rattle.ra_lint.specs.Chances.{chance_before, chance_at}
 use Rattle.ra_lint.specs.Among.{IsAmong, AreAmong, MayBe, MayHave}
 
 and_true_parts : (a b : Bool) → (a && b) ≡ true → (a ≡ true) × (b ≡ true)

@@ -1,5 +1,6 @@
 -- Warnings hold after every history.
-use Rattle.std.proofs.Common.{◌≡◌, ℕ, Bool, true, false, not, cond, List, [], ◌∷◌, ◌++◌, length, map, take, drop, refl, sym, subst, ◌∙◌, inl, inr, arith}
+use Rattle.std.proofs.Common.{◌≡◌, ℕ, Bool, true, false, not, cond, List, [], ◌∷◌, ◌++◌, length, map, take, drop, refl}
+use Rattle.std.proofs.Common.{sym, subst, ◌∙◌, inl, inr, arith}
 use Rattle.std.proofs.Math.Seq.{take-append_seam}
 use Rattle.std.proofs.lemmas.Bool.{true≢false, false≢true, cases_lt, and_right}
 use Rattle.std.proofs.lemmas.List.{get_or_past}

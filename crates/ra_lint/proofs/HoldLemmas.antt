@@ -1,5 +1,6 @@
 -- Each warning of the list holds.
-use Rattle.std.proofs.Common.{◌≡◌, ℕ, suc, ◌+◌, Bool, true, false, cond, None, Some, List, [], ◌∷◌, ◌++◌, map, get_or, refl, sym, ap, ◌∙◌, All, arith}
+use Rattle.std.proofs.Common.{◌≡◌, ℕ, suc, ◌+◌, Bool, true, false, cond, None, Some, List, [], ◌∷◌, ◌++◌, map, get_or}
+use Rattle.std.proofs.Common.{refl, sym, ap, ◌∙◌, All, arith}
 use Rattle.std.specs.List.{AllByRecursion, flat_map}
 use Rattle.ra_condition.specs.declared.condition.Condition.{Condition}
 use Rattle.ra_condition.specs.Contents.{TriggerContents, groups_of, flag_at}
@@ -15,7 +16,9 @@ use Rattle.ra_lint.specs.declared.warning.Place.{Place}
 use Rattle.ra_lint.specs.declared.warning.Place.TheVariants.{Trigger, Start, Cancel, Submit}
 use Rattle.ra_lint.specs.declared.warning.Word.{Word}
 use Rattle.ra_lint.specs.declared.warning.Word.TheVariants.{Never, Always, Unreachable, NoUnlock, NoStart}
-use Rattle.ra_lint.specs.Warnings.{never_at, always_at, is_unreachable, is_dead_trigger, warning, where_so, condition_warnings, group_warnings, warnings_from, trigger_warnings, board_warnings, item_warnings, warnings_on, warnings_of}
+use Rattle.ra_lint.specs.Warnings.{never_at, always_at, is_unreachable, is_dead_trigger, warning, where_so}
+use Rattle.ra_lint.specs.Warnings.{condition_warnings, group_warnings, warnings_from, trigger_warnings, board_warnings}
+use Rattle.ra_lint.specs.Warnings.{item_warnings, warnings_on, warnings_of}
 use Rattle.ra_lint.specs.Laws.{group_at, Says, trigger_at, Holds}
 use Rattle.ra_lint.proofs.SoundLemmas.{sound}
 

@@ -1,10 +1,12 @@
 -- A range of a tree holds each value of the tree.
-use Rattle.std.proofs.Common.{◌≡◌, ℕ, zero, suc, ◌+◌, ◌-◌, ◌*◌, ◌/◌, ◌%◌, ◌^◌, ◌<◌, ◌≤◌, min, Bool, true, false, cond, eqb, leb, ◌&&◌, bit_and, bit_xor, refl, ap₂, arith}
+use Rattle.std.proofs.Common.{◌≡◌, ℕ, zero, suc, ◌+◌, ◌-◌, ◌*◌, ◌/◌, ◌%◌, ◌^◌, ◌<◌, ◌≤◌, min, Bool, true, false, cond}
+use Rattle.std.proofs.Common.{eqb, leb, ◌&&◌, bit_and, bit_xor, refl, ap₂, arith}
 use Rattle.std.proofs.lemmas.Nat.{and_le_l, and_le_r, xor_lt, xor_of_32, mod_below, le-div, mul-le, ones-le}
 use Rattle.std.proofs.Math.Nat.{div-le_self, div-mul-le_self, mod-le}
 use Rattle.std.proofs.lemmas.Bool.{leb-true, eqb-true, false≢true}
 use Rattle.ra_operand.specs.declared.size.Size.{Size}
-use Rattle.ra_operand.specs.declared.size.Size.TheVariants.{Bit0, Bit1, Bit2, Bit3, Bit4, Bit5, Bit6, Bit7, Low, High, Byte, Two, Three, Four, Count, TwoBig, ThreeBig, FourBig}
+use Rattle.ra_operand.specs.declared.size.Size.TheVariants.{Bit0, Bit1, Bit2, Bit3, Bit4, Bit5, Bit6, Bit7, Low, High}
+use Rattle.ra_operand.specs.declared.size.Size.TheVariants.{Byte, Two, Three, Four, Count, TwoBig, ThreeBig, FourBig}
 use Rattle.ra_operand.specs.declared.kind.Kind.{Kind}
 use Rattle.ra_operand.specs.declared.kind.Kind.TheVariants.{Mem, Delta, Prior, Bcd, Inverted}
 use Rattle.ra_operand.specs.declared.op.Op.{Op}

@@ -1,5 +1,6 @@
 -- A target that is not reachable is never reached.
-use Rattle.std.proofs.Common.{◌≡◌, ℕ, zero, suc, Bool, true, false, not, ◌&&◌, eqb, List, [], ◌∷◌, length, take, drop, slice_index_or, refl}
+use Rattle.std.proofs.Common.{◌≡◌, ℕ, zero, suc, Bool, true, false, not, ◌&&◌, eqb, List, [], ◌∷◌, length, take, drop}
+use Rattle.std.proofs.Common.{slice_index_or, refl}
 use Rattle.std.proofs.lemmas.Bool.{false≢true}
 use Rattle.ra_condition.specs.declared.condition.Condition.{Condition}
 use Rattle.ra_condition.specs.Contents.{condition_at}

@@ -1,5 +1,6 @@
 -- The constants of the trees of a group that some text spells are numbers of 32 bits.
-use Rattle.std.proofs.Common.{◌≡◌, ◌≢◌, ◌⊎◌, ℕ, zero, suc, ◌<◌, ◌==◌, Bool, true, false, cond, Option, None, Some, List, [], ◌∷◌, length, replicate, set, All, subst, inl, inr, arith, length-set}
+use Rattle.std.proofs.Common.{◌≡◌, ◌≢◌, ◌⊎◌, ℕ, zero, suc, ◌<◌, ◌==◌, Bool, true, false, cond, Option, None, Some, List}
+use Rattle.std.proofs.Common.{[], ◌∷◌, length, replicate, set, All, subst, inl, inr, arith, length-set}
 use Rattle.std.specs.List.{before_first}
 use Rattle.std.proofs.lemmas.Bool.{cases_lt, cases_eq}
 use Rattle.std.proofs.lemmas.List.{get_or-set_same, get_or-set_other, get_or_past}
@@ -17,7 +18,9 @@ use Rattle.ra_condition.specs.Contents.{condition_at, flag_at, no_condition}
 use Rattle.ra_condition.specs.Chains.{pass_order}
 use Rattle.ra_condition.specs.Spelled.{IsCondition}
 use Rattle.ra_indirect.specs.Trees.{Tree, constant}
-use Rattle.ra_chain.specs.Elaboration.{tree_at, operand_tree, pointer_of, last_remembered, recall_of, added, subtracted, sum_after, sum_of, left_operand, right_operand, joined, handed_on, value_by_rules, values_along, values_of, left_of, right_of}
+use Rattle.ra_chain.specs.Elaboration.{tree_at, operand_tree, pointer_of, last_remembered, recall_of, added, subtracted}
+use Rattle.ra_chain.specs.Elaboration.{sum_after, sum_of, left_operand, right_operand, joined, handed_on}
+use Rattle.ra_chain.specs.Elaboration.{value_by_rules, values_along, values_of, left_of, right_of}
 use Rattle.ra_lint.specs.Sound.{HasSmallConstants}
 
 -- a sum, if there is one, has small constants

@@ -14,7 +14,8 @@ use Rattle.ra_lint.specs.Laws.{group_at, hits_before, AreSound}
 use Rattle.ra_lint.proofs.VerdictLemmas.{never_holds, always_holds}
 use Rattle.ra_lint.proofs.SmallLemmas.{all_fit, sides_small}
 use Rattle.ra_lint.proofs.TriggerLemmas.{AllMayHave}
-use Rattle.ra_lint.proofs.HistoryLemmas.{SmallSides, AllSmall, all_may_be, achievement_may, test_may, never_triggered, never_starts}
+use Rattle.ra_lint.proofs.HistoryLemmas.{SmallSides, AllSmall, all_may_be, achievement_may, test_may, never_triggered}
+use Rattle.ra_lint.proofs.HistoryLemmas.{never_starts}
 use Rattle.ra_lint.proofs.ReachLemmas.{unreached_along}
 
 pub group_small : (cs : List Condition) → IsTriggerGroup cs → SmallSides cs

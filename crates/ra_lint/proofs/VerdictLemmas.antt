@@ -1,6 +1,7 @@
 -- What the ranges say of a comparison holds of the numbers in them.
 use Rattle.std.proofs.Common.{◌≡◌, ℕ, min, max, Bool, true, false, not, cond, refl, ap, subst, arith}
-use Rattle.std.proofs.lemmas.Bool.{true≢false, false≢true, leb-true, ltb-true, leb-false, ltb-false, lt-ltb, le-leb, not-true, not-false, le-ltb, lt-leb, ne_eqb, eq-eqb}
+use Rattle.std.proofs.lemmas.Bool.{true≢false, false≢true, leb-true, ltb-true, leb-false, ltb-false, lt-ltb, le-leb}
+use Rattle.std.proofs.lemmas.Bool.{not-true, not-false, le-ltb, lt-leb, ne_eqb, eq-eqb}
 use Rattle.ra_operand.specs.declared.op.Op.{Op}
 use Rattle.ra_operand.specs.declared.op.Op.TheVariants.{Bare, Eq, Ne, Lt, Le, Gt, Ge}
 use Rattle.ra_operand.specs.Operators.{compared}

@@ -1,5 +1,6 @@
 -- What a frame makes of a condition is among what the condition may come to: docs/DEFINITIONS.md, "Chances".
-use Rattle.std.specs.Prelude.{◌≡◌, ◌⊎◌, ℕ, ◌<◌, pos, ◌≤ℤ◌, Bool, true, false, Option, None, Some, List, slice_index, slice_index_or}
+use Rattle.std.specs.Prelude.{◌≡◌, ◌⊎◌, ℕ, ◌<◌, pos, ◌≤ℤ◌, Bool, true, false, Option, None, Some, List, slice_index}
+use Rattle.std.specs.Prelude.{slice_index_or}
 use Rattle.ra_condition.specs.declared.condition.Condition.{Condition}
 use Rattle.ra_group.specs.declared.settled.Settled.{Settled}
 use Rattle.ra_lint.specs.declared.chance.Chance.{Chance}

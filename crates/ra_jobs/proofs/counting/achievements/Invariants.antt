@@ -4,4 +4,5 @@ use Rattle.ra_jobs.proofs.CountLemmas.{unlocks}
 use Rattle.ra_jobs.proofs.counting.achievements.Given as goal
 
 abbrev pub invariant-loop-item : goal.invariant-loop-item
-invariant-loop-item l = (l.count ≡ sum_by (λ item. unlocks (item_contents item)) (take l.item-index l.items)) × (l.count ≤ l.item-index)
+invariant-loop-item l = (l.count ≡ sum_by (λ item. unlocks (item_contents item))
+    (take l.item-index l.items)) × (l.count ≤ l.item-index)

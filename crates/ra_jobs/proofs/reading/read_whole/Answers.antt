@@ -9,7 +9,10 @@ returns-then-not-branch-clause-ok g c =
     let e = c.in_ok-read_on.ensures in
     let i = c.loop-bytes.invariant in
     if_some (g.F.Files.content c.args.files.now c.args.name.now) _
-    (front_at_end (g.F.Files.content c.args.files.now c.args.name.now) (g.F.Files.content c.loop-bytes.files c.args.name.now) c.loop-bytes.bytes.items c.read_on.new.bytes.items c.in_ok-read_on.field-0 e.ok.0 c.args.limit c.if-not-branch.true (i.stays.same.each c.args.name.now) e.ok.1 i.told i.within)
+    (front_at_end (g.F.Files.content c.args.files.now c.args.name.now)
+    (g.F.Files.content c.loop-bytes.files c.args.name.now) c.loop-bytes.bytes.items
+    c.read_on.new.bytes.items c.in_ok-read_on.field-0 e.ok.0 c.args.limit c.if-not-branch.true
+    (i.stays.same.each c.args.name.now) e.ok.1 i.told i.within)
 
 pub loop-bytes-preserved : goal.loop-bytes-preserved
 loop-bytes-preserved g c =

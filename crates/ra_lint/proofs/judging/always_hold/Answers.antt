@@ -9,5 +9,6 @@ use Rattle.ra_lint.proofs.judging.always_hold.Goals as goal
 pub returns : goal.returns
 returns c =
     let cs = group_contents c.args.group.now in
-    c.in_ok-always.ensures ∙ ap (map (λ (verdict : Verdict). verdict.always)) (c.deref.ensures.value ∙ c.in_ok-verdicts.ensures)
+    c.in_ok-always.ensures ∙ ap (map (λ (verdict : Verdict). verdict.always)) (c.deref.ensures.value
+    ∙ c.in_ok-verdicts.ensures)
     ∙ map-map (λ (verdict : Verdict). verdict.always) (verdict_at cs) (places cs)
