@@ -1,4 +1,5 @@
--- Writes that fit, frames and restores of saved bytes keep the set and the size of the image, and so all of them succeed.
+-- Writes that fit, frames and restores of saved bytes keep the set and the size of the image, and so all of them
+-- succeed.
 use Rattle.std.proofs.Common.{◌≡◌, ℕ, ◌+◌, ◌≤◌, None, List, [], ◌∷◌, length, sym, ◌∙◌, ap, subst, arith}
 use Rattle.std.specs.List.{AllByRecursion}
 use Rattle.std.proofs.lemmas.List.{length-replicate}
@@ -19,7 +20,8 @@ module _ (set : SetContents) (size : ℕ) (is_shape : IsShape (shape_of set)) wh
       let back = comes_back (shape_of set) saved.kept is_shape saved.opening in
       accepted_none (shape_of set) bytes (subst (IsAccepted (shape_of set)) (sym saved.is) back.accepted)
 
-  all_succeed : (runtime : RuntimeSeen) (calls : List Call) → runtime.set ≡ set → length runtime.image ≡ size → AllByRecursion (MayCome set size) calls → AllSucceed runtime calls
+  all_succeed : (runtime : RuntimeSeen) (calls : List Call) → runtime.set ≡ set → length
+      runtime.image ≡ size → AllByRecursion (MayCome set size) calls → AllSucceed runtime calls
   all_succeed runtime [] is long may = tt
   all_succeed runtime (Write at bytes ∷ calls) is long may =
       let fits : at + length bytes ≤ length runtime.image = omega (arith, may.0) in

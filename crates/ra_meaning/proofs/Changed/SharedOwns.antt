@@ -1,5 +1,6 @@
 -- The own entries of the sets of two files, by the texts that their names are taken of.
-use Rattle.std.proofs.Common.{◌≡◌, ℕ, zero, suc, ◌+◌, ◌<◌, true, Option, None, Some, option_map, option_to_list, List, [], ◌∷◌, ◌++◌, length, map, inl, inr, ◌⊎◌, refl, sym, ◌∙◌, ap, ap₂, subst, arith, get_or}
+use Rattle.std.proofs.Common.{◌≡◌, ℕ, zero, suc, ◌+◌, ◌<◌, true, Option, None, Some, option_map, option_to_list, List}
+use Rattle.std.proofs.Common.{[], ◌∷◌, ◌++◌, length, map, inl, inr, ◌⊎◌, refl, sym, ◌∙◌, ap, ap₂, subst, arith, get_or}
 use Rattle.std.specs.List.{slice_get, IsDistinct, Contains}
 use Rattle.std.proofs.lemmas.Bool.{cases_lt, eq-eqb, true≢false}
 use Rattle.std.proofs.lemmas.Map.Keys.{apart_from_distinct}
@@ -50,7 +51,8 @@ pub record At {A : Type 0} (xs : List A) (k : ℕ) : Type 0 where
   pub thing : A
   pub there : slice_get xs k ≡ Some thing
 
-pub beside_at : {A B : Type 0} (xs : List A) (ys : List B) (k : ℕ) (x : A) → length xs ≡ length ys → slice_get xs k ≡ Some x → At ys k
+pub beside_at : {A B : Type 0} (xs : List A) (ys : List B) (k : ℕ) (x : A) → length xs ≡ length ys
+    → slice_get xs k ≡ Some x → At ys k
 beside_at [] ys k x same at = absurd cc
 beside_at (x ∷ xs) [] k a same at = absurd (omega (arith, same))
 beside_at (x ∷ xs) (y ∷ ys) zero a same at = record { thing = y; there = refl }
@@ -64,12 +66,15 @@ repeats_itself : (item : ItemContents) → repeats item item ≡ true
 repeats_itself (Unlocks id t) = eq-eqb id id refl
 repeats_itself (Ranks id format b) = eq-eqb id id refl
 
-not_before : (items : List ItemContents) (j k : ℕ) (item : ItemContents) → IsDistinct repeats items → slice_get items j ≡ Some item → slice_get items k ≡ Some item → j < k → ⊥
+not_before : (items : List ItemContents) (j k : ℕ) (item : ItemContents) → IsDistinct repeats items
+    → slice_get items j ≡ Some item → slice_get items k ≡ Some item → j < k → ⊥
 not_before items j k item distinct at there less =
     let apart = apart_from_distinct repeats items j k item distinct less (within_at items k item there) in
-    true≢false (sym (repeats_itself item) ∙ ap₂ repeats (sym (index_at items j item item at)) (sym (index_at items k item item there)) ∙ apart)
+    true≢false (sym (repeats_itself item) ∙ ap₂ repeats (sym (index_at items j item item at))
+    (sym (index_at items k item item there)) ∙ apart)
 
-pub one_place : (items : List ItemContents) (j k : ℕ) (item : ItemContents) → IsDistinct repeats items → slice_get items j ≡ Some item → slice_get items k ≡ Some item → j ≡ k
+pub one_place : (items : List ItemContents) (j k : ℕ) (item : ItemContents) → IsDistinct repeats
+    items → slice_get items j ≡ Some item → slice_get items k ≡ Some item → j ≡ k
 one_place items j k item distinct at there = elim (cases_lt j k) [
   | inl less ↦ absurd (not_before items j k item distinct at there less)
   | inr most ↦ elim (cases_lt k j) [
@@ -89,9 +94,13 @@ own_of_script text parts =
     record { name = md5 text; shape = OfPresence (presence_shape (script_of parts)) }
 
 -- what an own entry is of: an item's text, or the script's
-data IsOf (texts : List (List ℕ)) (script : Option (List ℕ)) (items : List ItemContents) (k : ℕ) (own : Own) : Type 0 where
-  an_item : (text : List ℕ) → (item : ItemContents) → slice_get texts k ≡ Some text → slice_get items k ≡ Some item → IsItemText text item → own ≡ own_of_item text item → IsOf texts script items k own
-  the_script : (text : List ℕ) → (parts : ScriptParts) → script ≡ Some text → k ≡ length items → script_parts text parts → own ≡ own_of_script text parts → IsOf texts script items k own
+data IsOf (texts : List (List ℕ)) (script : Option (List ℕ)) (items : List ItemContents) (k : ℕ)
+    (own : Own) : Type 0 where
+  an_item : (text : List ℕ) → (item : ItemContents) → slice_get texts k ≡ Some text
+      → slice_get items k ≡ Some item → IsItemText text item → own ≡ own_of_item text item
+      → IsOf texts script items k own
+  the_script : (text : List ℕ) → (parts : ScriptParts) → script ≡ Some text → k ≡ length items
+      → script_parts text parts → own ≡ own_of_script text parts → IsOf texts script items k own
 
 record FrontOwn (texts : List (List ℕ)) (items : List ItemContents) (k : ℕ) (own : Own) : Type 0 where
   pub text : List ℕ
@@ -105,7 +114,9 @@ record BehindOwn (items : List ItemContents) (rest : List Own) (k : ℕ) (own : 
   pub counted : k ≡ length items + place
   pub at : slice_get rest place ≡ Some own
 
-item_owns : (texts : List (List ℕ)) (items : List ItemContents) (rest : List Own) (k : ℕ) (own : Own) → length texts ≡ length items → slice_get (own_items (map md5 texts) (map item_shape items) ++ rest) k ≡ Some own
+item_owns : (texts : List (List ℕ)) (items : List ItemContents) (rest : List Own) (k : ℕ)
+    (own : Own) → length texts ≡ length items
+    → slice_get (own_items (map md5 texts) (map item_shape items) ++ rest) k ≡ Some own
     → FrontOwn texts items k own ⊎ BehindOwn items rest k own
 item_owns [] [] rest k own same at = inr (record { place = k; counted = omega arith; at = at })
 item_owns [] (item ∷ items) rest k own same at = absurd (omega (arith, same))
@@ -113,12 +124,14 @@ item_owns (text ∷ texts) [] rest k own same at = absurd (omega (arith, same))
 item_owns (text ∷ texts) (item ∷ items) rest zero own same at =
     let is : own_of_item text item ≡ own = cc at in
     inl (record { text = text; item = item; at = refl; there = refl; is = sym is })
-item_owns (text ∷ texts) (item ∷ items) rest (suc k) own same at = elim (item_owns texts items rest k own (omega (arith, same)) at) [
-  | inl f ↦ inl (record { text = f.text; item = f.item; at = f.at; there = f.there; is = f.is })
-  | inr b ↦ inr (record { place = b.place; counted = omega (arith, b.counted); at = b.at })
-]
+item_owns (text ∷ texts) (item ∷ items) rest (suc k) own same at =
+    elim (item_owns texts items rest k own (omega (arith, same)) at) [
+      | inl f ↦ inl (record { text = f.text; item = f.item; at = f.at; there = f.there; is = f.is })
+      | inr b ↦ inr (record { place = b.place; counted = omega (arith, b.counted); at = b.at })
+    ]
 
-item_own_at : (texts : List (List ℕ)) (items : List ItemContents) (rest : List Own) (k : ℕ) (text : List ℕ) (item : ItemContents) → slice_get texts k ≡ Some text → slice_get items k ≡ Some item
+item_own_at : (texts : List (List ℕ)) (items : List ItemContents) (rest : List Own) (k : ℕ) (text
+    : List ℕ) (item : ItemContents) → slice_get texts k ≡ Some text → slice_get items k ≡ Some item
     → slice_get (own_items (map md5 texts) (map item_shape items) ++ rest) k ≡ Some (own_of_item text item)
 item_own_at [] items rest k text item at there = absurd cc
 item_own_at (t ∷ texts) [] rest k text item at there = absurd cc
@@ -129,7 +142,9 @@ item_own_at (t ∷ texts) (i ∷ items) rest zero text item at there =
 item_own_at (t ∷ texts) (i ∷ items) rest (suc k) text item at there =
     item_own_at texts items rest k text item at there
 
-behind_items : (texts : List (List ℕ)) (items : List ItemContents) (rest : List Own) → length texts ≡ length items → slice_get (own_items (map md5 texts) (map item_shape items) ++ rest) (length items) ≡ slice_get rest 0
+behind_items : (texts : List (List ℕ)) (items : List ItemContents) (rest : List Own) → length texts
+    ≡ length items → slice_get (own_items (map md5 texts) (map item_shape items) ++ rest)
+    (length items) ≡ slice_get rest 0
 behind_items [] [] rest same = refl
 behind_items [] (item ∷ items) rest same = absurd (omega (arith, same))
 behind_items (text ∷ texts) [] rest same = absurd (omega (arith, same))
@@ -137,8 +152,11 @@ behind_items (text ∷ texts) (item ∷ items) rest same =
     behind_items texts items rest (omega (arith, same))
 
 -- the own entry of a script, where there is one
-script_owns : (texts : List (List ℕ)) (items : List ItemContents) (script : Option (List ℕ)) (parts : Option ScriptParts) (k place : ℕ) (own : Own) → IsScriptText script parts → k ≡ length items + place
-    → slice_get (own_presence (option_map md5 script) (option_map presence_shape (option_map script_of parts))) place ≡ Some own → IsOf texts script items k own
+script_owns : (texts : List (List ℕ)) (items : List ItemContents) (script : Option (List ℕ))
+    (parts : Option ScriptParts) (k place : ℕ) (own : Own) → IsScriptText script parts → k
+    ≡ length items + place
+    → slice_get (own_presence (option_map md5 script) (option_map presence_shape
+    (option_map script_of parts))) place ≡ Some own → IsOf texts script items k own
 script_owns texts items None None k place own spelled counted at = absurd cc
 script_owns texts items None (Some parts) k place own spelled counted at = absurd spelled
 script_owns texts items (Some text) None k place own spelled counted at = absurd spelled
@@ -158,30 +176,41 @@ module _ (file : List ℕ) (set : SetContents) (s : IsSet file set) where
   abbrev owns_by_texts : List Own
   owns_by_texts =
       own_items (map md5 (item_texts file)) (map item_shape set.items)
-      ++ own_presence (option_map md5 (script_text file)) (option_map presence_shape (option_map script_of s.spelled.contents.script))
+      ++ own_presence (option_map md5 (script_text file))
+      (option_map presence_shape (option_map script_of s.spelled.contents.script))
 
   owns_are : own_entries (shape_of set) ≡ owns_by_texts
   owns_are =
       let names = s.item_names in
       let name = s.script_name in
       let script = s.spelled.script in
-      λ i. own_items (names i) (map item_shape set.items) ++ own_presence (name i) (option_map presence_shape (script i))
+      λ i. own_items (names i) (map item_shape set.items)
+      ++ own_presence (name i) (option_map presence_shape (script i))
 
-  pub item_text : (k : ℕ) (text : List ℕ) (item : ItemContents) → slice_get (item_texts file) k ≡ Some text → slice_get set.items k ≡ Some item → IsItemText text item
+  pub item_text : (k : ℕ) (text : List ℕ) (item : ItemContents) → slice_get (item_texts file) k
+      ≡ Some text → slice_get set.items k ≡ Some item → IsItemText text item
   item_text k text item at there =
       told.items k text item at (sym (ap (λ items. slice_get items k) s.spelled.items) ∙ there)
 
-  source : (k : ℕ) (own : Own) → slice_get (own_entries (shape_of set)) k ≡ Some own → IsOf (item_texts file) (script_text file) set.items k own
+  source : (k : ℕ) (own : Own) → slice_get (own_entries (shape_of set)) k ≡ Some own
+      → IsOf (item_texts file) (script_text file) set.items k own
   source k own at =
-      elim (item_owns (item_texts file) set.items (own_presence (option_map md5 (script_text file)) (option_map presence_shape (option_map script_of s.spelled.contents.script))) k own texts_many (sym (ap (λ owns. slice_get owns k) owns_are) ∙ at)) [
+      elim (item_owns (item_texts file) set.items (own_presence (option_map md5 (script_text file))
+      (option_map presence_shape (option_map script_of s.spelled.contents.script))) k own texts_many
+      (sym (ap (λ owns. slice_get owns k) owns_are) ∙ at)) [
         | inl f ↦ an_item f.text f.item f.at f.there (item_text k f.text f.item f.at f.there) f.is
-        | inr b ↦ script_owns (item_texts file) set.items (script_text file) s.spelled.contents.script k b.place own told.script b.counted b.at
+        | inr b ↦ script_owns (item_texts file) set.items
+            (script_text file) s.spelled.contents.script k b.place own told.script b.counted b.at
       ]
 
-  own_item_at : (k : ℕ) (text : List ℕ) (item : ItemContents) → slice_get (item_texts file) k ≡ Some text → slice_get set.items k ≡ Some item → slice_get (own_entries (shape_of set)) k ≡ Some (own_of_item text item)
+  own_item_at : (k : ℕ) (text : List ℕ) (item : ItemContents) → slice_get (item_texts file) k
+      ≡ Some text → slice_get set.items k ≡ Some item → slice_get (own_entries (shape_of set)) k
+      ≡ Some (own_of_item text item)
   own_item_at k text item at there =
       ap (λ owns. slice_get owns k) owns_are
-      ∙ item_own_at (item_texts file) set.items (own_presence (option_map md5 (script_text file)) (option_map presence_shape (option_map script_of s.spelled.contents.script))) k text item at there
+      ∙ item_own_at (item_texts file) set.items (own_presence (option_map md5 (script_text file))
+      (option_map presence_shape (option_map script_of s.spelled.contents.script))) k text item at
+      there
 
   -- the parts of the script, where its text is there
   pub record HasScript (text : List ℕ) : Type 0 where
@@ -191,9 +220,11 @@ module _ (file : List ℕ) (set : SetContents) (s : IsSet file set) where
     pub own_at : slice_get (own_entries (shape_of set)) (length set.items) ≡ Some (own_of_script text parts)
 
   pub has_script : (text : List ℕ) → script_text file ≡ Some text → HasScript text
-  has_script text is = by_parts s.spelled.contents.script (subst (λ t. IsScriptText t s.spelled.contents.script) is told.script) refl
+  has_script text is = by_parts s.spelled.contents.script
+      (subst (λ t. IsScriptText t s.spelled.contents.script) is told.script) refl
     where
-      by_parts : (parts : Option ScriptParts) → IsScriptText (Some text) parts → s.spelled.contents.script ≡ parts → HasScript text
+      by_parts : (parts : Option ScriptParts) → IsScriptText (Some text) parts
+          → s.spelled.contents.script ≡ parts → HasScript text
       by_parts None spelled same = absurd spelled
       by_parts (Some parts) spelled same = record {
         parts = parts;
@@ -201,8 +232,11 @@ module _ (file : List ℕ) (set : SetContents) (s : IsSet file set) where
         script = s.spelled.script ∙ ap (option_map script_of) same;
         own_at =
             ap (λ owns. slice_get owns (length set.items)) owns_are
-            ∙ behind_items (item_texts file) set.items (own_presence (option_map md5 (script_text file)) (option_map presence_shape (option_map script_of s.spelled.contents.script))) texts_many
-            ∙ (λ i. slice_get (own_presence (option_map md5 (is i)) (option_map presence_shape (option_map script_of (same i)))) 0);
+            ∙ behind_items (item_texts file) set.items
+            (own_presence (option_map md5 (script_text file))
+            (option_map presence_shape (option_map script_of s.spelled.contents.script))) texts_many
+            ∙ (λ i. slice_get (own_presence (option_map md5 (is i))
+            (option_map presence_shape (option_map script_of (same i)))) 0);
       }
 
   -- a text that a name is taken of is among those of the file
@@ -212,9 +246,11 @@ module _ (file : List ℕ) (set : SetContents) (s : IsSet file set) where
 
   script_listed : (text : List ℕ) → script_text file ≡ Some text → In text (texts_in file)
   script_listed text is =
-      In_behind text (item_texts file) (option_to_list (script_text file)) (subst (λ t. In text (option_to_list t)) (sym is) (inl refl))
+      In_behind text (item_texts file) (option_to_list (script_text file))
+      (subst (λ t. In text (option_to_list t)) (sym is) (inl refl))
 
-module _ (file other : List ℕ) (set changed : SetContents) (s : IsSet file set) (t : IsSet other changed) (tell : NamesTell md5 (texts_in file ++ texts_in other)) where
+module _ (file other : List ℕ) (set changed : SetContents) (s : IsSet file set)
+    (t : IsSet other changed) (tell : NamesTell md5 (texts_in file ++ texts_in other)) where
   one_text : (a b : List ℕ) → In a (texts_in file) → In b (texts_in other) → md5 a ≡ md5 b → a ≡ b
   one_text a b here there named =
       tell a b (contains_in a (texts_in file ++ texts_in other) (In_front a (texts_in file) (texts_in other) here))
@@ -225,19 +261,26 @@ module _ (file other : List ℕ) (set changed : SetContents) (s : IsSet file set
       tell a b (contains_in a (texts_in file ++ texts_in other) (In_front a (texts_in file) (texts_in other) here))
       (contains_in b (texts_in file ++ texts_in other) (In_front b (texts_in file) (texts_in other) there)) named
 
-  shapes_of : (j k : ℕ) (a b : Own) → IsOf (item_texts file) (script_text file) set.items j a → IsOf (item_texts other) (script_text other) changed.items k b → a.name ≡ b.name → a.shape ≡ b.shape
+  shapes_of : (j k : ℕ) (a b : Own) → IsOf (item_texts file) (script_text file) set.items j a
+      → IsOf (item_texts other) (script_text other) changed.items k b → a.name ≡ b.name → a.shape
+      ≡ b.shape
   shapes_of j k a b (an_item text item at there spelled is) (an_item text' item' at' there' spelled' is') named =
-      let same = one_text text text' (item_listed file set s j text at) (item_listed other changed t k text' at') (sym (ap (λ o. o.name) is) ∙ named ∙ ap (λ o. o.name) is') in
+      let same = one_text text text' (item_listed file set s j text at) (item_listed other changed t
+      k text' at') (sym (ap (λ o. o.name) is) ∙ named ∙ ap (λ o. o.name) is') in
       let items = one_item text' item item' (subst (λ x. IsItemText x item) same spelled) spelled' in
       ap (λ o. o.shape) is ∙ ap (λ i. OfItem (item_shape i)) items ∙ sym (ap (λ o. o.shape) is')
   shapes_of j k a b (an_item text item at there spelled is) (the_script text' parts here last spelled' is') named =
-      let same = one_text text text' (item_listed file set s j text at) (script_listed other changed t text' here) (sym (ap (λ o. o.name) is) ∙ named ∙ ap (λ o. o.name) is') in
+      let same = one_text text text' (item_listed file set s j text at) (script_listed other changed
+      t text' here) (sym (ap (λ o. o.name) is) ∙ named ∙ ap (λ o. o.name) is') in
       absurd (no_script_item text' item parts (subst (λ x. IsItemText x item) same spelled) spelled')
   shapes_of j k a b (the_script text parts here last spelled is) (an_item text' item at' there' spelled' is') named =
-      let same = one_text text text' (script_listed file set s text here) (item_listed other changed t k text' at') (sym (ap (λ o. o.name) is) ∙ named ∙ ap (λ o. o.name) is') in
+      let same = one_text text text' (script_listed file set s text here) (item_listed other changed
+      t k text' at') (sym (ap (λ o. o.name) is) ∙ named ∙ ap (λ o. o.name) is') in
       absurd (no_script_item text' item parts spelled' (subst (λ x. script_parts x parts) same spelled))
-  shapes_of j k a b (the_script text parts here last spelled is) (the_script text' parts' here' last' spelled' is') named =
-      let same = one_text text text' (script_listed file set s text here) (script_listed other changed t text' here') (sym (ap (λ o. o.name) is) ∙ named ∙ ap (λ o. o.name) is') in
+  shapes_of j k a b (the_script text parts here last spelled is)
+      (the_script text' parts' here' last' spelled' is') named =
+      let same = one_text text text' (script_listed file set s text here) (script_listed other
+      changed t text' here') (sym (ap (λ o. o.name) is) ∙ named ∙ ap (λ o. o.name) is') in
       let scripts = one_script text' parts parts' (subst (λ x. script_parts x parts) same spelled) spelled' in
       ap (λ o. o.shape) is ∙ ap (λ p. OfPresence (presence_shape p)) scripts ∙ sym (ap (λ o. o.shape) is')
 
@@ -245,21 +288,28 @@ module _ (file other : List ℕ) (set changed : SetContents) (s : IsSet file set
   one_shape j k a b at there named =
       shapes_of j k a b (source file set s j a at) (source other changed t k b there) named
 
-  places_of : (j k : ℕ) (a b : Own) → IsOf (item_texts file) (script_text file) set.items j a → IsOf (item_texts file) (script_text file) set.items k b → a.name ≡ b.name → j ≡ k
+  places_of : (j k : ℕ) (a b : Own) → IsOf (item_texts file) (script_text file) set.items j a
+      → IsOf (item_texts file) (script_text file) set.items k b → a.name ≡ b.name → j ≡ k
   places_of j k a b (an_item text item at there spelled is) (an_item text' item' at' there' spelled' is') named =
-      let same = own_text text text' (item_listed file set s j text at) (item_listed file set s k text' at') (sym (ap (λ o. o.name) is) ∙ named ∙ ap (λ o. o.name) is') in
+      let same = own_text text text' (item_listed file set s j text at) (item_listed file set s k
+      text' at') (sym (ap (λ o. o.name) is) ∙ named ∙ ap (λ o. o.name) is') in
       let items = one_item text' item item' (subst (λ x. IsItemText x item) same spelled) spelled' in
       one_place set.items j k item' s.ids (there ∙ ap (λ i. Some i) items) there'
   places_of j k a b (an_item text item at there spelled is) (the_script text' parts here last spelled' is') named =
-      let same = own_text text text' (item_listed file set s j text at) (script_listed file set s text' here) (sym (ap (λ o. o.name) is) ∙ named ∙ ap (λ o. o.name) is') in
+      let same = own_text text text' (item_listed file set s j text at) (script_listed file set s
+      text' here) (sym (ap (λ o. o.name) is) ∙ named ∙ ap (λ o. o.name) is') in
       absurd (no_script_item text' item parts (subst (λ x. IsItemText x item) same spelled) spelled')
   places_of j k a b (the_script text parts here last spelled is) (an_item text' item at' there' spelled' is') named =
-      let same = own_text text text' (script_listed file set s text here) (item_listed file set s k text' at') (sym (ap (λ o. o.name) is) ∙ named ∙ ap (λ o. o.name) is') in
+      let same = own_text text text' (script_listed file set s text here) (item_listed file set s k
+      text' at') (sym (ap (λ o. o.name) is) ∙ named ∙ ap (λ o. o.name) is') in
       absurd (no_script_item text' item parts spelled' (subst (λ x. script_parts x parts) same spelled))
-  places_of j k a b (the_script text parts here last spelled is) (the_script text' parts' here' last' spelled' is') named =
+  places_of j k a b (the_script text parts here last spelled is)
+      (the_script text' parts' here' last' spelled' is') named =
       last ∙ sym last'
 
-  only_place : (j : ℕ) (a b : Own) → slice_get (own_entries (shape_of set)) j ≡ Some a → a.name ≡ b.name → (i : ℕ) (c : Own) → slice_get (own_entries (shape_of set)) i ≡ Some c → c.name ≡ b.name → i ≡ j
+  only_place : (j : ℕ) (a b : Own) → slice_get (own_entries (shape_of set)) j ≡ Some a → a.name
+      ≡ b.name → (i : ℕ) (c : Own) → slice_get (own_entries (shape_of set)) i ≡ Some c → c.name
+      ≡ b.name → i ≡ j
   only_place j a b at named i c there same =
       places_of i j c a (source file set s i c there) (source file set s j a at) (same ∙ sym named)
 
@@ -270,11 +320,15 @@ module _ (file other : List ℕ) (set changed : SetContents) (s : IsSet file set
     pub there_too : slice_get changed.items k ≡ Some item
     pub own : IsSharedOwn (shape_of set) (shape_of changed) j k
 
-  pub shared_item : (j k : ℕ) (text : List ℕ) → slice_get (item_texts file) j ≡ Some text → slice_get (item_texts other) k ≡ Some text → HasItem j k
+  pub shared_item : (j k : ℕ) (text : List ℕ) → slice_get (item_texts file) j ≡ Some text
+      → slice_get (item_texts other) k ≡ Some text → HasItem j k
   shared_item j k text at there =
       let mine : At set.items j = beside_at (item_texts file) set.items j text (texts_many file set s) at in
-      let theirs : At changed.items k = beside_at (item_texts other) changed.items k text (texts_many other changed t) there in
-      let same : mine.thing ≡ theirs.thing = one_item text mine.thing theirs.thing (item_text file set s j text mine.thing at mine.there) (item_text other changed t k text theirs.thing there theirs.there) in
+      let theirs : At changed.items k =
+      beside_at (item_texts other) changed.items k text (texts_many other changed t) there in
+      let same : mine.thing ≡ theirs.thing = one_item text mine.thing theirs.thing
+      (item_text file set s j text mine.thing at mine.there)
+      (item_text other changed t k text theirs.thing there theirs.there) in
       let own = own_item_at file set s j text mine.thing at mine.there in
       record {
         item = mine.thing;
@@ -312,6 +366,7 @@ module _ (file other : List ℕ) (set changed : SetContents) (s : IsSet file set
           there = mine.own_at;
           there_too = theirs.own_at;
           named = refl;
-          only = only_place (length set.items) (own_of_script text mine.parts) (own_of_script text theirs.parts) mine.own_at refl;
+          only = only_place (length set.items) (own_of_script text mine.parts)
+              (own_of_script text theirs.parts) mine.own_at refl;
         };
       }
