@@ -12,7 +12,8 @@ bytes_of : (h : List ℕ) (n : ℕ) → AllByRecursion (λ b. b < 256) (digest_b
 unfolding digest_bytes
 bytes_of h zero = tt
 bytes_of h (suc n) =
-    all_join (λ b. b < 256) (digest_bytes h n) (to_le_bytes w32 (slice_index h n)) (bytes_of h n) (word_bytes (slice_index h n))
+    all_join (λ b. b < 256) (digest_bytes h n) (to_le_bytes w32 (slice_index h n)) (bytes_of h n)
+    (word_bytes (slice_index h n))
 
 pub md5_bytes : (m : List ℕ) → AllByRecursion (λ b. b < 256) (md5 m)
 unfolding md5

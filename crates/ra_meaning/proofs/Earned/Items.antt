@@ -1,5 +1,6 @@
 -- What is earned, one answer beside each item, and the law that it holds what is triggered and only grows.
-use Rattle.std.proofs.Common.{◌≡◌, ℕ, ◌&&◌, ◌||◌, not, Bool, true, false, List, [], ◌∷◌, length, map, zip, refl, sym, ap, ap₂, arith}
+use Rattle.std.proofs.Common.{◌≡◌, ℕ, ◌&&◌, ◌||◌, not, Bool, true, false, List, [], ◌∷◌, length, map, zip, refl, sym}
+use Rattle.std.proofs.Common.{ap, ap₂, arith}
 use Rattle.ra_memory.specs.Image.{History}
 use Rattle.ra_memref.specs.Values.{Start}
 use Rattle.ra_trigger.specs.declared.state.State.{State}
@@ -10,7 +11,8 @@ use Rattle.ra_set.specs.Contents.{ItemContents, Unlocks, Ranks, SetContents}
 use Rattle.ra_progress.specs.declared.shape.ItemShape.{ItemShape}
 use Rattle.ra_progress.specs.declared.shape.ItemShape.TheVariants as shapes
 use Rattle.ra_progress.specs.Contents.{KeptItem, OfAchievement, OfBoard, Opening, ItemsFit, IsOpening, plain_item}
-use Rattle.ra_meaning.specs.Earned.{Earned, HoldsTriggered, HoldTriggered, IsEarnedToo, is_earned, items_with, with_earned, both_earned, earned_in}
+use Rattle.ra_meaning.specs.Earned.{Earned, HoldsTriggered, HoldTriggered, IsEarnedToo, is_earned, items_with}
+use Rattle.ra_meaning.specs.Earned.{with_earned, both_earned, earned_in}
 use Rattle.ra_meaning.specs.EarnedLaws.{StayEarned}
 use Rattle.ra_meaning.specs.Histories.{achievement_after}
 use Rattle.ra_meaning.specs.Openings.{start_of, opened_achievement, item_after}
@@ -47,21 +49,26 @@ triggered_byte Primed is = absurd (omega (arith, is))
 triggered_byte Triggered is = refl
 
 -- what is triggered after a frame was earned before it, or unlocks there
-unlocked : (earned before after : Bool) → (before ≡ true → earned ≡ true) → after ≡ true → (earned || (not before && after)) ≡ true
+unlocked : (earned before after : Bool) → (before ≡ true → earned ≡ true) → after ≡ true
+    → (earned || (not before && after)) ≡ true
 unlocked true before after was is = refl
 unlocked false true after was is = was refl
 unlocked false false after was is = is
 
 -- exactly the answers that are put beside items are read off them
-pub items_same : (earned : Earned) (items : List KeptItem) → HoldTriggered earned items → map is_earned (items_with earned items) ≡ earned
+pub items_same : (earned : Earned) (items : List KeptItem) → HoldTriggered earned items
+    → map is_earned (items_with earned items) ≡ earned
 items_same [] [] hold = refl
 items_same [] (item ∷ items) hold = absurd hold
 items_same (e ∷ earned) [] hold = absurd hold
-items_same (e ∷ earned) (OfAchievement state measured hits old ∷ items) hold = ap (λ es. e ∷ es) (items_same earned items hold.1)
-items_same (e ∷ earned) (OfBoard state hits numbers ∷ items) hold = ap₂ (λ x xs. x ∷ xs) (sym hold.0) (items_same earned items hold.1)
+items_same (e ∷ earned) (OfAchievement state measured hits old ∷ items) hold =
+    ap (λ es. e ∷ es) (items_same earned items hold.1)
+items_same (e ∷ earned) (OfBoard state hits numbers ∷ items) hold =
+    ap₂ (λ x xs. x ∷ xs) (sym hold.0) (items_same earned items hold.1)
 
 -- answers put beside items take the place of those before
-pub items_again : (earned before : Earned) (items : List KeptItem) → HoldTriggered before items → items_with earned (items_with before items) ≡ items_with earned items
+pub items_again : (earned before : Earned) (items : List KeptItem) → HoldTriggered before items
+    → items_with earned (items_with before items) ≡ items_with earned items
 items_again [] before items hold = refl
 items_again (e ∷ earned) [] [] hold = refl
 items_again (e ∷ earned) [] (item ∷ items) hold = absurd hold
@@ -72,28 +79,35 @@ items_again (e ∷ earned) (b ∷ before) (OfBoard state hits numbers ∷ items)
     ap (λ xs. OfBoard state hits numbers ∷ xs) (items_again earned before items hold.1)
 
 -- items with these answers fit as they did
-pub items_with_fit : (shapes : List ItemShape) (earned : Earned) (items : List KeptItem) → ItemsFit shapes items → HoldTriggered earned items → ItemsFit shapes (items_with earned items)
+pub items_with_fit : (shapes : List ItemShape) (earned : Earned) (items : List KeptItem)
+    → ItemsFit shapes items → HoldTriggered earned items → ItemsFit shapes (items_with earned items)
 items_with_fit [] [] [] fit hold = tt
 items_with_fit [] (e ∷ earned) [] fit hold = absurd hold
 items_with_fit [] earned (item ∷ items) fit hold = absurd fit
 items_with_fit (shape ∷ shapes) earned [] fit hold = absurd fit
 items_with_fit (shape ∷ shapes) [] (item ∷ items) fit hold = absurd hold
-items_with_fit (shapes.Achievement count ∷ shapes) (e ∷ earned) (OfAchievement state measured hits old ∷ items) fit hold =
+items_with_fit (shapes.Achievement count ∷ shapes) (e ∷ earned)
+    (OfAchievement state measured hits old ∷ items) fit hold =
     ((fit.0.0, hold.0, fit.0.2, fit.0.3), items_with_fit shapes earned items fit.1 hold.1)
-items_with_fit (shapes.Achievement count ∷ shapes) (e ∷ earned) (OfBoard state hits numbers ∷ items) fit hold = absurd fit.0
-items_with_fit (shapes.Leaderboard count parts ∷ shapes) (e ∷ earned) (OfAchievement state measured hits old ∷ items) fit hold = absurd fit.0
+items_with_fit (shapes.Achievement count ∷ shapes) (e ∷ earned)
+    (OfBoard state hits numbers ∷ items) fit hold = absurd fit.0
+items_with_fit (shapes.Leaderboard count parts ∷ shapes) (e ∷ earned)
+    (OfAchievement state measured hits old ∷ items) fit hold = absurd fit.0
 items_with_fit (shapes.Leaderboard count parts ∷ shapes) (e ∷ earned) (OfBoard state hits numbers ∷ items) fit hold =
     (fit.0, items_with_fit shapes earned items fit.1 hold.1)
 
 -- items that fit have earned what is triggered
-pub fit_hold : (shapes : List ItemShape) (items : List KeptItem) → ItemsFit shapes items → HoldTriggered (map is_earned items) items
+pub fit_hold : (shapes : List ItemShape) (items : List KeptItem) → ItemsFit shapes items
+    → HoldTriggered (map is_earned items) items
 fit_hold [] [] fit = tt
 fit_hold [] (item ∷ items) fit = absurd fit
 fit_hold (shape ∷ shapes) [] fit = absurd fit
-fit_hold (shapes.Achievement count ∷ shapes) (OfAchievement state measured hits earned ∷ items) fit = (fit.0.1, fit_hold shapes items fit.1)
+fit_hold (shapes.Achievement count ∷ shapes)
+    (OfAchievement state measured hits earned ∷ items) fit = (fit.0.1, fit_hold shapes items fit.1)
 fit_hold (shapes.Achievement count ∷ shapes) (OfBoard state hits numbers ∷ items) fit = absurd fit.0
 fit_hold (shapes.Leaderboard count parts ∷ shapes) (OfAchievement state measured hits earned ∷ items) fit = absurd fit.0
-fit_hold (shapes.Leaderboard count parts ∷ shapes) (OfBoard state hits numbers ∷ items) fit = (refl, fit_hold shapes items fit.1)
+fit_hold (shapes.Leaderboard count parts ∷ shapes) (OfBoard state hits numbers ∷ items) fit =
+    (refl, fit_hold shapes items fit.1)
 
 -- what was earned is among what is earned in the one or in the other
 pub earned_stays : (earned others : Earned) → IsEarnedToo earned (both_earned earned others)
@@ -102,33 +116,43 @@ earned_stays (e ∷ earned) [] = refl
 earned_stays (e ∷ earned) (o ∷ others) = ap₂ (λ x xs. x ∷ xs) (or_again e o) (earned_stays earned others)
 
 -- what is earned beside others of the same items holds what is triggered in these
-pub said_hold : (shapes : List ItemShape) (olds said : List KeptItem) → ItemsFit shapes olds → ItemsFit shapes said → HoldTriggered (both_earned (map is_earned olds) (map is_earned said)) said
+pub said_hold : (shapes : List ItemShape) (olds said : List KeptItem) → ItemsFit shapes olds
+    → ItemsFit shapes said
+    → HoldTriggered (both_earned (map is_earned olds) (map is_earned said)) said
 said_hold [] [] [] old fit = tt
 said_hold [] [] (item ∷ said) old fit = absurd fit
 said_hold [] (item ∷ olds) said old fit = absurd old
 said_hold (shape ∷ shapes) [] said old fit = absurd old
 said_hold (shape ∷ shapes) (item ∷ olds) [] old fit = absurd fit
-said_hold (shapes.Achievement count ∷ shapes) (OfAchievement s m h before ∷ olds) (OfAchievement state measured hits earned ∷ said) old fit =
+said_hold (shapes.Achievement count ∷ shapes) (OfAchievement s m h before ∷ olds)
+    (OfAchievement state measured hits earned ∷ said) old fit =
     ((λ four. or_true before earned (fit.0.1 four)), said_hold shapes olds said old.1 fit.1)
 said_hold (shapes.Achievement count ∷ shapes) (OfBoard s h n ∷ olds) said old fit = absurd old.0
-said_hold (shapes.Achievement count ∷ shapes) (OfAchievement s m h before ∷ olds) (OfBoard state hits numbers ∷ said) old fit = absurd fit.0
+said_hold (shapes.Achievement count ∷ shapes) (OfAchievement s m h before ∷ olds)
+    (OfBoard state hits numbers ∷ said) old fit = absurd fit.0
 said_hold (shapes.Leaderboard count parts ∷ shapes) (OfAchievement s m h before ∷ olds) said old fit = absurd old.0
-said_hold (shapes.Leaderboard count parts ∷ shapes) (OfBoard s h n ∷ olds) (OfAchievement state measured hits earned ∷ said) old fit = absurd fit.0
+said_hold (shapes.Leaderboard count parts ∷ shapes) (OfBoard s h n ∷ olds)
+    (OfAchievement state measured hits earned ∷ said) old fit = absurd fit.0
 said_hold (shapes.Leaderboard count parts ∷ shapes) (OfBoard s h n ∷ olds) (OfBoard state hits numbers ∷ said) old fit =
     (refl, said_hold shapes olds said old.1 fit.1)
 
 -- after a frame what was earned, with what unlocks there, holds what is triggered
 module _ (start : Start) (image : List ℕ) (earlier : History) where
-  item_holds : (item : ItemContents) (opened : KeptItem) (earned : Bool) → HoldsTriggered earned (item_after start earlier (item, opened))
-      → HoldsTriggered (earned || unlocks start image earlier (item, opened)) (item_after start (image ∷ earlier) (item, opened))
+  item_holds : (item : ItemContents) (opened : KeptItem) (earned : Bool)
+      → HoldsTriggered earned (item_after start earlier (item, opened))
+      → HoldsTriggered (earned || unlocks start image earlier (item, opened))
+      (item_after start (image ∷ earlier) (item, opened))
   item_holds (Unlocks id t) opened earned hold =
       let before : TriggerKept = achievement_after start t (opened_achievement opened) earlier in
       let after : TriggerKept = achievement_after start t (opened_achievement opened) (image ∷ earlier) in
-      λ four. unlocked earned (is_triggered before.state) (is_triggered after.state) (λ was. hold (byte_triggered before.state was)) (triggered_byte after.state four)
+      λ four. unlocked earned (is_triggered before.state) (is_triggered after.state)
+      (λ was. hold (byte_triggered before.state was)) (triggered_byte after.state four)
   item_holds (Ranks id format b) opened earned hold = or_false earned hold
 
-  pub frame_holds : (items : List ItemContents) (opened : List KeptItem) (earned : Earned) → HoldTriggered earned (map (item_after start earlier) (zip items opened))
-      → HoldTriggered (both_earned earned (map (unlocks start image earlier) (zip items opened))) (map (item_after start (image ∷ earlier)) (zip items opened))
+  pub frame_holds : (items : List ItemContents) (opened : List KeptItem) (earned : Earned)
+      → HoldTriggered earned (map (item_after start earlier) (zip items opened))
+      → HoldTriggered (both_earned earned (map (unlocks start image earlier) (zip items opened)))
+      (map (item_after start (image ∷ earlier)) (zip items opened))
   frame_holds [] opened [] hold = tt
   frame_holds [] opened (e ∷ earned) hold = absurd hold
   frame_holds (item ∷ items) [] [] hold = tt
@@ -138,13 +162,15 @@ module _ (start : Start) (image : List ℕ) (earlier : History) where
       (item_holds item k e hold.0, frame_holds items opened earned hold.1)
 
 -- in the plain opening nothing is earned
-plain_earned : (items : List ItemContents) → map is_earned (map plain_item (map item_shape items)) ≡ map (λ item. false) items
+plain_earned : (items : List ItemContents) → map is_earned (map plain_item (map item_shape items))
+    ≡ map (λ item. false) items
 plain_earned [] = refl
 plain_earned (Unlocks id t ∷ items) = ap (λ es. false ∷ es) (plain_earned items)
 plain_earned (Ranks id format b ∷ items) = ap (λ es. false ∷ es) (plain_earned items)
 
 -- an opening with exactly these achievements earned
-pub opening_with : (set : SetContents) (o : Opening) (earned : Earned) → IsOpening (shape_of set) o → HoldTriggered earned o.items → IsOpening (shape_of set) (with_earned o earned)
+pub opening_with : (set : SetContents) (o : Opening) (earned : Earned) → IsOpening (shape_of set) o
+    → HoldTriggered earned o.items → IsOpening (shape_of set) (with_earned o earned)
 opening_with set o earned is hold = record {
   frames = is.frames;
   cells = is.cells;
