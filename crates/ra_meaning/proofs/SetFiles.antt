@@ -1,5 +1,6 @@
 -- The set of a file has its structure, digests for names, and own bytes that are no longer than a progress file may be.
-use Rattle.std.proofs.Common.{◌≡◌, ◌∙◌, ℕ, ◌+◌, ◌≤◌, Option, None, Some, option_map, IfSome, List, length, length-append, All, inl, inr, sym, ap, subst, arith}
+use Rattle.std.proofs.Common.{◌≡◌, ◌∙◌, ℕ, ◌+◌, ◌≤◌, Option, None, Some, option_map, IfSome, List, length}
+use Rattle.std.proofs.Common.{length-append, All, inl, inr, sym, ap, subst, arith}
 use Rattle.std.specs.List.{AllByRecursion}
 use Rattle.md5.specs.Md5.{md5}
 use Rattle.md5.proofs.StandardFacts.{length-md5}
@@ -24,13 +25,15 @@ use Rattle.ra_meaning.proofs.Counts.FewCells.{few_cells, few_tracked}
 use Rattle.ra_meaning.proofs.Counts.SmallShape.{small_shape}
 use Rattle.ra_meaning.proofs.Openings.Snapshots.{is_shape}
 
-script_spelled : (file : List ℕ) (contents : FileContents) → length file ≤ 4194304 → set_file file contents → OptionalScript (option_map script_of contents.script)
+script_spelled : (file : List ℕ) (contents : FileContents) → length file ≤ 4194304
+    → set_file file contents → OptionalScript (option_map script_of contents.script)
 script_spelled file contents size (inl h) =
     let text = h.of_next.front in
     let parts = h.of_next.v in
     let few = parts-lines text parts h.of_next.of_first in
     let within : length file ≡ length h.front + length h.behind = ap length h.parts ∙ length-append h.front h.behind in
-    let inside : length h.behind ≡ length text + length h.of_next.behind = ap length h.of_next.parts ∙ length-append text h.of_next.behind in
+    let inside : length h.behind ≡ length text + length h.of_next.behind =
+    ap length h.of_next.parts ∙ length-append text h.of_next.behind in
     subst (λ (c : FileContents). OptionalScript (option_map script_of c.script)) (sym h.of_next.of_next.is)
     (script-structure (left_lines text) parts h.of_next.of_first, omega (arith, few, size, within, inside))
 script_spelled file contents size (inr h) =
@@ -39,7 +42,8 @@ script_spelled file contents size (inr h) =
 pub set_spelled : (file : List ℕ) (set : SetContents) → IsSet file set → IsSpelled set
 set_spelled file set s = record {
   items = subst (All IsItem) (sym s.spelled.items) (contents-items file s.spelled.contents s.spelled.spelled);
-  script = subst OptionalScript (sym s.spelled.script) (script_spelled file s.spelled.contents s.size s.spelled.spelled);
+  script = subst OptionalScript (sym s.spelled.script)
+      (script_spelled file s.spelled.contents s.size s.spelled.spelled);
 }
 
 digest_named : (text : List ℕ) → IsName (md5 text)

@@ -1,5 +1,6 @@
 -- The opening of a set that was never played is an opening of it.
-use Rattle.std.proofs.Common.{◌≡◌, ℕ, ◌<◌, Option, None, Some, option_map, List, [], ◌∷◌, length, map, replicate, refl, arith, lit<, lit≤}
+use Rattle.std.proofs.Common.{◌≡◌, ℕ, ◌<◌, Option, None, Some, option_map, List, [], ◌∷◌, length, map, replicate, refl}
+use Rattle.std.proofs.Common.{arith, lit<, lit≤}
 use Rattle.std.proofs.lemmas.List.{length-replicate}
 use Rattle.ra_richpresence.specs.Contents.{ScriptContents}
 use Rattle.ra_set.specs.Contents.{SetContents}
@@ -28,7 +29,9 @@ plain_items_fit : (shapes : List ItemShape) → ItemsFit shapes (map plain_item 
 plain_items_fit [] = tt
 plain_items_fit (shape ∷ shapes) = (plain_item_fits shape, plain_items_fit shapes)
 
-plain_presence_fits : (script : Option ScriptContents) → ((s : ScriptContents) → script ≡ Some s → 0 < length s.lines) → PresenceFits (option_map presence_shape script) (option_map plain_presence (option_map presence_shape script))
+plain_presence_fits : (script : Option ScriptContents)
+    → ((s : ScriptContents) → script ≡ Some s → 0 < length s.lines) → PresenceFits (option_map
+    presence_shape script) (option_map plain_presence (option_map presence_shape script))
 plain_presence_fits None has = tt
 plain_presence_fits (Some script) has =
     let shape : PresenceShape = presence_shape script in

@@ -1,5 +1,6 @@
 -- What a set keeps after a history is an opening of it, and comes back from its bytes.
-use Rattle.std.proofs.Common.{◌≡◌, ℕ, ◌<◌, ◌≤◌, ◌^◌, Option, None, Some, option_map, option_to_list, unwrap_or, is_some, IfSome, List, [], ◌∷◌, ◌++◌, length, map, refl, sym, ◌∙◌, ap, subst, arith}
+use Rattle.std.proofs.Common.{◌≡◌, ℕ, ◌<◌, ◌≤◌, ◌^◌, Option, None, Some, option_map, option_to_list, unwrap_or, is_some}
+use Rattle.std.proofs.Common.{IfSome, List, [], ◌∷◌, ◌++◌, length, map, refl, sym, ◌∙◌, ap, subst, arith}
 use Rattle.std.specs.List.{AllByRecursion}
 use Rattle.std.proofs.lemmas.List.{length-map}
 use Rattle.std.proofs.lemmas.Option.{none-some}
@@ -47,7 +48,8 @@ HasFewLines set =
 -- an opening of a set, accepted from its bytes and said again
 abbrev pub ComesBackTo : SetContents → Opening → Type 0
 ComesBackTo set o =
-    (refusal (shape_of set) (progress_bytes (shape_of set) o) ≡ None) × (says (shape_of set) (progress_bytes (shape_of set) o) ≡ o)
+    (refusal (shape_of set) (progress_bytes (shape_of set) o) ≡ None)
+    × (says (shape_of set) (progress_bytes (shape_of set) o) ≡ o)
 
 pub spelled_has_script : (set : SetContents) → IsSpelled set → HasScript set
 spelled_has_script set spelled script some =
@@ -69,7 +71,9 @@ count_fits : (count more : ℕ) → frames_after count more < 2 ^ 64
 count_fits count more = omega arith
 
 -- the opening of a run is one of its set at every history
-pub snapshot_fits : (set : SetContents) (o : Opening) (history : History) → IsSpelled set → IsOpening (shape_of set) o → AreImages history → IsOpening (shape_of set) (snapshot set o history)
+pub snapshot_fits : (set : SetContents) (o : Opening) (history : History) → IsSpelled set
+    → IsOpening (shape_of set) o → AreImages history
+    → IsOpening (shape_of set) (snapshot set o history)
 snapshot_fits set o history spelled is images =
     let start = start_of set o in
     let words = start_words set o is in
@@ -78,23 +82,28 @@ snapshot_fits set o history spelled is images =
       cells = cells_fit set o is history images;
       priors = priors_fit set o is history images;
       items = items_fit start words set.items (spelled_items set spelled) o.items is.items history images;
-      presence = presence_fits start words history images set.script (spelled_has_script set spelled) o.presence is.presence;
+      presence = presence_fits start words history images set.script
+          (spelled_has_script set spelled) o.presence is.presence;
     }
 
 -- a shape's count of lines is the script's
-few_in_shape : (script : Option ScriptContents) → ((s : ScriptContents) → script ≡ Some s → length s.lines < 2 ^ 32) → (shape : PresenceShape) → option_map presence_shape script ≡ Some shape → shape.lines < 2 ^ 32
+few_in_shape : (script : Option ScriptContents)
+    → ((s : ScriptContents) → script ≡ Some s → length s.lines < 2 ^ 32) → (shape : PresenceShape)
+    → option_map presence_shape script ≡ Some shape → shape.lines < 2 ^ 32
 few_in_shape None few shape is = absurd (none-some shape is)
 few_in_shape (Some script) few shape is =
     let same : presence_shape script ≡ shape = ap (λ s. unwrap_or s shape) is in
     subst (λ (s : PresenceShape). s.lines < 2 ^ 32) same (few script refl)
 
 -- the names of some things
-all_named : {A : Type 0} (name : A → List ℕ) → ((a : A) → IsName (name a)) → (things : List A) → AllByRecursion IsName (map name things)
+all_named : {A : Type 0} (name : A → List ℕ) → ((a : A) → IsName (name a)) → (things : List A)
+    → AllByRecursion IsName (map name things)
 all_named name is [] = tt
 all_named name is (a ∷ things) = (is a, all_named name is things)
 
 -- what holds of names and of one more where there is one holds of all
-named_last : (names : List (List ℕ)) (last : Option (List ℕ)) → AllByRecursion IsName names → IfSome last IsName → AllByRecursion IsName (names ++ option_to_list last)
+named_last : (names : List (List ℕ)) (last : Option (List ℕ)) → AllByRecursion IsName names
+    → IfSome last IsName → AllByRecursion IsName (names ++ option_to_list last)
 named_last [] None all one = tt
 named_last [] (Some name) all one = (one, tt)
 named_last (n ∷ names) last all one = (all.0, named_last names last all.1 one)
@@ -106,7 +115,8 @@ tracked_named : (t : Tracked) → IsName (tracked_name t)
 tracked_named t = record { long = length-md5 _; fit = md5_bytes _ }
 
 -- there is a name of a script exactly where there is a script
-script_paired : (name : Option (List ℕ)) (script : Option ScriptContents) → NamesScript name script → is_some name ≡ is_some (option_map presence_shape script)
+script_paired : (name : Option (List ℕ)) (script : Option ScriptContents) → NamesScript name script
+    → is_some name ≡ is_some (option_map presence_shape script)
 script_paired None None is = refl
 script_paired None (Some script) is = absurd is
 script_paired (Some name) None is = absurd is
@@ -121,7 +131,8 @@ is_paired set limits named = record {
 }
 
 -- the parts of the shape of a set are within their types
-pub is_shape : (set : SetContents) → IsWithinLimits set → IsSpelled set → IsNamed set → HasDigests set → length_of (shape_of set) ≤ 8388608 → IsShape (shape_of set)
+pub is_shape : (set : SetContents) → IsWithinLimits set → IsSpelled set → IsNamed set
+    → HasDigests set → length_of (shape_of set) ≤ 8388608 → IsShape (shape_of set)
 is_shape set limits spelled named digests short = record {
   digest = digests.digest;
   cells = all_named cell_name cell_named (set_cells set);
@@ -132,7 +143,9 @@ is_shape set limits spelled named digests short = record {
   short = short;
 }
 
-lines_in_shape : (script : Option ScriptContents) → ((s : ScriptContents) → script ≡ Some s → 0 < length s.lines) → (shape : PresenceShape) → option_map presence_shape script ≡ Some shape → 0 < shape.lines
+lines_in_shape : (script : Option ScriptContents)
+    → ((s : ScriptContents) → script ≡ Some s → 0 < length s.lines) → (shape : PresenceShape)
+    → option_map presence_shape script ≡ Some shape → 0 < shape.lines
 lines_in_shape None has shape is = absurd (none-some shape is)
 lines_in_shape (Some script) has shape is =
     let same : presence_shape script ≡ shape = ap (λ s. unwrap_or s shape) is in
@@ -141,18 +154,22 @@ lines_in_shape (Some script) has shape is =
 -- a script has a line
 pub script_has_lines : (set : SetContents) → OptionalScript set.script → HasLines (shape_of set)
 script_has_lines set spelled =
-    lines_in_shape set.script (λ script some. some_line script.lines (spelled_script script (script_in set.script spelled script some).0).untested)
+    lines_in_shape set.script (λ script some. some_line script.lines
+    (spelled_script script (script_in set.script spelled script some).0).untested)
 
 pub has_lines : (set : SetContents) → IsSpelled set → HasLines (shape_of set)
 has_lines set spelled = script_has_lines set spelled.script
 
 -- what accepted bytes say is an opening
-pub said_is_opening : (set : SetContents) (bytes : List ℕ) → IsWithinLimits set → IsSpelled set → IsNamed set → AreBytes bytes → IsAccepted (shape_of set) bytes → IsOpening (shape_of set) (says (shape_of set) bytes)
+pub said_is_opening : (set : SetContents) (bytes : List ℕ) → IsWithinLimits set → IsSpelled set
+    → IsNamed set → AreBytes bytes → IsAccepted (shape_of set) bytes
+    → IsOpening (shape_of set) (says (shape_of set) bytes)
 said_is_opening set bytes limits spelled named fit accepted =
     says_opening bytes fit (shape_of set) (is_paired set limits named) (has_lines set spelled) accepted
 
 -- the bytes of any opening of a set are accepted, and say it again
-pub opening_comes_back : (set : SetContents) (o : Opening) → IsShape (shape_of set) → IsOpening (shape_of set) o → ComesBackTo set o
+pub opening_comes_back : (set : SetContents) (o : Opening) → IsShape (shape_of set)
+    → IsOpening (shape_of set) o → ComesBackTo set o
 opening_comes_back set o shape is =
     let back : ComesBack (shape_of set) o = comes_back (shape_of set) o shape is in
     (accepted_none (shape_of set) (progress_bytes (shape_of set) o) back.accepted, back.says_it)

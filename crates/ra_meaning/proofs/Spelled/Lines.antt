@@ -1,5 +1,6 @@
 -- The lines of a display are ones that some text spells, and a test has as many conditions as its member.
-use Rattle.std.proofs.Common.{◌≡◌, Option, None, Some, List, [], ◌∷◌, get_or, sum_by, All, IfSome, refl, sym, subst, arith}
+use Rattle.std.proofs.Common.{◌≡◌, Option, None, Some, List, [], ◌∷◌, get_or, sum_by, All, IfSome, refl, sym, subst}
+use Rattle.std.proofs.Common.{arith}
 use Rattle.std.proofs.lemmas.List.Elements.{All-append, All-cons, All-nil}
 use Rattle.ra_condition.specs.Contents.{TriggerContents, trigger_hits}
 use Rattle.ra_condition.specs.Spelled.{IsTrigger}
@@ -24,5 +25,6 @@ untested_shown line is = record { test = subst (λ t. IfSome t IsTrigger) (sym i
 pub shown_lines : (lines : List LineContents) → IsDisplay lines → All IsShownLine lines
 shown_lines lines is =
     let front : All IsShownLine is.front = λ k d within. tested_shown (get_or is.front k d) (is.tested k d within) in
-    let last : All IsShownLine (is.last ∷ []) = All-cons IsShownLine is.last [] (untested_shown is.last is.untested) (All-nil IsShownLine) in
+    let last : All IsShownLine (is.last ∷ []) =
+    All-cons IsShownLine is.last [] (untested_shown is.last is.untested) (All-nil IsShownLine) in
     subst (All IsShownLine) (sym is.parts) (All-append IsShownLine is.front (is.last ∷ []) front last)

@@ -34,7 +34,8 @@ spelled_part (Grouped cs) is = spelled_group InValue cs is.conditions
 pub spelled_value : (parts : List PartContents) → IsValue parts → FitsValue parts
 spelled_value parts is = weaker IsPart FitsPart spelled_part parts is.each
 
-spelled_progress : (progress : Option (List PartContents)) → IfSome progress IsValue → AllByRecursion FitsValue (progress_in progress)
+spelled_progress : (progress : Option (List PartContents)) → IfSome progress IsValue
+    → AllByRecursion FitsValue (progress_in progress)
 spelled_progress None is = tt
 spelled_progress (Some parts) is = (spelled_value parts is, tt)
 

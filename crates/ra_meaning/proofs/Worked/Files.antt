@@ -53,7 +53,8 @@ abbrev three_hits_digest : List ℕ
 three_hits_digest = 149 ∷ 195 ∷ 32 ∷ 38 ∷ 163 ∷ 167 ∷ 182 ∷ 252 ∷ 26 ∷ 165 ∷ 61 ∷ 53 ∷ 93 ∷ 130 ∷ 186 ∷ 2 ∷ []
 
 abbrev three_hits_kept : Opening
-three_hits_kept = record { frames = 5; cells = 5 ∷ []; priors = []; items = OfAchievement 4 0 (3 ∷ []) true ∷ []; presence = None }
+three_hits_kept =
+    record { frames = 5; cells = 5 ∷ []; priors = []; items = OfAchievement 4 0 (3 ∷ []) true ∷ []; presence = None }
 
 -- the names of its byte cell and of its line
 abbrev three_hits_cell : List ℕ
@@ -63,15 +64,24 @@ abbrev three_hits_line : List ℕ
 three_hits_line = 121 ∷ 138 ∷ 85 ∷ 252 ∷ 89 ∷ 157 ∷ 157 ∷ 155 ∷ 64 ∷ 108 ∷ 37 ∷ 166 ∷ 66 ∷ 250 ∷ 138 ∷ 154 ∷ []
 
 abbrev three_hits_shape : ShapeContents
-three_hits_shape = record { digest = three_hits_digest; cells = three_hits_cell ∷ []; priors = []; items = Achievement 1 ∷ []; item_names = three_hits_line ∷ []; presence = None; presence_name = None }
+three_hits_shape =
+    record { digest = three_hits_digest; cells = three_hits_cell ∷ []; priors = []; items = Achievement 1 ∷ []; item_names = three_hits_line ∷ []; presence = None; presence_name = None }
 
 -- the file in version 1
 three_hits_old_file : List ℕ
-three_hits_old_file = 82 ∷ 65 ∷ 80 ∷ 71 ∷ 1 ∷ 149 ∷ 195 ∷ 32 ∷ 38 ∷ 163 ∷ 167 ∷ 182 ∷ 252 ∷ 26 ∷ 165 ∷ 61 ∷ 53 ∷ 93 ∷ 130 ∷ 186 ∷ 2 ∷ 5 ∷ 0 ∷ 0 ∷ 0 ∷ 0 ∷ 0 ∷ 0 ∷ 0 ∷ 5 ∷ 0 ∷ 0 ∷ 0 ∷ 4 ∷ 0 ∷ 0 ∷ 0 ∷ 0 ∷ 3 ∷ 0 ∷ 0 ∷ 0 ∷ 56 ∷ 125 ∷ 118 ∷ 132 ∷ 137 ∷ 53 ∷ 203 ∷ 4 ∷ 164 ∷ 98 ∷ 72 ∷ 254 ∷ 221 ∷ 213 ∷ 158 ∷ 169 ∷ []
+three_hits_old_file = 82 ∷ 65 ∷ 80 ∷ 71 ∷ 1 ∷ 149 ∷ 195 ∷ 32 ∷ 38 ∷ 163 ∷ 167 ∷ 182 ∷ 252 ∷ 26 ∷ 165
+    ∷ 61 ∷ 53 ∷ 93 ∷ 130 ∷ 186 ∷ 2 ∷ 5 ∷ 0 ∷ 0 ∷ 0 ∷ 0 ∷ 0 ∷ 0 ∷ 0 ∷ 5 ∷ 0 ∷ 0 ∷ 0 ∷ 4 ∷ 0 ∷ 0 ∷ 0
+    ∷ 0 ∷ 3 ∷ 0 ∷ 0 ∷ 0 ∷ 56 ∷ 125 ∷ 118 ∷ 132 ∷ 137 ∷ 53 ∷ 203 ∷ 4 ∷ 164 ∷ 98 ∷ 72 ∷ 254 ∷ 221
+    ∷ 213 ∷ 158 ∷ 169 ∷ []
 
 -- the file in version 3
 three_hits_file : List ℕ
-three_hits_file = 82 ∷ 65 ∷ 80 ∷ 71 ∷ 3 ∷ 149 ∷ 195 ∷ 32 ∷ 38 ∷ 163 ∷ 167 ∷ 182 ∷ 252 ∷ 26 ∷ 165 ∷ 61 ∷ 53 ∷ 93 ∷ 130 ∷ 186 ∷ 2 ∷ 5 ∷ 0 ∷ 0 ∷ 0 ∷ 0 ∷ 0 ∷ 0 ∷ 0 ∷ 1 ∷ 0 ∷ 0 ∷ 0 ∷ 89 ∷ 116 ∷ 155 ∷ 213 ∷ 202 ∷ 138 ∷ 190 ∷ 118 ∷ 142 ∷ 177 ∷ 55 ∷ 6 ∷ 26 ∷ 79 ∷ 48 ∷ 198 ∷ 5 ∷ 0 ∷ 0 ∷ 0 ∷ 0 ∷ 0 ∷ 0 ∷ 0 ∷ 1 ∷ 0 ∷ 0 ∷ 0 ∷ 121 ∷ 138 ∷ 85 ∷ 252 ∷ 89 ∷ 157 ∷ 157 ∷ 155 ∷ 64 ∷ 108 ∷ 37 ∷ 166 ∷ 66 ∷ 250 ∷ 138 ∷ 154 ∷ 9 ∷ 0 ∷ 0 ∷ 0 ∷ 12 ∷ 0 ∷ 0 ∷ 0 ∷ 0 ∷ 3 ∷ 0 ∷ 0 ∷ 0 ∷ 15 ∷ 110 ∷ 3 ∷ 80 ∷ 187 ∷ 234 ∷ 151 ∷ 28 ∷ 255 ∷ 160 ∷ 73 ∷ 61 ∷ 215 ∷ 56 ∷ 212 ∷ 65 ∷ []
+three_hits_file = 82 ∷ 65 ∷ 80 ∷ 71 ∷ 3 ∷ 149 ∷ 195 ∷ 32 ∷ 38 ∷ 163 ∷ 167 ∷ 182 ∷ 252 ∷ 26 ∷ 165
+    ∷ 61 ∷ 53 ∷ 93 ∷ 130 ∷ 186 ∷ 2 ∷ 5 ∷ 0 ∷ 0 ∷ 0 ∷ 0 ∷ 0 ∷ 0 ∷ 0 ∷ 1 ∷ 0 ∷ 0 ∷ 0 ∷ 89 ∷ 116 ∷ 155
+    ∷ 213 ∷ 202 ∷ 138 ∷ 190 ∷ 118 ∷ 142 ∷ 177 ∷ 55 ∷ 6 ∷ 26 ∷ 79 ∷ 48 ∷ 198 ∷ 5 ∷ 0 ∷ 0 ∷ 0 ∷ 0 ∷ 0
+    ∷ 0 ∷ 0 ∷ 1 ∷ 0 ∷ 0 ∷ 0 ∷ 121 ∷ 138 ∷ 85 ∷ 252 ∷ 89 ∷ 157 ∷ 157 ∷ 155 ∷ 64 ∷ 108 ∷ 37 ∷ 166 ∷ 66
+    ∷ 250 ∷ 138 ∷ 154 ∷ 9 ∷ 0 ∷ 0 ∷ 0 ∷ 12 ∷ 0 ∷ 0 ∷ 0 ∷ 0 ∷ 3 ∷ 0 ∷ 0 ∷ 0 ∷ 15 ∷ 110 ∷ 3 ∷ 80 ∷ 187
+    ∷ 234 ∷ 151 ∷ 28 ∷ 255 ∷ 160 ∷ 73 ∷ 61 ∷ 215 ∷ 56 ∷ 212 ∷ 65 ∷ []
 
 three_hits_lengths : (length_1_of three_hits_shape ≡ 58) × (length_of three_hits_shape ≡ 106)
 three_hits_lengths = (refl, refl)
