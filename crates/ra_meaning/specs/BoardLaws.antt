@@ -51,7 +51,8 @@ running_value start history parts old new kept =
 abbrev pub board_value : Start → BoardContents → FieldsKept → List PartContents → ValueKept → History → ValueKept
 board_value start b opened parts kept [] = kept
 board_value start b opened parts kept (image ∷ earlier) =
-    running_value start (image ∷ earlier) parts (board_state start b opened earlier) (board_state start b opened (image ∷ earlier))
+    running_value start (image ∷ earlier) parts (board_state start b opened earlier)
+    (board_state start b opened (image ∷ earlier))
     (board_value start b opened parts kept earlier)
 
 -- the parts of a progress that may be missing
@@ -72,4 +73,5 @@ fields_after start b opened history = record {
 -- each field of a board after a history is what its own recursion over the history says
 abbrev pub IsByFields : Start → BoardContents → BoardKept → Type 0
 IsByFields start b opened =
-    HasShape (board_member b) opened.member → (history : History) → fields_kept (board_after start b opened history) ≡ fields_after start b (fields_kept opened) history
+    HasShape (board_member b) opened.member → (history : History) → fields_kept
+    (board_after start b opened history) ≡ fields_after start b (fields_kept opened) history

@@ -9,7 +9,8 @@ use Rattle.ra_memref.specs.Values.{Start}
 use Rattle.ra_value.specs.Steps.{ValueKept, no_value, signed_greatest}
 use Rattle.ra_progress.specs.Contents.{KeptItem, OfAchievement, OfBoard}
 use Rattle.ra_member.specs.Folds.{after}
-use Rattle.ra_member.specs.Members.{MemberKept, no_values, tests_next, tests_hold, values_next, saved_hits, saved_numbers, opened_member}
+use Rattle.ra_member.specs.Members.{MemberKept, no_values, tests_next, tests_hold, values_next, saved_hits}
+use Rattle.ra_member.specs.Members.{saved_numbers, opened_member}
 use Rattle.ra_meaning.specs.Order.{board_member}
 
 -- what is kept of a board between frames: its state, and what its tests and values keep
@@ -23,9 +24,11 @@ state_by state (start ∷ cancel ∷ submit ∷ _) = state_after state start can
 state_by state _ = state
 
 -- the values of a board at the last frame, where the state goes from old to new: they begin anew, are stepped, or stay
-abbrev pub running_values : Start → List (List PartContents) → History → (old new : BoardState) → List ValueKept → List ValueKept
+abbrev pub running_values : Start → List (List PartContents) → History → (old new : BoardState)
+    → List ValueKept → List ValueKept
 running_values start values history old new kept =
-    if is_running new then values_next start values history (if begins old new then no_values values else kept) else kept
+    if is_running new then values_next start values history (if begins old new then no_values values
+    else kept) else kept
 
 -- a board after the last frame, from what was kept before it
 abbrev pub board_next : Start → BoardContents → History → BoardKept → BoardKept

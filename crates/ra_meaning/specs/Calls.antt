@@ -40,4 +40,5 @@ AllSucceed runtime (call ∷ calls) =
 -- over a runtime that was made, every list of calls that may come succeeds
 abbrev pub CallsSucceed : SetContents → Type 0
 CallsSucceed set =
-    (size : ℕ) (runtime : RuntimeSeen) (calls : List Call) → IsMade set size runtime → AllByRecursion (MayCome set size) calls → AllSucceed runtime calls
+    (size : ℕ) (runtime : RuntimeSeen) (calls : List Call) → IsMade set size runtime
+    → AllByRecursion (MayCome set size) calls → AllSucceed runtime calls

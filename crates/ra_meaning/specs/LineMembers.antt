@@ -1,4 +1,5 @@
--- The tests and values of the lines of a script, and their shape: docs/DEFINITIONS.md, "Presence over frames" and "Shape of a set".
+-- The tests and values of the lines of a script, and their shape: docs/DEFINITIONS.md, "Presence over frames" and
+-- "Shape of a set".
 use Rattle.std.specs.Prelude.{Option, None, Some, List, [], ◌∷◌, length, map, sum}
 use Rattle.ra_condition.specs.Contents.{TriggerContents}
 use Rattle.ra_richpresence.specs.Contents.{LineContents, ScriptContents, values_in_line}

@@ -4,7 +4,8 @@ use Rattle.std.specs.Fmt.{signed_decimal}
 use Rattle.std.specs.List.{flat_map}
 use Rattle.ra_value_format.specs.Formats.{formatted, HasDigits}
 use Rattle.ra_meaning.specs.declared.event.Event.{Event}
-use Rattle.ra_meaning.specs.declared.event.Event.TheVariants.{Measured, Primed, Unprimed, Unlock, Start, Track, Cancel, Submit}
+use Rattle.ra_meaning.specs.declared.event.Event.TheVariants.{Measured, Primed, Unprimed, Unlock, Start, Track, Cancel}
+use Rattle.ra_meaning.specs.declared.event.Event.TheVariants.{Submit}
 pub use Rattle.ra_meaning.specs.LineOf.{line_of}
 
 -- the line of an event at the frame of this number

@@ -43,16 +43,21 @@ abbrev pub HasDisplayShapes : Option ScriptContents → Option KeptPresence → 
 HasDisplayShapes (Some script) (Some kept) = HaveShapes (script_members script) (opened_display script kept).lines
 HasDisplayShapes _ _ = Unit {0}
 
--- the plain opening is an opening, a snapshot is one, that of no frames is the opening before them, and what accepted bytes say is one, whose bytes they are where they are the set's own
+-- the plain opening is an opening, a snapshot is one, that of no frames is the opening before them, and what accepted
+-- bytes say is one, whose bytes they are where they are the set's own
 pub record HasOpenings (set : SetContents) : Type 0 where
   pub plain : IsSpelled set → IsOpening (shape_of set) (plain_opening set)
-  pub after : (o : Opening) (history : History) → IsSpelled set → IsOpening (shape_of set) o → AreImages history → IsOpening (shape_of set) (snapshot set o history)
+  pub after : (o : Opening) (history : History) → IsSpelled set → IsOpening (shape_of set) o
+      → AreImages history → IsOpening (shape_of set) (snapshot set o history)
   pub none : (o : Opening) → IsOpening (shape_of set) o → snapshot set o [] ≡ o
   -- a set of a file is complete, and a complete one has its shape within what a file may be
   pub complete : (file : List ℕ) → IsSet file set → IsComplete set
   pub shape : IsComplete set → IsShape (shape_of set)
-  pub said : (bytes : List ℕ) → IsWithinLimits set → IsSpelled set → IsNamed set → AreBytes bytes → IsAccepted (shape_of set) bytes → IsOpening (shape_of set) (says (shape_of set) bytes)
-  pub again : (bytes : List ℕ) → IsShape (shape_of set) → AreBytes bytes → IsAccepted (shape_of set) bytes → IsOwn (shape_of set) bytes → progress_bytes (shape_of set) (says (shape_of set) bytes) ≡ bytes
+  pub said : (bytes : List ℕ) → IsWithinLimits set → IsSpelled set → IsNamed set → AreBytes bytes
+      → IsAccepted (shape_of set) bytes → IsOpening (shape_of set) (says (shape_of set) bytes)
+  pub again : (bytes : List ℕ) → IsShape (shape_of set) → AreBytes bytes
+      → IsAccepted (shape_of set) bytes → IsOwn (shape_of set) bytes
+      → progress_bytes (shape_of set) (says (shape_of set) bytes) ≡ bytes
   -- what it keeps for boards and for a display has their shapes
   pub boards : (o : Opening) → IsOpening (shape_of set) o → AllByRecursion HasBoardShape (zip set.items o.items)
   pub display : (o : Opening) → IsOpening (shape_of set) o → HasDisplayShapes set.script o.presence

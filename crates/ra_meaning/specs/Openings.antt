@@ -1,5 +1,7 @@
--- What stands before the first frame of a set, and the opening after a history: docs/DEFINITIONS.md, "Openings and snapshots".
-use Rattle.std.specs.Prelude.{ℕ, ◌+◌, ◌-◌, ◌^◌, min, ◌||◌, Bool, Option, None, Some, if◌then◌else◌, List, [], ◌∷◌, length, map, drop, zip, slice_index}
+-- What stands before the first frame of a set, and the opening after a history: docs/DEFINITIONS.md, "Openings and
+-- snapshots".
+use Rattle.std.specs.Prelude.{ℕ, ◌+◌, ◌-◌, ◌^◌, min, ◌||◌, Bool, Option, None, Some, if◌then◌else◌, List, [], ◌∷◌}
+use Rattle.std.specs.Prelude.{length, map, drop, zip, slice_index}
 use Rattle.ra_richpresence.specs.Contents.{ScriptContents}
 use Rattle.ra_set.specs.Contents.{ItemContents, Unlocks, Ranks, SetContents}
 use Rattle.ra_memory.specs.Image.{History}
@@ -35,7 +37,8 @@ start_of set o = record {
 
 -- what an opening keeps for an achievement
 abbrev pub opened_achievement : KeptItem → TriggerKept
-opened_achievement (OfAchievement state measured hits earned) = record { state = state_of state; measured = measured; hits = hits }
+opened_achievement (OfAchievement state measured hits earned) =
+    record { state = state_of state; measured = measured; hits = hits }
 opened_achievement (OfBoard state hits numbers) = record { state = state_of state; measured = 0; hits = hits }
 
 -- an achievement as a progress file keeps it: earned where it was, or where it is triggered

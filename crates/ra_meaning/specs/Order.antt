@@ -1,4 +1,5 @@
--- The cells and tracked masks of a set, and its shape: docs/DEFINITIONS.md, "Order of first occurrence" and "Shape of a set".
+-- The cells and tracked masks of a set, and its shape: docs/DEFINITIONS.md, "Order of first occurrence" and "Shape of
+-- a set".
 use Rattle.std.specs.Prelude.{Option, None, Some, option_map, List, [], ◌∷◌, ◌++◌, map}
 use Rattle.std.specs.List.{flat_map}
 use Rattle.ra_condition.specs.Contents.{trigger_hits, PartContents}
@@ -11,7 +12,8 @@ use Rattle.ra_progress.specs.declared.shape.ItemShape.TheVariants as shapes
 use Rattle.ra_memref.specs.Names.{cell_name, tracked_name}
 use Rattle.ra_progress.specs.Contents.{ShapeContents}
 use Rattle.ra_member.specs.Members.{MemberContents, trees_in_member, member_hits, member_numbers}
-pub use Rattle.ra_meaning.specs.LineMembers.{tests_in, line_member, script_members, trees_in_line, lines_in, presence_shape}
+pub use Rattle.ra_meaning.specs.LineMembers.{tests_in, line_member, script_members, trees_in_line, lines_in}
+pub use Rattle.ra_meaning.specs.LineMembers.{presence_shape}
 
 -- the progress of a board, which is one value or none
 abbrev pub progress_in : Option (List PartContents) → List (List PartContents)

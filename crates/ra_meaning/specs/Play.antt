@@ -1,5 +1,7 @@
--- What a set tells and prints over the records of a trace: docs/DEFINITIONS.md, "Events", "Frames that lie behind" and "Printed lines".
-use Rattle.std.specs.Prelude.{ℕ, ◌&&◌, not, Bool, true, false, Option, None, Some, List, [], ◌∷◌, ◌++◌, length, map, replicate, zip, codes, decimal, slice_set, slice_index_or}
+-- What a set tells and prints over the records of a trace: docs/DEFINITIONS.md, "Events", "Frames that lie behind" and
+-- "Printed lines".
+use Rattle.std.specs.Prelude.{ℕ, ◌&&◌, not, Bool, true, false, Option, None, Some, List, [], ◌∷◌, ◌++◌, length, map}
+use Rattle.std.specs.Prelude.{replicate, zip, codes, decimal, slice_set, slice_index_or}
 use Rattle.std.specs.List.{flat_map, concat}
 use Rattle.ra_set.specs.Contents.{ItemContents, Unlocks, Ranks, SetContents}
 use Rattle.ra_richpresence.specs.Contents.{ScriptContents}

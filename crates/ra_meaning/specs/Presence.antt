@@ -8,7 +8,8 @@ use Rattle.ra_memref.specs.Values.{Start}
 use Rattle.ra_value.specs.Steps.{signed_greatest}
 use Rattle.ra_progress.specs.Contents.{KeptPresence}
 use Rattle.ra_member.specs.Folds.{after}
-use Rattle.ra_member.specs.Members.{MemberContents, MemberKept, tests_hold, members_next, saved_hits, saved_numbers, opened_members}
+use Rattle.ra_member.specs.Members.{MemberContents, MemberKept, tests_hold, members_next, saved_hits, saved_numbers}
+use Rattle.ra_member.specs.Members.{opened_members}
 use Rattle.ra_meaning.specs.LineMembers.{script_members}
 
 -- what is kept of a display between frames: the shown line, and what the tests and values of each line keep
@@ -32,7 +33,8 @@ first_true [] = 0
 first_true (true ∷ bs) = 0
 first_true (false ∷ bs) = suc (first_true bs)
 
--- a display after the last frame, from what was kept before it: all lines are stepped, and the first that holds is shown
+-- a display after the last frame, from what was kept before it: all lines are stepped, and the first that holds is
+-- shown
 abbrev pub display_next : Start → ScriptContents → History → DisplayKept → DisplayKept
 display_next start script history kept = record {
   shown = first_true (lines_hold start (script_members script) history kept.lines);

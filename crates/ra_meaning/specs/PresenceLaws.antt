@@ -45,5 +45,9 @@ shown_line start script opened kept (image ∷ earlier) =
 
 -- each line of a display after a history, and the shown one, are what their own recursions over the history say
 pub record IsByLines (start : Start) (script : ScriptContents) (opened : DisplayKept) : Type 0 where
-  pub lines : HaveShapes (script_members script) opened.lines → (history : History) → map kept_line (display_after start script opened history).lines ≡ map (line_after start history) (zip script.lines (map kept_line opened.lines))
-  pub shown : HaveShapes (script_members script) opened.lines → (history : History) → (display_after start script opened history).shown ≡ shown_line start script opened.shown (map kept_line opened.lines) history
+  pub lines : HaveShapes (script_members script) opened.lines → (history : History)
+      → map kept_line (display_after start script opened history).lines
+      ≡ map (line_after start history) (zip script.lines (map kept_line opened.lines))
+  pub shown : HaveShapes (script_members script) opened.lines → (history : History)
+      → (display_after start script opened history).shown
+      ≡ shown_line start script opened.shown (map kept_line opened.lines) history
