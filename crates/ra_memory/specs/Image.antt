@@ -2,7 +2,8 @@
 use Rattle.std.specs.Prelude.{◌≡◌, ◌⊎◌, ℕ, zero, suc, ◌+◌, ◌*◌, ◌<◌, List, ◌++◌, length, take, drop, slice_index}
 use Rattle.std.specs.List.{AllByRecursion}
 
--- the images of the frames that lie behind, the newest first: `image ∷ history` has one image more, and `later ++ earlier` went on
+-- the images of the frames that lie behind, the newest first: `image ∷ history` has one image more, and `later ++
+-- earlier` went on
 abbrev pub History : Type 0
 History = List (List ℕ)
 

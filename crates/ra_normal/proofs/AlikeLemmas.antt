@@ -22,20 +22,24 @@ use Rattle.ra_normal.proofs.LegacyLemmas.{same_number, legacy_resets, legacy_fro
 
 -- ---- the constants of legacy terms are numbers of 32 bits
 
-operand_small : (operand : Operand) → Fits32 operand → HasSmallConstants (operand_tree operand (constant 0) (constant 0))
+operand_small : (operand : Operand) → Fits32 operand
+    → HasSmallConstants (operand_tree operand (constant 0) (constant 0))
 operand_small (Const n) fits = fits
 operand_small Recall fits = omega arith
 operand_small (Cell kind size address) fits = tt
 
-factor_small : (tree : Tree) (factor : Option Operand) → HasSmallConstants tree → FitsFactor factor → HasSmallConstants (times tree factor)
+factor_small : (tree : Tree) (factor : Option Operand) → HasSmallConstants tree → FitsFactor factor
+    → HasSmallConstants (times tree factor)
 factor_small tree None small fits = small
 factor_small tree (Some factor) small fits = (small, operand_small factor fits)
 
 term_small : (t : Term) → IsTerm t → HasSmallConstants (term_tree t)
 term_small t is =
-    factor_small (operand_tree t.operand (constant 0) (constant 0)) t.factor (operand_small t.operand is.operand) is.factor
+    factor_small (operand_tree t.operand (constant 0) (constant 0)) t.factor
+    (operand_small t.operand is.operand) is.factor
 
-summed_small : (sum : Tree) (ts : List Term) → HasSmallConstants sum → All IsTerm ts → HasSmallConstants (summed_from sum ts)
+summed_small : (sum : Tree) (ts : List Term) → HasSmallConstants sum → All IsTerm ts
+    → HasSmallConstants (summed_from sum ts)
 summed_small sum [] small each = small
 summed_small sum (t ∷ ts) small each =
     summed_small (join Add sum (term_tree t)) ts (small, term_small t (each 0 t (omega arith)))
@@ -52,7 +56,8 @@ alike start history (t ∷ ts) hits old part =
     let cs : List Condition = legacy_conditions terms in
     let truths = map (truth_at start history cs) (places cs) in
     let lefts = map (left_at start history cs) (places cs) in
-    let small : HasSmallConstants (terms_tree terms) = summed_small (term_tree t) ts (term_small t (part.1 0 t (omega arith)))
+    let small : HasSmallConstants (terms_tree terms) =
+    summed_small (term_tree t) ts (term_small t (part.1 0 t (omega arith)))
     (λ i d within. part.1 (suc i) d (omega (arith, within))) in
     record {
       number = same_number terms start history t refl small hits 0 old;

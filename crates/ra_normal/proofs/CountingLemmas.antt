@@ -1,5 +1,6 @@
 -- A normal text has a condition more for each legacy part.
-use Rattle.std.proofs.Common.{◌≡◌, ℕ, ◌+◌, ◌<◌, ◌≤◌, ◌^◌, List, [], ◌∷◌, Option, None, Some, option_map, IfSome, refl, arith, lit≤}
+use Rattle.std.proofs.Common.{◌≡◌, ℕ, ◌+◌, ◌<◌, ◌≤◌, ◌^◌, List, [], ◌∷◌, Option, None, Some, option_map, IfSome, refl}
+use Rattle.std.proofs.Common.{arith, lit≤}
 use Rattle.std.specs.List.{AllByRecursion, sum_by}
 use Rattle.std.proofs.lemmas.List.Elements.{recursion_from_All}
 use Rattle.std.proofs.lemmas.List.Sums.{sum_by-cons}
@@ -21,7 +22,8 @@ part_more : (part : PartContents) → part_conditions (normal_part part) ≡ par
 part_more (Legacy terms) = omega (arith, many terms)
 part_more (Grouped cs) = omega arith
 
-value_more : (parts : List PartContents) → value_conditions (normal_value parts) ≡ value_conditions parts + legacy_in_value parts
+value_more : (parts : List PartContents) → value_conditions (normal_value parts)
+    ≡ value_conditions parts + legacy_in_value parts
 value_more [] = refl
 value_more (part ∷ parts) =
     let first = part_more part in
@@ -31,7 +33,8 @@ value_more (part ∷ parts) =
     let legacy = sum_by-cons legacy_in_part part parts in
     omega (arith, first, others, normal, plain, legacy)
 
-optional_more : (progress : Option (List PartContents)) → optional_value (option_map normal_value progress) ≡ optional_value progress + legacy_in_optional progress
+optional_more : (progress : Option (List PartContents)) → optional_value
+    (option_map normal_value progress) ≡ optional_value progress + legacy_in_optional progress
 optional_more None = refl
 optional_more (Some parts) = value_more parts
 
@@ -42,7 +45,8 @@ item_more (Ranks id format b) =
     let progress = optional_more b.progress in
     omega (arith, value, progress)
 
-items_more : (items : List ItemContents) → sum_by (λ x. item_conditions (normal_item x)) items ≡ sum_by item_conditions items + sum_by legacy_in_item items
+items_more : (items : List ItemContents) → sum_by (λ x. item_conditions (normal_item x)) items
+    ≡ sum_by item_conditions items + sum_by legacy_in_item items
 items_more [] = refl
 items_more (x ∷ items) =
     let first = item_more x in
@@ -71,7 +75,8 @@ value_few (part ∷ parts) each =
     let legacy = sum_by-cons legacy_in_part part parts in
     omega (arith, first, others, plain, legacy)
 
-optional_few : (progress : Option (List PartContents)) → IfSome progress IsValue → legacy_in_optional progress ≤ optional_value progress
+optional_few : (progress : Option (List PartContents)) → IfSome progress IsValue
+    → legacy_in_optional progress ≤ optional_value progress
 optional_few None is = lit≤ tt
 optional_few (Some parts) is = value_few parts (recursion_from_All IsPart parts is.each)
 
@@ -82,7 +87,8 @@ item_few (Ranks id format b) is =
     let progress = optional_few b.progress is.0.progress in
     omega (arith, value, progress)
 
-items_few : (items : List ItemContents) → AllByRecursion IsItem items → sum_by legacy_in_item items ≤ sum_by item_conditions items
+items_few : (items : List ItemContents) → AllByRecursion IsItem items
+    → sum_by legacy_in_item items ≤ sum_by item_conditions items
 items_few [] each = lit≤ tt
 items_few (x ∷ items) each =
     let first = item_few x each.0 in

@@ -10,7 +10,8 @@ use Rattle.ra_normal.proofs.AcceptedLemmas.{items_are, normal_set, text_accepted
 use Rattle.ra_normal.proofs.PrintedLemmas.{text_alike}
 
 -- a normal text within the limits keeps what its set means
-pub keeps_meaning : (file : List ℕ) (set : SetContents) → IsSet file set → (text : List ℕ) → IsNormal file set text → KeepsMeaning file set text
+pub keeps_meaning : (file : List ℕ) (set : SetContents) → IsSet file set → (text : List ℕ)
+    → IsNormal file set text → KeepsMeaning file set text
 keeps_meaning file set s text h = record {
   normal = normal_set set text;
   accepted = text_accepted file set s text h;

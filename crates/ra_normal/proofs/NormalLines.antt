@@ -1,5 +1,6 @@
 -- The lines of a normal text spell the normal items.
-use Rattle.std.proofs.Common.{◌≡◌, ◌∙◌, inl, inr, ℕ, zero, suc, ◌<◌, ◌^◌, true, not, List, [], ◌∷◌, ◌++◌, map, Option, None, Some, option_map, refl, sym, ap, ap₂, subst, arith, codes, append-nil, append_assoc}
+use Rattle.std.proofs.Common.{◌≡◌, ◌∙◌, inl, inr, ℕ, zero, suc, ◌<◌, ◌^◌, true, not, List, [], ◌∷◌, ◌++◌, map, Option}
+use Rattle.std.proofs.Common.{None, Some, option_map, refl, sym, ap, ap₂, subst, arith, codes, append-nil, append_assoc}
 use Rattle.std.specs.Fmt.{decimal, digits}
 use Rattle.std.specs.List.{AllByRecursion, flat_map}
 use Rattle.ra_condition.specs.Canonical.{trigger_text, value_text}
@@ -13,7 +14,9 @@ use Rattle.ra_leaderboard.specs.Spelled.{IsBoard}
 use Rattle.ra_leaderboard.proofs.BoardStructure.{board-spelled}
 use Rattle.ra_leaderboard.proofs.BoardStructure as boards
 use Rattle.ra_value_format.specs.declared.format.Format.{Format}
-use Rattle.ra_value_format.specs.declared.format.Format.TheVariants.{Value, Score, Frames, Secs, Hundredths, Minutes, SecsAsMins, Unsigned, Tens, Hundreds, Thousands, Fixed, Float}
+use Rattle.ra_value_format.specs.declared.format.Format.TheVariants.{Value, Score, Frames, Secs, Hundredths, Minutes}
+use Rattle.ra_value_format.specs.declared.format.Format.TheVariants.{SecsAsMins, Unsigned, Tens, Hundreds, Thousands}
+use Rattle.ra_value_format.specs.declared.format.Format.TheVariants.{Fixed, Float}
 use Rattle.ra_value_format.specs.Formats.{HasDigits, format_of_name}
 use Rattle.ra_set.specs.Contents.{ItemContents, Unlocks, Ranks}
 use Rattle.ra_set.specs.Grammar.{format_name, line, ended_line}
@@ -31,14 +34,17 @@ use Rattle.ra_normal.proofs.NormalStructure.{board_is, value_again}
 -- ---- names of formats
 
 -- a name of bytes other than spaces and line feeds spells the format that it stands for
-named_so : (c : ℕ) (others : List ℕ) (format : Format) → in_name c ≡ Some c → all_pass (λ c. not (is_in (only (codes " \n")) c)) others ≡ true → format ≡ format_of_name (c ∷ others) → format_name (c ∷ others) format
+named_so : (c : ℕ) (others : List ℕ) (format : Format) → in_name c ≡ Some c
+    → all_pass (λ c. not (is_in (only (codes " \n")) c)) others ≡ true → format
+    ≡ format_of_name (c ∷ others) → format_name (c ∷ others) format
 named_so c others format first all is = record {
   front = c ∷ [];
   behind = others;
   v = c;
   parts = refl;
   of_first = record { symbol = c; alone = refl; listed = first };
-  of_next = record { front = others; behind = []; v = others; parts = sym (append-nil others); of_first = run-spelled others all; of_next = record { empty = refl; is = is } };
+  of_next =
+      record { front = others; behind = []; v = others; parts = sym (append-nil others); of_first = run-spelled others all; of_next = record { empty = refl; is = is } };
 }
 
 -- the first name of a format spells it
@@ -72,7 +78,8 @@ name_is (Float (suc (suc (suc (suc (suc (suc (suc n)))))))) h = absurd (let high
 -- ---- boards
 
 -- pieces of a text, the last three in one or behind the others
-in_one : (first second third comma comma' behind : List ℕ) → (first ++ (comma ++ (second ++ (comma' ++ third)))) ++ behind ≡ first ++ (comma ++ (second ++ (comma' ++ (third ++ behind))))
+in_one : (first second third comma comma' behind : List ℕ) → (first ++ (comma ++ (second ++ (comma'
+    ++ third)))) ++ behind ≡ first ++ (comma ++ (second ++ (comma' ++ (third ++ behind))))
 in_one first second third comma comma' behind =
     append_assoc first (comma ++ (second ++ (comma' ++ third))) behind
     ∙ ap (λ t. first ++ t) (append_assoc comma (second ++ (comma' ++ third)) behind
@@ -94,12 +101,16 @@ board_text_is b = cases b.progress where
   val : List ℕ
   val = value_text (normal_value b.value)
 
-  cases : (progress : Option (List PartContents)) → boards.board_text (normal_board (record b { progress = progress })) ≡ board_text (record b { progress = progress })
-  cases None = ap (λ t. codes "STA:" ++ t) (sym (in_one start cancel submit (codes "::CAN:") (codes "::SUB:") (codes "::VAL:" ++ (val ++ []))))
+  cases : (progress : Option (List PartContents)) → boards.board_text (normal_board
+      (record b { progress = progress })) ≡ board_text (record b { progress = progress })
+  cases None = ap (λ t. codes "STA:" ++ t) (sym (in_one start cancel submit (codes "::CAN:")
+      (codes "::SUB:") (codes "::VAL:" ++ (val ++ []))))
   cases (Some parts) =
       let pro = value_text (normal_value parts) in
-      ap (λ t. codes "STA:" ++ (start ++ (codes "::CAN:" ++ (cancel ++ (codes "::SUB:" ++ (submit ++ (codes "::VAL:" ++ (val ++ (codes "::PRO:" ++ t))))))))) (append-nil pro)
-      ∙ ap (λ t. codes "STA:" ++ t) (sym (in_one start cancel submit (codes "::CAN:") (codes "::SUB:") (codes "::VAL:" ++ (val ++ (codes "::PRO:" ++ pro)))))
+      ap (λ t. codes "STA:" ++ (start ++ (codes "::CAN:" ++ (cancel ++ (codes "::SUB:"
+      ++ (submit ++ (codes "::VAL:" ++ (val ++ (codes "::PRO:" ++ t))))))))) (append-nil pro)
+      ∙ ap (λ t. codes "STA:" ++ t) (sym (in_one start cancel submit (codes "::CAN:")
+      (codes "::SUB:") (codes "::VAL:" ++ (val ++ (codes "::PRO:" ++ pro)))))
 
 -- ---- items
 
@@ -108,7 +119,8 @@ front_is : (id text : List ℕ) → ((id ++ codes " ") ++ text) ++ codes "\n" �
 front_is id text = append_assoc (id ++ codes " ") text (codes "\n") ∙ append_assoc id (codes " ") (text ++ codes "\n")
 
 -- a line of an achievement
-unlocks_spelled : (id : ℕ) (t : TriggerContents) → id < 2 ^ 32 → IsTrigger t → line (head_text 65 id ++ trigger_text t) (Some (Unlocks id t))
+unlocks_spelled : (id : ℕ) (t : TriggerContents) → id < 2 ^ 32 → IsTrigger t
+    → line (head_text 65 id ++ trigger_text t) (Some (Unlocks id t))
 unlocks_spelled id t small is = inr (inl (record {
   front = head_text 65 id;
   behind = trigger_text t;
@@ -119,7 +131,9 @@ unlocks_spelled id t small is = inr (inl (record {
 }))
 
 -- a line of a leaderboard
-ranks_spelled : (id : ℕ) (format : Format) (b : BoardContents) → id < 2 ^ 32 → IsBoard b → HasDigits format → line (head_text 76 id ++ (name_of format ++ 32 ∷ boards.board_text b)) (Some (Ranks id format b))
+ranks_spelled : (id : ℕ) (format : Format) (b : BoardContents) → id < 2 ^ 32 → IsBoard b
+    → HasDigits format → line (head_text 76 id ++ (name_of format ++ 32 ∷ boards.board_text b))
+    (Some (Ranks id format b))
 ranks_spelled id format b small is digits = inr (inr (inl (record {
   front = head_text 76 id;
   behind = name_of format ++ 32 ∷ boards.board_text b;
@@ -132,14 +146,16 @@ ranks_spelled id format b small is digits = inr (inr (inl (record {
     v = format;
     parts = refl;
     of_first = name_is format digits;
-    of_next = record { front = codes " "; behind = boards.board_text b; v = tt; parts = refl; of_first = one-byte 32 refl; of_next = changed board (λ b. Some (Ranks id format b)) (boards.board_text b) b (board-spelled b is) };
+    of_next =
+        record { front = codes " "; behind = boards.board_text b; v = tt; parts = refl; of_first = one-byte 32 refl; of_next = changed board (λ b. Some (Ranks id format b)) (boards.board_text b) b (board-spelled b is) };
   };
 })))
 
 -- the line of an item spells its normal item
 item_spelled : (x : ItemContents) → IsItem x → HasSmallId x → ended_line (item_text x) (Some (normal_item x))
 item_spelled (Unlocks id t) is small =
-    subst (λ text. ended_line text (Some (Unlocks id t))) (ap (λ text. 65 ∷ (32 ∷ text)) (front_is (decimal id) (trigger_text t)))
+    subst (λ text. ended_line text (Some (Unlocks id t)))
+    (ap (λ text. 65 ∷ (32 ∷ text)) (front_is (decimal id) (trigger_text t)))
     (with-end (head_text 65 id ++ trigger_text t) (Some (Unlocks id t)) (unlocks_spelled id t small is))
 item_spelled (Ranks id format b) is small =
     let text = boards.board_text (normal_board b) in
@@ -148,10 +164,12 @@ item_spelled (Ranks id format b) is small =
     ∙ ap (λ text. decimal id ++ (32 ∷ text)) (append_assoc (name_of format) (32 ∷ text) (codes "\n")
     ∙ ap (λ text. name_of format ++ (32 ∷ (text ++ codes "\n"))) (board_text_is b))) in
     subst (λ text. ended_line text (Some (normal_item (Ranks id format b)))) same
-    (with-end (head_text 76 id ++ (name_of format ++ 32 ∷ text)) (Some (normal_item (Ranks id format b))) (ranks_spelled id format (normal_board b) small (board_is b is.0) is.1))
+    (with-end (head_text 76 id ++ (name_of format ++ 32 ∷ text)) (Some (normal_item
+    (Ranks id format b))) (ranks_spelled id format (normal_board b) small (board_is b is.0) is.1))
 
 -- the lines of items spell their normal items
-pub items_spelled : (items : List ItemContents) → AllByRecursion IsItem items → AllByRecursion HasSmallId items → many ended_line (flat_map item_text items) (map Some (map normal_item items))
+pub items_spelled : (items : List ItemContents) → AllByRecursion IsItem items → AllByRecursion
+    HasSmallId items → many ended_line (flat_map item_text items) (map Some (map normal_item items))
 items_spelled [] each small = refl
 items_spelled (x ∷ items) each small = record {
   front = item_text x;
@@ -168,8 +186,10 @@ text_again (Unlocks id t) = refl
 text_again (Ranks id format b) =
     let values = value_again b.value in
     let progress = progress_again b.progress in
-    (λ i. codes "L " ++ (decimal id ++ (codes " " ++ (name_of format ++ (codes " " ++ ((tests_text b ++ (codes "::VAL:" ++ (value_text (values i) ++ progress i))) ++ codes "\n")))))) where
-      progress_again : (progress : Option (List PartContents)) → progress_text (option_map normal_value progress) ≡ progress_text progress
+    (λ i. codes "L " ++ (decimal id ++ (codes " " ++ (name_of format ++ (codes " " ++ ((tests_text b
+    ++ (codes "::VAL:" ++ (value_text (values i) ++ progress i))) ++ codes "\n")))))) where
+      progress_again : (progress : Option (List PartContents))
+          → progress_text (option_map normal_value progress) ≡ progress_text progress
       progress_again None = refl
       progress_again (Some parts) = ap (λ v. codes "::PRO:" ++ value_text v) (value_again parts)
 

@@ -25,7 +25,8 @@ never = record { core = record { flag = Plain; left = Const 0; op = Eq; right = 
 
 -- an achievement
 abbrev resets : TriggerContents
-resets = record { core = record { flag = ResetIf; left = Cell Mem Byte 16; op = Eq; right = Const 5; target = 3 } ∷ []; alts = [] }
+resets = record
+    { core = record { flag = ResetIf; left = Cell Mem Byte 16; op = Eq; right = Const 5; target = 3 } ∷ []; alts = [] }
 
 -- a leaderboard with a legacy part of two terms, one of which has a factor
 abbrev sums : BoardContents
@@ -33,7 +34,8 @@ sums = record {
   start = never;
   cancel = never;
   submit = never;
-  value = Legacy (record { operand = Cell Mem Byte 16; factor = Some (Const 3) } ∷ record { operand = Const 2; factor = None } ∷ []) ∷ [];
+  value = Legacy (record { operand = Cell Mem Byte 16; factor = Some (Const 3) }
+      ∷ record { operand = Const 2; factor = None } ∷ []) ∷ [];
   progress = None;
 }
 
@@ -41,6 +43,7 @@ achievement_line : item_text (Unlocks 1 resets) ≡ codes "A 1 R:0xH0010=5.3.\n"
 unfolding digits
 achievement_line = refl
 
-leaderboard_line : item_text (Ranks 2 Score sums) ≡ codes "L 2 SCORE STA:0=1::CAN:0=1::SUB:0=1::VAL:A:0xH0010*3_A:2_M:0\n"
+leaderboard_line : item_text (Ranks 2 Score sums)
+    ≡ codes "L 2 SCORE STA:0=1::CAN:0=1::SUB:0=1::VAL:A:0xH0010*3_A:2_M:0\n"
 unfolding digits
 leaderboard_line = refl

@@ -1,5 +1,6 @@
 -- A value and its normal value have the same numbers after each frame.
-use Rattle.std.proofs.Common.{◌≡◌, ◌∙◌, ℕ, Bool, true, false, ◌&&◌, ◌||◌, if◌then◌else◌, List, [], ◌∷◌, ◌++◌, length, map, take, drop, replicate, slice_index, refl, sym, ap, ap₂, subst, length-append}
+use Rattle.std.proofs.Common.{◌≡◌, ◌∙◌, ℕ, Bool, true, false, ◌&&◌, ◌||◌, if◌then◌else◌, List, [], ◌∷◌, ◌++◌, length}
+use Rattle.std.proofs.Common.{map, take, drop, replicate, slice_index, refl, sym, ap, ap₂, subst, length-append}
 use Rattle.std.specs.List.{AllByRecursion, list_any, flat_map}
 use Rattle.std.proofs.Math.Seq.{take-append_seam}
 use Rattle.std.proofs.lemmas.List.{length-map, length-replicate, replicate-append-replicate}
@@ -26,20 +27,25 @@ use Rattle.ra_normal.proofs.AlikeLemmas.{alike}
 abbrev pub HitsMatch : List PartContents → (hits other : List ℕ) → Type 0
 HitsMatch [] hits other = (hits ≡ []) × (other ≡ [])
 HitsMatch (Legacy terms ∷ parts) hits other =
-    (row : List ℕ) × (others : List ℕ) × (length row ≡ length (legacy_conditions terms)) × (other ≡ row ++ others) × HitsMatch parts hits others
+    (row : List ℕ) × (others : List ℕ) × (length row ≡ length (legacy_conditions terms))
+    × (other ≡ row ++ others) × HitsMatch parts hits others
 HitsMatch (Grouped cs ∷ parts) hits other =
-    (row : List ℕ) × (rest : List ℕ) × (others : List ℕ) × (length row ≡ length cs) × (hits ≡ row ++ rest) × (other ≡ row ++ others) × HitsMatch parts rest others
+    (row : List ℕ) × (rest : List ℕ) × (others : List ℕ) × (length row ≡ length cs)
+    × (hits ≡ row ++ rest) × (other ≡ row ++ others) × HitsMatch parts rest others
 
 -- zeros in a row
 abbrev zeros : ℕ → List ℕ
 zeros n = replicate n 0
 
 -- as many zeros as two lists have numbers
-zeros_of_both : (all front behind : List ℕ) → all ≡ front ++ behind → zeros (length all) ≡ zeros (length front) ++ zeros (length behind)
+zeros_of_both : (all front behind : List ℕ) → all ≡ front ++ behind → zeros (length all)
+    ≡ zeros (length front) ++ zeros (length behind)
 zeros_of_both all front behind parts =
-    ap zeros (ap length parts ∙ length-append front behind) ∙ sym (replicate-append-replicate (length front) (length behind) 0)
+    ap zeros (ap length parts ∙ length-append front behind)
+    ∙ sym (replicate-append-replicate (length front) (length behind) 0)
 
-zeros_match : (parts : List PartContents) (hits other : List ℕ) → HitsMatch parts hits other → HitsMatch parts (zeros (length hits)) (zeros (length other))
+zeros_match : (parts : List PartContents) (hits other : List ℕ) → HitsMatch parts hits other
+    → HitsMatch parts (zeros (length hits)) (zeros (length other))
 zeros_match [] hits other h = (ap (λ xs. zeros (length xs)) h.0, ap (λ xs. zeros (length xs)) h.1)
 zeros_match (Legacy terms ∷ parts) hits other h =
     (zeros (length h.0), zeros (length h.1), length-replicate (length h.0) 0 ∙ h.2, zeros_of_both other h.0 h.1 h.3, zeros_match parts hits h.1 h.4)
@@ -47,11 +53,14 @@ zeros_match (Grouped cs ∷ parts) hits other h =
     (zeros (length h.0), zeros (length h.1), zeros (length h.2), length-replicate (length h.0) 0 ∙ h.3, zeros_of_both hits h.0 h.1 h.4, zeros_of_both other h.0 h.2 h.5, zeros_match parts h.1 h.2 h.6)
 
 -- zeros for a part and for others
-zeros_with : (part : PartContents) (parts : List PartContents) → zeros (value_hits (part ∷ parts)) ≡ zeros (length (counted_in part)) ++ zeros (value_hits parts)
+zeros_with : (part : PartContents) (parts : List PartContents) → zeros (value_hits (part ∷ parts))
+    ≡ zeros (length (counted_in part)) ++ zeros (value_hits parts)
 zeros_with part parts =
-    ap zeros (sum_by-cons (λ (p : PartContents). length (counted_in p)) part parts) ∙ sym (replicate-append-replicate (length (counted_in part)) (value_hits parts) 0)
+    ap zeros (sum_by-cons (λ (p : PartContents). length (counted_in p)) part parts)
+    ∙ sym (replicate-append-replicate (length (counted_in part)) (value_hits parts) 0)
 
-none_match : (parts : List PartContents) → HitsMatch parts (zeros (value_hits parts)) (zeros (value_hits (normal_value parts)))
+none_match : (parts : List PartContents)
+    → HitsMatch parts (zeros (value_hits parts)) (zeros (value_hits (normal_value parts)))
 none_match [] = (refl, refl)
 none_match (Legacy terms ∷ parts) =
     let n = length (legacy_conditions terms) in
@@ -70,10 +79,12 @@ dropped : {A : Type 0} (n : ℕ) (xs ys : List A) → length xs ≡ n → drop n
 dropped n xs ys is = ap (λ n. drop n (xs ++ ys)) (sym is) ∙ drop-append_seam xs ys
 
 -- a group before other parts
-group_first : (cs : List Condition) (parts : List PartContents) (truths others : List Bool) (lefts lefts' hits hits' sums numbers : List ℕ)
+group_first : (cs : List Condition) (parts : List PartContents) (truths others : List Bool)
+    (lefts lefts' hits hits' sums numbers : List ℕ)
     → length truths ≡ length cs → length lefts ≡ length cs → length hits ≡ length cs
     → part_steps (Grouped cs ∷ parts) (truths ++ others) (lefts ++ lefts') (hits ++ hits') sums numbers
-    ≡ part_step (Grouped cs) (frame_of cs truths lefts hits) (slice_index sums 0) (slice_index numbers 0) ∷ part_steps parts others lefts' hits' (drop 1 sums) (drop 1 numbers)
+    ≡ part_step (Grouped cs) (frame_of cs truths lefts hits) (slice_index sums 0)
+    (slice_index numbers 0) ∷ part_steps parts others lefts' hits' (drop 1 sums) (drop 1 numbers)
 group_first cs parts truths others lefts lefts' hits hits' sums numbers truths_long lefts_long hits_long =
     let n = length cs in
     let t = taken n truths others truths_long in
@@ -82,7 +93,8 @@ group_first cs parts truths others lefts lefts' hits hits' sums numbers truths_l
     let t' = dropped n truths others truths_long in
     let l' = dropped n lefts lefts' lefts_long in
     let h' = dropped n hits hits' hits_long in
-    (λ i. part_step (Grouped cs) (frame_of cs (t i) (l i) (h i)) (slice_index sums 0) (slice_index numbers 0) ∷ part_steps parts (t' i) (l' i) (h' i) (drop 1 sums) (drop 1 numbers))
+    (λ i. part_step (Grouped cs) (frame_of cs (t i) (l i) (h i)) (slice_index sums 0)
+    (slice_index numbers 0) ∷ part_steps parts (t' i) (l' i) (h' i) (drop 1 sums) (drop 1 numbers))
 
 -- parts that reset together, give the same numbers, and keep matching hits
 record AreAlike (parts : List PartContents) (steps others : List PartStep) : Type 0 where
@@ -93,25 +105,39 @@ record AreAlike (parts : List PartContents) (steps others : List PartStep) : Typ
 module _ (start : Start) (history : History) where
   -- the parts of a value at the last frame
   abbrev steps_at : List PartContents → (hits numbers : List ℕ) → List PartStep
-  steps_at parts hits numbers = part_steps parts (truths_at start history (map counted_in parts)) (lefts_at start history (map counted_in parts)) hits (map (sum_at start history) parts) numbers
+  steps_at parts hits numbers = part_steps parts (truths_at start history (map counted_in parts))
+      (lefts_at start history (map counted_in parts)) hits
+      (map (sum_at start history) parts) numbers
 
   -- a group before other parts at the last frame
-  group_at_first : (cs : List Condition) (parts : List PartContents) (hits others numbers : List ℕ) → length hits ≡ length cs
-      → steps_at (Grouped cs ∷ parts) (hits ++ others) numbers ≡ part_step (Grouped cs) (group_at start history cs hits) 0 (slice_index numbers 0) ∷ steps_at parts others (drop 1 numbers)
+  group_at_first : (cs : List Condition) (parts : List PartContents) (hits others numbers : List ℕ)
+      → length hits ≡ length cs
+      → steps_at (Grouped cs ∷ parts) (hits ++ others) numbers ≡ part_step (Grouped cs) (group_at
+      start history cs hits) 0 (slice_index numbers 0) ∷ steps_at parts others (drop 1 numbers)
   group_at_first cs parts hits others numbers long =
-      group_first cs parts (map (truth_at start history cs) (places cs)) (truths_at start history (map counted_in parts)) (map (left_at start history cs) (places cs)) (lefts_at start history (map counted_in parts)) hits others (0 ∷ map (sum_at start history) parts) numbers
-      (length-map-range_with_len (truth_at start history cs) 0 (length cs)) (length-map-range_with_len (left_at start history cs) 0 (length cs)) long
+      group_first cs parts (map (truth_at start history cs) (places cs)) (truths_at start history
+      (map counted_in parts)) (map (left_at start history cs) (places cs)) (lefts_at start history
+      (map counted_in parts)) hits others (0 ∷ map (sum_at start history) parts) numbers
+      (length-map-range_with_len (truth_at start history cs) 0 (length cs))
+      (length-map-range_with_len (left_at start history cs) 0 (length cs)) long
 
   -- two steps of parts before others
-  first_alike : (first other : PartStep) → first.reset ≡ other.reset → first.from_hits ≡ other.from_hits → first.number ≡ other.number
-      → (steps others : List PartStep) → (list_any (λ part. part.reset) steps ≡ list_any (λ part. part.reset) others) → ((reset : Bool) → map (number_after reset) steps ≡ map (number_after reset) others)
-      → (list_any (λ part. part.reset) (first ∷ steps) ≡ list_any (λ part. part.reset) (other ∷ others)) × ((reset : Bool) → map (number_after reset) (first ∷ steps) ≡ map (number_after reset) (other ∷ others))
+  first_alike : (first other : PartStep) → first.reset ≡ other.reset → first.from_hits
+      ≡ other.from_hits → first.number ≡ other.number
+      → (steps others : List PartStep) → (list_any (λ part. part.reset) steps
+      ≡ list_any (λ part. part.reset) others)
+      → ((reset : Bool) → map (number_after reset) steps ≡ map (number_after reset) others)
+      → (list_any (λ part. part.reset) (first ∷ steps)
+      ≡ list_any (λ part. part.reset) (other ∷ others)) × ((reset : Bool)
+      → map (number_after reset) (first ∷ steps) ≡ map (number_after reset) (other ∷ others))
   first_alike first other reset from_hits number steps others resets numbers = (
     ap₂ (λ a b. a || b) reset resets,
     λ clear i. (if clear && from_hits i then 0 else number i) ∷ numbers clear i,
   )
 
-  parts_alike : (parts : List PartContents) → AllByRecursion IsPart parts → (hits other numbers : List ℕ) → HitsMatch parts hits other → AreAlike parts (steps_at parts hits numbers) (steps_at (normal_value parts) other numbers)
+  parts_alike : (parts : List PartContents) → AllByRecursion IsPart parts
+      → (hits other numbers : List ℕ) → HitsMatch parts hits other
+      → AreAlike parts (steps_at parts hits numbers) (steps_at (normal_value parts) other numbers)
   parts_alike [] each hits other numbers h = record { resets = refl; numbers = λ clear. refl; hits = (refl, refl) }
   parts_alike (Legacy terms ∷ parts) each hits other numbers h =
       let cs = legacy_conditions terms in
@@ -119,10 +145,15 @@ module _ (start : Start) (history : History) where
       let step = condition_step start history terms h.0 old in
       let like : IsAlike start history terms step = alike start history terms h.0 old each.0 in
       let behind = parts_alike parts each.1 hits h.1 (drop 1 numbers) h.4 in
-      let here : steps_at (normal_value (Legacy terms ∷ parts)) other numbers ≡ step ∷ steps_at (normal_value parts) h.1 (drop 1 numbers) =
-      ap (λ hits. steps_at (normal_value (Legacy terms ∷ parts)) hits numbers) h.3 ∙ group_at_first cs (normal_value parts) h.0 h.1 numbers h.2 in
-      let legacy : PartStep = record { reset = false; from_hits = false; number = sum_at start history (Legacy terms); hits = [] } in
-      let both = first_alike legacy step (sym like.reset) (sym like.from_hits) (sym like.number) (steps_at parts hits (drop 1 numbers)) (steps_at (normal_value parts) h.1 (drop 1 numbers)) behind.resets behind.numbers in
+      let here : steps_at (normal_value (Legacy terms ∷ parts)) other numbers
+      ≡ step ∷ steps_at (normal_value parts) h.1 (drop 1 numbers) =
+      ap (λ hits. steps_at (normal_value (Legacy terms ∷ parts)) hits numbers) h.3
+      ∙ group_at_first cs (normal_value parts) h.0 h.1 numbers h.2 in
+      let legacy : PartStep =
+      record { reset = false; from_hits = false; number = sum_at start history (Legacy terms); hits = [] } in
+      let both = first_alike legacy step (sym like.reset) (sym like.from_hits) (sym like.number)
+      (steps_at parts hits (drop 1 numbers))
+      (steps_at (normal_value parts) h.1 (drop 1 numbers)) behind.resets behind.numbers in
       subst (AreAlike (Legacy terms ∷ parts) (legacy ∷ steps_at parts hits (drop 1 numbers))) (sym here) (record {
         resets = both.0;
         numbers = both.1;
@@ -134,15 +165,20 @@ module _ (start : Start) (history : History) where
       let behind = parts_alike parts each.1 h.1 h.2 (drop 1 numbers) h.6 in
       let here : steps_at (Grouped cs ∷ parts) hits numbers ≡ step ∷ steps_at parts h.1 (drop 1 numbers) =
       ap (λ hits. steps_at (Grouped cs ∷ parts) hits numbers) h.4 ∙ group_at_first cs parts h.0 h.1 numbers h.3 in
-      let there : steps_at (Grouped cs ∷ normal_value parts) other numbers ≡ step ∷ steps_at (normal_value parts) h.2 (drop 1 numbers) =
-      ap (λ hits. steps_at (Grouped cs ∷ normal_value parts) hits numbers) h.5 ∙ group_at_first cs (normal_value parts) h.0 h.2 numbers h.3 in
-      let both = first_alike step step refl refl refl (steps_at parts h.1 (drop 1 numbers)) (steps_at (normal_value parts) h.2 (drop 1 numbers)) behind.resets behind.numbers in
-      let all : AreAlike (Grouped cs ∷ parts) (step ∷ steps_at parts h.1 (drop 1 numbers)) (step ∷ steps_at (normal_value parts) h.2 (drop 1 numbers)) = record {
+      let there : steps_at (Grouped cs ∷ normal_value parts) other numbers
+      ≡ step ∷ steps_at (normal_value parts) h.2 (drop 1 numbers) =
+      ap (λ hits. steps_at (Grouped cs ∷ normal_value parts) hits numbers) h.5
+      ∙ group_at_first cs (normal_value parts) h.0 h.2 numbers h.3 in
+      let both = first_alike step step refl refl refl (steps_at parts h.1 (drop 1 numbers))
+      (steps_at (normal_value parts) h.2 (drop 1 numbers)) behind.resets behind.numbers in
+      let all : AreAlike (Grouped cs ∷ parts) (step ∷ steps_at parts h.1 (drop 1 numbers))
+      (step ∷ steps_at (normal_value parts) h.2 (drop 1 numbers)) = record {
         resets = both.0;
         numbers = both.1;
         hits = (step.hits, flat_map (λ part. part.hits) (steps_at parts h.1 (drop 1 numbers)), flat_map (λ part. part.hits) (steps_at (normal_value parts) h.2 (drop 1 numbers)), length-next_hits (group_at start history cs h.0), refl, refl, behind.hits);
       } in
-      subst (λ steps. AreAlike (Grouped cs ∷ parts) steps (steps_at (normal_value (Grouped cs ∷ parts)) other numbers)) (sym here)
+      subst (λ steps. AreAlike (Grouped cs ∷ parts) steps
+      (steps_at (normal_value (Grouped cs ∷ parts)) other numbers)) (sym here)
       (subst (AreAlike (Grouped cs ∷ parts) (step ∷ steps_at parts h.1 (drop 1 numbers))) (sym there) all)
 
 -- ---- a value
@@ -156,12 +192,16 @@ pub record ValuesMatch (parts : List PartContents) (kept other : ValueKept) : Ty
 pub no_values_match : (parts : List PartContents) → ValuesMatch parts (no_value parts) (no_value (normal_value parts))
 no_values_match parts = record { numbers = ap zeros (sym (length-map parts normal_part)); hits = none_match parts }
 
-cleared_match : (parts : List PartContents) (clear : Bool) (hits other : List ℕ) → HitsMatch parts hits other → HitsMatch parts (if clear then zeros (length hits) else hits) (if clear then zeros (length other) else other)
+cleared_match : (parts : List PartContents) (clear : Bool) (hits other : List ℕ)
+    → HitsMatch parts hits other → HitsMatch parts (if clear then zeros (length hits) else hits)
+    (if clear then zeros (length other) else other)
 cleared_match parts true hits other h = zeros_match parts hits other h
 cleared_match parts false hits other h = h
 
 -- one frame
-pub values_step : (start : Start) (history : History) (parts : List PartContents) → AllByRecursion IsPart parts → (kept other : ValueKept) → ValuesMatch parts kept other → ValuesMatch parts (value_next start parts history kept) (value_next start (normal_value parts) history other)
+pub values_step : (start : Start) (history : History) (parts : List PartContents) → AllByRecursion
+    IsPart parts → (kept other : ValueKept) → ValuesMatch parts kept other → ValuesMatch parts
+    (value_next start parts history kept) (value_next start (normal_value parts) history other)
 values_step start history parts each kept other h =
     let steps = steps_at start history parts kept.hits kept.numbers in
     let others = steps_at start history (normal_value parts) other.hits kept.numbers in
@@ -169,9 +209,13 @@ values_step start history parts each kept other h =
     let clear = list_any (λ part. part.reset) others in
     let hits = flat_map (λ part. part.hits) steps in
     let hits' = flat_map (λ part. part.hits) others in
-    let next : ValueKept = record { hits = if clear then zeros (length hits') else hits'; numbers = map (number_after clear) others } in
+    let next : ValueKept =
+    record { hits = if clear then zeros (length hits') else hits'; numbers = map (number_after clear) others } in
     let same : ValuesMatch parts (value_next start parts history kept) next = record {
       numbers = ap (λ clear. map (number_after clear) steps) like.resets ∙ like.numbers clear;
-      hits = subst (λ c. HitsMatch parts (if c then zeros (length hits) else hits) (if clear then zeros (length hits') else hits')) (sym like.resets) (cleared_match parts clear hits hits' like.hits);
+      hits = subst (λ c. HitsMatch parts (if c then zeros (length hits) else hits)
+          (if clear then zeros (length hits') else hits')) (sym like.resets)
+          (cleared_match parts clear hits hits' like.hits);
     } in
-    subst (λ numbers. ValuesMatch parts (value_next start parts history kept) (value_next start (normal_value parts) history (record { hits = other.hits; numbers = numbers }))) h.numbers same
+    subst (λ numbers. ValuesMatch parts (value_next start parts history kept) (value_next start
+    (normal_value parts) history (record { hits = other.hits; numbers = numbers }))) h.numbers same

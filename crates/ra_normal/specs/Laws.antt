@@ -21,7 +21,8 @@ abbrev pub condition_step : Start → History → List Term → List ℕ → ℕ
 condition_step start history terms hits old =
     part_step (Grouped (legacy_conditions terms)) (group_at start history (legacy_conditions terms) hits) 0 old
 
--- at the last frame the condition part has the number of the legacy part; it resets nothing, and its number is not of hits
+-- at the last frame the condition part has the number of the legacy part; it resets nothing, and its number is not of
+-- hits
 pub record IsAlike (start : Start) (history : History) (terms : List Term) (step : PartStep) : Type 0 where
   pub number : step.number ≡ sum_at start history (Legacy terms)
   pub reset : step.reset ≡ false

@@ -1,11 +1,14 @@
 -- The normal text of a set: docs/DEFINITIONS.md, "Normal text".
-use Rattle.std.specs.Prelude.{◌≡◌, ℕ, ◌+◌, ◌<◌, ◌≤◌, ◌==◌, ◌||◌, bytes_eq, take, Bool, true, false, if◌then◌else◌, Option, None, Some, List, [], ◌∷◌, ◌++◌, length, sum_by, codes, decimal}
+use Rattle.std.specs.Prelude.{◌≡◌, ℕ, ◌+◌, ◌<◌, ◌≤◌, ◌==◌, ◌||◌, bytes_eq, take, Bool, true, false, if◌then◌else◌}
+use Rattle.std.specs.Prelude.{Option, None, Some, List, [], ◌∷◌, ◌++◌, length, sum_by, codes, decimal}
 use Rattle.std.specs.List.{flat_map}
 use Rattle.ra_condition.specs.Canonical.{trigger_text, value_text}
 use Rattle.ra_condition.specs.Contents.{PartContents}
 use Rattle.ra_leaderboard.specs.Contents.{BoardContents}
 use Rattle.ra_value_format.specs.declared.format.Format.{Format}
-use Rattle.ra_value_format.specs.declared.format.Format.TheVariants.{Value, Score, Frames, Secs, Hundredths, Minutes, SecsAsMins, Unsigned, Tens, Hundreds, Thousands, Fixed, Float}
+use Rattle.ra_value_format.specs.declared.format.Format.TheVariants.{Value, Score, Frames, Secs, Hundredths, Minutes}
+use Rattle.ra_value_format.specs.declared.format.Format.TheVariants.{SecsAsMins, Unsigned, Tens, Hundreds, Thousands}
+use Rattle.ra_value_format.specs.declared.format.Format.TheVariants.{Fixed, Float}
 use Rattle.ra_set.specs.declared.refused.Which.TheVariants.{Bytes, Conditions}
 use Rattle.ra_set.specs.Contents.{ItemContents, Unlocks, Ranks, SetContents}
 use Rattle.ra_set.specs.Limits.{most_bytes, most_conditions, item_conditions, script_conditions}
@@ -37,7 +40,8 @@ progress_text (Some parts) = codes "::PRO:" ++ value_text (normal_value parts)
 -- the tests of a board, in the order STA, CAN, SUB
 abbrev pub tests_text : BoardContents → List ℕ
 tests_text b =
-    codes "STA:" ++ (trigger_text b.start ++ (codes "::CAN:" ++ (trigger_text b.cancel ++ (codes "::SUB:" ++ trigger_text b.submit))))
+    codes "STA:" ++ (trigger_text b.start
+    ++ (codes "::CAN:" ++ (trigger_text b.cancel ++ (codes "::SUB:" ++ trigger_text b.submit))))
 
 -- the values of a board, VAL before PRO
 abbrev pub values_text : BoardContents → List ℕ
@@ -80,8 +84,10 @@ pub record IsNormal (file : List ℕ) (set : SetContents) (text : List ℕ) : Ty
 
 -- the first limit that the normal text passes
 abbrev pub IsPastLimit : (file : List ℕ) → SetContents → NormalRefused → Type 0
-IsPastLimit file set (Limit Bytes found) = (most_bytes < length (normal_text file set)) × (found ≡ length (normal_text file set))
+IsPastLimit file set (Limit Bytes found) =
+    (most_bytes < length (normal_text file set)) × (found ≡ length (normal_text file set))
 IsPastLimit file set (Limit Conditions found) =
-    (length (normal_text file set) ≤ most_bytes) × (most_conditions < normal_conditions set) × (found ≡ normal_conditions set)
+    (length (normal_text file set) ≤ most_bytes) × (most_conditions < normal_conditions set)
+    × (found ≡ normal_conditions set)
 IsPastLimit file set (Limit _ found) = ⊥
 IsPastLimit file set Memory = Unit {0}

@@ -7,5 +7,7 @@ use Rattle.ra_normal.proofs.lines.put_items.Goals as goal
 
 pub put_item-requires : goal.put_item-requires
 put_item-requires c =
-    let here = c.requires c.loop-item.item-index (item_contents c.item-item.result) (omega (arith, c.loop-item-test.true, length-map c.args.items.now item_contents)) in
-    subst IsItem (get_or-map item_contents c.args.items.now c.loop-item.item-index c.item-item.result ∙ ap item_contents (sym c.item-item.is)) here
+    let here = c.requires c.loop-item.item-index (item_contents c.item-item.result)
+    (omega (arith, c.loop-item-test.true, length-map c.args.items.now item_contents)) in
+    subst IsItem (get_or-map item_contents c.args.items.now c.loop-item.item-index
+    c.item-item.result ∙ ap item_contents (sym c.item-item.is)) here

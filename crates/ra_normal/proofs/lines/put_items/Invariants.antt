@@ -6,4 +6,5 @@ use Rattle.ra_normal.proofs.lines.put_items.Given as goal
 
 -- the lines of the items so far stand behind the text
 abbrev pub invariant-loop-item : goal.invariant-loop-item
-invariant-loop-item l = l.text.items ≡ l.fn.text.items ++ flat_map item_text (map item_contents (take l.item-index l.items))
+invariant-loop-item l = l.text.items
+    ≡ l.fn.text.items ++ flat_map item_text (map item_contents (take l.item-index l.items))

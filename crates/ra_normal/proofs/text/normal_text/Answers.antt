@@ -8,4 +8,5 @@ use Rattle.ra_normal.proofs.text.normal_text.Goals as goal
 
 pub put_items-requires : goal.put_items-requires
 put_items-requires c =
-    subst (λ (items : List Item). All IsItem (map item_contents items)) (sym c.deref.ensures.value) (items_are c.args.bytes.now (set_contents c.args.set.now) c.requires.spelled)
+    subst (λ (items : List Item). All IsItem (map item_contents items)) (sym c.deref.ensures.value)
+    (items_are c.args.bytes.now (set_contents c.args.set.now) c.requires.spelled)
