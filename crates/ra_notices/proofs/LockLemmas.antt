@@ -1,5 +1,7 @@
 -- A trigger that a ResetIf or a PauseIf keeps from being valid at each frame.
-use Rattle.std.proofs.Common.{◌≡◌, ℕ, zero, suc, ◌==◌, Bool, true, false, not, cond, ◌&&◌, ◌||◌, List, [], ◌∷◌, ◌++◌, Option, None, Some, length, map, take, drop, slice_index, slice_index_or, refl, sym, ap, subst, ◌∙◌, inl, inr, arith, ◌⊎◌}
+use Rattle.std.proofs.Common.{◌≡◌, ℕ, zero, suc, ◌==◌, Bool, true, false, not, cond, ◌&&◌, ◌||◌, List, [], ◌∷◌, ◌++◌}
+use Rattle.std.proofs.Common.{Option, None, Some, length, map, take, drop, slice_index, slice_index_or, refl, sym, ap}
+use Rattle.std.proofs.Common.{subst, ◌∙◌, inl, inr, arith, ◌⊎◌}
 use Rattle.std.specs.List.{list_any, list_all}
 use Rattle.std.proofs.Math.Seq.{take-append_seam}
 use Rattle.std.proofs.lemmas.Bool.{true≢false, false≢true, cases_lt, and_left, and_right}
@@ -30,7 +32,8 @@ use Rattle.ra_lint.proofs.HistoryLemmas.{SmallSides, AllSmall}
 use Rattle.ra_lint.proofs.SoundLemmas.{group_small, group_spelled, groups_small}
 use Rattle.ra_lint.proofs.TriggerLemmas.{drop-append_seam}
 use Rattle.ra_lint.proofs.VerdictLemmas.{always_holds}
-use Rattle.ra_notices.specs.Notices.{has_before, stands, resets_at, pauses_at, resets, locks, some_in, resets_always, all_lock, is_locked}
+use Rattle.ra_notices.specs.Notices.{has_before, stands, resets_at, pauses_at, resets, locks, some_in, resets_always}
+use Rattle.ra_notices.specs.Notices.{all_lock, is_locked}
 
 -- ---- tests of lists
 
@@ -55,7 +58,8 @@ not_true true e = absurd (false≢true e)
 not_true false e = refl
 
 -- what has a test at each place has it at some
-any_more : (p q : ℕ → Bool) → ((j : ℕ) → p j ≡ true → q j ≡ true) → (js : List ℕ) → list_any p js ≡ true → list_any q js ≡ true
+any_more : (p q : ℕ → Bool) → ((j : ℕ) → p j ≡ true → q j ≡ true) → (js : List ℕ) → list_any p js
+    ≡ true → list_any q js ≡ true
 any_more p q each [] e = absurd (false≢true e)
 any_more p q each (j ∷ js) e = elim (either (p j) (list_any p js) e) [
   | inl here ↦ left_true (q j) (list_any q js) (each j here)
@@ -63,7 +67,8 @@ any_more p q each (j ∷ js) e = elim (either (p j) (list_any p js) e) [
 ]
 
 -- some place has one of two tests
-any_either : (p q : ℕ → Bool) (js : List ℕ) → list_any (λ j. p j || q j) js ≡ true → (list_any p js ≡ true) ⊎ (list_any q js ≡ true)
+any_either : (p q : ℕ → Bool) (js : List ℕ) → list_any (λ j. p j || q j) js ≡ true
+    → (list_any p js ≡ true) ⊎ (list_any q js ≡ true)
 any_either p q [] e = absurd (false≢true e)
 any_either p q (j ∷ js) e = elim (either (p j || q j) (list_any (λ j. p j || q j) js) e) [
   | inl here ↦ elim (either (p j) (q j) here) [
@@ -122,7 +127,8 @@ valid_alone_at c h e = by_target (combines c.flag) (c.target == 0) _ _ e
 
 -- the comparison of each condition that stands holds
 abbrev pub HoldsWhereStands : List Condition → List Bool → Type 0
-HoldsWhereStands cs truths = (j : ℕ) → stands cs j ≡ true → (is_reset (flag_at cs j) || is_pause (flag_at cs j)) ≡ true → slice_index_or truths j false ≡ true
+HoldsWhereStands cs truths = (j : ℕ) → stands cs j ≡ true → (is_reset (flag_at cs j)
+    || is_pause (flag_at cs j)) ≡ true → slice_index_or truths j false ≡ true
 
 -- a condition that stands is valid
 stands_valid : (f : Frame) → HoldsWhereStands f.conditions f.truths → (j : ℕ) → stands f.conditions j ≡ true
@@ -133,21 +139,24 @@ stands_valid f holds j e flag =
     let parts = both (c.target == 0) (not (has_before f.conditions j)) first.0 in
     let alone : prev_of f j ≡ None = no_prev f j (not_true (has_before f.conditions j) parts.1) in
     let truth : slice_index_or f.truths j false ≡ true = holds j e flag in
-    (λ i. (settled c (truth i) (slice_index f.hits j) (alone i)).valid) ∙ valid_alone_at c (slice_index f.hits j) parts.0
+    (λ i. (settled c (truth i) (slice_index f.hits j) (alone i)).valid)
+    ∙ valid_alone_at c (slice_index f.hits j) parts.0
 
 resets_valid : (f : Frame) → HoldsWhereStands f.conditions f.truths → (j : ℕ) → resets_at f.conditions j ≡ true
     → (is_reset (flag_at f.conditions j) && (settled_at f j).valid) ≡ true
 resets_valid f holds j e =
     let parts = both (is_reset (flag_at f.conditions j)) (stands f.conditions j) e in
     and_true (is_reset (flag_at f.conditions j)) (settled_at f j).valid parts.0
-    (stands_valid f holds j parts.1 (left_true (is_reset (flag_at f.conditions j)) (is_pause (flag_at f.conditions j)) parts.0))
+    (stands_valid f holds j parts.1
+    (left_true (is_reset (flag_at f.conditions j)) (is_pause (flag_at f.conditions j)) parts.0))
 
 pauses_valid : (f : Frame) → HoldsWhereStands f.conditions f.truths → (j : ℕ) → pauses_at f.conditions j ≡ true
     → (is_pause (flag_at f.conditions j) && (settled_at f j).valid) ≡ true
 pauses_valid f holds j e =
     let parts = both (is_pause (flag_at f.conditions j)) (stands f.conditions j) e in
     and_true (is_pause (flag_at f.conditions j)) (settled_at f j).valid parts.0
-    (stands_valid f holds j parts.1 (right_true (is_reset (flag_at f.conditions j)) (is_pause (flag_at f.conditions j)) parts.0))
+    (stands_valid f holds j parts.1
+    (right_true (is_reset (flag_at f.conditions j)) (is_pause (flag_at f.conditions j)) parts.0))
 
 -- ---- one group
 
@@ -156,15 +165,18 @@ module _ (f : Frame) (holds : HoldsWhereStands f.conditions f.truths) where
   some_resets e = any_more (resets_at f.conditions) (λ j. is_reset (flag_at f.conditions j) && (settled_at f j).valid)
       (resets_valid f holds) (places f.conditions) e
 
-  some_pauses : list_any (pauses_at f.conditions) (places f.conditions) ≡ true → some_valid is_pause f (places f.conditions) ≡ true
+  some_pauses : list_any (pauses_at f.conditions) (places f.conditions) ≡ true
+      → some_valid is_pause f (places f.conditions) ≡ true
   some_pauses e = any_more (pauses_at f.conditions) (λ j. is_pause (flag_at f.conditions j) && (settled_at f j).valid)
       (pauses_valid f holds) (places f.conditions) e
 
   -- a group that locks is not valid
   lock_invalid : locks f.conditions ≡ true → (outcome_of InTrigger f).valid ≡ false
   lock_invalid e = elim (any_either (resets_at f.conditions) (pauses_at f.conditions) (places f.conditions) e) [
-    | inl r ↦ by_reset (some_valid is_pause f (places f.conditions)) (some_valid is_reset f (places f.conditions)) _ (some_resets r)
-    | inr p ↦ by_pause (some_valid is_pause f (places f.conditions)) (some_valid is_reset f (places f.conditions)) _ (some_pauses p)
+    | inl r ↦ by_reset (some_valid is_pause f (places f.conditions))
+        (some_valid is_reset f (places f.conditions)) _ (some_resets r)
+    | inr p ↦ by_pause (some_valid is_pause f (places f.conditions))
+        (some_valid is_reset f (places f.conditions)) _ (some_pauses p)
   ]
     where
       by_reset : (p r v : Bool) → r ≡ true → ((not p && not (not p && r)) && v) ≡ false
@@ -228,7 +240,8 @@ pair_invalid : (core : List Condition) (alts : List (List Condition)) (truths : 
     → (together (record { core = core; alts = alts }) truths lefts hits).valid ≡ false
 pair_invalid core [] truths lefts hits h e =
     let f = frame_of core (take (length core) truths) (take (length core) lefts) (take (length core) hits) in
-    and_right (not ((outcome_of InTrigger f).reset || false)) (outcome_of InTrigger f).valid (lock_invalid f h.0 (alone (locks core) e))
+    and_right (not ((outcome_of InTrigger f).reset || false)) (outcome_of InTrigger f).valid
+    (lock_invalid f h.0 (alone (locks core) e))
   where
     alone : (b : Bool) → (b || false || false) ≡ true → b ≡ true
     alone true e = refl
@@ -258,11 +271,14 @@ pair_invalid core (alt ∷ alts) truths lefts hits h e =
 
 module _ (start : Start) (history : History) where
   -- the comparisons of a group at the frame
-  group_holds : (cs : List Condition) → SmallSides cs → HoldsWhereStands cs (map (truth_at start history cs) (places cs))
+  group_holds : (cs : List Condition) → SmallSides cs
+      → HoldsWhereStands cs (map (truth_at start history cs) (places cs))
   group_holds cs small j e flag = elim (cases_lt j (length cs)) [
     | inl within ↦ get_or-map-range_with_len (truth_at start history cs) 0 (length cs) j j false within (omega arith)
-        ∙ always_holds start history (left_of cs j) (right_of cs j) (small j).0 (small j).1 (condition_at cs j).op (always e)
-    | inr past ↦ absurd (false≢true (sym (ap (λ c. is_reset c.flag || is_pause c.flag) (get_or_past cs j no_condition past)) ∙ flag))
+        ∙ always_holds start history (left_of cs j) (right_of cs j) (small j).0 (small j).1
+        (condition_at cs j).op (always e)
+    | inr past ↦ absurd (false≢true (sym
+        (ap (λ c. is_reset c.flag || is_pause c.flag) (get_or_past cs j no_condition past)) ∙ flag))
   ]
     where
       always : stands cs j ≡ true → always_at cs j ≡ true
@@ -303,12 +319,15 @@ module _ (start : Start) (t : TriggerContents) (kept : TriggerKept) (is : IsTrig
 
   -- it is not valid at any frame
   never_valid : (image : List ℕ) (earlier : History) (hits : List ℕ)
-      → (together t (truths_at start (image ∷ earlier) (groups_of t)) (lefts_at start (image ∷ earlier) (groups_of t)) hits).valid ≡ false
+      → (together t (truths_at start (image ∷ earlier) (groups_of t))
+      (lefts_at start (image ∷ earlier) (groups_of t)) hits).valid ≡ false
   never_valid image earlier hits = pair_invalid t.core t.alts (truths_at start (image ∷ earlier) (groups_of t))
-      (lefts_at start (image ∷ earlier) (groups_of t)) hits (all_hold start (image ∷ earlier) (groups_of t) small) locked
+      (lefts_at start (image ∷ earlier) (groups_of t)) hits
+      (all_hold start (image ∷ earlier) (groups_of t) small) locked
 
   -- and so it is not triggered
-  pub locked_untriggered : (history : History) → is_triggered (after (achievement_next start t) kept history).state ≡ false
+  pub locked_untriggered : (history : History)
+      → is_triggered (after (achievement_next start t) kept history).state ≡ false
   locked_untriggered [] = untriggered
   locked_untriggered (image ∷ earlier) = by_state (locked_untriggered earlier)
       (is_triggered (after (achievement_next start t) kept earlier).state) refl
@@ -318,7 +337,8 @@ module _ (start : Start) (t : TriggerContents) (kept : TriggerKept) (is : IsTrig
           → is_triggered (cond s (after (achievement_next start t) kept earlier)
           (kept_after (after (achievement_next start t) kept earlier)
           (together t (truths_at start (image ∷ earlier) (groups_of t))
-          (lefts_at start (image ∷ earlier) (groups_of t)) (after (achievement_next start t) kept earlier).hits))).state ≡ false
+          (lefts_at start (image ∷ earlier) (groups_of t))
+          (after (achievement_next start t) kept earlier).hits))).state ≡ false
       by_state before true s = absurd (true≢false (sym s ∙ before))
       by_state before false s =
           let old = after (achievement_next start t) kept earlier in

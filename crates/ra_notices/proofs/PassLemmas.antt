@@ -1,5 +1,6 @@
 -- The pass over the conditions of a group in text order.
-use Rattle.std.proofs.Common.{◌≡◌, ◌∙◌, ℕ, suc, ◌+◌, ◌<◌, ◌==◌, Bool, true, false, not, ◌&&◌, ◌||◌, List, [], ◌∷◌, ◌++◌, length, map, get_or, refl, sym, ap, ap₂, arith, append_assoc, append-nil, zero-add}
+use Rattle.std.proofs.Common.{◌≡◌, ◌∙◌, ℕ, suc, ◌+◌, ◌<◌, ◌==◌, Bool, true, false, not, ◌&&◌, ◌||◌, List, [], ◌∷◌, ◌++◌}
+use Rattle.std.proofs.Common.{length, map, get_or, refl, sym, ap, ap₂, arith, append_assoc, append-nil, zero-add}
 use Rattle.std.specs.List.{list_any, flat_map, range_with_len}
 use Rattle.std.proofs.lemmas.List.FromFn.{get_or-map-range_with_len, length-map-range_with_len}
 use Rattle.std.proofs.lemmas.List.Folds.{list_any-append}
@@ -58,34 +59,42 @@ module _ (spot : Spot) (cs : List Condition) where
   passed_none start = record { found_too = sym (append-nil start); resets_too = refl; locks_too = refl }
 
   -- one condition more
-  pub passed_more : (start found found' : List Notice) (place : ℕ) (c : Condition) (last again lock : Bool) (standing standing' : Standing)
-      → c ≡ condition_at cs place → last ≡ (place + 1 == length cs) → again ≡ is_twice cs place → lock ≡ locks_at cs place
+  pub passed_more : (start found found' : List Notice) (place : ℕ) (c : Condition)
+      (last again lock : Bool) (standing standing' : Standing)
+      → c ≡ condition_at cs place → last ≡ (place + 1 == length cs) → again ≡ is_twice cs place
+      → lock ≡ locks_at cs place
       → HasPassed start found place standing → found' ≡ found ++ notices_by spot place (seen_by c last again lock)
       → standing' ≡ standing_with standing (seen_by c last again lock)
       → HasPassed start found' (place + 1) standing'
-  passed_more start found found' place c last again lock standing standing' is_c is_last is_again is_lock passed more next = record {
-    found_too =
-        more ∙ ap₂ (λ xs ws. xs ++ ws) passed.found_too notices_are
-        ∙ append_assoc start (so_far place) (row place)
-        ∙ ap (λ ws. start ++ ws) (sym (ap (flat_map row) (next_place place) ∙ one_more row (range_with_len 0 place) place));
-    resets_too =
-        ap (λ (s : Standing). s.resets) next ∙ ap₂ (λ a b. a || b) passed.resets_too resets_is
-        ∙ ap (λ b. list_any (resets_at cs) (range_with_len 0 place) || b) (sym (or_false (resets_at cs place)))
-        ∙ sym (ap (list_any (resets_at cs)) (next_place place) ∙ list_any-append (resets_at cs) (range_with_len 0 place) (place ∷ []));
-    locks_too =
-        ap (λ (s : Standing). s.locks) next ∙ (λ i. (passed.locks_too i || resets_is i) || pauses_is i)
-        ∙ or_last (list_any (locks_at cs) (range_with_len 0 place)) (resets_at cs place) (pauses_at cs place)
-        ∙ sym (ap (list_any (locks_at cs)) (next_place place) ∙ list_any-append (locks_at cs) (range_with_len 0 place) (place ∷ []));
-  }
+  passed_more start found found' place c last again lock standing standing' is_c is_last is_again
+      is_lock passed more next = record {
+        found_too =
+            more ∙ ap₂ (λ xs ws. xs ++ ws) passed.found_too notices_are
+            ∙ append_assoc start (so_far place) (row place)
+            ∙ ap (λ ws. start ++ ws)
+            (sym (ap (flat_map row) (next_place place) ∙ one_more row (range_with_len 0 place) place));
+        resets_too =
+            ap (λ (s : Standing). s.resets) next ∙ ap₂ (λ a b. a || b) passed.resets_too resets_is
+            ∙ ap (λ b. list_any (resets_at cs) (range_with_len 0 place) || b) (sym (or_false (resets_at cs place)))
+            ∙ sym (ap (list_any (resets_at cs)) (next_place place)
+            ∙ list_any-append (resets_at cs) (range_with_len 0 place) (place ∷ []));
+        locks_too =
+            ap (λ (s : Standing). s.locks) next ∙ (λ i. (passed.locks_too i || resets_is i) || pauses_is i)
+            ∙ or_last (list_any (locks_at cs) (range_with_len 0 place)) (resets_at cs place) (pauses_at cs place)
+            ∙ sym (ap (list_any (locks_at cs)) (next_place place)
+            ∙ list_any-append (locks_at cs) (range_with_len 0 place) (place ∷ []));
+      }
     where
       row : ℕ → List Notice
       row = condition_notices spot.place spot.group cs
 
       resets_is : (is_reset c.flag && lock) ≡ resets_at cs place
-      resets_is = (λ i. is_reset (is_c i).flag && is_lock i) ∙ reset_part (is_reset (flag_at cs place)) (is_pause (flag_at cs place)) (stands cs place)
+      resets_is = (λ i. is_reset (is_c i).flag && is_lock i)
+          ∙ reset_part (is_reset (flag_at cs place)) (is_pause (flag_at cs place)) (stands cs place)
 
       pauses_is : (is_pause c.flag && lock) ≡ pauses_at cs place
-      pauses_is = (λ i. is_pause (is_c i).flag && is_lock i) ∙ pause_part (is_reset (flag_at cs place)) (is_pause (flag_at cs place)) (stands cs place)
+      pauses_is = (λ i. is_pause (is_c i).flag && is_lock i)
+          ∙ pause_part (is_reset (flag_at cs place)) (is_pause (flag_at cs place)) (stands cs place)
 
       last_is : last ≡ (suc place == length cs)
       last_is = is_last ∙ (let e : place + 1 ≡ suc place = omega arith in ap (λ n. n == length cs) e)
@@ -106,9 +115,11 @@ test_there test cs tests place d all within =
     ap (λ ts. get_or ts place d) all ∙ get_or-map-range_with_len test 0 (length cs) place place d within (omega arith)
 
 -- a row with a test of each condition marks those that pass it
-pub marks_of : (test : ℕ → Bool) (cs : List Condition) (tests : List Bool) → tests ≡ map test (places cs) → AreMarks tests test cs
+pub marks_of : (test : ℕ → Bool) (cs : List Condition) (tests : List Bool) → tests
+    ≡ map test (places cs) → AreMarks tests test cs
 marks_of test cs tests all = λ j within. test_there test cs tests j false all within
 
 -- there is one for each condition
-pub tests_many : (test : ℕ → Bool) (cs : List Condition) (tests : List Bool) → tests ≡ map test (places cs) → length tests ≡ length cs
+pub tests_many : (test : ℕ → Bool) (cs : List Condition) (tests : List Bool) → tests
+    ≡ map test (places cs) → length tests ≡ length cs
 tests_many test cs tests all = ap length all ∙ length-map-range_with_len test 0 (length cs)

@@ -1,4 +1,5 @@
--- Numbers in place of conditions, by which equal ones are found: the step between the code and docs/DEFINITIONS.md, "Review of a set".
+-- Numbers in place of conditions, by which equal ones are found: the step between the code and docs/DEFINITIONS.md,
+-- "Review of a set".
 use Rattle.std.specs.Prelude.{ℕ, Bool, ◌&&◌, List, [], ◌∷◌, ◌++◌, not, false}
 use Rattle.std.specs.declared.cmp.Ordering.{Ordering}
 use Rattle.std.specs.BTreeSet.{BTreeSet, contains}

@@ -1,5 +1,6 @@
 -- Notices on the conditions and on the trigger of an item: docs/DEFINITIONS.md, "Review of a set".
-use Rattle.std.specs.Prelude.{ℕ, zero, suc, ◌==◌, ◌&&◌, ◌||◌, not, nat_lt, Bool, true, false, if◌then◌else◌, List, [], ◌∷◌, ◌++◌, length}
+use Rattle.std.specs.Prelude.{ℕ, zero, suc, ◌==◌, ◌&&◌, ◌||◌, not, nat_lt, Bool, true, false, if◌then◌else◌, List, []}
+use Rattle.std.specs.Prelude.{◌∷◌, ◌++◌, length}
 use Rattle.std.specs.List.{list_any, list_all, flat_map, range_with_len}
 use Rattle.ra_operand.specs.declared.kind.Kind.TheVariants.{Mem}
 use Rattle.ra_operand.specs.declared.size.Size.{Size}
@@ -8,7 +9,9 @@ use Rattle.ra_operand.specs.declared.operand.Operand.{Operand}
 use Rattle.ra_operand.specs.declared.operand.Operand.TheVariants.{Cell, Const, Recall}
 use Rattle.ra_operand.specs.Same.{same_size, same_kind, same_op}
 use Rattle.ra_condition.specs.declared.flag.Flag.{Flag}
-use Rattle.ra_condition.specs.declared.flag.Flag.TheVariants.{Plain, PauseIf, ResetIf, AddSource, SubSource, AddHits, SubHits, AndNext, OrNext, Measured, MeasuredPercent, MeasuredIf, AddAddress, TriggerIf, ResetNextIf, Remember}
+use Rattle.ra_condition.specs.declared.flag.Flag.TheVariants.{Plain, PauseIf, ResetIf, AddSource, SubSource, AddHits}
+use Rattle.ra_condition.specs.declared.flag.Flag.TheVariants.{SubHits, AndNext, OrNext, Measured, MeasuredPercent}
+use Rattle.ra_condition.specs.declared.flag.Flag.TheVariants.{MeasuredIf, AddAddress, TriggerIf, ResetNextIf, Remember}
 use Rattle.ra_condition.specs.declared.condition.Condition.{Condition}
 use Rattle.ra_condition.specs.Contents.{condition_at, flag_at, TriggerContents, groups_of}
 use Rattle.ra_condition.specs.Chains.{places}
@@ -19,7 +22,8 @@ use Rattle.ra_lint.specs.Warnings.{always_at}
 use Rattle.ra_set.specs.Contents.{ItemContents, Unlocks, Ranks}
 use Rattle.ra_notices.specs.declared.notice.Notice.{Notice}
 use Rattle.ra_notices.specs.declared.notice.Word.{Word}
-use Rattle.ra_notices.specs.declared.notice.Word.TheVariants.{OpenChain, Twice, MemoryRight, ResetsAlways, PausesAlways, NoMeasured, Empty, NoNeed, NoUnlock}
+use Rattle.ra_notices.specs.declared.notice.Word.TheVariants.{OpenChain, Twice, MemoryRight, ResetsAlways, PausesAlways}
+use Rattle.ra_notices.specs.declared.notice.Word.TheVariants.{NoMeasured, Empty, NoNeed, NoUnlock}
 
 -- ---- one condition
 
@@ -79,7 +83,8 @@ same_condition c d =
 -- the condition at j and an earlier one of the group are equal, and each is a chain by itself
 abbrev pub is_twice : List Condition → ℕ → Bool
 is_twice cs j =
-    is_lone cs j && list_any (λ i. is_lone cs i && same_condition (condition_at cs i) (condition_at cs j)) (range_with_len 0 j)
+    is_lone cs j && list_any (λ i. is_lone cs i
+    && same_condition (condition_at cs i) (condition_at cs j)) (range_with_len 0 j)
 
 -- the operand is a cell of 16 bits at this address, of any kind
 abbrev pub is_word_at : Operand → ℕ → Bool

@@ -1,5 +1,7 @@
--- What is known of a condition or of groups while notices are taken: the step between the code and docs/DEFINITIONS.md, "Review of a set".
-use Rattle.std.specs.Prelude.{◌≡◌, ◌<◌, false, length, slice_index_or, ℕ, ◌==◌, ◌&&◌, ◌||◌, not, if◌then◌else◌, Bool, true, List, ◌++◌, ◌∷◌, []}
+-- What is known of a condition or of groups while notices are taken: the step between the code and
+-- docs/DEFINITIONS.md, "Review of a set".
+use Rattle.std.specs.Prelude.{◌≡◌, ◌<◌, false, length, slice_index_or, ℕ, ◌==◌, ◌&&◌, ◌||◌, not, if◌then◌else◌, Bool}
+use Rattle.std.specs.Prelude.{true, List, ◌++◌, ◌∷◌, []}
 use Rattle.std.specs.List.{list_any}
 use Rattle.ra_condition.specs.declared.condition.Condition.{Condition}
 use Rattle.ra_condition.specs.declared.flag.Flag.{Flag}
@@ -14,7 +16,8 @@ use Rattle.ra_notices.specs.declared.groups.Standing.{Standing}
 use Rattle.ra_notices.specs.declared.notice.Notice.{Notice}
 use Rattle.ra_notices.specs.declared.notice.Word.{Word}
 use Rattle.ra_notices.specs.declared.notice.Word.TheVariants.{OpenChain, Twice, MemoryRight, ResetsAlways, PausesAlways}
-use Rattle.ra_notices.specs.Notices.{any_flag, has_before, resets_at, pauses_at, resets_always, all_lock, has_memory_right, is_recall, notice, where_so}
+use Rattle.ra_notices.specs.Notices.{any_flag, has_before, resets_at, pauses_at, resets_always, all_lock}
+use Rattle.ra_notices.specs.Notices.{has_memory_right, is_recall, notice, where_so}
 
 -- the flags of a class
 abbrev pub has_class : Class → Flag → Bool

@@ -6,7 +6,8 @@ use Rattle.ra_operand.specs.declared.kind.Kind.TheVariants.{Mem, Delta, Prior, B
 use Rattle.ra_operand.specs.declared.operand.Operand.{Operand}
 use Rattle.ra_operand.specs.declared.operand.Operand.TheVariants.{Cell, Const, Recall}
 use Rattle.ra_operand.specs.declared.size.Size.{Size}
-use Rattle.ra_operand.specs.declared.size.Size.TheVariants.{Bit0, Bit1, Bit2, Bit3, Bit4, Bit5, Bit6, Bit7, Low, High, Byte, Two, Three, Four, Count, TwoBig, ThreeBig, FourBig}
+use Rattle.ra_operand.specs.declared.size.Size.TheVariants.{Bit0, Bit1, Bit2, Bit3, Bit4, Bit5, Bit6, Bit7, Low, High}
+use Rattle.ra_operand.specs.declared.size.Size.TheVariants.{Byte, Two, Three, Four, Count, TwoBig, ThreeBig, FourBig}
 
 -- the prefix of a kind, in lower case
 abbrev pub prefix_of : Kind → List ℕ

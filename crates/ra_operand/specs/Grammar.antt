@@ -5,21 +5,26 @@ use Rattle.ra_operand.specs.declared.kind.Kind.TheVariants.{Mem, Delta, Prior, B
 use Rattle.ra_operand.specs.declared.operand.Operand.{Operand}
 use Rattle.ra_operand.specs.declared.operand.Operand.TheVariants.{Cell, Const, Recall}
 use Rattle.ra_operand.specs.declared.size.Size.{Size}
-use Rattle.ra_operand.specs.declared.size.Size.TheVariants.{Bit0, Bit1, Bit2, Bit3, Bit4, Bit5, Bit6, Bit7, Low, High, Byte, Two, Three, Four, Count, TwoBig, ThreeBig, FourBig}
+use Rattle.ra_operand.specs.declared.size.Size.TheVariants.{Bit0, Bit1, Bit2, Bit3, Bit4, Bit5, Bit6, Bit7, Low, High}
+use Rattle.ra_operand.specs.declared.size.Size.TheVariants.{Byte, Two, Three, Four, Count, TwoBig, ThreeBig, FourBig}
 use Rattle.ra_text.specs.Form.{Form, Spell, One, Literal, ◌>>=◌, ◌or◌, optional}
 use Rattle.ra_text.specs.Number.{hexadecimal, signed}
 use Rattle.ra_text.specs.Table.{lookup, letters, bytes_for, only, only_letters}
 
 -- the prefixes of operands, letters in either case, with their kinds
 abbrev pub kinds : List (ℕ × Kind)
-kinds = letters (codes "D") Delta ++ letters (codes "P") Prior ++ letters (codes "B") Bcd ++ bytes_for (codes "~") Inverted
+kinds = letters (codes "D") Delta ++ letters (codes "P") Prior ++ letters (codes "B") Bcd
+    ++ bytes_for (codes "~") Inverted
 
 -- the letters of the sizes, in either case, and the blank
 abbrev pub sizes : List (ℕ × Size)
 sizes =
-    letters (codes "M") Bit0 ++ letters (codes "N") Bit1 ++ letters (codes "O") Bit2 ++ letters (codes "P") Bit3 ++ letters (codes "Q") Bit4 ++ letters (codes "R") Bit5
-    ++ letters (codes "S") Bit6 ++ letters (codes "T") Bit7 ++ letters (codes "L") Low ++ letters (codes "U") High ++ letters (codes "H") Byte ++ letters (codes "K") Count
-    ++ bytes_for (codes " ") Two ++ letters (codes "I") TwoBig ++ letters (codes "W") Three ++ letters (codes "J") ThreeBig ++ letters (codes "X") Four ++ letters (codes "G") FourBig
+    letters (codes "M") Bit0 ++ letters (codes "N") Bit1 ++ letters (codes "O") Bit2
+    ++ letters (codes "P") Bit3 ++ letters (codes "Q") Bit4 ++ letters (codes "R") Bit5
+    ++ letters (codes "S") Bit6 ++ letters (codes "T") Bit7 ++ letters (codes "L") Low
+    ++ letters (codes "U") High ++ letters (codes "H") Byte ++ letters (codes "K") Count
+    ++ bytes_for (codes " ") Two ++ letters (codes "I") TwoBig ++ letters (codes "W") Three
+    ++ letters (codes "J") ThreeBig ++ letters (codes "X") Four ++ letters (codes "G") FourBig
 
 -- [d | p | b | ~] 0x [size] hexnum: plain without a prefix, and 16 bits without a size
 abbrev pub memory : Form ℕ Operand

@@ -51,7 +51,8 @@ recall_at text = do
 -- a memory operand begins, with a prefix or `0x`; a 0 before another byte is a constant
 abbrev pub begins_memory : List ℕ → Bool
 begins_memory [] = false
-begins_memory (byte ∷ rest) = if byte == 48 then begins (is_in (only_letters (codes "X"))) rest else is_in (lookup kinds) byte
+begins_memory (byte ∷ rest) = if byte == 48 then begins (is_in (only_letters (codes "X"))) rest
+    else is_in (lookup kinds) byte
 
 -- memory, or a constant
 unfoldable pub cell_or_constant_at : List ℕ → Outcome ℕ Operand

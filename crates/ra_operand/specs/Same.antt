@@ -1,7 +1,9 @@
--- Whether two sizes, kinds or operators are the same, as in trees that are one: docs/DEFINITIONS.md, "Trees, cells and tracked masks".
+-- Whether two sizes, kinds or operators are the same, as in trees that are one: docs/DEFINITIONS.md, "Trees, cells and
+-- tracked masks".
 use Rattle.std.specs.Prelude.{ℕ, ◌==◌, Bool}
 use Rattle.ra_operand.specs.declared.size.Size.{Size}
-use Rattle.ra_operand.specs.declared.size.Size.TheVariants.{Bit0, Bit1, Bit2, Bit3, Bit4, Bit5, Bit6, Bit7, Low, High, Byte, Two, Three, Four, Count, TwoBig, ThreeBig, FourBig}
+use Rattle.ra_operand.specs.declared.size.Size.TheVariants.{Bit0, Bit1, Bit2, Bit3, Bit4, Bit5, Bit6, Bit7, Low, High}
+use Rattle.ra_operand.specs.declared.size.Size.TheVariants.{Byte, Two, Three, Four, Count, TwoBig, ThreeBig, FourBig}
 use Rattle.ra_operand.specs.declared.kind.Kind.{Kind}
 use Rattle.ra_operand.specs.declared.kind.Kind.TheVariants.{Mem, Delta, Prior, Bcd, Inverted}
 use Rattle.ra_operand.specs.declared.op.Op.{Op}

@@ -1,5 +1,7 @@
 -- A document has no more items in an array than bytes, and one more.
-use Rattle.std.proofs.Common.{◌≡◌, ℕ, ◌+◌, ◌*◌, ◌^◌, ◌<◌, ◌≤◌, suc, max, Bool, true, false, if◌then◌else◌, List, [], ◌∷◌, length, Option, Some, None, option_map, option_and_then, unwrap_or, codes, Ordering, Less, Equal, Greater, refl, ap, sym, map, subst, arith, length-append, lit≤}
+use Rattle.std.proofs.Common.{◌≡◌, ℕ, ◌+◌, ◌*◌, ◌^◌, ◌<◌, ◌≤◌, suc, max, Bool, true, false, if◌then◌else◌, List, []}
+use Rattle.std.proofs.Common.{◌∷◌, length, Option, Some, None, option_map, option_and_then, unwrap_or, codes, Ordering}
+use Rattle.std.proofs.Common.{Less, Equal, Greater, refl, ap, sym, map, subst, arith, length-append, lit≤}
 use Rattle.std.proofs.Math.Nat.{mul-le-mul_right, suc-mul}
 use Rattle.std.proofs.lemmas.List.{length-map}
 use Rattle.serde_json.specs.View.{view}
@@ -10,16 +12,19 @@ use Rattle.std.specs.Cmp.Lexicographic.{slice_cmp}
 use Rattle.json.specs.Json as json
 use Rattle.json.specs.Lex.{tokens}
 use Rattle.json.specs.Token.{Token}
-use Rattle.serde_json.specs.Data.{Data, null, boolean, number, string, array, object, Items, no_items, item, Members, no_members, member, put}
+use Rattle.serde_json.specs.Data.{Data, null, boolean, number, string, array, object, Items, no_items, item, Members}
+use Rattle.serde_json.specs.Data.{no_members, member, put}
 use Rattle.serde_json.specs.Find.{get, get_member}
 use Rattle.serde_json.specs.Read.{number_of, of_json, of_items, of_members, max_depth, read}
 use Rattle.ra_patch.specs.Answers.{IsDocument}
 use Rattle.ra_patch.specs.Faults.{achievements_or_none, boards_or_none}
 use Rattle.ra_patch.specs.Fields.{listed, list_in, optional_list, patch_field}
-use Rattle.ra_patch.specs.Patches.{are_objects, holders_by, holders_in, items_of, only_objects, own_items, patch_by, patch_in}
+use Rattle.ra_patch.specs.Patches.{are_objects, holders_by, holders_in, items_of, only_objects, own_items, patch_by}
+use Rattle.ra_patch.specs.Patches.{patch_in}
 use Rattle.ra_patch.specs.declared.item_kind.ItemKind.{ItemKind}
 use Rattle.ra_patch.specs.declared.item_kind.ItemKind.TheVariants.{Achievement, Leaderboard}
-use Rattle.ra_patch.proofs.TokenBreadth.{json_count, json_breadth, json_items_breadth, json_members_breadth, Bounded, few-tokens, within-value}
+use Rattle.ra_patch.proofs.TokenBreadth.{json_count, json_breadth, json_items_breadth, json_members_breadth, Bounded}
+use Rattle.ra_patch.proofs.TokenBreadth.{few-tokens, within-value}
 
 -- how many items stand in an array
 abbrev count : Items → ℕ

@@ -1,5 +1,7 @@
 -- The lines of a set file that a document gives, cut where its items stand.
-use Rattle.std.proofs.Common.{◌≡◌, ◌∙◌, inl, inr, ℕ, ◌+◌, ◌*◌, ◌<◌, ◌^◌, ◌==◌, ◌||◌, Bool, true, false, List, [], ◌∷◌, ◌++◌, map, filter, get_or, Option, Some, None, refl, sym, ap, subst, codes, arith, append-nil, append_assoc, decimal}
+use Rattle.std.proofs.Common.{◌≡◌, ◌∙◌, inl, inr, ℕ, ◌+◌, ◌*◌, ◌<◌, ◌^◌, ◌==◌, ◌||◌, Bool, true, false, List, [], ◌∷◌}
+use Rattle.std.proofs.Common.{◌++◌, map, filter, get_or, Option, Some, None, refl, sym, ap, subst, codes, arith}
+use Rattle.std.proofs.Common.{append-nil, append_assoc, decimal}
 use Rattle.std.specs.Cmp.{nat_eq_equiv}
 use Rattle.std.specs.List.{flat_map}
 use Rattle.serde_json.specs.Data.{Data}
@@ -39,7 +41,8 @@ abbrev pub NotSpace : ℕ → Type 0
 NotSpace c = c ≡ 32 → ⊥
 
 -- two words before a space are one
-pub word-once : (a b x y : List ℕ) → OfEach NotSpace a → OfEach NotSpace b → a ++ 32 ∷ x ≡ b ++ 32 ∷ y → (a ≡ b) × (x ≡ y)
+pub word-once : (a b x y : List ℕ) → OfEach NotSpace a → OfEach NotSpace b → a ++ 32 ∷ x
+    ≡ b ++ 32 ∷ y → (a ≡ b) × (x ≡ y)
 word-once [] [] x y p q e = (refl, cc e)
 word-once [] (c ∷ b) x y p q e = absurd (q.0 (cc e))
 word-once (c ∷ a) [] x y p q e = absurd (p.0 (cc e))

@@ -1,5 +1,6 @@
 -- The first fault of lists of faults.
-use Rattle.std.proofs.Common.{Bool, true, false, is_some, codes, subst, ◌≡◌, ◌<◌, ℕ, ◌+◌, suc, List, [], ◌∷◌, ◌++◌, length, get_or, map, drop, refl, arith, drop-cons}
+use Rattle.std.proofs.Common.{Bool, true, false, is_some, codes, subst, ◌≡◌, ◌<◌, ℕ, ◌+◌, suc, List, [], ◌∷◌, ◌++◌}
+use Rattle.std.proofs.Common.{length, get_or, map, drop, refl, arith, drop-cons}
 use Rattle.std.proofs.lemmas.Option.{none-some}
 use Rattle.serde_json.specs.Data.{Data}
 use Rattle.serde_json.specs.View.{view}
@@ -7,7 +8,8 @@ use Rattle.serde_json.specs.declared.value.Value.{Value}
 use Rattle.ra_patch.specs.declared.refused.PatchRefused.{PatchRefused}
 use Rattle.ra_patch.specs.declared.refused.PatchRefused.TheVariants.{Bytes, NotJson, Field, Break, Set, Memory}
 use Rattle.ra_patch.specs.Answers.{IsFirst, RefusesValue}
-use Rattle.ra_patch.specs.Faults.{unless, root_faults, achievement_faults, board_faults, achievement_breaks, board_breaks, faults_from, faults_of, achievements_or_none, boards_or_none}
+use Rattle.ra_patch.specs.Faults.{unless, root_faults, achievement_faults, board_faults, achievement_breaks}
+use Rattle.ra_patch.specs.Faults.{board_breaks, faults_from, faults_of, achievements_or_none, boards_or_none}
 use Rattle.ra_patch.specs.Fields.{id_in, text_in, has_patch, achievements_in, boards_in, presence_in}
 
 -- the first of some faults is the first of more

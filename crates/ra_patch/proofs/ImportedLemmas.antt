@@ -1,5 +1,7 @@
 -- Where a document gives a set file, nothing is left out.
-use Rattle.std.proofs.Common.{◌≡◌, ◌∙◌, ℕ, ◌+◌, ◌==◌, ◌||◌, suc, Bool, true, false, List, [], ◌∷◌, ◌++◌, length, map, slice_get, Option, Some, None, is_some, option_map, option_and_then, unwrap_or, refl, sym, ap, subst, subst₂, codes, append-nil, append_assoc, arith}
+use Rattle.std.proofs.Common.{◌≡◌, ◌∙◌, ℕ, ◌+◌, ◌==◌, ◌||◌, suc, Bool, true, false, List, [], ◌∷◌, ◌++◌, length, map}
+use Rattle.std.proofs.Common.{slice_get, Option, Some, None, is_some, option_map, option_and_then, unwrap_or, refl, sym}
+use Rattle.std.proofs.Common.{ap, subst, subst₂, codes, append-nil, append_assoc, arith}
 use Rattle.std.specs.List.{AllByRecursion, IsDistinct, flat_map}
 use Rattle.std.proofs.lemmas.List.Folds.{list_any-append}
 use Rattle.serde_json.specs.Data.{Data}
@@ -15,14 +17,19 @@ use Rattle.ra_patch.specs.declared.item_kind.ItemKind.{ItemKind}
 use Rattle.ra_patch.specs.declared.item_kind.ItemKind.TheVariants.{Achievement, Leaderboard}
 use Rattle.ra_patch.specs.declared.refused.PatchRefused.{PatchRefused}
 use Rattle.ra_patch.specs.Answers.{GivesSet, Imports}
-use Rattle.ra_patch.specs.Faults.{achievement_breaks, achievement_faults, achievements_or_none, board_breaks, board_faults, boards_or_none, faults_from, root_faults, unless}
-use Rattle.ra_patch.specs.Fields.{achievements_in, boards_in, has_patch, list_in, optional_list, optional_text, patch_field, presence_in}
+use Rattle.ra_patch.specs.Faults.{achievement_breaks, achievement_faults, achievements_or_none, board_breaks}
+use Rattle.ra_patch.specs.Faults.{board_faults, boards_or_none, faults_from, root_faults, unless}
+use Rattle.ra_patch.specs.Fields.{achievements_in, boards_in, has_patch, list_in, optional_list, optional_text}
+use Rattle.ra_patch.specs.Fields.{patch_field, presence_in}
 use Rattle.ra_patch.specs.LeftAnswers.{LeavesDocument, LeavesLists, LeavesValue}
-use Rattle.ra_patch.specs.Leaving.{IsScriptPlace, IsScriptVerdict, Leaves, of_more, of_none, cause_of, fault_of, has_id, id_of, item_faults, line_of}
+use Rattle.ra_patch.specs.Leaving.{IsScriptPlace, IsScriptVerdict, Leaves, of_more, of_none, cause_of, fault_of, has_id}
+use Rattle.ra_patch.specs.Leaving.{id_of, item_faults, line_of}
 use Rattle.ra_patch.specs.Lines.{presence_lines}
-use Rattle.ra_patch.specs.Patches.{holders_by, holders_in, holders_of, items_in, object_in, own_items, own_list, patch_by, patch_in, script_in, wrong_field, wrong_holders, wrong_list, wrong_patch}
+use Rattle.ra_patch.specs.Patches.{holders_by, holders_in, holders_of, items_in, object_in, own_items, own_list}
+use Rattle.ra_patch.specs.Patches.{patch_by, patch_in, script_in, wrong_field, wrong_holders, wrong_list, wrong_patch}
 use Rattle.ra_patch.specs.Patches as patches
-use Rattle.ra_patch.proofs.CutLemmas.{EachInner, HasTexts, SpellsText, bare_line, inner-bare, item-text, presence-texts, shown, with-lines}
+use Rattle.ra_patch.proofs.CutLemmas.{EachInner, HasTexts, SpellsText, bare_line, inner-bare, item-text, presence-texts}
+use Rattle.ra_patch.proofs.CutLemmas.{shown, with-lines}
 use Rattle.ra_patch.proofs.KeptLemmas.{same-repeats}
 use Rattle.ra_patch.proofs.LineLemmas.{IsOf, none-before, none-behind, unless-holds}
 

@@ -1,5 +1,6 @@
 -- The set file of what stays is refused for nothing but a limit.
-use Rattle.std.proofs.Common.{◌≡◌, ◌∙◌, ℕ, ◌==◌, ◌||◌, false, List, [], ◌∷◌, ◌++◌, map, Option, Some, None, refl, sym, ap, subst, inl, append_assoc, append-nil}
+use Rattle.std.proofs.Common.{◌≡◌, ◌∙◌, ℕ, ◌==◌, ◌||◌, false, List, [], ◌∷◌, ◌++◌, map, Option, Some, None, refl, sym}
+use Rattle.std.proofs.Common.{ap, subst, inl, append_assoc, append-nil}
 use Rattle.std.specs.List.{IsDistinct, flat_map, list_any}
 use Rattle.std.proofs.lemmas.List.{map-append}
 use Rattle.std.proofs.lemmas.List.Concat.{flat_map-append}
@@ -23,7 +24,8 @@ use Rattle.ra_patch.specs.declared.item_kind.ItemKind.TheVariants.{Achievement, 
 use Rattle.ra_patch.specs.declared.left_out.LeftCause.{LeftCause}
 use Rattle.ra_patch.specs.declared.left_out.LeftOut.{LeftOut}
 use Rattle.ra_patch.specs.LeftAnswers.{KeepsGrammar, LeavesLists}
-use Rattle.ra_patch.specs.Leaving.{IsScriptPlace, IsScriptVerdict, Leaves, of_more, of_none, has_id, id_of, kept_script, line_of}
+use Rattle.ra_patch.specs.Leaving.{IsScriptPlace, IsScriptVerdict, Leaves, of_more, of_none, has_id, id_of, kept_script}
+use Rattle.ra_patch.specs.Leaving.{line_of}
 use Rattle.ra_patch.specs.Lines.{presence_lines}
 use Rattle.ra_patch.proofs.LineLemmas.{IsOf, SpellsItem, item-spelled}
 

@@ -1,5 +1,6 @@
 -- One thing is left of a document.
-use Rattle.std.proofs.Common.{◌≡◌, ◌∙◌, ℕ, Bool, true, false, List, [], ◌∷◌, ◌++◌, Option, Some, None, option_map, refl, sym, ap, subst}
+use Rattle.std.proofs.Common.{◌≡◌, ◌∙◌, ℕ, Bool, true, false, List, [], ◌∷◌, ◌++◌, Option, Some, None, option_map, refl}
+use Rattle.std.proofs.Common.{sym, ap, subst}
 use Rattle.std.proofs.lemmas.List.{same_from_push}
 use Rattle.serde_json.specs.Data.{Data}
 use Rattle.ra_condition.specs.Grammar.{trigger}
@@ -13,7 +14,8 @@ use Rattle.ra_patch.specs.declared.left_out.LeftCause.TheVariants.{Field, Break,
 use Rattle.ra_patch.specs.declared.left_out.LeftOut.{LeftOut}
 use Rattle.ra_patch.specs.declared.refused.PatchField.TheVariants.{RichPresencePatch}
 use Rattle.ra_patch.specs.LeftAnswers.{LeavesLists}
-use Rattle.ra_patch.specs.Leaving.{IsItemPlace, IsPlace, IsScriptPlace, IsScriptVerdict, IsVerdict, Leaves, of_more, of_none, fault_of, has_id, id_of, item_text}
+use Rattle.ra_patch.specs.Leaving.{IsItemPlace, IsPlace, IsScriptPlace, IsScriptVerdict, IsVerdict, Leaves, of_more}
+use Rattle.ra_patch.specs.Leaving.{of_none, fault_of, has_id, id_of, item_text}
 
 -- ---- places
 

@@ -1,5 +1,6 @@
 -- A document has one answer where something is left of it.
-use Rattle.std.proofs.Common.{◌≡◌, ◌∙◌, ℕ, ◌+◌, ◌<◌, ◌≤◌, ◌⊎◌, inl, inr, List, [], length, Option, Some, None, Result, Ok, Err, IfOk, IfErr, MatchResult, IsErrAnd, refl, sym, ap, subst, arith}
+use Rattle.std.proofs.Common.{◌≡◌, ◌∙◌, ℕ, ◌+◌, ◌<◌, ◌≤◌, ◌⊎◌, inl, inr, List, [], length, Option, Some, None, Result}
+use Rattle.std.proofs.Common.{Ok, Err, IfOk, IfErr, MatchResult, IsErrAnd, refl, sym, ap, subst, arith}
 use Rattle.serde_json.specs.Data.{Data}
 use Rattle.ra_patch.specs.declared.document_refused.DocumentRefused.{DocumentRefused}
 use Rattle.ra_patch.specs.declared.document_refused.DocumentRefused.TheVariants.{Bytes, NotJson, Root, Memory}
@@ -7,7 +8,8 @@ use Rattle.ra_patch.specs.declared.document_refused.RootField.{RootField}
 use Rattle.ra_patch.specs.declared.left_out.LeftOut.{LeftOut}
 use Rattle.ra_patch.specs.Answers.{Imports, IsDocument}
 use Rattle.ra_patch.specs.Fields.{Reads}
-use Rattle.ra_patch.specs.LeftAnswers.{HasOwnLists, KeepsGrammar, LeavesDocument, LeavesFew, LeavesNothing, LeavesOfficial, LeavesValue, LeavesWanted}
+use Rattle.ra_patch.specs.LeftAnswers.{HasOwnLists, KeepsGrammar, LeavesDocument, LeavesFew, LeavesNothing}
+use Rattle.ra_patch.specs.LeftAnswers.{LeavesOfficial, LeavesValue, LeavesWanted}
 use Rattle.ra_patch.specs.Official.{unofficial_among}
 use Rattle.ra_patch.specs.Patches.{items_in, wrong_field}
 use Rattle.ra_patch.specs.declared.item_kind.ItemKind.TheVariants.{Achievement}

@@ -1,5 +1,8 @@
 -- The line of an item that stays is a line of a set file.
-use Rattle.std.proofs.Common.{◌≡◌, ◌∙◌, ℕ, ◌<◌, ◌^◌, ◌==◌, ◌&&◌, ◌||◌, Bool, true, false, not, if◌then◌else◌, nat_lt, ltb-true, List, [], ◌∷◌, ◌++◌, length, Option, Some, None, option_map, option_and_then, unwrap_or, slice_get, refl, sym, ap, subst, arith, codes, inl, inr, append_assoc, append-nil, lit<}
+use Rattle.std.proofs.Common.{◌≡◌, ◌∙◌, ℕ, ◌<◌, ◌^◌, ◌==◌, ◌&&◌, ◌||◌, Bool, true, false, not, if◌then◌else◌, nat_lt}
+use Rattle.std.proofs.Common.{ltb-true, List, [], ◌∷◌, ◌++◌, length, Option, Some, None, option_map, option_and_then}
+use Rattle.std.proofs.Common.{unwrap_or, slice_get, refl, sym, ap, subst, arith, codes, inl, inr, append_assoc}
+use Rattle.std.proofs.Common.{append-nil, lit<}
 use Rattle.serde_json.specs.Data.{Data}
 use Rattle.serde_json.specs.Find.{get, as_number, as_u64}
 use Rattle.ra_condition.specs.Contents.{TriggerContents}
@@ -16,7 +19,8 @@ use Rattle.ra_text.proofs.Tables.{all_pass}
 use Rattle.ra_patch.specs.declared.item_kind.ItemKind.{ItemKind}
 use Rattle.ra_patch.specs.declared.item_kind.ItemKind.TheVariants.{Achievement, Leaderboard}
 use Rattle.ra_patch.specs.declared.refused.PatchRefused.{PatchRefused}
-use Rattle.ra_patch.specs.Faults.{achievement_breaks, achievement_faults, board_breaks, board_faults, ends_word, ends_line, text_or_empty, unless}
+use Rattle.ra_patch.specs.Faults.{achievement_breaks, achievement_faults, board_breaks, board_faults, ends_word}
+use Rattle.ra_patch.specs.Faults.{ends_line, text_or_empty, unless}
 use Rattle.ra_patch.specs.Fields.{small}
 use Rattle.ra_patch.specs.Leaving.{IsItemPlace, cause_of, fault_of, id_of, item_faults, item_text, line_of}
 

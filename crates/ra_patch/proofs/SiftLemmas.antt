@@ -1,5 +1,7 @@
 -- What is read of the lists of a document, item by item.
-use Rattle.std.proofs.Common.{◌≡◌, ◌∙◌, ℕ, zero, suc, ◌+◌, ◌<◌, ◌≤◌, ◌==◌, ◌||◌, Bool, true, false, List, [], ◌∷◌, ◌++◌, length, map, take, get_or, Option, Some, None, Result, Ok, Err, OnOk, refl, sym, ap, subst, string_bytes, append-nil, append_assoc, length-append, arith}
+use Rattle.std.proofs.Common.{◌≡◌, ◌∙◌, ℕ, zero, suc, ◌+◌, ◌<◌, ◌≤◌, ◌==◌, ◌||◌, Bool, true, false, List, [], ◌∷◌, ◌++◌}
+use Rattle.std.proofs.Common.{length, map, take, get_or, Option, Some, None, Result, Ok, Err, OnOk, refl, sym, ap}
+use Rattle.std.proofs.Common.{subst, string_bytes, append-nil, append_assoc, length-append, arith}
 use Rattle.std.specs.Cmp.{nat_eq_equiv}
 use Rattle.std.specs.List.{flat_map}
 use Rattle.std.proofs.lemmas.List.{length_push}
@@ -12,7 +14,8 @@ use Rattle.ra_text.specs.declared.refusals.OutOfMemory.{OutOfMemory}
 use Rattle.ra_patch.specs.declared.item_kind.ItemKind.{ItemKind}
 use Rattle.ra_patch.specs.declared.left_out.LeftCause.{LeftCause}
 use Rattle.ra_patch.specs.declared.sifted.Sifted.{Sifted}
-use Rattle.ra_patch.specs.Leaving.{IsScriptVerdict, IsVerdict, of_more, of_none, has_id, id_of, item_row, kept_item, line_of, script_row}
+use Rattle.ra_patch.specs.Leaving.{IsScriptVerdict, IsVerdict, of_more, of_none, has_id, id_of, item_row, kept_item}
+use Rattle.ra_patch.specs.Leaving.{line_of, script_row}
 use Rattle.ra_patch.specs.Patches.{items_of, own_items}
 use Rattle.ra_patch.specs.Sifting.{Puts, Sifts, SiftsScript, holds, is_kept}
 

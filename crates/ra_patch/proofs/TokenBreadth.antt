@@ -1,11 +1,15 @@
 -- A text in JSON has an array of no more items than the text has bytes.
-use Rattle.std.proofs.Common.{◌≡◌, ℕ, zero, suc, ◌+◌, ◌≤◌, max, Bool, true, false, List, [], ◌∷◌, length, Option, Some, None, option_and_then, refl, arith}
+use Rattle.std.proofs.Common.{◌≡◌, ℕ, zero, suc, ◌+◌, ◌≤◌, max, Bool, true, false, List, [], ◌∷◌, length, Option, Some}
+use Rattle.std.proofs.Common.{None, option_and_then, refl, arith}
 use Rattle.std.specs.Prelude.{⊤}
-use Rattle.json.specs.Token.{Token, begin_object, end_object, begin_array, end_array, key, string, number, boolean, null, bad}
-use Rattle.json.specs.Lex.{Lexeme, Mode, Place, fresh, after_value, after_comma, after_key, Class, lex_byte, class, lex, begins_colon, if_allowed, place_token, punctuate, tokens}
+use Rattle.json.specs.Token.{Token, begin_object, end_object, begin_array, end_array, key, string, number, boolean}
+use Rattle.json.specs.Token.{null, bad}
+use Rattle.json.specs.Lex.{Lexeme, Mode, Place, fresh, after_value, after_comma, after_key, Class, lex_byte, class, lex}
+use Rattle.json.specs.Lex.{begins_colon, if_allowed, place_token, punctuate, tokens}
 use Rattle.json.specs.Lex as lex
 use Rattle.json.specs.Json as json
-use Rattle.json.specs.Json.{Json, Parse, parse_map, after_end_array, read_key, items_step, members_step, items, members, value_with, value}
+use Rattle.json.specs.Json.{Json, Parse, parse_map, after_end_array, read_key, items_step, members_step, items, members}
+use Rattle.json.specs.Json.{value_with, value}
 
 -- ---- tokens
 

@@ -1,5 +1,6 @@
 -- Where nothing is left out of a document with lists of its own, it gives the set file that is left.
-use Rattle.std.proofs.Common.{◌≡◌, ◌∙◌, ℕ, ◌+◌, ◌&&◌, Bool, true, false, not, if◌then◌else◌, List, [], ◌∷◌, ◌++◌, length, Option, Some, None, is_some, option_and_then, refl, sym, ap, subst, codes}
+use Rattle.std.proofs.Common.{◌≡◌, ◌∙◌, ℕ, ◌+◌, ◌&&◌, Bool, true, false, not, if◌then◌else◌, List, [], ◌∷◌, ◌++◌}
+use Rattle.std.proofs.Common.{length, Option, Some, None, is_some, option_and_then, refl, sym, ap, subst, codes}
 use Rattle.std.specs.List.{flat_map}
 use Rattle.serde_json.specs.Data.{Data}
 use Rattle.serde_json.specs.Find.{get}
@@ -12,15 +13,20 @@ use Rattle.ra_patch.specs.declared.left_out.LeftCause.{LeftCause}
 use Rattle.ra_patch.specs.declared.left_out.LeftOut.{LeftOut}
 use Rattle.ra_patch.specs.declared.refused.PatchRefused.{PatchRefused}
 use Rattle.ra_patch.specs.Answers.{GivesSet, Imports}
-use Rattle.ra_patch.specs.Faults.{achievement_breaks, achievement_faults, achievements_or_none, board_breaks, board_faults, boards_or_none, faults_from, root_faults, unless}
-use Rattle.ra_patch.specs.Fields.{achievements_in, boards_in, has_patch, list_in, optional_list, patch_field, presence_in}
+use Rattle.ra_patch.specs.Faults.{achievement_breaks, achievement_faults, achievements_or_none, board_breaks}
+use Rattle.ra_patch.specs.Faults.{board_faults, boards_or_none, faults_from, root_faults, unless}
+use Rattle.ra_patch.specs.Fields.{achievements_in, boards_in, has_patch, list_in, optional_list, patch_field}
+use Rattle.ra_patch.specs.Fields.{presence_in}
 use Rattle.ra_patch.specs.LeftAnswers.{HasOwnLists, LeavesDocument, LeavesValue}
-use Rattle.ra_patch.specs.Leaving.{IsScriptVerdict, Leaves, of_more, of_none, fault_of, item_row, kept_script, line_of, script_row}
+use Rattle.ra_patch.specs.Leaving.{IsScriptVerdict, Leaves, of_more, of_none, fault_of, item_row, kept_script, line_of}
+use Rattle.ra_patch.specs.Leaving.{script_row}
 use Rattle.ra_patch.specs.Lines.{presence_lines}
-use Rattle.ra_patch.specs.Patches.{holders_in, items_in, own_list, patch_in, wrong_field, wrong_holders, wrong_list, wrong_patch}
+use Rattle.ra_patch.specs.Patches.{holders_in, items_in, own_list, patch_in, wrong_field, wrong_holders, wrong_list}
+use Rattle.ra_patch.specs.Patches.{wrong_patch}
 use Rattle.ra_patch.specs.Patches as patches
 use Rattle.ra_patch.proofs.AnswerLemmas.{same-read}
-use Rattle.ra_patch.proofs.ImportedLemmas.{Faultless, achievement-any, board-any, holders-found, none-both, own-lists, patch-found, unless-any}
+use Rattle.ra_patch.proofs.ImportedLemmas.{Faultless, achievement-any, board-any, holders-found, none-both, own-lists}
+use Rattle.ra_patch.proofs.ImportedLemmas.{patch-found, unless-any}
 use Rattle.ra_patch.proofs.LineLemmas.{no-faults, none-before, none-behind}
 
 -- ---- lists

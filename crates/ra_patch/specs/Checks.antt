@@ -2,7 +2,8 @@
 use Rattle.std.specs.Prelude.{ℕ, List}
 use Rattle.serde_json.specs.Data.{Data}
 use Rattle.ra_patch.specs.declared.check.Check.{Check}
-use Rattle.ra_patch.specs.declared.check.Check.TheVariants.{AchievementFields, BoardFields, AchievementTexts, BoardTexts}
+use Rattle.ra_patch.specs.declared.check.Check.TheVariants.{AchievementFields, BoardFields, AchievementTexts}
+use Rattle.ra_patch.specs.declared.check.Check.TheVariants.{BoardTexts}
 use Rattle.ra_patch.specs.declared.refused.PatchRefused.{PatchRefused}
 use Rattle.ra_patch.specs.Faults.{achievement_faults, board_faults, achievement_breaks, board_breaks}
 

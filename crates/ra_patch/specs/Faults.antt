@@ -1,5 +1,6 @@
 -- What is wrong with a document, in order: docs/DEFINITIONS.md, "Sets from JSON".
-use Rattle.std.specs.Prelude.{ℕ, ◌+◌, ◌==◌, ◌&&◌, ◌||◌, not, Bool, true, false, is_some, unwrap_or, List, [], ◌∷◌, ◌++◌, length, codes}
+use Rattle.std.specs.Prelude.{ℕ, ◌+◌, ◌==◌, ◌&&◌, ◌||◌, not, Bool, true, false, is_some, unwrap_or, List, [], ◌∷◌, ◌++◌}
+use Rattle.std.specs.Prelude.{length, codes}
 use Rattle.std.specs.List.{list_any}
 use Rattle.serde_json.specs.Data.{Data}
 use Rattle.ra_patch.specs.declared.refused.PatchList.TheVariants.{Root, Achievements, Leaderboards}
@@ -76,7 +77,8 @@ achievements_or_none d = unwrap_or (achievements_in d) []
 abbrev pub boards_or_none : Data → List Data
 boards_or_none d = unwrap_or (boards_in d) []
 
--- all that is wrong with a document: the fields of the root, of the achievements and of the leaderboards, then the texts
+-- all that is wrong with a document: the fields of the root, of the achievements and of the leaderboards, then the
+-- texts
 -- of the achievements and of the leaderboards
 abbrev pub faults_of : Data → List PatchRefused
 faults_of d =

@@ -1,5 +1,6 @@
 -- The fields of a document: docs/DEFINITIONS.md, "Sets from JSON".
-use Rattle.std.specs.Prelude.{◌≡◌, ℕ, ◌^◌, nat_lt, Bool, if◌then◌else◌, Option, None, Some, is_some, option_map, option_and_then, List, [], ◌∷◌, IsUtf8, codes}
+use Rattle.std.specs.Prelude.{◌≡◌, ℕ, ◌^◌, nat_lt, Bool, if◌then◌else◌, Option, None, Some, is_some, option_map}
+use Rattle.std.specs.Prelude.{option_and_then, List, [], ◌∷◌, IsUtf8, codes}
 use Rattle.serde_json.specs.Data.{Data, null, Items, no_items, item}
 use Rattle.serde_json.specs.Read.{read}
 use Rattle.serde_json.specs.Find.{get, as_number, as_u64, as_str, as_array, as_object}

@@ -1,5 +1,6 @@
 -- What stays of a document's lists, and what is left out: docs/DEFINITIONS.md, "What is left of a document".
-use Rattle.std.specs.Prelude.{◌≡◌, ℕ, ◌==◌, Bool, true, false, Option, None, Some, option_map, unwrap_or, slice_get, List, [], ◌∷◌, ◌++◌, length, codes}
+use Rattle.std.specs.Prelude.{◌≡◌, ℕ, ◌==◌, Bool, true, false, Option, None, Some, option_map, unwrap_or, slice_get}
+use Rattle.std.specs.Prelude.{List, [], ◌∷◌, ◌++◌, length, codes}
 use Rattle.std.specs.List.{list_any}
 use Rattle.serde_json.specs.Data.{Data}
 use Rattle.ra_condition.specs.Grammar.{trigger}

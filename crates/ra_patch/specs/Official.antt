@@ -1,5 +1,6 @@
 -- What is looked at of a list of achievements: docs/DEFINITIONS.md, "What is left of a document".
-use Rattle.std.specs.Prelude.{ℕ, ◌==◌, not, Bool, true, false, Option, None, Some, option_and_then, List, filter, count_by, codes}
+use Rattle.std.specs.Prelude.{ℕ, ◌==◌, not, Bool, true, false, Option, None, Some, option_and_then, List, filter}
+use Rattle.std.specs.Prelude.{count_by, codes}
 use Rattle.serde_json.specs.Data.{Data}
 use Rattle.serde_json.specs.Find.{get, as_number, as_u64}
 use Rattle.ra_patch.specs.declared.scope.Scope.{Scope}

@@ -1,5 +1,6 @@
 -- The patch of a document and its lists: docs/DEFINITIONS.md, "What is left of a document".
-use Rattle.std.specs.Prelude.{ℕ, ◌||◌, not, Bool, if◌then◌else◌, Option, None, Some, is_some, option_and_then, unwrap_or, List, [], ◌∷◌, codes}
+use Rattle.std.specs.Prelude.{ℕ, ◌||◌, not, Bool, if◌then◌else◌, Option, None, Some, is_some, option_and_then}
+use Rattle.std.specs.Prelude.{unwrap_or, List, [], ◌∷◌, codes}
 use Rattle.std.specs.List.{flat_map, list_all}
 use Rattle.serde_json.specs.Data.{Data}
 use Rattle.serde_json.specs.Find.{get, as_array, as_object}

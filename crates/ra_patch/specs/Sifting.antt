@@ -1,5 +1,6 @@
 -- What is read of lists: the step between the code and docs/DEFINITIONS.md, "What is left of a document".
-use Rattle.std.specs.Prelude.{◌≡◌, ℕ, ◌+◌, ◌==◌, ◌||◌, Bool, false, Option, None, Some, List, ◌++◌, length, string_bytes}
+use Rattle.std.specs.Prelude.{◌≡◌, ℕ, ◌+◌, ◌==◌, ◌||◌, Bool, false, Option, None, Some, List, ◌++◌, length}
+use Rattle.std.specs.Prelude.{string_bytes}
 use Rattle.std.specs.BTreeSet.{contains}
 use Rattle.std.specs.List.{flat_map}
 use Rattle.std.specs.Ordering.{nat_cmp}
@@ -8,7 +9,8 @@ use Rattle.ra_patch.specs.declared.item_kind.ItemKind.{ItemKind}
 use Rattle.ra_patch.specs.declared.left_out.LeftCause.{LeftCause}
 use Rattle.ra_patch.specs.declared.left_out.LeftOut.{LeftOut}
 use Rattle.ra_patch.specs.declared.sifted.Sifted.{Sifted}
-use Rattle.ra_patch.specs.Leaving.{Leaves, IsScriptVerdict, has_id, id_of, item_row, kept_item, kept_script, line_of, script_row}
+use Rattle.ra_patch.specs.Leaving.{Leaves, IsScriptVerdict, has_id, id_of, item_row, kept_item, kept_script, line_of}
+use Rattle.ra_patch.specs.Leaving.{script_row}
 use Rattle.ra_patch.specs.Lines.{presence_lines}
 
 -- an id is among those of the items that stay

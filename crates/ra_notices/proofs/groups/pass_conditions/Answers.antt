@@ -15,5 +15,6 @@ loop-place-preserved c =
     let lock = c.is_marked-in-loop-place.ensures ∙ c.requires.locks place within in
     passed_more c.args.spot cs c.args.found.now.items c.loop-place.found.items c.put_notices.new.found.items place
     _ _ _ _ c.loop-place.standing c.with-standing.result
-    condition refl again lock c.loop-place.invariant (c.in_ok-put_notices.ensures ∙ ap (λ seen. c.loop-place.found.items ++ notices_by c.args.spot place seen) c.seen_of-seen.ensures)
+    condition refl again lock c.loop-place.invariant (c.in_ok-put_notices.ensures ∙ ap
+    (λ seen. c.loop-place.found.items ++ notices_by c.args.spot place seen) c.seen_of-seen.ensures)
     (c.with-standing.ensures ∙ ap (standing_with c.loop-place.standing) c.seen_of-seen.ensures)

@@ -7,7 +7,8 @@ use Rattle.ra_notices.proofs.groups.review_alts.Goals as goal
 
 pub review_group-requires-clause-spelled : goal.review_group-requires-clause-spelled
 review_group-requires-clause-spelled c =
-    holds_at group_contents c.args.alts.now c.loop-place.place c.index-alts-place.result (omega arith) c.index-alts-place.is
+    holds_at group_contents c.args.alts.now c.loop-place.place c.index-alts-place.result
+    (omega arith) c.index-alts-place.is
     IsTriggerGroup c.requires.spelled
 
 pub review_group-requires-clause-few : goal.review_group-requires-clause-few

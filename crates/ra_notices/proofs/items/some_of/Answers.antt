@@ -11,5 +11,6 @@ pub returns-else-has_class : goal.returns-else-has_class
 returns-else-has_class c =
     let test = some_in (has_class c.args.class) in
     let alts = c.args.text.now.alts.items in
-    c.some_alt_has.ensures ∙ ap (list_any (λ (alt : Group). test (group_contents alt))) c.deref.ensures.value ∙ any_map test group_contents alts
+    c.some_alt_has.ensures ∙ ap (list_any (λ (alt : Group). test (group_contents alt)))
+    c.deref.ensures.value ∙ any_map test group_contents alts
     ∙ ap (λ b. b || list_any test (map group_contents alts)) c.if-has_class.ensures

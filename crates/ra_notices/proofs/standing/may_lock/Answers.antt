@@ -9,5 +9,7 @@ loop-condition-preserved c =
     let cs = c.args.conditions.now in
     let place = c.loop-condition.condition-index in
     let condition = get_or_default cs place _ no_condition (omega arith) in
-    may_more cs place _ c.loop-condition.before c.loop-condition.may.items c.push.new.self.items c.before_next-before.result
-    condition c.loop-condition.invariant (c.in_ok-push.ensures.items ∙ ap (λ b. c.loop-condition.may.items ++ b ∷ []) c.may_lock_after.ensures) c.before_next-before.ensures
+    may_more cs place _ c.loop-condition.before c.loop-condition.may.items c.push.new.self.items
+    c.before_next-before.result
+    condition c.loop-condition.invariant (c.in_ok-push.ensures.items ∙ ap (λ b.
+    c.loop-condition.may.items ++ b ∷ []) c.may_lock_after.ensures) c.before_next-before.ensures

@@ -10,4 +10,5 @@ loop-condition-preserved c =
     let place = c.loop-condition.condition-index in
     let condition = get_or_default cs place _ no_condition (omega arith) in
     some_more cs place _ c.loop-condition.before c.loop-condition.some _ c.before_next-before.result
-    condition c.loop-condition.invariant (ap (λ b. c.loop-condition.some || b) c.may_lock_after-some.ensures) c.before_next-before.ensures
+    condition c.loop-condition.invariant (ap
+    (λ b. c.loop-condition.some || b) c.may_lock_after-some.ensures) c.before_next-before.ensures

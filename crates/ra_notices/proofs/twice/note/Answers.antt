@@ -10,5 +10,6 @@ returns-clause-noted c = λ key.
     let own = key_of c.args.condition.now in
     let old = contains key_cmp c.args.seen.now key in
     (c.in_ok-is_new.ensures.updates).0 key
-    ∙ ap (λ b. cond b true old) (is_eq-slice_cmp c.key_of.result key) ∙ ap (λ k. cond (bytes_eq k key) true old) c.key_of.ensures
+    ∙ ap (λ b. cond b true old) (is_eq-slice_cmp c.key_of.result key)
+    ∙ ap (λ k. cond (bytes_eq k key) true old) c.key_of.ensures
     ∙ or_cond (bytes_eq own key) old ∙ ap (λ l. (l && bytes_eq own key) || old) (sym c.if-not-lone.false)

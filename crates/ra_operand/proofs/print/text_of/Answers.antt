@@ -7,5 +7,9 @@ use Rattle.ra_operand.proofs.print.text_of.Goals as goal
 
 pub returns-in-Cell-clause-text : goal.returns-in-Cell-clause-text
 returns-in-Cell-clause-text c =
-    let styled : styled_digits_output c.in_radix.result c.laid_out.result ≡ Some (address_text c.in-Cell.address) = rw c.laid_out.ensures (styled-address (digits_output c.in_radix.result) c.in-Cell.address c.in_radix.ensures) in
-    IfOk-weaker c.format.result _ _ (λ text h. cell-text [] (string_bytes text) c.prefix.result.now c.letter.result.now _ c.in-Cell.address styled h ∙ rw (c.prefix.ensures, c.letter.ensures, c.in-Cell.is)) c.format.ensures.ok
+    let styled : styled_digits_output c.in_radix.result c.laid_out.result
+    ≡ Some (address_text c.in-Cell.address) = rw c.laid_out.ensures
+    (styled-address (digits_output c.in_radix.result) c.in-Cell.address c.in_radix.ensures) in
+    IfOk-weaker c.format.result _ _ (λ text h. cell-text []
+    (string_bytes text) c.prefix.result.now c.letter.result.now _ c.in-Cell.address styled h
+    ∙ rw (c.prefix.ensures, c.letter.ensures, c.in-Cell.is)) c.format.ensures.ok

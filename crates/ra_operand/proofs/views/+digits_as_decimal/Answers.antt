@@ -18,4 +18,5 @@ pub overflow_add-result : goal.overflow_add-result
 overflow_add-result t c = omega (arith, c.digits_as_decimal.ensures.bound, at_most (c.args.digits - 1) 7 (omega arith))
 
 pub returns-else-digits-eq0-clause-bound : goal.returns-else-digits-eq0-clause-bound
-returns-else-digits-eq0-clause-bound t c = omega (arith, c.digits_as_decimal.ensures.bound, more_digits c.args.digits (omega arith))
+returns-else-digits-eq0-clause-bound t c =
+    omega (arith, c.digits_as_decimal.ensures.bound, more_digits c.args.digits (omega arith))
