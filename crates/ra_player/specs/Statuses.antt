@@ -9,7 +9,9 @@ use Rattle.ra_session.specs.Expected.{Expected, JobSays}
 use Rattle.ra_jobs.specs.Outside.{Outside, GrewBy, ReadsRose, PutsRose, SinkRose, AreTold}
 use Rattle.ra_session.specs.Running.{IsSaved, PrintsBehindPut, HasSaved, deciding}
 use Rattle.ra_session.specs.declared.ending.Ending.{Ending}
-use Rattle.ra_session.specs.declared.ending.Ending.TheVariants.{Done, NoMemory, NoJob, BadSet, ReadFault, SinkFault, BadProgress, BadTrace, LongTrace, SaveFault, BadDocument, LongNormal, NoAchievement, ManyRows}
+use Rattle.ra_session.specs.declared.ending.Ending.TheVariants.{Done, NoMemory, NoJob, BadSet, ReadFault, SinkFault}
+use Rattle.ra_session.specs.declared.ending.Ending.TheVariants.{BadProgress, BadTrace, LongTrace, SaveFault}
+use Rattle.ra_session.specs.declared.ending.Ending.TheVariants.{BadDocument, LongNormal, NoAchievement, ManyRows}
 use Rattle.ra_player.specs.Headline.{PlaysAs, RefusesWords}
 
 -- the statuses that a call of `play` may answer
@@ -58,7 +60,8 @@ module _ (words : List (List ℕ)) (old new : Outside) where
     pub job : Job
     pub is_job : job_of words ≡ Some job
     pub said : AreTold old.content (deciding job)
-        → (e : Expected) × JobSays old.content job e × Ends e.ending × GrewBy old new (concat e.pieces ++ last_line e.ending)
+        → (e : Expected) × JobSays old.content job e × Ends e.ending
+        × GrewBy old new (concat e.pieces ++ last_line e.ending)
 
   -- The words are no job.
   pub record IsNoJob : Type 0 where
@@ -90,7 +93,8 @@ module _ (words : List (List ℕ)) (old new : Outside) where
   -- What the words and the told files say is what is printed, whatever the status.
   pub record PlaysWords (deciding : Ending → Job → List (List ℕ)) (status : ℕ) : Type 0 where
     pub no_job : job_of words ≡ None → RefusesWords old new status
-    pub job : (job : Job) (e : Expected) → job_of words ≡ Some job → JobSays old.content job e → PlaysAs deciding job e old new status
+    pub job : (job : Job) (e : Expected) → job_of words ≡ Some job → JobSays old.content job e
+        → PlaysAs deciding job e old new status
 
   -- What a call that answers this status did: there is an ending of this status that has its cause.
   pub record Answers (status : ℕ) : Type 0 where
@@ -109,12 +113,16 @@ module _ (words : List (List ℕ)) (old new : Outside) where
     pub saved : IsSaved job old new
 
   -- What a call that answers this status leaves of the files: no name changes but the one that the words put, and that
-  -- one only where the job was done, and then it has the bytes that the job says; where a put of it failed; or where the
+  -- one only where the job was done, and then it has the bytes that the job says; where a put of it failed; or where
+  -- the
   -- line after the put was not written whole.
   pub record LeavesFiles (status : ℕ) : Type 0 where
-    pub others : (name : List ℕ) → AllByRecursion (λ put. name ≢ put) (puts_in (job_of words)) → new.content name ≡ old.content name
-    pub only : (status ≡ 0) ⊎ (PutsRose (puts_in (job_of words)) old new ⊎ (SameContent old.content new.content ⊎ PutsBeforeLine status))
-    pub saved : status ≡ 0 → (job : Job) (e : Expected) → job_of words ≡ Some job → JobSays old.content job e → HasSaved job e old.content new.content
+    pub others : (name : List ℕ) → AllByRecursion (λ put. name ≢ put) (puts_in (job_of words))
+        → new.content name ≡ old.content name
+    pub only : (status ≡ 0) ⊎ (PutsRose (puts_in (job_of words)) old new
+        ⊎ (SameContent old.content new.content ⊎ PutsBeforeLine status))
+    pub saved : status ≡ 0 → (job : Job) (e : Expected) → job_of words ≡ Some job
+        → JobSays old.content job e → HasSaved job e old.content new.content
 
   -- No read of these files failed in the call, no put of the job's file where the job would be done, and no write.
   pub record MeetsNoFault (reads : List (List ℕ)) (job : Job) (e : Expected) : Type 0 where
@@ -125,7 +133,8 @@ module _ (words : List (List ℕ)) (old new : Outside) where
   -- Without a fault of what decides a job is done as the told files say, and all of it is printed, unless memory was
   -- wanting.
   abbrev pub IsWhole : (deciding : Ending → Job → List (List ℕ)) → ℕ → Type 0
-  IsWhole deciding status = (job : Job) (e : Expected) → job_of words ≡ Some job → JobSays old.content job e → MeetsNoFault (deciding e.ending job) job e
+  IsWhole deciding status = (job : Job) (e : Expected) → job_of words ≡ Some job
+      → JobSays old.content job e → MeetsNoFault (deciding e.ending job) job e
       → (status ≡ 1) ⊎ ((status ≡ status_of e.ending) × GrewBy old new (concat e.pieces ++ last_line e.ending))
 
   -- The same, status by status.
