@@ -1,5 +1,7 @@
 -- A file of which no line is refused is a set file without repeated ids, and the other way.
-use Rattle.std.proofs.Common.{◌≡◌, ◌∙◌, inl, inr, ℕ, suc, ◌==◌, ◌&&◌, ◌||◌, Bool, true, false, if◌then◌else◌, List, [], ◌∷◌, ◌++◌, Option, None, Some, option_to_list, refl, sym, ap, subst, codes, eq-eqb, append-nil, append_assoc, bytes_eq, eqb-true}
+use Rattle.std.proofs.Common.{◌≡◌, ◌∙◌, inl, inr, ℕ, suc, ◌==◌, ◌&&◌, ◌||◌, Bool, true, false, if◌then◌else◌, List, []}
+use Rattle.std.proofs.Common.{◌∷◌, ◌++◌, Option, None, Some, option_to_list, refl, sym, ap, subst, codes, eq-eqb}
+use Rattle.std.proofs.Common.{append-nil, append_assoc, bytes_eq, eqb-true}
 use Rattle.std.specs.List.{AllByRecursion, IsDistinct, list_any}
 use Rattle.std.proofs.lemmas.Map.Keys.{IsDistinct-head, IsDistinct-tail}
 use Rattle.ra_richpresence.specs.Cut.{begun, content_of, has_no_feed, is_end, lines_of}
@@ -15,9 +17,12 @@ use Rattle.ra_set.proofs.FileReaders.{Ended, Front, TailOf}
 use Rattle.ra_set.proofs.FrontLemmas.{TailIn, front-of_file}
 use Rattle.ra_set.proofs.LineReaders.{row}
 use Rattle.ra_set.proofs.RepeatLemmas.{distinct-last, items-more, repeats-symm}
-use Rattle.ra_review.specs.Lines.{Verdict, Accepts, Refuses, IsVerdict, opens_script, front_lines, script_lines, row_of, first_with, Findings, nothing, then_more, item_findings, line_findings, FindsIn}
+use Rattle.ra_review.specs.Lines.{Verdict, Accepts, Refuses, IsVerdict, opens_script, front_lines, script_lines, row_of}
+use Rattle.ra_review.specs.Lines.{first_with, Findings, nothing, then_more, item_findings, line_findings, FindsIn}
 use Rattle.ra_review.proofs.FrontLemmas.{first_alone}
-use Rattle.ra_review.proofs.LineAlone.{line_feedless, row_feedless, row_opens_none, line_opens_none, script_opens, not_script_line, empty_line, empty_has_none, row_alone, line_alone, only_verdict, same_option}
+use Rattle.ra_review.proofs.LineAlone.{line_feedless, row_feedless, row_opens_none, line_opens_none, script_opens}
+use Rattle.ra_review.proofs.LineAlone.{not_script_line, empty_line, empty_has_none, row_alone, line_alone, only_verdict}
+use Rattle.ra_review.proofs.LineAlone.{same_option}
 use Rattle.ra_review.proofs.WalkLemmas.{FirstOf, first_of, no_lines}
 
 -- ---- lines and how they end
@@ -54,7 +59,8 @@ first_none : (rows more : List Line) (x : ItemContents) (n : ℕ)
 first_none [] more x n distinct = refl
 first_none (None ∷ rows) more x n distinct = first_none rows more x (suc n) distinct
 first_none (Some y ∷ rows) more x n distinct =
-    let other : repeats y x ≡ false = one_of (λ z. repeats y z ≡ false) rows more x (IsDistinct-head repeats y (items_of (rows ++ Some x ∷ more)) distinct) in
+    let other : repeats y x ≡ false = one_of (λ z. repeats y z ≡ false) rows more x
+    (IsDistinct-head repeats y (items_of (rows ++ Some x ∷ more)) distinct) in
     ap (λ same. if same then Some n else first_with x (suc n) rows) other
     ∙ first_none rows more x (suc n) (IsDistinct-tail repeats y (items_of (rows ++ Some x ∷ more)) distinct)
 
@@ -99,7 +105,8 @@ passes_more found one others xs ys e a b = record {
 }
 
 -- what a text gives whose lines end so
-pub record Gives (number : ℕ) (rows : List Line) (lines : List Line) (script : Option (List (List ℕ))) (text : List ℕ) : Type 0 where
+pub record Gives (number : ℕ) (rows : List Line) (lines : List Line)
+    (script : Option (List (List ℕ))) (text : List ℕ) : Type 0 where
   pub passes : (found : Findings) → FindsIn number rows (front_lines (lines_of text)) found
       → Passes found (items_of lines)
   pub behind : script_lines (lines_of text) ≡ script
@@ -108,13 +115,16 @@ pub record Gives (number : ℕ) (rows : List Line) (lines : List Line) (script :
 one_line_more : (number : ℕ) (rows lines : List Line) (l : Line) (first : List ℕ) (rest : List (List ℕ))
     → opens_script (content_of first) ≡ false → ContainsAlone first l
     → IsDistinct repeats (items_of (rows ++ l ∷ lines))
-    → ((found : Findings) → FindsIn (suc number) (rows ++ l ∷ []) (front_lines rest) found → Passes found (items_of lines))
+    → ((found : Findings) → FindsIn (suc number) (rows ++ l ∷ []) (front_lines rest) found
+    → Passes found (items_of lines))
     → (found : Findings) → FindsIn number rows (front_lines (first ∷ rest)) found
     → Passes found (items_of (l ∷ lines))
 one_line_more number rows lines l first rest other alone distinct next found finds =
-    let f : FindsIn number rows (first ∷ front_lines rest) found = subst (λ opens. FindsIn number rows (if opens then first ∷ [] else first ∷ front_lines rest) found) other finds in
+    let f : FindsIn number rows (first ∷ front_lines rest) found = subst (λ opens. FindsIn number
+    rows (if opens then first ∷ [] else first ∷ front_lines rest) found) other finds in
     let is : f.0 ≡ Accepts l = only_verdict first l (not_script_line first other) alone f.0 f.1 in
-    let behind : FindsIn (suc number) (rows ++ l ∷ []) (front_lines rest) f.2 = subst (λ v. FindsIn (suc number) (rows ++ row_of v ∷ []) (front_lines rest) f.2) is f.3 in
+    let behind : FindsIn (suc number) (rows ++ l ∷ []) (front_lines rest) f.2 =
+    subst (λ v. FindsIn (suc number) (rows ++ row_of v ∷ []) (front_lines rest) f.2) is f.3 in
     passes_more found (line_findings number rows first (Accepts l)) f.2 (option_to_list l) (items_of lines)
     (f.4 ∙ ap (λ v. then_more (line_findings number rows first v) f.2) is)
     (accepted_line number rows lines first l distinct) (next f.2 behind)
@@ -126,7 +136,8 @@ script_line_gives : (number : ℕ) (rows : List Line) (first : List ℕ) (rest :
 script_line_gives number rows first rest is found finds =
     let opens : opens_script (content_of first) ≡ true = ap opens_script is in
     let letter : is_script_line first ≡ true = ap (bytes_eq (codes "P")) is in
-    let f : FindsIn number rows (first ∷ []) found = subst (λ opens. FindsIn number rows (if opens then first ∷ [] else first ∷ front_lines rest) found) opens finds in
+    let f : FindsIn number rows (first ∷ []) found = subst (λ opens. FindsIn number rows
+    (if opens then first ∷ [] else first ∷ front_lines rest) found) opens finds in
     let same : found ≡ then_more (line_findings number rows first f.0) nothing = f.4
     ∙ ap (λ o. then_more (line_findings number rows first f.0) o) f.3 in
     by_verdict letter f.0 f.1 same
@@ -156,7 +167,8 @@ last_gives number rows last (c ∷ text) h distinct =
     let one = lines-alone c text (line_feedless (c ∷ text) last h) in
     let other = line_opens_none (c ∷ text) last h in
     record {
-      passes = λ found finds. one_line_more number rows [] last (c ∷ text) [] other (line_alone (c ∷ text) last h) distinct
+      passes = λ found finds. one_line_more number rows [] last (c ∷ text) [] other
+          (line_alone (c ∷ text) last h) distinct
           (λ found finds. record { refusals = ap (λ f. f.refusals) finds; items = ap (λ f. f.items) finds })
           found (subst (λ lines. FindsIn number rows (front_lines lines) found) one finds);
       behind = ap script_lines one ∙ ap (λ opens. if opens then Some [] else None) other;
@@ -179,7 +191,8 @@ front_gives number rows [] (Ends last) text h some distinct = last_gives number 
 front_gives number rows [] Letter text h some distinct = absurd (some refl)
 front_gives number rows [] (Opens behind) text h some distinct = opens_gives number rows behind text h
 front_gives number rows (l ∷ ended) tail text h some distinct =
-    let whole : IsDistinct repeats (items_of (rows ++ l ∷ told ended tail)) = subst (λ lines. IsDistinct repeats (items_of (rows ++ lines))) (told_more l ended tail) distinct in
+    let whole : IsDistinct repeats (items_of (rows ++ l ∷ told ended tail)) = subst
+    (λ lines. IsDistinct repeats (items_of (rows ++ lines))) (told_more l ended tail) distinct in
     let next = front_gives (suc number) (rows ++ l ∷ []) ended tail h.behind h.of_others some
     (subst (λ lines. IsDistinct repeats (items_of lines)) (sym (append_assoc rows (l ∷ []) (told ended tail))) whole) in
     let first = h.front ++ 10 ∷ [] in
@@ -187,9 +200,11 @@ front_gives number rows (l ∷ ended) tail text h some distinct =
     ∙ lines-feed h.front h.behind (row_feedless h.front l h.wants h.of_row) in
     let other = row_opens_none h.front l h.wants h.of_row in
     subst (λ t. Gives number rows t (script_in tail) text) (sym (told_more l ended tail)) (record {
-      passes = λ found finds. one_line_more number rows (told ended tail) l first (lines_of h.behind) other (row_alone h.front l h.wants h.of_row) whole next.passes
+      passes = λ found finds. one_line_more number rows (told ended tail) l first
+          (lines_of h.behind) other (row_alone h.front l h.wants h.of_row) whole next.passes
           found (subst (λ lines. FindsIn number rows (front_lines lines) found) lines finds);
-      behind = ap script_lines lines ∙ ap (λ opens. if opens then Some (lines_of h.behind) else script_lines (lines_of h.behind)) other ∙ next.behind;
+      behind = ap script_lines lines ∙ ap (λ opens. if opens then Some (lines_of h.behind)
+          else script_lines (lines_of h.behind)) other ∙ next.behind;
     })
 
 -- ---- from lines to a set file
@@ -219,7 +234,8 @@ alone_last : (line text : List ℕ) (ls : List (List ℕ)) → has_no_feed line 
     → text ≡ line
 alone_last [] text ls clear e = absurd (no_empty_line text ls e)
 alone_last (d ∷ line) [] ls clear e = absurd (cc e)
-alone_last (d ∷ line) (c ∷ text) ls clear e = by_feed (c == 10) refl (lines_of text) refl e (alone_last line text ls (no_feed-cons d line clear).1)
+alone_last (d ∷ line) (c ∷ text) ls clear e = by_feed (c == 10) refl (lines_of text) refl e
+    (alone_last line text ls (no_feed-cons d line clear).1)
   where
     by_feed : (feed : Bool) → (c == 10) ≡ feed → (lines : List (List ℕ)) → lines_of text ≡ lines
         → (if feed then (10 ∷ []) ∷ lines else begun c lines) ≡ (d ∷ line) ∷ ls
@@ -267,7 +283,8 @@ shape_of l m last lines (e ∷ []) one items is h =
     let empty : last ≡ None = empty_has_none last (subst (λ t. line t last) none h.of_others) in
     let all : lines ≡ e ∷ None ∷ [] = is ∙ ap (λ x. e ∷ x ∷ []) empty in
     let same : e ≡ m = same_option e m (sym (append-nil (option_to_list e)) ∙ ap items_of (sym all) ∙ items) in
-    feeds h.front h.wants (subst (λ x. row h.front (x, h.wants)) same h.of_row) (h.parts ∙ ap (λ t. h.front ++ 10 ∷ t) none)
+    feeds h.front h.wants (subst (λ x. row h.front (x, h.wants)) same h.of_row) (h.parts
+    ∙ ap (λ t. h.front ++ 10 ∷ t) none)
 shape_of l m last lines (e ∷ d ∷ ended) one items is h =
     let none : h.behind ≡ [] = behind_feed h.front h.behind l one h.parts in
     absurd (no_row_in d (Front ended (Ends last)) (subst (Ended d (Front ended (Ends last))) none h.of_others))
@@ -312,7 +329,8 @@ only_end (c ∷ d ∷ []) e = by_end (c == 13) (d == 10) refl refl e
   where
     by_end : (return end : Bool) → (c == 13) ≡ return → (d == 10) ≡ end
         → (if return && end then [] else c ∷ content_of (d ∷ [])) ≡ [] → OnlyEnd (c ∷ d ∷ [])
-    by_end true true is last e = return_feed (ap (λ c. c ∷ d ∷ []) (eqb-true c 13 is) ∙ ap (λ d. 13 ∷ d ∷ []) (eqb-true d 10 last))
+    by_end true true is last e = return_feed (ap (λ c. c ∷ d ∷ []) (eqb-true c 13 is)
+        ∙ ap (λ d. 13 ∷ d ∷ []) (eqb-true d 10 last))
     by_end true false is last e = absurd (cc e)
     by_end false end is last e = absurd (cc e)
 only_end (c ∷ d ∷ f ∷ l) e = absurd (cc e)
@@ -398,14 +416,16 @@ accept_script rows found text l ls is f none distinct (returned e) =
     }
 
 -- the last line ends with the text
-accept_last : (number : ℕ) (rows : List Line) (found others : Findings) (text l : List ℕ) (ls : List (List ℕ)) (m : Line) → lines_of text ≡ l ∷ ls → opens_script (content_of l) ≡ false → line l m
+accept_last : (number : ℕ) (rows : List Line) (found others : Findings) (text l : List ℕ) (ls : List
+    (List ℕ)) (m : Line) → lines_of text ≡ l ∷ ls → opens_script (content_of l) ≡ false → line l m
     → Keeps number rows l m → FindsIn (suc number) (rows ++ m ∷ []) (front_lines ls) others
     → found ≡ then_more (line_findings number rows l (Accepts m)) others → Accepted rows found text
 accept_last number rows found others text l ls m is other h k finds e =
     let whole : text ≡ l = alone_last l text ls (line_feedless l m h) is in
     let one : lines_of l ≡ l ∷ [] = first_alone text l ls is in
     let last : ls ≡ [] = (let both : l ∷ ls ≡ l ∷ [] = sym is ∙ ap lines_of whole ∙ one in cc both) in
-    let none : others ≡ nothing = subst (λ ls. FindsIn (suc number) (rows ++ m ∷ []) (front_lines ls) others) last finds in
+    let none : others ≡ nothing =
+    subst (λ ls. FindsIn (suc number) (rows ++ m ∷ []) (front_lines ls) others) last finds in
     record {
       ended = [];
       tail = Ends m;
@@ -419,7 +439,9 @@ accept_last number rows found others text l ls m is other h k finds e =
     }
 
 -- a line with its line feed before others
-accept_more : (number : ℕ) (rows : List Line) (found others : Findings) (text l behind front : List ℕ) (ls : List (List ℕ)) (m : Line) (wants : Bool) → lines_of text ≡ l ∷ ls → opens_script (content_of l) ≡ false
+accept_more : (number : ℕ) (rows : List Line) (found others : Findings)
+    (text l behind front : List ℕ) (ls : List (List ℕ)) (m : Line) (wants : Bool) → lines_of text
+    ≡ l ∷ ls → opens_script (content_of l) ≡ false
     → text ≡ l ++ behind → lines_of behind ≡ ls → row front (m, wants) → l ≡ front ++ 10 ∷ []
     → Keeps number rows l m → found ≡ then_more (line_findings number rows l (Accepts m)) others
     → Accepted (rows ++ m ∷ []) others behind → Accepted rows found text
@@ -436,7 +458,8 @@ accept_more number rows found others text l behind front ls m wants is other par
   };
   items = ap (λ f. f.items) e ∙ ap (λ i. i ++ others.items) k.items ∙ ap (λ i. option_to_list m ++ i) a.items
       ∙ ap items_of (sym (told_more m a.ended a.tail));
-  distinct = subst (λ lines. IsDistinct repeats (items_of lines)) (append_assoc rows (m ∷ []) (told a.ended a.tail) ∙ ap (λ lines. rows ++ lines) (sym (told_more m a.ended a.tail))) a.distinct;
+  distinct = subst (λ lines. IsDistinct repeats (items_of lines)) (append_assoc rows (m ∷ []) (told
+      a.ended a.tail) ∙ ap (λ lines. rows ++ lines) (sym (told_more m a.ended a.tail))) a.distinct;
   behind = ap script_lines is ∙ ap (λ opens. if opens then Some ls else script_lines ls) other
       ∙ ap script_lines (sym rest) ∙ a.behind;
 }
@@ -455,7 +478,8 @@ accepted_lines [] text is number rows found distinct finds none =
       distinct = subst (IsDistinct repeats) (sym (items-more rows None ∙ append-nil (items_of rows))) distinct;
       behind = ap script_lines is;
     }
-accepted_lines (l ∷ ls) text is number rows found distinct finds none = by_opens (opens_script (content_of l)) refl finds (accepted_lines ls f.behind f.others)
+accepted_lines (l ∷ ls) text is number rows found distinct finds none =
+    by_opens (opens_script (content_of l)) refl finds (accepted_lines ls f.behind f.others)
   where
     f : FirstOf text l ls
     f = first_of text l ls is
@@ -471,8 +495,10 @@ accepted_lines (l ∷ ls) text is number rows found distinct finds none = by_ope
     script_verdict : opens_script (content_of l) ≡ true → (v : Verdict) → IsVerdict l v
         → found ≡ then_more (line_findings number rows l v) nothing → Accepted rows found text
     script_verdict opens (Accepts m) (inl h) e =
-        accept_script rows found text l ls is f (e ∙ ap (λ m. then_more (line_findings number rows l (Accepts m)) nothing) h.1) distinct (script_line l (script_opens (content_of l) h.0))
-    script_verdict opens (Accepts m) (inr h) e = let no = shape_opens_none l m (shape_alone l m one h.1) in absurd (cc (no, opens))
+        accept_script rows found text l ls is f (e ∙ ap (λ m. then_more (line_findings number rows l
+        (Accepts m)) nothing) h.1) distinct (script_line l (script_opens (content_of l) h.0))
+    script_verdict opens (Accepts m) (inr h) e = let no =
+        shape_opens_none l m (shape_alone l m one h.1) in absurd (cc (no, opens))
     script_verdict opens (Refuses place) h e = let some = sym (ap (λ f. f.refusals) e) ∙ none in absurd (cc some)
 
     -- a line before it
@@ -480,23 +506,30 @@ accepted_lines (l ∷ ls) text is number rows found distinct finds none = by_ope
         → FindsIn (suc number) (rows ++ m ∷ []) (front_lines ls) others
         → found ≡ then_more (line_findings number rows l (Accepts m)) others → Next → Accepted rows found text
     by_shape other m (ends h) others rest e next =
-        let k = keeps_line number rows l m distinct (empty_front (line_findings number rows l (Accepts m)).refusals others.refusals (sym (ap (λ f. f.refusals) e) ∙ none)) in
+        let k = keeps_line number rows l m distinct (empty_front (line_findings number rows l
+        (Accepts m)).refusals others.refusals (sym (ap (λ f. f.refusals) e) ∙ none)) in
         accept_last number rows found others text l ls m is other h k rest e
     by_shape other m (feeds front wants h feed) others rest e next =
-        let refusals : (line_findings number rows l (Accepts m)).refusals ++ others.refusals ≡ [] = sym (ap (λ f. f.refusals) e) ∙ none in
-        let k = keeps_line number rows l m distinct (empty_front (line_findings number rows l (Accepts m)).refusals others.refusals refusals) in
+        let refusals : (line_findings number rows l (Accepts m)).refusals ++ others.refusals ≡ [] =
+        sym (ap (λ f. f.refusals) e) ∙ none in
+        let k = keeps_line number rows l m distinct
+        (empty_front (line_findings number rows l (Accepts m)).refusals others.refusals refusals) in
         accept_more number rows found others text l f.behind front ls m wants is other f.parts f.others h feed k e
-        (next (suc number) (rows ++ m ∷ []) others k.distinct rest (empty_behind (line_findings number rows l (Accepts m)).refusals others.refusals refusals))
+        (next (suc number) (rows ++ m ∷ []) others k.distinct rest
+        (empty_behind (line_findings number rows l (Accepts m)).refusals others.refusals refusals))
 
     by_verdict : opens_script (content_of l) ≡ false → (v : Verdict) → IsVerdict l v → (others : Findings)
         → FindsIn (suc number) (rows ++ row_of v ∷ []) (front_lines ls) others
         → found ≡ then_more (line_findings number rows l v) others → Next → Accepted rows found text
-    by_verdict other (Accepts m) (inl h) others rest e next = let no = not_script_line l other in let is = h.0 in absurd (cc (no, is))
-    by_verdict other (Accepts m) (inr h) others rest e next = by_shape other m (shape_alone l m one h.1) others rest e next
+    by_verdict other (Accepts m) (inl h) others rest e next = let no = not_script_line l other in
+        let is = h.0 in absurd (cc (no, is))
+    by_verdict other (Accepts m) (inr h) others rest e next =
+        by_shape other m (shape_alone l m one h.1) others rest e next
     by_verdict other (Refuses place) h others rest e next = let some = sym (ap (λ f. f.refusals) e)
         ∙ none in absurd (cc some)
 
     by_opens : (opens : Bool) → opens_script (content_of l) ≡ opens
         → FindsIn number rows (if opens then l ∷ [] else l ∷ front_lines ls) found → Next → Accepted rows found text
-    by_opens true opens h next = script_verdict opens h.0 h.1 (h.4 ∙ ap (λ o. then_more (line_findings number rows l h.0) o) h.3)
+    by_opens true opens h next = script_verdict opens h.0 h.1 (h.4
+        ∙ ap (λ o. then_more (line_findings number rows l h.0) o) h.3)
     by_opens false other h next = by_verdict other h.0 h.1 h.2 h.3 h.4 next

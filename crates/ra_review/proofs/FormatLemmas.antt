@@ -1,5 +1,6 @@
 -- Format names in lines, and which are known.
-use Rattle.std.proofs.Common.{◌≡◌, ◌∙◌, ℕ, suc, ◌-◌, ◌<◌, ◌≤◌, ◌==◌, Bool, true, false, not, if◌then◌else◌, List, [], ◌∷◌, length, take, drop, Some, is_some, bytes_eq, refl, sym, ap, arith, le_refl, take_all}
+use Rattle.std.proofs.Common.{◌≡◌, ◌∙◌, ℕ, suc, ◌-◌, ◌<◌, ◌≤◌, ◌==◌, Bool, true, false, not, if◌then◌else◌, List, []}
+use Rattle.std.proofs.Common.{◌∷◌, length, take, drop, Some, is_some, bytes_eq, refl, sym, ap, arith, le_refl, take_all}
 use Rattle.ra_value_format.specs.declared.format.Format.{Format}
 use Rattle.ra_value_format.specs.Formats.{entry_of, named_format, format_names, format_of_name}
 use Rattle.ra_review.specs.Lines.{before_space, behind_space}
@@ -14,7 +15,8 @@ pub space_short : (text : List ℕ) → length (before_space text) ≤ length te
 space_short [] = le_refl 0
 space_short (byte ∷ text) = cases (byte == 32) (space_short text)
   where
-    cases : (space : Bool) → length (before_space text) ≤ length text → length (if space then [] else byte ∷ before_space text) ≤ suc (length text)
+    cases : (space : Bool) → length (before_space text) ≤ length text
+        → length (if space then [] else byte ∷ before_space text) ≤ suc (length text)
     cases true next = omega arith
     cases false next = omega (arith, next)
 
@@ -23,7 +25,8 @@ before_is [] = refl
 before_is (byte ∷ text) = cases (byte == 32) (before_is text)
   where
     cases : (space : Bool) → take (length (before_space text)) text ≡ before_space text
-        → take (length (if space then [] else byte ∷ before_space text)) (byte ∷ text) ≡ (if space then [] else byte ∷ before_space text)
+        → take (length (if space then [] else byte ∷ before_space text)) (byte ∷ text)
+        ≡ (if space then [] else byte ∷ before_space text)
     cases true next = refl
     cases false next = ap (λ t. byte ∷ t) next
 
@@ -32,7 +35,8 @@ behind_is [] = refl
 behind_is (byte ∷ text) = cases (byte == 32) (behind_is text)
   where
     cases : (space : Bool) → behind_byte (drop (length (before_space text)) text) ≡ behind_space text
-        → behind_byte (drop (length (if space then [] else byte ∷ before_space text)) (byte ∷ text)) ≡ (if space then text else behind_space text)
+        → behind_byte (drop (length (if space then [] else byte ∷ before_space text)) (byte ∷ text))
+        ≡ (if space then text else behind_space text)
     cases true next = refl
     cases false next = next
 
@@ -59,13 +63,15 @@ known_in name [] e = refl
 known_in name (entry ∷ entries) e = by_value (is_value entry.1) refl e (known_in name entries)
   where
     by_value : (v : Bool) → is_value entry.1 ≡ v → (if v then false else all_known entries) ≡ true
-        → (all_known entries ≡ true → is_some (entry_of name entries) ≡ not (is_value (named_format (entry_of name entries))))
+        → (all_known entries ≡ true → is_some (entry_of name entries)
+        ≡ not (is_value (named_format (entry_of name entries))))
         → is_some (if bytes_eq entry.0 name then Some entry.1 else entry_of name entries)
         ≡ not (is_value (named_format (if bytes_eq entry.0 name then Some entry.1 else entry_of name entries)))
     by_value true is e next = absurd (cc e)
     by_value false is e next = by_name (bytes_eq entry.0 name) (next e)
       where
-        by_name : (same : Bool) → is_some (entry_of name entries) ≡ not (is_value (named_format (entry_of name entries)))
+        by_name : (same : Bool) → is_some (entry_of name entries)
+            ≡ not (is_value (named_format (entry_of name entries)))
             → is_some (if same then Some entry.1 else entry_of name entries)
             ≡ not (is_value (named_format (if same then Some entry.1 else entry_of name entries)))
         by_name true next = ap not (sym is)

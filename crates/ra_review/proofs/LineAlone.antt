@@ -1,5 +1,7 @@
 -- A line of a set file and the file of that line alone.
-use Rattle.std.proofs.Common.{◌≡◌, ◌∙◌, inl, inr, ℕ, ◌==◌, ◌&&◌, ◌||◌, Bool, true, false, if◌then◌else◌, List, [], ◌∷◌, ◌++◌, None, Some, option_to_list, refl, sym, ap, subst, codes, append-nil, bytes_eq, eqb-true}
+use Rattle.std.proofs.Common.{◌≡◌, ◌∙◌, inl, inr, ℕ, ◌==◌, ◌&&◌, ◌||◌, Bool, true, false, if◌then◌else◌, List, [], ◌∷◌}
+use Rattle.std.proofs.Common.{◌++◌, None, Some, option_to_list, refl, sym, ap, subst, codes, append-nil, bytes_eq}
+use Rattle.std.proofs.Common.{eqb-true}
 use Rattle.std.specs.List.{list_all}
 use Rattle.ra_richpresence.specs.Cut.{content_of, has_no_feed, is_end}
 use Rattle.ra_richpresence.proofs.Cuts.{cons-no_feed}
@@ -8,7 +10,8 @@ use Rattle.ra_set.specs.Grammar.{Line, items_of, line}
 use Rattle.ra_set.proofs.FileLemmas.{file-once}
 use Rattle.ra_set.proofs.FrontLemmas.{file-of_lines, front-lines}
 use Rattle.ra_set.proofs.LineBytes.{Feedless, each-append, feedless-line}
-use Rattle.ra_set.proofs.LineReaders.{row, begins-achievement, begins-comment, begins-comment_row, begins-leaderboard, firsts-item_row}
+use Rattle.ra_set.proofs.LineReaders.{row, begins-achievement, begins-comment, begins-comment_row, begins-leaderboard}
+use Rattle.ra_set.proofs.LineReaders.{firsts-item_row}
 use Rattle.ra_set.proofs.RowLines.{cut, line-row}
 use Rattle.ra_text.proofs.Tables.{OfEach, each-in}
 use Rattle.ra_review.specs.Lines.{Verdict, Accepts, Refuses, IsVerdict, opens_script, is_space}
@@ -36,8 +39,10 @@ row_feedless text l wants h = elim (cut text l wants h) [
 
 -- a row begins with neither letter of a line P
 not_letter : (c : ℕ) (text : List ℕ) (r : Line × Bool) → row (c ∷ text) r → ((c == 80) || (c == 112)) ≡ false
-not_letter c text r (inl h) = each-in (λ c. ((c == 80) || (c == 112)) ≡ false) (codes "#") (refl, tt) c (begins-comment_row.first c text r h)
-not_letter c text r (inr h) = each-in (λ c. ((c == 80) || (c == 112)) ≡ false) (codes "AL\r") (refl, (refl, (refl, tt))) c (firsts-item_row.first c text r h)
+not_letter c text r (inl h) = each-in (λ c. ((c == 80) || (c == 112)) ≡ false) (codes "#")
+    (refl, tt) c (begins-comment_row.first c text r h)
+not_letter c text r (inr h) = each-in (λ c. ((c == 80) || (c == 112)) ≡ false) (codes "AL\r")
+    (refl, (refl, (refl, tt))) c (firsts-item_row.first c text r h)
 
 -- what begins with neither letter is no line P
 pub no_letter_opens : (c : ℕ) (text : List ℕ) → ((c == 80) || (c == 112)) ≡ false
@@ -118,7 +123,8 @@ same_option (Some x) (Some y) e = cc e
 
 same_line : (text : List ℕ) (l m : Line) → ContainsAlone text l → ContainsAlone text m → l ≡ m
 same_line text l m a b =
-    let same = file-once text (record { lines = a.lines; script = None }) (record { lines = b.lines; script = None }) a.spelled b.spelled in
+    let same = file-once text (record { lines = a.lines; script = None })
+    (record { lines = b.lines; script = None }) a.spelled b.spelled in
     same_option l m (sym a.items ∙ ap (λ c. items_of c.lines) same ∙ b.items)
 
 -- a line whose file is a set file is accepted with what that has
@@ -126,4 +132,5 @@ pub only_verdict : (text : List ℕ) (l : Line) → is_script_line text ≡ fals
     → IsVerdict text v → v ≡ Accepts l
 only_verdict text l other c (Accepts m) (inl h) = let no = h.0 in absurd (cc (no, other))
 only_verdict text l other c (Accepts m) (inr h) = ap Accepts (same_line text m l h.1 c)
-only_verdict text l other c (Refuses place) h = absurd (h.1.outside (record { lines = c.lines; script = None }) c.spelled)
+only_verdict text l other c (Refuses place) h =
+    absurd (h.1.outside (record { lines = c.lines; script = None }) c.spelled)

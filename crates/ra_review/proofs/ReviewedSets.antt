@@ -1,5 +1,6 @@
 -- A review refuses nothing and tells no limit exactly where the file is a set.
-use Rattle.std.proofs.Common.{◌≡◌, ◌∙◌, inl, inr, ℕ, zero, suc, ◌≤◌, List, [], ◌∷◌, ◌++◌, length, map, Option, None, Some, option_map, refl, sym, ap, subst}
+use Rattle.std.proofs.Common.{◌≡◌, ◌∙◌, inl, inr, ℕ, zero, suc, ◌≤◌, List, [], ◌∷◌, ◌++◌, length, map, Option, None}
+use Rattle.std.proofs.Common.{Some, option_map, refl, sym, ap, subst}
 use Rattle.std.specs.List.{IsDistinct}
 use Rattle.std.proofs.lemmas.Bool.{cases_lt}
 use Rattle.std.proofs.lemmas.List.{nil_from_length}
@@ -54,7 +55,8 @@ set_of file contents size spelled distinct keeps = (
 -- what a file contains whose lines are accepted, by the verdict on its script
 contents_by : (file : List ℕ) (number : ℕ) (ended : List Line) (tail : Tail) (v : ScriptVerdict)
     → Front ended tail file → IsScriptVerdict (script_in tail) v → script_refusals number (script_in tail) v ≡ []
-    → (contents : FileContents) × set_file file contents × (contents.lines ≡ told ended tail) × (contents.script ≡ parts_in v)
+    → (contents : FileContents) × set_file file contents × (contents.lines ≡ told ended tail)
+    × (contents.script ≡ parts_in v)
 contents_by file number ended (Ends last) Missing h judged none = (
   record { lines = ended ++ last ∷ []; script = None },
   file-of_lines file (ended ++ last ∷ []) (front-lines file ended last h),
@@ -69,7 +71,8 @@ contents_by file number ended Letter (BadAt index place) h judged none = absurd 
 contents_by file number ended (Opens behind) Missing h judged none = absurd judged
 contents_by file number ended (Opens behind) (Whole parts) h judged none = (
   record { lines = ended; script = Some parts },
-  file-of_script file behind ended parts (front-head file behind ended h) (subst (λ t. script_parts t parts) (lines-whole behind) judged),
+  file-of_script file behind ended parts (front-head file behind ended h)
+      (subst (λ t. script_parts t parts) (lines-whole behind) judged),
   refl,
   refl,
 )
@@ -87,11 +90,16 @@ set_from_review file said size r refused limit =
     let script = script_lines (lines_of file) in
     let all : r.front.refusals ++ script_refusals number script r.verdict ≡ [] = sym r.all_refusals
     ∙ nil_from_length r.refusals (sym r.refused ∙ refused) in
-    let a = accepted_lines (lines_of file) file refl 1 [] r.front none_distinct r.found (empty_front r.front.refusals (script_refusals number script r.verdict) all) in
-    let c = contents_by file number a.ended a.tail r.verdict a.front (subst (λ s. IsScriptVerdict s r.verdict) a.behind r.judged)
-    (ap (λ s. script_refusals number s r.verdict) (sym a.behind) ∙ empty_behind r.front.refusals (script_refusals number script r.verdict) all) in
+    let a = accepted_lines (lines_of file) file refl 1 [] r.front none_distinct r.found
+    (empty_front r.front.refusals (script_refusals number script r.verdict) all) in
+    let c = contents_by file number a.ended a.tail r.verdict a.front
+    (subst (λ s. IsScriptVerdict s r.verdict) a.behind r.judged)
+    (ap (λ s. script_refusals number s r.verdict) (sym a.behind)
+    ∙ empty_behind r.front.refusals (script_refusals number script r.verdict) all) in
     let items : r.front.items ≡ items_of c.0.lines = a.items ∙ ap items_of (sym c.2) in
-    let keeps : KeepsLimits r.front.items (parts_in r.verdict) = subst (IsLimit 0 r.front.items (parts_in r.verdict)) limit (subst (λ n. IsLimit n r.front.items (parts_in r.verdict) said.limit) refused r.limit) in
+    let keeps : KeepsLimits r.front.items (parts_in r.verdict) =
+    subst (IsLimit 0 r.front.items (parts_in r.verdict)) limit
+    (subst (λ n. IsLimit n r.front.items (parts_in r.verdict) said.limit) refused r.limit) in
     set_of file c.0 size c.1
     (subst (λ lines. IsDistinct repeats (items_of lines)) (sym c.2) a.distinct)
     (subst (λ i. KeepsLimits i c.0.script) items (subst (KeepsLimits r.front.items) (sym c.3) keeps))
@@ -110,7 +118,8 @@ script_judged number contents ended (Opens behind) Missing tells judged = absurd
 script_judged number contents ended (Opens behind) (Whole parts) tells judged =
     (refl, tells.3 ∙ ap (λ p. Some p) (parts-once behind tells.1 parts tells.2 (subst (λ t. script_parts t parts) (lines-whole behind) judged)))
 script_judged number contents ended (Opens behind) (BadAt index place) tells judged =
-    absurd (judged.outside.outside (script_of tells.1) (subst (λ t. script t (script_of tells.1)) (sym (lines-whole behind)) (script-of_parts behind tells.1 tells.2)))
+    absurd (judged.outside.outside (script_of tells.1) (subst (λ t. script t (script_of tells.1))
+    (sym (lines-whole behind)) (script-of_parts behind tells.1 tells.2)))
 
 -- a set file does not end with the letter of a line "P"
 not_letter : (contents : FileContents) (ended : List Line) (tail : Tail) → TailIn contents tail ended
@@ -138,15 +147,18 @@ review_from_set file said set r s =
     let f = front-of_file file c s.spelled.spelled in
     let lines : c.lines ≡ told f.ended f.tail = lines_told c f.ended f.tail f.tells in
     let items : set.items ≡ items_of (told f.ended f.tail) = s.spelled.items ∙ ap items_of lines in
-    let g = front_gives 1 [] f.ended f.tail file f.spelled (not_letter c f.ended f.tail f.tells) (subst (IsDistinct repeats) items s.ids) in
+    let g = front_gives 1 [] f.ended f.tail file f.spelled (not_letter c f.ended f.tail f.tells)
+    (subst (IsDistinct repeats) items s.ids) in
     let p = g.passes r.front r.found in
-    let j = script_judged number c f.ended f.tail r.verdict f.tells (subst (λ x. IsScriptVerdict x r.verdict) g.behind r.judged) in
+    let j = script_judged number c f.ended f.tail r.verdict f.tells
+    (subst (λ x. IsScriptVerdict x r.verdict) g.behind r.judged) in
     let none : r.refusals ≡ [] = r.all_refusals
     ∙ ap (λ x. x ++ script_refusals number (script_lines (lines_of file)) r.verdict) p.refusals
     ∙ ap (λ x. script_refusals number x r.verdict) g.behind ∙ j.0 in
     let refused : said.refused ≡ 0 = r.refused ∙ ap length none in
     let keeps : KeepsLimits set.items c.script = within-keeps set c.script s.spelled.script s.limits in
-    let same : KeepsLimits r.front.items (parts_in r.verdict) = subst (KeepsLimits r.front.items) j.1 (subst (λ i. KeepsLimits i c.script) (items ∙ sym p.items) keeps) in
+    let same : KeepsLimits r.front.items (parts_in r.verdict) = subst (KeepsLimits r.front.items)
+    j.1 (subst (λ i. KeepsLimits i c.script) (items ∙ sym p.items) keeps) in
     (refused, no_limit said.refused r.front.items (parts_in r.verdict) said.limit refused same r.limit)
 
 -- ---- both ways

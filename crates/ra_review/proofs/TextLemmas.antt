@@ -1,15 +1,18 @@
 -- Words and numbers, put at the end of a text.
-use Rattle.std.proofs.Common.{◌≡◌, ◌∙◌, ℕ, ◌-◌, min, List, ◌++◌, length, map, take, drop, replicate, ap, arith, append_assoc, length-take}
+use Rattle.std.proofs.Common.{◌≡◌, ◌∙◌, ℕ, ◌-◌, min, List, ◌++◌, length, map, take, drop, replicate, ap, arith}
+use Rattle.std.proofs.Common.{append_assoc, length-take}
 use Rattle.std.proofs.Math.Seq.{take-length}
 use Rattle.std.proofs.lemmas.List.{length-map, take_min}
 use Rattle.ra_review.specs.Shown.{shown, shown_byte, blanks_at}
 
 -- three words with a number each, and an end
-pub three_numbers : (out w a x b y c last : List ℕ) → (((((((out ++ w) ++ a) ++ x) ++ b) ++ y) ++ c) ++ last) ≡ out ++ ((((((w ++ a) ++ x) ++ b) ++ y) ++ c) ++ last)
+pub three_numbers : (out w a x b y c last : List ℕ) → (((((((out ++ w) ++ a) ++ x) ++ b) ++ y) ++ c)
+    ++ last) ≡ out ++ ((((((w ++ a) ++ x) ++ b) ++ y) ++ c) ++ last)
 three_numbers out w a x b y c last = simp append_assoc
 
 -- the bytes that are shown are the first ones
-pub shown_front : (front bytes : List ℕ) (index : ℕ) → front ≡ take (min 120 (length bytes)) bytes → index ≡ length front → map shown_byte (take index front) ≡ shown bytes
+pub shown_front : (front bytes : List ℕ) (index : ℕ) → front ≡ take (min 120 (length bytes)) bytes
+    → index ≡ length front → map shown_byte (take index front) ≡ shown bytes
 shown_front front bytes index is all =
     ap (map shown_byte) (ap (λ i. take i front) all ∙ take-length front ∙ is ∙ take_min 120 bytes)
 

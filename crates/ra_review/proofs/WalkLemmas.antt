@@ -1,5 +1,7 @@
 -- Lines of a script that are gone over, and where its first bad line stands.
-use Rattle.std.proofs.Common.{◌≡◌, ◌∙◌, ℕ, zero, suc, ◌+◌, ◌≤◌, ◌==◌, Bool, true, false, ◌&&◌, if◌then◌else◌, List, [], ◌∷◌, ◌++◌, length, map, take, drop, get_or, refl, sym, ap, subst, arith, codes, bytes_eq, append-nil, length-append, length-take, eqb-true}
+use Rattle.std.proofs.Common.{◌≡◌, ◌∙◌, ℕ, zero, suc, ◌+◌, ◌≤◌, ◌==◌, Bool, true, false, ◌&&◌, if◌then◌else◌, List, []}
+use Rattle.std.proofs.Common.{◌∷◌, ◌++◌, length, map, take, drop, get_or, refl, sym, ap, subst, arith, codes, bytes_eq}
+use Rattle.std.proofs.Common.{append-nil, length-append, length-take, eqb-true}
 use Rattle.std.specs.List.{flat_map}
 use Rattle.std.proofs.lemmas.List.{take-map}
 use Rattle.ra_text.specs.Reading.{begins}
@@ -19,7 +21,8 @@ use Rattle.ra_review.specs.Shown.{refusal}
 -- ---- the display
 
 -- one line more
-opens_next : (d : Display) (left : List ℕ) (lines : List (List ℕ)) → opens d (left ∷ lines) ≡ opens (display_after d left) lines
+opens_next : (d : Display) (left : List ℕ) (lines : List (List ℕ)) → opens d (left ∷ lines)
+    ≡ opens (display_after d left) lines
 opens_next opening.Before left lines = by_head (bytes_eq (codes "Display:") left)
   where
     by_head : (head : Bool) → is_open_after head lines ≡ opens (if head then opening.Open else opening.Before) lines
@@ -37,10 +40,13 @@ opens_next opening.Closed left lines = refl
 -- the lines so far were gone over
 pub record WalkSoFar (text rest : List ℕ) (walked : Walked) : Type 0 where
   pub lines : length (lines_of text) ≡ walked.lines + length (lines_of rest)
-  pub display : opens walked.display (map left_of (contents_of rest)) ≡ is_open_after false (map left_of (contents_of text))
+  pub display : opens walked.display (map left_of (contents_of rest))
+      ≡ is_open_after false (map left_of (contents_of text))
 
-pub walk_next : (text rest content behind : List ℕ) (old : Walked) (lines : ℕ) (d : Display) → SplitsLine rest content behind → (rest ≡ [] → ⊥)
-    → lines ≡ old.lines + 1 → d ≡ display_after old.display (left_of content) → WalkSoFar text rest old → WalkSoFar text behind (record { lines = lines; display = d })
+pub walk_next : (text rest content behind : List ℕ) (old : Walked) (lines : ℕ) (d : Display)
+    → SplitsLine rest content behind → (rest ≡ [] → ⊥)
+    → lines ≡ old.lines + 1 → d ≡ display_after old.display (left_of content)
+    → WalkSoFar text rest old → WalkSoFar text behind (record { lines = lines; display = d })
 walk_next text rest content behind old lines d s some more is h = record {
   lines = omega (arith, h.lines, more, ap length (s.lines some));
   display =
@@ -82,8 +88,10 @@ pub first_of : (text l : List ℕ) (ls : List (List ℕ)) → lines_of text ≡ 
 first_of [] l ls e = absurd (cc e)
 first_of (c ∷ text) l ls e = by_feed (c == 10) refl e (lines_of text) refl (first_of text)
   where
-    by_feed : (feed : Bool) → (c == 10) ≡ feed → (if feed then (10 ∷ []) ∷ lines_of text else begun c (lines_of text)) ≡ l ∷ ls
-        → (lines : List (List ℕ)) → lines_of text ≡ lines → ((l : List ℕ) (ls : List (List ℕ)) → lines_of text ≡ l ∷ ls → FirstOf text l ls) → FirstOf (c ∷ text) l ls
+    by_feed : (feed : Bool) → (c == 10) ≡ feed
+        → (if feed then (10 ∷ []) ∷ lines_of text else begun c (lines_of text)) ≡ l ∷ ls
+        → (lines : List (List ℕ)) → lines_of text ≡ lines → ((l : List ℕ) (ls : List (List ℕ))
+        → lines_of text ≡ l ∷ ls → FirstOf text l ls) → FirstOf (c ∷ text) l ls
     by_feed true is e lines is_lines next =
         let first : 10 ∷ [] ≡ l = cc e in
         let left : lines_of text ≡ ls = cc e in
@@ -135,11 +143,14 @@ take_none zero = refl
 take_none (suc n) = refl
 
 -- the first line before others that were cut
-one_more : (text l : List ℕ) (ls : List (List ℕ)) (index : ℕ) → lines_of text ≡ l ∷ ls → (f : FirstOf text l ls) → (t : List ℕ) → lines_of t ≡ take index (lines_of f.behind) → lines_of (l ++ t) ≡ l ∷ take index ls
+one_more : (text l : List ℕ) (ls : List (List ℕ)) (index : ℕ) → lines_of text ≡ l ∷ ls
+    → (f : FirstOf text l ls) → (t : List ℕ) → lines_of t ≡ take index (lines_of f.behind)
+    → lines_of (l ++ t) ≡ l ∷ take index ls
 one_more text l [] index is f t e =
     let none : t ≡ [] = no_lines t (e ∙ ap (take index) f.others ∙ take_none index) in
     let whole : text ≡ l = f.parts ∙ ap (λ b. l ++ b) (no_lines f.behind f.others) ∙ append-nil l in
-    ap (λ t. lines_of (l ++ t)) none ∙ ap lines_of (append-nil l ∙ sym whole) ∙ is ∙ ap (λ ls. l ∷ ls) (sym (take_none index))
+    ap (λ t. lines_of (l ++ t)) none ∙ ap lines_of (append-nil l ∙ sym whole) ∙ is
+    ∙ ap (λ ls. l ∷ ls) (sym (take_none index))
 one_more text l (m ∷ ms) index is f t e = f.again t (λ none. cc none) ∙ ap (λ ls. l ∷ ls) (e ∙ ap (take index) f.others)
 
 -- a text cut where a line starts
@@ -151,7 +162,9 @@ cut_at : (index : ℕ) (text : List ℕ) → index ≤ length (lines_of text) �
 cut_at zero text within = record { before = refl; behind = refl }
 cut_at (suc index) text within = by_lines (lines_of text) refl (cut_at index)
   where
-    by_lines : (lines : List (List ℕ)) → lines_of text ≡ lines → ((t : List ℕ) → index ≤ length (lines_of t) → CutAt t index (line_start t index)) → CutAt text (suc index) (line_start text (suc index))
+    by_lines : (lines : List (List ℕ)) → lines_of text ≡ lines
+        → ((t : List ℕ) → index ≤ length (lines_of t) → CutAt t index (line_start t index))
+        → CutAt text (suc index) (line_start text (suc index))
     by_lines [] is next = absurd (omega (arith, within, ap length is))
     by_lines (l ∷ ls) is next =
         let f = first_of text l ls is in
@@ -162,12 +175,14 @@ cut_at (suc index) text within = by_lines (lines_of text) refl (cut_at index)
         ∙ ap (λ ls. length l + length (flat_map (λ line. line) (take index ls))) (sym f.others) in
         record {
           before =
-              ap (λ k. lines_of (take k text)) start ∙ ap (λ t. lines_of (take (length l + line_start f.behind index) t)) f.parts
+              ap (λ k. lines_of (take k text)) start
+              ∙ ap (λ t. lines_of (take (length l + line_start f.behind index) t)) f.parts
               ∙ ap lines_of (take_past l f.behind (line_start f.behind index))
               ∙ one_more text l ls index is f (take (line_start f.behind index) f.behind) n.before
               ∙ ap (take (suc index)) (sym is);
           behind =
-              ap (λ k. lines_of (drop k text)) start ∙ ap (λ t. lines_of (drop (length l + line_start f.behind index) t)) f.parts
+              ap (λ k. lines_of (drop k text)) start
+              ∙ ap (λ t. lines_of (drop (length l + line_start f.behind index) t)) f.parts
               ∙ ap lines_of (drop_past l f.behind (line_start f.behind index))
               ∙ n.behind ∙ ap (drop index) f.others ∙ ap (drop (suc index)) (sym is);
         }
@@ -179,13 +194,15 @@ abbrev head_content : List (List ℕ) → List ℕ
 head_content [] = []
 head_content (l ∷ ls) = content_of l
 
-content_at : (lines : List (List ℕ)) (index : ℕ) (ls : List (List ℕ)) → drop index lines ≡ ls → get_or (map content_of lines) index [] ≡ head_content ls
+content_at : (lines : List (List ℕ)) (index : ℕ) (ls : List (List ℕ)) → drop index lines ≡ ls
+    → get_or (map content_of lines) index [] ≡ head_content ls
 content_at [] zero ls e = ap head_content e
 content_at [] (suc index) ls e = ap head_content e
 content_at (l ∷ lines) zero ls e = ap head_content e
 content_at (l ∷ lines) (suc index) ls e = content_at lines index ls e
 
-content_first : (behind content rest : List ℕ) → SplitsLine behind content rest → content ≡ head_content (lines_of behind)
+content_first : (behind content rest : List ℕ) → SplitsLine behind content rest → content
+    ≡ head_content (lines_of behind)
 content_first [] content rest s = by_first s.first s.parts s.content
   where
     by_first : (first : List ℕ) → [] ≡ first ++ rest → content ≡ content_of first → content ≡ []
@@ -193,24 +210,32 @@ content_first [] content rest s = by_first s.first s.parts s.content
     by_first (c ∷ first) parts is = absurd (cc parts)
 content_first (c ∷ behind) content rest s = s.content ∙ ap head_content (sym (s.lines (λ e. cc e)))
 
-placed_in : (d : Display) (content : List ℕ) (place : ℕ) → IsPlaceAfter d (left_of content) place → IsPlaceIn (opens d []) content place
+placed_in : (d : Display) (content : List ℕ) (place : ℕ) → IsPlaceAfter d (left_of content) place
+    → IsPlaceIn (opens d []) content place
 placed_in opening.Before content place h = h
 placed_in opening.Open content place h = h
 placed_in opening.Closed content place h = h
 
-pub refuses_script : (number : ℕ) (text before behind content rest : List ℕ) (start line place : ℕ) (walked : Walked) (old new : Entries)
-    → IsOutside text start → before ≡ take start text → behind ≡ drop start text → Walks before walked → SplitsLine behind content rest
+pub refuses_script : (number : ℕ) (text before behind content rest : List ℕ) (start line place : ℕ)
+    (walked : Walked) (old new : Entries)
+    → IsOutside text start → before ≡ take start text → behind ≡ drop start text
+    → Walks before walked → SplitsLine behind content rest
     → IsPlaceAfter walked.display (left_of content) place → line ≡ number + walked.lines
     → ((entries : List (List ℕ)) → AreEntries old entries → AreEntries new (entries ++ refusal line place content ∷ []))
     → RefusesScript number text old new
-refuses_script number text before behind content rest start line place walked old new o is_before is_behind walks s placed is_line added =
+refuses_script number text before behind content rest start line place walked old new o is_before
+    is_behind walks s placed is_line added =
     let index = o.first_bad.index in
     let cut = cut_at index text o.first_bad.within in
-    let front : lines_of before ≡ take index (lines_of text) = ap lines_of is_before ∙ ap (λ k. lines_of (take k text)) o.first_bad.is ∙ cut.before in
-    let back : lines_of behind ≡ drop index (lines_of text) = ap lines_of is_behind ∙ ap (λ k. lines_of (drop k text)) o.first_bad.is ∙ cut.behind in
-    let count : line ≡ number + index = omega (arith, is_line, walks.lines, ap length front, length-take index (lines_of text), o.first_bad.within) in
+    let front : lines_of before ≡ take index (lines_of text) =
+    ap lines_of is_before ∙ ap (λ k. lines_of (take k text)) o.first_bad.is ∙ cut.before in
+    let back : lines_of behind ≡ drop index (lines_of text) =
+    ap lines_of is_behind ∙ ap (λ k. lines_of (drop k text)) o.first_bad.is ∙ cut.behind in
+    let count : line ≡ number + index =
+    omega (arith, is_line, walks.lines, ap length front, length-take index (lines_of text), o.first_bad.within) in
     let content_is : content ≡ get_or (contents_of text) index [] =
-    content_first behind content rest s ∙ ap head_content back ∙ sym (content_at (lines_of text) index (drop index (lines_of text)) refl) in
+    content_first behind content rest s ∙ ap head_content back
+    ∙ sym (content_at (lines_of text) index (drop index (lines_of text)) refl) in
     let opened : opens walked.display [] ≡ is_open (take index (contents_of text)) =
     walks.display ∙ ap (λ ls. is_open_after false (map left_of (map content_of ls))) front
     ∙ ap (λ cs. is_open_after false (map left_of cs)) (sym (take-map content_of index (lines_of text))) in
@@ -222,7 +247,9 @@ refuses_script number text before behind content rest start line place walked ol
         outside = o;
         line = refl;
         place_in = subst (λ b. IsPlaceIn b (get_or (contents_of text) index []) place) opened
-            (subst (λ t. IsPlaceIn (opens walked.display []) t place) content_is (placed_in walked.display content place placed));
+            (subst (λ t. IsPlaceIn (opens walked.display []) t place) content_is
+            (placed_in walked.display content place placed));
       };
-      added = λ entries are. subst (λ e. AreEntries new (entries ++ e ∷ [])) (λ i. refusal (count i) place (content_is i)) (added entries are);
+      added = λ entries are. subst (λ e. AreEntries new (entries ++ e ∷ []))
+          (λ i. refusal (count i) place (content_is i)) (added entries are);
     }

@@ -9,16 +9,21 @@ pub loop-alloc-init : goal.loop-alloc-init
 loop-alloc-init c = passes_none c.args.cursor.now.rest.now
 
 pub loop-alloc-smaller : goal.loop-alloc-smaller
-loop-alloc-smaller c = smaller-piece c.loop-alloc.cursor.rest.now c.in_ok-pass_piece.ensures.0 c.pass_piece.new.cursor.rest.now c.in_ok-pass_piece.ensures.1
+loop-alloc-smaller c = smaller-piece c.loop-alloc.cursor.rest.now c.in_ok-pass_piece.ensures.0
+    c.pass_piece.new.cursor.rest.now c.in_ok-pass_piece.ensures.1
 
 pub loop-alloc-preserved : goal.loop-alloc-preserved
-loop-alloc-preserved c = passes_more c.args.cursor.now.rest.now c.loop-alloc.cursor.rest.now c.pass_piece.new.cursor.rest.now c.in_ok-pass_piece.ensures.0
-    (not_empty c.loop-alloc.cursor.rest.now (sym c.loop-alloc-test.ensures)) c.in_ok-pass_piece.ensures.1 c.loop-alloc.invariant
+loop-alloc-preserved c = passes_more c.args.cursor.now.rest.now c.loop-alloc.cursor.rest.now
+    c.pass_piece.new.cursor.rest.now c.in_ok-pass_piece.ensures.0
+    (not_empty c.loop-alloc.cursor.rest.now (sym c.loop-alloc-test.ensures))
+    c.in_ok-pass_piece.ensures.1 c.loop-alloc.invariant
 
 pub returns-in_err-pass_piece : goal.returns-in_err-pass_piece
 returns-in_err-pass_piece c = let p = err_from_is_err_and c.from_residual.result c.from_residual.ensures.1 in
-    rw (p.1, p.2) (piece_fault c.in_err-pass_piece.field-0.0 c.args.cursor.now.rest.now c.loop-alloc.cursor.rest.now c.pass_piece.new.cursor.rest.now
-    (not_empty c.loop-alloc.cursor.rest.now (sym c.loop-alloc-test.ensures)) c.in_err-pass_piece.ensures c.loop-alloc.invariant)
+    rw (p.1, p.2) (piece_fault c.in_err-pass_piece.field-0.0 c.args.cursor.now.rest.now
+    c.loop-alloc.cursor.rest.now c.pass_piece.new.cursor.rest.now
+    (not_empty c.loop-alloc.cursor.rest.now (sym c.loop-alloc-test.ensures))
+    c.in_err-pass_piece.ensures c.loop-alloc.invariant)
 
 pub returns : goal.returns
 returns c =

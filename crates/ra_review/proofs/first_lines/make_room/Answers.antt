@@ -4,4 +4,5 @@ use Rattle.ra_review.proofs.first_lines.make_room.Goals as goal
 
 pub loop-lines-preserved : goal.loop-lines-preserved
 loop-lines-preserved c = λ other.
-    ap (λ lines. get_or lines other None) c.in_ok-push.ensures.items ∙ none_more c.loop-lines.lines.items other ∙ c.loop-lines.invariant other
+    ap (λ lines. get_or lines other None) c.in_ok-push.ensures.items
+    ∙ none_more c.loop-lines.lines.items other ∙ c.loop-lines.invariant other

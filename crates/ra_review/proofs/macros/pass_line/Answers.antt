@@ -6,7 +6,8 @@ use Rattle.ra_review.proofs.macros.pass_line.Goals as goal
 
 pub returns-then-is_empty : goal.returns-then-is_empty
 returns-then-is_empty c =
-    passes_over (script_contents c.args.script.now) c.args.number c.args.content.now c.args.passed c.args.notices.now (not_false c.args.passed.shown c.if-not-passed.false)
+    passes_over (script_contents c.args.script.now) c.args.number c.args.content.now c.args.passed
+    c.args.notices.now (not_false c.args.passed.shown c.if-not-passed.false)
     (ap (λ t. length t == 0) (sym c.left_of-left.ensures) ∙ sym c.if-is_empty.ensures)
 
 pub returns-then-passed-len : goal.returns-then-passed-len
@@ -16,6 +17,8 @@ returns-then-passed-len c =
 
 pub returns : goal.returns
 returns c =
-    passes_shown (script_contents c.args.script.now) c.args.number c.args.content.now c.args.passed _ c.args.notices.now c.put_line.new.notices (not_false c.args.passed.shown c.if-not-passed.false)
+    passes_shown (script_contents c.args.script.now) c.args.number c.args.content.now c.args.passed
+    _ c.args.notices.now c.put_line.new.notices
+    (not_false c.args.passed.shown c.if-not-passed.false)
     (ap (λ t. length t == 0) (sym c.left_of-left.ensures) ∙ sym c.if-is_empty.ensures)
     (omega (arith, length-map c.args.script.now.lines.items line_contents)) refl refl c.in_ok-put_line.ensures

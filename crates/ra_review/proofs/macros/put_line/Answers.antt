@@ -11,7 +11,9 @@ use Rattle.ra_review.proofs.macros.put_line.Goals as goal
 pub put_pieces-requires : goal.put_pieces-requires
 put_pieces-requires c =
     let script = script_contents c.args.script.now in
-    c.deref-2.ensures.value ∙ meanings-of_line c.args.script.now c.args.line c.index-shown.result.now c.index-meanings.result.now c.requires c.index-shown.ensures c.index-meanings.ensures
+    c.deref-2.ensures.value ∙ meanings-of_line c.args.script.now c.args.line
+    c.index-shown.result.now c.index-meanings.result.now c.requires c.index-shown.ensures
+    c.index-meanings.ensures
     ∙ ap (λ ps. meanings_in script.lookups script.formats (map piece_contents ps)) (sym c.deref.ensures.value)
 
 pub returns : goal.returns

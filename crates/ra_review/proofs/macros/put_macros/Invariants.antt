@@ -8,7 +8,8 @@ use Rattle.ra_review.proofs.macros.put_macros.Given as goal
 -- the notices so far, and those on what is left
 abbrev pub invariant-loop-rest : goal.invariant-loop-rest
 invariant-loop-rest l = MacrosLeft (script_contents l.script)
-    (macro_notices (script_contents l.script) (display_numbers l.fn.number (contents_of l.text)) (script_contents l.script).lines)
+    (macro_notices (script_contents l.script) (display_numbers l.fn.number (contents_of l.text))
+    (script_contents l.script).lines)
     l.initial.notices l.notices l.passed l.at l.rest
 
 abbrev pub decreases-loop-rest : goal.decreases-loop-rest
