@@ -11,4 +11,5 @@ line_of lines id = if nat_lt id 1048576 then slice_index_or lines.low.items id N
 -- a line of an id was noted where none was, and the first one is told
 pub record NotesLine (old : FirstLines) (id number : ℕ) (first : Option ℕ) (new : FirstLines) : Type 0 where
   pub first_was : first ≡ line_of old id
-  pub noted : (other : ℕ) → line_of new other ≡ (if id == other then Some (unwrap_or first number) else line_of old other)
+  pub noted : (other : ℕ) → line_of new other
+      ≡ (if id == other then Some (unwrap_or first number) else line_of old other)

@@ -1,5 +1,6 @@
 -- The lines of a file before its script, each judged by itself: docs/DEFINITIONS.md, "Review of a set".
-use Rattle.std.specs.Prelude.{◌≡◌, ◌⊎◌, ℕ, suc, ◌==◌, ◌&&◌, ◌||◌, Bool, true, false, if◌then◌else◌, List, [], ◌∷◌, ◌++◌, map, Option, None, Some, codes, bytes_eq, is_some}
+use Rattle.std.specs.Prelude.{◌≡◌, ◌⊎◌, ℕ, suc, ◌==◌, ◌&&◌, ◌||◌, Bool, true, false, if◌then◌else◌, List, [], ◌∷◌, ◌++◌}
+use Rattle.std.specs.Prelude.{map, Option, None, Some, codes, bytes_eq, is_some}
 use Rattle.std.specs.List.{list_all}
 use Rattle.ra_value_format.specs.Formats.{format_names, entry_of}
 use Rattle.ra_richpresence.specs.Cut.{content_of}
@@ -42,7 +43,8 @@ pub data Verdict : Type 0 where
 
 -- a line is the one byte "P", or the file of the line alone, with its own end, is a set file or has its first bad place
 abbrev pub IsVerdict : List ℕ → Verdict → Type 0
-IsVerdict line (Accepts l) = ((is_script_line line ≡ true) × (l ≡ None)) ⊎ ((is_script_line line ≡ false) × ContainsAlone line l)
+IsVerdict line (Accepts l) = ((is_script_line line ≡ true) × (l ≡ None))
+    ⊎ ((is_script_line line ≡ false) × ContainsAlone line l)
 IsVerdict line (Refuses place) = (is_script_line line ≡ false) × IsFileOutside line place
 
 -- what an accepted line has
@@ -50,7 +52,8 @@ abbrev pub row_of : Verdict → Line
 row_of (Accepts l) = l
 row_of (Refuses place) = None
 
--- the number of the first of these lines that has an item with the letter and the id of this one; they begin with this number
+-- the number of the first of these lines that has an item with the letter and the id of this one; they begin with this
+-- number
 abbrev pub first_with : ItemContents → (number : ℕ) → List Line → Option ℕ
 first_with x number [] = None
 first_with x number (None ∷ rows) = first_with x (suc number) rows
@@ -79,7 +82,8 @@ is_format_name name = bytes_eq (codes "VALUE") name || is_some (entry_of name fo
 -- the notice on the format of an item's line, where its name is none
 abbrev pub format_notices : List ℕ → ItemContents → List (List ℕ)
 format_notices line (Unlocks id t) = []
-format_notices line (Ranks id format b) = if is_format_name (format_text line) then [] else format_line id (format_text line) ∷ []
+format_notices line (Ranks id format b) =
+    if is_format_name (format_text line) then [] else format_line id (format_text line) ∷ []
 
 -- the lines of the notices on an item and on its line
 abbrev pub item_lines : List ℕ → ItemContents → List (List ℕ)

@@ -1,5 +1,6 @@
 -- What a review keeps of the lines so far: the step between the code and docs/DEFINITIONS.md, "Review of a set".
-use Rattle.std.specs.Prelude.{◌≡◌, ℕ, suc, ◌+◌, ◌*◌, ◌≤◌, Bool, sum_by, true, false, List, [], ◌∷◌, ◌++◌, length, map, Option, Some, option_map}
+use Rattle.std.specs.Prelude.{◌≡◌, ℕ, suc, ◌+◌, ◌*◌, ◌≤◌, Bool, sum_by, true, false, List, [], ◌∷◌, ◌++◌, length, map}
+use Rattle.std.specs.Prelude.{Option, Some, option_map}
 use Rattle.std.specs.List.{flat_map}
 use Rattle.ra_richpresence.specs.Cut.{lines_of}
 use Rattle.ra_set.specs.Contents.{ItemContents, Unlocks, Ranks, item_contents}
@@ -16,7 +17,8 @@ use Rattle.ra_review.specs.declared.report.Report.{Report}
 use Rattle.ra_review.specs.declared.reviewed.Reviewed.{Reviewed}
 use Rattle.ra_review.specs.Reviews.{Said}
 use Rattle.ra_review.specs.Scripts.{ScriptVerdict, IsScriptVerdict, script_refusals, script_notices, parts_in}
-use Rattle.ra_review.specs.Lines.{Verdict, IsVerdict, row_of, first_with, Findings, then_more, item_findings, line_findings, FindsIn, front_lines, script_lines}
+use Rattle.ra_review.specs.Lines.{Verdict, IsVerdict, row_of, first_with, Findings, then_more, item_findings}
+use Rattle.ra_review.specs.Lines.{line_findings, FindsIn, front_lines, script_lines}
 
 -- the lines stand one after the other, and are counted
 pub record AreEntries (entries : Entries) (lines : List (List ℕ)) : Type 0 where
@@ -63,13 +65,15 @@ pub record ReportsNoted (report : Report) (x : ItemContents) (rows : List Line) 
 -- an accepted item was added to what was found
 abbrev pub AddsItem : List ℕ → ItemContents → List Line → Findings → Report → Type 0
 AddsItem line x rows found report =
-    Reports report (rows ++ Some x ∷ []) (then_more found (item_findings (suc (length rows)) line x (first_with x 1 rows)))
+    Reports report (rows ++ Some x ∷ [])
+    (then_more found (item_findings (suc (length rows)) line x (first_with x 1 rows)))
 
 -- a line was judged, and what it gives was added
 pub record AddsLine (line : List ℕ) (rows : List Line) (found : Findings) (report : Report) : Type 0 where
   pub verdict : Verdict
   pub is : IsVerdict line verdict
-  pub reports : Reports report (rows ++ row_of verdict ∷ []) (then_more found (line_findings (suc (length rows)) rows line verdict))
+  pub reports : Reports report (rows ++ row_of verdict ∷ [])
+      (then_more found (line_findings (suc (length rows)) rows line verdict))
 
 -- the lines before the script were judged, and what they give was added; the script comes after them, where there is
 -- one
@@ -101,9 +105,11 @@ pub record Judges (file : List ℕ) (report : Report) (read : Option ReadScript)
   pub verdict : ScriptVerdict
   pub judged : IsScriptVerdict (script_lines (lines_of file)) verdict
   pub refusals : AreEntries report.refusals
-      (front.refusals ++ script_refusals (suc (length (front_lines (lines_of file)))) (script_lines (lines_of file)) verdict)
+      (front.refusals ++ script_refusals (suc (length (front_lines (lines_of file))))
+      (script_lines (lines_of file)) verdict)
   pub notices : AreEntries report.notices
-      (front.notices ++ script_notices (suc (length (front_lines (lines_of file)))) (script_lines (lines_of file)) verdict)
+      (front.notices ++ script_notices (suc (length (front_lines (lines_of file))))
+      (script_lines (lines_of file)) verdict)
   pub items : map item_contents report.items.items ≡ front.items
   pub read_is : IsReadOf (parts_in verdict) read
   pub count : report.lines + lines ≡ length (lines_of file)

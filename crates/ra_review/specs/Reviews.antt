@@ -42,10 +42,12 @@ pub record IsReviewOf (file : List ℕ) (said : Said) : Type 0 where
   pub judged : IsScriptVerdict (script_lines (lines_of file)) verdict
   pub refusals : List (List ℕ)
   pub all_refusals : refusals
-      ≡ front.refusals ++ script_refusals (suc (length (front_lines (lines_of file)))) (script_lines (lines_of file)) verdict
+      ≡ front.refusals ++ script_refusals (suc (length (front_lines (lines_of file))))
+      (script_lines (lines_of file)) verdict
   pub notices : List (List ℕ)
   pub all_notices : notices
-      ≡ front.notices ++ script_notices (suc (length (front_lines (lines_of file)))) (script_lines (lines_of file)) verdict
+      ≡ front.notices ++ script_notices (suc (length (front_lines (lines_of file))))
+      (script_lines (lines_of file)) verdict
   pub refused : said.refused ≡ length refusals
   pub limit : IsLimit said.refused front.items (parts_in verdict) said.limit
   pub text : said.text

@@ -1,5 +1,6 @@
 -- The script of a file as a review judges it: docs/DEFINITIONS.md, "Review of a set".
-use Rattle.std.specs.Prelude.{◌≡◌, ◌⊎◌, ℕ, suc, ◌+◌, ◌&&◌, Bool, true, false, if◌then◌else◌, List, [], ◌∷◌, ◌++◌, take, map, Option, None, Some, codes, bytes_eq, slice_index_or}
+use Rattle.std.specs.Prelude.{◌≡◌, ◌⊎◌, ℕ, suc, ◌+◌, ◌&&◌, Bool, true, false, if◌then◌else◌, List, [], ◌∷◌, ◌++◌, take}
+use Rattle.std.specs.Prelude.{map, Option, None, Some, codes, bytes_eq, slice_index_or}
 use Rattle.std.specs.List.{flat_map}
 use Rattle.ra_text.specs.Form.{Form}
 use Rattle.ra_text.specs.Place.{IsBadPlace}

@@ -1,11 +1,13 @@
 -- The lines of a review: docs/DEFINITIONS.md, "Review of a set".
-use Rattle.std.specs.Prelude.{ℕ, suc, ◌-◌, ◌&&◌, nat_le, Bool, true, false, if◌then◌else◌, List, [], ◌++◌, length, take, drop, map, replicate, codes, decimal}
+use Rattle.std.specs.Prelude.{ℕ, suc, ◌-◌, ◌&&◌, nat_le, Bool, true, false, if◌then◌else◌, List, [], ◌++◌, length, take}
+use Rattle.std.specs.Prelude.{drop, map, replicate, codes, decimal}
 use Rattle.ra_lint.specs.declared.warning.Place.{Place}
 use Rattle.ra_lint.specs.declared.warning.Place.TheVariants.{Trigger, Start, Cancel, Submit}
 use Rattle.ra_set.specs.Contents.{ItemContents, Unlocks, Ranks}
 use Rattle.ra_notices.specs.declared.notice.Notice.{Notice}
 use Rattle.ra_notices.specs.declared.notice.Word.{Word}
-use Rattle.ra_notices.specs.declared.notice.Word.TheVariants.{OpenChain, Twice, MemoryRight, ResetsAlways, PausesAlways, NoMeasured, Empty, NoNeed, NoUnlock}
+use Rattle.ra_notices.specs.declared.notice.Word.TheVariants.{OpenChain, Twice, MemoryRight, ResetsAlways, PausesAlways}
+use Rattle.ra_notices.specs.declared.notice.Word.TheVariants.{NoMeasured, Empty, NoNeed, NoUnlock}
 
 -- ---- the bytes of a line
 
@@ -25,7 +27,8 @@ shown_at place line = shown (drop (place - 60) line)
 abbrev pub blanks_at : (place : ℕ) → List ℕ → List ℕ
 blanks_at place line = replicate (length (take (place - (place - 60)) (shown_at place line))) 32
 
--- the line of this number is refused at a place of it, its first byte being column 1; the line and the place stand below
+-- the line of this number is refused at a place of it, its first byte being column 1; the line and the place stand
+-- below
 abbrev pub refusal : (number place : ℕ) → List ℕ → List ℕ
 refusal number place line =
     codes "line " ++ decimal number ++ codes " column " ++ decimal (suc place) ++ codes " refused\n"
@@ -34,7 +37,8 @@ refusal number place line =
 -- the line of this number has the letter and the id of an earlier one
 abbrev pub again : (number id first : ℕ) → List ℕ
 again number id first =
-    codes "line " ++ decimal number ++ codes " id " ++ decimal id ++ codes " again, first on line " ++ decimal first ++ codes "\n"
+    codes "line " ++ decimal number ++ codes " id " ++ decimal id ++ codes " again, first on line "
+    ++ decimal first ++ codes "\n"
 
 -- ---- notices
 
@@ -61,7 +65,8 @@ place_text Submit = codes "SUB "
 -- where the condition of a notice stands; a notice on a trigger names none
 abbrev pub where_text : Notice → List ℕ
 where_text n =
-    if is_whole n.word then [] else place_text n.place ++ decimal n.group ++ codes "." ++ decimal n.condition ++ codes " "
+    if is_whole n.word then []
+    else place_text n.place ++ decimal n.group ++ codes "." ++ decimal n.condition ++ codes " "
 
 -- the word of a notice
 abbrev pub word_text : Word → List ℕ
@@ -90,4 +95,5 @@ macro_line number name = codes "notice P line " ++ decimal number ++ codes " mac
 -- the last line
 abbrev pub last_line : (lines refused notices : ℕ) → List ℕ
 last_line lines refused notices =
-    codes "reviewed lines " ++ decimal lines ++ codes " refused " ++ decimal refused ++ codes " notices " ++ decimal notices ++ codes "\n"
+    codes "reviewed lines " ++ decimal lines ++ codes " refused " ++ decimal refused
+    ++ codes " notices " ++ decimal notices ++ codes "\n"

@@ -12,8 +12,10 @@ put_piece-requires c =
     let script = script_contents c.args.script.now in
     let pieces = c.args.pieces.now in
     let k = c.loop-piece.piece-index in
-    let parts = drop_more pieces k c.piece-item.result c.loop-piece-test.true ∙ ap (λ p. p ∷ drop (k + 1) pieces) (sym c.piece-item.is) in
-    begins-meaning script (piece_contents c.piece-item.result) (map piece_contents (drop (k + 1) pieces)) c.loop-piece.meant.now
+    let parts = drop_more pieces k c.piece-item.result c.loop-piece-test.true
+    ∙ ap (λ p. p ∷ drop (k + 1) pieces) (sym c.piece-item.is) in
+    begins-meaning script (piece_contents c.piece-item.result)
+    (map piece_contents (drop (k + 1) pieces)) c.loop-piece.meant.now
     (c.loop-piece.invariant.meant ∙ ap (λ ps. meanings_in script.lookups script.formats (map piece_contents ps)) parts)
 
 pub loop-piece-preserved : goal.loop-piece-preserved
@@ -21,10 +23,15 @@ loop-piece-preserved c =
     let script = script_contents c.args.script.now in
     let pieces = c.args.pieces.now in
     let k = c.loop-piece.piece-index in
-    let parts = drop_more pieces k c.piece-item.result c.loop-piece-test.true ∙ ap (λ p. p ∷ drop (k + 1) pieces) (sym c.piece-item.is) in
+    let parts = drop_more pieces k c.piece-item.result c.loop-piece-test.true
+    ∙ ap (λ p. p ∷ drop (k + 1) pieces) (sym c.piece-item.is) in
     record {
-      added = pieces_more (piece_notices script c.args.number) pieces k c.piece-item.result c.loop-piece-test.true c.piece-item.is
-          c.args.notices.now c.loop-piece.notices c.put_piece.new.notices c.loop-piece.invariant.added c.in_ok-put_piece.ensures;
-      meant = meanings-rest script (piece_contents c.piece-item.result) (map piece_contents (drop (k + 1) pieces)) c.loop-piece.meant.now c.behind_meaning-meant.result.now
-          (c.loop-piece.invariant.meant ∙ ap (λ ps. meanings_in script.lookups script.formats (map piece_contents ps)) parts) c.behind_meaning-meant.ensures;
+      added = pieces_more (piece_notices script c.args.number) pieces k c.piece-item.result
+          c.loop-piece-test.true c.piece-item.is
+          c.args.notices.now c.loop-piece.notices c.put_piece.new.notices
+          c.loop-piece.invariant.added c.in_ok-put_piece.ensures;
+      meant = meanings-rest script (piece_contents c.piece-item.result) (map piece_contents
+          (drop (k + 1) pieces)) c.loop-piece.meant.now c.behind_meaning-meant.result.now
+          (c.loop-piece.invariant.meant ∙ ap (λ ps. meanings_in script.lookups script.formats
+          (map piece_contents ps)) parts) c.behind_meaning-meant.ensures;
     }

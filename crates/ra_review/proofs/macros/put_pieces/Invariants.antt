@@ -10,6 +10,8 @@ use Rattle.ra_review.proofs.macros.put_pieces.Given as goal
 abbrev pub invariant-loop-piece : goal.invariant-loop-piece
 invariant-loop-piece l = record {
   added : (entries : List (List ℕ)) → AreEntries l.initial.notices entries
-      → AreEntries l.notices (entries ++ flat_map (piece_notices (script_contents l.script) l.number) (map piece_contents (take l.piece-index l.pieces)));
-  meant : l.meant ≡ meanings_in (script_contents l.script).lookups (script_contents l.script).formats (map piece_contents (drop l.piece-index l.pieces));
+      → AreEntries l.notices (entries ++ flat_map (piece_notices
+      (script_contents l.script) l.number) (map piece_contents (take l.piece-index l.pieces)));
+  meant : l.meant ≡ meanings_in (script_contents l.script).lookups
+      (script_contents l.script).formats (map piece_contents (drop l.piece-index l.pieces));
 }

@@ -6,6 +6,8 @@ pub returns : goal.returns
 returns c =
     let out = c.args.out.now.items in
     c.in_ok-push.ensures.items
-    ∙ ap (λ t. t ++ 10 ∷ []) (c.in_ok-put_number-3.ensures ∙ ap (λ t. t ++ codes " again, first on line " ++ decimal c.args.first)
+    ∙ ap (λ t. t ++ 10 ∷ []) (c.in_ok-put_number-3.ensures
+    ∙ ap (λ t. t ++ codes " again, first on line " ++ decimal c.args.first)
     (c.in_ok-put_number-2.ensures ∙ ap (λ t. t ++ codes " id " ++ decimal c.args.id) c.in_ok-put_number.ensures))
-    ∙ three_numbers out (codes "line ") (decimal c.args.number) (codes " id ") (decimal c.args.id) (codes " again, first on line ") (decimal c.args.first) (10 ∷ [])
+    ∙ three_numbers out (codes "line ") (decimal c.args.number) (codes " id ") (decimal c.args.id)
+    (codes " again, first on line ") (decimal c.args.first) (10 ∷ [])

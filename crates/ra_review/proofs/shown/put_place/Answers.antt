@@ -14,5 +14,7 @@ returns c =
     let shown_is = ap shown left ∙ ap (λ n. shown (drop n line)) c.saturating_sub-start.ensures in
     c.in_ok-extend_from_slice.ensures.items
     ∙ ap (λ t. t ++ codes "^\n") (c.in_ok-put_blanks.ensures
-    ∙ ap₂ (λ t b. t ++ b) (c.in_ok-push.ensures.items ∙ ap (λ t. t ++ 10 ∷ []) (c.in_ok-put_shown.ensures ∙ ap (λ t. out ++ t) shown_is))
-    (ap (λ n. replicate n 32) (c.min-3.ensures ∙ ap (λ n. min n 120) c.min-2.ensures) ∙ blanks_before place start line c.split_at.result.1.now c.saturating_sub-start.ensures left))
+    ∙ ap₂ (λ t b. t ++ b) (c.in_ok-push.ensures.items
+    ∙ ap (λ t. t ++ 10 ∷ []) (c.in_ok-put_shown.ensures ∙ ap (λ t. out ++ t) shown_is))
+    (ap (λ n. replicate n 32) (c.min-3.ensures ∙ ap (λ n. min n 120) c.min-2.ensures)
+    ∙ blanks_before place start line c.split_at.result.1.now c.saturating_sub-start.ensures left))

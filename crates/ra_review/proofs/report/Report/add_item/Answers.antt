@@ -14,9 +14,11 @@ returns-in-Some c =
     let old = c.args.self.now in
     let x = item_contents c.args.item in
     on_ok c.repeat.result _ _
-    (λ more rows found h. adds_again (with_firsts old c.note.new.self) _ c.args.line.now x rows found old.lines c.id.result c.in-Some.first
+    (λ more rows found h. adds_again (with_firsts old c.note.new.self) _ c.args.line.now x rows
+    found old.lines c.id.result c.in-Some.first
     refl c.id.ensures (sym (h.firsts x) ∙ sym c.in_ok-first.ensures.first ∙ c.in-Some.is) more refl refl refl refl
-    (noted old (with_firsts old c.note.new.self) x rows found c.in_ok-first.field-0 c.in_ok-first.ensures.first c.in_ok-first.ensures.noted refl refl refl refl h))
+    (noted old (with_firsts old c.note.new.self) x rows found c.in_ok-first.field-0
+    c.in_ok-first.ensures.first c.in_ok-first.ensures.noted refl refl refl refl h))
     c.repeat.ensures
 
 pub returns-in-None : goal.returns-in-None
@@ -25,5 +27,6 @@ returns-in-None c =
     let x = item_contents c.args.item in
     on_ok c.keep_item.result _ _
     (λ adds rows found h. adds rows found (sym (h.firsts x) ∙ sym c.in_ok-first.ensures.first ∙ c.in-None.is)
-    (noted old (with_firsts old c.note.new.self) x rows found c.in_ok-first.field-0 c.in_ok-first.ensures.first c.in_ok-first.ensures.noted refl refl refl refl h))
+    (noted old (with_firsts old c.note.new.self) x rows found c.in_ok-first.field-0
+    c.in_ok-first.ensures.first c.in_ok-first.ensures.noted refl refl refl refl h))
     c.keep_item.ensures

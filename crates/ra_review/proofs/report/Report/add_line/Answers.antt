@@ -12,7 +12,8 @@ returns-then-is_text c = λ rows found h.
     record {
       verdict = Accepts None;
       is = inl (letter, refl);
-      reports = adds_none _ rows found (counted c.args.self.now _ rows found refl refl refl refl c.in_ok-self.ensures h);
+      reports = adds_none _ rows found
+          (counted c.args.self.now _ rows found refl refl refl refl c.in_ok-self.ensures h);
     }
 
 pub returns-in-Ok-None : goal.returns-in-Ok-None
@@ -21,7 +22,8 @@ returns-in-Ok-None c = λ rows found h.
     record {
       verdict = Accepts None;
       is = inr (other, subst (λ o. ContainsAlone c.args.line.now (option_map item_contents o)) c.in-Ok-None.field-0-is c.in-Ok-None.ensures.ok);
-      reports = adds_none _ rows found (counted c.args.self.now _ rows found refl refl refl refl c.in_ok-self.ensures h);
+      reports = adds_none _ rows found
+          (counted c.args.self.now _ rows found refl refl refl refl c.in_ok-self.ensures h);
     }
 
 pub returns-in-Ok-Some : goal.returns-in-Ok-Some
@@ -39,6 +41,10 @@ pub returns-in-Err-Syntax : goal.returns-in-Err-Syntax
 returns-in-Err-Syntax c =
     let other = ap (bytes_eq (codes "P")) (sym c.requires.content) ∙ sym c.if-is_text.ensures in
     on_ok c.refuse.result _ _
-    (λ more rows found h. refuses_line (record c.args.self.now { lines = c.in_ok-self.field-0 }) _ rows found c.in_ok-self.field-0 _ c.args.line.now c.args.content.now refl c.requires.content more refl refl refl refl
-    other (subst (IsFileOutside c.args.line.now) (sym c.in-Err-Syntax.at-is) (rw c.in-Err-Syntax.field-0-is at c.in-Err-Syntax.ensures.err)) (counted c.args.self.now _ rows found refl refl refl refl c.in_ok-self.ensures h))
+    (λ more rows found h. refuses_line (record c.args.self.now { lines = c.in_ok-self.field-0 }) _
+    rows found c.in_ok-self.field-0 _ c.args.line.now c.args.content.now refl c.requires.content
+    more refl refl refl refl
+    other (subst (IsFileOutside c.args.line.now) (sym c.in-Err-Syntax.at-is)
+    (rw c.in-Err-Syntax.field-0-is at c.in-Err-Syntax.ensures.err))
+    (counted c.args.self.now _ rows found refl refl refl refl c.in_ok-self.ensures h))
     c.refuse.ensures
