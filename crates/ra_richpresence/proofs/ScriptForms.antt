@@ -16,7 +16,8 @@ pub script-of_parts : (text : List ℕ) (parts : ScriptParts) → script_parts t
 script-of_parts text parts spelled = record { parts = parts; spelled = spelled; made = refl }
 
 -- the script of a text is that of its parts
-pub parts-of_script : (text : List ℕ) (v : ScriptContents) (parts : ScriptParts) → script text v → script_parts text parts → v ≡ script_of parts
+pub parts-of_script : (text : List ℕ) (v : ScriptContents) (parts : ScriptParts) → script text v
+    → script_parts text parts → v ≡ script_of parts
 parts-of_script text v parts h spelled = h.made ∙ ap script_of (parts-once text h.parts parts h.spelled spelled)
 
 pub script-once : (text : List ℕ) (v w : ScriptContents) → script text v → script text w → v ≡ w
