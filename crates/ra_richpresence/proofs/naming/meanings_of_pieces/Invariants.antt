@@ -6,4 +6,6 @@ use Rattle.ra_richpresence.proofs.naming.meanings_of_pieces.Given as goal
 
 abbrev pub invariant-loop-piece : goal.invariant-loop-piece
 invariant-loop-piece l =
-    (lookups : List LookupContents) (formats : List (List ℕ × Format)) → FindsNames lookups 0 formats l.names → l.meanings.items ≡ meanings_in lookups formats (map piece_contents (take l.piece-index l.pieces))
+    (lookups : List LookupContents) (formats : List (List ℕ × Format))
+    → FindsNames lookups 0 formats l.names → l.meanings.items
+    ≡ meanings_in lookups formats (map piece_contents (take l.piece-index l.pieces))
