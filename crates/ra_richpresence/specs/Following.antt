@@ -1,5 +1,7 @@
--- How calls follow the reading of lines, unless memory runs out: the step between the code and docs/DEFINITIONS.md, "Presence scripts".
-use Rattle.std.specs.Prelude.{◌≡◌, ℕ, ◌+◌, ◌≤◌, ◌==◌, Bool, true, false, List, [], ◌∷◌, ◌++◌, length, map, Option, Some, None, option_map, Result, Ok, Err}
+-- How calls follow the reading of lines, unless memory runs out: the step between the code and docs/DEFINITIONS.md,
+-- "Presence scripts".
+use Rattle.std.specs.Prelude.{◌≡◌, ℕ, ◌+◌, ◌≤◌, ◌==◌, Bool, true, false, List, [], ◌∷◌, ◌++◌, length, map, Option, Some}
+use Rattle.std.specs.Prelude.{None, option_map, Result, Ok, Err}
 use Rattle.ra_condition.specs.declared.fault.Fault.{Fault}
 use Rattle.ra_condition.specs.declared.fault.Fault.TheVariants.{Stop, Memory}
 use Rattle.ra_richpresence.specs.Contents.{Bytes}
@@ -24,13 +26,15 @@ MovesUnlessFull view (Err Stop) rest outcome = outcome ≡ Err (bytes_of rest)
 MovesUnlessFull view (Err Memory) rest outcome = Unit {0}
 
 -- reading gives a value that what a call returned stands for, and leaves these lines
-pub record MovesAs {X V : Type 0} (stands : X → V → Type 0) (x : X) (rest : List ScriptLine) (outcome : Outcome (List ℕ) V) : Type 0 where
+pub record MovesAs {X V : Type 0} (stands : X → V → Type 0) (x : X) (rest : List ScriptLine)
+    (outcome : Outcome (List ℕ) V) : Type 0 where
   pub value : V
   pub read : outcome ≡ Ok (value, bytes_of rest)
   pub is : stands x value
 
 -- what a call returned stands for what reading gives, and it left the same lines
-abbrev pub MovesAsUnlessFull : {X V : Type 0} → (X → V → Type 0) → Result X Fault → List ScriptLine → Outcome (List ℕ) V → Type 0
+abbrev pub MovesAsUnlessFull : {X V : Type 0} → (X → V → Type 0) → Result X Fault → List ScriptLine
+    → Outcome (List ℕ) V → Type 0
 MovesAsUnlessFull stands (Ok x) rest outcome = MovesAs stands x rest outcome
 MovesAsUnlessFull stands (Err Stop) rest outcome = outcome ≡ Err (bytes_of rest)
 MovesAsUnlessFull stands (Err Memory) rest outcome = Unit {0}
@@ -42,7 +46,8 @@ ends_run (byte ∷ rest) = byte == 64
 
 -- the text is the characters that stood there up to a macro or to the end, and the new bytes are those after them
 pub record Run (old text new : List ℕ) : Type 0 where
-  pub reads : all_at piece_at (length old) old ≡ option_map (λ pieces. map (λ byte. Bytes (byte ∷ [])) text ++ pieces) (all_at piece_at (length new) new)
+  pub reads : all_at piece_at (length old) old ≡ option_map
+      (λ pieces. map (λ byte. Bytes (byte ∷ [])) text ++ pieces) (all_at piece_at (length new) new)
   pub ends : ends_run new ≡ true
   pub shorter : length new + length text ≤ length old
   pub some : ends_run old ≡ false → text ≡ [] → ⊥

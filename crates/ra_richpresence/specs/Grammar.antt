@@ -1,10 +1,12 @@
 -- The grammar of presence scripts: docs/DEFINITIONS.md, "Presence scripts".
-use Rattle.std.specs.Prelude.{◌≡◌, ℕ, Bool, true, false, if◌then◌else◌, List, [], ◌∷◌, ◌++◌, Option, Some, None, codes, bytes_eq}
+use Rattle.std.specs.Prelude.{◌≡◌, ℕ, Bool, true, false, if◌then◌else◌, List, [], ◌∷◌, ◌++◌, Option, Some, None, codes}
+use Rattle.std.specs.Prelude.{bytes_eq}
 use Rattle.std.specs.List.{list_any, filter_map}
 use Rattle.ra_condition.specs.Contents.{TriggerContents}
 use Rattle.ra_condition.specs.Grammar.{trigger}
 use Rattle.ra_condition.specs.Values.{value}
-use Rattle.ra_richpresence.specs.Contents.{PieceContents, Bytes, Shows, LineContents, KeysContents, LookupContents, ScriptContents}
+use Rattle.ra_richpresence.specs.Contents.{PieceContents, Bytes, Shows, LineContents, KeysContents, LookupContents}
+use Rattle.ra_richpresence.specs.Contents.{ScriptContents}
 use Rattle.ra_richpresence.specs.Cut.{is_left, left_lines}
 use Rattle.ra_text.specs.Chain.{joined}
 use Rattle.ra_text.specs.Form.{Form, Spell, One, Literal, ◌>>=◌, ◌or◌, optional}
@@ -236,7 +238,8 @@ first_other (Other text ∷ entries) = Some text
 
 -- the lookup of a name and of its lines
 abbrev pub lookup_with : List ℕ → List EntryContents → LookupContents
-lookup_with lookup_name entries = record { name = lookup_name; keys = filter_map keys_in entries; rest = first_other entries }
+lookup_with lookup_name entries =
+    record { name = lookup_name; keys = filter_map keys_in entries; rest = first_other entries }
 
 -- a lookup: its name, and the lines that go on with it
 abbrev pub lookup_section : Form (List ℕ) SectionContents
@@ -276,7 +279,8 @@ is_taken names wanted = list_any (λ taken. bytes_eq wanted taken) names
 -- the sections whose name is not taken by an earlier one, nor among these
 abbrev pub first_named : List (List ℕ) → List SectionContents → List SectionContents
 first_named names [] = []
-first_named names (s ∷ ss) = if is_taken names (name_of s) then first_named names ss else s ∷ first_named (name_of s ∷ names) ss
+first_named names (s ∷ ss) = if is_taken names (name_of s) then first_named names ss
+    else s ∷ first_named (name_of s ∷ names) ss
 
 -- the lookup of a section, if it is one
 abbrev pub lookup_in : SectionContents → Option LookupContents

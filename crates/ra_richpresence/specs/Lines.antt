@@ -1,11 +1,14 @@
 -- The text of a presence line: docs/DEFINITIONS.md, "Presence over frames".
-use Rattle.std.specs.Prelude.{ℕ, ◌&&◌, Bool, if◌then◌else◌, nat_le, Option, None, Some, List, [], ◌∷◌, ◌++◌, length, take, drop, codes, bytes_eq, ℤ, pos}
+use Rattle.std.specs.Prelude.{ℕ, ◌&&◌, Bool, if◌then◌else◌, nat_le, Option, None, Some, List, [], ◌∷◌, ◌++◌, length}
+use Rattle.std.specs.Prelude.{take, drop, codes, bytes_eq, ℤ, pos}
 use Rattle.std.specs.List.{list_any, flat_map, slice_index_or}
 use Rattle.std.specs.Int.{w32, cast_unsigned}
 use Rattle.ra_value_format.specs.declared.format.Format.{Format}
-use Rattle.ra_value_format.specs.declared.format.Format.TheVariants.{Value, Score, Secs, Hundredths, Minutes, SecsAsMins, Unsigned, Fixed, Float}
+use Rattle.ra_value_format.specs.declared.format.Format.TheVariants.{Value, Score, Secs, Hundredths, Minutes}
+use Rattle.ra_value_format.specs.declared.format.Format.TheVariants.{SecsAsMins, Unsigned, Fixed, Float}
 use Rattle.ra_value_format.specs.Formats.{formatted, entry_of}
-use Rattle.ra_richpresence.specs.Parts.{PieceContents, Bytes, Shows, LineContents, KeysContents, LookupContents, ScriptContents, values_in_line}
+use Rattle.ra_richpresence.specs.Parts.{PieceContents, Bytes, Shows, LineContents, KeysContents, LookupContents}
+use Rattle.ra_richpresence.specs.Parts.{ScriptContents, values_in_line}
 
 -- the ranges hold the number; a range that ends below its start holds nothing
 abbrev pub holds : List (ℕ × ℕ) → ℕ → Bool

@@ -50,13 +50,16 @@ meanings_in lookups formats pieces = map (meaning_of lookups formats) (filter_ma
 abbrev pub AreMeanings : List Lookup → List (Vec ℕ Global × Format) → List Line → List (Vec Meaning Global) → Type 0
 AreMeanings lookups formats lines meanings =
     map (λ m. m.items) meanings
-    ≡ map (λ (line : Line). meanings_in (map lookup_contents lookups) (map (λ f. (f.0.items, f.1)) formats) (map piece_contents line.pieces.items)) lines
+    ≡ map (λ (line : Line). meanings_in (map lookup_contents lookups)
+    (map (λ f. (f.0.items, f.1)) formats) (map piece_contents line.pieces.items)) lines
 
 -- the order of names
 abbrev pub name_cmp : Vec ℕ Global → Vec ℕ Global → Ordering
 name_cmp x y = slice_cmp nat_cmp x.items y.items
 
 -- the map has what a script says of each name
-abbrev pub FindsNames : List LookupContents → (at : ℕ) → List (List ℕ × Format) → BTreeMap (Vec ℕ Global) Meaning → Type 0
+abbrev pub FindsNames : List LookupContents → (at : ℕ) → List (List ℕ × Format)
+    → BTreeMap (Vec ℕ Global) Meaning → Type 0
 FindsNames lookups at formats names =
-    (name : Vec ℕ Global) → get name_cmp names name ≡ said_by (place_of name.items lookups at) (entry_of name.items formats)
+    (name : Vec ℕ Global) → get name_cmp names name
+    ≡ said_by (place_of name.items lookups at) (entry_of name.items formats)

@@ -1,5 +1,6 @@
 -- Where the lines that are left start: the step between the code and docs/DEFINITIONS.md, "First bad place".
-use Rattle.std.specs.Prelude.{◌≡◌, ℕ, ◌+◌, ◌<◌, ◌≤◌, ◌==◌, ◌&&◌, true, if◌then◌else◌, List, [], ◌∷◌, ◌++◌, length, take, drop}
+use Rattle.std.specs.Prelude.{◌≡◌, ℕ, ◌+◌, ◌<◌, ◌≤◌, ◌==◌, ◌&&◌, true, if◌then◌else◌, List, [], ◌∷◌, ◌++◌, length, take}
+use Rattle.std.specs.Prelude.{drop}
 use Rattle.ra_richpresence.specs.Cut.{lines_of, content_of, is_nothing, left_of, has_no_feed}
 
 -- what is left of lines that start at this place, each with its own place

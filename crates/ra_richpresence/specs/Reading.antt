@@ -1,11 +1,13 @@
 -- Reading scripts from left to right: the step between the code and docs/DEFINITIONS.md, "Presence scripts".
-use Rattle.std.specs.Prelude.{ℕ, ◌==◌, ◌&&◌, zero, suc, Bool, true, false, if◌then◌else◌, List, [], ◌∷◌, ◌++◌, length, Option, Some, None, option_map, Ok, Err, codes}
+use Rattle.std.specs.Prelude.{ℕ, ◌==◌, ◌&&◌, zero, suc, Bool, true, false, if◌then◌else◌, List, [], ◌∷◌, ◌++◌, length}
+use Rattle.std.specs.Prelude.{Option, Some, None, option_map, Ok, Err, codes}
 use Rattle.ra_condition.specs.Contents.{TriggerContents}
 use Rattle.ra_condition.specs.Reading.{trigger_at}
 use Rattle.ra_condition.specs.ReadingValues.{value_at}
 use Rattle.ra_richpresence.specs.Contents.{PieceContents, Bytes, Shows, LineContents}
 use Rattle.ra_richpresence.specs.Cut.{is_left}
-use Rattle.ra_richpresence.specs.Grammar.{other_than, joined_texts, EntryContents, Keyed, Other, SectionContents, Looks, Formats, ScriptParts}
+use Rattle.ra_richpresence.specs.Grammar.{other_than, joined_texts, EntryContents, Keyed, Other, SectionContents, Looks}
+use Rattle.ra_richpresence.specs.Grammar.{Formats, ScriptParts}
 use Rattle.ra_text.specs.Reading.{Outcome, ◌>>=◌, one_at, literal_at, choice_at, begins, chain_at, joined_at}
 use Rattle.ra_text.specs.ReadingNumbers.{decimal_at, hexadecimal_at}
 use Rattle.ra_text.specs.Table.{is_in, only, only_letters}
@@ -16,7 +18,8 @@ use Rattle.ra_value_format.specs.Formats.{format_of_name}
 
 -- symbols of the table, as many as stand there
 abbrev pub run_at : {A V : Type 0} → (A → Option V) → List A → Outcome A (List V)
-run_at table text = chain_at {S = Unit {0}} (λ s. table) (λ s tag rest. Ok (tag, rest)) (λ s v. s) (λ s. true) (length text) tt text
+run_at table text = chain_at {S = Unit {0}} (λ s. table) (λ s tag rest. Ok (tag, rest)) (λ s v. s)
+    (λ s. true) (length text) tt text
 
 -- a byte of a name
 abbrev pub name_byte : ℕ → Option ℕ
@@ -158,7 +161,8 @@ format_head_of line = behind (literal_at (codes "Format:") line) (λ word rest. 
 
 -- "FormatType=" name
 unfoldable pub format_type_of : List ℕ → Option Format
-format_type_of line = behind (literal_at (codes "FormatType=") line) (λ word rest. option_map format_of_name (whole (name_at rest)))
+format_type_of line = behind (literal_at (codes "FormatType=") line)
+    (λ word rest. option_map format_of_name (whole (name_at rest)))
 
 -- "Display:"
 unfoldable pub display_head_of : List ℕ → Option (Unit {0})
@@ -166,7 +170,8 @@ display_head_of line = whole (literal_at (codes "Display:") line)
 
 -- keys and a text
 unfoldable pub keyed_entry_of : List ℕ → Option EntryContents
-keyed_entry_of line = behind (keys_at line) (λ ranges text. option_map (λ shown. Keyed (record { ranges = ranges; text = shown })) (lookup_text_of text))
+keyed_entry_of line = behind (keys_at line) (λ ranges text. option_map
+    (λ shown. Keyed (record { ranges = ranges; text = shown })) (lookup_text_of text))
 
 -- "*=" text
 unfoldable pub other_entry_of : List ℕ → Option EntryContents
@@ -178,7 +183,8 @@ entry_of line = if begins (is_in (only (codes "*"))) line then other_entry_of li
 
 -- a test and pieces
 unfoldable pub tested_line_of : List ℕ → Option LineContents
-tested_line_of line = behind (test_at line) (λ found text. option_map (λ shown. record { test = Some found; pieces = shown }) (pieces_of text))
+tested_line_of line = behind (test_at line) (λ found text. option_map
+    (λ shown. record { test = Some found; pieces = shown }) (pieces_of text))
 
 -- the line without a test that pieces are
 abbrev pub untested_with : List PieceContents → LineContents
@@ -223,7 +229,8 @@ section_behind_at (OpensFormat format_name) lines = do
 
 -- lookups and formats
 unfoldable pub sections_at : List (List ℕ) → Outcome (List ℕ) (List SectionContents)
-sections_at lines = chain_at {S = Unit {0}} (λ s. left_only section_head_of) (λ s. section_behind_at) (λ s v. s) (λ s. true) (length lines) tt lines
+sections_at lines = chain_at {S = Unit {0}} (λ s. left_only section_head_of)
+    (λ s. section_behind_at) (λ s v. s) (λ s. true) (length lines) tt lines
 
 -- the lines of a display with tests
 unfoldable pub tested_lines_at : List (List ℕ) → Outcome (List ℕ) (List LineContents)

@@ -31,7 +31,8 @@ pub record IsLookupOf (most : ℕ) (name : List ℕ) (entries : List EntryConten
 -- the section is this one, a lookup with the length of its first text over the limit
 abbrev pub IsSectionOf : ℕ → SectionContents → Section → Type 0
 IsSectionOf most (Looks name entries) (section.Lookup found) = IsLookupOf most name entries found
-IsSectionOf most (Formats format_name format) (section.Format name other) = (name.items ≡ format_name) × (other ≡ format)
+IsSectionOf most (Formats format_name format) (section.Format name other) =
+    (name.items ≡ format_name) × (other ≡ format)
 IsSectionOf most (Looks name entries) (section.Format other format) = ⊥
 IsSectionOf most (Formats name format) (section.Lookup found) = ⊥
 

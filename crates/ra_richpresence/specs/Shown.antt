@@ -25,7 +25,8 @@ text_in l n = looked_up l.keys l.rest n
 -- the first of the meanings is that of the piece, if it is a macro
 abbrev pub BeginsWithMeaning : ScriptContents → PieceContents → List Meaning → Type 0
 BeginsWithMeaning script (Bytes text) meanings = Unit {0}
-BeginsWithMeaning script (Shows name value) meanings = slice_get meanings 0 ≡ Some (meaning_of script.lookups script.formats name)
+BeginsWithMeaning script (Shows name value) meanings =
+    slice_get meanings 0 ≡ Some (meaning_of script.lookups script.formats name)
 
 -- the built-in macros that write a point
 abbrev pub point_macros : List (List ℕ × Format)

@@ -2,7 +2,8 @@
 use Rattle.std.specs.Prelude.{◌≡◌, ℕ, nat_le, if◌then◌else◌, Option, None, Some, List, [], ◌∷◌, length, map}
 use Rattle.std.specs.List.{flat_map}
 use Rattle.ra_richpresence.specs.Contents.{script_contents}
-use Rattle.ra_richpresence.specs.Grammar.{EntryContents, Keyed, Other, SectionContents, Looks, Formats, first_named, ScriptParts, script_parts, script_of}
+use Rattle.ra_richpresence.specs.Grammar.{EntryContents, Keyed, Other, SectionContents, Looks, Formats, first_named}
+use Rattle.ra_richpresence.specs.Grammar.{ScriptParts, script_parts, script_of}
 use Rattle.ra_richpresence.specs.declared.read.ReadScript.{ReadScript}
 
 -- the texts of the keys lines of a lookup, in order

@@ -13,11 +13,13 @@ returns c =
     subst (λ t. OnOk c.put_pieces.result (c.put_pieces.new.out.items ≡ c.args.out.now.items ++ t))
     (ap (λ ps. pieces_text script (map piece_contents ps) c.behind_lines-left.result.now) c.deref-2.ensures.value
     ∙ ap (λ vs. pieces_text script (map piece_contents c.index.result.now.pieces.items) vs) left
-    ∙ sym (text-of-line c.args.self.now c.args.shown c.index.result.now c.args.values.now c.requires.shown c.index.ensures))
+    ∙ sym (text-of-line c.args.self.now c.args.shown c.index.result.now c.args.values.now
+    c.requires.shown c.index.ensures))
     c.put_pieces.ensures
 
 pub put_pieces-requires-clause-meanings : goal.put_pieces-requires-clause-meanings
 put_pieces-requires-clause-meanings c =
     let script = script_contents c.args.self.now in
-    c.deref-3.ensures.value ∙ meanings-of_line c.args.self.now c.args.shown c.index.result.now c.index-2.result.now c.requires.shown c.index.ensures c.index-2.ensures
+    c.deref-3.ensures.value ∙ meanings-of_line c.args.self.now c.args.shown c.index.result.now
+    c.index-2.result.now c.requires.shown c.index.ensures c.index-2.ensures
     ∙ ap (λ ps. meanings_in script.lookups script.formats (map piece_contents ps)) (sym c.deref-2.ensures.value)
