@@ -3,7 +3,8 @@ use Rattle.std.proofs.Common.{◌≡◌, ℕ, ◌||◌, Bool, true, false, List,
 use Rattle.ra_memory.specs.Image.{History}
 use Rattle.ra_set.specs.Contents.{ItemContents, Unlocks, Ranks, SetContents}
 use Rattle.ra_progress.specs.Contents.{KeptItem, OfAchievement, OfBoard, Opening, ItemsFit, IsOpening}
-use Rattle.ra_meaning.specs.Earned.{Earned, HoldTriggered, IsEarnedToo, is_earned, items_with, with_earned, both_earned, earned_in, none_earned}
+use Rattle.ra_meaning.specs.Earned.{Earned, HoldTriggered, IsEarnedToo, is_earned, items_with, with_earned, both_earned}
+use Rattle.ra_meaning.specs.Earned.{earned_in, none_earned}
 use Rattle.ra_meaning.specs.Openings.{start_of, item_after, snapshot, plain_opening}
 use Rattle.ra_meaning.specs.Order.{item_shape, shape_of}
 use Rattle.ra_meaning.specs.Play.{earns}
@@ -28,7 +29,8 @@ heads : (x y : Bool) (xs ys : Earned) → x ∷ xs ≡ y ∷ ys → (x ≡ y) ×
 heads x y xs ys same = (cc, cc)
 
 -- and so it is when more is earned
-pub earned_later : (less earned others : Earned) → IsEarnedToo less earned → IsEarnedToo less (both_earned earned others)
+pub earned_later : (less earned others : Earned) → IsEarnedToo less earned
+    → IsEarnedToo less (both_earned earned others)
 earned_later less [] others still = refl
 earned_later less (e ∷ earned) [] still = refl
 earned_later [] (e ∷ earned) (o ∷ others) still = absurd (let bad : [] ≡ e ∷ earned = still in cc)
@@ -41,8 +43,11 @@ or_is true less same is = refl
 or_is false less same is = sym same ∙ is
 
 -- what is earned holds what was triggered after the frames of a save whose earned achievements it has
-pub hold_still : (set : SetContents) (o : Opening) (history other : History) (items : List ItemContents) (opened : List KeptItem) (before earned : Earned)
-    → HoldTriggered earned (map (item_after (start_of set o) history) (zip items opened)) → HoldTriggered before (map (item_after (start_of set o) other) (zip items opened)) → IsEarnedToo before earned
+pub hold_still : (set : SetContents) (o : Opening) (history other : History)
+    (items : List ItemContents) (opened : List KeptItem) (before earned : Earned)
+    → HoldTriggered earned (map (item_after (start_of set o) history) (zip items opened))
+    → HoldTriggered before (map (item_after (start_of set o) other) (zip items opened))
+    → IsEarnedToo before earned
     → HoldTriggered earned (map (item_after (start_of set o) other) (zip items opened))
 hold_still set o history other [] opened before [] hold was still = tt
 hold_still set o history other [] opened before (e ∷ earned) hold was still = absurd hold
@@ -60,36 +65,49 @@ hold_still set o history other (Ranks id format b' ∷ items) (k ∷ opened) (b 
 -- an opening with what it has earned is itself
 items_own : (items : List KeptItem) → items_with (map is_earned items) items ≡ items
 items_own [] = refl
-items_own (OfAchievement state measured hits earned ∷ items) = ap (λ xs. OfAchievement state measured hits earned ∷ xs) (items_own items)
+items_own (OfAchievement state measured hits earned ∷ items) =
+    ap (λ xs. OfAchievement state measured hits earned ∷ xs) (items_own items)
 items_own (OfBoard state hits numbers ∷ items) = ap (λ xs. OfBoard state hits numbers ∷ xs) (items_own items)
 
 pub with_own : (o : Opening) → with_earned o (earned_in o) ≡ o
 with_own o = λ i. record o { items = items_own o.items i }
 
 -- beside nothing, what is earned of items is that
-none_hold : (set : SetContents) (o : Opening) (history : History) (items : List ItemContents) (opened : List KeptItem) (earned : Earned) → ItemsFit (map item_shape items) opened
-    → HoldTriggered earned (map (item_after (start_of set o) history) (zip items opened)) → both_earned (map (λ item. false) items) earned ≡ earned
+none_hold : (set : SetContents) (o : Opening) (history : History) (items : List ItemContents)
+    (opened : List KeptItem) (earned : Earned) → ItemsFit (map item_shape items) opened
+    → HoldTriggered earned (map (item_after (start_of set o) history) (zip items opened))
+    → both_earned (map (λ item. false) items) earned ≡ earned
 none_hold set o history [] opened [] fit hold = refl
 none_hold set o history [] opened (e ∷ earned) fit hold = absurd hold
 none_hold set o history (item ∷ items) [] earned fit hold = absurd fit
 none_hold set o history (item ∷ items) (k ∷ opened) [] fit hold = absurd hold
-none_hold set o history (item ∷ items) (k ∷ opened) (e ∷ earned) fit hold = ap (λ es. e ∷ es) (none_hold set o history items opened earned fit.1 hold.1)
+none_hold set o history (item ∷ items) (k ∷ opened) (e ∷ earned) fit hold =
+    ap (λ es. e ∷ es) (none_hold set o history items opened earned fit.1 hold.1)
 
 module _ (set : SetContents) (o : Opening) where
   -- what is kept with these earned has earned these
-  pub kept_earned : (history : History) (earned : Earned) (kept : Opening) → HoldTriggered earned (snapshot set o history).items → kept ≡ with_earned (snapshot set o history) earned → earned_in kept ≡ earned
+  pub kept_earned : (history : History) (earned : Earned) (kept : Opening)
+      → HoldTriggered earned (snapshot set o history).items → kept
+      ≡ with_earned (snapshot set o history) earned → earned_in kept ≡ earned
   kept_earned history earned kept hold is = ap earned_in is ∙ items_same earned (snapshot set o history).items hold
 
   -- after a frame
-  pub earns_hold : (image : List ℕ) (history : History) (earned : Earned) → HoldTriggered earned (snapshot set o history).items → HoldTriggered (earns set o (image ∷ history) earned) (snapshot set o (image ∷ history)).items
+  pub earns_hold : (image : List ℕ) (history : History) (earned : Earned)
+      → HoldTriggered earned (snapshot set o history).items → HoldTriggered
+      (earns set o (image ∷ history) earned) (snapshot set o (image ∷ history)).items
   earns_hold image history earned hold = frame_holds (start_of set o) image history set.items o.items earned hold
 
   -- after a restore of a save
-  pub save_holds : (history kept : History) (before earned : Earned) → HoldTriggered earned (snapshot set o history).items → HoldTriggered before (snapshot set o kept).items → IsEarnedToo before earned → HoldTriggered earned (snapshot set o kept).items
-  save_holds history kept before earned hold was still = hold_still set o history kept set.items o.items before earned hold was still
+  pub save_holds : (history kept : History) (before earned : Earned)
+      → HoldTriggered earned (snapshot set o history).items → HoldTriggered before (snapshot set o
+      kept).items → IsEarnedToo before earned → HoldTriggered earned (snapshot set o kept).items
+  save_holds history kept before earned hold was still =
+      hold_still set o history kept set.items o.items before earned hold was still
 
   -- what is restored over this is the save's, with what is earned now
-  pub restored_with : (kept : History) (before earned now : Earned) (said : Opening) → HoldTriggered before (snapshot set o kept).items → both_earned now before ≡ earned → said ≡ with_earned (snapshot set o kept) before
+  pub restored_with : (kept : History) (before earned now : Earned) (said : Opening)
+      → HoldTriggered before (snapshot set o kept).items → both_earned now before ≡ earned → said
+      ≡ with_earned (snapshot set o kept) before
       → with_earned said (both_earned now (earned_in said)) ≡ with_earned (snapshot set o kept) earned
   restored_with kept before earned now said was still is =
       let q = snapshot set o kept in
@@ -99,7 +117,9 @@ module _ (set : SetContents) (o : Opening) where
       ∙ (λ i. record q { items = items_again earned before q.items was i })
 
   -- over nothing earned, a file brings what it has earned
-  pub none_and_file : (behind : History) (earned : Earned) → IsOpening (shape_of set) o → HoldTriggered earned (snapshot set o behind).items → both_earned (none_earned set) earned ≡ earned
+  pub none_and_file : (behind : History) (earned : Earned) → IsOpening (shape_of set) o
+      → HoldTriggered earned (snapshot set o behind).items → both_earned (none_earned set) earned
+      ≡ earned
   none_and_file behind earned is hold = none_hold set o behind set.items o.items earned is.items hold
 
   -- an opening stands after no frames, with what it has earned
@@ -107,7 +127,8 @@ module _ (set : SetContents) (o : Opening) where
   opened_with is = sym (with_own o) ∙ ap (λ k. with_earned k (earned_in o)) (sym (snapshot_none set o is))
 
   pub opened_holds : IsOpening (shape_of set) o → HoldTriggered (earned_in o) (snapshot set o []).items
-  opened_holds is = subst (λ (k : Opening). HoldTriggered (earned_in o) k.items) (sym (snapshot_none set o is)) (fit_hold (map item_shape set.items) o.items is.items)
+  opened_holds is = subst (λ (k : Opening). HoldTriggered (earned_in o) k.items)
+      (sym (snapshot_none set o is)) (fit_hold (map item_shape set.items) o.items is.items)
 
 -- in the plain opening nothing is earned
 pub plain_earned : (set : SetContents) → earned_in (plain_opening set) ≡ none_earned set

@@ -1,5 +1,6 @@
 -- A run up to its last line, by where it ended.
-use Rattle.std.proofs.Common.{◌≡◌, ◌≢◌, inl, inr, ap, sym, subst, refl, ◌∙◌, ℕ, List, [], ◌∷◌, is_some, if◌then◌else◌, false, Option, Some, Result, Ok, Err}
+use Rattle.std.proofs.Common.{◌≡◌, ◌≢◌, inl, inr, ap, sym, subst, refl, ◌∙◌, ℕ, List, [], ◌∷◌, is_some, if◌then◌else◌}
+use Rattle.std.proofs.Common.{false, Option, Some, Result, Ok, Err}
 use Rattle.std.specs.Bool.{⊤}
 use Rattle.std.specs.List.{concat, AllByRecursion}
 use Rattle.std.specs.Result.{IsErrOf}
@@ -32,7 +33,8 @@ use Rattle.ra_session.proofs.RunLemmas.{any_first, any_later, file_of}
 use Rattle.ra_session.proofs.LoadLemmas.{PlaysFrom, loaded_says, loaded_said, stop_decides}
 
 -- a job that is not done, and changed no file
-pub leaves_same : (job : Job) (old new : Outside) (ending : Ending) → (ending ≡ Done → ⊥) → SameContent old.content new.content → Leaves job old new ending
+pub leaves_same : (job : Job) (old new : Outside) (ending : Ending) → (ending ≡ Done → ⊥)
+    → SameContent old.content new.content → Leaves job old new ending
 leaves_same job old new ending never same = record {
   others = λ name other. same.each name;
   only = inr (inr (inl same));
@@ -40,7 +42,8 @@ leaves_same job old new ending never same = record {
 }
 
 -- and one that puts none
-pub leaves_none : (job : Job) (old new : Outside) (ending : Ending) → puts_of job ≡ [] → SameContent old.content new.content → Leaves job old new ending
+pub leaves_none : (job : Job) (old new : Outside) (ending : Ending) → puts_of job ≡ []
+    → SameContent old.content new.content → Leaves job old new ending
 leaves_none job old new ending none same = record {
   others = λ name other. same.each name;
   only = inr (inr (inl same));
@@ -59,9 +62,12 @@ trace_not_done failed.Memory is = absurd (cc)
 trace_not_done _ is = absurd (cc)
 
 -- with the causes that a run counts
-with_causes : {T : Type 0} (e : Expected) (reads trace puts sink : Type 0) (old new : Option (List ℕ)) (r : Result T TraceFailed) → (IsErrOf r failed.Read → reads × trace) → (IsErrOf r failed.Write → sink) → EndsBefore e ⊤ ⊤ ⊤ (ending_at r) old new
+with_causes : {T : Type 0} (e : Expected) (reads trace puts sink : Type 0)
+    (old new : Option (List ℕ)) (r : Result T TraceFailed) → (IsErrOf r failed.Read → reads × trace)
+    → (IsErrOf r failed.Write → sink) → EndsBefore e ⊤ ⊤ ⊤ (ending_at r) old new
     → EndsJob e reads trace puts sink (ending_at r) old new
-with_causes e reads trace puts sink old new (Err failed.Read) read wrote before = let rose = read refl in (rose.0, inr (rose.1, before.1))
+with_causes e reads trace puts sink old new (Err failed.Read) read wrote before = let rose =
+    read refl in (rose.0, inr (rose.1, before.1))
 with_causes e reads trace puts sink old new (Err failed.Write) read wrote before = (wrote refl, before.1)
 with_causes e reads trace puts sink old new _ read wrote before = before
 
@@ -70,9 +76,12 @@ module _ (set trace : List ℕ) (restore save : Option (List ℕ)) (old new : Ou
   job = Run set trace restore save
 
   -- What was played of a set and a progress file that were accepted.
-  pub record PlayedSet {T : Type 0} (c : SetContents) (progress : Option (List ℕ)) (r : Result T TraceFailed) : Type 0 where
+  pub record PlayedSet {T : Type 0} (c : SetContents) (progress : Option (List ℕ))
+      (r : Result T TraceFailed) : Type 0 where
     pub loaded : IsLoaded old.content set restore c progress
-    pub printed : (bytes : List ℕ) (o : Opening) (behind : History) (earned : Earned) → old.content trace ≡ Some bytes → BeginsAt c progress o behind earned → EndsBefore (played c o behind earned bytes) ⊤ ⊤ ⊤ (ending_at r) old.text new.text
+    pub printed : (bytes : List ℕ) (o : Opening) (behind : History) (earned : Earned)
+        → old.content trace ≡ Some bytes → BeginsAt c progress o behind earned
+        → EndsBefore (played c o behind earned bytes) ⊤ ⊤ ⊤ (ending_at r) old.text new.text
     pub read : IsErrOf r failed.Read → Rose (old.read_faults trace) (new.read_faults trace)
     pub wrote : IsErrOf r failed.Write → SinkRose old new
 
@@ -84,30 +93,38 @@ module _ (set trace : List ℕ) (restore save : Option (List ℕ)) (old new : Ou
   all_decide (Err failed.Memory) = refl
   all_decide (Err _) = refl
 
-  module _ {T : Type 0} (c : SetContents) (progress : Option (List ℕ)) (r : Result T TraceFailed) (p : PlayedSet {T = T} c progress r) where
+  module _ {T : Type 0} (c : SetContents) (progress : Option (List ℕ)) (r : Result T TraceFailed)
+      (p : PlayedSet {T = T} c progress r) where
     from_there : (e : Expected) → RunSays old.content set trace restore e → PlaysFrom old.content trace c progress e
     from_there e says = loaded_says old.content set trace restore c progress e p.loaded says
 
     played_prints : (e : Expected) → RunSays old.content set trace restore e → PrintsSoFar job old new (ending_at r) e
     played_prints e says =
         let from = from_there e says in
-        let decides : deciding e.ending job ≡ reads_of job = ap (λ (e : Expected). deciding e.ending job) from.is ∙ stop_decides _ job in
-        with_causes e (ReadsRose (deciding e.ending job) old new) (ReadsRose (trace_of job) old new) (PutsRose (puts_of job) old new) (SinkRose old new) old.text new.text r
+        let decides : deciding e.ending job ≡ reads_of job =
+        ap (λ (e : Expected). deciding e.ending job) from.is ∙ stop_decides _ job in
+        with_causes e (ReadsRose (deciding e.ending job) old new) (ReadsRose (trace_of job) old new)
+        (PutsRose (puts_of job) old new) (SinkRose old new) old.text new.text r
         (λ is. (subst (λ names. ReadsRose names old new) (sym decides) (trace_rose (p.read is)), any_first _ trace [] (p.read is))) p.wrote
-        (subst (λ (e : Expected). EndsBefore e ⊤ ⊤ ⊤ (ending_at r) old.text new.text) (sym from.is) (p.printed from.file from.opening from.behind from.earned from.told from.at))
+        (subst (λ (e : Expected). EndsBefore e ⊤ ⊤ ⊤ (ending_at r) old.text new.text) (sym from.is)
+        (p.printed from.file from.opening from.behind from.earned from.told from.at))
 
     played_said : AreTold old.content (reads_of job) → (e : Expected) × RunSays old.content set trace restore e
     played_said told =
         let file = file_of old.content trace told.1.0 in
         loaded_said old.content set trace restore c progress file.0 p.loaded told file.1
 
-  played_counted : {T : Type 0} (r : Result T TraceFailed) → (IsErrOf r failed.Read → Rose (old.read_faults trace) (new.read_faults trace)) → (IsErrOf r failed.Write → SinkRose old new) → IsCounted job old new (ending_at r)
+  played_counted : {T : Type 0} (r : Result T TraceFailed)
+      → (IsErrOf r failed.Read → Rose (old.read_faults trace) (new.read_faults trace))
+      → (IsErrOf r failed.Write → SinkRose old new) → IsCounted job old new (ending_at r)
   played_counted (Err failed.Read) read wrote = trace_rose (read refl)
   played_counted (Err failed.Write) read wrote = wrote refl
   played_counted _ read wrote = tt
 
   -- a run that was stopped in its trace, or is at its end
-  pub ran_on : {T : Type 0} (c : SetContents) (progress : Option (List ℕ)) (r : Result T TraceFailed) (ending : Ending) → ending ≡ ending_at r → PlayedSet {T = T} c progress r → Ran job old new ending
+  pub ran_on : {T : Type 0} (c : SetContents) (progress : Option (List ℕ))
+      (r : Result T TraceFailed) (ending : Ending) → ending ≡ ending_at r
+      → PlayedSet {T = T} c progress r → Ran job old new ending
   ran_on c progress r ending is p = subst (Ran job old new) (sym is) (record {
     printed = λ e says. played_prints c progress r p e says;
     said = λ is told. played_said c progress r p (subst (AreTold old.content) (all_decide r) told);
@@ -115,12 +132,17 @@ module _ (set trace : List ℕ) (restore save : Option (List ℕ)) (old new : Ou
   })
 
   -- a run at its end, once its progress was put or was not
-  module _ {T : Type 0} (c : SetContents) (progress : Option (List ℕ)) (player : T) (p : PlayedSet {T = T} c progress (Ok player)) where
-    not_put_prints : (e : Expected) (f : PutFailed) → e.puts_first ≡ false → (IsErrOf {T = Unit {0}} (Err f) put.Failed → PutsRose (puts_of job) old new) → PrintsSoFar job old new Done e → PrintsSoFar job old new (ending_of_put f) e
-    not_put_prints e put.Failed after rose end = (rose refl, end.0, end.1 ∙ ap (λ first. grown old.text (concat (if first then [] else e.pieces))) (sym after))
+  module _ {T : Type 0} (c : SetContents) (progress : Option (List ℕ)) (player : T)
+      (p : PlayedSet {T = T} c progress (Ok player)) where
+    not_put_prints : (e : Expected) (f : PutFailed) → e.puts_first ≡ false
+        → (IsErrOf {T = Unit {0}} (Err f) put.Failed → PutsRose (puts_of job) old new)
+        → PrintsSoFar job old new Done e → PrintsSoFar job old new (ending_of_put f) e
+    not_put_prints e put.Failed after rose end =
+        (rose refl, end.0, end.1 ∙ ap (λ first. grown old.text (concat (if first then [] else e.pieces))) (sym after))
     not_put_prints e put.Memory after rose end = part_all old.text new.text (concat e.pieces) end.1
 
-    not_put_counted : (f : PutFailed) → (IsErrOf {T = Unit {0}} (Err f) put.Failed → PutsRose (puts_of job) old new) → IsCounted job old new (ending_of_put f)
+    not_put_counted : (f : PutFailed) → (IsErrOf {T = Unit {0}} (Err f) put.Failed
+        → PutsRose (puts_of job) old new) → IsCounted job old new (ending_of_put f)
     not_put_counted put.Failed rose = rose refl
     not_put_counted put.Memory rose = tt
 
@@ -129,35 +151,52 @@ module _ (set trace : List ℕ) (restore save : Option (List ℕ)) (old new : Ou
     not_put_told put.Memory is = is
 
     -- a run whose file was not put
-    pub ran_not_put : (f : PutFailed) (ending : Ending) → ending ≡ ending_of_put f → (IsErrOf {T = Unit {0}} (Err f) put.Failed → PutsRose (puts_of job) old new) → Ran job old new ending
+    pub ran_not_put : (f : PutFailed) (ending : Ending) → ending ≡ ending_of_put f → (IsErrOf
+        {T = Unit {0}} (Err f) put.Failed → PutsRose (puts_of job) old new) → Ran job old new ending
     ran_not_put f ending is rose = subst (Ran job old new) (sym is) (record {
-      printed = λ e says. not_put_prints e f (ap (λ (e : Expected). e.puts_first) (from_there c progress (Ok player) p e says).is) rose (played_prints c progress (Ok player) p e says);
+      printed = λ e says. not_put_prints e f (ap (λ (e : Expected). e.puts_first) (from_there c
+          progress (Ok player) p e says).is) rose (played_prints c progress (Ok player) p e says);
       said = λ is. absurd (not_put_told f is);
       counted = not_put_counted f rose;
     })
 
     -- the file that is put has the bytes of what is kept
-    pub leaves_put : (bytes : List ℕ) → AllByRecursion (HasBytes bytes old.content new.content) (file_in save) → ((name : List ℕ) → AllByRecursion (λ put. name ≢ put) (file_in save) → new.content name ≡ old.content name)
-        → ((file : List ℕ) (o : Opening) (behind : History) (earned : Earned) → old.content trace ≡ Some file → BeginsAt c progress o behind earned → bytes ≡ (played c o behind earned file).saved) → Leaves job old new Done
+    pub leaves_put : (bytes : List ℕ) → AllByRecursion (HasBytes bytes old.content new.content)
+        (file_in save) → ((name : List ℕ) → AllByRecursion (λ put. name ≢ put) (file_in save)
+        → new.content name ≡ old.content name)
+        → ((file : List ℕ) (o : Opening) (behind : History) (earned : Earned) → old.content trace
+        ≡ Some file → BeginsAt c progress o behind earned → bytes
+        ≡ (played c o behind earned file).saved) → Leaves job old new Done
     leaves_put bytes saved others kept = record {
       others = others;
       only = inl refl;
       saved = λ done e says.
           let from = from_there c progress (Ok player) p e says in
-          let same : bytes ≡ e.saved = kept from.file from.opening from.behind from.earned from.told from.at ∙ ap (λ (e : Expected). e.saved) (sym from.is) in
+          let same : bytes ≡ e.saved = kept from.file from.opening from.behind from.earned from.told
+          from.at ∙ ap (λ (e : Expected). e.saved) (sym from.is) in
           subst (λ (b : List ℕ). AllByRecursion (HasBytes b old.content new.content) (file_in save)) same saved;
     }
 
   -- what a run leaves whose file was not put
-  pub leaves_not_put : (f : PutFailed) (ending : Ending) → ending ≡ ending_of_put f → ((name : List ℕ) → AllByRecursion (λ put. name ≢ put) (file_in save) → new.content name ≡ old.content name)
-      → (IsErrOf {T = Unit {0}} (Err f) put.Failed → PutsRose (puts_of job) old new) → (IsErrOf {T = Unit {0}} (Err f) put.Memory → SameContent old.content new.content) → Leaves job old new ending
-  leaves_not_put put.Failed ending is others rose same = record { others = others; only = inr (inl (rose refl)); saved = λ done. absurd (let bad = sym is ∙ done in cc) }
-  leaves_not_put put.Memory ending is others rose same = record { others = others; only = inr (inr (inl (same refl))); saved = λ done. absurd (let bad = sym is ∙ done in cc) }
+  pub leaves_not_put : (f : PutFailed) (ending : Ending) → ending ≡ ending_of_put f → ((name : List
+      ℕ) → AllByRecursion (λ put. name ≢ put) (file_in save) → new.content name ≡ old.content name)
+      → (IsErrOf {T = Unit {0}} (Err f) put.Failed → PutsRose (puts_of job) old new)
+      → (IsErrOf {T = Unit {0}} (Err f) put.Memory → SameContent old.content new.content)
+      → Leaves job old new ending
+  leaves_not_put put.Failed ending is others rose same =
+      record { others = others; only = inr (inl (rose refl)); saved = λ done. absurd (let bad = sym is ∙ done in cc) }
+  leaves_not_put put.Memory ending is others rose same =
+      record { others = others; only = inr (inr (inl (same refl))); saved = λ done. absurd (let bad = sym is ∙ done in cc) }
 
 -- the contents before a put are those at the call
-pub others_since : (old mid new : List ℕ → Option (List ℕ)) (names : List (List ℕ)) → SameContent old mid → ((name : List ℕ) → AllByRecursion (λ put. name ≢ put) names → new name ≡ mid name) → (name : List ℕ) → AllByRecursion (λ put. name ≢ put) names → new name ≡ old name
+pub others_since : (old mid new : List ℕ → Option (List ℕ)) (names : List (List ℕ))
+    → SameContent old mid → ((name : List ℕ) → AllByRecursion (λ put. name ≢ put) names → new name
+    ≡ mid name) → (name : List ℕ) → AllByRecursion (λ put. name ≢ put) names → new name ≡ old name
 others_since old mid new names same others name other = others name other ∙ same.each name
 
-pub bytes_since : (bytes : List ℕ) (old mid new : List ℕ → Option (List ℕ)) (names : List (List ℕ)) → SameContent old mid → AllByRecursion (HasBytes bytes mid new) names → AllByRecursion (HasBytes bytes old new) names
+pub bytes_since : (bytes : List ℕ) (old mid new : List ℕ → Option (List ℕ)) (names : List (List ℕ))
+    → SameContent old mid → AllByRecursion (HasBytes bytes mid new) names
+    → AllByRecursion (HasBytes bytes old new) names
 bytes_since bytes old mid new [] same has = tt
-bytes_since bytes old mid new (name ∷ names) same has = ((λ told. has.0 (ap is_some (same.each name) ∙ told)), bytes_since bytes old mid new names same has.1)
+bytes_since bytes old mid new (name ∷ names) same has =
+    ((λ told. has.0 (ap is_some (same.each name) ∙ told)), bytes_since bytes old mid new names same has.1)

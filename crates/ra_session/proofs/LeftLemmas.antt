@@ -21,9 +21,11 @@ stopped_as errors.TooLong stop is other = ap ending_of (some_same stop PastLimit
 stopped_as errors.Read stop is other = absurd (other refl)
 
 -- a reader that is stopped is stopped as the trace says, and so ends the run
-pub left_refused : (bytes : List ℕ) (m : Moment) (reader : ReaderSeen) (left : Pieces) (is : IsLeft bytes m reader left) (why : TraceError)
+pub left_refused : (bytes : List ℕ) (m : Moment) (reader : ReaderSeen) (left : Pieces)
+    (is : IsLeft bytes m reader left) (why : TraceError)
     → IsStop why (next_stop trace_limit is.size reader.next bytes) → (why ≡ errors.Read → ⊥)
-    → (left.entries ≡ []) × (ending_of (stop_within (nat_le trace_limit (length bytes)) left.stop) ≡ ending_of_trace (trace_failed why))
+    → (left.entries ≡ []) × (ending_of (stop_within (nat_le trace_limit (length bytes)) left.stop)
+    ≡ ending_of_trace (trace_failed why))
 left_refused bytes m reader left is why stop other =
     let stopped = left_stopped bytes m reader left is why stop other in
     (stopped.0, stopped_as why (stop_of bytes left) stopped.1 other)

@@ -1,5 +1,6 @@
 -- The lines of a workload's set, and the items that they spell.
-use Rattle.std.proofs.Common.{◌≡◌, ℕ, zero, suc, ◌+◌, ◌*◌, ◌%◌, ◌<◌, ◌^◌, List, [], ◌∷◌, ◌++◌, map, Some, refl, sym, subst, arith, lit<, codes, append_assoc, mod-lt, inl, inr}
+use Rattle.std.proofs.Common.{◌≡◌, ℕ, zero, suc, ◌+◌, ◌*◌, ◌%◌, ◌<◌, ◌^◌, List, [], ◌∷◌, ◌++◌, map, Some, refl, sym}
+use Rattle.std.proofs.Common.{subst, arith, lit<, codes, append_assoc, mod-lt, inl, inr}
 use Rattle.std.specs.Fmt.{decimal, digits}
 use Rattle.ra_condition.specs.Canonical.{trigger_text}
 use Rattle.ra_condition.specs.Contents.{TriggerContents}
@@ -17,7 +18,8 @@ use Rattle.ra_text.proofs.Items.{changed, one-byte}
 use Rattle.ra_trace.specs.Workload.{drawn, given, drawn_times, hex4, achievement_line, drawn_line, achievement_lines}
 use Rattle.ra_session.proofs.MadeItems.{made_trigger, made_board, made_trigger_text, is_made_trigger, is_made_board}
 
-unlocks_spelled : (id : ℕ) (t : TriggerContents) → id < 2 ^ 32 → IsTrigger t → line (head_text 65 id ++ trigger_text t) (Some (Unlocks id t))
+unlocks_spelled : (id : ℕ) (t : TriggerContents) → id < 2 ^ 32 → IsTrigger t
+    → line (head_text 65 id ++ trigger_text t) (Some (Unlocks id t))
 unlocks_spelled id t small is = inr (inl (record {
   front = head_text 65 id;
   behind = trigger_text t;
@@ -29,11 +31,13 @@ unlocks_spelled id t small is = inr (inl (record {
 
 -- the item of an achievement from the next four draws
 abbrev pub drawn_item : ℕ → ℕ → ItemContents
-drawn_item id x = Unlocks id (made_trigger (given (drawn x)) (given (drawn_times 2 x)) (given (drawn_times 3 x)) (1 + given (drawn_times 4 x) % 8))
+drawn_item id x = Unlocks id (made_trigger (given (drawn x)) (given (drawn_times 2 x))
+    (given (drawn_times 3 x)) (1 + given (drawn_times 4 x) % 8))
 
 given_small : (x : ℕ) → given (drawn x) < 65536
 unfolding drawn
-given_small x = let low : (x * 1664525 + 1013904223) % 2 ^ 32 < 2 ^ 32 = mod-lt (x * 1664525 + 1013904223) (lit< tt) in omega (arith, low)
+given_small x = let low : (x * 1664525 + 1013904223) % 2 ^ 32 < 2 ^ 32 =
+    mod-lt (x * 1664525 + 1013904223) (lit< tt) in omega (arith, low)
 
 line_text : (id a b c target : ℕ) → a < 65536 → b < 65536 → c < 65536 → 0 < target
     → achievement_line id a b c target ≡ (head_text 65 id ++ trigger_text (made_trigger a b c target)) ++ codes "\n"
@@ -46,10 +50,14 @@ line_text id a b c target small_a small_b small_c some =
 pub drawn_line_spelled : (id x : ℕ) → 0 < id → id < 2 ^ 32 → ended_line (drawn_line id x) (Some (drawn_item id x))
 unfolding drawn_line
 drawn_line_spelled id x some small =
-    let a = given (drawn x) in let b = given (drawn_times 2 x) in let c = given (drawn_times 3 x) in let target = 1 + given (drawn_times 4 x) % 8 in
-    subst (λ t. ended_line t (Some (drawn_item id x))) (sym (line_text id a b c target (given_small x) (given_small (drawn x)) (given_small (drawn_times 2 x)) (omega arith)))
+    let a = given (drawn x) in let b = given (drawn_times 2 x) in let c = given (drawn_times 3 x) in
+    let target = 1 + given (drawn_times 4 x) % 8 in
+    subst (λ t. ended_line t (Some (drawn_item id x))) (sym (line_text id a b c target
+    (given_small x) (given_small (drawn x)) (given_small (drawn_times 2 x)) (omega arith)))
     (with-end (head_text 65 id ++ trigger_text (made_trigger a b c target)) (Some (drawn_item id x))
-    (unlocks_spelled id (made_trigger a b c target) small (is_made_trigger a b c target (given_small x) (given_small (drawn x)) (given_small (drawn_times 2 x)) (let low : given (drawn_times 4 x) % 8 < 8 = mod-lt (given (drawn_times 4 x)) (lit< tt) in omega (arith, low)))))
+    (unlocks_spelled id (made_trigger a b c target) small (is_made_trigger a b c target
+    (given_small x) (given_small (drawn x)) (given_small (drawn_times 2 x)) (let low : given
+    (drawn_times 4 x) % 8 < 8 = mod-lt (given (drawn_times 4 x)) (lit< tt) in omega (arith, low)))))
 
 -- the items of so many achievements, from an id on
 abbrev pub drawn_items : ℕ → ℕ → ℕ → List ItemContents
@@ -75,7 +83,8 @@ value_named = record {
   v = 86;
   parts = refl;
   of_first = record { symbol = 86; alone = refl; listed = refl };
-  of_next = record { front = codes "ALUE"; behind = []; v = codes "ALUE"; parts = refl; of_first = run-spelled (codes "ALUE") refl; of_next = record { empty = refl; is = refl } };
+  of_next =
+      record { front = codes "ALUE"; behind = []; v = codes "ALUE"; parts = refl; of_first = run-spelled (codes "ALUE") refl; of_next = record { empty = refl; is = refl } };
 }
 
 ranks_spelled : line (head_text 76 1 ++ (codes "VALUE " ++ board_text made_board)) (Some board_item)
@@ -91,7 +100,8 @@ ranks_spelled = inr (inr (inl (record {
     v = Value;
     parts = refl;
     of_first = value_named;
-    of_next = record { front = codes " "; behind = board_text made_board; v = tt; parts = refl; of_first = one-byte 32 refl; of_next = changed board (λ b. Some (Ranks 1 Value b)) (board_text made_board) made_board (board-spelled made_board is_made_board) };
+    of_next =
+        record { front = codes " "; behind = board_text made_board; v = tt; parts = refl; of_first = one-byte 32 refl; of_next = changed board (λ b. Some (Ranks 1 Value b)) (board_text made_board) made_board (board-spelled made_board is_made_board) };
   };
 })))
 
@@ -101,10 +111,12 @@ board_line_text = refl
 
 -- the line of the board spells its item
 pub board_line_spelled : ended_line board_line (Some board_item)
-board_line_spelled = subst (λ t. ended_line t (Some board_item)) board_line_text (with-end (head_text 76 1 ++ (codes "VALUE " ++ board_text made_board)) (Some board_item) ranks_spelled)
+board_line_spelled = subst (λ t. ended_line t (Some board_item)) board_line_text (with-end
+    (head_text 76 1 ++ (codes "VALUE " ++ board_text made_board)) (Some board_item) ranks_spelled)
 
 -- the lines spell the items, and behind them what spells others
-lines_spelled : (count id x : ℕ) → 0 < id → id + count < 2 ^ 32 → (behind : List ℕ) (others : List Line) → many ended_line behind others
+lines_spelled : (count id x : ℕ) → 0 < id → id + count < 2 ^ 32
+    → (behind : List ℕ) (others : List Line) → many ended_line behind others
     → many ended_line (achievement_lines count id x ++ behind) (map Some (drawn_items count id x) ++ others)
 unfolding achievement_lines
 lines_spelled zero id x some small behind others h = h
@@ -117,5 +129,8 @@ lines_spelled (suc more) id x some small behind others h = record {
 }
 
 -- the lines of a set, up to the board's
-pub made_lines_spelled : (number : ℕ) → many ended_line (achievement_lines 256 1 number ++ board_line) (map Some (drawn_items 256 1 number) ++ Some board_item ∷ [])
-made_lines_spelled number = lines_spelled 256 1 number (lit< tt) (lit< tt) board_line (Some board_item ∷ []) (record { front = board_line; behind = []; parts = refl; of_first = board_line_spelled; of_next = refl })
+pub made_lines_spelled : (number : ℕ) → many ended_line (achievement_lines 256 1 number
+    ++ board_line) (map Some (drawn_items 256 1 number) ++ Some board_item ∷ [])
+made_lines_spelled number = lines_spelled 256 1 number (lit< tt) (lit< tt) board_line
+    (Some board_item ∷ [])
+    (record { front = board_line; behind = []; parts = refl; of_first = board_line_spelled; of_next = refl })

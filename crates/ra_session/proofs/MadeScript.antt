@@ -37,15 +37,19 @@ value_written = refl
 is_value : IsValue front_number
 is_value = record {
   some = lit< tt;
-  each = All-from_recursion IsPart front_number ((lit< tt, All-from_recursion IsTerm (record { operand = Cell Mem Four 0; factor = None } ∷ []) (record { operand = lit< tt; factor = tt }, tt)), tt);
+  each = All-from_recursion IsPart front_number
+      ((lit< tt, All-from_recursion IsTerm (record { operand = Cell Mem Four 0; factor = None } ∷ []) (record { operand = lit< tt; factor = tt }, tt)), tt);
 }
 
 number_spelled : value (codes "0xX0000") front_number
 number_spelled = subst (λ t. value t front_number) value_written (value-spelled front_number is_value)
 
 -- one more byte of a name
-named_more : (byte : ℕ) (behind others : List ℕ) → One (other_than (codes "()@\\")) (byte ∷ []) byte → many (One (other_than (codes "()@\\"))) behind others → many (One (other_than (codes "()@\\"))) (byte ∷ behind) (byte ∷ others)
-named_more byte behind others is h = record { front = byte ∷ []; behind = behind; parts = refl; of_item = is; of_others = h }
+named_more : (byte : ℕ) (behind others : List ℕ) → One (other_than (codes "()@\\")) (byte ∷ []) byte
+    → many (One (other_than (codes "()@\\"))) behind others
+    → many (One (other_than (codes "()@\\"))) (byte ∷ behind) (byte ∷ others)
+named_more byte behind others is h =
+    record { front = byte ∷ []; behind = behind; parts = refl; of_item = is; of_others = h }
 
 in_name : (byte : ℕ) → other_than (codes "()@\\") byte ≡ Some byte → One (other_than (codes "()@\\")) (byte ∷ []) byte
 in_name byte is = record { symbol = byte; alone = refl; listed = is }
@@ -62,8 +66,10 @@ name_spelled = record {
     behind = [];
     v = codes "umber";
     parts = refl;
-    of_first = named_more 117 (codes "mber") (codes "mber") (in_name 117 refl) (named_more 109 (codes "ber") (codes "ber") (in_name 109 refl)
-        (named_more 98 (codes "er") (codes "er") (in_name 98 refl) (named_more 101 (codes "r") (codes "r") (in_name 101 refl) (named_more 114 [] [] (in_name 114 refl) refl))));
+    of_first = named_more 117 (codes "mber") (codes "mber") (in_name 117 refl)
+        (named_more 109 (codes "ber") (codes "ber") (in_name 109 refl)
+        (named_more 98 (codes "er") (codes "er") (in_name 98 refl) (named_more 101 (codes "r")
+        (codes "r") (in_name 101 refl) (named_more 114 [] [] (in_name 114 refl) refl))));
     of_next = record { empty = refl; is = refl };
   };
 }
@@ -93,7 +99,8 @@ macro_spelled = record {
         v = front_number;
         parts = refl;
         of_first = number_spelled;
-        of_next = record { front = codes ")"; behind = []; v = tt; parts = refl; of_first = record { symbol = 41; alone = refl; listed = refl }; of_next = record { empty = refl; is = refl } };
+        of_next =
+            record { front = codes ")"; behind = []; v = tt; parts = refl; of_first = record { symbol = 41; alone = refl; listed = refl }; of_next = record { empty = refl; is = refl } };
       };
     };
   };
@@ -110,8 +117,10 @@ pieces_spelled = record {
     behind = [];
     v = Shows (codes "Number") front_number ∷ [];
     parts = refl;
-    of_first = record { front = codes "@Number(0xX0000)"; behind = []; parts = refl; of_item = inr macro_spelled; of_others = refl };
-    of_next = record { front = []; behind = []; v = []; parts = refl; of_first = inr (record { empty = refl; is = refl }); of_next = record { empty = refl; is = refl } };
+    of_first =
+        record { front = codes "@Number(0xX0000)"; behind = []; parts = refl; of_item = inr macro_spelled; of_others = refl };
+    of_next =
+        record { front = []; behind = []; v = []; parts = refl; of_first = inr (record { empty = refl; is = refl }); of_next = record { empty = refl; is = refl } };
   };
   of_next = record { empty = refl; is = refl };
 }
@@ -139,7 +148,8 @@ display_spelled = record {
         line = codes "@Number(0xX0000)";
         alone = refl;
         left = refl;
-        of_form = (refl, record { front = codes "@Number(0xX0000)"; behind = []; v = Shows (codes "Number") front_number ∷ []; parts = refl; of_first = pieces_spelled; of_next = record { empty = refl; is = refl } });
+        of_form =
+            (refl, record { front = codes "@Number(0xX0000)"; behind = []; v = Shows (codes "Number") front_number ∷ []; parts = refl; of_first = pieces_spelled; of_next = record { empty = refl; is = refl } });
       };
       of_next = record { empty = refl; is = refl };
     };

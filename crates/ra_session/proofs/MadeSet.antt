@@ -31,12 +31,14 @@ parts_spelled = record {
     v = number_line ∷ [];
     parts = refl;
     of_first = display_spelled;
-    of_next = record { front = []; behind = []; v = []; parts = refl; of_first = refl; of_next = record { empty = refl; is = refl } };
+    of_next =
+        record { front = []; behind = []; v = []; parts = refl; of_first = refl; of_next = record { empty = refl; is = refl } };
   };
 }
 
 -- lines with their ends, and behind them the line P
-head_spelled : (front : List ℕ) (lines : List Line) → many ended_line front lines → script_head (front ++ codes "P\n") lines
+head_spelled : (front : List ℕ) (lines : List Line) → many ended_line front lines
+    → script_head (front ++ codes "P\n") lines
 head_spelled front lines h = record {
   front = front ++ codes "P";
   behind = codes "\n";
@@ -48,14 +50,16 @@ head_spelled front lines h = record {
     v = lines;
     parts = refl;
     of_first = h;
-    of_next = record { front = codes "P"; behind = []; v = tt; parts = refl; of_first = record { symbol = 80; alone = refl; listed = refl }; of_next = record { empty = refl; is = refl } };
+    of_next =
+        record { front = codes "P"; behind = []; v = tt; parts = refl; of_first = record { symbol = 80; alone = refl; listed = refl }; of_next = record { empty = refl; is = refl } };
   };
   of_next = record {
     front = codes "\n";
     behind = [];
     v = tt;
     parts = refl;
-    of_first = record { front = []; behind = codes "\n"; v = tt; parts = refl; of_first = inr (record { empty = refl; is = refl }); of_next = record { symbol = 10; alone = refl; listed = refl } };
+    of_first =
+        record { front = []; behind = codes "\n"; v = tt; parts = refl; of_first = inr (record { empty = refl; is = refl }); of_next = record { symbol = 10; alone = refl; listed = refl } };
     of_next = record { empty = refl; is = refl };
   };
 }
@@ -65,9 +69,12 @@ all_items [] = refl
 all_items (item ∷ items) = ap (λ xs. item ∷ xs) (all_items items)
 
 -- the front of the set, up to the line P, and its script
-set_parts : (number : ℕ) → made_set number ≡ ((achievement_lines 256 1 number ++ board_line) ++ codes "P\n") ++ script_text
+set_parts : (number : ℕ) → made_set number
+    ≡ ((achievement_lines 256 1 number ++ board_line) ++ codes "P\n") ++ script_text
 unfolding made_set
-set_parts number = sym (append_assoc (achievement_lines 256 1 number ++ board_line) (codes "P\n") script_text ∙ append_assoc (achievement_lines 256 1 number) board_line (codes "P\n" ++ script_text))
+set_parts number = sym (append_assoc (achievement_lines 256 1 number ++ board_line)
+    (codes "P\n") script_text
+    ∙ append_assoc (achievement_lines 256 1 number) board_line (codes "P\n" ++ script_text))
 
 file_spelled : (number : ℕ) → SetFile (made_set number) (made_contents number)
 file_spelled number = record {
@@ -77,8 +84,10 @@ file_spelled number = record {
     behind = script_text;
     v = item_lines number;
     parts = set_parts number;
-    of_first = head_spelled (achievement_lines 256 1 number ++ board_line) (item_lines number) (made_lines_spelled number);
-    of_next = record { front = script_text; behind = []; v = parts; parts = refl; of_first = parts_spelled; of_next = record { empty = refl; is = refl } };
+    of_first = head_spelled (achievement_lines 256 1 number ++ board_line) (item_lines number)
+        (made_lines_spelled number);
+    of_next =
+        record { front = script_text; behind = []; v = parts; parts = refl; of_first = parts_spelled; of_next = record { empty = refl; is = refl } };
   });
   items = sym (all_items (drawn_items 256 1 number));
   script = refl;

@@ -1,5 +1,6 @@
 -- What reading and playing the next record does.
-use Rattle.std.proofs.Common.{◌≡◌, ap, sym, subst, refl, ◌∙◌, ℕ, length, nat_le, List, [], ◌++◌, Bool, true, false, Option, Some, IfSome, Result, Ok, Err, IfOk}
+use Rattle.std.proofs.Common.{◌≡◌, ap, sym, subst, refl, ◌∙◌, ℕ, length, nat_le, List, [], ◌++◌, Bool, true, false}
+use Rattle.std.proofs.Common.{Option, Some, IfSome, Result, Ok, Err, IfOk}
 use Rattle.std.specs.Bool.{⊤}
 use Rattle.std.specs.List.{concat}
 use Rattle.std.specs.Result.{IsErrAnd}
@@ -55,11 +56,14 @@ not_end : (entry : Entry) → is_end entry ≡ false → entry ≡ Ended → ⊥
 unfolding is_end
 not_end entry is end = let bad : true ≡ false = sym (ap is_end end) ∙ is in absurd (cc)
 
-module _ (bytes : List ℕ) (set : SetContents) (o : Opening) (m : Moment) (earned : Earned) (left : Pieces) (reader : ReaderSeen) (is : IsLeft bytes m reader left) where
+module _ (bytes : List ℕ) (set : SetContents) (o : Opening) (m : Moment) (earned : Earned)
+    (left : Pieces) (reader : ReaderSeen) (is : IsLeft bytes m reader left) where
   abbrev full : Bool
   full = nat_le trace_limit (length bytes)
 
-  stopped : (why : TraceError) (old : Option (List ℕ)) → IsStop why (next_stop trace_limit is.size reader.next bytes) → EndsBefore (says_from bytes set o m earned left) ⊤ ⊤ ⊤ (ending_of_trace (trace_failed why)) old old
+  stopped : (why : TraceError) (old : Option (List ℕ))
+      → IsStop why (next_stop trace_limit is.size reader.next bytes) → EndsBefore
+      (says_from bytes set o m earned left) ⊤ ⊤ ⊤ (ending_of_trace (trace_failed why)) old old
   stopped errors.Read old stop = (tt, (0, left_read bytes set o m earned left reader is, sym (grown-nil old)))
   stopped (errors.Refused at why) old stop =
       let refused = left_refused bytes m reader left is (errors.Refused at why) stop (λ read. absurd (cc)) in
@@ -69,77 +73,120 @@ module _ (bytes : List ℕ) (set : SetContents) (o : Opening) (m : Moment) (earn
       (refused.1, sym (grown-nil old) ∙ ap (λ es. grown old (concat (pieces_from set o m earned es))) (sym refused.0))
 
   -- no record was read
-  pub next_refused : (content : Option (List ℕ)) (new : ReaderSeen) (runtime : RuntimeSeen) (slots : List (Option KeptSeen)) (old : Option (List ℕ)) (why : TraceError) (r : Result Bool TraceFailed) → content ≡ Some bytes
-      → IfSome content (λ bytes. Holds reader bytes → IfSome reader.size (λ size. IsStop why (next_stop reader.limit size reader.next bytes))) → IsErrAnd r (λ e. e ≡ trace_failed why) → TakesNext bytes set o m earned left new runtime slots old old r
+  pub next_refused : (content : Option (List ℕ)) (new : ReaderSeen) (runtime : RuntimeSeen)
+      (slots : List (Option KeptSeen)) (old : Option (List ℕ)) (why : TraceError)
+      (r : Result Bool TraceFailed) → content ≡ Some bytes
+      → IfSome content (λ bytes. Holds reader bytes → IfSome reader.size (λ size. IsStop why
+      (next_stop reader.limit size reader.next bytes))) → IsErrAnd r (λ e. e ≡ trace_failed why)
+      → TakesNext bytes set o m earned left new runtime slots old old r
   next_refused content new runtime slots old why (Ok end) is_told err res = absurd res
   next_refused content new runtime slots old why (Err e) is_told err res =
-      let at = told reader.size (λ size. IsStop why (next_stop reader.limit size reader.next bytes)) is.size is.sized (told content _ bytes is_told err is.holds) in
+      let at = told reader.size (λ size. IsStop why (next_stop reader.limit size reader.next bytes))
+      is.size is.sized (told content _ bytes is_told err is.holds) in
       let stop = subst (λ limit. IsStop why (next_stop limit is.size reader.next bytes)) is.limit at in
-      subst (λ (s : TraceFailed). EndsBefore (says_from bytes set o m earned left) ⊤ ⊤ ⊤ (ending_of_trace s) old old) (sym res) (stopped why old stop)
+      subst (λ (s : TraceFailed). EndsBefore (says_from bytes set o m earned left) ⊤ ⊤ ⊤
+      (ending_of_trace s) old old) (sym res) (stopped why old stop)
 
-  module _ (entry : Entry) (content : Option (List ℕ)) (is_told : content ≡ Some bytes) (ok : IfSome content (λ bytes. Holds reader bytes → IfSome reader.size (λ size. Stands reader.limit size reader.next entry bytes))) where
+  module _ (entry : Entry) (content : Option (List ℕ)) (is_told : content ≡ Some bytes)
+      (ok : IfSome content (λ bytes. Holds reader bytes
+      → IfSome reader.size (λ size. Stands reader.limit size reader.next entry bytes))) where
     stands_there : Stands trace_limit is.size reader.next entry bytes
-    stands_there = subst (λ limit. Stands limit is.size reader.next entry bytes) is.limit (told reader.size (λ size. Stands reader.limit size reader.next entry bytes) is.size is.sized (told content _ bytes is_told ok is.holds))
+    stands_there = subst (λ limit. Stands limit is.size reader.next entry bytes) is.limit
+        (told reader.size (λ size. Stands reader.limit size reader.next entry bytes) is.size
+        is.sized (told content _ bytes is_told ok is.holds))
 
     -- the record restores an empty slot
     pub next_empty : (old : Option (List ℕ)) (at : ℕ) → at ≡ reader.next → IsEmptySlot entry m
-        → (ending_of (stop_within full left.stop) ≡ BadTrace at EmptySlot) × (old ≡ grown old (concat (pieces_from set o m earned left.entries)))
+        → (ending_of (stop_within full left.stop) ≡ BadTrace at EmptySlot)
+        × (old ≡ grown old (concat (pieces_from set o m earned left.entries)))
     next_empty old at place empty =
         let end = left_empty bytes m reader left is entry stands_there empty in (
-          ap (λ (p : Pieces). ending_of (stop_within full p.stop)) end ∙ ap (λ n. ending_of (stop_within full (RefusedAt n EmptySlot))) (sym place),
-          sym (grown-nil old) ∙ ap (λ (p : Pieces). grown old (concat (pieces_from set o m earned p.entries))) (sym end),
+          ap (λ (p : Pieces). ending_of (stop_within full p.stop)) end
+              ∙ ap (λ n. ending_of (stop_within full (RefusedAt n EmptySlot))) (sym place),
+          sym (grown-nil old) ∙ ap
+              (λ (p : Pieces). grown old (concat (pieces_from set o m earned p.entries))) (sym end),
         )
 
-    module _ (runtime : RuntimeSeen) (slots : List (Option KeptSeen)) (text : List ℕ) (plays : Plays set o entry m earned runtime slots text) where
+    module _ (runtime : RuntimeSeen) (slots : List (Option KeptSeen)) (text : List ℕ)
+        (plays : Plays set o entry m earned runtime slots text) where
       -- the record was the end
-      pub next_ends : (old now : Option (List ℕ)) → entry ≡ Ended → now ≡ grown old text → IsAtEnd set o m earned left runtime slots old now
+      pub next_ends : (old now : Option (List ℕ)) → entry ≡ Ended → now ≡ grown old text
+          → IsAtEnd set o m earned left runtime slots old now
       next_ends old now end grew =
           let nothing : text ≡ [] = plays.prints ∙ ap (λ e. printed set o e (moved e m) earned) end in
           record {
             at = reader.next;
             last = left_ends bytes m reader left is entry stands_there plays.filled end;
-            stands = subst (λ (e : Entry). StandsAt set o (moved e m) (earned_next set o e (moved e m) earned) runtime slots) end plays.stands;
+            stands = subst (λ (e : Entry). StandsAt set o (moved e m)
+                (earned_next set o e (moved e m) earned) runtime slots) end plays.stands;
             text = grew ∙ ap (grown old) nothing ∙ grown-nil old;
           }
 
       -- the record was another one
-      pub next_goes_on : (new : ReaderSeen) (old now : Option (List ℕ)) → (entry ≡ Ended → ⊥) → IsBehindRecord entry reader new → Holds new bytes → now ≡ grown old text → GoesOn bytes set o m earned left new runtime slots old now
+      pub next_goes_on : (new : ReaderSeen) (old now : Option (List ℕ)) → (entry ≡ Ended → ⊥)
+          → IsBehindRecord entry reader new → Holds new bytes → now ≡ grown old text
+          → GoesOn bytes set o m earned left new runtime slots old now
       next_goes_on new old now other behind holds grew =
-          let (rest, first, is_rest) = left_behind bytes m reader left is entry stands_there plays.filled new other behind holds in
+          let (rest, first, is_rest) = left_behind bytes m reader left is entry stands_there
+          plays.filled new other behind holds in
           record { entry = entry; rest = rest; first = first; behind = is_rest; stands = plays.stands; text = grew ∙ ap (grown old) plays.prints }
 
       -- what it prints is a front of what is left
-      pub next_part : (new : ReaderSeen) (old now : Option (List ℕ)) → (entry ≡ Ended → ⊥) → IsBehindRecord entry reader new → Holds new bytes → GrewByPart old now text → GrewByPart old now (concat (pieces_from set o m earned left.entries))
+      pub next_part : (new : ReaderSeen) (old now : Option (List ℕ)) → (entry ≡ Ended → ⊥)
+          → IsBehindRecord entry reader new → Holds new bytes → GrewByPart old now text
+          → GrewByPart old now (concat (pieces_from set o m earned left.entries))
       next_part new old now other behind holds part =
-          let (rest, first, is_rest) = left_behind bytes m reader left is entry stands_there plays.filled new other behind holds in
-          let whole : text ++ concat (pieces_from set o (moved entry m) (earned_next set o entry (moved entry m) earned) rest.entries) ≡ concat (pieces_from set o m earned left.entries) =
-          ap (λ t. t ++ concat (pieces_from set o (moved entry m) (earned_next set o entry (moved entry m) earned) rest.entries)) plays.prints ∙ ap (λ (p : Pieces). concat (pieces_from set o m earned p.entries)) (sym first) in
-          part_after old old now [] text (concat (pieces_from set o (moved entry m) (earned_next set o entry (moved entry m) earned) rest.entries)) (concat (pieces_from set o m earned left.entries)) (sym (grown-nil old)) part whole
+          let (rest, first, is_rest) = left_behind bytes m reader left is entry stands_there
+          plays.filled new other behind holds in
+          let whole : text ++ concat (pieces_from set o (moved entry m) (earned_next set o entry
+          (moved entry m) earned) rest.entries) ≡ concat (pieces_from set o m earned left.entries) =
+          ap (λ t. t ++ concat (pieces_from set o (moved entry m)
+          (earned_next set o entry (moved entry m) earned) rest.entries)) plays.prints
+          ∙ ap (λ (p : Pieces). concat (pieces_from set o m earned p.entries)) (sym first) in
+          part_after old old now [] text (concat (pieces_from set o (moved entry m)
+          (earned_next set o entry (moved entry m) earned) rest.entries))
+          (concat (pieces_from set o m earned left.entries)) (sym (grown-nil old)) part whole
 
-      pub next_part_at_end : (old now : Option (List ℕ)) → entry ≡ Ended → GrewByPart old now text → GrewByPart old now (concat (pieces_from set o m earned left.entries))
+      pub next_part_at_end : (old now : Option (List ℕ)) → entry ≡ Ended → GrewByPart old now text
+          → GrewByPart old now (concat (pieces_from set o m earned left.entries))
       next_part_at_end old now end part =
           let last = left_ends bytes m reader left is entry stands_there plays.filled end in
           let nothing : text ≡ [] = plays.prints ∙ ap (λ e. printed set o e (moved e m) earned) end in
-          let whole : text ++ [] ≡ concat (pieces_from set o m earned left.entries) = ap (λ t. t ++ []) nothing ∙ ap (λ (p : Pieces). concat (pieces_from set o m earned p.entries)) (sym last) in
-          part_after old old now [] text [] (concat (pieces_from set o m earned left.entries)) (sym (grown-nil old)) part whole
+          let whole : text ++ [] ≡ concat (pieces_from set o m earned left.entries) =
+          ap (λ t. t ++ []) nothing
+          ∙ ap (λ (p : Pieces). concat (pieces_from set o m earned p.entries)) (sym last) in
+          part_after old old now [] text [] (concat (pieces_from set o m earned left.entries))
+          (sym (grown-nil old)) part whole
 
       -- how the next record ended, once its text was written
-      pub next_played : (new : ReaderSeen) (old now : Option (List ℕ)) → IsBehindRecord entry reader new → Holds new bytes → now ≡ grown old text → (end : Bool) → end ≡ is_end entry → TakesNext bytes set o m earned left new runtime slots old now (Ok end)
+      pub next_played : (new : ReaderSeen) (old now : Option (List ℕ)) → IsBehindRecord entry reader
+          new → Holds new bytes → now ≡ grown old text → (end : Bool) → end ≡ is_end entry
+          → TakesNext bytes set o m earned left new runtime slots old now (Ok end)
       next_played new old now behind holds grew true is = next_ends old now (was_end entry (sym is)) grew
-      next_played new old now behind holds grew false is = next_goes_on new old now (not_end entry (sym is)) behind holds grew
+      next_played new old now behind holds grew false is =
+          next_goes_on new old now (not_end entry (sym is)) behind holds grew
 
-      cut_by : (new : ReaderSeen) (old now : Option (List ℕ)) → IsBehindRecord entry reader new → Holds new bytes → GrewByPart old now text → (end : Bool) → end ≡ is_end entry → GrewByPart old now (concat (pieces_from set o m earned left.entries))
+      cut_by : (new : ReaderSeen) (old now : Option (List ℕ)) → IsBehindRecord entry reader new
+          → Holds new bytes → GrewByPart old now text → (end : Bool) → end ≡ is_end entry
+          → GrewByPart old now (concat (pieces_from set o m earned left.entries))
       cut_by new old now behind holds part true is = next_part_at_end old now (was_end entry (sym is)) part
       cut_by new old now behind holds part false is = next_part new old now (not_end entry (sym is)) behind holds part
 
       -- its text was cut short
-      cut_so : (new : ReaderSeen) (old now : Option (List ℕ)) → IsBehindRecord entry reader new → Holds new bytes → GrewByPart old now text → (s : SinkFailed) → EndsBefore (says_from bytes set o m earned left) ⊤ ⊤ ⊤ (ending_of_trace (trace_unwritten s)) old now
+      cut_so : (new : ReaderSeen) (old now : Option (List ℕ)) → IsBehindRecord entry reader new
+          → Holds new bytes → GrewByPart old now text → (s : SinkFailed) → EndsBefore
+          (says_from bytes set o m earned left) ⊤ ⊤ ⊤ (ending_of_trace (trace_unwritten s)) old now
       cut_so new old now behind holds part write.Memory = cut_by new old now behind holds part _ refl
       cut_so new old now behind holds part write.Failed = (tt, cut_by new old now behind holds part _ refl)
 
-      pub next_cut : (new : ReaderSeen) (old now : Option (List ℕ)) → IsBehindRecord entry reader new → Holds new bytes → GrewByPart old now text → (s : SinkFailed) (r : Result Bool TraceFailed) → IsErrAnd r (λ e. e ≡ trace_unwritten s) → TakesNext bytes set o m earned left new runtime slots old now r
+      pub next_cut : (new : ReaderSeen) (old now : Option (List ℕ))
+          → IsBehindRecord entry reader new → Holds new bytes → GrewByPart old now text
+          → (s : SinkFailed) (r : Result Bool TraceFailed) → IsErrAnd r (λ e. e ≡ trace_unwritten s)
+          → TakesNext bytes set o m earned left new runtime slots old now r
       next_cut new old now behind holds part s (Ok end) is = absurd is
-      next_cut new old now behind holds part s (Err e) is = subst (λ (k : TraceFailed). EndsBefore (says_from bytes set o m earned left) ⊤ ⊤ ⊤ (ending_of_trace k) old now) (sym is) (cut_so new old now behind holds part s)
+      next_cut new old now behind holds part s (Err e) is =
+          subst (λ (k : TraceFailed). EndsBefore (says_from bytes set o m earned left) ⊤ ⊤ ⊤
+          (ending_of_trace k) old now) (sym is) (cut_so new old now behind holds part s)
 
 pub ok_at : {T E : Type 0} (r : Result T E) (P : T → Type 0) (x : T) → r ≡ Ok x → IfOk r P → P x
 ok_at {T} {E} r P x is h = subst (λ (r : Result T E). IfOk r P) is h
