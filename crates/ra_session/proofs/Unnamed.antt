@@ -1,5 +1,6 @@
 -- What a set says of a trace needs no name, and a set without names may be played.
-use Rattle.std.proofs.Common.{◌≡◌, ◌∙◌, ◌<◌, ℕ, ◌+◌, List, [], ◌∷◌, map, replicate, take, Option, None, Some, option_map, Result, ap, ap₂, refl, subst, sym, arith}
+use Rattle.std.proofs.Common.{◌≡◌, ◌∙◌, ◌<◌, ℕ, ◌+◌, List, [], ◌∷◌, map, replicate, take, Option, None, Some}
+use Rattle.std.proofs.Common.{option_map, Result, ap, ap₂, refl, subst, sym, arith}
 use Rattle.std.specs.Prelude.{IfSome}
 use Rattle.std.specs.Bool.{⊤}
 use Rattle.std.specs.List.{AllByRecursion}
@@ -32,7 +33,8 @@ use Rattle.ra_session.proofs.JobLemmas.{PlayedSet}
 use Rattle.ra_session.proofs.RunLemmas.{digests_of, ends_same, set_read}
 
 module _ (text : List ℕ) (c : SetContents) (o : Opening) where
-  same_lines : (history : History) (earned : Earned) → lines c o history earned ≡ lines (named_by text c) o history earned
+  same_lines : (history : History) (earned : Earned) → lines c o history earned
+      ≡ lines (named_by text c) o history earned
   same_lines [] earned = refl
   same_lines (image ∷ earlier) earned = refl
 
@@ -42,7 +44,8 @@ module _ (text : List ℕ) (c : SetContents) (o : Opening) where
   same_prints Shown m earned = refl
   same_prints _ m earned = refl
 
-  same_earns : (history : History) (earned : Earned) → earns c o history earned ≡ earns (named_by text c) o history earned
+  same_earns : (history : History) (earned : Earned) → earns c o history earned
+      ≡ earns (named_by text c) o history earned
   same_earns [] earned = refl
   same_earns (image ∷ earlier) earned = refl
 
@@ -57,7 +60,8 @@ module _ (text : List ℕ) (c : SetContents) (o : Opening) where
   same_pieces m earned (entry ∷ entries) =
       ap₂ (λ x xs. x ∷ xs) (same_prints entry (moved entry m) earned)
       (same_pieces (moved entry m) (earned_next c o entry (moved entry m) earned) entries
-      ∙ ap (λ next. pieces_from (named_by text c) o (moved entry m) next entries) (same_next entry (moved entry m) earned))
+      ∙ ap (λ next. pieces_from (named_by text c) o (moved entry m) next entries)
+      (same_next entry (moved entry m) earned))
 
   -- what is played of a set without names is what is played of it with those of a text
   pub same_ends : (behind : History) (earned : Earned) (bytes : List ℕ) (reads puts sink : Type 0) (ending : Ending)
@@ -124,7 +128,8 @@ unnamed_taken text file c read is spelled zeros = record {
 pub plays_unnamed : {T : Type 0} (set trace : List ℕ) (old new : Outside) (c : SetContents) (r : Result T TraceFailed)
     → (un : IsTakenUnnamed (old.content set) c)
     → ((bytes : List ℕ) (o : Opening) (behind : History) (earned : Earned) → old.content trace ≡ Some bytes
-    → BeginsAt c None o behind earned → EndsBefore (played c o behind earned bytes) ⊤ ⊤ ⊤ (ending_at r) old.text new.text)
+    → BeginsAt c None o behind earned
+    → EndsBefore (played c o behind earned bytes) ⊤ ⊤ ⊤ (ending_at r) old.text new.text)
     → (IsErrOf r failed.Read → Rose (old.read_faults trace) (new.read_faults trace))
     → (IsErrOf r failed.Write → SinkRose old new)
     → PlayedSet set trace None None old new {T = T} (named_by un.text c) None r

@@ -12,6 +12,8 @@ returns c =
     let source = c.filter.ensures.source in
     count_from_yields_List c.filter.result c.count.result c.count.ensures.ran
     (YieldsList-from_filter _ is_unlock
-    (YieldsList-from_slice_split _ (λ byte. byte == 10) c.args.text.now (ap split_rest source ∙ c.split.ensures.rest) (ap split_done source ∙ c.split.ensures.done) (ap split_callee source ∙ c.split.ensures.closure) (λ x r q k. search (rules, tests)))
+    (YieldsList-from_slice_split _ (λ byte. byte == 10) c.args.text.now (ap split_rest source
+    ∙ c.split.ensures.rest) (ap split_done source ∙ c.split.ensures.done) (ap split_callee source
+    ∙ c.split.ensures.closure) (λ x r q k. search (rules, tests)))
     c.filter.ensures.closure (λ x r q k. search (rules, tests)))
     ∙ length-filter is_unlock (slice_split (λ byte. byte == 10) c.args.text.now)

@@ -5,7 +5,8 @@ use Rattle.ra_session.proofs.SaysLemmas.{bytes_of}
 use Rattle.ra_session.proofs.loading.judge.Goals as goal
 
 pub returns-in-Ok-clause-accepted : goal.returns-in-Ok-clause-accepted
-returns-in-Ok-clause-accepted c = ap (λ s. refusal s c.args.bytes.now) (sym c.requires.shape) ∙ accepted_none _ c.args.bytes.now (c.in-Ok.ensures.ok.0 refl)
+returns-in-Ok-clause-accepted c = ap (λ s. refusal s c.args.bytes.now) (sym c.requires.shape)
+    ∙ accepted_none _ c.args.bytes.now (c.in-Ok.ensures.ok.0 refl)
 
 pub returns-in-Err-clause-bytes : goal.returns-in-Err-clause-bytes
 returns-in-Err-clause-bytes c =

@@ -9,4 +9,6 @@ pub returns-in-Ok-made_line-clause-ran : goal.returns-in-Ok-made_line-clause-ran
 returns-in-Ok-made_line-clause-ran g c = λ content reads puts.
     let line = c.as_str.ensures.value ∙ c.in-Ok-made_line.ensures ∙ ap (make_line c.args.number) c.taken.ensures in
     ran_made c.args.number c.in-Ok.text _ _ c.print_line.result c.in-Ok.ensures.text
-    (subst (λ (t : List ℕ). EndsBefore (prints_line t) ⊥ ⊥ (Rose (g.K.Sink.faults c.args.out.now) (g.K.Sink.faults c.print_line.new.out)) c.print_line.result (g.K.Sink.text c.args.out.now) (g.K.Sink.text c.print_line.new.out)) line c.print_line.ensures.ends)
+    (subst (λ (t : List ℕ). EndsBefore (prints_line t) ⊥ ⊥ (Rose (g.K.Sink.faults c.args.out.now)
+    (g.K.Sink.faults c.print_line.new.out)) c.print_line.result (g.K.Sink.text c.args.out.now)
+    (g.K.Sink.text c.print_line.new.out)) line c.print_line.ensures.ends)
