@@ -17,7 +17,8 @@ Finishes ending old new sink status = Closes (status_of ending) (last_line endin
 abbrev pub EndsBefore : Expected → (reads puts sink : Type 0) → Ending → (old new : Option (List ℕ)) → Type 0
 EndsBefore e reads puts sink NoMemory old new = GrewByPart old new (concat e.pieces)
 EndsBefore e reads puts sink SinkFault old new = sink × GrewByPart old new (concat e.pieces)
-EndsBefore e reads puts sink ReadFault old new = reads × ((records : ℕ) × IsReadBehind e records × (new ≡ grown old (concat (take records e.pieces))))
+EndsBefore e reads puts sink ReadFault old new = reads
+    × ((records : ℕ) × IsReadBehind e records × (new ≡ grown old (concat (take records e.pieces))))
 EndsBefore e reads puts sink SaveFault old new = puts × (e.ending ≡ Done) × (new ≡ grown old (concat (before_put e)))
 EndsBefore e reads puts sink ending old new = (e.ending ≡ ending) × (new ≡ grown old (concat e.pieces))
 
@@ -25,7 +26,8 @@ EndsBefore e reads puts sink ending old new = (e.ending ≡ ending) × (new ≡ 
 -- records
 abbrev pub EndsAtRead : Expected → (reads trace : Type 0) → (old new : Option (List ℕ)) → Type 0
 EndsAtRead e reads trace old new =
-    reads × ((IsReadBehind e 0 × (new ≡ old)) ⊎ (trace × ((records : ℕ) × IsReadBehind e records × (new ≡ grown old (concat (take records e.pieces))))))
+    reads × ((IsReadBehind e 0 × (new ≡ old)) ⊎ (trace × ((records : ℕ) × IsReadBehind e records
+    × (new ≡ grown old (concat (take records e.pieces))))))
 
 -- the same of a job, whose trace is told apart from the other files that decide
 abbrev pub EndsJob : Expected → (reads trace puts sink : Type 0) → Ending → (old new : Option (List ℕ)) → Type 0

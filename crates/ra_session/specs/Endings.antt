@@ -7,7 +7,9 @@ use Rattle.ra_patch.specs.Words.{document_words}
 use Rattle.ra_trace.specs.Refusals.{trace_word}
 use Rattle.ra_trace.specs.Cutting.{Stop, Reached, RefusedAt, PastLimit}
 use Rattle.ra_session.specs.declared.ending.Ending.{Ending}
-use Rattle.ra_session.specs.declared.ending.Ending.TheVariants.{Done, NoMemory, NoJob, BadSet, ReadFault, SinkFault, BadProgress, BadTrace, LongTrace, SaveFault, BadDocument, LongNormal, NoAchievement, ManyRows}
+use Rattle.ra_session.specs.declared.ending.Ending.TheVariants.{Done, NoMemory, NoJob, BadSet, ReadFault, SinkFault}
+use Rattle.ra_session.specs.declared.ending.Ending.TheVariants.{BadProgress, BadTrace, LongTrace, SaveFault}
+use Rattle.ra_session.specs.declared.ending.Ending.TheVariants.{BadDocument, LongNormal, NoAchievement, ManyRows}
 
 -- the status of each ending
 abbrev pub status_of : Ending → ℕ
@@ -28,7 +30,8 @@ status_of (ManyRows found) = 12
 
 -- the line that says how the program is called, without its end
 abbrev pub usage : List ℕ
-usage = codes "usage: ra_player run SET TRACE [--restore FILE] [--save FILE] | check SET | make N | import FILE SET | lint SET | normal SET OUT | explain SET TRACE ID"
+usage = codes
+    "usage: ra_player run SET TRACE [--restore FILE] [--save FILE] | check SET | make N | import FILE SET | lint SET | normal SET OUT | explain SET TRACE ID"
 
 -- the last line, where there is one
 abbrev pub last_line : Ending → List ℕ

@@ -1,5 +1,6 @@
 -- What a job prints, how it ends and what it saves, where nothing fails: docs/DEFINITIONS.md, "A run".
-use Rattle.std.specs.Prelude.{◌≡◌, ℕ, ◌+◌, ◌<◌, ◌≤◌, ◌==◌, Bool, true, false, if◌then◌else◌, Option, None, Some, List, [], ◌∷◌, ◌++◌, length, take, replicate, codes, decimal, count_by, bytes_eq}
+use Rattle.std.specs.Prelude.{◌≡◌, ℕ, ◌+◌, ◌<◌, ◌≤◌, ◌==◌, Bool, true, false, if◌then◌else◌, Option, None, Some, List}
+use Rattle.std.specs.Prelude.{[], ◌∷◌, ◌++◌, length, take, replicate, codes, decimal, count_by, bytes_eq}
 use Rattle.std.specs.List.{join_with_byte, slice_split, concat}
 use Rattle.md5.specs.Md5.{md5}
 use Rattle.ra_set.specs.declared.refused.SetRefused.{SetRefused}
@@ -34,10 +35,12 @@ use Rattle.ra_explain.specs.Unlocks.{IsExplanation}
 use Rattle.ra_replay.specs.Left.{trace_limit}
 use Rattle.ra_session.specs.Endings.{ending_of}
 use Rattle.ra_goals.specs.Choosing.{trigger_of}
-use Rattle.ra_session.specs.Explaining.{Decided, Reason, AtUnlock, AtRows, AtEnd, AtStop, decided_from, explanation_text, no_unlock_text}
+use Rattle.ra_session.specs.Explaining.{Decided, Reason, AtUnlock, AtRows, AtEnd, AtStop, decided_from}
+use Rattle.ra_session.specs.Explaining.{explanation_text, no_unlock_text}
 use Rattle.ra_session.specs.Linting.{lint_text}
 use Rattle.ra_session.specs.declared.ending.Ending.{Ending}
-use Rattle.ra_session.specs.declared.ending.Ending.TheVariants.{Done, BadSet, BadProgress, BadDocument, LongNormal, NoAchievement, ManyRows}
+use Rattle.ra_session.specs.declared.ending.Ending.TheVariants.{Done, BadSet, BadProgress, BadDocument, LongNormal}
+use Rattle.ra_session.specs.declared.ending.Ending.TheVariants.{NoAchievement, ManyRows}
 
 -- what a job says where nothing fails
 pub record Expected : Type 0 where
@@ -100,27 +103,39 @@ played set o behind earned bytes =
 pub data RunSays (content : List ℕ → Option (List ℕ)) (set trace : List ℕ) : Option (List ℕ) → Expected → Type 0 where
   refuses_set : {restore : Option (List ℕ)} (file : List ℕ) (why : SetRefused) → content set ≡ Some file
       → Refuses (take (set_limit + 1) file) why → RunSays content set trace restore (prints_nothing (BadSet why))
-  refuses_file : (name set_file file : List ℕ) (s : SetContents) (why : ProgressRefused) → content set ≡ Some set_file → content name ≡ Some file
-      → IsSet set_file s → refusal (shape_of s) (take progress_limit file) ≡ Some why → RunSays content set trace (Some name) (prints_nothing (BadProgress why))
-  begins : (set_file trace_file : List ℕ) (s : SetContents) → content set ≡ Some set_file → content trace ≡ Some trace_file
+  refuses_file : (name set_file file : List ℕ) (s : SetContents) (why : ProgressRefused)
+      → content set ≡ Some set_file → content name ≡ Some file
+      → IsSet set_file s → refusal (shape_of s) (take progress_limit file) ≡ Some why
+      → RunSays content set trace (Some name) (prints_nothing (BadProgress why))
+  begins : (set_file trace_file : List ℕ) (s : SetContents) → content set ≡ Some set_file
+      → content trace ≡ Some trace_file
       → IsSet set_file s → RunSays content set trace None (played s (plain_opening s) [] (none_earned s) trace_file)
-  goes_on : (name set_file trace_file : List ℕ) (s : SetContents) (o : Opening) (behind : History) (earned : Earned) → content set ≡ Some set_file → content trace ≡ Some trace_file
-      → content name ≡ Some (progress_bytes (shape_of s) (with_earned (snapshot s o behind) earned)) → IsSet set_file s → IsOpening (shape_of s) o → AreImages behind
-      → HoldTriggered earned (snapshot s o behind).items → RunSays content set trace (Some name) (played s o behind earned trace_file)
-  takes_up : (name set_file file trace_file : List ℕ) (s : SetContents) → content set ≡ Some set_file → content trace ≡ Some trace_file → content name ≡ Some file
-      → IsSet set_file s → refusal (shape_of s) file ≡ None → RunSays content set trace (Some name) (played s (says (shape_of s) file) [] (earned_in (says (shape_of s) file)) trace_file)
+  goes_on : (name set_file trace_file : List ℕ) (s : SetContents) (o : Opening) (behind : History)
+      (earned : Earned) → content set ≡ Some set_file → content trace ≡ Some trace_file
+      → content name ≡ Some (progress_bytes (shape_of s) (with_earned (snapshot s o behind) earned))
+      → IsSet set_file s → IsOpening (shape_of s) o → AreImages behind
+      → HoldTriggered earned (snapshot s o behind).items
+      → RunSays content set trace (Some name) (played s o behind earned trace_file)
+  takes_up : (name set_file file trace_file : List ℕ) (s : SetContents) → content set
+      ≡ Some set_file → content trace ≡ Some trace_file → content name ≡ Some file
+      → IsSet set_file s → refusal (shape_of s) file ≡ None → RunSays content set trace (Some name)
+      (played s (says (shape_of s) file) [] (earned_in (says (shape_of s) file)) trace_file)
 
 -- the line of `check`
 abbrev pub check_line : SetContents → List ℕ
 check_line set =
-    join_with_byte 32 (codes "achievements" ∷ decimal (achievements_in set.items) ∷ codes "leaderboards" ∷ decimal (boards_in set.items)
+    join_with_byte 32 (codes "achievements" ∷ decimal (achievements_in set.items)
+    ∷ codes "leaderboards" ∷ decimal (boards_in set.items)
     ∷ codes "conditions" ∷ decimal (set_conditions set) ∷ codes "cells" ∷ decimal (length (set_cells set))
     ∷ codes "priors" ∷ decimal (length (set_tracked set)) ∷ codes "md5" ∷ hex set.digest ∷ []) ++ 10 ∷ []
 
 -- What a job says that prints a text of the set of this file, where its bytes are told.
-pub data SetSays (text : SetContents → List ℕ) (content : List ℕ → Option (List ℕ)) (set : List ℕ) : Expected → Type 0 where
-  refuses_set : (file : List ℕ) (why : SetRefused) → content set ≡ Some file → Refuses (take (set_limit + 1) file) why → SetSays text content set (prints_nothing (BadSet why))
-  tells : (file : List ℕ) (s : SetContents) → content set ≡ Some file → IsSet file s → SetSays text content set (prints_line (text s))
+pub data SetSays (text : SetContents → List ℕ) (content : List ℕ → Option (List ℕ))
+    (set : List ℕ) : Expected → Type 0 where
+  refuses_set : (file : List ℕ) (why : SetRefused) → content set ≡ Some file → Refuses
+      (take (set_limit + 1) file) why → SetSays text content set (prints_nothing (BadSet why))
+  tells : (file : List ℕ) (s : SetContents) → content set ≡ Some file → IsSet file s
+      → SetSays text content set (prints_line (text s))
 
 -- a line of an unlock
 abbrev pub is_unlock : List ℕ → Bool
@@ -135,13 +150,15 @@ make_line number text =
 
 -- What `make` of a number says.
 pub data MakeSays (number : ℕ) : Expected → Type 0 where
-  made : (s : SetContents) → IsSet (made_set number) s → MakeSays number (prints_line (make_line number (concat (played s (plain_opening s) [] (none_earned s) (made_trace number)).pieces)))
+  made : (s : SetContents) → IsSet (made_set number) s → MakeSays number (prints_line (make_line
+      number (concat (played s (plain_opening s) [] (none_earned s) (made_trace number)).pieces)))
 
 -- the line of `import`
 abbrev pub import_line : SetContents → List ℕ
 import_line set =
     join_with_byte 32 (codes "imported" ∷ codes "achievements" ∷ decimal (achievements_in set.items)
-    ∷ codes "leaderboards" ∷ decimal (boards_in set.items) ∷ codes "presence" ∷ decimal (scripts_in set.script) ∷ []) ++ 10 ∷ []
+    ∷ codes "leaderboards" ∷ decimal (boards_in set.items) ∷ codes "presence"
+    ∷ decimal (scripts_in set.script) ∷ []) ++ 10 ∷ []
 
 -- a document is refused, and not because its set file is
 abbrev pub IsOfDocument : PatchRefused → Type 0
@@ -152,34 +169,43 @@ IsOfDocument _ = Unit {0}
 -- What `import` of this document says, where its bytes are told: at most a byte more than a document may have is read.
 pub data ImportSays (content : List ℕ → Option (List ℕ)) (file : List ℕ) : Expected → Type 0 where
   refuses_document : (bytes : List ℕ) (why : PatchRefused) → content file ≡ Some bytes → IsOfDocument why
-      → RefusesDocument (take (document_limit + 1) bytes) why → ImportSays content file (prints_nothing (BadDocument why))
+      → RefusesDocument (take (document_limit + 1) bytes) why
+      → ImportSays content file (prints_nothing (BadDocument why))
   refuses_set : (bytes : List ℕ) (why : SetRefused) → content file ≡ Some bytes
-      → RefusesDocument (take (document_limit + 1) bytes) (patch.Set why) → ImportSays content file (prints_nothing (BadSet why))
+      → RefusesDocument (take (document_limit + 1) bytes) (patch.Set why)
+      → ImportSays content file (prints_nothing (BadSet why))
   imports : (bytes text : List ℕ) (s : SetContents) → content file ≡ Some bytes → Imports bytes text → IsSet text s
       → ImportSays content file (puts_then_prints text (import_line s))
 
 -- the line of `normal`, of a set whose normal text has this many bytes
 abbrev pub normal_line : SetContents → (bytes : ℕ) → List ℕ
 normal_line set bytes =
-    join_with_byte 32 (codes "normal" ∷ codes "bytes" ∷ decimal bytes ∷ codes "conditions" ∷ decimal (normal_conditions set) ∷ []) ++ 10 ∷ []
+    join_with_byte 32 (codes "normal" ∷ codes "bytes" ∷ decimal bytes ∷ codes "conditions"
+    ∷ decimal (normal_conditions set) ∷ []) ++ 10 ∷ []
 
 -- What `normal` of the set of this file says, where its bytes are told.
 pub data NormalSays (content : List ℕ → Option (List ℕ)) (set : List ℕ) : Expected → Type 0 where
-  refuses_set : (file : List ℕ) (why : SetRefused) → content set ≡ Some file → Refuses (take (set_limit + 1) file) why → NormalSays content set (prints_nothing (BadSet why))
-  passes_limit : (file : List ℕ) (s : SetContents) (which : Which) (found : ℕ) → content set ≡ Some file → IsSet file s → IsPastLimit file s (normal.Limit which found)
+  refuses_set : (file : List ℕ) (why : SetRefused) → content set ≡ Some file → Refuses
+      (take (set_limit + 1) file) why → NormalSays content set (prints_nothing (BadSet why))
+  passes_limit : (file : List ℕ) (s : SetContents) (which : Which) (found : ℕ) → content set
+      ≡ Some file → IsSet file s → IsPastLimit file s (normal.Limit which found)
       → NormalSays content set (prints_nothing (LongNormal which found))
-  puts_text : (file : List ℕ) (s : SetContents) (text : List ℕ) → content set ≡ Some file → IsSet file s → IsNormal file s text
+  puts_text : (file : List ℕ) (s : SetContents) (text : List ℕ) → content set ≡ Some file
+      → IsSet file s → IsNormal file s text
       → NormalSays content set (puts_then_prints text (normal_line s (length text)))
 
 -- a job that prints nothing at this many records, and then this
 abbrev pub prints_behind : (records : ℕ) → List (List ℕ) → Ending → Expected
-prints_behind records pieces ending = record { pieces = replicate records [] ++ pieces; ending = ending; saved = []; puts_first = false }
+prints_behind records pieces ending = record
+    { pieces = replicate records [] ++ pieces; ending = ending; saved = []; puts_first = false }
 
--- What is said of an achievement of this id and trigger where the trace is read no further: why its unlock came, that its
+-- What is said of an achievement of this id and trigger where the trace is read no further: why its unlock came, that
+-- its
 -- rows are too many, that no unlock came, or how the trace ends.
 pub data ReasonSays (id : ℕ) (t : TriggerContents) (stop : Ending) (records : ℕ) : Reason → Expected → Type 0 where
   at_unlock : (image : List ℕ) (earlier : History) (e : ExplanationContents) → IsExplanation t image earlier e
-      → ReasonSays id t stop records (AtUnlock image earlier) (prints_behind records (explanation_text id t e ∷ []) Done)
+      → ReasonSays id t stop records (AtUnlock image earlier)
+      (prints_behind records (explanation_text id t e ∷ []) Done)
   at_rows : (found : ℕ) → ReasonSays id t stop records (AtRows found) (prints_behind records [] (ManyRows found))
   at_end : ReasonSays id t stop records AtEnd (prints_behind records (no_unlock_text id ∷ []) Done)
   at_stop : ReasonSays id t stop records AtStop (prints_behind records [] stop)
@@ -199,7 +225,8 @@ pub data ExplainSays (content : List ℕ → Option (List ℕ)) (set trace : Lis
       → ExplainSays content set trace id (prints_nothing (BadSet why))
   lacks : (file : List ℕ) (s : SetContents) → content set ≡ Some file → IsSet file s → trigger_of id s.items ≡ None
       → ExplainSays content set trace id (prints_nothing (NoAchievement id))
-  explains : (file trace_file : List ℕ) (s : SetContents) (t : TriggerContents) (e : Expected) → content set ≡ Some file → content trace ≡ Some trace_file
+  explains : (file trace_file : List ℕ) (s : SetContents) (t : TriggerContents) (e : Expected)
+      → content set ≡ Some file → content trace ≡ Some trace_file
       → IsSet file s → trigger_of id s.items ≡ Some t → TraceSays id t trace_file e → ExplainSays content set trace id e
 
 -- what a job says over files whose bytes are told

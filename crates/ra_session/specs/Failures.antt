@@ -7,7 +7,9 @@ use Rattle.ra_io.specs.declared.sink.SinkFailed.TheVariants as write
 use Rattle.ra_trace.specs.declared.error.TraceError.{TraceError}
 use Rattle.ra_trace.specs.declared.error.TraceError.TheVariants as error
 use Rattle.ra_session.specs.declared.ending.Ending.{Ending}
-use Rattle.ra_session.specs.declared.ending.Ending.TheVariants.{Done, NoMemory, BadSet, ReadFault, SinkFault, BadProgress, BadTrace, LongTrace, SaveFault, BadDocument, LongNormal}
+use Rattle.ra_session.specs.declared.ending.Ending.TheVariants.{Done, NoMemory, BadSet, ReadFault, SinkFault}
+use Rattle.ra_session.specs.declared.ending.Ending.TheVariants.{BadProgress, BadTrace, LongTrace, SaveFault}
+use Rattle.ra_session.specs.declared.ending.Ending.TheVariants.{BadDocument, LongNormal}
 use Rattle.ra_patch.specs.declared.refused.PatchRefused.{PatchRefused}
 use Rattle.ra_patch.specs.declared.refused.PatchRefused.TheVariants as patch
 use Rattle.ra_session.specs.declared.failures.DocumentFailed.{DocumentFailed}

@@ -1,5 +1,6 @@
 -- What `lint` prints of a set: docs/DEFINITIONS.md, "The lines of `lint`".
-use Rattle.std.specs.Prelude.{ℕ, Bool, true, false, if◌then◌else◌, List, [], ◌++◌, length, codes, decimal, slice_get, None, Some}
+use Rattle.std.specs.Prelude.{ℕ, Bool, true, false, if◌then◌else◌, List, [], ◌++◌, length, codes, decimal, slice_get}
+use Rattle.std.specs.Prelude.{None, Some}
 use Rattle.std.specs.List.{flat_map}
 use Rattle.ra_set.specs.Contents.{SetContents, ItemContents, Unlocks, Ranks}
 use Rattle.ra_lint.specs.declared.warning.Place.{Place}
@@ -52,4 +53,5 @@ warning_line items w = elim (slice_get items w.item) [ None ↦ [] | Some item �
 -- the text of `lint`: a line for each warning, and how many there are
 abbrev pub lint_text : SetContents → List ℕ
 lint_text set =
-    flat_map (warning_line set.items) (warnings_of set) ++ codes "warnings " ++ decimal (length (warnings_of set)) ++ codes "\n"
+    flat_map (warning_line set.items) (warnings_of set) ++ codes "warnings "
+    ++ decimal (length (warnings_of set)) ++ codes "\n"

@@ -50,13 +50,16 @@ pub record MayBegin (beginning : Beginning) : Type 0 where
 -- the bytes are those of the file that is named, where these are told; none where none is named
 abbrev pub AreOfFile : (content : List ℕ → Option (List ℕ)) → (restore progress : Option (List ℕ)) → Type 0
 AreOfFile content None progress = progress ≡ None
-AreOfFile content (Some name) progress = (bytes : List ℕ) × (progress ≡ Some bytes) × ((file : List ℕ) → content name ≡ Some file → bytes ≡ file)
+AreOfFile content (Some name) progress = (bytes : List ℕ) × (progress ≡ Some bytes)
+    × ((file : List ℕ) → content name ≡ Some file → bytes ≡ file)
 
 -- What is read of the file that is named, at most a byte more than a progress file may have, is refused so.
-pub record RefusesFile (set : SetContents) (content : List ℕ → Option (List ℕ)) (restore : Option (List ℕ)) (why : ProgressRefused) : Type 0 where
+pub record RefusesFile (set : SetContents) (content : List ℕ → Option (List ℕ))
+    (restore : Option (List ℕ)) (why : ProgressRefused) : Type 0 where
   pub name : List ℕ
   pub named : restore ≡ Some name
-  pub refused : (file : List ℕ) → content name ≡ Some file → refusal (shape_of set) (take progress_limit file) ≡ Some why
+  pub refused : (file : List ℕ) → content name ≡ Some file
+      → refusal (shape_of set) (take progress_limit file) ≡ Some why
   pub shape : IsShape (shape_of set)
 
 -- What the file of a set tells of one that was accepted, where its bytes are told.
@@ -78,19 +81,24 @@ HasNoSet file rose set.Read = rose
 HasNoSet file rose (set.Refused why) = (bytes : List ℕ) → file ≡ Some bytes → Refuses (take (set_limit + 1) bytes) why
 
 -- why there are no progress bytes of a set: memory ran out, a read of their file failed, or the file is refused
-abbrev pub HasNoProgress : SetContents → (content : List ℕ → Option (List ℕ)) → (restore : Option (List ℕ)) → (rose : Type 0) → ProgressFailed → Type 0
+abbrev pub HasNoProgress : SetContents → (content : List ℕ → Option (List ℕ))
+    → (restore : Option (List ℕ)) → (rose : Type 0) → ProgressFailed → Type 0
 HasNoProgress c content restore rose progress.Memory = ⊤
 HasNoProgress c content restore rose progress.Read = rose
 HasNoProgress c content restore rose (progress.Refused why) = RefusesFile c content restore why
 
 -- A set was accepted, and so was its progress file.
-pub record IsLoaded (content : List ℕ → Option (List ℕ)) (set : List ℕ) (restore : Option (List ℕ)) (c : SetContents) (progress : Option (List ℕ)) : Type 0 where
+pub record IsLoaded (content : List ℕ → Option (List ℕ)) (set : List ℕ) (restore : Option (List ℕ))
+    (c : SetContents) (progress : Option (List ℕ)) : Type 0 where
   pub taken : IsTaken (content set) c
   pub accepted : AreAccepted c progress
   pub of_file : AreOfFile content restore progress
 
 -- why a run does not begin: there is no set; or there is one, and no progress bytes of it
-abbrev pub IsNotLoaded : (content : List ℕ → Option (List ℕ)) → (before now : List ℕ → ℕ) → (set : List ℕ) → (restore : Option (List ℕ)) → LoadFailed → Type 0
-IsNotLoaded content before now set restore (load.Set failed) = HasNoSet (content set) (Rose (before set) (now set)) failed
+abbrev pub IsNotLoaded : (content : List ℕ → Option (List ℕ)) → (before now : List ℕ → ℕ)
+    → (set : List ℕ) → (restore : Option (List ℕ)) → LoadFailed → Type 0
+IsNotLoaded content before now set restore (load.Set failed) =
+    HasNoSet (content set) (Rose (before set) (now set)) failed
 IsNotLoaded content before now set restore (load.Progress failed) =
-    (c : SetContents) × IsTaken (content set) c × HasNoProgress c content restore (AnyRose before now (file_in restore)) failed
+    (c : SetContents) × IsTaken (content set) c
+    × HasNoProgress c content restore (AnyRose before now (file_in restore)) failed

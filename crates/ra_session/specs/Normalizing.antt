@@ -31,4 +31,5 @@ abbrev pub HasNoNormal : (file : Option (List ℕ)) → (rose : Type 0) → Norm
 HasNoNormal file rose (failed.Set why) = HasNoSet file rose why
 HasNoNormal file rose (failed.Refused normal.Memory) = ⊤
 HasNoNormal file rose (failed.Refused (normal.Limit which found)) =
-    (bytes : List ℕ) → file ≡ Some bytes → (set : SetContents) × IsSet bytes set × IsPastLimit bytes set (normal.Limit which found)
+    (bytes : List ℕ) → file ≡ Some bytes → (set : SetContents) × IsSet bytes set
+    × IsPastLimit bytes set (normal.Limit which found)

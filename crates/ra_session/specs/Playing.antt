@@ -1,5 +1,6 @@
 -- What a player keeps at a moment of a trace: docs/DEFINITIONS.md, "Save slots".
-use Rattle.std.specs.Prelude.{◌≡◌, ℕ, ⊤, nat_le, Bool, true, false, Result, Ok, Err, Option, None, Some, List, [], ◌∷◌, length}
+use Rattle.std.specs.Prelude.{◌≡◌, ℕ, ⊤, nat_le, Bool, true, false, Result, Ok, Err, Option, None, Some, List, [], ◌∷◌}
+use Rattle.std.specs.Prelude.{length}
 use Rattle.ra_io.specs.Sink.{grown}
 use Rattle.ra_memory.specs.Image.{History, AreBytes, AreImages}
 use Rattle.ra_progress.specs.Contents.{Opening, IsOpening}
@@ -36,7 +37,8 @@ pub record IsPlayable (set : SetContents) : Type 0 where
   pub alts : HasFewAlts set
 
 -- The state is that of frames that were kept, with what was earned at their save and is earned still.
-pub record IsSaveOf (set : SetContents) (o : Opening) (kept : History) (earned : Earned) (state : KeptSeen) : Type 0 where
+pub record IsSaveOf (set : SetContents) (o : Opening) (kept : History) (earned : Earned)
+    (state : KeptSeen) : Type 0 where
   pub before : Earned
   pub images : AreImages kept
   pub holds : HoldTriggered before (snapshot set o kept).items
@@ -59,7 +61,8 @@ HoldEachKept set o earned _ _ = ⊥
 
 -- A runtime and the slots stand at a moment: the image is the moment's, and what is kept is what the frames so far
 -- leave, with what is earned at the moment, which is all that is triggered and was earned at the save of a slot.
-pub record StandsAt (set : SetContents) (o : Opening) (m : Moment) (earned : Earned) (runtime : RuntimeSeen) (slots : List (Option KeptSeen)) : Type 0 where
+pub record StandsAt (set : SetContents) (o : Opening) (m : Moment) (earned : Earned)
+    (runtime : RuntimeSeen) (slots : List (Option KeptSeen)) : Type 0 where
   pub same : runtime.set ≡ set
   pub playable : IsPlayable set
   pub shape : IsShape (shape_of set)
@@ -99,7 +102,8 @@ HoldsState runtime None = ⊥
 HoldsState runtime (Some state) = IsKeptFor (shape_of runtime.set) state × (state.opening ≡ runtime.kept)
 
 -- A record takes the player to the moment after it, and prints what the set does there.
-pub record Plays (set : SetContents) (o : Opening) (entry : Entry) (m : Moment) (earned : Earned) (runtime : RuntimeSeen) (slots : List (Option KeptSeen)) (text : List ℕ) : Type 0 where
+pub record Plays (set : SetContents) (o : Opening) (entry : Entry) (m : Moment) (earned : Earned)
+    (runtime : RuntimeSeen) (slots : List (Option KeptSeen)) (text : List ℕ) : Type 0 where
   pub filled : IsEmptySlot entry m → ⊥
   pub stands : StandsAt set o (moved entry m) (earned_next set o entry (moved entry m) earned) runtime slots
   pub prints : text ≡ printed set o entry (moved entry m) earned
@@ -114,7 +118,9 @@ says_from bytes set o m earned left = record {
 }
 
 -- One record of those that are left was played, and it was not the end.
-pub record GoesOn (bytes : List ℕ) (set : SetContents) (o : Opening) (m : Moment) (earned : Earned) (left : Pieces) (reader : ReaderSeen) (runtime : RuntimeSeen) (slots : List (Option KeptSeen)) (old new : Option (List ℕ)) : Type 0 where
+pub record GoesOn (bytes : List ℕ) (set : SetContents) (o : Opening) (m : Moment) (earned : Earned)
+    (left : Pieces) (reader : ReaderSeen) (runtime : RuntimeSeen) (slots : List (Option KeptSeen))
+    (old new : Option (List ℕ)) : Type 0 where
   pub entry : Entry
   pub rest : Pieces
   pub first : left ≡ with_entry entry rest
@@ -123,14 +129,21 @@ pub record GoesOn (bytes : List ℕ) (set : SetContents) (o : Opening) (m : Mome
   pub text : new ≡ grown old (printed set o entry (moved entry m) earned)
 
 -- The end record was played: nothing is left after it.
-pub record IsAtEnd (set : SetContents) (o : Opening) (m : Moment) (earned : Earned) (left : Pieces) (runtime : RuntimeSeen) (slots : List (Option KeptSeen)) (old new : Option (List ℕ)) : Type 0 where
+pub record IsAtEnd (set : SetContents) (o : Opening) (m : Moment) (earned : Earned) (left : Pieces)
+    (runtime : RuntimeSeen) (slots : List (Option KeptSeen))
+    (old new : Option (List ℕ)) : Type 0 where
   pub at : ℕ
   pub last : left ≡ record { entries = Ended ∷ []; stop = Reached at }
   pub stands : StandsAt set o m earned runtime slots
   pub text : new ≡ old
 
 -- what reading and playing the next record does: it goes on, it was the end, or it stops as the trace says
-abbrev pub TakesNext : (bytes : List ℕ) → SetContents → Opening → Moment → Earned → Pieces → ReaderSeen → RuntimeSeen → List (Option KeptSeen) → (old new : Option (List ℕ)) → Result Bool TraceFailed → Type 0
-TakesNext bytes set o m earned left reader runtime slots old new (Ok true) = IsAtEnd set o m earned left runtime slots old new
-TakesNext bytes set o m earned left reader runtime slots old new (Ok false) = GoesOn bytes set o m earned left reader runtime slots old new
-TakesNext bytes set o m earned left reader runtime slots old new (Err failed) = EndsBefore (says_from bytes set o m earned left) ⊤ ⊤ ⊤ (ending_of_trace failed) old new
+abbrev pub TakesNext : (bytes : List ℕ) → SetContents → Opening → Moment → Earned → Pieces
+    → ReaderSeen → RuntimeSeen → List (Option KeptSeen) → (old new : Option (List ℕ))
+    → Result Bool TraceFailed → Type 0
+TakesNext bytes set o m earned left reader runtime slots old new (Ok true) =
+    IsAtEnd set o m earned left runtime slots old new
+TakesNext bytes set o m earned left reader runtime slots old new (Ok false) =
+    GoesOn bytes set o m earned left reader runtime slots old new
+TakesNext bytes set o m earned left reader runtime slots old new (Err failed) =
+    EndsBefore (says_from bytes set o m earned left) ⊤ ⊤ ⊤ (ending_of_trace failed) old new

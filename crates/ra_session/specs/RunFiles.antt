@@ -5,4 +5,5 @@ use Rattle.ra_session.specs.declared.run_files.RunFiles.{RunFiles}
 
 -- the run of these files
 abbrev pub run_of : RunFiles → Job
-run_of run = Run run.set.now run.trace.now (option_map (λ file. file.now) run.restore) (option_map (λ file. file.now) run.save)
+run_of run = Run run.set.now run.trace.now (option_map (λ file. file.now) run.restore)
+    (option_map (λ file. file.now) run.save)

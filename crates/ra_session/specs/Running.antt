@@ -7,7 +7,8 @@ use Rattle.ra_session.specs.Expected.{Expected, JobSays}
 use Rattle.ra_session.specs.Closing.{EndsJob}
 use Rattle.ra_jobs.specs.Outside.{Outside, ReadsRose, PutsRose, SinkRose, AreTold}
 use Rattle.ra_session.specs.declared.ending.Ending.{Ending}
-use Rattle.ra_session.specs.declared.ending.Ending.TheVariants.{Done, NoMemory, NoJob, BadSet, ReadFault, SinkFault, BadProgress, SaveFault, NoAchievement}
+use Rattle.ra_session.specs.declared.ending.Ending.TheVariants.{Done, NoMemory, NoJob, BadSet, ReadFault, SinkFault}
+use Rattle.ra_session.specs.declared.ending.Ending.TheVariants.{BadProgress, SaveFault, NoAchievement}
 
 -- the ending is told by the files, and by no fault
 abbrev pub IsTold : Ending → Type 0
@@ -43,7 +44,8 @@ module _ (job : Job) (old new : Outside) where
   -- what is printed up to the last line of a job that ended so and is expected to say this
   abbrev pub PrintsSoFar : Ending → Expected → Type 0
   PrintsSoFar ending e =
-      EndsJob e (ReadsRose (deciding e.ending job) old new) (ReadsRose (trace_of job) old new) (PutsRose (puts_of job) old new) (SinkRose old new)
+      EndsJob e (ReadsRose (deciding e.ending job) old new) (ReadsRose (trace_of job) old new)
+      (PutsRose (puts_of job) old new) (SinkRose old new)
       ending old.text new.text
 
   -- A job ended so: what was printed is what the told files say, and a fault that ended it was counted.
@@ -82,10 +84,12 @@ module _ (job : Job) (old new : Outside) where
   -- where a job that ended so may have changed the file that it puts: it is done, a put of it failed, or the line after
   -- the put was not written whole
   abbrev pub OnlyThen : Ending → Type 0
-  OnlyThen ending = (ending ≡ Done) ⊎ (PutsRose (puts_of job) old new ⊎ (SameContent old.content new.content ⊎ PutBeforeLine ending))
+  OnlyThen ending = (ending ≡ Done) ⊎ (PutsRose (puts_of job) old new
+      ⊎ (SameContent old.content new.content ⊎ PutBeforeLine ending))
 
   -- A job that ended so leaves every name but the one that it puts, and changes that one only then.
   pub record Leaves (ending : Ending) : Type 0 where
-    pub others : (name : List ℕ) → AllByRecursion (λ put. name ≢ put) (puts_of job) → new.content name ≡ old.content name
+    pub others : (name : List ℕ) → AllByRecursion (λ put. name ≢ put) (puts_of job)
+        → new.content name ≡ old.content name
     pub only : OnlyThen ending
     pub saved : ending ≡ Done → IsSaved

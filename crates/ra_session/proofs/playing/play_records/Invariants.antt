@@ -12,9 +12,12 @@ use Rattle.ra_session.proofs.playing.play_records.Given as goal
 
 abbrev pub invariant-loop-text : goal.invariant-loop-text
 invariant-loop-text g l = record {
-  to : (bytes : List ℕ) (set : SetContents) (o : Opening) (m : Moment) (earned : Earned) (left : Pieces) → g.F.Files.content l.initial.files l.initial.reader.name ≡ Some bytes
-      → StandsAt set o m earned l.initial.player.runtime l.initial.player.slots.items → IsLeft bytes m l.initial.reader left
-      → PlayedTo bytes set o m earned left l.reader l.player.runtime l.player.slots.items (g.K.Sink.text l.initial.out) (g.K.Sink.text l.out);
+  to : (bytes : List ℕ) (set : SetContents) (o : Opening) (m : Moment) (earned : Earned)
+      (left : Pieces) → g.F.Files.content l.initial.files l.initial.reader.name ≡ Some bytes
+      → StandsAt set o m earned l.initial.player.runtime l.initial.player.slots.items
+      → IsLeft bytes m l.initial.reader left
+      → PlayedTo bytes set o m earned left l.reader l.player.runtime l.player.slots.items
+      (g.K.Sink.text l.initial.out) (g.K.Sink.text l.out);
   may : MayPlay l.reader l.player.runtime l.player.slots.items;
   name : l.reader.name ≡ l.initial.reader.name;
   stays : OnlyRead g.F.Files.content g.F.Files.read_faults g.F.Files.put_faults l.initial.files l.files;

@@ -13,7 +13,8 @@ use Rattle.ra_session.proofs.run.run_unnamed.Goals as goal
 
 pub returns-in-Err-clause-ran : goal.returns-in-Err-clause-ran
 returns-in-Err-clause-ran g c = rw (c.requires.restore, c.requires.save)
-    (ran_not_begun c.args.run.now.set.now c.args.run.now.trace.now None _ _ None (load.Set c.in-Err.no_set) c.from.result
+    (ran_not_begun c.args.run.now.set.now c.args.run.now.trace.now None _ _ None
+    (load.Set c.in-Err.no_set) c.from.result
     c.from.ensures c.in-Err.ensures.failed refl)
 
 pub returns-in-Err-clause-leaves : goal.returns-in-Err-clause-leaves

@@ -1,4 +1,5 @@
-use Rattle.std.proofs.Common.{rules, arith, sym, subst, slice_index_or, slice_set, length, ◌≡◌, ◌≤◌, None, IfSome, inl, inr}
+use Rattle.std.proofs.Common.{rules, arith, sym, subst, slice_index_or, slice_set, length, ◌≡◌, ◌≤◌, None, IfSome, inl}
+use Rattle.std.proofs.Common.{inr}
 use Rattle.std.proofs.lemmas.Bool.{cases_lt, false≢true}
 use Rattle.ra_meaning.specs.Order.{shape_of}
 use Rattle.ra_meaning.specs.Play.{moved}
@@ -13,9 +14,12 @@ returns-in_ok-fill-clause-saved c = λ set o m earned stands.
     let runtime = c.args.self.now.runtime in
     let slots = c.args.self.now.slots.items in
     let here : slice_index_or slots c.args.slot None ≡ c.in-Some.state.now = search rules in
-    let filled = subst (λ state. IfSome state (IsKeptFor (shape_of runtime.set))) here (filled_for set o m earned runtime slots c.args.slot stands) in
-    subst (λ k. StandsAt set o (moved (Saved c.args.slot) m) earned runtime (slice_set slots k c.fill.new.slot)) (sym c.from.ensures)
-    (stands_saved set o m earned runtime slots c.args.slot c.fill.new.slot (c.in_ok-fill.ensures (opening_at set o m earned runtime slots stands) filled) stands)
+    let filled = subst (λ state. IfSome state (IsKeptFor (shape_of runtime.set))) here
+    (filled_for set o m earned runtime slots c.args.slot stands) in
+    subst (λ k. StandsAt set o (moved (Saved c.args.slot) m) earned runtime
+    (slice_set slots k c.fill.new.slot)) (sym c.from.ensures)
+    (stands_saved set o m earned runtime slots c.args.slot c.fill.new.slot
+    (c.in_ok-fill.ensures (opening_at set o m earned runtime slots stands) filled) stands)
 
 pub returns-in_default-clause-saved : goal.returns-in_default-clause-saved
 returns-in_default-clause-saved c = λ set o m earned stands.
