@@ -1,5 +1,6 @@
 -- The lines that a file contains, with and without a script, and their conditions.
-use Rattle.std.proofs.Common.{◌≡◌, ◌∙◌, inl, inr, ℕ, ◌+◌, ◌≤◌, List, [], ◌∷◌, ◌++◌, length, None, option_map, sym, ap, arith, length-append}
+use Rattle.std.proofs.Common.{◌≡◌, ◌∙◌, inl, inr, ℕ, ◌+◌, ◌≤◌, List, [], ◌∷◌, ◌++◌, length, None, option_map, sym, ap}
+use Rattle.std.proofs.Common.{arith, length-append}
 use Rattle.std.specs.List.{sum_by}
 use Rattle.ra_richpresence.specs.Grammar.{script_of}
 use Rattle.ra_set.specs.Grammar.{Line, line, ended_line, FileContents, set_file, items_of}
@@ -12,7 +13,8 @@ use Rattle.ra_set.proofs.KeptLemmas.{items-none}
 use Rattle.ra_set.proofs.ScriptCounts.{script-count}
 use Rattle.ra_set.proofs.TextCounts.{ended-count}
 
--- the lines of a file as lines with their ends and a last one, which is empty before a script, and the room that its script takes
+-- the lines of a file as lines with their ends and a last one, which is empty before a script, and the room that its
+-- script takes
 pub record HasLines (file : List ℕ) (contents : FileContents) : Type 0 where
   pub front : List ℕ
   pub behind : List ℕ
@@ -32,7 +34,8 @@ text-shorter text behind (inr is) = omega (arith, ap length is)
 
 pub lines-of_file : (file : List ℕ) (contents : FileContents) → set_file file contents → HasLines file contents
 lines-of_file file contents h = let f = front-of_file file contents h in cases f.ended f.tail f.spelled f.tells where
-  cases : (ended : List Line) (tail : Tail) → Front ended tail file → TailIn contents tail ended → HasLines file contents
+  cases : (ended : List Line) (tail : Tail) → Front ended tail file → TailIn contents tail ended
+      → HasLines file contents
   cases ended (Ends last) spelled tells = let p = front-ended (Ends last) ended file spelled in record {
     front = p.front;
     behind = p.behind;
@@ -63,7 +66,8 @@ lines-of_file file contents h = let f = front-of_file file contents h in cases f
       }
 
 -- a file contains no more conditions than it has bytes
-pub contents-count : (file : List ℕ) (contents : FileContents) → set_file file contents → all_conditions (items_of contents.lines) contents.script ≤ length file
+pub contents-count : (file : List ℕ) (contents : FileContents) → set_file file contents
+    → all_conditions (items_of contents.lines) contents.script ≤ length file
 contents-count file contents h =
     let l = lines-of_file file contents h in
     let few = ended-count l.ended l.front l.of_ended l.behind l.last l.of_last in

@@ -1,5 +1,6 @@
 -- Sums over lists that are seen by their contents.
-use Rattle.std.proofs.Common.{◌≡◌, ◌∙◌, ℕ, ◌+◌, ◌<◌, ◌≤◌, List, [], ◌∷◌, length, take, get_or, map, refl, sym, ap, subst, zero-add}
+use Rattle.std.proofs.Common.{◌≡◌, ◌∙◌, ℕ, ◌+◌, ◌<◌, ◌≤◌, List, [], ◌∷◌, length, take, get_or, map, refl, sym, ap}
+use Rattle.std.proofs.Common.{subst, zero-add}
 use Rattle.std.specs.List.{fold, sum_by, filter_map}
 use Rattle.ra_richpresence.specs.Contents.{PieceContents, Bytes, Shows, value_in}
 use Rattle.ra_set.specs.Counting.{piece_conditions}
@@ -16,7 +17,11 @@ module _ {X Y : Type 0} (f : Y → ℕ) (g : X → Y) where
   sum-map xs = sum-from 0 xs
 
 -- the conditions of the macros among pieces are those of the pieces
-pub pieces_sum : (pieces : List PieceContents) → sum_by value_conditions (filter_map value_in pieces) ≡ sum_by piece_conditions pieces
+pub pieces_sum : (pieces : List PieceContents)
+    → sum_by value_conditions (filter_map value_in pieces) ≡ sum_by piece_conditions pieces
 pieces_sum [] = refl
-pieces_sum (Bytes text ∷ pieces) = pieces_sum pieces ∙ sym (sum_by-cons piece_conditions (Bytes text) pieces ∙ zero-add (sum_by piece_conditions pieces))
-pieces_sum (Shows name value ∷ pieces) = sum_by-cons value_conditions value (filter_map value_in pieces) ∙ ap (λ n. value_conditions value + n) (pieces_sum pieces) ∙ sym (sum_by-cons piece_conditions (Shows name value) pieces)
+pieces_sum (Bytes text ∷ pieces) = pieces_sum pieces ∙ sym
+    (sum_by-cons piece_conditions (Bytes text) pieces ∙ zero-add (sum_by piece_conditions pieces))
+pieces_sum (Shows name value ∷ pieces) = sum_by-cons value_conditions value
+    (filter_map value_in pieces) ∙ ap (λ n. value_conditions value + n) (pieces_sum pieces)
+    ∙ sym (sum_by-cons piece_conditions (Shows name value) pieces)

@@ -1,9 +1,13 @@
 -- How a file is cut into lines, from the first one on.
-use Rattle.std.proofs.Common.{◌≡◌, ◌∙◌, ℕ, zero, suc, ◌-◌, ◌<◌, ◌≤◌, ◌==◌, Bool, true, false, cond, if◌then◌else◌, List, [], ◌∷◌, ◌++◌, length, take, drop, map, filter, get_or, Option, Some, None, option_map, unwrap_or, Bor, refl, sym, ap, arith, le_refl, take_all, append-nil, append_assoc, eqb-true}
+use Rattle.std.proofs.Common.{◌≡◌, ◌∙◌, ℕ, zero, suc, ◌-◌, ◌<◌, ◌≤◌, ◌==◌, Bool, true, false, cond, if◌then◌else◌, List}
+use Rattle.std.proofs.Common.{[], ◌∷◌, ◌++◌, length, take, drop, map, filter, get_or, Option, Some, None, option_map}
+use Rattle.std.proofs.Common.{unwrap_or, Bor, refl, sym, ap, arith, le_refl, take_all, append-nil, append_assoc}
+use Rattle.std.proofs.Common.{eqb-true}
 use Rattle.std.proofs.lemmas.Bool.{false_from_ne_true}
 use Rattle.md5.specs.Md5.{md5}
 use Rattle.memchr.specs.Find.{IsFirstByte, is_byte}
-use Rattle.ra_set.specs.Texts.{FirstLine, with_byte, first_line, without_return, text_of, is_item, is_script, lines_from, cut_file, item_texts, script_text}
+use Rattle.ra_set.specs.Texts.{FirstLine, with_byte, first_line, without_return, text_of, is_item, is_script}
+use Rattle.ra_set.specs.Texts.{lines_from, cut_file, item_texts, script_text}
 
 -- ---- the first line
 
@@ -244,10 +248,12 @@ HasNone text end = (k : ℕ) → k < end → (get_or text k 0 == 10) ≡ false
 pub line-whole : (text : List ℕ) → HasNone text (length text) → length (first_line text).line ≡ length text
 line-whole [] none = refl
 line-whole (byte ∷ text) none =
-    ap (λ same. length (begun_by same byte text).line) (none 0 (omega arith)) ∙ ap suc (line-whole text (λ k within. none (suc k) (omega (arith, within))))
+    ap (λ same. length (begun_by same byte text).line) (none 0 (omega arith))
+    ∙ ap suc (line-whole text (λ k within. none (suc k) (omega (arith, within))))
 
 -- the first line ends at the first LF
-pub line-ends_at : (text : List ℕ) (at : ℕ) → at < length text → HasNone text at → (get_or text at 0 == 10) ≡ true → length (first_line text).line ≡ at
+pub line-ends_at : (text : List ℕ) (at : ℕ) → at < length text → HasNone text at
+    → (get_or text at 0 == 10) ≡ true → length (first_line text).line ≡ at
 line-ends_at [] at within none here = absurd (omega (arith, within))
 line-ends_at (byte ∷ text) zero within none here = ap (λ same. length (begun_by same byte text).line) here
 line-ends_at (byte ∷ text) (suc at) within none here =
@@ -255,7 +261,10 @@ line-ends_at (byte ∷ text) (suc at) within none here =
     ∙ ap suc (line-ends_at text at (omega (arith, within)) (λ k before. none (suc k) (omega (arith, before))) here)
 
 -- the first line ends where an LF was looked for, or with the text
-pub line-found : (text : List ℕ) (found : Option ℕ) → IsFirstByte (is_byte 10) text found → unwrap_or found (length text) ≡ length (first_line text).line
-line-found text None nowhere = sym (line-whole text (λ k within. false_from_ne_true (get_or text k 0 == 10) (nowhere k (omega arith) within)))
+pub line-found : (text : List ℕ) (found : Option ℕ) → IsFirstByte (is_byte 10) text found
+    → unwrap_or found (length text) ≡ length (first_line text).line
+line-found text None nowhere = sym (line-whole text
+    (λ k within. false_from_ne_true (get_or text k 0 == 10) (nowhere k (omega arith) within)))
 line-found text (Some at) first =
-    sym (line-ends_at text at first.0.high (λ k within. false_from_ne_true (get_or text k 0 == 10) (first.0.before k (omega arith) within)) first.1)
+    sym (line-ends_at text at first.0.high (λ k within. false_from_ne_true (get_or text k 0 == 10)
+    (first.0.before k (omega arith) within)) first.1)

@@ -1,7 +1,10 @@
 -- The reader of files up to their script: rows with an LF behind each spell the lines with their ends.
-use Rattle.std.proofs.Common.{◌≡◌, ◌∙◌, ◌⊎◌, inl, inr, ℕ, zero, suc, ◌<◌, ◌≤◌, ◌==◌, Bool, true, false, if◌then◌else◌, List, [], ◌∷◌, ◌++◌, length, None, Ok, Err, refl, sym, ap, subst, subst₂, codes, arith, append-nil, eqb-true, eq-eqb}
+use Rattle.std.proofs.Common.{◌≡◌, ◌∙◌, ◌⊎◌, inl, inr, ℕ, zero, suc, ◌<◌, ◌≤◌, ◌==◌, Bool, true, false, if◌then◌else◌}
+use Rattle.std.proofs.Common.{List, [], ◌∷◌, ◌++◌, length, None, Ok, Err, refl, sym, ap, subst, subst₂, codes, arith}
+use Rattle.std.proofs.Common.{append-nil, eqb-true, eq-eqb}
 use Rattle.ra_set.specs.Grammar.{Line, line}
-use Rattle.ra_set.specs.Reading.{Tail, Ends, Letter, Opens, feed_at, opens_at, letter_at, with_lines, last_at, behind_row_at, row_and_others_at, front_from, front_at}
+use Rattle.ra_set.specs.Reading.{Tail, Ends, Letter, Opens, feed_at, opens_at, letter_at, with_lines, last_at}
+use Rattle.ra_set.specs.Reading.{behind_row_at, row_and_others_at, front_from, front_at}
 use Rattle.ra_set.proofs.LineReaders.{row, comment_row, item_row, reader-row, begins-comment_row, firsts-item_row}
 use Rattle.ra_set.proofs.RowLines.{line-row, row-line}
 use Rattle.ra_set.proofs.RunLemmas.{only-byte}
@@ -41,7 +44,8 @@ file_front text found = Front found.0 found.1 text
 -- ---- readings of texts that are given whole
 
 -- all of a text, which spells one value
-reads-all : {A V : Type 0} (form : Form A V) (text : List A) (v : V) → form text v → ((w : V) → form text w → w ≡ v) → Reads form text (Ok (v, []))
+reads-all : {A V : Type 0} (form : Form A V) (text : List A) (v : V) → form text v
+    → ((w : V) → form text w → w ≡ v) → Reads form text (Ok (v, []))
 reads-all form text v here unique = record {
   front = text;
   parts = sym (append-nil text);
@@ -55,20 +59,26 @@ reads-all form text v here unique = record {
 abbrev Changed : {A V W : Type 0} → Form A V → (V → W) → Form A W
 Changed {A} {V} {W} form change text w = (v : V) × form text v × (w ≡ change v)
 
-viable-changed : {A V W : Type 0} (form : Form A V) (change : V → W) (text : List A) → Viable form text → Viable (Changed form change) text
-viable-changed form change text viable = record { more = viable.more; v = change viable.v; whole = (viable.v, viable.whole, refl) }
+viable-changed : {A V W : Type 0} (form : Form A V) (change : V → W) (text : List A)
+    → Viable form text → Viable (Changed form change) text
+viable-changed form change text viable =
+    record { more = viable.more; v = change viable.v; whole = (viable.v, viable.whole, refl) }
 
-unchanged : {A V W : Type 0} (form : Form A V) (change : V → W) (text : List A) → Viable (Changed form change) text → Viable form text
+unchanged : {A V W : Type 0} (form : Form A V) (change : V → W) (text : List A)
+    → Viable (Changed form change) text → Viable form text
 unchanged form change text viable = record { more = viable.more; v = viable.whole.0; whole = viable.whole.1 }
 
-reads-changed : {A V W : Type 0} (form : Form A V) (change : V → W) (text : List A) (outcome : Outcome A V) → Reads form text outcome → Reads (Changed form change) text (outcome >>= λ x. Ok (change x.0, x.1))
+reads-changed : {A V W : Type 0} (form : Form A V) (change : V → W) (text : List A)
+    (outcome : Outcome A V) → Reads form text outcome
+    → Reads (Changed form change) text (outcome >>= λ x. Ok (change x.0, x.1))
 reads-changed form change text (Ok x) r = record {
   front = r.front;
   parts = r.parts;
   viable = viable-changed form change r.front r.viable;
   halts = λ symbol rest e viable. r.halts symbol rest e (unchanged form change (r.front ++ symbol ∷ []) viable);
   spelled = λ w rest e. (x.0, r.spelled x.0 x.1 refl, sym (ap (λ p. p.0) (same-ok (change x.0, x.1) (w, rest) e)));
-  only = λ w h. let same : x.0 ≡ h.0 = ap (λ p. p.0) (same-ok x (h.0, x.1) (r.only h.0 h.1)) in ap (λ v. Ok (v, x.1)) (ap change same ∙ sym h.2);
+  only = λ w h. let same : x.0 ≡ h.0 = ap (λ p. p.0) (same-ok x (h.0, x.1) (r.only h.0 h.1)) in
+      ap (λ v. Ok (v, x.1)) (ap change same ∙ sym h.2);
 }
 reads-changed form change text (Err left) r = record {
   front = r.front;
@@ -118,9 +128,11 @@ feeds = record { more = codes "\n"; v = Opens []; whole = refl }
 reads-feed : (text : List ℕ) → Reads Feed text (feed_at text)
 reads-feed [] = reads-none Feed [] feeds (λ byte rest e viable. absurd (cc e)) feed-empty
 reads-feed (byte ∷ rest) = decided (byte == 10) refl where
-  decided : (same : Bool) → (byte == 10) ≡ same → Reads Feed (byte ∷ rest) (if same then Ok (Opens rest, []) else Err (byte ∷ rest))
+  decided : (same : Bool) → (byte == 10) ≡ same
+      → Reads Feed (byte ∷ rest) (if same then Ok (Opens rest, []) else Err (byte ∷ rest))
   decided true e = let is : byte ≡ 10 = eqb-true byte 10 e in
-      subst (λ b. Reads Feed (b ∷ rest) (Ok (Opens rest, []))) (sym is) (reads-all Feed (10 ∷ rest) (Opens rest) refl (feed-once rest))
+      subst (λ b. Reads Feed (b ∷ rest) (Ok (Opens rest, []))) (sym is)
+      (reads-all Feed (10 ∷ rest) (Opens rest) refl (feed-once rest))
   decided false e = reads-none Feed (byte ∷ rest) feeds
       (λ symbol more is viable. let same : byte ≡ symbol = cc is in
       let feed : symbol ≡ 10 = feed-byte symbol viable.more viable.v viable.whole in
@@ -160,13 +172,17 @@ reads-end : (text : List ℕ) → Reads End text (opens_at text)
 reads-end [] = reads-all End [] Letter refl end-empty
 reads-end (byte ∷ rest) = decided (byte == 10) (byte == 13) refl refl where
   decided : (feed returned : Bool) → (byte == 10) ≡ feed → (byte == 13) ≡ returned
-      → Reads End (byte ∷ rest) (if feed then Ok (Opens rest, []) else if returned then feed_at rest else Ok (Letter, byte ∷ rest))
+      → Reads End (byte ∷ rest) (if feed then Ok (Opens rest, []) else if returned then feed_at rest
+      else Ok (Letter, byte ∷ rest))
   decided true returned e f = let is : byte ≡ 10 = eqb-true byte 10 e in
-      subst (λ b. Reads End (b ∷ rest) (Ok (Opens rest, []))) (sym is) (reads-all End (10 ∷ rest) (Opens rest) (inl refl) (end-once rest))
+      subst (λ b. Reads End (b ∷ rest) (Ok (Opens rest, []))) (sym is)
+      (reads-all End (10 ∷ rest) (Opens rest) (inl refl) (end-once rest))
   decided false true e f = let is : byte ≡ 13 = eqb-true byte 13 f in
-      subst (λ b. Reads End (b ∷ rest) (feed_at rest)) (sym is) (reads-step End Feed 13 rest (feed_at rest) end-feed feed-end (reads-feed rest))
+      subst (λ b. Reads End (b ∷ rest) (feed_at rest)) (sym is)
+      (reads-step End Feed 13 rest (feed_at rest) end-feed feed-end (reads-feed rest))
   decided false false e f = reads-spell End (byte ∷ rest) Letter refl end-empty
-      (λ symbol more is viable. let same : byte ≡ symbol = cc is in elim (end-byte symbol viable.more viable.v viable.whole) [
+      (λ symbol more is viable. let same : byte ≡ symbol = cc is in
+      elim (end-byte symbol viable.more viable.v viable.whole) [
         | inl ten ↦ not-self 10 (subst (λ b. (b == 10) ≡ false) (same ∙ ten) e)
         | inr thirteen ↦ not-self 13 (subst (λ b. (b == 13) ≡ false) (same ∙ thirteen) f)
       ])
@@ -174,8 +190,10 @@ reads-end (byte ∷ rest) = decided (byte == 10) (byte == 13) refl refl where
 -- the bytes that a row begins with, if it is not empty
 firsts-row : Firsts row (In (codes "#AL\r"))
 firsts-row = firsts-or comment_row item_row (In (codes "#AL\r"))
-    (firsts-wider comment_row (In (codes "#")) (In (codes "#AL\r")) (in_within (codes "#") (codes "#AL\r") refl) (firsts-begins comment_row (In (codes "#")) begins-comment_row))
-    (firsts-wider item_row (In (codes "AL\r")) (In (codes "#AL\r")) (in_within (codes "AL\r") (codes "#AL\r") refl) firsts-item_row)
+    (firsts-wider comment_row (In (codes "#")) (In (codes "#AL\r")) (in_within (codes "#")
+    (codes "#AL\r") refl) (firsts-begins comment_row (In (codes "#")) begins-comment_row))
+    (firsts-wider item_row (In (codes "AL\r")) (In (codes "#AL\r"))
+    (in_within (codes "AL\r") (codes "#AL\r") refl) firsts-item_row)
 
 -- no row begins with the letter "P"
 pub row-no_letter : (t : List ℕ) (r : Line × Bool) → row (80 ∷ t) r → ⊥
@@ -185,7 +203,8 @@ pub ended-no_letter : (l : Line) (others : List ℕ → Type 0) (t : List ℕ) �
 ended-no_letter l others t h = cases h.front h.parts h.of_row where
   cases : (front : List ℕ) → 80 ∷ t ≡ front ++ 10 ∷ h.behind → row front (l, h.wants) → ⊥
   cases [] e r = cc e
-  cases (c ∷ front) e r = let byte : c ≡ 80 = cc e in row-no_letter front (l, h.wants) (subst (λ c. row (c ∷ front) (l, h.wants)) byte r)
+  cases (c ∷ front) e r = let byte : c ≡ 80 = cc e in
+      row-no_letter front (l, h.wants) (subst (λ c. row (c ∷ front) (l, h.wants)) byte r)
 
 -- the front of a file that has no line before
 abbrev alone : Tail → List Line × Tail
@@ -207,14 +226,16 @@ front-letter t ([], Opens behind) (inr h) = (Opens behind, inr (cc h), refl)
 front-letter t (l ∷ ended, tail) h = absurd (ended-no_letter l (Front ended tail) t h)
 
 reads-letter : (rest : List ℕ) → Reads file_front (80 ∷ rest) (letter_at (80 ∷ rest))
-reads-letter rest = reads-step file_front (Changed End alone) 80 rest (letter_at (80 ∷ rest)) letter-front front-letter (reads-changed End alone rest (opens_at rest) (reads-end rest))
+reads-letter rest = reads-step file_front (Changed End alone) 80 rest (letter_at (80 ∷ rest))
+    letter-front front-letter (reads-changed End alone rest (opens_at rest) (reads-end rest))
 
 -- ---- a row, and what stands behind it
 
 -- what may stand behind a row
 pub data Behind (r : Line × Bool) (text : List ℕ) (v : List Line × Tail) : Type 0 where
   ends : text ≡ [] → r.1 ≡ false → v ≡ ([], Ends r.0) → Behind r text v
-  goes_on : (rest : List ℕ) → text ≡ 10 ∷ rest → (others : List Line × Tail) → file_front rest others → v ≡ (r.0 ∷ others.0, others.1) → Behind r text v
+  goes_on : (rest : List ℕ) → text ≡ 10 ∷ rest → (others : List Line × Tail)
+      → file_front rest others → v ≡ (r.0 ∷ others.0, others.1) → Behind r text v
 
 -- a line before others
 abbrev one_before : Line → List Line × Tail → List Line × Tail
@@ -222,7 +243,8 @@ one_before l others = (l ∷ others.0, others.1)
 
 row-front : (t : List ℕ) (v : List Line × Tail) → Then row Behind t v → file_front t v
 row-front t v h = elim h.of_next [
-  | ends nothing wants is ↦ subst₂ (λ x w. file_front x w) (sym (h.parts ∙ ap (λ x. h.front ++ x) nothing ∙ append-nil h.front)) (sym is)
+  | ends nothing wants is ↦ subst₂ (λ x w. file_front x w)
+      (sym (h.parts ∙ ap (λ x. h.front ++ x) nothing ∙ append-nil h.front)) (sym is)
       (row-line h.front h.v.0 (subst (λ b. row h.front (h.v.0, b)) wants h.of_first))
   | goes_on rest is others of_others same ↦ subst (λ w. file_front t w) (sym same)
       (record { wants = h.v.1; front = h.front; behind = rest; parts = h.parts ∙ ap (λ x. h.front ++ x) is; of_row = h.of_first; of_others = of_others })
@@ -232,68 +254,98 @@ row-front t v h = elim h.of_next [
 no-letter : (text t behind : List ℕ) → ((s : List ℕ) → text ≡ 80 ∷ s → ⊥) → BeginsAs text t → t ≡ 80 ∷ behind → ⊥
 no-letter text t behind other alike is = let same = alike 80 behind is in other same.0 same.1
 
-front-row : (text : List ℕ) → ((s : List ℕ) → text ≡ 80 ∷ s → ⊥) → (t : List ℕ) (v : List Line × Tail) → BeginsAs text t → file_front t v → Then row Behind t v
-front-row text other t ([], Ends l) alike h = record { front = t; behind = []; v = (l, false); parts = sym (append-nil t); of_first = line-row t l h; of_next = ends refl refl refl }
+front-row : (text : List ℕ) → ((s : List ℕ) → text ≡ 80 ∷ s → ⊥)
+    → (t : List ℕ) (v : List Line × Tail) → BeginsAs text t → file_front t v → Then row Behind t v
+front-row text other t ([], Ends l) alike h =
+    record { front = t; behind = []; v = (l, false); parts = sym (append-nil t); of_first = line-row t l h; of_next = ends refl refl refl }
 front-row text other t ([], Letter) alike h = absurd (no-letter text t [] other alike h)
 front-row text other t ([], Opens behind) alike (inl h) = absurd (no-letter text t (10 ∷ behind) other alike h)
 front-row text other t ([], Opens behind) alike (inr h) = absurd (no-letter text t (13 ∷ 10 ∷ behind) other alike h)
-front-row text other t (l ∷ ended, tail) alike h = record { front = h.front; behind = 10 ∷ h.behind; v = (l, h.wants); parts = h.parts; of_first = h.of_row; of_next = goes_on h.behind refl (ended, tail) h.of_others refl }
+front-row text other t (l ∷ ended, tail) alike h =
+    record { front = h.front; behind = 10 ∷ h.behind; v = (l, h.wants); parts = h.parts; of_first = h.of_row; of_next = goes_on h.behind refl (ended, tail) h.of_others refl }
 
 -- an empty line
 pub empty-line : line [] None
 empty-line = inr (inr (inr (record { empty = refl; is = refl })))
 
 -- a row behind which no LF stands
-reads-last : (l : Line) (wants : Bool) (text : List ℕ) → ((s : List ℕ) → text ≡ 10 ∷ s → ⊥) → Reads (Behind (l, wants)) text (last_at l wants text)
-reads-last l true text other = reads-none (Behind (l, true)) text (record { more = codes "\n"; v = (l ∷ [], Ends None); whole = goes_on [] refl ([], Ends None) empty-line refl })
+reads-last : (l : Line) (wants : Bool) (text : List ℕ) → ((s : List ℕ) → text ≡ 10 ∷ s → ⊥)
+    → Reads (Behind (l, wants)) text (last_at l wants text)
+reads-last l true text other = reads-none (Behind (l, true)) text
+    (record { more = codes "\n"; v = (l ∷ [], Ends None); whole = goes_on [] refl ([], Ends None) empty-line refl })
     (λ symbol rest is viable. elim viable.whole [
       | ends nothing wants same ↦ absurd (cc nothing)
-      | goes_on more begun others of_others same ↦ let byte : symbol ≡ 10 = cc begun in other rest (is ∙ ap (λ b. b ∷ rest) byte)
+      | goes_on more begun others of_others same ↦ let byte : symbol ≡ 10 = cc begun in
+          other rest (is ∙ ap (λ b. b ∷ rest) byte)
     ])
-    (λ v h. elim h [ ends nothing wants same ↦ absurd (cc wants) | goes_on more begun others of_others same ↦ absurd (cc begun) ])
+    (λ v h. elim h [
+      | ends nothing wants same ↦
+          absurd (cc wants)
+      | goes_on more begun others of_others same ↦ absurd (cc begun)
+    ])
 reads-last l false text other = reads-spell (Behind (l, false)) text ([], Ends l) (ends refl refl refl)
     (λ v h. elim h [ ends nothing wants same ↦ same | goes_on more begun others of_others same ↦ absurd (cc begun) ])
     (λ symbol rest is viable. elim viable.whole [
       | ends nothing wants same ↦ absurd (cc nothing)
-      | goes_on more begun others of_others same ↦ let byte : symbol ≡ 10 = cc begun in other rest (is ∙ ap (λ b. b ∷ rest) byte)
+      | goes_on more begun others of_others same ↦ let byte : symbol ≡ 10 = cc begun in
+          other rest (is ∙ ap (λ b. b ∷ rest) byte)
     ])
 
 -- an LF, and others
-feed-behind : (l : Line) (wants : Bool) (t : List ℕ) (v : List Line × Tail) → Changed file_front (one_before l) t v → Behind (l, wants) (10 ∷ t) v
+feed-behind : (l : Line) (wants : Bool) (t : List ℕ) (v : List Line × Tail)
+    → Changed file_front (one_before l) t v → Behind (l, wants) (10 ∷ t) v
 feed-behind l wants t v h = goes_on t refl h.0 h.1 h.2
 
-behind-feed : (l : Line) (wants : Bool) (t : List ℕ) (v : List Line × Tail) → Behind (l, wants) (10 ∷ t) v → Changed file_front (one_before l) t v
+behind-feed : (l : Line) (wants : Bool) (t : List ℕ) (v : List Line × Tail)
+    → Behind (l, wants) (10 ∷ t) v → Changed file_front (one_before l) t v
 behind-feed l wants t v h = elim h [
   | ends nothing wants same ↦ absurd (cc nothing)
-  | goes_on rest is others of_others same ↦ let tail : rest ≡ t = cc is in (others, subst (λ x. file_front x others) tail of_others, same)
+  | goes_on rest is others of_others same ↦ let tail : rest ≡ t = cc is in
+      (others, subst (λ x. file_front x others) tail of_others, same)
 ]
 
-module _ (others : List ℕ → Outcome ℕ (List Line × Tail)) (most : ℕ) (reads : (text : List ℕ) → length text < most → Reads file_front text (others text)) where
-  reads-behind : (l : Line) (wants : Bool) (text : List ℕ) → length text ≤ most → Reads (Behind (l, wants)) text (behind_row_at others l wants text)
+module _ (others : List ℕ → Outcome ℕ (List Line × Tail)) (most : ℕ) (reads : (text : List ℕ)
+    → length text < most → Reads file_front text (others text)) where
+  reads-behind : (l : Line) (wants : Bool) (text : List ℕ) → length text ≤ most
+      → Reads (Behind (l, wants)) text (behind_row_at others l wants text)
   reads-behind l wants [] le = reads-last l wants [] (λ s e. cc e)
   reads-behind l wants (byte ∷ rest) le = decided (byte == 10) refl where
-    decided : (same : Bool) → (byte == 10) ≡ same → Reads (Behind (l, wants)) (byte ∷ rest) (if same then with_lines (l ∷ []) (others rest) else last_at l wants (byte ∷ rest))
+    decided : (same : Bool) → (byte == 10) ≡ same → Reads (Behind (l, wants)) (byte ∷ rest)
+        (if same then with_lines (l ∷ []) (others rest) else last_at l wants (byte ∷ rest))
     decided true e = let is : byte ≡ 10 = eqb-true byte 10 e in
         subst (λ b. Reads (Behind (l, wants)) (b ∷ rest) (with_lines (l ∷ []) (others rest))) (sym is)
-        (reads-step (Behind (l, wants)) (Changed file_front (one_before l)) 10 rest (with_lines (l ∷ []) (others rest)) (feed-behind l wants) (behind-feed l wants)
+        (reads-step (Behind (l, wants)) (Changed file_front (one_before l)) 10 rest
+        (with_lines (l ∷ []) (others rest)) (feed-behind l wants) (behind-feed l wants)
         (reads-changed file_front (one_before l) rest (others rest) (reads rest (omega arith))))
-    decided false e = reads-last l wants (byte ∷ rest) (λ s is. let same : byte ≡ 10 = cc is in not-self 10 (subst (λ b. (b == 10) ≡ false) same e))
+    decided false e = reads-last l wants (byte ∷ rest) (λ s is. let same : byte ≡ 10 = cc is in
+        not-self 10 (subst (λ b. (b == 10) ≡ false) same e))
 
-  reads-row : (text : List ℕ) → length text ≤ most → ((s : List ℕ) → text ≡ 80 ∷ s → ⊥) → Reads file_front text (row_and_others_at others text)
+  reads-row : (text : List ℕ) → length text ≤ most → ((s : List ℕ) → text ≡ 80 ∷ s → ⊥)
+      → Reads file_front text (row_and_others_at others text)
   reads-row text le other = reads-more (Then row Behind) file_front row-front (front-row text other)
       (reader-row.before (List Line × Tail) Behind (λ x. behind_row_at others x.0.0 x.0.1 x.1) text
       (λ r rest shorter. reads-behind r.0 r.1 rest (omega arith))
-      (λ r c s v h on. elim h [ ends nothing wants same ↦ absurd (cc nothing) | goes_on rest is others of_others same ↦ on (cc is) ]))
+      (λ r c s v h on. elim h [
+        | ends nothing wants same ↦
+            absurd (cc nothing)
+        | goes_on rest is others of_others same ↦ on (cc is)
+      ]))
 
 reads-front_from : (most : ℕ) (text : List ℕ) → length text < most → Reads file_front text (front_from most text)
 reads-front_from zero text less = absurd (omega arith)
-reads-front_from (suc most) [] less = reads-row (front_from most) most (reads-front_from most) [] (omega arith) (λ s e. cc e)
-reads-front_from (suc most) (byte ∷ rest) less = decided (is_in (only (codes "P")) byte) refl (λ text shorter. reads-front_from most text shorter) where
-  decided : (same : Bool) → is_in (only (codes "P")) byte ≡ same → ((text : List ℕ) → length text < most → Reads file_front text (front_from most text))
-      → Reads file_front (byte ∷ rest) (if same then letter_at (byte ∷ rest) else row_and_others_at (front_from most) (byte ∷ rest))
-  decided true e next = let is : byte ≡ 80 = only-byte 80 byte e in subst (λ b. Reads file_front (b ∷ rest) (letter_at (b ∷ rest))) (sym is) (reads-letter rest)
-  decided false e next = reads-row (front_from most) most next (byte ∷ rest) (omega arith)
-      (λ s is. let same : byte ≡ 80 = cc is in let no : is_in (only (codes "P")) 80 ≡ false = subst (λ b. is_in (only (codes "P")) b ≡ false) same e in cc no)
+reads-front_from (suc most) [] less =
+    reads-row (front_from most) most (reads-front_from most) [] (omega arith) (λ s e. cc e)
+reads-front_from (suc most) (byte ∷ rest) less = decided (is_in (only (codes "P")) byte) refl
+    (λ text shorter. reads-front_from most text shorter) where
+      decided : (same : Bool) → is_in (only (codes "P")) byte ≡ same
+          → ((text : List ℕ) → length text < most → Reads file_front text (front_from most text))
+          → Reads file_front (byte ∷ rest) (if same then letter_at (byte ∷ rest)
+          else row_and_others_at (front_from most) (byte ∷ rest))
+      decided true e next = let is : byte ≡ 80 = only-byte 80 byte e in
+          subst (λ b. Reads file_front (b ∷ rest) (letter_at (b ∷ rest))) (sym is) (reads-letter rest)
+      decided false e next = reads-row (front_from most) most next (byte ∷ rest) (omega arith)
+          (λ s is. let same : byte ≡ 80 = cc is in let no : is_in (only (codes "P")) 80 ≡ false =
+          subst (λ b. is_in (only (codes "P")) b ≡ false) same e in cc no)
 
 -- what stands before the script of a file is read
 pub reads-front : (text : List ℕ) → Reads file_front text (front_at text)

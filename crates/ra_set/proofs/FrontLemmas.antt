@@ -1,5 +1,6 @@
 -- The front of a file, and what the grammar says of its lines and of a line "P".
-use Rattle.std.proofs.Common.{◌≡◌, ◌∙◌, ◌⊎◌, inl, inr, ℕ, List, [], ◌∷◌, ◌++◌, Some, None, refl, sym, ap, subst, subst₂, codes, append-nil, append_assoc}
+use Rattle.std.proofs.Common.{◌≡◌, ◌∙◌, ◌⊎◌, inl, inr, ℕ, List, [], ◌∷◌, ◌++◌, Some, None, refl, sym, ap, subst, subst₂}
+use Rattle.std.proofs.Common.{codes, append-nil, append_assoc}
 use Rattle.ra_richpresence.specs.Grammar.{ScriptParts, script_parts}
 use Rattle.ra_set.specs.Grammar.{Line, line_end, ended_line, set_lines, last_head, script_head, FileContents, set_file}
 use Rattle.ra_set.specs.Places.{HasScript}
@@ -12,14 +13,16 @@ use Rattle.ra_text.proofs.Places.{spelled-once}
 
 -- ---- lines with their ends, and how they end
 
-pub ended-front : (tail : Tail) (ended : List Line) (t : List ℕ) → many ended_line t ended → (u : List ℕ) → TailOf tail u → Front ended tail (t ++ u)
+pub ended-front : (tail : Tail) (ended : List Line) (t : List ℕ) → many ended_line t ended
+    → (u : List ℕ) → TailOf tail u → Front ended tail (t ++ u)
 ended-front tail [] t none u h = subst (λ x. TailOf tail (x ++ u)) (sym none) h
 ended-front tail (l ∷ ended) t h u last =
     let e = ended-row h.front l h.of_first in record {
       wants = e.0;
       front = e.1;
       behind = h.behind ++ u;
-      parts = ap (λ x. x ++ u) (h.parts ∙ ap (λ x. x ++ h.behind) e.3 ∙ append_assoc e.1 (codes "\n") h.behind) ∙ append_assoc e.1 (10 ∷ h.behind) u;
+      parts = ap (λ x. x ++ u) (h.parts ∙ ap (λ x. x ++ h.behind) e.3
+          ∙ append_assoc e.1 (codes "\n") h.behind) ∙ append_assoc e.1 (10 ∷ h.behind) u;
       of_row = e.2;
       of_others = ended-front tail ended h.behind h.of_next u last;
     }
@@ -38,27 +41,33 @@ front-ended tail (l ∷ ended) text h =
     let p = front-ended tail ended h.behind h.of_others in record {
       front = (h.front ++ codes "\n") ++ p.front;
       behind = p.behind;
-      parts = h.parts ∙ sym (append_assoc h.front (codes "\n") h.behind) ∙ ap (λ x. (h.front ++ codes "\n") ++ x) p.parts ∙ sym (append_assoc (h.front ++ codes "\n") p.front p.behind);
-      of_ended = record { front = h.front ++ codes "\n"; behind = p.front; parts = refl; of_first = row-ended h.front l h.wants h.of_row; of_next = p.of_ended };
+      parts = h.parts ∙ sym (append_assoc h.front (codes "\n") h.behind) ∙ ap (λ x. (h.front ++
+          codes "\n") ++ x) p.parts ∙ sym (append_assoc (h.front ++ codes "\n") p.front p.behind);
+      of_ended =
+          record { front = h.front ++ codes "\n"; behind = p.front; parts = refl; of_first = row-ended h.front l h.wants h.of_row; of_next = p.of_ended };
       of_tail = p.of_tail;
     }
 
 -- ---- files without a script
 
-pub lines-front : (text : List ℕ) (lines : List Line) → set_lines text lines → (ended : List Line) × (last : Line) × Front ended (Ends last) text × (lines ≡ ended ++ last ∷ [])
+pub lines-front : (text : List ℕ) (lines : List Line) → set_lines text lines → (ended : List Line)
+    × (last : Line) × Front ended (Ends last) text × (lines ≡ ended ++ last ∷ [])
 lines-front text lines h =
     let last = h.of_next in
-    let parts : h.front ++ last.front ≡ text = sym (h.parts ∙ ap (λ x. h.front ++ x) (last.parts ∙ ap (λ x. last.front ++ x) last.of_next.empty ∙ append-nil last.front)) in
+    let parts : h.front ++ last.front ≡ text = sym (h.parts ∙ ap (λ x. h.front ++ x) (last.parts
+    ∙ ap (λ x. last.front ++ x) last.of_next.empty ∙ append-nil last.front)) in
     (h.v, last.v, subst (Front h.v (Ends last.v)) parts (ended-front (Ends last.v) h.v h.front h.of_first last.front last.of_first), last.of_next.is)
 
-pub front-lines : (text : List ℕ) (ended : List Line) (last : Line) → Front ended (Ends last) text → set_lines text (ended ++ last ∷ [])
+pub front-lines : (text : List ℕ) (ended : List Line) (last : Line) → Front ended (Ends last) text
+    → set_lines text (ended ++ last ∷ [])
 front-lines text ended last h = let p = front-ended (Ends last) ended text h in record {
   front = p.front;
   behind = p.behind;
   v = ended;
   parts = p.parts;
   of_first = p.of_ended;
-  of_next = record { front = p.behind; behind = []; v = last; parts = sym (append-nil p.behind); of_first = p.of_tail; of_next = record { empty = refl; is = refl } };
+  of_next =
+      record { front = p.behind; behind = []; v = last; parts = sym (append-nil p.behind); of_first = p.of_tail; of_next = record { empty = refl; is = refl } };
 }
 
 -- ---- files with a line "P"
@@ -70,7 +79,8 @@ front-letter text ended h = let p = front-ended Letter ended text h in record {
   v = ended;
   parts = p.parts;
   of_first = p.of_ended;
-  of_next = record { front = p.behind; behind = []; v = tt; parts = sym (append-nil p.behind); of_first = record { symbol = 80; alone = p.of_tail; listed = refl }; of_next = record { empty = refl; is = refl } };
+  of_next = record
+      { front = p.behind; behind = []; v = tt; parts = sym (append-nil p.behind); of_first = record { symbol = 80; alone = p.of_tail; listed = refl }; of_next = record { empty = refl; is = refl } };
 }
 
 -- lines with their ends before the letter "P"
@@ -82,7 +92,8 @@ record BeforeLetter (text : List ℕ) (ended : List Line) : Type 0 where
 before-letter : (text : List ℕ) (ended : List Line) → last_head text ended → BeforeLetter text ended
 before-letter text ended h = let l = h.of_next in record {
   before = h.front;
-  parts = h.parts ∙ ap (λ x. h.front ++ x) (l.parts ∙ ap (λ x. l.front ++ x) l.of_next.empty ∙ append-nil l.front ∙ one-is 80 l.front l.v l.of_first);
+  parts = h.parts ∙ ap (λ x. h.front ++ x) (l.parts ∙ ap (λ x. l.front ++ x) l.of_next.empty
+      ∙ append-nil l.front ∙ one-is 80 l.front l.v l.of_first);
   of_ended = subst (many ended_line h.front) (sym l.of_next.is) h.of_first;
 }
 
@@ -91,11 +102,13 @@ letter-front text ended h = let b = before-letter text ended h in
     subst (Front ended Letter) (sym b.parts) (ended-front Letter ended b.before b.of_ended (codes "P") refl)
 
 -- the end of a line "P", and a text behind it
-end-opens : (e : List ℕ) (behind : List ℕ) → (e ≡ codes "\n") ⊎ (e ≡ codes "\r\n") → TailOf (Opens behind) (codes "P" ++ (e ++ behind))
+end-opens : (e : List ℕ) (behind : List ℕ) → (e ≡ codes "\n") ⊎ (e ≡ codes "\r\n")
+    → TailOf (Opens behind) (codes "P" ++ (e ++ behind))
 end-opens e behind (inl is) = inl (ap (λ x. codes "P" ++ (x ++ behind)) is)
 end-opens e behind (inr is) = inr (ap (λ x. codes "P" ++ (x ++ behind)) is)
 
-pub head-front : (text behind : List ℕ) (ended : List Line) → script_head text ended → Front ended (Opens behind) (text ++ behind)
+pub head-front : (text behind : List ℕ) (ended : List Line) → script_head text ended
+    → Front ended (Opens behind) (text ++ behind)
 head-front text behind ended h =
     let b = before-letter h.front h.v h.of_first in
     let e = h.of_next in
@@ -104,10 +117,12 @@ head-front text behind ended h =
     ap (λ x. x ++ behind) (h.parts ∙ ap (λ x. x ++ h.behind) b.parts ∙ ap (λ x. (b.before ++ codes "P") ++ x) end)
     ∙ append_assoc (b.before ++ codes "P") e.front behind ∙ append_assoc b.before (codes "P") (e.front ++ behind) in
     subst₂ (λ ls t. Front ls (Opens behind) t) (sym e.of_next.is) (sym parts)
-    (ended-front (Opens behind) h.v b.before b.of_ended (codes "P" ++ (e.front ++ behind)) (end-opens e.front behind (end-text e.front e.v e.of_first)))
+    (ended-front (Opens behind) h.v b.before b.of_ended (codes "P" ++ (e.front ++ behind))
+    (end-opens e.front behind (end-text e.front e.v e.of_first)))
 
 -- a line "P" with its end
-with-letter : (before e : List ℕ) (ended : List Line) → many ended_line before ended → line_end e tt → script_head ((before ++ codes "P") ++ e) ended
+with-letter : (before e : List ℕ) (ended : List Line) → many ended_line before ended → line_end e tt
+    → script_head ((before ++ codes "P") ++ e) ended
 with-letter before e ended h end = record {
   front = before ++ codes "P";
   behind = e;
@@ -119,33 +134,41 @@ with-letter before e ended h end = record {
     v = ended;
     parts = refl;
     of_first = h;
-    of_next = record { front = codes "P"; behind = []; v = tt; parts = refl; of_first = record { symbol = 80; alone = refl; listed = refl }; of_next = record { empty = refl; is = refl } };
+    of_next =
+        record { front = codes "P"; behind = []; v = tt; parts = refl; of_first = record { symbol = 80; alone = refl; listed = refl }; of_next = record { empty = refl; is = refl } };
   };
-  of_next = record { front = e; behind = []; v = tt; parts = sym (append-nil e); of_first = end; of_next = record { empty = refl; is = refl } };
+  of_next =
+      record { front = e; behind = []; v = tt; parts = sym (append-nil e); of_first = end; of_next = record { empty = refl; is = refl } };
 }
 
 -- the letter of a last line, with an end
-pub letter-ended : (text : List ℕ) (ended : List Line) → Front ended Letter text → script_head (text ++ codes "\n") ended
+pub letter-ended : (text : List ℕ) (ended : List Line) → Front ended Letter text
+    → script_head (text ++ codes "\n") ended
 letter-ended text ended h = let p = front-ended Letter ended text h in
-    subst (λ x. script_head (x ++ codes "\n") ended) (sym (p.parts ∙ ap (λ x. p.front ++ x) p.of_tail)) (with-letter p.front (codes "\n") ended p.of_ended lf)
+    subst (λ x. script_head (x ++ codes "\n") ended) (sym (p.parts
+    ∙ ap (λ x. p.front ++ x) p.of_tail)) (with-letter p.front (codes "\n") ended p.of_ended lf)
 
 -- a head stands before a text
 abbrev pub HeadBefore : List ℕ → List ℕ → List Line → Type 0
 HeadBefore file text ended = (head : List ℕ) × (file ≡ head ++ text) × script_head head ended
 
 pub front-head : (file text : List ℕ) (ended : List Line) → Front ended (Opens text) file → HeadBefore file text ended
-front-head file text ended h = let p = front-ended (Opens text) ended file h in cases p.front p.behind p.parts p.of_ended p.of_tail where
-  cases : (before behind : List ℕ) → file ≡ before ++ behind → many ended_line before ended → TailOf (Opens text) behind → HeadBefore file text ended
-  cases before behind parts all (inl is) = (
-    (before ++ codes "P") ++ codes "\n",
-    parts ∙ ap (λ x. before ++ x) is ∙ sym (append_assoc before (codes "P") (10 ∷ text)) ∙ sym (append_assoc (before ++ codes "P") (codes "\n") text),
-    with-letter before (codes "\n") ended all lf,
-  )
-  cases before behind parts all (inr is) = (
-    (before ++ codes "P") ++ codes "\r\n",
-    parts ∙ ap (λ x. before ++ x) is ∙ sym (append_assoc before (codes "P") (13 ∷ 10 ∷ text)) ∙ sym (append_assoc (before ++ codes "P") (codes "\r\n") text),
-    with-letter before (codes "\r\n") ended all crlf,
-  )
+front-head file text ended h = let p = front-ended (Opens text) ended file h in
+    cases p.front p.behind p.parts p.of_ended p.of_tail where
+      cases : (before behind : List ℕ) → file ≡ before ++ behind → many ended_line before ended
+          → TailOf (Opens text) behind → HeadBefore file text ended
+      cases before behind parts all (inl is) = (
+        (before ++ codes "P") ++ codes "\n",
+        parts ∙ ap (λ x. before ++ x) is ∙ sym (append_assoc before (codes "P") (10 ∷ text))
+            ∙ sym (append_assoc (before ++ codes "P") (codes "\n") text),
+        with-letter before (codes "\n") ended all lf,
+      )
+      cases before behind parts all (inr is) = (
+        (before ++ codes "P") ++ codes "\r\n",
+        parts ∙ ap (λ x. before ++ x) is ∙ sym (append_assoc before (codes "P") (13 ∷ 10 ∷ text))
+            ∙ sym (append_assoc (before ++ codes "P") (codes "\r\n") text),
+        with-letter before (codes "\r\n") ended all crlf,
+      )
 
 -- ---- what a file spells, and its front
 
@@ -154,17 +177,20 @@ pub front-once : OneSpelling file_front
 front-once = spelled-once file_front front_at reads-front
 
 -- a line "P" in a file
-pub script-front : (file front text : List ℕ) → (h : HasScript file front text) → Front h.lines (Opens text) file ⊎ ((text ≡ []) × Front h.lines Letter file)
+pub script-front : (file front text : List ℕ) → (h : HasScript file front text)
+    → Front h.lines (Opens text) file ⊎ ((text ≡ []) × Front h.lines Letter file)
 script-front file front text h = elim h.opens [
   | inl head ↦ inl (subst (Front h.lines (Opens text)) (sym h.parts) (head-front front text h.lines head))
-  | inr last ↦ inr (last.0, subst (Front h.lines Letter) (sym (h.parts ∙ ap (λ x. front ++ x) last.0 ∙ append-nil front)) (letter-front front h.lines last.1))
+  | inr last ↦
+      inr (last.0, subst (Front h.lines Letter) (sym (h.parts ∙ ap (λ x. front ++ x) last.0 ∙ append-nil front)) (letter-front front h.lines last.1))
 ]
 
 -- how the lines of a file end that is a set file
 abbrev pub TailIn : FileContents → Tail → List Line → Type 0
 TailIn contents (Ends last) ended = (contents.lines ≡ ended ++ last ∷ []) × (contents.script ≡ None)
 TailIn contents Letter ended = ⊥
-TailIn contents (Opens text) ended = (contents.lines ≡ ended) × (parts : ScriptParts) × script_parts text parts × (contents.script ≡ Some parts)
+TailIn contents (Opens text) ended = (contents.lines ≡ ended) × (parts : ScriptParts)
+    × script_parts text parts × (contents.script ≡ Some parts)
 
 -- the front of a set file
 pub record FileFront (file : List ℕ) (contents : FileContents) : Type 0 where
@@ -176,7 +202,8 @@ pub record FileFront (file : List ℕ) (contents : FileContents) : Type 0 where
 pub front-of_file : (file : List ℕ) (contents : FileContents) → set_file file contents → FileFront file contents
 front-of_file file contents (inl h) =
     let s = h.of_next in
-    let text : s.front ≡ h.behind = sym (s.parts ∙ ap (λ x. s.front ++ x) s.of_next.empty ∙ append-nil s.front) in record {
+    let text : s.front ≡ h.behind =
+    sym (s.parts ∙ ap (λ x. s.front ++ x) s.of_next.empty ∙ append-nil s.front) in record {
       ended = h.v;
       tail = Opens h.behind;
       spelled = subst (Front h.v (Opens h.behind)) (sym h.parts) (head-front h.front h.behind h.v h.of_first);
@@ -192,16 +219,21 @@ front-of_file file contents (inr h) =
     }
 
 -- a file without a script
-pub file-of_lines : (file : List ℕ) (lines : List Line) → set_lines file lines → set_file file (record { lines = lines; script = None })
-file-of_lines file lines h = inr (record { front = file; behind = []; v = lines; parts = sym (append-nil file); of_first = h; of_next = record { empty = refl; is = refl } })
+pub file-of_lines : (file : List ℕ) (lines : List Line) → set_lines file lines
+    → set_file file (record { lines = lines; script = None })
+file-of_lines file lines h = inr (record
+    { front = file; behind = []; v = lines; parts = sym (append-nil file); of_first = h; of_next = record { empty = refl; is = refl } })
 
 -- a file with a script
-pub file-of_script : (file text : List ℕ) (ended : List Line) (parts : ScriptParts) → HeadBefore file text ended → script_parts text parts → set_file file (record { lines = ended; script = Some parts })
+pub file-of_script : (file text : List ℕ) (ended : List Line) (parts : ScriptParts)
+    → HeadBefore file text ended → script_parts text parts
+    → set_file file (record { lines = ended; script = Some parts })
 file-of_script file text ended parts h spelled = inl (record {
   front = h.0;
   behind = text;
   v = ended;
   parts = h.1;
   of_first = h.2;
-  of_next = record { front = text; behind = []; v = parts; parts = sym (append-nil text); of_first = spelled; of_next = record { empty = refl; is = refl } };
+  of_next =
+      record { front = text; behind = []; v = parts; parts = sym (append-nil text); of_first = spelled; of_next = record { empty = refl; is = refl } };
 })

@@ -1,10 +1,13 @@
 -- The texts of the items' lines spell the items, one for one, and the text behind a line "P" the script.
-use Rattle.std.proofs.Common.{◌≡◌, ◌∙◌, inl, inr, ℕ, zero, suc, ◌≤◌, ◌==◌, Bool, true, false, cond, if◌then◌else◌, List, [], ◌∷◌, ◌++◌, length, filter, slice_get, Option, Some, None, refl, sym, ap, subst, subst₂, codes, arith, append-nil, append_assoc, length-append, eqb-true}
+use Rattle.std.proofs.Common.{◌≡◌, ◌∙◌, inl, inr, ℕ, zero, suc, ◌≤◌, ◌==◌, Bool, true, false, cond, if◌then◌else◌, List}
+use Rattle.std.proofs.Common.{[], ◌∷◌, ◌++◌, length, filter, slice_get, Option, Some, None, refl, sym, ap, subst}
+use Rattle.std.proofs.Common.{subst₂, codes, arith, append-nil, append_assoc, length-append, eqb-true}
 use Rattle.ra_set.specs.Contents.{ItemContents, Unlocks, Ranks}
 use Rattle.ra_set.specs.Grammar.{Line, achievement, leaderboard, comment, line, FileContents, set_file, items_of}
 use Rattle.ra_set.specs.Names.{IsItemText, IsScriptText, SpellsTexts}
 use Rattle.ra_set.specs.Reading.{Tail, Ends, Letter, Opens}
-use Rattle.ra_set.specs.Texts.{with_byte, first_line, without_return, text_of, is_item, is_script, cut_file, item_texts, script_text}
+use Rattle.ra_set.specs.Texts.{with_byte, first_line, without_return, text_of, is_item, is_script, cut_file, item_texts}
+use Rattle.ra_set.specs.Texts.{script_text}
 use Rattle.ra_set.proofs.CutLemmas.{begun_by, cut-more, cut-last, cut-script}
 use Rattle.ra_set.proofs.FileReaders.{Ended, Front, TailOf, ended-no_letter, row-no_letter}
 use Rattle.ra_set.proofs.FrontLemmas.{TailIn, front-of_file}

@@ -1,7 +1,9 @@
 -- No text of a line of the grammar has a line feed in it, and none of a trigger or a board a carriage return.
-use Rattle.std.proofs.Common.{◌≡◌, ◌≢◌, ◌∙◌, inl, inr, ℕ, ◌+◌, ◌*◌, Bool, true, false, if◌then◌else◌, List, [], ◌∷◌, ◌++◌, Option, Some, None, refl, sym, ap, subst, codes}
+use Rattle.std.proofs.Common.{◌≡◌, ◌≢◌, ◌∙◌, inl, inr, ℕ, ◌+◌, ◌*◌, Bool, true, false, if◌then◌else◌, List, [], ◌∷◌}
+use Rattle.std.proofs.Common.{◌++◌, Option, Some, None, refl, sym, ap, subst, codes}
 use Rattle.ra_condition.specs.Flags.{hands_on, is_measured}
-use Rattle.ra_condition.specs.Grammar.{flags, comparison, operators, target, compared, computed, bare, tail_of, stands_bare, unflagged, flagged, condition, group, trigger}
+use Rattle.ra_condition.specs.Grammar.{flags, comparison, operators, target, compared, computed, bare, tail_of}
+use Rattle.ra_condition.specs.Grammar.{stands_bare, unflagged, flagged, condition, group, trigger}
 use Rattle.ra_condition.specs.Values.{measured_by, measured_conditions, term, part, value}
 use Rattle.ra_condition.specs.declared.flag.Flag.{Flag}
 use Rattle.ra_condition.specs.declared.flag.Flag.TheVariants.{Plain}
