@@ -1,5 +1,6 @@
 -- A set has a name for each item, and one for its script where there is one.
-use Rattle.std.proofs.Common.{◌∙◌, ℕ, List, length, map, get_or, Option, Some, None, option_map, refl, sym, ap, subst, subst₂}
+use Rattle.std.proofs.Common.{◌∙◌, ℕ, List, length, map, get_or, Option, Some, None, option_map, refl, sym, ap, subst}
+use Rattle.std.proofs.Common.{subst₂}
 use Rattle.std.specs.Prelude.{All}
 use Rattle.std.proofs.lemmas.List.{length-map}
 use Rattle.std.proofs.lemmas.List.Elements.{All-map}

@@ -1,5 +1,7 @@
 -- The first bad place of a file, by its lines or by its script.
-use Rattle.std.proofs.Common.{◌≡◌, ◌∙◌, inl, inr, ℕ, zero, suc, ◌+◌, ◌-◌, ◌<◌, ◌≤◌, List, [], ◌∷◌, ◌++◌, length, take, drop, Some, None, Err, refl, sym, ap, subst, arith, codes, append_assoc, length-append, take-append-drop}
+use Rattle.std.proofs.Common.{◌≡◌, ◌∙◌, inl, inr, ℕ, zero, suc, ◌+◌, ◌-◌, ◌<◌, ◌≤◌, List, [], ◌∷◌, ◌++◌, length, take}
+use Rattle.std.proofs.Common.{drop, Some, None, Err, refl, sym, ap, subst, arith, codes, append_assoc, length-append}
+use Rattle.std.proofs.Common.{take-append-drop}
 use Rattle.std.proofs.lemmas.Bool.{cases_lt}
 use Rattle.ra_richpresence.specs.Cut.{contents_of}
 use Rattle.ra_richpresence.specs.Grammar.{ScriptParts, script_parts, script_of}
@@ -13,7 +15,8 @@ use Rattle.ra_set.specs.Places.{HasScript, IsFileOutside}
 use Rattle.ra_set.specs.Reading.{Tail, Ends, Letter, Opens, front_at, lines_in}
 use Rattle.ra_set.proofs.FileReaders.{Front, file_front, reads-front}
 use Rattle.ra_set.proofs.FileLemmas.{Stopped, stopped, fronts-along, head-viable}
-use Rattle.ra_set.proofs.FrontLemmas.{TailIn, front-of_file, front-once, front-head, front-lines, letter-ended, script-front, file-of_lines, file-of_script}
+use Rattle.ra_set.proofs.FrontLemmas.{TailIn, front-of_file, front-once, front-head, front-lines, letter-ended}
+use Rattle.ra_set.proofs.FrontLemmas.{script-front, file-of_lines, file-of_script}
 use Rattle.ra_set.proofs.LineReaders.{viable-nothing}
 use Rattle.ra_text.specs.Form.{Viable}
 use Rattle.ra_text.specs.Place.{IsBadPlace}
@@ -28,24 +31,31 @@ some-script : IsFront []
 some-script = viable-front [] tt (viable-nothing (reads-script []))
 
 -- what goes on to a front of lines goes on to a set file, where the file that begins so has no line "P"
-lines-viable : (file u rest : List ℕ) → file ≡ u ++ rest → ((front text : List ℕ) → HasScript file front text → ⊥) → Viable file_front u → Viable set_file u
+lines-viable : (file u rest : List ℕ) → file ≡ u ++ rest → ((front text : List ℕ)
+    → HasScript file front text → ⊥) → Viable file_front u → Viable set_file u
 lines-viable file u rest begun none viable = cases viable.v.0 viable.v.1 viable.whole where
   cases : (ended : List Line) (tail : Tail) → Front ended tail (u ++ viable.more) → Viable set_file u
-  cases ended (Ends last) h = record { more = viable.more; v = record { lines = ended ++ last ∷ []; script = None }; whole = file-of_lines (u ++ viable.more) (ended ++ last ∷ []) (front-lines (u ++ viable.more) ended last h) }
+  cases ended (Ends last) h = record
+      { more = viable.more; v = record { lines = ended ++ last ∷ []; script = None }; whole = file-of_lines (u ++ viable.more) (ended ++ last ∷ []) (front-lines (u ++ viable.more) ended last h) }
   cases ended Letter h = record {
     more = viable.more ++ (codes "\n" ++ some-script.text);
     v = record { lines = ended; script = Some some-script.whole.parts };
-    whole = file-of_script (u ++ (viable.more ++ (codes "\n" ++ some-script.text))) some-script.text ended some-script.whole.parts
+    whole = file-of_script (u ++ (viable.more ++ (codes "\n" ++ some-script.text))) some-script.text
+        ended some-script.whole.parts
         ((u ++ viable.more) ++ codes "\n", sym (append_assoc u viable.more (codes "\n" ++ some-script.text)) ∙ sym (append_assoc (u ++ viable.more) (codes "\n") some-script.text), letter-ended (u ++ viable.more) ended h)
         some-script.whole.spelled;
   }
-  cases ended (Opens text) h = let b = front-head (u ++ viable.more) text ended h in elim (fronts-along u viable.more b.0 text b.1) [
-    | inl w ↦ head-viable some-script.text some-script.whole.parts some-script.whole.spelled u viable.more text ended b w.0 w.1
-    | inr w ↦ absurd (none b.0 (w.0 ++ rest) (record { parts = begun ∙ ap (λ x. x ++ rest) w.1 ∙ append_assoc b.0 w.0 rest; lines = ended; opens = inl b.2 }))
-  ]
+  cases ended (Opens text) h = let b = front-head (u ++ viable.more) text ended h in
+      elim (fronts-along u viable.more b.0 text b.1) [
+        | inl w ↦ head-viable some-script.text some-script.whole.parts some-script.whole.spelled u
+            viable.more text ended b w.0 w.1
+        | inr w ↦ absurd (none b.0 (w.0 ++ rest)
+            (record { parts = begun ∙ ap (λ x. x ++ rest) w.1 ∙ append_assoc b.0 w.0 rest; lines = ended; opens = inl b.2 }))
+      ]
 
 file-viable : (u : List ℕ) → Viable set_file u → Viable file_front u
-file-viable u viable = viable-same u (λ more v h. let f = front-of_file (u ++ more) v h in ((f.ended, f.tail), f.spelled)) viable
+file-viable u viable = viable-same u (λ more v h. let f = front-of_file (u ++ more) v h in
+    ((f.ended, f.tail), f.spelled)) viable
 
 -- ---- files that are bad before a script
 
@@ -67,39 +77,47 @@ module _ (file rest : List ℕ) (stops : lines_in (front_at file) ≡ Err rest) 
   lines-outside at is =
       let r = reads-front file in
       let b = read-place r in
-      let here : at ≡ length r.front = omega (arith, is, ap length r.parts, length-append r.front (rest_of (front_at file)), ap length left.0) in
+      let here : at ≡ length r.front =
+      omega (arith, is, ap length r.parts, length-append r.front (rest_of (front_at file)), ap length left.0) in
       record {
         place = inr (record {
           no_script = no-script;
           bad = subst (λ n. IsBadPlace set_file file n) (sym here) (record {
             within = b.within;
-            viable = lines-viable file (take (length r.front) file) (drop (length r.front) file) (sym (take-append-drop (length r.front) file)) no-script b.viable;
+            viable = lines-viable file (take (length r.front) file) (drop (length r.front) file)
+                (sym (take-append-drop (length r.front) file)) no-script b.viable;
             longest = λ m more within viable. b.longest m more within (file-viable (take m file) viable);
           });
         });
-        outside = λ contents h. let f = front-of_file file contents h in left.1 (f.ended, f.tail) (reads-whole r (f.ended, f.tail) f.spelled);
+        outside = λ contents h. let f = front-of_file file contents h in
+            left.1 (f.ended, f.tail) (reads-whole r (f.ended, f.tail) f.spelled);
       }
 
 -- ---- files that are bad in their script
 
 -- a script is what a file contains behind a line "P"
-script-told : (file front text : List ℕ) → HasScript file front text → (contents : FileContents) → set_file file contents → (parts : ScriptParts) × script_parts text parts
+script-told : (file front text : List ℕ) → HasScript file front text → (contents : FileContents)
+    → set_file file contents → (parts : ScriptParts) × script_parts text parts
 script-told file front text h contents k =
     let f = front-of_file file contents k in
     elim (script-front file front text h) [
       | inl g ↦
-          let same : ◌≡◌ {A = List Line × Tail} (f.ended, f.tail) (h.lines, Opens text) = front-once file (f.ended, f.tail) (h.lines, Opens text) f.spelled g in
+          let same : ◌≡◌ {A = List Line × Tail} (f.ended, f.tail) (h.lines, Opens text) =
+          front-once file (f.ended, f.tail) (h.lines, Opens text) f.spelled g in
           let told : TailIn contents (Opens text) h.lines = subst (λ x. TailIn contents x.1 x.0) same f.tells in
           (told.1, told.2)
       | inr g ↦
-          let same : ◌≡◌ {A = List Line × Tail} (f.ended, f.tail) (h.lines, Letter) = front-once file (f.ended, f.tail) (h.lines, Letter) f.spelled g.1 in
+          let same : ◌≡◌ {A = List Line × Tail} (f.ended, f.tail) (h.lines, Letter) =
+          front-once file (f.ended, f.tail) (h.lines, Letter) f.spelled g.1 in
           absurd (subst (λ x. TailIn contents x.1 x.0) same f.tells)
     ]
 
-pub script-outside : (file front text : List ℕ) → HasScript file front text → (place : ℕ) → IsOutside text place → IsFileOutside file (length front + place)
+pub script-outside : (file front text : List ℕ) → HasScript file front text → (place : ℕ)
+    → IsOutside text place → IsFileOutside file (length front + place)
 script-outside file front text h place o = record {
   place = inl (record { front = front; text = text; begun = h; place = place; first_bad = o.first_bad; is = refl });
-  outside = λ contents k. let told = script-told file front text h contents k in o.outside (script_of told.0) (script-of_parts text told.0 told.1);
+  outside = λ contents k. let told = script-told file front text h contents k in
+      o.outside (script_of told.0) (script-of_parts text told.0 told.1);
 }
 
 -- ---- one place
@@ -117,7 +135,8 @@ front-before lines n m le h = let w = take-along lines n m le in
 
 -- no line before the first bad one is bad
 not-before : (text : List ℕ) (n m : ℕ) → (a : IsFirstBad text n) (b : IsFirstBad text m) → a.index < b.index → ⊥
-not-before text n m a b less = a.bad (let w = b.within in omega arith) (front-before (contents_of text) (suc a.index) b.index (omega arith) b.good)
+not-before text n m a b less = a.bad (let w = b.within in
+    omega arith) (front-before (contents_of text) (suc a.index) b.index (omega arith) b.good)
 
 pub one-first_bad : (text : List ℕ) (n m : ℕ) → IsFirstBad text n → IsFirstBad text m → n ≡ m
 one-first_bad text n m a b = elim (cases_lt a.index b.index) [
@@ -128,14 +147,16 @@ one-first_bad text n m a b = elim (cases_lt a.index b.index) [
   ]
 ]
 
-pub one-bad_place : {V : Type 0} (form : List ℕ → V → Type 0) (text : List ℕ) (n m : ℕ) → IsBadPlace form text n → IsBadPlace form text m → n ≡ m
+pub one-bad_place : {V : Type 0} (form : List ℕ → V → Type 0) (text : List ℕ) (n m : ℕ)
+    → IsBadPlace form text n → IsBadPlace form text m → n ≡ m
 one-bad_place form text n m a b = elim (cases_lt n m) [
   | inl less ↦ absurd (a.longest m less b.within b.viable)
   | inr ge ↦ elim (cases_lt m n) [ inl less ↦ absurd (b.longest n less a.within a.viable) | inr le ↦ omega arith ]
 ]
 
 -- the text behind a line "P" is one
-script-once : (file front text front' text' : List ℕ) → HasScript file front text → HasScript file front' text' → text ≡ text'
+script-once : (file front text front' text' : List ℕ) → HasScript file front text
+    → HasScript file front' text' → text ≡ text'
 script-once file front text front' text' h k = elim (script-front file front text h) [
   | inl f ↦ elim (script-front file front' text' k) [
     | inl g ↦ opened (front-once file (h.lines, Opens text) (k.lines, Opens text') f g)
@@ -158,8 +179,10 @@ one-file_place file n m a b = elim a.place [
   | inl x ↦ elim b.place [
     | inl y ↦
         let same = script-once file x.front x.text y.front y.text x.begun y.begun in
-        let fronts : length x.front ≡ length y.front = omega (arith, ap length x.begun.parts, ap length y.begun.parts, length-append x.front x.text, length-append y.front y.text, ap length same) in
-        let places : x.place ≡ y.place = one-first_bad y.text x.place y.place (subst (λ t. IsFirstBad t x.place) same x.first_bad) y.first_bad in
+        let fronts : length x.front ≡ length y.front =
+        omega (arith, ap length x.begun.parts, ap length y.begun.parts, length-append x.front x.text, length-append y.front y.text, ap length same) in
+        let places : x.place ≡ y.place = one-first_bad y.text x.place y.place
+        (subst (λ t. IsFirstBad t x.place) same x.first_bad) y.first_bad in
         omega (arith, x.is, y.is)
     | inr y ↦ absurd (y.no_script x.front x.text x.begun)
   ]

@@ -1,5 +1,6 @@
 -- Lines that repeat an id, with one line more behind them.
-use Rattle.std.proofs.Common.{◌≡◌, ◌∙◌, ℕ, zero, suc, ◌+◌, ◌<◌, Bool, true, false, ◌||◌, List, [], ◌∷◌, ◌++◌, length, Some, None, slice_get, option_to_list, refl, sym, ap, subst, arith, eq-eqb, append-nil}
+use Rattle.std.proofs.Common.{◌≡◌, ◌∙◌, ℕ, zero, suc, ◌+◌, ◌<◌, Bool, true, false, ◌||◌, List, [], ◌∷◌, ◌++◌, length}
+use Rattle.std.proofs.Common.{Some, None, slice_get, option_to_list, refl, sym, ap, subst, arith, eq-eqb, append-nil}
 use Rattle.std.specs.List.{IsDistinct, AllByRecursion, list_any}
 use Rattle.std.proofs.lemmas.List.Concat.{flat_map-append}
 use Rattle.std.proofs.lemmas.Map.Keys.{IsDistinct-push, IsDistinct-head, IsDistinct-tail}
@@ -46,7 +47,8 @@ module _ {X : Type 0} where
   get-within (y ∷ xs) zero x e = omega arith
   get-within (y ∷ xs) (suc n) x e = let r = get-within xs n x e in omega arith
 
-  get-back : (xs ys : List X) (n : ℕ) (x : X) → n < length xs → slice_get (xs ++ ys) n ≡ Some x → slice_get xs n ≡ Some x
+  get-back : (xs ys : List X) (n : ℕ) (x : X) → n < length xs → slice_get (xs ++ ys) n ≡ Some x
+      → slice_get xs n ≡ Some x
   get-back [] ys n x less e = absurd (omega arith)
   get-back (y ∷ xs) ys zero x less e = e
   get-back (y ∷ xs) ys (suc n) x less e = get-back xs ys n x (omega arith) e
@@ -56,7 +58,8 @@ module _ {X : Type 0} where
   get-last (y ∷ xs) x = get-last xs x
 
 -- a repeat stays one behind which lines come
-repeat-more : (lines more : List Line) (place : ℕ) (item : ItemContents) → RepeatsAt lines place item → RepeatsAt (lines ++ more) place item
+repeat-more : (lines more : List Line) (place : ℕ) (item : ItemContents)
+    → RepeatsAt lines place item → RepeatsAt (lines ++ more) place item
 repeat-more lines more place item h = record {
   here = get-front lines more place (Some item) h.here;
   earlier = h.earlier;
@@ -66,7 +69,8 @@ repeat-more lines more place item h = record {
   same = h.same;
 }
 
-repeat-less : (lines more : List Line) (place : ℕ) (item : ItemContents) → place < length lines → RepeatsAt (lines ++ more) place item → RepeatsAt lines place item
+repeat-less : (lines more : List Line) (place : ℕ) (item : ItemContents) → place < length lines
+    → RepeatsAt (lines ++ more) place item → RepeatsAt lines place item
 repeat-less lines more place item within h = record {
   here = get-back lines more place (Some item) within h.here;
   earlier = h.earlier;
@@ -76,68 +80,89 @@ repeat-less lines more place item within h = record {
   same = h.same;
 }
 
-pub first-more : (lines more : List Line) (id number : ℕ) → FirstRepeat lines id number → FirstRepeat (lines ++ more) id number
+pub first-more : (lines more : List Line) (id number : ℕ) → FirstRepeat lines id number
+    → FirstRepeat (lines ++ more) id number
 first-more lines more id number h = record {
   place = h.place;
   counted = h.counted;
   item = h.item;
   repeated = repeat-more lines more h.place h.item h.repeated;
   named = h.named;
-  first = λ earlier other less r. h.first earlier other less (repeat-less lines more earlier other (let w = get-within lines h.place (Some h.item) h.repeated.here in omega arith) r);
+  first = λ earlier other less r. h.first earlier other less (repeat-less lines more earlier other
+      (let w = get-within lines h.place (Some h.item) h.repeated.here in omega arith) r);
 }
 
 -- ---- the items of lines
 
 pub items-more : (lines : List Line) (l : Line) → items_of (lines ++ l ∷ []) ≡ items_of lines ++ option_to_list l
-items-more lines l = flat_map-append option_to_list lines (l ∷ []) ∙ ap (λ x. items_of lines ++ x) (append-nil (option_to_list l))
+items-more lines l = flat_map-append option_to_list lines (l ∷ [])
+    ∙ ap (λ x. items_of lines ++ x) (append-nil (option_to_list l))
 
 -- an item that stands in a line is one of them
-item-among : (p : ItemContents → Bool) (lines : List Line) (n : ℕ) (x : ItemContents) → slice_get lines n ≡ Some (Some x) → p x ≡ true → list_any p (items_of lines) ≡ true
+item-among : (p : ItemContents → Bool) (lines : List Line) (n : ℕ) (x : ItemContents)
+    → slice_get lines n ≡ Some (Some x) → p x ≡ true → list_any p (items_of lines) ≡ true
 item-among p [] n x e passed = absurd (cc e)
 item-among p (l ∷ lines) zero x e passed = let same : l ≡ Some x = cc e in
-    subst (λ l. list_any p (option_to_list l ++ items_of lines) ≡ true) (sym same) (ap (λ b. b || list_any p (items_of lines)) passed)
+    subst (λ l. list_any p (option_to_list l ++ items_of lines) ≡ true) (sym same)
+    (ap (λ b. b || list_any p (items_of lines)) passed)
 item-among p (None ∷ lines) (suc n) x e passed = item-among p lines n x e passed
-item-among p (Some y ∷ lines) (suc n) x e passed = either (p y) (list_any p (items_of lines)) (item-among p lines n x e passed) where
-  either : (a b : Bool) → b ≡ true → (a || b) ≡ true
-  either true b e = refl
-  either false b e = e
+item-among p (Some y ∷ lines) (suc n) x e passed =
+    either (p y) (list_any p (items_of lines)) (item-among p lines n x e passed) where
+      either : (a b : Bool) → b ≡ true → (a || b) ≡ true
+      either true b e = refl
+      either false b e = e
 
 -- and each item stands in a line
-among-item : (p : ItemContents → Bool) (lines : List Line) → list_any p (items_of lines) ≡ true → (n : ℕ) × (x : ItemContents) × (slice_get lines n ≡ Some (Some x)) × (p x ≡ true)
+among-item : (p : ItemContents → Bool) (lines : List Line) → list_any p (items_of lines) ≡ true
+    → (n : ℕ) × (x : ItemContents) × (slice_get lines n ≡ Some (Some x)) × (p x ≡ true)
 among-item p [] e = absurd (cc e)
 among-item p (None ∷ lines) e = let r = among-item p lines e in (suc r.0, r.1, r.2, r.3)
 among-item p (Some y ∷ lines) e = cases (p y) refl e (among-item p lines) where
   cases : (b : Bool) → p y ≡ b → (b || list_any p (items_of lines)) ≡ true
-      → (list_any p (items_of lines) ≡ true → (n : ℕ) × (x : ItemContents) × (slice_get lines n ≡ Some (Some x)) × (p x ≡ true))
+      → (list_any p (items_of lines) ≡ true → (n : ℕ) × (x : ItemContents)
+      × (slice_get lines n ≡ Some (Some x)) × (p x ≡ true))
       → (n : ℕ) × (x : ItemContents) × (slice_get (Some y ∷ lines) n ≡ Some (Some x)) × (p x ≡ true)
   cases true is e next = (0, y, refl, is)
   cases false is e next = let r = next e in (suc r.0, r.1, r.2, r.3)
 
-none-among : (p : ItemContents → Bool) (xs : List ItemContents) → AllByRecursion (λ x. p x ≡ false) xs → list_any p xs ≡ false
+none-among : (p : ItemContents → Bool) (xs : List ItemContents)
+    → AllByRecursion (λ x. p x ≡ false) xs → list_any p xs ≡ false
 none-among p [] each = refl
 none-among p (x ∷ xs) each = ap (λ b. b || list_any p xs) each.0 ∙ none-among p xs each.1
 
-apart : (lines : List Line) → IsDistinct repeats (items_of lines) → (earlier place : ℕ) (other item : ItemContents) → slice_get lines earlier ≡ Some (Some other) → slice_get lines place ≡ Some (Some item) → earlier < place → repeats other item ≡ false
+apart : (lines : List Line) → IsDistinct repeats (items_of lines)
+    → (earlier place : ℕ) (other item : ItemContents) → slice_get lines earlier ≡ Some (Some other)
+    → slice_get lines place ≡ Some (Some item) → earlier < place → repeats other item ≡ false
 apart [] distinct earlier place other item there here before = absurd (cc there)
-apart (None ∷ lines) distinct zero place other item there here before = absurd (let e : ◌≡◌ {A = Line} None (Some other) = cc there in cc e)
+apart (None ∷ lines) distinct zero place other item there here before =
+    absurd (let e : ◌≡◌ {A = Line} None (Some other) = cc there in cc e)
 apart (Some y ∷ lines) distinct zero zero other item there here before = absurd (omega arith)
 apart (Some y ∷ lines) distinct zero (suc place) other item there here before =
     let same : y ≡ other = cc there in
-    let none : list_any (repeats y) (items_of lines) ≡ false = none-among (repeats y) (items_of lines) (IsDistinct-head repeats y (items_of lines) distinct) in
+    let none : list_any (repeats y) (items_of lines) ≡ false =
+    none-among (repeats y) (items_of lines) (IsDistinct-head repeats y (items_of lines) distinct) in
     subst (λ z. repeats z item ≡ false) same (cases (repeats y item) refl none) where
       cases : (b : Bool) → repeats y item ≡ b → list_any (repeats y) (items_of lines) ≡ false → b ≡ false
-      cases true is none = absurd (let some : list_any (repeats y) (items_of lines) ≡ true = item-among (repeats y) lines place item here is in cc (some, none))
+      cases true is none = absurd (let some : list_any (repeats y) (items_of lines) ≡ true =
+          item-among (repeats y) lines place item here is in cc (some, none))
       cases false is none = refl
 apart (l ∷ lines) distinct (suc earlier) zero other item there here before = absurd (omega arith)
-apart (None ∷ lines) distinct (suc earlier) (suc place) other item there here before = apart lines distinct earlier place other item there here (omega arith)
-apart (Some y ∷ lines) distinct (suc earlier) (suc place) other item there here before = apart lines (IsDistinct-tail repeats y (items_of lines) distinct) earlier place other item there here (omega arith)
+apart (None ∷ lines) distinct (suc earlier) (suc place) other item there here before =
+    apart lines distinct earlier place other item there here (omega arith)
+apart (Some y ∷ lines) distinct (suc earlier) (suc place) other item there here before =
+    apart lines (IsDistinct-tail repeats y (items_of lines) distinct) earlier place other item there
+    here (omega arith)
 
 -- where no id stands twice no line repeats one
-pub distinct-apart : (lines : List Line) → IsDistinct repeats (items_of lines) → (place : ℕ) (item : ItemContents) → RepeatsAt lines place item → ⊥
-distinct-apart lines distinct place item h = let e = apart lines distinct h.earlier place h.other item h.there h.here h.before in cc (e, h.same)
+pub distinct-apart : (lines : List Line) → IsDistinct repeats (items_of lines)
+    → (place : ℕ) (item : ItemContents) → RepeatsAt lines place item → ⊥
+distinct-apart lines distinct place item h = let e =
+    apart lines distinct h.earlier place h.other item h.there h.here h.before in cc (e, h.same)
 
 -- the first repeat, at the last line
-pub first-last : (lines : List Line) (x : ItemContents) → IsDistinct repeats (items_of lines) → list_any (repeats x) (items_of lines) ≡ true → FirstRepeat (lines ++ Some x ∷ []) (id_of x) (length lines + 1)
+pub first-last : (lines : List Line) (x : ItemContents) → IsDistinct repeats (items_of lines)
+    → list_any (repeats x) (items_of lines) ≡ true
+    → FirstRepeat (lines ++ Some x ∷ []) (id_of x) (length lines + 1)
 first-last lines x distinct among =
     let a = among-item (repeats x) lines among in
     record {
@@ -153,13 +178,18 @@ first-last lines x distinct among =
         same = repeats-symm a.1 x ∙ a.3;
       };
       named = refl;
-      first = λ earlier other less r. distinct-apart lines distinct earlier other (repeat-less lines (Some x ∷ []) earlier other less r);
+      first = λ earlier other less r. distinct-apart lines distinct earlier other
+          (repeat-less lines (Some x ∷ []) earlier other less r);
     }
 
 -- no repeat, with a last line that is none
-pub distinct-last : (lines : List Line) (x : ItemContents) → IsDistinct repeats (items_of lines) → list_any (repeats x) (items_of lines) ≡ false → IsDistinct repeats (items_of (lines ++ Some x ∷ []))
-distinct-last lines x distinct none = subst (IsDistinct repeats) (sym (items-more lines (Some x))) (IsDistinct-push repeats-equivalence (items_of lines) x distinct none)
+pub distinct-last : (lines : List Line) (x : ItemContents) → IsDistinct repeats (items_of lines)
+    → list_any (repeats x) (items_of lines) ≡ false
+    → IsDistinct repeats (items_of (lines ++ Some x ∷ []))
+distinct-last lines x distinct none = subst (IsDistinct repeats) (sym (items-more lines (Some x)))
+    (IsDistinct-push repeats-equivalence (items_of lines) x distinct none)
 
 -- where a line repeats an id, some id stands twice
-pub repeat-apart : (lines : List Line) (id number : ℕ) → FirstRepeat lines id number → IsDistinct repeats (items_of lines) → ⊥
+pub repeat-apart : (lines : List Line) (id number : ℕ) → FirstRepeat lines id number
+    → IsDistinct repeats (items_of lines) → ⊥
 repeat-apart lines id number h distinct = distinct-apart lines distinct h.place h.item h.repeated

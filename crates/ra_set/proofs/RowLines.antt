@@ -1,5 +1,6 @@
 -- Lines with their ends are rows with an LF behind each.
-use Rattle.std.proofs.Common.{◌≡◌, ◌∙◌, ◌⊎◌, inl, inr, ℕ, Bool, true, false, List, [], ◌∷◌, ◌++◌, refl, sym, ap, subst, subst₂, codes, append-nil, append_assoc}
+use Rattle.std.proofs.Common.{◌≡◌, ◌∙◌, ◌⊎◌, inl, inr, ℕ, Bool, true, false, List, [], ◌∷◌, ◌++◌, refl, sym, ap, subst}
+use Rattle.std.proofs.Common.{subst₂, codes, append-nil, append_assoc}
 use Rattle.ra_set.specs.Grammar.{Line, comment, line, line_end, ended_line}
 use Rattle.ra_set.proofs.LineReaders.{row, item_line, returns, comment-returned}
 use Rattle.ra_text.specs.Form.{One}
@@ -8,7 +9,8 @@ use Rattle.ra_text.proofs.Tables.{listed_in, each-in, each-listed}
 
 -- a comment is a row that wants no LF
 comment-row : (t : List ℕ) (l : Line) → comment t l → row t (l, false)
-comment-row t l h = inl (record { front = t; behind = []; v = l; parts = sym (append-nil t); of_first = h; of_next = record { empty = refl; is = refl } })
+comment-row t l h = inl (record
+    { front = t; behind = []; v = l; parts = sym (append-nil t); of_first = h; of_next = record { empty = refl; is = refl } })
 
 -- a line that is no comment, without a CR and with one
 item-row : (t : List ℕ) (l : Line) → item_line t l → row t (l, false)
@@ -18,7 +20,8 @@ item-row t l h = inr (record {
   v = l;
   parts = sym (append-nil t);
   of_first = h;
-  of_next = record { front = []; behind = []; v = false; parts = refl; of_first = inr (record { empty = refl; is = refl }); of_next = record { empty = refl; is = refl } };
+  of_next =
+      record { front = []; behind = []; v = false; parts = refl; of_first = inr (record { empty = refl; is = refl }); of_next = record { empty = refl; is = refl } };
 })
 
 item-returned : (t : List ℕ) (l : Line) → item_line t l → row (t ++ codes "\r") (l, true)
@@ -28,7 +31,8 @@ item-returned t l h = inr (record {
   v = l;
   parts = refl;
   of_first = h;
-  of_next = record { front = codes "\r"; behind = []; v = true; parts = refl; of_first = inl (record { symbol = 13; alone = refl; listed = refl }); of_next = record { empty = refl; is = refl } };
+  of_next =
+      record { front = codes "\r"; behind = []; v = true; parts = refl; of_first = inl (record { symbol = 13; alone = refl; listed = refl }); of_next = record { empty = refl; is = refl } };
 })
 
 -- a line is a row that wants no LF
@@ -38,20 +42,24 @@ line-row t l (inr h) = item-row t l h
 
 -- one byte alone in its table
 pub one-is : (byte : ℕ) (t : List ℕ) (v : Unit {0}) → One (only (byte ∷ [])) t v → t ≡ byte ∷ []
-one-is byte t v h = h.alone ∙ ap (λ c. c ∷ []) (each-in (λ c. c ≡ byte) (byte ∷ []) (refl, tt) h.symbol (listed_in (marks (byte ∷ [])) h.symbol (v, h.listed)))
+one-is byte t v h = h.alone ∙ ap (λ c. c ∷ []) (each-in (λ c. c ≡ byte) (byte ∷ [])
+    (refl, tt) h.symbol (listed_in (marks (byte ∷ [])) h.symbol (v, h.listed)))
 
 -- LF, or CR LF
 pub end-text : (e : List ℕ) (v : Unit {0}) → line_end e v → (e ≡ codes "\n") ⊎ (e ≡ codes "\r\n")
 end-text e v h = elim h.of_first [
-  | inl return ↦ inr (h.parts ∙ ap (λ x. x ++ h.behind) (one-is 13 h.front h.v return) ∙ ap (λ x. codes "\r" ++ x) (one-is 10 h.behind v h.of_next))
+  | inl return ↦ inr (h.parts ∙ ap (λ x. x ++ h.behind) (one-is 13 h.front h.v return)
+      ∙ ap (λ x. codes "\r" ++ x) (one-is 10 h.behind v h.of_next))
   | inr none ↦ inl (h.parts ∙ ap (λ x. x ++ h.behind) none.empty ∙ one-is 10 h.behind v h.of_next)
 ]
 
 pub lf : line_end (codes "\n") tt
-lf = record { front = []; behind = codes "\n"; v = tt; parts = refl; of_first = inr (record { empty = refl; is = refl }); of_next = record { symbol = 10; alone = refl; listed = refl } }
+lf = record
+    { front = []; behind = codes "\n"; v = tt; parts = refl; of_first = inr (record { empty = refl; is = refl }); of_next = record { symbol = 10; alone = refl; listed = refl } }
 
 pub crlf : line_end (codes "\r\n") tt
-crlf = record { front = codes "\r"; behind = codes "\n"; v = tt; parts = refl; of_first = inl (record { symbol = 13; alone = refl; listed = refl }); of_next = record { symbol = 10; alone = refl; listed = refl } }
+crlf = record
+    { front = codes "\r"; behind = codes "\n"; v = tt; parts = refl; of_first = inl (record { symbol = 13; alone = refl; listed = refl }); of_next = record { symbol = 10; alone = refl; listed = refl } }
 
 -- a row before an LF
 abbrev RowAndEnd : List ℕ → Line → Type 0
@@ -59,14 +67,19 @@ RowAndEnd t l = (wants : Bool) × (r : List ℕ) × row r (l, wants) × (t ≡ r
 
 ended-by : (t e : List ℕ) (l : Line) → line t l → (e ≡ codes "\n") ⊎ (e ≡ codes "\r\n") → RowAndEnd (t ++ e) l
 ended-by t e l h (inl is) = (false, t, line-row t l h, ap (λ x. t ++ x) is)
-ended-by t e l (inl h) (inr is) = (false, t ++ codes "\r", comment-row (t ++ codes "\r") l (comment-returned t l h), ap (λ x. t ++ x) is ∙ sym (append_assoc t (codes "\r") (codes "\n")))
-ended-by t e l (inr h) (inr is) = (true, t ++ codes "\r", item-returned t l h, ap (λ x. t ++ x) is ∙ sym (append_assoc t (codes "\r") (codes "\n")))
+ended-by t e l (inl h) (inr is) =
+    (false, t ++ codes "\r", comment-row (t ++ codes "\r") l (comment-returned t l h), ap (λ x. t ++ x) is ∙ sym (append_assoc t (codes "\r") (codes "\n")))
+ended-by t e l (inr h) (inr is) =
+    (true, t ++ codes "\r", item-returned t l h, ap (λ x. t ++ x) is ∙ sym (append_assoc t (codes "\r") (codes "\n")))
 
 -- a line with its end is a row and an LF
 pub ended-row : (t : List ℕ) (l : Line) → ended_line t l → RowAndEnd t l
 ended-row t l h =
-    let behind : h.behind ≡ h.of_next.front = h.of_next.parts ∙ ap (λ x. h.of_next.front ++ x) h.of_next.of_next.empty ∙ append-nil h.of_next.front in
-    subst₂ (λ x v. RowAndEnd x v) (sym (h.parts ∙ ap (λ x. h.front ++ x) behind)) (sym h.of_next.of_next.is) (ended-by h.front h.of_next.front h.v h.of_first (end-text h.of_next.front h.of_next.v h.of_next.of_first))
+    let behind : h.behind ≡ h.of_next.front = h.of_next.parts
+    ∙ ap (λ x. h.of_next.front ++ x) h.of_next.of_next.empty ∙ append-nil h.of_next.front in
+    subst₂ (λ x v. RowAndEnd x v) (sym (h.parts ∙ ap (λ x. h.front ++ x) behind))
+    (sym h.of_next.of_next.is) (ended-by h.front h.of_next.front h.v h.of_first
+    (end-text h.of_next.front h.of_next.v h.of_next.of_first))
 
 with-end : (t e : List ℕ) (l : Line) → line t l → line_end e tt → ended_line (t ++ e) l
 with-end t e l h end = record {
@@ -75,12 +88,14 @@ with-end t e l h end = record {
   v = l;
   parts = refl;
   of_first = h;
-  of_next = record { front = e; behind = []; v = tt; parts = sym (append-nil e); of_first = end; of_next = record { empty = refl; is = refl } };
+  of_next =
+      record { front = e; behind = []; v = tt; parts = sym (append-nil e); of_first = end; of_next = record { empty = refl; is = refl } };
 }
 
 -- a CR wants an LF
 returned-wants : (t : List ℕ) (wants : Bool) → One (lookup returns) t wants → (t ≡ codes "\r") × (wants ≡ true)
-returned-wants t wants h = let byte : h.symbol ≡ 13 = each-in (λ c. c ≡ 13) (codes "\r") (refl, tt) h.symbol (listed_in returns h.symbol (wants, h.listed)) in
+returned-wants t wants h = let byte : h.symbol ≡ 13 = each-in (λ c. c ≡ 13) (codes "\r")
+    (refl, tt) h.symbol (listed_in returns h.symbol (wants, h.listed)) in
     (h.alone ∙ ap (λ c. c ∷ []) byte, each-listed (λ b. b ≡ true) returns (refl, tt) h.symbol wants h.listed)
 
 -- what a row is: a line, or one that is no comment with a CR behind it
@@ -94,11 +109,14 @@ cut t l wants (inl h) =
     inl (subst₂ (λ x v. line x v) (sym text) (sym (ap (λ p. p.0) same)) (inl h.of_first), ap (λ p. p.1) same)
 cut t l wants (inr h) =
     let same = h.of_next.of_next.is in
-    let behind : h.behind ≡ h.of_next.front = h.of_next.parts ∙ ap (λ x. h.of_next.front ++ x) h.of_next.of_next.empty ∙ append-nil h.of_next.front in
+    let behind : h.behind ≡ h.of_next.front = h.of_next.parts
+    ∙ ap (λ x. h.of_next.front ++ x) h.of_next.of_next.empty ∙ append-nil h.of_next.front in
     let here : line h.front l = subst (λ v. line h.front v) (sym (ap (λ p. p.0) same)) (inr h.of_first) in
     elim h.of_next.of_first [
-      | inl one ↦ let r = returned-wants h.of_next.front h.of_next.v one in inr (h.front, here, ap (λ p. p.1) same ∙ r.1, h.parts ∙ ap (λ x. h.front ++ x) (behind ∙ r.0))
-      | inr none ↦ inl (subst (λ x. line x l) (sym (h.parts ∙ ap (λ x. h.front ++ x) (behind ∙ none.empty) ∙ append-nil h.front)) here, ap (λ p. p.1) same ∙ none.is)
+      | inl one ↦ let r = returned-wants h.of_next.front h.of_next.v one in inr
+          (h.front, here, ap (λ p. p.1) same ∙ r.1, h.parts ∙ ap (λ x. h.front ++ x) (behind ∙ r.0))
+      | inr none ↦
+          inl (subst (λ x. line x l) (sym (h.parts ∙ ap (λ x. h.front ++ x) (behind ∙ none.empty) ∙ append-nil h.front)) here, ap (λ p. p.1) same ∙ none.is)
     ]
 
 -- a row that wants no LF is a line
@@ -109,5 +127,6 @@ row-line t l h = elim (cut t l false h) [ inl c ↦ c.0 | inr c ↦ absurd (let 
 pub row-ended : (t : List ℕ) (l : Line) (wants : Bool) → row t (l, wants) → ended_line (t ++ codes "\n") l
 row-ended t l wants h = elim (cut t l wants h) [
   | inl c ↦ with-end t (codes "\n") l c.0 lf
-  | inr c ↦ subst (λ x. ended_line x l) (sym (ap (λ x. x ++ codes "\n") c.3 ∙ append_assoc c.0 (codes "\r") (codes "\n"))) (with-end c.0 (codes "\r\n") l c.1 crlf)
+  | inr c ↦ subst (λ x. ended_line x l) (sym (ap (λ x. x ++ codes "\n") c.3
+      ∙ append_assoc c.0 (codes "\r") (codes "\n"))) (with-end c.0 (codes "\r\n") l c.1 crlf)
 ]
