@@ -1,5 +1,7 @@
 -- A file for each set that has its structure, and the structure of what files spell.
-use Rattle.std.proofs.Common.{◌≡◌, ℕ, zero, suc, ◌<◌, ◌≤◌, ◌^◌, Bool, true, false, not, List, [], ◌∷◌, ◌++◌, length, map, if◌then◌else◌, get_or, Some, None, option_to_list, refl, sym, ap, subst, arith, lit<, codes, append-nil, inl, inr}
+use Rattle.std.proofs.Common.{◌≡◌, ℕ, zero, suc, ◌<◌, ◌≤◌, ◌^◌, Bool, true, false, not, List, [], ◌∷◌, ◌++◌, length}
+use Rattle.std.proofs.Common.{map, if◌then◌else◌, get_or, Some, None, option_to_list, refl, sym, ap, subst, arith, lit<}
+use Rattle.std.proofs.Common.{codes, append-nil, inl, inr}
 use Rattle.std.specs.Fmt.{decimal}
 use Rattle.std.specs.List.{AllByRecursion}
 use Rattle.std.specs.Prelude.{All}
@@ -11,7 +13,9 @@ use Rattle.ra_condition.proofs.Spelling.{trigger-spelled}
 use Rattle.ra_leaderboard.specs.Grammar.{board}
 use Rattle.ra_leaderboard.proofs.BoardStructure.{board_text, board-spelled}
 use Rattle.ra_value_format.specs.declared.format.Format.{Format}
-use Rattle.ra_value_format.specs.declared.format.Format.TheVariants.{Value, Score, Frames, Secs, Hundredths, Minutes, SecsAsMins, Unsigned, Tens, Hundreds, Thousands, Fixed, Float}
+use Rattle.ra_value_format.specs.declared.format.Format.TheVariants.{Value, Score, Frames, Secs, Hundredths, Minutes}
+use Rattle.ra_value_format.specs.declared.format.Format.TheVariants.{SecsAsMins, Unsigned, Tens, Hundreds, Thousands}
+use Rattle.ra_value_format.specs.declared.format.Format.TheVariants.{Fixed, Float}
 use Rattle.ra_value_format.specs.Formats.{HasDigits, format_of_name}
 use Rattle.ra_set.specs.Contents.{ItemContents, Unlocks, Ranks, SetContents}
 use Rattle.ra_set.specs.Grammar.{Line, ExactId, format_name, head, line, ended_line, items_of, SetFile}
@@ -56,7 +60,8 @@ abbrev pub head_text : ℕ → ℕ → List ℕ
 head_text letter id = letter ∷ (32 ∷ (decimal id ++ codes " "))
 
 -- a letter and the decimal digits of an id spell the head of a line
-pub head-spelled : (letter id : ℕ) → only (letter ∷ []) letter ≡ Some tt → id < 2 ^ 32 → head letter (head_text letter id) id
+pub head-spelled : (letter id : ℕ) → only (letter ∷ []) letter ≡ Some tt → id < 2 ^ 32
+    → head letter (head_text letter id) id
 head-spelled letter id listed small = record {
   front = letter ∷ [];
   behind = 32 ∷ (decimal id ++ codes " ");
@@ -75,7 +80,8 @@ head-spelled letter id listed small = record {
       v = id;
       parts = refl;
       of_first = id-spelled id small;
-      of_next = record { front = codes " "; behind = []; v = tt; parts = refl; of_first = one-byte 32 refl; of_next = record { empty = refl; is = refl } };
+      of_next =
+          record { front = codes " "; behind = []; v = tt; parts = refl; of_first = one-byte 32 refl; of_next = record { empty = refl; is = refl } };
     };
   };
 }
@@ -94,10 +100,12 @@ both-true true b e = (refl, e)
 both-true false b e = absurd (cc e)
 
 -- such bytes are a run of the class
-pub run-spelled : (bytes : List ℕ) → all_pass (λ c. not (is_in (only (codes " \n")) c)) bytes ≡ true → run_of in_name bytes bytes
+pub run-spelled : (bytes : List ℕ) → all_pass (λ c. not (is_in (only (codes " \n")) c)) bytes ≡ true
+    → run_of in_name bytes bytes
 run-spelled [] all = (refl, refl)
 run-spelled (c ∷ bytes) all =
-    let e = both-true (not (is_in (only (codes " \n")) c)) (all_pass (λ c. not (is_in (only (codes " \n")) c)) bytes) all in
+    let e = both-true (not (is_in (only (codes " \n")) c))
+    (all_pass (λ c. not (is_in (only (codes " \n")) c)) bytes) all in
     record { symbol = c; tag = c; front = []; behind = bytes; parts = refl; separated = in-name c e.0; of_item = record { empty = refl; is = refl }; of_others = run-spelled bytes e.1 }
 
 -- a name that spells a format
@@ -106,7 +114,8 @@ NameOf format = (name : List ℕ) × format_name name format
 
 -- such bytes are a name of the format that they stand for
 pub named : (c : ℕ) (others : List ℕ) (format : Format) → in_name c ≡ Some c
-    → all_pass (λ c. not (is_in (only (codes " \n")) c)) others ≡ true → format ≡ format_of_name (c ∷ others) → NameOf format
+    → all_pass (λ c. not (is_in (only (codes " \n")) c)) others ≡ true → format
+    ≡ format_of_name (c ∷ others) → NameOf format
 named c others format first all is = (
   c ∷ others,
   record {
@@ -115,7 +124,8 @@ named c others format first all is = (
     v = c;
     parts = refl;
     of_first = record { symbol = c; alone = refl; listed = first };
-    of_next = record { front = others; behind = []; v = others; parts = sym (append-nil others); of_first = run-spelled others all; of_next = record { empty = refl; is = is } };
+    of_next =
+        record { front = others; behind = []; v = others; parts = sym (append-nil others); of_first = run-spelled others all; of_next = record { empty = refl; is = is } };
   },
 )
 
@@ -156,7 +166,8 @@ name-of (Float n) h = float n h.0 h.1 where
 pub item-line : (x : ItemContents) → IsItem x → HasSmallId x → (text : List ℕ) × line text (Some x)
 item-line (Unlocks id t) h small = (
   head_text 65 id ++ trigger_text t,
-  inr (inl (record { front = head_text 65 id; behind = trigger_text t; v = id; parts = refl; of_first = head-spelled 65 id refl small; of_next = changed trigger (λ t. Some (Unlocks id t)) (trigger_text t) t (trigger-spelled t h) })),
+  inr (inl (record
+      { front = head_text 65 id; behind = trigger_text t; v = id; parts = refl; of_first = head-spelled 65 id refl small; of_next = changed trigger (λ t. Some (Unlocks id t)) (trigger_text t) t (trigger-spelled t h) })),
 )
 item-line (Ranks id format b) h small = let name = name-of format h.1 in (
   head_text 76 id ++ (name.0 ++ 32 ∷ board_text b),
@@ -172,7 +183,8 @@ item-line (Ranks id format b) h small = let name = name-of format h.1 in (
       v = format;
       parts = refl;
       of_first = name.1;
-      of_next = record { front = codes " "; behind = board_text b; v = tt; parts = refl; of_first = one-byte 32 refl; of_next = changed board (λ b. Some (Ranks id format b)) (board_text b) b (board-spelled b h.0) };
+      of_next =
+          record { front = codes " "; behind = board_text b; v = tt; parts = refl; of_first = one-byte 32 refl; of_next = changed board (λ b. Some (Ranks id format b)) (board_text b) b (board-spelled b h.0) };
     };
   }))),
 )
@@ -190,13 +202,15 @@ with-end t l h = record {
     behind = [];
     v = tt;
     parts = refl;
-    of_first = record { front = []; behind = codes "\n"; v = tt; parts = refl; of_first = inr (record { empty = refl; is = refl }); of_next = one-byte 10 refl };
+    of_first =
+        record { front = []; behind = codes "\n"; v = tt; parts = refl; of_first = inr (record { empty = refl; is = refl }); of_next = one-byte 10 refl };
     of_next = record { empty = refl; is = refl };
   };
 }
 
 -- lines for items, each with its end
-item-lines : (items : List ItemContents) → AllByRecursion IsItem items → AllByRecursion HasSmallId items → (text : List ℕ) × many ended_line text (map Some items)
+item-lines : (items : List ItemContents) → AllByRecursion IsItem items
+    → AllByRecursion HasSmallId items → (text : List ℕ) × many ended_line text (map Some items)
 item-lines [] each small = ([], refl)
 item-lines (x ∷ items) each small =
     let first = item-line x each.0 small.0 in
@@ -208,9 +222,11 @@ all-items [] = refl
 all-items (x ∷ items) = ap (λ xs. x ∷ xs) (all-items items)
 
 -- a file for a set that has its structure
-pub set-spelled : (set : SetContents) → set.script ≡ None → IsSpelled set → All HasSmallId set.items → (file : List ℕ) × SetFile file set
+pub set-spelled : (set : SetContents) → set.script ≡ None → IsSpelled set → All HasSmallId set.items
+    → (file : List ℕ) × SetFile file set
 set-spelled set script h small =
-    let lines = item-lines set.items (recursion_from_All IsItem set.items h.items) (recursion_from_All HasSmallId set.items small) in (
+    let lines = item-lines set.items (recursion_from_All IsItem set.items h.items)
+    (recursion_from_All HasSmallId set.items small) in (
       lines.0,
       record {
         contents = record { lines = map Some set.items ++ None ∷ []; script = None };
@@ -220,7 +236,8 @@ set-spelled set script h small =
           v = map Some set.items;
           parts = sym (append-nil lines.0);
           of_first = lines.1;
-          of_next = record { front = []; behind = []; v = None; parts = refl; of_first = empty-line; of_next = record { empty = refl; is = refl } };
+          of_next =
+              record { front = []; behind = []; v = None; parts = refl; of_first = empty-line; of_next = record { empty = refl; is = refl } };
         });
         items = sym (all-items set.items);
         script = script;
@@ -234,28 +251,37 @@ abbrev EachSmall : List ItemContents → Type 0
 EachSmall = AllByRecursion HasSmallId
 
 head-fits : (letter : ℕ) (t : List ℕ) (id : ℕ) → head letter t id → id < 2 ^ 32
-head-fits letter t id h = subst (λ n. n < 2 ^ 32) (sym h.of_next.of_next.of_next.of_next.is) h.of_next.of_next.of_first.fits
+head-fits letter t id h = subst (λ n. n < 2 ^ 32)
+    (sym h.of_next.of_next.of_next.of_next.is) h.of_next.of_next.of_first.fits
 
 line-small : (t : List ℕ) (l : Line) → line t l → EachSmall (option_to_list l)
 line-small t l (inl h) = subst (λ x. EachSmall (option_to_list x)) (sym h.of_next.of_next.is) tt
-line-small t l (inr (inl h)) = subst (λ x. EachSmall (option_to_list x)) (sym h.of_next.of_next.is) (head-fits 65 h.front h.v h.of_first, tt)
-line-small t l (inr (inr (inl h))) = subst (λ x. EachSmall (option_to_list x)) (sym h.of_next.of_next.of_next.of_next.is) (head-fits 76 h.front h.v h.of_first, tt)
+line-small t l (inr (inl h)) = subst (λ x. EachSmall (option_to_list x)) (sym h.of_next.of_next.is)
+    (head-fits 65 h.front h.v h.of_first, tt)
+line-small t l (inr (inr (inl h))) = subst (λ x. EachSmall (option_to_list x))
+    (sym h.of_next.of_next.of_next.of_next.is) (head-fits 76 h.front h.v h.of_first, tt)
 line-small t l (inr (inr (inr h))) = subst (λ x. EachSmall (option_to_list x)) (sym h.is) tt
 
 both-small : (xs ys : List ItemContents) → EachSmall xs → EachSmall ys → EachSmall (xs ++ ys)
 both-small [] ys a b = b
 both-small (x ∷ xs) ys a b = (a.0, both-small xs ys a.1 b)
 
-ended-small : (ended : List Line) (t : List ℕ) → many ended_line t ended → (u : List ℕ) (last : Line) → line u last → EachSmall (items_of (ended ++ last ∷ []))
+ended-small : (ended : List Line) (t : List ℕ) → many ended_line t ended
+    → (u : List ℕ) (last : Line) → line u last → EachSmall (items_of (ended ++ last ∷ []))
 ended-small [] t none u last h = both-small (option_to_list last) [] (line-small u last h) tt
 ended-small (l ∷ ended) t h u last hl = both-small (option_to_list l) (items_of (ended ++ last ∷ []))
-    (subst (λ x. EachSmall (option_to_list x)) (sym h.of_first.of_next.of_next.is) (line-small h.of_first.front h.of_first.v h.of_first.of_first)) (ended-small ended h.behind h.of_next u last hl)
+    (subst (λ x. EachSmall (option_to_list x)) (sym h.of_first.of_next.of_next.is)
+    (line-small h.of_first.front h.of_first.v h.of_first.of_first))
+    (ended-small ended h.behind h.of_next u last hl)
 
 -- what a file without a script spells has its structure
-pub spelled-set : (set : SetContents) → set.script ≡ None → (file : List ℕ) × SetFile file set → IsSpelled set × All HasSmallId set.items
+pub spelled-set : (set : SetContents) → set.script ≡ None → (file : List ℕ) × SetFile file set
+    → IsSpelled set × All HasSmallId set.items
 spelled-set set script h =
     let f = h.1 in
     let l = lines-of_file h.0 f.contents f.spelled in (
       record { items = subst (All IsItem) (sym f.items) (contents-items h.0 f.contents f.spelled); script = subst OptionalScript (sym script) tt },
-      subst (All HasSmallId) (sym f.items) (All-from_recursion HasSmallId (items_of f.contents.lines) (subst EachSmall (sym l.items) (ended-small l.ended l.front l.of_ended l.behind l.last l.of_last))),
+      subst (All HasSmallId) (sym f.items) (All-from_recursion HasSmallId
+          (items_of f.contents.lines) (subst EachSmall (sym l.items)
+          (ended-small l.ended l.front l.of_ended l.behind l.last l.of_last))),
     )

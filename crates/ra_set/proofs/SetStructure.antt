@@ -1,5 +1,6 @@
 -- The items that lines spell have their structure.
-use Rattle.std.proofs.Common.{ℕ, if◌then◌else◌, Bool, true, false, List, [], ◌∷◌, ◌++◌, Some, option_to_list, sym, subst, lit≤, inl, inr}
+use Rattle.std.proofs.Common.{ℕ, if◌then◌else◌, Bool, true, false, List, [], ◌∷◌, ◌++◌, Some, option_to_list, sym}
+use Rattle.std.proofs.Common.{subst, lit≤, inl, inr}
 use Rattle.std.specs.Prelude.{All, bytes_eq}
 use Rattle.std.specs.List.{AllByRecursion}
 use Rattle.std.proofs.lemmas.List.Elements.{All-from_recursion}
@@ -20,15 +21,18 @@ abbrev EachFormat : List (List ℕ × Format) → Type 0
 EachFormat [] = Unit {0}
 EachFormat (entry ∷ entries) = HasDigits entry.1 × EachFormat entries
 
-entry-digits : (name : List ℕ) (entries : List (List ℕ × Format)) → EachFormat entries → HasDigits (named_format (entry_of name entries))
+entry-digits : (name : List ℕ) (entries : List (List ℕ × Format)) → EachFormat entries
+    → HasDigits (named_format (entry_of name entries))
 entry-digits name [] each = tt
 entry-digits name (entry ∷ entries) each = cases (bytes_eq entry.0 name) (entry-digits name entries each.1) where
-  cases : (same : Bool) → HasDigits (named_format (entry_of name entries)) → HasDigits (named_format (if same then Some entry.1 else entry_of name entries))
+  cases : (same : Bool) → HasDigits (named_format (entry_of name entries))
+      → HasDigits (named_format (if same then Some entry.1 else entry_of name entries))
   cases true next = each.0
   cases false next = next
 
 each-format : EachFormat format_names
-each-format = (tt, (tt, (tt, (tt, (tt, (tt, (tt, (tt, (tt, (tt, (tt, (tt, (tt, (tt, ((lit≤ tt, lit≤ tt), ((lit≤ tt, lit≤ tt), ((lit≤ tt, lit≤ tt), ((lit≤ tt, lit≤ tt), ((lit≤ tt, lit≤ tt), ((lit≤ tt, lit≤ tt), ((lit≤ tt, lit≤ tt), ((lit≤ tt, lit≤ tt), ((lit≤ tt, lit≤ tt), tt)))))))))))))))))))))))
+each-format =
+    (tt, (tt, (tt, (tt, (tt, (tt, (tt, (tt, (tt, (tt, (tt, (tt, (tt, (tt, ((lit≤ tt, lit≤ tt), ((lit≤ tt, lit≤ tt), ((lit≤ tt, lit≤ tt), ((lit≤ tt, lit≤ tt), ((lit≤ tt, lit≤ tt), ((lit≤ tt, lit≤ tt), ((lit≤ tt, lit≤ tt), ((lit≤ tt, lit≤ tt), ((lit≤ tt, lit≤ tt), tt)))))))))))))))))))))))
 
 pub format-digits : (name : List ℕ) → HasDigits (format_of_name name)
 format-digits name = entry-digits name format_names each-format
@@ -41,22 +45,29 @@ EachItem = AllByRecursion IsItem
 
 line-items : (t : List ℕ) (l : Line) → line t l → EachItem (option_to_list l)
 line-items t l (inl h) = subst (λ x. EachItem (option_to_list x)) (sym h.of_next.of_next.is) tt
-line-items t l (inr (inl h)) = subst (λ x. EachItem (option_to_list x)) (sym h.of_next.of_next.is) (trigger-structure h.of_next.front h.of_next.v h.of_next.of_first, tt)
+line-items t l (inr (inl h)) = subst (λ x. EachItem (option_to_list x)) (sym h.of_next.of_next.is)
+    (trigger-structure h.of_next.front h.of_next.v h.of_next.of_first, tt)
 line-items t l (inr (inr (inl h))) = let b = h.of_next.of_next.of_next in
     let name = h.of_next.of_first in
-    subst (λ x. EachItem (option_to_list x)) (sym b.of_next.is) ((board-structure b.front b.v b.of_first, subst HasDigits (sym name.of_next.of_next.is) (format-digits (name.v ∷ name.of_next.v))), tt)
+    subst (λ x. EachItem (option_to_list x)) (sym b.of_next.is)
+    ((board-structure b.front b.v b.of_first, subst HasDigits (sym name.of_next.of_next.is) (format-digits (name.v ∷ name.of_next.v))), tt)
 line-items t l (inr (inr (inr h))) = subst (λ x. EachItem (option_to_list x)) (sym h.is) tt
 
 both-items : (xs ys : List ItemContents) → EachItem xs → EachItem ys → EachItem (xs ++ ys)
 both-items [] ys a b = b
 both-items (x ∷ xs) ys a b = (a.0, both-items xs ys a.1 b)
 
-ended-items : (ended : List Line) (t : List ℕ) → many ended_line t ended → (u : List ℕ) (last : Line) → line u last → EachItem (items_of (ended ++ last ∷ []))
+ended-items : (ended : List Line) (t : List ℕ) → many ended_line t ended
+    → (u : List ℕ) (last : Line) → line u last → EachItem (items_of (ended ++ last ∷ []))
 ended-items [] t none u last h = both-items (option_to_list last) [] (line-items u last h) tt
 ended-items (l ∷ ended) t h u last hl = both-items (option_to_list l) (items_of (ended ++ last ∷ []))
-    (subst (λ x. EachItem (option_to_list x)) (sym h.of_first.of_next.of_next.is) (line-items h.of_first.front h.of_first.v h.of_first.of_first)) (ended-items ended h.behind h.of_next u last hl)
+    (subst (λ x. EachItem (option_to_list x)) (sym h.of_first.of_next.of_next.is)
+    (line-items h.of_first.front h.of_first.v h.of_first.of_first))
+    (ended-items ended h.behind h.of_next u last hl)
 
 -- each item of a file is one that some line spells
-pub contents-items : (file : List ℕ) (contents : FileContents) → set_file file contents → All IsItem (items_of contents.lines)
+pub contents-items : (file : List ℕ) (contents : FileContents) → set_file file contents
+    → All IsItem (items_of contents.lines)
 contents-items file contents h = let l = lines-of_file file contents h in
-    All-from_recursion IsItem (items_of contents.lines) (subst EachItem (sym l.items) (ended-items l.ended l.front l.of_ended l.behind l.last l.of_last))
+    All-from_recursion IsItem (items_of contents.lines) (subst EachItem (sym l.items)
+    (ended-items l.ended l.front l.of_ended l.behind l.last l.of_last))

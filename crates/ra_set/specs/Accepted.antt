@@ -1,4 +1,5 @@
--- Which files are sets: docs/DEFINITIONS.md, "Set file", "Repeated ids", "Limits of a set", "Names of items and scripts".
+-- Which files are sets: docs/DEFINITIONS.md, "Set file", "Repeated ids", "Limits of a set", "Names of items and
+-- scripts".
 use Rattle.std.specs.Prelude.{◌≡◌, ℕ, ◌≤◌, ◌==◌, Bool, false, List, length, map, option_map}
 use Rattle.std.specs.List.{IsDistinct}
 use Rattle.md5.specs.Md5.{md5}

@@ -1,5 +1,6 @@
 -- A line that stands alone in a file, with its own end: docs/DEFINITIONS.md, "Set file" and "First bad place".
-use Rattle.std.specs.Prelude.{◌≡◌, ◌⊎◌, ℕ, Bool, false, List, [], ◌∷◌, Option, None, Some, option_map, option_to_list, Result, Ok, Err, codes, bytes_eq}
+use Rattle.std.specs.Prelude.{◌≡◌, ◌⊎◌, ℕ, Bool, false, List, [], ◌∷◌, Option, None, Some, option_map, option_to_list}
+use Rattle.std.specs.Prelude.{Result, Ok, Err, codes, bytes_eq}
 use Rattle.ra_condition.specs.declared.fault.Fault.{Fault}
 use Rattle.ra_condition.specs.declared.fault.Fault.TheVariants.{Stop, Memory}
 use Rattle.ra_richpresence.specs.Cut.{lines_of, content_of}
@@ -44,7 +45,8 @@ pub record ReadsAlone (line : List ℕ) (l : Line) : Type 0 where
 
 -- an LF comes after a row, or the file ends there
 abbrev pub EndsRow : Bool → List ℕ → List ℕ → Type 0
-EndsRow wants old new = (old ≡ 10 ∷ new) ⊎ ((begins (is_in (only (codes "\n"))) old ≡ false) × (end_at wants old ≡ Ok (tt, new)))
+EndsRow wants old new = (old ≡ 10 ∷ new)
+    ⊎ ((begins (is_in (only (codes "\n"))) old ≡ false) × (end_at wants old ≡ Ok (tt, new)))
 
 -- no LF comes after a row, and the file does not end there
 abbrev pub StopsRow : Bool → List ℕ → List ℕ → Type 0

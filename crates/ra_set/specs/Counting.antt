@@ -7,7 +7,8 @@ use Rattle.ra_set.specs.Limits.{value_conditions, optional_value}
 
 -- how many conditions a board has
 abbrev pub board_conditions : BoardContents → ℕ
-board_conditions b = trigger_hits b.start + trigger_hits b.cancel + trigger_hits b.submit + value_conditions b.value + optional_value b.progress
+board_conditions b = trigger_hits b.start + trigger_hits b.cancel + trigger_hits b.submit
+    + value_conditions b.value + optional_value b.progress
 
 -- how many conditions a piece of a line has
 abbrev pub piece_conditions : PieceContents → ℕ

@@ -1,5 +1,6 @@
 -- The grammar of set files: docs/DEFINITIONS.md, "Set file".
-use Rattle.std.specs.Prelude.{◌≡◌, ℕ, ◌<◌, ◌^◌, false, List, [], ◌∷◌, ◌++◌, length, Option, Some, None, option_map, option_to_list, codes}
+use Rattle.std.specs.Prelude.{◌≡◌, ℕ, ◌<◌, ◌^◌, false, List, [], ◌∷◌, ◌++◌, length, Option, Some, None, option_map}
+use Rattle.std.specs.Prelude.{option_to_list, codes}
 use Rattle.std.specs.List.{flat_map}
 use Rattle.ra_condition.specs.Grammar.{trigger}
 use Rattle.ra_leaderboard.specs.Grammar.{board}

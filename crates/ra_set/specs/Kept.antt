@@ -1,5 +1,7 @@
--- What is kept of lines while they are read: the step between the code and docs/DEFINITIONS.md, "Set file" and "Repeated ids".
-use Rattle.std.specs.Prelude.{◌≡◌, ℕ, ◌+◌, ◌||◌, if◌then◌else◌, Bool, List, length, map, Option, Some, None, Result, Ok, Err}
+-- What is kept of lines while they are read: the step between the code and docs/DEFINITIONS.md, "Set file" and
+-- "Repeated ids".
+use Rattle.std.specs.Prelude.{◌≡◌, ℕ, ◌+◌, ◌||◌, if◌then◌else◌, Bool, List, length, map, Option, Some, None, Result, Ok}
+use Rattle.std.specs.Prelude.{Err}
 use Rattle.std.specs.List.{IsDistinct, list_any}
 use Rattle.ra_condition.specs.declared.fault.Fault.{Fault}
 use Rattle.ra_condition.specs.declared.fault.Fault.TheVariants.{Stop, Memory}
@@ -61,6 +63,7 @@ pub record NotesId (old : KeptLines) (x : ItemContents) (new : KeptLines) : Type
 
 -- the lines that reading gives are kept, and whether a script comes after them, unless memory runs out
 abbrev pub KeepsUnlessFull : Result FileLines Fault → List ℕ → Outcome ℕ (List Line × Bool) → Type 0
-KeepsUnlessFull (Ok found) rest outcome = (lines : List Line) × (outcome ≡ Ok ((lines, found.has_script), rest)) × Keeps found.kept lines
+KeepsUnlessFull (Ok found) rest outcome =
+    (lines : List Line) × (outcome ≡ Ok ((lines, found.has_script), rest)) × Keeps found.kept lines
 KeepsUnlessFull (Err Stop) rest outcome = outcome ≡ Err rest
 KeepsUnlessFull (Err Memory) rest outcome = Unit {0}

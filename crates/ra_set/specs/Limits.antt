@@ -61,7 +61,8 @@ optional_value (Some parts) = value_conditions parts
 abbrev pub item_conditions : ItemContents → ℕ
 item_conditions (Unlocks id t) = trigger_hits t
 item_conditions (Ranks id format b) =
-    trigger_hits b.start + trigger_hits b.cancel + trigger_hits b.submit + value_conditions b.value + optional_value b.progress
+    trigger_hits b.start + trigger_hits b.cancel + trigger_hits b.submit + value_conditions b.value
+    + optional_value b.progress
 
 -- how many conditions a trigger has that may be missing
 abbrev pub optional_trigger : Option TriggerContents → ℕ
@@ -128,14 +129,18 @@ pub record KeepsLimits (held : List ItemContents) (script : Option ScriptParts) 
   pub macros : first_over most_macros (macro_counts script) ≡ None
   pub texts : first_over most_text (kept_lengths script) ≡ None
 
--- the first limit that items and a script pass, with how much was found; of lines and of texts that of the first over it
+-- the first limit that items and a script pass, with how much was found; of lines and of texts that of the first over
+-- it
 abbrev pub PassesLimit : List ItemContents → Option ScriptParts → SetRefused → Type 0
 PassesLimit items script (Limit Items found) = (most_items < length items) × (found ≡ length items)
 PassesLimit items script (Limit Conditions found) =
-    (length items ≤ most_items) × (most_conditions < all_conditions items script) × (found ≡ all_conditions items script)
+    (length items ≤ most_items) × (most_conditions < all_conditions items script)
+    × (found ≡ all_conditions items script)
 PassesLimit items script (Limit Macros found) =
-    (length items ≤ most_items) × (all_conditions items script ≤ most_conditions) × (first_over most_macros (macro_counts script) ≡ Some found)
+    (length items ≤ most_items) × (all_conditions items script ≤ most_conditions)
+    × (first_over most_macros (macro_counts script) ≡ Some found)
 PassesLimit items script (Limit Lookup found) =
-    (length items ≤ most_items) × (all_conditions items script ≤ most_conditions) × (first_over most_macros (macro_counts script) ≡ None)
+    (length items ≤ most_items) × (all_conditions items script ≤ most_conditions)
+    × (first_over most_macros (macro_counts script) ≡ None)
     × (first_over most_text (kept_lengths script) ≡ Some found)
 PassesLimit items script _ = ⊥

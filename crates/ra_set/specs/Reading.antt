@@ -1,5 +1,6 @@
 -- Reading set files from left to right: the step between the code and docs/DEFINITIONS.md, "Set file".
-use Rattle.std.specs.Prelude.{◌≡◌, ℕ, zero, suc, ◌+◌, ◌*◌, ◌==◌, ◌||◌, nat_lt, Bool, true, false, if◌then◌else◌, List, [], ◌∷◌, ◌++◌, length, Option, Some, None, Ok, Err, codes}
+use Rattle.std.specs.Prelude.{◌≡◌, ℕ, zero, suc, ◌+◌, ◌*◌, ◌==◌, ◌||◌, nat_lt, Bool, true, false, if◌then◌else◌, List}
+use Rattle.std.specs.Prelude.{[], ◌∷◌, ◌++◌, length, Option, Some, None, Ok, Err, codes}
 use Rattle.ra_condition.specs.Reading.{trigger_at}
 use Rattle.ra_leaderboard.specs.Reading.{board_at}
 use Rattle.ra_value_format.specs.declared.format.Format.{Format}
@@ -17,12 +18,17 @@ is_past so_far d = (so_far == 0) || nat_lt 4294967295 (so_far * 10 + d)
 
 -- the number of an id with one digit more, where the digit goes on with it
 abbrev pub with_digit : ℕ → ℕ → Option ℕ
-with_digit so_far byte = elim (lookup digits byte) [ Some d ↦ if is_past so_far d then None else Some (so_far * 10 + d) | None ↦ None ]
+with_digit so_far byte = elim (lookup digits byte) [
+  | Some d ↦ if is_past so_far d then None
+      else Some (so_far * 10 + d)
+  | None ↦ None
+]
 
 -- the number of an id, with as many digits as go on with it
 abbrev pub more_digits_at : ℕ → List ℕ → Outcome ℕ ℕ
 more_digits_at so_far [] = Ok (so_far, [])
-more_digits_at so_far (byte ∷ rest) = elim (with_digit so_far byte) [ Some n ↦ more_digits_at n rest | None ↦ Ok (so_far, byte ∷ rest) ]
+more_digits_at so_far (byte ∷ rest) = elim
+    (with_digit so_far byte) [ Some n ↦ more_digits_at n rest | None ↦ Ok (so_far, byte ∷ rest) ]
 
 -- an id
 unfoldable pub id_at : List ℕ → Outcome ℕ ℕ
@@ -32,7 +38,8 @@ id_at text = do
 
 -- the symbols of a table, as many as stand there
 abbrev pub run_at : {A V : Type 0} → (A → Option V) → List A → Outcome A (List V)
-run_at table text = chain_at {S = Unit {0}} (λ s. table) (λ s v rest. Ok (v, rest)) (λ s v. s) (λ s. true) (length text) tt text
+run_at table text = chain_at {S = Unit {0}} (λ s. table) (λ s v rest. Ok (v, rest)) (λ s v. s)
+    (λ s. true) (length text) tt text
 
 -- a name of a format
 unfoldable pub format_at : List ℕ → Outcome ℕ Format
@@ -113,7 +120,8 @@ feed_at (byte ∷ rest) = if byte == 10 then Ok (Opens rest, []) else Err (byte 
 -- what follows the letter of a line "P"
 abbrev pub opens_at : List ℕ → Outcome ℕ Tail
 opens_at [] = Ok (Letter, [])
-opens_at (byte ∷ rest) = if byte == 10 then Ok (Opens rest, []) else if byte == 13 then feed_at rest else Ok (Letter, byte ∷ rest)
+opens_at (byte ∷ rest) = if byte == 10 then Ok (Opens rest, []) else if byte == 13 then feed_at rest
+    else Ok (Letter, byte ∷ rest)
 
 -- a line "P"
 abbrev pub letter_at : List ℕ → Outcome ℕ (List Line × Tail)
@@ -155,7 +163,8 @@ last_at l false text = Ok (([], Ends l), text)
 -- what follows a row: an LF and other lines, or the end of the lines
 abbrev pub behind_row_at : (List ℕ → Outcome ℕ (List Line × Tail)) → Line → Bool → List ℕ → Outcome ℕ (List Line × Tail)
 behind_row_at others l wants [] = last_at l wants []
-behind_row_at others l wants (byte ∷ rest) = if byte == 10 then with_lines (l ∷ []) (others rest) else last_at l wants (byte ∷ rest)
+behind_row_at others l wants (byte ∷ rest) =
+    if byte == 10 then with_lines (l ∷ []) (others rest) else last_at l wants (byte ∷ rest)
 
 -- the next line of a file and those after it
 abbrev pub row_and_others_at : (List ℕ → Outcome ℕ (List Line × Tail)) → List ℕ → Outcome ℕ (List Line × Tail)
@@ -166,7 +175,8 @@ row_and_others_at others text = do
 -- the lines of a file up to their end; the number bounds how many
 abbrev pub front_from : ℕ → List ℕ → Outcome ℕ (List Line × Tail)
 front_from zero text = Err text
-front_from (suc most) text = choice_at (begins (is_in (only (codes "P")))) letter_at (row_and_others_at (front_from most)) text
+front_from (suc most) text = choice_at (begins (is_in (only (codes "P")))) letter_at
+    (row_and_others_at (front_from most)) text
 
 -- the lines of a file, with their ends but the last, and how they end
 unfoldable pub front_at : List ℕ → Outcome ℕ (List Line × Tail)

@@ -48,6 +48,8 @@ pub record HasDistinct (file : List ℕ) (contents : FileContents) : Type 0 wher
 abbrev pub Refuses : List ℕ → SetRefused → Type 0
 Refuses file (Limit Bytes found) = (most_bytes < length file) × (found ≡ length file)
 Refuses file (Syntax at) = (length file ≤ most_bytes) × IsFileOutside file at
-Refuses file (DuplicateId id number) = (contents : FileContents) × HasContents file contents × FirstRepeat contents.lines id number
-Refuses file (Limit which found) = (contents : FileContents) × HasDistinct file contents × PassesLimit (items_of contents.lines) contents.script (Limit which found)
+Refuses file (DuplicateId id number) =
+    (contents : FileContents) × HasContents file contents × FirstRepeat contents.lines id number
+Refuses file (Limit which found) = (contents : FileContents) × HasDistinct file contents
+    × PassesLimit (items_of contents.lines) contents.script (Limit which found)
 Refuses file Memory = ⊥

@@ -1,4 +1,5 @@
--- Any number of texts of a form, and any number of symbols of a table: the lines and the names of docs/DEFINITIONS.md, "Set file".
+-- Any number of texts of a form, and any number of symbols of a table: the lines and the names of docs/DEFINITIONS.md,
+-- "Set file".
 use Rattle.std.specs.Prelude.{◌≡◌, ℕ, true, if◌then◌else◌, List, [], ◌∷◌, ◌++◌, Option, Some, None}
 use Rattle.ra_text.specs.Chain.{Chain}
 use Rattle.ra_text.specs.Form.{Form, Spell}

@@ -28,5 +28,6 @@ macros_of lines = map (λ line. length (values_in_line line)) lines
 abbrev pub ChecksScript : Result (Unit {0}) SetRefused → List LineContents → Option ℕ → Type 0
 ChecksScript (Ok done) lines long = (first_over most_macros (macros_of lines) ≡ None) × (long ≡ None)
 ChecksScript (Err (Limit Macros found)) lines long = first_over most_macros (macros_of lines) ≡ Some found
-ChecksScript (Err (Limit Lookup found)) lines long = (first_over most_macros (macros_of lines) ≡ None) × (long ≡ Some found)
+ChecksScript (Err (Limit Lookup found)) lines long =
+    (first_over most_macros (macros_of lines) ≡ None) × (long ≡ Some found)
 ChecksScript (Err _) lines long = ⊥

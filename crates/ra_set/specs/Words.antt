@@ -18,5 +18,6 @@ word_of_limit Lookup = codes "lookup"
 abbrev pub set_words : SetRefused → List ℕ
 set_words (Syntax at) = codes "syntax at " ++ decimal at
 set_words (DuplicateId id line) = codes "id " ++ decimal id ++ codes " again on line " ++ decimal line
-set_words (Limit which found) = word_of_limit which ++ codes " " ++ decimal found ++ codes " over " ++ decimal (most_of which)
+set_words (Limit which found) =
+    word_of_limit which ++ codes " " ++ decimal found ++ codes " over " ++ decimal (most_of which)
 set_words Memory = codes "want of memory"

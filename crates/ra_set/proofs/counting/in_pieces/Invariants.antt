@@ -5,4 +5,5 @@ use Rattle.ra_set.specs.Counting.{piece_conditions}
 use Rattle.ra_set.proofs.counting.in_pieces.Given as goal
 
 abbrev pub invariant-loop-piece : goal.invariant-loop-piece
-invariant-loop-piece l = l.count ≡ sum_by (λ piece. piece_conditions (piece_contents piece)) (take l.piece-index l.pieces)
+invariant-loop-piece l = l.count
+    ≡ sum_by (λ piece. piece_conditions (piece_contents piece)) (take l.piece-index l.pieces)

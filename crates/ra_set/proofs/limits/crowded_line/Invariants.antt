@@ -5,4 +5,5 @@ use Rattle.ra_set.specs.ScriptLimits.{macros_of}
 use Rattle.ra_set.proofs.limits.crowded_line.Given as goal
 
 abbrev pub invariant-loop-line : goal.invariant-loop-line
-invariant-loop-line l = first_over 256 (macros_of (map line_contents l.lines)) ≡ first_over 256 (macros_of (map line_contents (drop l.line-index l.lines)))
+invariant-loop-line l = first_over 256 (macros_of (map line_contents l.lines))
+    ≡ first_over 256 (macros_of (map line_contents (drop l.line-index l.lines)))

@@ -1,7 +1,8 @@
 use Rattle.std.proofs.Common.{◌≡◌, ◌∙◌, refl, sym, ap, subst, option_map, Some, None}
 use Rattle.md5.specs.Md5.{md5}
 use Rattle.ra_set.specs.Texts.{first_line}
-use Rattle.ra_set.proofs.CutLemmas.{first-shorter, behind-or, text-more, text-last, next-named, last-named, last-unscripted, script-named, AddsName}
+use Rattle.ra_set.proofs.CutLemmas.{first-shorter, behind-or, text-more, text-last, next-named, last-named}
+use Rattle.ra_set.proofs.CutLemmas.{last-unscripted, script-named, AddsName}
 use Rattle.ra_set.proofs.names.names_of.Goals as goal
 
 pub lines-smaller : goal.lines-smaller

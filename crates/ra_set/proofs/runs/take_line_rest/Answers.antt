@@ -17,6 +17,9 @@ returns c = let i = c.bytes.invariant in
     record {
       run = i.0;
       is = run-ends (any_but (codes "\n")) i.0 c.pass_in_line.new.cursor.rest.now c.args.cursor.now.rest.now
-          (no-next (any_but (codes "\n")) c.pass_in_line.new.cursor.rest.now (subst (λ t. begins (is_in (any_but (codes "\n"))) t ≡ false) (sym (c.bytes-test.ensures.stayed refl)) (sym c.bytes-test.ensures.is_next)))
-          (subst (λ t. RunSoFar (any_but (codes "\n")) i.0 t c.args.cursor.now.rest.now) (sym (c.bytes-test.ensures.stayed refl)) i.1);
+          (no-next (any_but (codes "\n")) c.pass_in_line.new.cursor.rest.now
+          (subst (λ t. begins (is_in (any_but (codes "\n"))) t ≡ false)
+          (sym (c.bytes-test.ensures.stayed refl)) (sym c.bytes-test.ensures.is_next)))
+          (subst (λ t. RunSoFar (any_but (codes "\n")) i.0 t c.args.cursor.now.rest.now)
+          (sym (c.bytes-test.ensures.stayed refl)) i.1);
     }

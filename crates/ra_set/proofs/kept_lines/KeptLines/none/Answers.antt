@@ -5,4 +5,5 @@ use Rattle.ra_set.proofs.kept_lines.KeptLines.none.Goals as goal
 
 pub returns-clause-kept : goal.returns-clause-kept
 unfolding IsDistinct
-returns-clause-kept c = record { items = ap (map item_contents) c.new.ensures.items; ids = c.none.ensures; count = refl; repeat = tt }
+returns-clause-kept c =
+    record { items = ap (map item_contents) c.new.ensures.items; ids = c.none.ensures; count = refl; repeat = tt }
