@@ -11,7 +11,8 @@ returns-clause-nodes c =
     let two = c.in_ok-note_comparison-2.ensures.keeps pool (c.is_over.ensures (search rules)) in
     let three = c.in_ok-note_comparison-3.ensures.keeps pool (c.is_over-else-not-is_over.ensures (search rules)) in
     let four = c.in_ok-note_node.ensures.keeps pool in
-    four.nodes_too ∙ three.nodes_too ∙ two.nodes_too ∙ one.nodes_too ∙ ap (λ (s : SignalsSeen). s.nodes) made ∙ c.len.ensures.len
+    four.nodes_too ∙ three.nodes_too ∙ two.nodes_too ∙ one.nodes_too
+    ∙ ap (λ (s : SignalsSeen). s.nodes) made ∙ c.len.ensures.len
 
 pub returns-clause-over : goal.returns-clause-over
 returns-clause-over c =
@@ -21,7 +22,8 @@ returns-clause-over c =
     let two = c.in_ok-note_comparison-2.ensures.keeps pool (c.is_over.ensures (search rules)) in
     let three = c.in_ok-note_comparison-3.ensures.keeps pool (c.is_over-else-not-is_over.ensures (search rules)) in
     let four = c.in_ok-note_node.ensures.keeps pool in
-    four.over (three.over (two.over (one.over (λ k below. absurd (omega (arith, below, ap (λ (s : SignalsSeen). length s.comparisons) made))))))
+    four.over (three.over (two.over (one.over (λ k below. absurd
+    (omega (arith, below, ap (λ (s : SignalsSeen). length s.comparisons) made))))))
 
 pub returns-clause-due : goal.returns-clause-due
 returns-clause-due c =
@@ -31,4 +33,5 @@ returns-clause-due c =
     let two = c.in_ok-note_comparison-2.ensures.keeps pool (c.is_over.ensures (search rules)) in
     let three = c.in_ok-note_comparison-3.ensures.keeps pool (c.is_over-else-not-is_over.ensures (search rules)) in
     let four = c.in_ok-note_node.ensures.keeps pool in
-    ap length (four.due ∙ three.due ∙ two.due ∙ one.due) ∙ ap (λ (s : SignalsSeen). length s.readers.due) made ∙ length-replicate 3 true
+    ap length (four.due ∙ three.due ∙ two.due ∙ one.due)
+    ∙ ap (λ (s : SignalsSeen). length s.readers.due) made ∙ length-replicate 3 true

@@ -13,7 +13,8 @@ begin-requires g c =
     let changed = c.sample.ensures.changed in
     may_begin now t.table.values t.schedule (record {
       each = λ n within differ. changed.each n (subst (λ (ns : List Node). n < length ns) same within) differ;
-      nodes = λ k within. subst (λ (ns : List Node). slice_index now.changed k < length ns) (sym same) (changed.nodes k within);
+      nodes = λ k within. subst (λ (ns : List Node). slice_index now.changed k < length ns)
+          (sym same) (changed.nodes k within);
     })
     (subst (λ (ns : List Node). IsHeard ns t.table.values t.schedule) (sym same) c.self.invariant.heard) (search rules)
 
@@ -28,7 +29,9 @@ invariant_of-self g c =
       size = c.sample.ensures.taken.pool.1 ∙ c.self.invariant.size;
       agrees = c.sample.ensures.taken.agrees;
       heard = heard_after now t.table.values t.schedule c.begin.new.self c.end.new.self heard begun
-          (ap (λ (s : ScheduleSeen). s.truths) c.end.ensures ∙ c.step-third.ensures.truths ∙ c.step-second.ensures.truths ∙ c.step-first.ensures.truths);
-      due = ap (λ (s : ScheduleSeen). length s.readers.due) c.end.ensures ∙ c.step-third.ensures.due ∙ c.step-second.ensures.due ∙ c.step-first.ensures.due
+          (ap (λ (s : ScheduleSeen). s.truths) c.end.ensures ∙ c.step-third.ensures.truths
+          ∙ c.step-second.ensures.truths ∙ c.step-first.ensures.truths);
+      due = ap (λ (s : ScheduleSeen). length s.readers.due) c.end.ensures ∙ c.step-third.ensures.due
+          ∙ c.step-second.ensures.due ∙ c.step-first.ensures.due
           ∙ begun.woken.long ∙ c.self.invariant.due;
     }

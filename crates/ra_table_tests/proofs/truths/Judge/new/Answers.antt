@@ -6,7 +6,8 @@ use Rattle.ra_table_tests.proofs.truths.Judge.new.Goals as goal
 
 pub new-requires-2-clause-within : goal.new-requires-2-clause-within
 new-requires-2-clause-within c = λ k below.
-    subst (λ n. IsWithin n (comparison_at c.args.comparisons.now k)) (sym c.len.ensures.len) (c.requires.over k below).within
+    subst (λ n. IsWithin n (comparison_at c.args.comparisons.now k)) (sym c.len.ensures.len)
+    (c.requires.over k below).within
 
 pub invariant_of-result : goal.invariant_of-result
 invariant_of-result c =
