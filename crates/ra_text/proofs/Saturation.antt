@@ -16,7 +16,8 @@ pub record DigitsSoFar (base : Base) (first : ℕ) (old : List ℕ) (number : �
 pub saturated-small : (n : ℕ) → n < 4294967296 → n ≡ saturated n
 saturated-small n h = omega arith
 
-pub saturated-more : (base : Base) (n d : ℕ) → min (min (saturated n * base_of base) 4294967295 + d) 4294967295 ≡ saturated (n * base_of base + d)
+pub saturated-more : (base : Base) (n d : ℕ) → min
+    (min (saturated n * base_of base) 4294967295 + d) 4294967295 ≡ saturated (n * base_of base + d)
 saturated-more Ten n d = omega arith
 saturated-more Sixteen n d = omega arith
 
@@ -24,7 +25,8 @@ pub digits-start : (base : Base) (first : ℕ) (old : List ℕ) → first < 4294
 digits-start base first old h = record { all = first; is = saturated-small first h; same = refl }
 
 -- one digit more
-pub digits-next : (base : Base) (first : ℕ) (old : List ℕ) (number byte : ℕ) (rest : List ℕ) (d : ℕ) → digit_of base byte ≡ Some d → DigitsSoFar base first old number (byte ∷ rest)
+pub digits-next : (base : Base) (first : ℕ) (old : List ℕ) (number byte : ℕ) (rest : List ℕ) (d : ℕ)
+    → digit_of base byte ≡ Some d → DigitsSoFar base first old number (byte ∷ rest)
     → DigitsSoFar base first old (min (min (number * base_of base) 4294967295 + d) 4294967295) rest
 digits-next base first old number byte rest d listed so_far = record {
   all = so_far.all * base_of base + d;
@@ -33,5 +35,8 @@ digits-next base first old number byte rest d listed so_far = record {
 }
 
 -- no digit more
-pub digits-stop : (base : Base) (first : ℕ) (old : List ℕ) (number byte : ℕ) (rest : List ℕ) → digit_of base byte ≡ None → DigitsSoFar base first old number (byte ∷ rest) → SumsDigits base first old number (byte ∷ rest)
-digits-stop base first old number byte rest none so_far = record { all = so_far.all; read = so_far.same ∙ (rw (none, digits_at)); is = so_far.is }
+pub digits-stop : (base : Base) (first : ℕ) (old : List ℕ) (number byte : ℕ) (rest : List ℕ)
+    → digit_of base byte ≡ None → DigitsSoFar base first old number (byte ∷ rest)
+    → SumsDigits base first old number (byte ∷ rest)
+digits-stop base first old number byte rest none so_far =
+    record { all = so_far.all; read = so_far.same ∙ (rw (none, digits_at)); is = so_far.is }

@@ -3,7 +3,8 @@ use Rattle.std.specs.Prelude.{◌≡◌, Bool, true, List, [], ◌∷◌, ◌++�
 use Rattle.ra_text.specs.Form.{Form, Spell, ◌>>=◌}
 
 -- a separator, an item, and what comes after it
-pub record Link {A T V : Type 0} (separator : A → Option T) (item : T → Form A V) (others : List A → Type 0) (text : List A) (v : V) : Type 0 where
+pub record Link {A T V : Type 0} (separator : A → Option T) (item : T → Form A V) (others : List A
+    → Type 0) (text : List A) (v : V) : Type 0 where
   pub symbol : A
   pub tag : T
   pub front : List A
@@ -15,7 +16,8 @@ pub record Link {A T V : Type 0} (separator : A → Option T) (item : T → Form
 
 -- items, each after a separator, where the items before say which separators may come, what may come after each, and
 -- whether the text may end
-abbrev pub Chain : {A T S V : Type 0} → (S → A → Option T) → (S → T → Form A V) → (S → V → S) → (S → Bool) → S → Form A (List V)
+abbrev pub Chain : {A T S V : Type 0} → (S → A → Option T) → (S → T → Form A V) → (S → V → S)
+    → (S → Bool) → S → Form A (List V)
 Chain separator item step done s text [] = (text ≡ []) × (done s ≡ true)
 Chain separator item step done s text (v ∷ vs) =
     Link (separator s) (item s) (λ rest. Chain separator item step done (step s v) rest vs) text v

@@ -1,4 +1,5 @@
--- Forms: which texts spell which values, as in the grammars of docs/DEFINITIONS.md, "Numbers in text" the first. A text is a list of symbols, such as bytes or lines.
+-- Forms: which texts spell which values, as in the grammars of docs/DEFINITIONS.md, "Numbers in text" the first. A
+-- text is a list of symbols, such as bytes or lines.
 use Rattle.std.specs.Prelude.{◌≡◌, ◌⊎◌, List, [], ◌∷◌, ◌++◌, Option, Some}
 
 -- a relation between texts and the values that they spell

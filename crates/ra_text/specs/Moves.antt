@@ -1,4 +1,5 @@
--- How a method of a cursor follows the reading of a form: the step between the code and docs/DEFINITIONS.md, "First bad place".
+-- How a method of a cursor follows the reading of a form: the step between the code and docs/DEFINITIONS.md, "First
+-- bad place".
 use Rattle.std.specs.Prelude.{◌≡◌, ℕ, List, ◌∷◌, Option, Some, Result, Ok, Err}
 use Rattle.ra_text.specs.declared.base.Base.{Base}
 use Rattle.ra_text.specs.declared.cursor.Stop.{Stop}

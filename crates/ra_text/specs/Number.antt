@@ -1,5 +1,6 @@
 -- Numbers: docs/DEFINITIONS.md, "Numbers in text".
-use Rattle.std.specs.Prelude.{◌≡◌, ℕ, ◌+◌, ◌-◌, ◌*◌, ◌%◌, min, Bool, true, false, if◌then◌else◌, List, [], ◌∷◌, ◌++◌, Option, Some, codes}
+use Rattle.std.specs.Prelude.{◌≡◌, ℕ, ◌+◌, ◌-◌, ◌*◌, ◌%◌, min, Bool, true, false, if◌then◌else◌, List, [], ◌∷◌, ◌++◌}
+use Rattle.std.specs.Prelude.{Option, Some, codes}
 use Rattle.ra_text.specs.declared.base.Base.{Base}
 use Rattle.ra_text.specs.declared.base.Base.TheVariants.{Ten, Sixteen}
 use Rattle.ra_text.specs.Form.{Form, Spell, One, ◌>>=◌, optional}
@@ -32,7 +33,8 @@ base_of Sixteen = 16
 -- more digits of a base, where those before give the number so far
 abbrev pub Digits : (ℕ → Option ℕ) → ℕ → ℕ → Form ℕ ℕ
 Digits table base so_far [] n = n ≡ so_far
-Digits table base so_far (byte ∷ rest) n = (d : ℕ) × (table byte ≡ Some d) × Digits table base (so_far * base + d) rest n
+Digits table base so_far (byte ∷ rest) n =
+    (d : ℕ) × (table byte ≡ Some d) × Digits table base (so_far * base + d) rest n
 
 -- digit { digit }, of a base
 abbrev pub numeral : (ℕ → Option ℕ) → ℕ → Form ℕ ℕ

@@ -1,5 +1,6 @@
 -- Reading from left to right: the step between the code and docs/DEFINITIONS.md, "First bad place".
-use Rattle.std.specs.Prelude.{◌≡◌, ℕ, ◌==◌, Bool, true, false, if◌then◌else◌, List, [], ◌∷◌, ◌++◌, length, zero, suc, Option, Some, None, Result, Ok, Err}
+use Rattle.std.specs.Prelude.{◌≡◌, ℕ, ◌==◌, Bool, true, false, if◌then◌else◌, List, [], ◌∷◌, ◌++◌, length, zero, suc}
+use Rattle.std.specs.Prelude.{Option, Some, None, Result, Ok, Err}
 use Rattle.ra_text.specs.Form.{Form, Viable}
 
 -- a value and what is left after it, or what is left where no text of the form goes on
@@ -11,7 +12,8 @@ abbrev pub rest_of : {A V : Type 0} → Outcome A V → List A
 rest_of (Ok x) = x.1
 rest_of (Err rest) = rest
 
--- reading stops at the first symbol that no text of the form goes on with, or at the end, and answers what stands before it spells
+-- reading stops at the first symbol that no text of the form goes on with, or at the end, and answers what stands
+-- before it spells
 pub record Reads {A V : Type 0} (form : Form A V) (text : List A) (outcome : Outcome A V) : Type 0 where
   pub front : List A
   pub parts : text ≡ front ++ rest_of outcome
@@ -53,7 +55,8 @@ literal_at (byte ∷ literal) [] = Err []
 literal_at (byte ∷ literal) (c ∷ rest) = if c == byte then literal_at literal rest else Err (c ∷ rest)
 
 -- one of two readings, by a test of the text
-abbrev pub choice_at : {A V : Type 0} → (List A → Bool) → (List A → Outcome A V) → (List A → Outcome A V) → List A → Outcome A V
+abbrev pub choice_at : {A V : Type 0} → (List A → Bool) → (List A → Outcome A V)
+    → (List A → Outcome A V) → List A → Outcome A V
 choice_at test first second text = if test text then first text else second text
 
 -- there is a first symbol, and it passes the test
@@ -67,15 +70,18 @@ ends_at true text = Ok ([], text)
 ends_at false text = Err text
 
 -- the items of a chain; the number bounds how many
-abbrev pub chain_at : {A T S V : Type 0} → (S → A → Option T) → (S → T → List A → Outcome A V) → (S → V → S) → (S → Bool) → ℕ → S → List A → Outcome A (List V)
+abbrev pub chain_at : {A T S V : Type 0} → (S → A → Option T) → (S → T → List A → Outcome A V)
+    → (S → V → S) → (S → Bool) → ℕ → S → List A → Outcome A (List V)
 chain_at separator item_at step done zero s text = ends_at (done s) text
 chain_at separator item_at step done (suc most) s [] = ends_at (done s) []
 chain_at separator item_at step done (suc most) s (symbol ∷ rest) = elim (separator s symbol) [
-  | Some tag ↦ item_at s tag rest >>= λ v. chain_at separator item_at step done most (step s v.0) v.1 >>= λ vs. Ok (v.0 ∷ vs.0, vs.1)
+  | Some tag ↦ item_at s tag rest >>= λ v. chain_at separator item_at step done most
+      (step s v.0) v.1 >>= λ vs. Ok (v.0 ∷ vs.0, vs.1)
   | None ↦ ends_at (done s) (symbol ∷ rest)
 ]
 
 -- a first item, and the others, each after a separator
 abbrev pub joined_at : {A T V : Type 0} → (A → Option T) → (List A → Outcome A V) → List A → Outcome A (List V)
 joined_at separator item_at text =
-    item_at text >>= λ first. chain_at {S = Unit {0}} (λ s. separator) (λ s tag. item_at) (λ s v. s) (λ s. true) (length first.1) tt first.1 >>= λ others. Ok (first.0 ∷ others.0, others.1)
+    item_at text >>= λ first. chain_at {S = Unit {0}} (λ s. separator) (λ s tag. item_at) (λ s v. s)
+    (λ s. true) (length first.1) tt first.1 >>= λ others. Ok (first.0 ∷ others.0, others.1)

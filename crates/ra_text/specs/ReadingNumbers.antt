@@ -9,7 +9,11 @@ use Rattle.ra_text.specs.Number.{digit_of, base_of, saturated, signs, with_sign}
 -- the number so far with all digits that stand next
 abbrev pub digits_at : (ℕ → Option ℕ) → ℕ → ℕ → List ℕ → Outcome ℕ ℕ
 digits_at table base so_far [] = Ok (so_far, [])
-digits_at table base so_far (byte ∷ rest) = elim (table byte) [ Some d ↦ digits_at table base (so_far * base + d) rest | None ↦ Ok (so_far, byte ∷ rest) ]
+digits_at table base so_far (byte ∷ rest) = elim (table byte) [
+  | Some d ↦
+      digits_at table base (so_far * base + d) rest
+  | None ↦ Ok (so_far, byte ∷ rest)
+]
 
 -- a digit, and all digits that stand next
 unfoldable pub numeral_at : (ℕ → Option ℕ) → ℕ → List ℕ → Outcome ℕ ℕ

@@ -8,10 +8,14 @@ use Rattle.ra_text.proofs.Places.{rest_fits, ends_ok}
 use Rattle.ra_text.proofs.read_numbers.read_hex.Goals as goal
 
 pub place-requires : goal.place-requires
-place-requires c = rest_fits hexadecimal hexadecimal_at reads-hexadecimal c.args.text.now c.args.at c.new-cursor.result.rest.now c.new-cursor.ensures (Ok (c.in-Ok.number, c.hexadecimal.new.self.rest.now)) c.in-Ok.ensures
+place-requires c = rest_fits hexadecimal hexadecimal_at reads-hexadecimal c.args.text.now c.args.at
+    c.new-cursor.result.rest.now c.new-cursor.ensures
+    (Ok (c.in-Ok.number, c.hexadecimal.new.self.rest.now)) c.in-Ok.ensures
 
 pub returns-in-Ok-clause-found : goal.returns-in-Ok-clause-found
-returns-in-Ok-clause-found c = ends_ok hexadecimal hexadecimal_at reads-hexadecimal c.args.text.now c.args.at c.new-cursor.result.rest.now c.new-cursor.ensures c.requires c.in-Ok.number c.hexadecimal.new.self.rest.now c.in-Ok.ensures c.place.result c.place.ensures
+returns-in-Ok-clause-found c = ends_ok hexadecimal hexadecimal_at reads-hexadecimal c.args.text.now
+    c.args.at c.new-cursor.result.rest.now c.new-cursor.ensures c.requires c.in-Ok.number
+    c.hexadecimal.new.self.rest.now c.in-Ok.ensures c.place.result c.place.ensures
 
 pub returns-in-Ok-clause-digit : goal.returns-in-Ok-clause-digit
 returns-in-Ok-clause-digit c =

@@ -7,8 +7,10 @@ pub loop-place-preserved : goal.loop-place-preserved
 loop-place-preserved c =
     let place = c.loop-place.place in
     let bytes = c.args.bytes.now in
-    below_more (λ k. get_or (set c.loop-place.numbers place c.word_at.result) k 0 ≡ word_at bytes (c.args.at + 4 * k)) place
-    (λ k l. get_or-set_other c.loop-place.numbers place k c.word_at.result 0 (λ e. omega (arith, e)) ∙ c.loop-place.invariant k l)
+    below_more (λ k. get_or (set c.loop-place.numbers place c.word_at.result) k 0
+    ≡ word_at bytes (c.args.at + 4 * k)) place
+    (λ k l. get_or-set_other c.loop-place.numbers place k c.word_at.result 0 (λ e. omega (arith, e))
+    ∙ c.loop-place.invariant k l)
     (get_or-set_same c.loop-place.numbers place c.word_at.result 0 (omega arith) ∙ c.word_at.ensures)
 
 pub returns : goal.returns

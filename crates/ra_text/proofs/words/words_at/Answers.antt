@@ -5,4 +5,5 @@ use Rattle.ra_text.proofs.words.words_at.Goals as goal
 
 pub loop-k-preserved : goal.loop-k-preserved
 loop-k-preserved c =
-    rw (map-range_with_len_more (λ k. word_at c.args.bytes.now (c.args.at + 4 * k)) 0 c.loop-k.k c.loop-k.k (omega arith)) (grind arith)
+    rw (map-range_with_len_more (λ k. word_at c.args.bytes.now (c.args.at + 4 * k)) 0 c.loop-k.k
+    c.loop-k.k (omega arith)) (grind arith)
