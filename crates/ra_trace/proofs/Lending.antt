@@ -20,14 +20,19 @@ ends_by content at old new found is lent = record {
 -- the file has the record at its place
 pub stands_by : (content : Option (List ℕ)) (at : ℕ) (old new : ReaderSeen) (found : Record)
     → Found content at old new → front (drop at new.held) ≡ entry_of found
-    → IfSome content (λ bytes. Holds old bytes → IfSome old.size (λ size. Stands old.limit size old.next (entry_of found) bytes))
+    → IfSome content (λ bytes. Holds old bytes
+    → IfSome old.size (λ size. Stands old.limit size old.next (entry_of found) bytes))
 stands_by content at old new found is lent =
-    if_some content (λ bytes. Holds old bytes → IfSome old.size (λ size. Stands old.limit size old.next (entry_of found) bytes))
+    if_some content (λ bytes. Holds old bytes
+    → IfSome old.size (λ size. Stands old.limit size old.next (entry_of found) bytes))
     (λ bytes told holds. if_some old.size (λ size. Stands old.limit size old.next (entry_of found) bytes)
-    (λ size known. subst (λ entry. Stands old.limit size old.next entry bytes) lent (is.stands bytes size told holds known)))
+    (λ size known. subst (λ entry. Stands old.limit size old.next entry bytes) lent
+    (is.stands bytes size told holds known)))
 
 -- the record lies within the memory and the slots
 pub lies_by : (content : Option (List ℕ)) (at : ℕ) (old new : ReaderSeen) (found : Record)
-    → Found content at old new → front (drop at new.held) ≡ entry_of found → IfSome old.size (λ size. LiesWithin size (entry_of found))
+    → Found content at old new → front (drop at new.held) ≡ entry_of found
+    → IfSome old.size (λ size. LiesWithin size (entry_of found))
 lies_by content at old new found is lent =
-    if_some old.size (λ size. LiesWithin size (entry_of found)) (λ size known. subst (LiesWithin size) lent (is.lies size known))
+    if_some old.size (λ size. LiesWithin size (entry_of found))
+    (λ size known. subst (LiesWithin size) lent (is.lies size known))

@@ -13,17 +13,23 @@ pub wrote_none : (size : ℕ) → size ≤ 2 ^ 27 → Wrote (record { size = siz
 wrote_none size small = record { small = small; fit = All-nil (Fits size); bytes = refl }
 
 -- a record more behind the others
-pub wrote_more : (old new : WriterSeen) (entry : Entry) → new ≡ with_record old entry → Fits old.size entry → Adds entry old new
+pub wrote_more : (old new : WriterSeen) (entry : Entry) → new ≡ with_record old entry
+    → Fits old.size entry → Adds entry old new
 wrote_more old new entry is fits entries wrote = rw is (record {
   small = wrote.small;
   fit = All-push (Fits old.size) entries entry wrote.fit fits;
-  bytes = ap (λ bytes. bytes ++ entry_bytes entry) wrote.bytes ∙ flat_map_more entry_bytes (header_bytes old.size) entries entry;
+  bytes = ap (λ bytes. bytes ++ entry_bytes entry) wrote.bytes
+      ∙ flat_map_more entry_bytes (header_bytes old.size) entries entry;
 })
 
 -- the bytes with the end record are cut into what was written
-pub wrote_all : (writer : WriterSeen) (bytes : List ℕ) → bytes ≡ writer.bytes ++ entry_bytes Ended → (entries : List Entry) → Wrote writer entries → trace_with (replicate 16 true) bytes ≡ whole_trace writer.size entries
+pub wrote_all : (writer : WriterSeen) (bytes : List ℕ) → bytes ≡ writer.bytes ++ entry_bytes Ended
+    → (entries : List Entry) → Wrote writer entries → trace_with (replicate 16 true) bytes
+    ≡ whole_trace writer.size entries
 wrote_all writer bytes is entries wrote =
     let all : bytes ≡ trace_bytes writer.size (entries ++ Ended ∷ []) ++ []
-    = is ∙ ap (λ bytes. bytes ++ entry_bytes Ended) wrote.bytes ∙ flat_map_more entry_bytes (header_bytes writer.size) entries Ended ∙ sym (append-nil _) in
+    = is ∙ ap (λ bytes. bytes ++ entry_bytes Ended) wrote.bytes
+    ∙ flat_map_more entry_bytes (header_bytes writer.size) entries Ended ∙ sym (append-nil _) in
     ap (trace_with (replicate 16 true)) all
-    ∙ trace_cut (replicate 16 true) writer.size entries [] wrote.small wrote.fit (all_take_filled writer.size entries (recursion_from_All (Fits writer.size) entries wrote.fit))
+    ∙ trace_cut (replicate 16 true) writer.size entries [] wrote.small wrote.fit
+    (all_take_filled writer.size entries (recursion_from_All (Fits writer.size) entries wrote.fit))

@@ -1,9 +1,13 @@
--- How a trace file is cut into its records, up to the end record or to the first refusal: docs/DEFINITIONS.md, "Trace file".
-use Rattle.std.specs.Prelude.{ℕ, zero, suc, ◌+◌, ◌&&◌, Bool, true, false, if◌then◌else◌, nat_lt, nat_le, ◌==◌, Option, None, Some, List, [], ◌∷◌, ◌++◌, length, take, drop, replicate, bytes_eq, codes, slice_index, slice_index_or, slice_set}
+-- How a trace file is cut into its records, up to the end record or to the first refusal: docs/DEFINITIONS.md, "Trace
+-- file".
+use Rattle.std.specs.Prelude.{ℕ, zero, suc, ◌+◌, ◌&&◌, Bool, true, false, if◌then◌else◌, nat_lt, nat_le, ◌==◌, Option}
+use Rattle.std.specs.Prelude.{None, Some, List, [], ◌∷◌, ◌++◌, length, take, drop, replicate, bytes_eq, codes}
+use Rattle.std.specs.Prelude.{slice_index, slice_index_or, slice_set}
 use Rattle.std.specs.Int.{w16, w32, from_le_bytes}
 use Rattle.ra_trace.specs.declared.error.Why.{Why}
 use Rattle.ra_trace.specs.declared.error.Why.TheVariants.{Header, Kind, Cut, PastMemory, Slot, EmptySlot}
-use Rattle.ra_trace.specs.Entries.{Entry, Written, Framed, Saved, Restored, Shown, Ended, entry_bytes, last_slot, most_memory}
+use Rattle.ra_trace.specs.Entries.{Entry, Written, Framed, Saved, Restored, Shown, Ended, entry_bytes, last_slot}
+use Rattle.ra_trace.specs.Entries.{most_memory}
 
 -- where a trace stops: its end record, a refusal with its place and reason, or the limit of the reader
 pub data Stop : Type 0 where
@@ -20,7 +24,8 @@ pub record Trace : Type 0 where
 -- the memory size that a header says, if it is a good one
 abbrev pub header_size : List ℕ → Option ℕ
 header_size bytes =
-    if bytes_eq (take 5 bytes) (codes "RATR" ++ 1 ∷ []) && (nat_le 9 (length bytes) && nat_le (from_le_bytes w32 (take 4 (drop 5 bytes))) most_memory)
+    if bytes_eq (take 5 bytes) (codes "RATR" ++ 1 ∷ [])
+    && (nat_le 9 (length bytes) && nat_le (from_le_bytes w32 (take 4 (drop 5 bytes))) most_memory)
     then Some (from_le_bytes w32 (take 4 (drop 5 bytes)))
     else None
 

@@ -1,5 +1,6 @@
 -- What a reader of a trace is seen as, and what stands next in a file: docs/INTERNALS.md, "Reading a trace".
-use Rattle.std.specs.Prelude.{◌≡◌, ℕ, ◌+◌, ◌-◌, ◌^◌, ◌<◌, ◌≤◌, ◌⊎◌, ⊤, Bool, true, false, if◌then◌else◌, nat_le, ◌==◌, min, Option, option_map, is_some, None, Some, List, [], length, take, drop, replicate}
+use Rattle.std.specs.Prelude.{◌≡◌, ℕ, ◌+◌, ◌-◌, ◌^◌, ◌<◌, ◌≤◌, ◌⊎◌, ⊤, Bool, true, false, if◌then◌else◌, nat_le, ◌==◌}
+use Rattle.std.specs.Prelude.{min, Option, option_map, is_some, None, Some, List, [], length, take, drop, replicate}
 use Rattle.ra_io.specs.Causes.{Rose}
 use Rattle.ra_trace.specs.declared.error.Why.{Why}
 use Rattle.ra_trace.specs.declared.error.Why.TheVariants.{Header, Cut}
@@ -66,7 +67,8 @@ pub record ReadsOn (content : Option (List ℕ)) (more : Bool) (old new : Reader
   pub later : old.taken ≤ new.taken
   pub on : more ≡ true → old.taken < new.taken
   pub holds : (bytes : List ℕ) → content ≡ Some bytes → Holds old bytes → Holds new bytes
-  pub end : (bytes : List ℕ) → content ≡ Some bytes → Holds old bytes → more ≡ false → new.taken ≡ min new.limit (length bytes)
+  pub end : (bytes : List ℕ) → content ≡ Some bytes → Holds old bytes → more ≡ false → new.taken
+      ≡ min new.limit (length bytes)
 
 -- the reader holds the front of the file: as long as a header, or all that may be seen of it
 pub record ReadsFront (content : Option (List ℕ)) (old new : ReaderSeen) : Type 0 where
@@ -75,7 +77,8 @@ pub record ReadsFront (content : Option (List ℕ)) (old new : ReaderSeen) : Typ
   pub last : new.last ≡ 0
   pub inside : IsInside (length new.held) new.limit new.taken 0
   pub holds : (bytes : List ℕ) → content ≡ Some bytes → Holds new bytes
-  pub whole : (bytes : List ℕ) → content ≡ Some bytes → (9 ≤ length new.held) ⊎ (new.taken ≡ min new.limit (length bytes))
+  pub whole : (bytes : List ℕ) → content ≡ Some bytes → (9 ≤ length new.held)
+      ⊎ (new.taken ≡ min new.limit (length bytes))
 
 -- what a reader with this limit may see of a file from a place on
 abbrev pub seen_from : ℕ → ℕ → List ℕ → List ℕ
@@ -88,7 +91,8 @@ header_stop limit bytes = if is_some (header_size (take limit bytes)) then None 
 -- why no record stands at a place, if none does, every slot taken as filled
 abbrev pub next_stop : (limit size at : ℕ) → List ℕ → Option Stop
 next_stop limit size at bytes =
-    option_map (λ why. stop_within (nat_le limit (length bytes)) (RefusedAt at why)) (refusal size (replicate 16 true) (seen_from limit at bytes))
+    option_map (λ why. stop_within (nat_le limit (length bytes)) (RefusedAt at why))
+    (refusal size (replicate 16 true) (seen_from limit at bytes))
 
 -- the record lies within a memory of this size and the sixteen slots
 abbrev pub LiesWithin : ℕ → Entry → Type 0
@@ -157,9 +161,12 @@ pub record Knows (content : Option (List ℕ)) (size : ℕ) (why : Option Why) (
   pub next : new.next ≡ old.next
   pub here : why ≡ refusal size (replicate 16 true) (unanswered new)
   pub holds : (bytes : List ℕ) → content ≡ Some bytes → Holds old bytes → Holds new bytes
-  pub told : (bytes : List ℕ) → content ≡ Some bytes → Holds old bytes → refusal size (replicate 16 true) (seen_from old.limit old.next bytes) ≡ why
-  pub entry : (bytes : List ℕ) → content ≡ Some bytes → Holds old bytes → why ≡ None → front (unanswered new) ≡ next_entry old.limit old.next bytes
-  pub cut : (bytes : List ℕ) → content ≡ Some bytes → Holds old bytes → why ≡ Some Cut → new.taken ≡ min old.limit (length bytes)
+  pub told : (bytes : List ℕ) → content ≡ Some bytes → Holds old bytes
+      → refusal size (replicate 16 true) (seen_from old.limit old.next bytes) ≡ why
+  pub entry : (bytes : List ℕ) → content ≡ Some bytes → Holds old bytes → why ≡ None
+      → front (unanswered new) ≡ next_entry old.limit old.next bytes
+  pub cut : (bytes : List ℕ) → content ≡ Some bytes → Holds old bytes → why ≡ Some Cut → new.taken
+      ≡ min old.limit (length bytes)
 
 -- before a record is lent the reader is after it, and holds its bytes from this one of those that it holds on
 pub record Found (content : Option (List ℕ)) (at : ℕ) (old new : ReaderSeen) : Type 0 where

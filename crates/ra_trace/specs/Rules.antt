@@ -24,4 +24,5 @@ AllTakeFilled filled (entry ∷ more) = TakesFilled filled entry × AllTakeFille
 
 -- the trace of these records and the end record after them
 abbrev pub whole_trace : ℕ → List Entry → Trace
-whole_trace size entries = record { size = size; entries = entries ++ Ended ∷ []; stop = Reached (length (trace_bytes size entries)) }
+whole_trace size entries =
+    record { size = size; entries = entries ++ Ended ∷ []; stop = Reached (length (trace_bytes size entries)) }

@@ -1,5 +1,6 @@
 -- The workload of a number, a set and a trace from drawn numbers: docs/DEFINITIONS.md, "Workload".
-use Rattle.std.specs.Prelude.{ℕ, zero, suc, ◌+◌, ◌*◌, ◌/◌, ◌%◌, ◌^◌, ◌==◌, if◌then◌else◌, nat_lt, List, [], ◌∷◌, ◌++◌, codes, decimal}
+use Rattle.std.specs.Prelude.{ℕ, zero, suc, ◌+◌, ◌*◌, ◌/◌, ◌%◌, ◌^◌, ◌==◌, if◌then◌else◌, nat_lt, List, [], ◌∷◌, ◌++◌}
+use Rattle.std.specs.Prelude.{codes, decimal}
 use Rattle.ra_trace.specs.Entries.{Entry, Written, Framed, Saved, Restored, Shown, Ended, trace_bytes}
 
 -- the number of the draws after this one
@@ -32,7 +33,8 @@ achievement_line id a b c target =
 -- the line of an achievement from the next four draws, whose last gives a target of 1 to 8
 unfoldable pub drawn_line : ℕ → ℕ → List ℕ
 drawn_line id x =
-    achievement_line id (given (drawn x)) (given (drawn_times 2 x)) (given (drawn_times 3 x)) (1 + given (drawn_times 4 x) % 8)
+    achievement_line id (given (drawn x)) (given (drawn_times 2 x)) (given (drawn_times 3 x))
+    (1 + given (drawn_times 4 x) % 8)
 
 -- the lines of this many achievements, from this id on
 unfoldable pub achievement_lines : ℕ → ℕ → ℕ → List ℕ
@@ -54,7 +56,8 @@ writes (suc more) x after =
 -- the records after a frame: every 64 frames a save, every 512 a show and a restore, and then those after
 abbrev pub after_frame : ℕ → List Entry → List Entry
 after_frame f after =
-    (if f % 64 == 63 then Saved (f / 64 % 16) ∷ [] else []) ++ (if f % 512 == 511 then Shown ∷ Restored 0 ∷ [] else []) ++ after
+    (if f % 64 == 63 then Saved (f / 64 % 16) ∷ [] else [])
+    ++ (if f % 512 == 511 then Shown ∷ Restored 0 ∷ [] else []) ++ after
 
 -- the records of this many frames, from this one on, and the end
 unfoldable pub frames : ℕ → ℕ → ℕ → List Entry

@@ -9,7 +9,8 @@ loop-preserved c =
     let second = c.draw-in-loop.ensures in
     let wrote = c.in_ok-write.ensures.ok in record {
       size = ap (λ w. w.size) wrote ∙ i.size;
-      records = next_write c.args.count c.loop.counter _ _ _ _ _ _ _ _ c.loop-test.true wrote (c.from-at.ensures ∙ first.number) second.number first.state second.state i.records;
+      records = next_write c.args.count c.loop.counter _ _ _ _ _ _ _ _ c.loop-test.true wrote
+          (c.from-at.ensures ∙ first.number) second.number first.state second.state i.records;
       draws = two_draws c.args.count c.loop.counter _ _ _ _ c.loop-test.true first.state second.state i.draws;
     }
 

@@ -7,12 +7,15 @@ use Rattle.ra_trace.proofs.reader.Reader.look.Goals as goal
 pub loop-more-smaller : goal.loop-more-smaller
 loop-more-smaller g c =
     let on = c.in_ok-more.ensures.on in
-    rw c.loop-more-test.true (falls c.loop-more.self.limit c.loop-more.self.taken c.read_on.new.self.limit c.read_on.new.self.taken c.in_ok-more.more on.same.limit on.inside.within on.later on.on)
+    rw c.loop-more-test.true (falls c.loop-more.self.limit c.loop-more.self.taken
+    c.read_on.new.self.limit c.read_on.new.self.taken c.in_ok-more.more on.same.limit
+    on.inside.within on.later on.on)
 
 pub returns-else-matches-clause-knows : goal.returns-else-matches-clause-knows
 returns-else-matches-clause-knows g c =
     let i = c.loop-more.invariant in
-    knows_by _ c.args.size c.loop-more.more (why_of c.loop-more.found) c.args.self.now c.loop-more.self i.inside i.kept i.sized i.last i.next i.here i.holds i.end
+    knows_by _ c.args.size c.loop-more.more (why_of c.loop-more.found) c.args.self.now
+    c.loop-more.self i.inside i.kept i.sized i.last i.next i.here i.holds i.end
     (λ cut. elim c.match-matches.branch [
       | in-Err-Cut w ↦ search rules
       | in_default w ↦ search rules
@@ -22,4 +25,6 @@ returns-else-matches-clause-knows g c =
 pub returns-after-loop-more-clause-knows : goal.returns-after-loop-more-clause-knows
 returns-after-loop-more-clause-knows g c =
     let i = c.loop-more.invariant in
-    knows_by _ c.args.size c.loop-more.more (why_of c.loop-more.found) c.args.self.now c.loop-more.self i.inside i.kept i.sized i.last i.next i.here i.holds i.end (λ cut. search rules)
+    knows_by _ c.args.size c.loop-more.more (why_of c.loop-more.found) c.args.self.now
+    c.loop-more.self i.inside i.kept i.sized i.last i.next i.here i.holds i.end
+    (λ cut. search rules)

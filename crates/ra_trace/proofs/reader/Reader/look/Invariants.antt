@@ -1,4 +1,5 @@
-use Rattle.std.proofs.Common.{Err, IfOk, ◌≤◌, ◌≡◌, ℕ, ◌+◌, ◌-◌, ◌<◌, min, true, false, if◌then◌else◌, Some, List, length, replicate}
+use Rattle.std.proofs.Common.{Err, IfOk, ◌≤◌, ◌≡◌, ℕ, ◌+◌, ◌-◌, ◌<◌, min, true, false, if◌then◌else◌, Some, List}
+use Rattle.std.proofs.Common.{length, replicate}
 use Rattle.ra_io.specs.Files.{OnlyRead}
 use Rattle.ra_trace.specs.declared.error.Why.TheVariants.{Cut}
 use Rattle.ra_trace.specs.Cutting.{refusal, front}
@@ -17,8 +18,10 @@ invariant-loop-more g l = record {
   head : IfOk l.found (λ head. head ≡ head_of (front (unanswered l.self)));
   long : IfOk l.found (λ head. head_length head ≤ length (unanswered l.self));
   short : l.found ≡ Err Cut → length (unanswered l.self) < 65542;
-  holds : (bytes : List ℕ) → g.F.Files.content l.initial.files l.initial.self.name ≡ Some bytes → Holds l.initial.self bytes → Holds l.self bytes;
-  end : (bytes : List ℕ) → g.F.Files.content l.initial.files l.initial.self.name ≡ Some bytes → Holds l.initial.self bytes → l.more ≡ false → l.self.taken ≡ min l.self.limit (length bytes);
+  holds : (bytes : List ℕ) → g.F.Files.content l.initial.files l.initial.self.name ≡ Some bytes
+      → Holds l.initial.self bytes → Holds l.self bytes;
+  end : (bytes : List ℕ) → g.F.Files.content l.initial.files l.initial.self.name ≡ Some bytes →
+      Holds l.initial.self bytes → l.more ≡ false → l.self.taken ≡ min l.self.limit (length bytes);
   stays : OnlyRead g.F.Files.content g.F.Files.read_faults g.F.Files.put_faults l.initial.files l.files;
 }
 

@@ -10,7 +10,8 @@ invariant-loop-self g l = record {
   last : l.self.last ≡ 0;
   next : l.self.next ≡ 0;
   holds : (bytes : List ℕ) → g.F.Files.content l.initial.files l.initial.self.name ≡ Some bytes → Holds l.self bytes;
-  end : (bytes : List ℕ) → g.F.Files.content l.initial.files l.initial.self.name ≡ Some bytes → l.more ≡ false → l.self.taken ≡ min l.self.limit (length bytes);
+  end : (bytes : List ℕ) → g.F.Files.content l.initial.files l.initial.self.name ≡ Some bytes
+      → l.more ≡ false → l.self.taken ≡ min l.self.limit (length bytes);
   stays : OnlyRead g.F.Files.content g.F.Files.read_faults g.F.Files.put_faults l.initial.files l.files;
 }
 
