@@ -1,4 +1,5 @@
--- What the core and the alts so far say together, and the verdict that it comes to: the step between the code and docs/DEFINITIONS.md, "Triggers over frames".
+-- What the core and the alts so far say together, and the verdict that it comes to: the step between the code and
+-- docs/DEFINITIONS.md, "Triggers over frames".
 use Rattle.std.specs.Prelude.{Bool, true, false, not, ◌&&◌, ◌||◌, List, [], ◌∷◌}
 use Rattle.std.specs.List.{list_any, list_all}
 use Rattle.ra_group.specs.declared.outcome.Outcome.{Outcome}
@@ -51,4 +52,5 @@ verdict_by triggers g = record {
 
 -- the verdict of what the groups say together, without their hits
 abbrev pub verdict_of : Together → Verdict
-verdict_of now = record { reset = now.reset; valid = now.valid; paused = now.paused; primed = now.primed; from_hits = now.from_hits; measured = now.measured }
+verdict_of now =
+    record { reset = now.reset; valid = now.valid; paused = now.paused; primed = now.primed; from_hits = now.from_hits; measured = now.measured }

@@ -6,7 +6,8 @@ use Rattle.ra_trigger.specs.declared.state.State.TheVariants.{Active, Paused}
 use Rattle.ra_trigger.specs.Steps.{TriggerKept, Together, together, step}
 
 -- a frame of an achievement: what its groups say together, and what is kept after it
-pub record IsFrame (t : TriggerContents) (truths : List Bool) (lefts : List ℕ) (old : TriggerKept) (now : Together) (new : TriggerKept) : Type 0 where
+pub record IsFrame (t : TriggerContents) (truths : List Bool) (lefts : List ℕ) (old : TriggerKept)
+    (now : Together) (new : TriggerKept) : Type 0 where
   pub says : now ≡ together t truths lefts old.hits
   pub leaves : new ≡ step t truths lefts old
 

@@ -14,7 +14,8 @@ state_byte Triggered = 4
 -- the state of a byte from 0 to 4
 abbrev pub state_of : ℕ → State
 state_of byte =
-    if byte == 0 then Waiting else if byte == 1 then Active else if byte == 2 then Paused else if byte == 3 then Primed else Triggered
+    if byte == 0 then Waiting else if byte == 1 then Active else if byte == 2 then Paused
+    else if byte == 3 then Primed else Triggered
 
 -- the state is waiting
 abbrev pub is_waiting : State → Bool

@@ -1,5 +1,7 @@
--- One frame of a trigger, in which all groups are stepped, and what they say together: docs/DEFINITIONS.md, "Triggers over frames".
-use Rattle.std.specs.Prelude.{ℕ, Bool, false, ◌&&◌, ◌||◌, not, if◌then◌else◌, Option, None, unwrap_or, List, [], ◌∷◌, length, map, take, drop, replicate}
+-- One frame of a trigger, in which all groups are stepped, and what they say together: docs/DEFINITIONS.md, "Triggers
+-- over frames".
+use Rattle.std.specs.Prelude.{ℕ, Bool, false, ◌&&◌, ◌||◌, not, if◌then◌else◌, Option, None, unwrap_or, List, [], ◌∷◌}
+use Rattle.std.specs.Prelude.{length, map, take, drop, replicate}
 use Rattle.std.specs.List.{list_any, list_all, flat_map}
 use Rattle.ra_condition.specs.declared.condition.Condition.{Condition}
 use Rattle.ra_condition.specs.Flags.{is_trigger}

@@ -27,4 +27,5 @@ part_counts (Grouped cs) = counts_hits InValue cs
 
 -- the numbers of the parts, with 0 for those that come from hits
 abbrev pub uncounted : List PartContents → List ℕ → List ℕ
-uncounted parts numbers = map (λ k. if slice_index_or (map part_counts parts) k false then 0 else slice_index numbers k) (range_with_len 0 (length numbers))
+uncounted parts numbers = map (λ k. if slice_index_or (map part_counts parts) k false then 0
+    else slice_index numbers k) (range_with_len 0 (length numbers))

@@ -1,5 +1,7 @@
--- One frame of a value, in which each part gives a number and the greatest counts: docs/DEFINITIONS.md, "Values over frames".
-use Rattle.std.specs.Prelude.{ℕ, ◌+◌, ◌%◌, ◌^◌, Bool, false, ◌&&◌, if◌then◌else◌, nat_lt, unwrap_or, List, [], ◌∷◌, length, map, take, drop, replicate, slice_index, ℤ}
+-- One frame of a value, in which each part gives a number and the greatest counts: docs/DEFINITIONS.md, "Values over
+-- frames".
+use Rattle.std.specs.Prelude.{ℕ, ◌+◌, ◌%◌, ◌^◌, Bool, false, ◌&&◌, if◌then◌else◌, nat_lt, unwrap_or, List, [], ◌∷◌}
+use Rattle.std.specs.Prelude.{length, map, take, drop, replicate, slice_index, ℤ}
 use Rattle.std.specs.List.{list_any, flat_map}
 use Rattle.std.specs.Int.{w32, cast_signed}
 use Rattle.ra_condition.specs.Contents.{PartContents, Legacy, Grouped, counted_in, value_hits}
@@ -31,8 +33,10 @@ abbrev pub part_steps : List PartContents → List Bool → (lefts hits sums num
 part_steps [] truths lefts hits sums numbers = []
 part_steps (part ∷ parts) truths lefts hits sums numbers =
     let cs = counted_in part in
-    part_step part (frame_of cs (take (length cs) truths) (take (length cs) lefts) (take (length cs) hits)) (slice_index sums 0) (slice_index numbers 0)
-    ∷ part_steps parts (drop (length cs) truths) (drop (length cs) lefts) (drop (length cs) hits) (drop 1 sums) (drop 1 numbers)
+    part_step part (frame_of cs (take (length cs) truths) (take (length cs) lefts)
+    (take (length cs) hits)) (slice_index sums 0) (slice_index numbers 0)
+    ∷ part_steps parts (drop (length cs) truths) (drop (length cs) lefts) (drop (length cs) hits)
+    (drop 1 sums) (drop 1 numbers)
 
 -- the number of a part after the frame: where some part resets, 0 if it comes from hits
 abbrev pub number_after : Bool → PartStep → ℕ

@@ -1,9 +1,12 @@
 -- The text of a number in each format: docs/DEFINITIONS.md, "Formats".
-use Rattle.std.specs.Prelude.{ℕ, ◌≤◌, ◌-◌, ◌*◌, ◌/◌, ◌%◌, ◌^◌, if◌then◌else◌, nat_lt, List, [], ◌∷◌, ◌++◌, length, replicate, Option, Some, None, codes, bytes_eq, decimal, ℤ, pos, negsuc, ◌*ℤ◌, suc}
+use Rattle.std.specs.Prelude.{ℕ, ◌≤◌, ◌-◌, ◌*◌, ◌/◌, ◌%◌, ◌^◌, if◌then◌else◌, nat_lt, List, [], ◌∷◌, ◌++◌, length}
+use Rattle.std.specs.Prelude.{replicate, Option, Some, None, codes, bytes_eq, decimal, ℤ, pos, negsuc, ◌*ℤ◌, suc}
 use Rattle.std.specs.Fmt.{signed_decimal}
 use Rattle.std.specs.Int.{w32, cast_unsigned}
 use Rattle.ra_value_format.specs.declared.format.Format.{Format}
-use Rattle.ra_value_format.specs.declared.format.Format.TheVariants.{Value, Score, Frames, Secs, Hundredths, Minutes, SecsAsMins, Unsigned, Tens, Hundreds, Thousands, Fixed, Float}
+use Rattle.ra_value_format.specs.declared.format.Format.TheVariants.{Value, Score, Frames, Secs, Hundredths, Minutes}
+use Rattle.ra_value_format.specs.declared.format.Format.TheVariants.{SecsAsMins, Unsigned, Tens, Hundreds, Thousands}
+use Rattle.ra_value_format.specs.declared.format.Format.TheVariants.{Fixed, Float}
 
 -- a number in decimal, with zeros before it to this many digits
 abbrev pub with_zeros : ℕ → ℕ → List ℕ

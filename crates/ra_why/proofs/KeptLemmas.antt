@@ -1,5 +1,6 @@
 -- What a slot keeps, and what it is taken up to.
-use Rattle.std.proofs.Common.{◌≡◌, zero, suc, replicate, slice_index_or, slice_set, ℕ, ◌+◌, ◌*◌, ◌≤◌, Option, None, Some, List, [], ◌∷◌, length, refl, sym, ap, ap₂, subst, ◌∙◌, arith}
+use Rattle.std.proofs.Common.{◌≡◌, zero, suc, replicate, slice_index_or, slice_set, ℕ, ◌+◌, ◌*◌, ◌≤◌, Option, None}
+use Rattle.std.proofs.Common.{Some, List, [], ◌∷◌, length, refl, sym, ap, ap₂, subst, ◌∙◌, arith}
 use Rattle.ra_condition.specs.Contents.{TriggerContents, trigger_hits}
 use Rattle.ra_memory.specs.Image.{History}
 use Rattle.ra_memref.specs.Table.{TableSeen}
@@ -10,7 +11,8 @@ use Rattle.ra_explain.proofs.FrameLemmas.{counts_kept}
 use Rattle.ra_explain.proofs.SlotLemmas.{slot_of}
 use Rattle.ra_account.specs.declared.trigger_account.TriggerAccount.{TriggerAccount}
 use Rattle.ra_why.specs.Frames.{frames_of}
-use Rattle.ra_why.specs.Watching.{GoesOn, IsKeptOf, IsSomewhere, MayTakeUp, MayTakeUpSlot, SlotStands, StandsWith, slot_in}
+use Rattle.ra_why.specs.Watching.{GoesOn, IsKeptOf, IsSomewhere, MayTakeUp, MayTakeUpSlot, SlotStands, StandsWith}
+use Rattle.ra_why.specs.Watching.{slot_in}
 use Rattle.ra_why.specs.declared.kept.Kept.{Kept}
 
 -- as the slot of a recorder

@@ -1,4 +1,5 @@
--- A watcher that takes the records of a trace: docs/DEFINITIONS.md, "Account of an achievement" and "Frames that lie behind".
+-- A watcher that takes the records of a trace: docs/DEFINITIONS.md, "Account of an achievement" and "Frames that lie
+-- behind".
 use Rattle.std.specs.Prelude.{◌≡◌, ℕ, Bool, true, false, None, length, slice_index_or}
 use Rattle.ra_condition.specs.Contents.{TriggerContents}
 use Rattle.ra_trace.specs.Entries.{Entry, Framed, Ended}

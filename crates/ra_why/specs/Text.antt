@@ -1,5 +1,6 @@
 -- The text of `why`: docs/DEFINITIONS.md, "Account of an achievement".
-use Rattle.std.specs.Prelude.{ℕ, ◌+◌, ◌-◌, ◌==◌, nat_lt, Bool, true, false, if◌then◌else◌, Option, None, Some, List, [], ◌∷◌, ◌++◌, length, map, take, drop, slice_index, slice_index_or, codes, decimal}
+use Rattle.std.specs.Prelude.{ℕ, ◌+◌, ◌-◌, ◌==◌, nat_lt, Bool, true, false, if◌then◌else◌, Option, None, Some, List, []}
+use Rattle.std.specs.Prelude.{◌∷◌, ◌++◌, length, map, take, drop, slice_index, slice_index_or, codes, decimal}
 use Rattle.std.specs.List.{flat_map, range_with_len}
 use Rattle.ra_condition.specs.declared.condition.Condition.{Condition}
 use Rattle.ra_condition.specs.Canonical.{condition_text}
@@ -58,7 +59,8 @@ group_lines group cs hits frames size rows =
     flat_map (λ j. condition_lines group j (condition_at cs j) (slice_index hits j) frames
     (told_of (map (shown cs size j) rows))) (places cs)
 
--- the lines of groups, from one on; hits and rows run over the conditions of all groups, and those of these start at a place
+-- the lines of groups, from one on; hits and rows run over the conditions of all groups, and those of these start at a
+-- place
 abbrev pub groups_lines : (group from : ℕ) → List (List Condition) → (hits : List ℕ) → (frames size : ℕ) → List GroupRow
     → List ℕ
 groups_lines group from [] hits frames size rows = []

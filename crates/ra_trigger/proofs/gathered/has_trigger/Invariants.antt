@@ -5,4 +5,5 @@ use Rattle.ra_trigger.proofs.gathered.has_trigger.Given as goal
 
 -- the core or an alt so far has a Trigger
 abbrev pub invariant-loop-alt : goal.invariant-loop-alt
-invariant-loop-alt l = l.found ≡ has_trigger (group_contents l.text.core ∷ map group_contents (take l.alt-index l.text.alts.items))
+invariant-loop-alt l = l.found ≡ has_trigger
+    (group_contents l.text.core ∷ map group_contents (take l.alt-index l.text.alts.items))
