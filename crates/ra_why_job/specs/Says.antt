@@ -1,5 +1,7 @@
--- What `why` says of an achievement over a trace: docs/DEFINITIONS.md, "Jobs for authors" and "Account of an achievement".
-use Rattle.std.specs.Prelude.{◌≡◌, ℕ, ◌+◌, ◌==◌, ◌||◌, Bool, if◌then◌else◌, Option, None, Some, List, [], ◌∷◌, ◌++◌, take, codes, decimal}
+-- What `why` says of an achievement over a trace: docs/DEFINITIONS.md, "Jobs for authors" and "Account of an
+-- achievement".
+use Rattle.std.specs.Prelude.{◌≡◌, ℕ, ◌+◌, ◌==◌, ◌||◌, Bool, if◌then◌else◌, Option, None, Some, List, [], ◌∷◌, ◌++◌}
+use Rattle.std.specs.Prelude.{take, codes, decimal}
 use Rattle.ra_condition.specs.Contents.{TriggerContents}
 use Rattle.ra_memory.specs.Image.{History}
 use Rattle.ra_set.specs.Accepted.{IsSet}
@@ -50,7 +52,8 @@ refused_line at why = codes "trace refused at " ++ decimal at ++ codes ": " ++ t
 abbrev pub long_line : List ℕ
 long_line = codes "trace too long\n"
 
--- What is said of an achievement over a trace file, as status and text: the account of the frames up to its first unlock
+-- What is said of an achievement over a trace file, as status and text: the account of the frames up to its first
+-- unlock
 -- or to the end record; or why the trace stops before.
 pub data TraceSays (id : ℕ) (t : TriggerContents) (bytes : List ℕ) : (status : ℕ) → (text : List ℕ) → Type 0 where
   accounts : (history : History) → history_in t bytes ≡ Some history
@@ -59,14 +62,17 @@ pub data TraceSays (id : ℕ) (t : TriggerContents) (bytes : List ℕ) : (status
       → TraceSays id t bytes 7 (refused_line at why)
   passes_limit : history_in t bytes ≡ None → (trace_in bytes).stop ≡ PastLimit → TraceSays id t bytes 8 long_line
 
--- What `why` of these files says, as status and text, where the bytes that decide it are told: those of SET, of which at
+-- What `why` of these files says, as status and text, where the bytes that decide it are told: those of SET, of which
+-- at
 -- most a byte more than a set may have is read, and those of TRACE where the set has the achievement.
-pub data WhySays (content : List ℕ → Option (List ℕ)) (set trace : List ℕ) (id : ℕ) : (status : ℕ) → (text : List ℕ) → Type 0 where
+pub data WhySays (content : List ℕ → Option (List ℕ)) (set trace : List ℕ) (id : ℕ) : (status : ℕ)
+    → (text : List ℕ) → Type 0 where
   refuses_set : (file : List ℕ) (why : SetRefused) → content set ≡ Some file → Refuses (take (most_bytes + 1) file) why
       → WhySays content set trace id 3 (set_line why)
   lacks : (file : List ℕ) (s : SetContents) → content set ≡ Some file → IsSet file s → trigger_of id s.items ≡ None
       → WhySays content set trace id 12 (lacks_line id)
-  tells : (file bytes : List ℕ) (s : SetContents) (t : TriggerContents) (status : ℕ) (text : List ℕ) → content set ≡ Some file
+  tells : (file bytes : List ℕ) (s : SetContents) (t : TriggerContents) (status : ℕ) (text : List ℕ)
+      → content set ≡ Some file
       → content trace ≡ Some bytes → IsSet file s → trigger_of id s.items ≡ Some t → TraceSays id t bytes status text
       → WhySays content set trace id status text
 
@@ -82,7 +88,8 @@ is_own status = is_traced status || (status == 3 || status == 12)
 abbrev pub decided_by : (set trace : List ℕ) → (status : ℕ) → List (List ℕ)
 decided_by set trace status = if status == 3 || status == 12 then set ∷ [] else set ∷ trace ∷ []
 
--- SET is a set with an achievement of the id, and TRACE is within its format up to the first unlock of it, or to its end
+-- SET is a set with an achievement of the id, and TRACE is within its format up to the first unlock of it, or to its
+-- end
 -- record.
 pub record IsWatched (file bytes : List ℕ) (id : ℕ) : Type 0 where
   pub set : SetContents

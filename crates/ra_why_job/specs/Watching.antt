@@ -35,7 +35,8 @@ pub record IsReached (found : Option History) (w : Watcher) : Type 0 where
   pub is : found ≡ Some history
   pub stands : Stands w history
 
--- why a trace is watched no further is why it stops before the history that is looked for, but where memory runs out and
+-- why a trace is watched no further is why it stops before the history that is looked for, but where memory runs out
+-- and
 -- where a read failed
 abbrev pub IsReason : (found : Option History) → Stop → WatchFailed → Type 0
 IsReason found stop watch.Memory = ⊤
@@ -43,7 +44,8 @@ IsReason found stop (watch.Trace errors.Read) = ⊤
 IsReason found stop (watch.Trace error) = (found ≡ None) × IsStop error (Some stop)
 
 -- One record of those that are left was taken: it was neither the frame of an unlock nor the end.
-pub record TakesOn (bytes : List ℕ) (m : Moment) (left : Pieces) (reader : ReaderSeen) (old new : Watcher) : Type 0 where
+pub record TakesOn (bytes : List ℕ) (m : Moment) (left : Pieces) (reader : ReaderSeen)
+    (old new : Watcher) : Type 0 where
   pub entry : Entry
   pub rest : Pieces
   pub first : left ≡ with_entry entry rest
@@ -51,7 +53,8 @@ pub record TakesOn (bytes : List ℕ) (m : Moment) (left : Pieces) (reader : Rea
   pub goes : GoesTo old new entry m false
 
 -- what reading and taking the next record does: others come after it, the history is reached, or the trace stops
-abbrev pub TakesNext : (bytes : List ℕ) → Moment → Pieces → ReaderSeen → (old new : Watcher) → Result Bool WatchFailed → Type 0
+abbrev pub TakesNext : (bytes : List ℕ) → Moment → Pieces → ReaderSeen → (old new : Watcher)
+    → Result Bool WatchFailed → Type 0
 TakesNext bytes m left reader old new (Ok true) = TakesOn bytes m left reader old new
 TakesNext bytes m left reader old new (Ok false) = IsReached (frames_to (trigger_in old) m left.entries) new
 TakesNext bytes m left reader old new (Err failed) =

@@ -12,7 +12,9 @@ use Rattle.ra_why_job.proofs.watching.watch.Given as goal
 -- the records so far have reached nothing
 abbrev pub invariant-loop : goal.invariant-loop
 invariant-loop g l = record {
-  to : (bytes : List ℕ) (m : Moment) (left : Pieces) → g.F.Files.content l.initial.files l.initial.reader.name ≡ Some bytes → Follows l.initial.watcher m → IsLeft bytes m l.initial.reader left
+  to : (bytes : List ℕ) (m : Moment) (left : Pieces) → g.F.Files.content l.initial.files
+      l.initial.reader.name ≡ Some bytes → Follows l.initial.watcher m
+      → IsLeft bytes m l.initial.reader left
       → LeadsTo bytes l.initial.watcher m left l.reader l.watcher;
   size : l.reader.size ≡ Some (length l.initial.watcher.memory);
   name : l.reader.name ≡ l.initial.reader.name;
