@@ -38,3 +38,7 @@ one_more cs at k d e low high within is =
 -- where no condition pauses, the places stand in text order
 pub text_order : (cs : List Condition) → HasNoPause cs → pass_order cs ≡ places cs
 text_order cs none = ap₂ (λ ps os. ps ++ os) (none_chosen (in_pause_chain cs) (in_no_chain cs none) (places cs)) (all_chosen (in_pause_chain cs) (in_no_chain cs none) (places cs))
+
+-- and none stands in a pause chain
+pub none_pauses : (cs : List Condition) → HasNoPause cs → filter (in_pause_chain cs) (places cs) ≡ []
+none_pauses cs none = none_chosen (in_pause_chain cs) (in_no_chain cs none) (places cs)

@@ -1,5 +1,5 @@
 -- Each condition stands once in the pass order, and after the one before it in its chain.
-use Rattle.std.proofs.Common.{◌≡◌, ◌≢◌, ℕ, zero, suc, ◌+◌, ◌-◌, ◌<◌, ◌≤◌, ◌==◌, Bool, true, false, not, List, [], ◌∷◌, length, take, get_or, refl, sym, ap, ◌∙◌, ◌⊎◌, inl, inr, arith, length-append}
+use Rattle.std.proofs.Common.{◌≡◌, ◌≢◌, ℕ, zero, suc, ◌+◌, ◌-◌, ◌<◌, ◌≤◌, ◌==◌, Bool, true, false, not, cond, List, [], ◌∷◌, length, take, get_or, refl, sym, ap, ◌∙◌, ◌⊎◌, inl, inr, arith, length-append}
 use Rattle.std.specs.List.{position_or_len, before_first}
 use Rattle.std.proofs.lemmas.List.{get_or_append_left, get_or-append_right, get_or-append-add, get_or-take, length-take-le}
 use Rattle.std.proofs.lemmas.Bool.{cases_lt, true≢false, eq-eqb, ne_eqb, cases_order}
@@ -7,9 +7,10 @@ use Rattle.ra_condition.specs.declared.condition.Condition.{Condition}
 use Rattle.ra_condition.specs.Flags.{combines}
 use Rattle.ra_condition.specs.Contents.{flag_at}
 use Rattle.ra_condition.specs.Chains.{in_pause_chain, pass_order}
-use Rattle.ra_condition.proofs.Passes.{chosen, stands}
+use Rattle.ra_condition.proofs.ChainLemmas.{in_pause_chain-combines}
+use Rattle.ra_condition.proofs.Passes.{chosen, length-chosen_more, stands}
 use Rattle.ra_condition.proofs.OrderLemmas.{pausing, others, order_early, order_late}
-use Rattle.ra_chain.proofs.LawLemmas.{before_chained, chosen_at}
+use Rattle.ra_chain.proofs.LawLemmas.{chosen_at}
 
 -- the place of a turn
 abbrev pub turn_at : List Condition → ℕ → ℕ
@@ -53,20 +54,6 @@ one_turn cs m k within within' same = by (cases_order m k)
     by (inr (inl less)) = absurd (turns_differ cs m k less within' same)
     by (inr (inr more)) = absurd (turns_differ cs k m more within (sym same))
 
--- an earlier turn that came to a place
-pub record CameBefore (cs : List Condition) (k i : ℕ) : Type 0 where
-  pub turn : ℕ
-  pub earlier : turn < k
-  pub at : turn_at cs turn ≡ i
-
--- the condition before, if it combines, came before
-pub came_before : (cs : List Condition) (k i : ℕ) → k < length (pass_order cs) → turn_at cs k ≡ suc i → suc i < length cs → combines (flag_at cs i) ≡ true → CameBefore cs k i
-came_before cs k i within is inside holds =
-    let chained : (j : ℕ) → i ≤ j → j < suc i → combines (flag_at cs j) ≡ true = λ j from below. (let same : i ≡ j = omega arith in ap (λ n. combines (flag_at cs n)) (sym same) ∙ holds) in
-    let stands = before_chained cs i (suc i) (record { earlier = omega arith; within = inside; chained = chained }) in
-    let here : stands.second ≡ k = one_turn cs stands.second k stands.within within (stands.at_second ∙ sym is) in
-    record { turn = stands.first; earlier = omega (arith, stands.rising); at = stands.at_first }
-
 position_step : (p : ℕ → Bool) (x : ℕ) (xs : List ℕ) (k : ℕ) (b : Bool) → p x ≡ b → b ≡ false → position_or_len p xs ≡ k → position_or_len p (x ∷ xs) ≡ suc k
 position_step p x xs k true here fails later = absurd (true≢false fails)
 position_step p x xs k false here fails later = rw here (omega arith)
@@ -108,3 +95,41 @@ turn_by cs j inside false goes =
 
 pub turn_of : (cs : List Condition) (j : ℕ) → j < length cs → HasTurn cs j
 turn_of cs j inside = turn_by cs j inside (in_pause_chain cs j) refl
+
+-- the condition before came in the turn before
+pub record CameBefore (cs : List Condition) (k i : ℕ) : Type 0 where
+  pub turn : ℕ
+  pub next : suc turn ≡ k
+  pub at : turn_at cs turn ≡ i
+
+-- one that is chosen makes one more
+one_chosen : (q : ℕ → Bool) (i : ℕ) → q i ≡ true → length (chosen q (suc i)) ≡ suc (length (chosen q i))
+one_chosen q i here = length-chosen_more q i ∙ ap (λ b. length (chosen q i) + cond b 1 0) here ∙ omega arith
+
+came_by : (cs : List Condition) (k i : ℕ) → k < length (pass_order cs) → turn_at cs k ≡ suc i → suc i < length cs
+    → (b : Bool) → in_pause_chain cs i ≡ b → in_pause_chain cs (suc i) ≡ b → CameBefore cs k i
+unfolding turn_by
+came_by cs k i within is inside true before here =
+    let first = turn_by cs i (omega arith) true before in
+    let second = turn_by cs (suc i) inside true here in
+    let same : second.turn ≡ k = one_turn cs second.turn k second.within within (second.at ∙ sym is) in
+    record {
+      turn = first.turn;
+      next = sym (one_chosen (in_pause_chain cs) i before) ∙ same;
+      at = first.at;
+    }
+came_by cs k i within is inside false before here =
+    let first = turn_by cs i (omega arith) false before in
+    let second = turn_by cs (suc i) inside false here in
+    let same : second.turn ≡ k = one_turn cs second.turn k second.within within (second.at ∙ sym is) in
+    let r : ℕ → Bool = λ j. not (in_pause_chain cs j) in
+    let more : length (chosen r (suc i)) ≡ suc (length (chosen r i)) = one_chosen r i (ap not before) in
+    let up : suc (length (pausing cs) + length (chosen r i)) ≡ length (pausing cs) + length (chosen r (suc i)) =
+    omega (arith, more) in
+    record { turn = first.turn; next = up ∙ same; at = first.at }
+
+-- the condition before, if it combines, came in the turn before
+pub came_before : (cs : List Condition) (k i : ℕ) → k < length (pass_order cs) → turn_at cs k ≡ suc i
+    → suc i < length cs → combines (flag_at cs i) ≡ true → CameBefore cs k i
+came_before cs k i within is inside holds =
+    came_by cs k i within is inside (in_pause_chain cs i) refl (sym (in_pause_chain-combines cs i holds))

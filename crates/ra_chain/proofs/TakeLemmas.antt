@@ -55,20 +55,20 @@ module _ (cs : List Condition) (j : ℕ) (within : j < length cs) where
       ap (λ v. if hands_on (flag_at cs j) then v else right_operand cs (values_of cs) j) ((values_by_rules cs).each j within)
 
 -- the sum of a condition, from the condition before it
-module _ (cs : List Condition) (j i : ℕ) (next : suc i ≡ j) (flag : Flag) (same : flag ≡ flag_at cs i) (nodes : List Node) (pool : IsPool nodes) (passed : Passed) (known : IsKnownBefore cs j passed nodes) (x : ℕ) (left : x ≡ get_or passed.lefts.items i 0) (o : Option ℕ) (sum : o ≡ get_or passed.sums.items i None) where
+module _ (cs : List Condition) (j i : ℕ) (next : suc i ≡ j) (flag : Flag) (same : flag ≡ flag_at cs i) (nodes : List Node) (pool : IsPool nodes) (passed : Passed) (known : IsKnownBefore cs j passed nodes) (x : ℕ) (left : x ≡ get_or passed.lefts.items i 0) where
   carried_value : IsCarried flag → Spells nodes x (tree_at (values_of cs) i)
   carried_value carried = subst (λ n. Spells nodes n (tree_at (values_of cs) i)) (sym left) (known.value i next (subst IsCarried same carried))
 
-  carried_sum : IsCarried flag → SpellsSum nodes o (sum_of cs (values_of cs) i)
-  carried_sum carried = subst (λ n. SpellsSum nodes n (sum_of cs (values_of cs) i)) (sym sum) (known.sum i next (subst IsCarried same carried))
+  carried_sum : IsCarried flag → SpellsSum nodes passed.sum (sum_of cs (values_of cs) i)
+  carried_sum carried = known.sum i next (subst IsCarried same carried)
 
   pub named_value : IsCarried flag → Names nodes x
   named_value carried = spells_named nodes x (tree_at (values_of cs) i) pool (carried_value carried)
 
-  pub named_carried_sum : IsCarried flag → NamesSome nodes o
-  named_carried_sum carried = named_sum nodes o (sum_of cs (values_of cs) i) pool (carried_sum carried)
+  pub named_carried_sum : IsCarried flag → NamesSome nodes passed.sum
+  named_carried_sum carried = named_sum nodes passed.sum (sum_of cs (values_of cs) i) pool (carried_sum carried)
 
-  pub sum_taken : (new : List Node) (after : Option ℕ) → ((v : Tree) (s : Option Tree) → (IsCarried flag → Spells nodes x v) → (IsCarried flag → SpellsSum nodes o s) → PlantsSum nodes new (sum_after flag v s) after) → PlantsSum nodes new (sum_of cs (values_of cs) j) after
+  pub sum_taken : (new : List Node) (after : Option ℕ) → ((v : Tree) (s : Option Tree) → (IsCarried flag → Spells nodes x v) → (IsCarried flag → SpellsSum nodes passed.sum s) → PlantsSum nodes new (sum_after flag v s) after) → PlantsSum nodes new (sum_of cs (values_of cs) j) after
   sum_taken new after takes =
       subst (λ n. PlantsSum nodes new (sum_of cs (values_of cs) n) after) next
       (subst (λ f. PlantsSum nodes new (sum_after f (tree_at (values_of cs) i) (sum_of cs (values_of cs) i)) after) same (takes (tree_at (values_of cs) i) (sum_of cs (values_of cs) i) carried_value carried_sum))

@@ -47,7 +47,7 @@ module _ (cs : List Condition) (values values' : List Tree) where
   came : (k i : ℕ) → AgreeBefore cs k values values' → k < length (pass_order cs) → turn_at cs k ≡ suc i → combines (flag_at cs i) ≡ true → tree_at values i ≡ tree_at values' i
   came k i agree within is holds =
       let before = came_before cs k i within is (omega (arith, order_below cs k within)) holds in
-      ap (tree_at values) (sym before.at) ∙ agree before.turn before.earlier ∙ ap (tree_at values') before.at
+      ap (tree_at values) (sym before.at) ∙ agree before.turn (omega (arith, before.next)) ∙ ap (tree_at values') before.at
 
   pointer_agree : (k j : ℕ) → AgreeBefore cs k values values' → k < length (pass_order cs) → turn_at cs k ≡ j → pointer_of cs values j ≡ pointer_of cs values' j
   pointer_agree k zero agree within is = refl
@@ -88,7 +88,7 @@ module _ (cs : List Condition) (values values' : List Tree) where
   sum_agree (suc i) k agree within is =
       sum_step (flag_at cs i) (tree_at values i) (tree_at values' i) (sum_of cs values i) (sum_of cs values' i)
       (λ holds. came k i agree within is (carries_combines (flag_at cs i) holds))
-      (λ holds. let before = came_before cs k i within is (omega (arith, order_below cs k within)) (carries_combines (flag_at cs i) holds) in sum_agree i before.turn (λ m below. agree m (omega (arith, before.earlier))) (omega (arith, before.earlier)) before.at)
+      (λ holds. let before = came_before cs k i within is (omega (arith, order_below cs k within)) (carries_combines (flag_at cs i) holds) in sum_agree i before.turn (λ m below. agree m (omega (arith, before.next))) (omega (arith, before.next)) before.at)
 
   operand_agree : (operand : Operand) (p p' r r' : Tree) → p ≡ p' → r ≡ r' → operand_tree operand p r ≡ operand_tree operand p' r'
   operand_agree operand p p' r r' pointers recalls = ap₂ (operand_tree operand) pointers recalls

@@ -25,7 +25,7 @@ use Rattle.ra_chain.specs.Sides.{IsSized, IsKnownBefore, TakesCondition}
 use Rattle.ra_chain.specs.Elaborates.{trees_along, SpellsEach}
 use Rattle.ra_chain.proofs.OrderPlaces.{turn_at, turns_differ, came_before, before_turn, turn_of}
 use Rattle.ra_chain.proofs.PlantLemmas.{spells_more, grows_none, grows_through, kept_none, kept_through}
-use Rattle.ra_chain.proofs.SideLemmas.{sum_more, or_zero_more}
+use Rattle.ra_chain.proofs.SideLemmas.{or_zero_more}
 
 -- a condition that hands its value on has it on the left
 hands_left : (cs : List Condition) (j : ℕ) → hands_on (flag_at cs j) ≡ true → left_of cs j ≡ tree_at (values_of cs) j
@@ -61,7 +61,7 @@ pub record IsRunning (cs : List Condition) (first : List Node) (k : ℕ) (passed
   pub kept : IsKept first nodes (12 * k) (2 * k) (2 * k)
   pub lefts : (m : ℕ) → m < k → Spells nodes (get_or passed.lefts.items (turn_at cs m) 0) (left_of cs (turn_at cs m))
   pub rights : (m : ℕ) → m < k → Spells nodes (get_or passed.rights.items (turn_at cs m) 0) (right_of cs (turn_at cs m))
-  pub sums : (m : ℕ) → m < k → SpellsSum nodes (get_or passed.sums.items (turn_at cs m) None) (sum_of cs (values_of cs) (turn_at cs m))
+  pub sum : (m : ℕ) → suc m ≡ k → SpellsSum nodes passed.sum (sum_of cs (values_of cs) (turn_at cs m))
   pub recalled : SpellsOrZero nodes passed.recalled (last_remembered cs (values_of cs) (constant 0) (take k (pass_order cs)))
   pub sized : IsSized passed (length cs)
 
@@ -71,7 +71,7 @@ running_none cs first passed pool sized none = record {
   kept = kept_none first (12 * 0) (2 * 0) (2 * 0) pool;
   lefts = λ m below. absurd (omega arith);
   rights = λ m below. absurd (omega arith);
-  sums = λ m below. absurd (omega arith);
+  sum = λ m next. absurd (omega (arith, next));
   recalled = subst (λ o. SpellsOrZero first o (constant 0)) (sym none) refl;
   sized = sized;
 }
@@ -87,10 +87,11 @@ module _ (cs : List Condition) (first : List Node) (k : ℕ) (passed : Passed) (
     value = λ i next carried. (
         let before = came_before cs k i within (sym next) (omega (arith, order_below cs k within)) (carried_combines (flag_at cs i) carried) in
         subst (λ t. Spells nodes (get_or passed.lefts.items i 0) t) (hands_left cs i (carried_hands (flag_at cs i) carried))
-        (subst (λ n. Spells nodes (get_or passed.lefts.items n 0) (left_of cs n)) before.at (running.lefts before.turn before.earlier)));
+        (subst (λ n. Spells nodes (get_or passed.lefts.items n 0) (left_of cs n)) before.at (running.lefts before.turn (omega (arith, before.next)))));
     sum = λ i next carried. (
         let before = came_before cs k i within (sym next) (omega (arith, order_below cs k within)) (carried_combines (flag_at cs i) carried) in
-        subst (λ n. SpellsSum nodes (get_or passed.sums.items n None) (sum_of cs (values_of cs) n)) before.at (running.sums before.turn before.earlier));
+        subst (λ n. SpellsSum nodes passed.sum (sum_of cs (values_of cs) n)) before.at
+        (running.sum before.turn before.next));
     recalled = subst (λ is. SpellsOrZero nodes passed.recalled (last_remembered cs (values_of cs) (constant 0) is)) (sym (before_turn cs k within)) running.recalled;
   }
 
@@ -115,13 +116,6 @@ module _ (cs : List Condition) (first : List Node) (k : ℕ) (passed : Passed) (
     right_by m (inr last) =
         subst (λ i. Spells nodes' (get_or passed'.rights.items (turn_at cs i) 0) (right_of cs (turn_at cs i))) (sym last) takes.sides.right_too
 
-    sum_by_turn : (m : ℕ) → (m < k) ⊎ (m ≡ k) → SpellsSum nodes' (get_or passed'.sums.items (turn_at cs m) None) (sum_of cs (values_of cs) (turn_at cs m))
-    sum_by_turn m (inl early) =
-        let same = takes.others (turn_at cs m) (turns_differ cs m k early within) in
-        subst (λ o. SpellsSum nodes' o (sum_of cs (values_of cs) (turn_at cs m))) (sym same.2) (sum_more nodes nodes' _ _ kept.front (running.sums m early))
-    sum_by_turn m (inr last) =
-        subst (λ i. SpellsSum nodes' (get_or passed'.sums.items (turn_at cs i) None) (sum_of cs (values_of cs) (turn_at cs i))) (sym last) takes.sum
-
     recalled_by : (b : Bool) → is_remember (flag_at cs (turn_at cs k)) ≡ b → SpellsOrZero nodes' (cond b (Some (get_or passed'.lefts.items (turn_at cs k) 0)) passed.recalled) (cond b (tree_at (values_of cs) (turn_at cs k)) (last_remembered cs (values_of cs) (constant 0) (take k (pass_order cs))))
     recalled_by true holds =
         subst (λ t. Spells nodes' (get_or passed'.lefts.items (turn_at cs k) 0) t) (hands_left cs (turn_at cs k) (remember_hands (flag_at cs (turn_at cs k)) holds)) takes.sides.left_too
@@ -134,7 +128,9 @@ module _ (cs : List Condition) (first : List Node) (k : ℕ) (passed : Passed) (
       kept = kept_through first nodes nodes' (12 * k) (2 * k) (2 * k) 12 2 2 (12 * suc k) (2 * suc k) (2 * suc k) (omega arith) (omega arith) (omega arith) running.kept kept;
       lefts = λ m below. left_by m (either m below);
       rights = λ m below. right_by m (either m below);
-      sums = λ m below. sum_by_turn m (either m below);
+      sum = λ m next. (
+          let same : k ≡ m = omega (arith, next) in
+          subst (λ i. SpellsSum nodes' passed'.sum (sum_of cs (values_of cs) (turn_at cs i))) same takes.sum);
       recalled = subst (λ is. SpellsOrZero nodes' passed'.recalled (last_remembered cs (values_of cs) (constant 0) is)) (sym order_more) (subst (λ o. SpellsOrZero nodes' o (last_remembered cs (values_of cs) (constant 0) (take k (pass_order cs) ++ turn_at cs k ∷ []))) (sym takes.recalled) (subst (SpellsOrZero nodes' (if is_remember (flag_at cs (turn_at cs k)) then Some (get_or passed'.lefts.items (turn_at cs k) 0) else passed.recalled)) (sym (last_more cs (constant 0) (take k (pass_order cs)) (turn_at cs k))) (recalled_by (is_remember (flag_at cs (turn_at cs k))) refl)));
       sized = sized;
     }

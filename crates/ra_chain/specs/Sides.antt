@@ -1,5 +1,5 @@
 -- The trees of a condition, from its sum, its left operand and its right one: docs/DEFINITIONS.md, "Trees of a group".
-use Rattle.std.specs.Prelude.{◌≡◌, ℕ, suc, if◌then◌else◌, Option, None, Some, List, [], ◌∷◌, ◌++◌, length, slice_index, slice_index_or, IsTrue, ◌⊎◌}
+use Rattle.std.specs.Prelude.{◌≡◌, ℕ, suc, if◌then◌else◌, Option, None, Some, List, [], ◌∷◌, ◌++◌, length, slice_index, IsTrue, ◌⊎◌}
 use Rattle.ra_operand.specs.Operators.{is_arithmetic, is_bare}
 use Rattle.ra_condition.specs.declared.condition.Condition.{Condition}
 use Rattle.ra_condition.specs.Flags.{hands_on, is_remember}
@@ -51,17 +51,20 @@ pub record PlantsSides (base new : List Node) (left right : Tree) (first second 
 pub record IsSized (passed : Passed) (count : ℕ) : Type 0 where
   pub lefts_too : length passed.lefts.items ≡ count
   pub rights_too : length passed.rights.items ≡ count
-  pub sums_too : length passed.sums.items ≡ count
 
 -- what is known of the condition before a place, and of the value last remembered
 pub record IsKnownBefore (cs : List Condition) (j : ℕ) (passed : Passed) (nodes : List Node) : Type 0 where
-  pub value : (i : ℕ) → suc i ≡ j → IsCarried (flag_at cs i) → Spells nodes (slice_index passed.lefts.items i) (tree_at (values_of cs) i)
-  pub sum : (i : ℕ) → suc i ≡ j → IsCarried (flag_at cs i) → SpellsSum nodes (slice_index_or passed.sums.items i None) (sum_of cs (values_of cs) i)
+  pub value : (i : ℕ) → suc i ≡ j → IsCarried (flag_at cs i)
+      → Spells nodes (slice_index passed.lefts.items i) (tree_at (values_of cs) i)
+  pub sum : (i : ℕ) → suc i ≡ j → IsCarried (flag_at cs i) → SpellsSum nodes passed.sum (sum_of cs (values_of cs) i)
   pub recalled : SpellsOrZero nodes passed.recalled (recall_of cs (values_of cs) j)
 
 -- a condition has its nodes, and what else is kept stays
 pub record TakesCondition (cs : List Condition) (j : ℕ) (old new : Passed) (before after : List Node) : Type 0 where
-  pub sides : PlantsSides before after (left_of cs j) (right_of cs j) (slice_index new.lefts.items j) (slice_index new.rights.items j)
-  pub sum : SpellsSum after (slice_index_or new.sums.items j None) (sum_of cs (values_of cs) j)
-  pub others : (i : ℕ) → (i ≡ j → ⊥) → (slice_index new.lefts.items i ≡ slice_index old.lefts.items i) × (slice_index new.rights.items i ≡ slice_index old.rights.items i) × (slice_index_or new.sums.items i None ≡ slice_index_or old.sums.items i None)
-  pub recalled : new.recalled ≡ (if is_remember (flag_at cs j) then Some (slice_index new.lefts.items j) else old.recalled)
+  pub sides : PlantsSides before after (left_of cs j) (right_of cs j)
+      (slice_index new.lefts.items j) (slice_index new.rights.items j)
+  pub sum : SpellsSum after new.sum (sum_of cs (values_of cs) j)
+  pub others : (i : ℕ) → (i ≡ j → ⊥) → (slice_index new.lefts.items i ≡ slice_index old.lefts.items i)
+      × (slice_index new.rights.items i ≡ slice_index old.rights.items i)
+  pub recalled : new.recalled
+      ≡ (if is_remember (flag_at cs j) then Some (slice_index new.lefts.items j) else old.recalled)

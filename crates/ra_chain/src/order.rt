@@ -17,10 +17,24 @@ pub fn order_of(alloc: Global, group: &Group) -> Result<Vec<u32>, OutOfMemory>
     requires { length (group_contents group.now) < 2 ^ 32 }
     ensures { IfOk result (λ order. order.items ≡ pass_order (group_contents group.now)) }
 {
-    if has_pause(&group.conditions) {
-        pauses_first(alloc, &group.conditions)
+    let (order, _) = passes_of(alloc, &group.conditions)?;
+    Ok(order)
+}
+
+/// The pass order of conditions, and how many places of it stand in pause chains, which come first.
+pub fn passes_of(alloc: Global, conditions: &[Condition]) -> Result<(Vec<u32>, usize), OutOfMemory>
+    requires { length conditions.now < 2 ^ 32 }
+    ensures order { IfOk result (λ passes. passes.0.items ≡ pass_order conditions.now) }
+    ensures pauses { IfOk result (λ passes. passes.1
+        ≡ length (filter (in_pause_chain conditions.now) (places conditions.now))) }
+{
+    if has_pause(conditions) {
+        let order = pauses_first(alloc, conditions)?;
+        let pauses = pause_places(conditions, &order);
+        Ok((order, pauses))
     } else {
-        in_text_order(alloc, &group.conditions)
+        let order = in_text_order(alloc, conditions)?;
+        Ok((order, 0))
     }
 }
 
@@ -94,8 +108,8 @@ fn push_places(order: &mut Vec<u32>, marks: &[bool], marked: bool) -> Result<(),
     Ok(())
 }
 
-/// How many places of the pass order stand in pause chains: those up to its last PauseIf.
-pub fn pause_places(conditions: &[Condition], order: &[u32]) -> usize
+// How many places of the pass order stand in pause chains: those up to its last PauseIf.
+fn pause_places(conditions: &[Condition], order: &[u32]) -> usize
     requires { order.now ≡ pass_order conditions.now }
     ensures { result ≡ length (filter (in_pause_chain conditions.now) (places conditions.now)) }
 {

@@ -13,7 +13,7 @@ ghost use Rattle.ra_chain.specs.Elaborates.{SpellsEach, AllJoin};
 ghost use Rattle.ra_chain.specs.Sides.{JoinsValues, IsSized, IsKnownBefore, TakesCondition};
 
 use crate::nodes::{operand_node, sum_node};
-use crate::order::{order_of, pause_places};
+use crate::order::passes_of;
 use crate::plan::GroupPlan;
 use crate::sides::{Named, sides_node};
 use ra_condition::{Condition, Flag, Group};
@@ -47,8 +47,8 @@ pub fn elaborate(alloc: Global, group: &Group, pool: &mut Pool) -> Result<GroupP
 {
     // This call tells that the nodes are those of a pool, which the proof needs.
     let _ = pool.len();
-    let order = order_of(alloc, group)?;
-    let pauses = pause_places(&group.conditions, &order) as u32;
+    let (order, pauses) = passes_of(alloc, &group.conditions)?;
+    let pauses = pauses as u32;
     let pauses = vec![in alloc; pauses; 1]?;
     let mut passed = Passed::new(alloc, group.conditions.len())?;
     take_conditions(&mut passed, pool, &group.conditions, &order)?;
@@ -93,8 +93,8 @@ pub struct Passed {
     pub lefts: Vec<u32>,
     /// The node of the right tree of each condition in text order.
     pub rights: Vec<u32>,
-    /// The node of the sum after each condition in text order, where there is one.
-    pub sums: Vec<Option<u32>>,
+    /// The node of the sum before the condition that passed last, if there is one.
+    pub sum: Option<u32>,
     /// The node of the value last remembered, if one was.
     pub recalled: Option<u32>,
 }
@@ -107,11 +107,10 @@ impl Passed {
     {
         let lefts = vec![in alloc; 0; count]?;
         let rights = vec![in alloc; 0; count]?;
-        let sums = vec![in alloc; None; count]?;
         Ok(Passed {
             lefts,
             rights,
-            sums,
+            sum: None,
             recalled: None,
         })
     }
@@ -133,17 +132,17 @@ impl Passed {
         ensures sized { IsSized self.new (length conditions.now) }
         ensures kept { IsKept pool.old pool.new 12 2 2 }
     {
-        let condition = conditions[place];
+        let condition = &conditions[place];
         let named = Named {
             pointer: self.pointer_at(conditions, place),
             recalled: self.recalled,
         };
         let sum = self.sum_at(pool, conditions, place)?;
         let left = operand_node(pool, condition.left, named.pointer, named.recalled)?;
-        let (left, right) = sides_node(pool, &condition, sum, left, named)?;
+        let (left, right) = sides_node(pool, condition, sum, left, named)?;
         self.lefts[place] = left;
         self.rights[place] = right;
-        self.sums[place] = sum;
+        self.sum = sum;
         self.recalled = recalled_after(condition.flag, left, self.recalled);
         Ok(())
     }
@@ -182,12 +181,7 @@ impl Passed {
             return Ok(None);
         }
         let before = place - 1;
-        let sum = sum_node(
-            pool,
-            conditions[before].flag,
-            self.lefts[before],
-            self.sums[before],
-        )?;
+        let sum = sum_node(pool, conditions[before].flag, self.lefts[before], self.sum)?;
         Ok(sum)
     }
 }

@@ -1,9 +1,8 @@
-use Rattle.std.proofs.Common.{if◌then◌else◌, get_or, set, ap, ap₂, subst, sym, ◌∙◌, arith, get_or-set_same, get_or-set_other, None, Some}
+use Rattle.std.proofs.Common.{if◌then◌else◌, get_or, set, ap, ap₂, subst, sym, ◌∙◌, arith, get_or-set_same, get_or-set_other, Some}
 use Rattle.std.proofs.lemmas.List.{get_or_default}
 use Rattle.ra_condition.specs.Flags.{is_remember}
 use Rattle.ra_condition.specs.Contents.{no_condition}
-use Rattle.ra_chain.specs.Elaboration.{sum_of, values_of, left_of, right_of}
-use Rattle.ra_chain.specs.Planting.{SpellsSum}
+use Rattle.ra_chain.specs.Elaboration.{left_of, right_of}
 use Rattle.ra_chain.specs.Sides.{PlantsSides}
 use Rattle.ra_chain.proofs.PlantLemmas.{front_through}
 use Rattle.ra_chain.proofs.SideLemmas.{sum_more}
@@ -46,11 +45,10 @@ returns-clause-ok c =
     let same = get_or_default c.args.conditions.now c.args.place _ no_condition c.requires.within in
     let left_here = get_or-set_same c.args.self.now.lefts.items c.args.place c.in_ok-left-2.left 0 (omega (arith, c.requires.within, c.requires.sized.lefts_too)) in
     let right_here = get_or-set_same c.args.self.now.rights.items c.args.place c.in_ok-left-2.right 0 (omega (arith, c.requires.within, c.requires.sized.rights_too)) in
-    let sum_here = get_or-set_same c.args.self.now.sums.items c.args.place c.in_ok-sum.sum None (omega (arith, c.requires.within, c.requires.sized.sums_too)) in
     let taken = sides_taken cs j c.requires.within _ same c.args.pool.now c.sum_at.new.pool c.operand_node.new.pool c.sides_node.new.pool c.pointer_at.result old.recalled c.in_ok-sum.sum c.in_ok-left.left c.in_ok-left-2.left c.in_ok-left-2.right (c.pointer_at.ensures c.args.pool.now c.requires.known) c.requires.known.recalled sums.ok sums.kept.front lefts.ok lefts.kept.front sides.ok in
     record {
       sides = subst (λ n. PlantsSides c.args.pool.now c.sides_node.new.pool (left_of c.args.conditions.now c.args.place) (right_of c.args.conditions.now c.args.place) n (get_or (set c.args.self.now.rights.items c.args.place c.in_ok-left-2.right) c.args.place 0)) (sym left_here) (subst (λ n. PlantsSides c.args.pool.now c.sides_node.new.pool (left_of c.args.conditions.now c.args.place) (right_of c.args.conditions.now c.args.place) c.in_ok-left-2.left n) (sym right_here) taken);
-      sum = subst (λ o. SpellsSum c.sides_node.new.pool o (sum_of c.args.conditions.now (values_of c.args.conditions.now) c.args.place)) (sym sum_here) (sum_more c.sum_at.new.pool c.sides_node.new.pool c.in_ok-sum.sum _ (front_through c.sum_at.new.pool c.operand_node.new.pool c.sides_node.new.pool lefts.kept.front sides.kept.front) sums.ok.spells);
-      others = λ i other. (get_or-set_other old.lefts.items j i c.in_ok-left-2.left 0 other, get_or-set_other old.rights.items j i c.in_ok-left-2.right 0 other, get_or-set_other old.sums.items j i c.in_ok-sum.sum None other);
+      sum = (sum_more c.sum_at.new.pool c.sides_node.new.pool c.in_ok-sum.sum _ (front_through c.sum_at.new.pool c.operand_node.new.pool c.sides_node.new.pool lefts.kept.front sides.kept.front) sums.ok.spells);
+      others = λ i other. (get_or-set_other old.lefts.items j i c.in_ok-left-2.left 0 other, get_or-set_other old.rights.items j i c.in_ok-left-2.right 0 other);
       recalled = c.recalled_after-self.ensures ∙ ap₂ (λ f n. if is_remember f then Some n else c.args.self.now.recalled) (ap (λ x. x.flag) same) (sym left_here);
     }
