@@ -1,4 +1,5 @@
 pub mod Comparisons
+pub mod Found
 pub mod Kept
 pub mod Packing
 pub mod Seen

@@ -57,6 +57,41 @@ impl Truths {
         }) }
     {
         let comparisons = listed(alloc, comparisons)?;
+        Truths::of_list(alloc, comparisons, nodes)
+    }
+
+    /// Truths of comparisons that are given up, over this many nodes. No frame was taken. Memory is the only refusal.
+    pub fn of(alloc: Global, comparisons: Comparisons, nodes: u32) -> Result<Truths, OutOfMemory>
+        requires nodes { nodes ≤ 2 ^ 31 }
+        requires within { AreWithin nodes comparisons }
+        ensures { IfOk result (λ truths. truths ≡ record {
+          comparisons = comparisons;
+          nodes = nodes;
+          truths = replicate (length comparisons) false;
+          flipped = [];
+          known = false;
+        }) }
+    {
+        let list = comparisons.into_list();
+        Truths::of_list(alloc, list, nodes)
+    }
+
+    // The same of a list of comparisons.
+    fn of_list(
+        alloc: Global,
+        comparisons: Vec<Comparison>,
+        nodes: u32,
+    ) -> Result<Truths, OutOfMemory>
+        requires few { length comparisons.items ≤ 2 ^ 30 }
+        requires within { AreWithin nodes comparisons.items }
+        ensures { IfOk result (λ truths. truths ≡ record {
+          comparisons = comparisons.items;
+          nodes = nodes;
+          truths = replicate (length comparisons.items) false;
+          flipped = [];
+          known = false;
+        }) }
+    {
         let rows = uses_of(alloc, &comparisons, nodes)?;
         let kept = Kept::new(alloc, comparisons.len())?;
         Ok(Truths {
