@@ -53,7 +53,7 @@ impl Schedule {
             ..
         } = signals;
         let readers = Readers::new(alloc, &readers)?;
-        let truths = Truths::new(alloc, &comparisons, nodes)?;
+        let truths = Truths::of(alloc, comparisons, nodes)?;
         let since = vec![in alloc; None; places]?;
         Ok(Schedule {
             readers,

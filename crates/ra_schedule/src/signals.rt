@@ -49,7 +49,7 @@ impl Signals {
         }) }
     {
         let readers = NotedReaders::new(alloc, nodes as usize, places)?;
-        let comparisons = Comparisons::with_room(alloc, nodes as usize / 2)?;
+        let comparisons = Comparisons::with_room(alloc, nodes as usize)?;
         Ok(Signals {
             nodes,
             comparisons,
