@@ -1,8 +1,14 @@
 -- Readers while they are noted: docs/INTERNALS.md, "Readers of nodes".
-use Rattle.std.specs.Prelude.{◌≡◌, ℕ, ◌-◌, ◌<◌, true, Option, None, List, length, replicate, slice_get, slice_index_or}
+use Rattle.std.specs.Prelude.{◌≡◌, ℕ, zero, suc, ◌-◌, ◌<◌, true, Option, None, Some, List, length, replicate}
+use Rattle.std.specs.Prelude.{slice_get, slice_index_or}
 use Rattle.ra_links.specs.declared.entry.Entry.{Entry}
 use Rattle.ra_links.specs.FlatRows.{AreOnRows, entry_at, numbers_on, rows_by}
 use Rattle.ra_schedule.specs.Readers.{ReadersSeen}
+
+-- the reader that a number stands for, which is one more, or 0 for none
+abbrev pub reader_of : ℕ → Option ℕ
+reader_of zero = None
+reader_of (suc n) = Some n
 
 -- entries of nodes and readers are seen as rows, one for each node, and all readers are due
 abbrev pub noted_seen : List Entry → (lasts : List (Option ℕ)) → (readers : ℕ) → ReadersSeen

@@ -12,20 +12,21 @@ use std::marker::Model;
 #[derive(Drop)]
 pub struct NotedReaders {
     pub(crate) entries: Vec<Entry>,
-    // for each node the reader that was noted for it last
-    lasts: Vec<Option<u32>>,
+    // for each node one more than the reader that was noted for it last, or 0 where none was
+    lasts: Vec<u32>,
     pub(crate) readers: usize,
 }
 
 impl Model for NotedReaders {
     ghost use Rattle.ra_schedule.specs.Readers.{ReadersSeen};
-    ghost use Rattle.ra_schedule.specs.Noted.{AreNoted, noted_seen};
+    ghost use Rattle.std.specs.Prelude.{map};
+    ghost use Rattle.ra_schedule.specs.Noted.{AreNoted, noted_seen, reader_of};
 
     ghost Value = { ReadersSeen };
 
-    ghost view = { λ r. noted_seen r.entries.items r.lasts.items r.readers };
+    ghost view = { λ r. noted_seen r.entries.items (map reader_of r.lasts.items) r.readers };
 
-    ghost invariant = { λ r. AreNoted r.entries.items r.lasts.items r.readers };
+    ghost invariant = { λ r. AreNoted r.entries.items (map reader_of r.lasts.items) r.readers };
 }
 
 impl NotedReaders {
@@ -33,8 +34,8 @@ impl NotedReaders {
     pub fn new(alloc: Global, nodes: usize, readers: usize) -> Result<NotedReaders, OutOfMemory>
         ensures { IfOk result (λ r. r ≡ record { rows = replicate nodes []; due = replicate readers true }) }
     {
-        let entries = Vec::with_capacity(alloc, nodes / 2)?;
-        let lasts = vec![in alloc; None; nodes]?;
+        let entries = Vec::with_capacity(alloc, nodes)?;
+        let lasts = vec![in alloc; 0; nodes]?;
         Ok(NotedReaders {
             entries,
             lasts,
@@ -51,7 +52,7 @@ impl NotedReaders {
 
     /// Notes that a reader reads a node. The one that was noted last for the node is not put twice.
     ///
-    /// `OutOfMemory` where memory ends, and then nothing is noted.
+    /// `OutOfMemory` where memory ends, or for the reader 4,294,967,295, and then nothing is noted.
     pub fn note(&mut self, node: u32, reader: u32) -> Result<(), OutOfMemory>
         requires node { node < length self.old.rows }
         requires reader { reader < length self.old.due }
@@ -62,7 +63,11 @@ impl NotedReaders {
         ensures rows { length self.new.rows ≡ length self.old.rows }
         ensures due { self.new.due ≡ self.old.due }
     {
-        if self.lasts[node as usize] == Some(reader) {
+        if reader == u32::MAX {
+            return Err(OutOfMemory);
+        }
+        let last = reader + 1;
+        if self.lasts[node as usize] == last {
             return Ok(());
         }
         let entry = Entry {
@@ -70,7 +75,7 @@ impl NotedReaders {
             number: reader,
         };
         self.entries.push(entry)?;
-        self.lasts[node as usize] = Some(reader);
+        self.lasts[node as usize] = last;
         Ok(())
     }
 
@@ -79,7 +84,7 @@ impl NotedReaders {
         ensures added { OnOk result (self.new ≡ record self.old { rows = self.old.rows ++ [] ∷ [] }) }
         ensures err { OnErr result (self.new ≡ self.old) }
     {
-        self.lasts.push(None)?;
+        self.lasts.push(0)?;
         Ok(())
     }
 }

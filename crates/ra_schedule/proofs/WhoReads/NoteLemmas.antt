@@ -1,17 +1,20 @@
 -- Entries to which one more is put.
-use Rattle.std.proofs.Common.{◌≡◌, ◌≢◌, ℕ, zero, suc, ◌+◌, ◌-◌, ◌<◌, inl, inr, true, eqb, Option, None, Some, List, [], ◌∷◌, ◌++◌, length, get_or, set, slice_get, replicate, refl, sym, ap, ◌∙◌, subst, arith, length-append, length-set}
-use Rattle.std.proofs.lemmas.List.{append-nil, get_or-set_same, get_or-set_other, get_or_append_left, get_or_push, length-replicate}
-use Rattle.std.specs.Option.{option_eq}
-use Rattle.std.proofs.lemmas.Bool.{cases_eq, eq-eqb, false≢true}
-use Rattle.std.proofs.lemmas.Bool.Decides.{eqb_tells}
+use Rattle.std.proofs.Common.{◌≡◌, ◌≢◌, ℕ, zero, suc, ◌+◌, ◌-◌, ◌<◌, inl, inr, map, rules, true, Option, None, Some}
+use Rattle.std.proofs.Common.{List, [], ◌∷◌, ◌++◌, length, get_or, set, slice_get, replicate, refl, sym, ap, ◌∙◌}
+use Rattle.std.proofs.Common.{subst, arith, length-append, length-set}
+use Rattle.std.proofs.lemmas.List.{append-nil, map-append, map-set, get_or-set_same, get_or-set_other}
+use Rattle.std.proofs.lemmas.List.{get_or_append_left, get_or_push, length-replicate}
+use Rattle.std.specs.Option.{unwrap_or}
+use Rattle.std.proofs.lemmas.Bool.{cases_eq}
 use Rattle.std.proofs.lemmas.Option.{get_or_from_slice_get, slice_get-get_or, slice_get_within}
 use Rattle.ra_links.specs.declared.entry.Entry.{Entry}
 use Rattle.ra_links.specs.FlatRows.{AreOnRows, numbers_on, rows_by, rows_from}
 use Rattle.ra_links.proofs.Cuts.{length-rows_by, on_row, row-rows_by}
 use Rattle.ra_links.proofs.Entries.{on_here, on_other}
-use Rattle.ra_links.proofs.Listed.{each_both, each_one, is_here, listed_here, listed_in, listed_new, listed_old, number_of_one, on_both}
+use Rattle.ra_links.proofs.Listed.{each_both, each_one, is_here, listed_here, listed_in, listed_new, listed_old}
+use Rattle.ra_links.proofs.Listed.{number_of_one, on_both}
 use Rattle.ra_indirect.proofs.PoolLemmas.{below_or_last}
-use Rattle.ra_schedule.specs.Noted.{AreNoted, last_of, noted_seen}
+use Rattle.ra_schedule.specs.Noted.{AreNoted, last_of, noted_seen, reader_of}
 use Rattle.ra_schedule.specs.Readers.{IsLast, IsListed, AreWithin, Notes, ReadersSeen, Reads}
 use Rattle.ra_schedule.proofs.WhoReads.Rows.{reads_within}
 
@@ -53,16 +56,26 @@ seen_none nodes readers =
     let rows = ap (λ n. rows_by n []) (length-replicate {A = Option ℕ} nodes None) ∙ rows_none 0 nodes in
     (λ i. record { rows = rows i; due = replicate readers true })
 
--- the last reader is this one
-pub same_some : (last : Option ℕ) (n : ℕ) → option_eq eqb last (Some n) ≡ true → last ≡ Some n
-same_some None n same = absurd (false≢true same)
-same_some (Some m) n same = elim (eqb_tells m n) [
-  | inl e ↦ ap (λ k. Some k) e.1
-  | inr d ↦ absurd (false≢true (sym d.0 ∙ same))
-]
+-- the number of a reader, and the reader of a number
+pub reader_next : (n : ℕ) → reader_of (n + 1) ≡ Some n
+reader_next n = let next : n + 1 ≡ suc n = omega arith in ap reader_of next
 
-pub is_some : (last : Option ℕ) (n : ℕ) → last ≡ Some n → option_eq eqb last (Some n) ≡ true
-is_some last n same = ap (λ o. option_eq eqb o (Some n)) same ∙ eq-eqb n n refl
+pub reader_known : (x n : ℕ) → reader_of x ≡ Some n → x ≡ n + 1
+reader_known zero n is = absurd (search (rules, is))
+reader_known (suc m) n is = let same : m ≡ n = ap (λ o. unwrap_or o 0) is in omega (arith, same)
+
+-- a reader is noted last for a node
+pub set_reader : (lasts : List ℕ) (node n : ℕ)
+    → map reader_of (set lasts node (n + 1)) ≡ set (map reader_of lasts) node (Some n)
+set_reader lasts node n = map-set reader_of lasts node (n + 1) ∙ ap (set (map reader_of lasts) node) (reader_next n)
+
+-- no reader was noted yet, or none for a node more
+pub no_readers : (nodes : ℕ) → map reader_of (replicate nodes 0) ≡ replicate nodes None
+no_readers zero = refl
+no_readers (suc nodes) = ap (λ lasts. None ∷ lasts) (no_readers nodes)
+
+pub one_none : (lasts more : List ℕ) → more ≡ lasts ++ 0 ∷ [] → map reader_of more ≡ map reader_of lasts ++ None ∷ []
+one_none lasts more is = ap (map reader_of) is ∙ map-append reader_of lasts (0 ∷ [])
 
 -- how many nodes and readers there are
 module _ (entries : List Entry) (lasts : List (Option ℕ)) (readers : ℕ) (seen : ReadersSeen)
