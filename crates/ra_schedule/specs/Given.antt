@@ -1,5 +1,6 @@
 -- Which left values a step needs as numbers: docs/INTERNALS.md, "Numbers that a step needs".
-use Rattle.std.specs.Prelude.{◌≡◌, ℕ, Bool, true, not, ◌&&◌, List, [], ◌∷◌, length, map, take, drop, slice_index}
+use Rattle.std.specs.Prelude.{◌≡◌, ℕ, Bool, true, false, not, ◌&&◌, List, [], ◌∷◌, length, map, take, drop}
+use Rattle.std.specs.Prelude.{slice_index, slice_index_or}
 use Rattle.std.specs.List.{flat_map}
 use Rattle.ra_condition.specs.declared.condition.Condition.{Condition}
 use Rattle.ra_condition.specs.Flags.{is_measured}
@@ -23,6 +24,10 @@ given_in form cs = map (gives_left form) cs
 -- whether each condition of some groups does, group after group
 abbrev pub given_by : Form → List (List Condition) → List Bool
 given_by form groups = flat_map (given_in form) groups
+
+-- the flags are these, of which some may be missing that are not set
+abbrev pub AreGiven : (given flags : List Bool) → Type 0
+AreGiven given flags = (j : ℕ) → slice_index_or given j false ≡ slice_index_or flags j false
 
 -- two rows of left values agree where a condition gives its own as a number
 pub record AgreeWhereGiven (form : Form) (cs : List Condition) (lefts others : List ℕ) : Type 0 where

@@ -1,13 +1,13 @@
 //! What triggers and values are woken by, noted for a reader: docs/INTERNALS.md, "Signals".
 
-ghost use Rattle.std.specs.Prelude.{◌≡◌, ◌++◌, ◌<◌, true, length, map, slice_index_or, IfOk, OnOk};
+ghost use Rattle.std.specs.Prelude.{◌≡◌, ◌++◌, ◌<◌, true, [], length, map, slice_index_or, IfOk, IsFalse, OnOk};
 ghost use Rattle.ra_operand.specs.declared.op.Op.TheVariants.{Bare};
 ghost use Rattle.ra_condition.specs.Contents.{counted_in, group_contents, groups_of, trigger_contents, value_contents};
 ghost use Rattle.ra_group.specs.declared.form.Form.TheVariants.{InTrigger, InValue};
 ghost use Rattle.ra_member.specs.Runs.{IsLaid, IsValueRun, MayFill};
 ghost use Rattle.ra_member.specs.Readings.{AreValuedSums};
 ghost use Rattle.ra_schedule.specs.Given as spec;
-ghost use Rattle.ra_schedule.specs.Given.{given_in, given_by};
+ghost use Rattle.ra_schedule.specs.Given.{AreGiven, given_in, given_by};
 ghost use Rattle.ra_schedule.specs.Inputs.{SeeSame, ValueSeesSame};
 ghost use Rattle.ra_schedule.specs.Signals as heard;
 ghost use Rattle.ra_schedule.specs.Signals.{AreHeard, AreSumsRead, Hears, IsGivenRead, KeepsAll, comparison_in};
@@ -66,7 +66,8 @@ pub fn note_value(
     Ok(())
 }
 
-// Notes that a reader reads what the conditions of a laid plan need, by a flag for each that gives its left value.
+// Notes that a reader reads what the conditions of a laid plan need, by a flag for each that gives its left value. Flags
+// that are missing are not set.
 fn note_laid(
     signals: &mut Signals,
     laid: &Laid,
@@ -75,16 +76,15 @@ fn note_laid(
     reader: u32,
 ) -> Result<(), OutOfMemory>
     requires fills { MayFill table.now.nodes laid.now }
-    requires given { length given.now ≡ length laid.now.ops.items }
     requires nodes { length table.now.nodes ≡ signals.old.nodes }
     requires reader { reader < length signals.old.readers.due }
     ensures keeps { OnOk result (KeepsAll table.now.nodes signals.old signals.new) }
     ensures heard { OnOk result (AreHeard signals.new laid.now (length laid.now.ops.items) reader) }
     ensures read { OnOk result (IsGivenRead given.now laid.now (length laid.now.ops.items) signals.new.readers reader) }
 {
-    for place in 0..given.len() {
+    for place in 0..laid.ops.len() {
         note_compared(signals, laid, place, table, reader)?;
-        if given[place] {
+        if place < given.len() && given[place] {
             signals.note_node(laid.plan.lefts[place], reader)?;
         }
     }
@@ -147,16 +147,47 @@ fn is_comparing(op: Op) -> bool
     matches!(op, Op::Eq | Op::Ne | Op::Lt | Op::Le | Op::Gt | Op::Ge)
 }
 
-// Whether each condition of a trigger gives its left value as a number, the core group's first.
+// Whether each condition of a trigger gives its left value as a number, the core group's first. Where none does, which is
+// usual, the flags are missing and take no memory.
 fn trigger_given(alloc: Global, text: &TriggerText) -> Result<Vec<bool>, OutOfMemory>
-    ensures { IfOk result (λ given. given.items ≡ given_by InTrigger (groups_of (trigger_contents text.now))) }
+    ensures { IfOk result (λ given. AreGiven given.items (given_by InTrigger (groups_of (trigger_contents text.now)))) }
 {
     let mut given = Vec::new(alloc);
+    if !trigger_gives(text) {
+        return Ok(given);
+    }
     put_given(&mut given, Form::InTrigger, &text.core)?;
     for alt in &text.alts {
         put_given(&mut given, Form::InTrigger, alt)?;
     }
     Ok(given)
+}
+
+// Whether a condition of a trigger gives its left value as a number.
+fn trigger_gives(text: &TriggerText) -> bool
+    ensures { IsFalse result → AreGiven [] (given_by InTrigger (groups_of (trigger_contents text.now))) }
+{
+    if group_gives(&text.core) {
+        return true;
+    }
+    for alt in &text.alts {
+        if group_gives(alt) {
+            return true;
+        }
+    }
+    false
+}
+
+// Whether a condition of a trigger's group does.
+fn group_gives(group: &Group) -> bool
+    ensures { IsFalse result → AreGiven [] (given_in InTrigger (group_contents group.now)) }
+{
+    for condition in &group.conditions {
+        if gives_left(Form::InTrigger, condition) {
+            return true;
+        }
+    }
+    false
 }
 
 // The same of the conditions of a value's parts.

@@ -1,8 +1,8 @@
-use Rattle.std.proofs.Common.{length, map, slice_index, sym, ◌∙◌, ap, subst}
+use Rattle.std.proofs.Common.{length, map, slice_index, sym, ◌∙◌, subst}
 use Rattle.ra_condition.specs.Contents.{counted_in, value_contents}
 use Rattle.ra_group.specs.declared.form.Form.TheVariants.{InValue}
 use Rattle.ra_member.proofs.LaidLemmas.{all_summed, laid_fills}
-use Rattle.ra_schedule.proofs.MembersRest.SeesSame.{length_given, value_sees}
+use Rattle.ra_schedule.proofs.MembersRest.SeesSame.{value_sees}
 use Rattle.ra_schedule.proofs.MembersRest.Signals.{heard_still, keeps_both}
 use Rattle.ra_schedule.specs.Given.{given_by}
 use Rattle.ra_schedule.specs.Signals.{IsGivenRead}
@@ -10,16 +10,14 @@ use Rattle.ra_schedule.proofs.reads.note_value.Goals as goal
 
 pub note_laid-requires-clause-fills : goal.note_laid-requires-clause-fills
 note_laid-requires-clause-fills c =
-    laid_fills c.args.table.now.nodes (map counted_in (value_contents c.args.text.now)) c.args.run.now.laid c.requires.run.laid
-
-pub note_laid-requires-clause-given : goal.note_laid-requires-clause-given
-note_laid-requires-clause-given c =
-    ap length (c.deref.ensures.value ∙ c.in_ok-given.ensures)
-    ∙ length_given InValue (map counted_in (value_contents c.args.text.now)) ∙ ap length (sym c.requires.run.laid.ops)
+    laid_fills c.args.table.now.nodes (map counted_in (value_contents c.args.text.now)) c.args.run.now.laid
+    c.requires.run.laid
 
 pub note_sums-requires-clause-valued : goal.note_sums-requires-clause-valued
 note_sums-requires-clause-valued c =
-    rw c.deref-2.ensures.value (all_summed c.args.table.now.nodes (value_contents c.args.text.now) c.args.run.now.nodes.items c.requires.run.nodes_too)
+    rw c.deref-2.ensures.value
+    (all_summed c.args.table.now.nodes (value_contents c.args.text.now) c.args.run.now.nodes.items
+    c.requires.run.nodes_too)
 
 pub returns-clause-keeps : goal.returns-clause-keeps
 returns-clause-keeps c =
