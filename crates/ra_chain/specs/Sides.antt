@@ -1,5 +1,6 @@
 -- The trees of a condition, from its sum, its left operand and its right one: docs/DEFINITIONS.md, "Trees of a group".
-use Rattle.std.specs.Prelude.{◌≡◌, ℕ, suc, if◌then◌else◌, Option, None, Some, List, [], ◌∷◌, ◌++◌, length, slice_index, IsTrue, ◌⊎◌}
+use Rattle.std.specs.Prelude.{◌≡◌, ℕ, suc, if◌then◌else◌, Option, None, Some, List, [], ◌∷◌, ◌++◌, length}
+use Rattle.std.specs.Prelude.{slice_index, IsTrue, ◌⊎◌}
 use Rattle.ra_operand.specs.Operators.{is_arithmetic, is_bare}
 use Rattle.ra_condition.specs.declared.condition.Condition.{Condition}
 use Rattle.ra_condition.specs.Flags.{hands_on, is_remember}
@@ -10,7 +11,8 @@ use Rattle.ra_indirect.specs.Pools.{Spells}
 use Rattle.ra_indirect.specs.Growing.{GrowsBy}
 use Rattle.ra_chain.specs.declared.sides.Named.{Named}
 use Rattle.ra_chain.specs.declared.trees.Passed.{Passed}
-use Rattle.ra_chain.specs.Elaboration.{tree_at, added, joined, handed_on, recall_of, sum_of, values_of, left_of, right_of}
+use Rattle.ra_chain.specs.Elaboration.{tree_at, added, joined, handed_on, recall_of, sum_of, values_of, left_of}
+use Rattle.ra_chain.specs.Elaboration.{right_of}
 use Rattle.ra_chain.specs.Planting.{NamesSome, SpellsOrZero, SpellsSum, IsCarried}
 
 -- what a condition may name are nodes with values
