@@ -278,12 +278,14 @@ pub gathered : (cell_nodes : List ℕ) (marked old new : List Bool)
     → IsGathering cell_nodes marked old new (length cell_nodes) → IsGathered cell_nodes marked old new
 gathered cell_nodes marked old new all = record { long = all.long; kept = all.kept; marked_too = all.marked_too }
 
+-- each cell has its node
+pub count_all : {nodes : List Node} {cell_nodes : List ℕ} → AreCellNodes nodes (length nodes) cell_nodes
+    → length cell_nodes ≡ length (cells_of nodes)
+count_all {nodes} cells = cells.long ∙ ap length (cells_all nodes)
+
 module _ (nodes : List Node) (pool : IsPool nodes) (slots : List ℕ) (laid : IsLaid nodes slots)
     (numbers : NumbersSeen) (sized : IsSizedFor nodes numbers) (cell_nodes : List ℕ) (cells : AreCellNodes nodes
     (length nodes) cell_nodes) (due due' : List Bool) where
-  pub count_all : length cell_nodes ≡ length (cells_of nodes)
-  count_all = cells.long ∙ ap length (cells_all nodes)
-
   slot_inside : (j : ℕ) → j < length nodes → (pointer offset width : ℕ)
       → node_at nodes j ≡ CellNode pointer offset width → get_or slots j 0 < length cell_nodes
   slot_inside j within pointer offset width same =
@@ -292,7 +294,7 @@ module _ (nodes : List Node) (pool : IsPool nodes) (slots : List ℕ) (laid : Is
         (node_within nodes pool slots laid j within numbers sized (CellNode pointer offset width)
             (sym same)).1,
         sized.cells,
-        count_all,
+        count_all cells,
       )
 
   unmarked_at : (j : ℕ) → IsGathered cell_nodes numbers.watches.marked due due' → get_or due' j true ≡ false

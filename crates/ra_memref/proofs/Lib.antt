@@ -28,6 +28,7 @@ pub mod QuietLemmas
 pub mod TableLemmas
 pub mod TakenLemmas
 pub mod Telling
+pub mod UnderWay
 pub mod Vectors
 pub mod Visited
 pub mod Walks

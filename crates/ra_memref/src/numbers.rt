@@ -241,9 +241,9 @@ impl Numbers {
             left -= usize::from(changed);
         }
         for number in at..nodes.len() {
-            let before = self.values[number];
+            let before = self.value(number);
             self.take_node::<I, true>(image, nodes[number], slots, number);
-            changes.note(number as u32, before != self.values[number]);
+            changes.note(number as u32, before != self.value(number));
         }
         true
     }

@@ -8,73 +8,20 @@ pub loop-cell-init : goal.loop-cell-init
 loop-cell-init c = record {
   gathering = gathering_none c.args.cell_nodes.now c.args.numbers.now.watches.marked c.args.due.now;
   same = refl;
+  cells = sym c.requires.cells;
   most = omega arith;
 }
 
-pub offset_bounds-cell_nodes-cell : goal.offset_bounds-cell_nodes-cell
-offset_bounds-cell_nodes-cell c =
-    let within : c.in-Some.cell < length c.args.cell_nodes.now = omega (
-      arith,
-      c.in-Some.ensures.first.within,
-      ap
-          (λ (n : NumbersSeen). length n.watches.marked) c.loop-cell.invariant.same,
-      c.requires.cells,
-    ) in
-    omega (arith, within, c.requires.few)
-
-pub bounds-cell_nodes-cell : goal.bounds-cell_nodes-cell
-bounds-cell_nodes-cell c = omega (
-  arith,
-  c.in-Some.ensures.first.within,
-  ap
-      (λ (n : NumbersSeen). length n.watches.marked) c.loop-cell.invariant.same,
-  c.requires.cells,
-)
-
 pub put-requires : goal.put-requires
 put-requires c =
-    let within : c.in-Some.cell < length c.args.cell_nodes.now = omega (
-      arith,
-      c.in-Some.ensures.first.within,
-      ap
-          (λ (n : NumbersSeen). length n.watches.marked) c.loop-cell.invariant.same,
-      c.requires.cells,
-    ) in
+    let within : c.in-Some.cell < length c.args.cell_nodes.now = omega (arith, c.in-Some.ensures.first.within) in
     omega (arith, c.requires.within c.in-Some.cell within, c.loop-cell.invariant.gathering.long)
-
-pub overflow_add-at : goal.overflow_add-at
-overflow_add-at c =
-    let within : c.in-Some.cell < length c.args.cell_nodes.now = omega (
-      arith,
-      c.in-Some.ensures.first.within,
-      ap
-          (λ (n : NumbersSeen). length n.watches.marked) c.loop-cell.invariant.same,
-      c.requires.cells,
-    ) in
-    omega (arith, within, c.requires.few)
-
-pub loop-cell-smaller : goal.loop-cell-smaller
-loop-cell-smaller c =
-    let within : c.in-Some.cell < length c.args.cell_nodes.now = omega (
-      arith,
-      c.in-Some.ensures.first.within,
-      ap
-          (λ (n : NumbersSeen). length n.watches.marked) c.loop-cell.invariant.same,
-      c.requires.cells,
-    ) in
-    omega (arith, within, c.in-Some.ensures.first.after)
 
 pub loop-cell-preserved : goal.loop-cell-preserved
 loop-cell-preserved c =
     let done = c.loop-cell.invariant in
     let first = c.in-Some.ensures.first in
-    let within : c.in-Some.cell < length c.args.cell_nodes.now = omega (
-      arith,
-      c.in-Some.ensures.first.within,
-      ap
-          (λ (n : NumbersSeen). length n.watches.marked) c.loop-cell.invariant.same,
-      c.requires.cells,
-    ) in
+    let within : c.in-Some.cell < length c.args.cell_nodes.now = omega (arith, first.within, done.cells) in
     let marked = c.args.numbers.now.watches.marked in
     let none = subst (λ (n : NumbersSeen). NoneSet n.watches.marked c.loop-cell.at c.in-Some.cell) done.same
     first.none_before in
@@ -86,6 +33,7 @@ loop-cell-preserved c =
           (get_or c.args.cell_nodes.now c.in-Some.cell 0) refl (omega
           (arith, c.requires.within c.in-Some.cell within, done.gathering.long)));
       same = c.next_marked.ensures.same ∙ done.same;
+      cells = rw c.next_marked.ensures.same done.cells;
       most = omega (arith, within);
     }
 

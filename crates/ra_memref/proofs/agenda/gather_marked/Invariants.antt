@@ -6,6 +6,7 @@ abbrev pub invariant-loop-cell : goal.invariant-loop-cell
 invariant-loop-cell l = record {
   gathering : IsGathering l.cell_nodes l.initial.numbers.watches.marked l.initial.due l.due l.at;
   same : l.numbers ≡ l.initial.numbers;
+  cells : length l.numbers.watches.marked ≡ length l.cell_nodes;
   most : l.at ≤ length l.cell_nodes;
 }
 

@@ -12,21 +12,13 @@ use Rattle.ra_memref.proofs.table.Table.sample.Goals as goal
 pub gather-requires-clause-cells : goal.gather-requires-clause-cells
 gather-requires-clause-cells g c =
     let is = c.self.invariant in
-    rw (c.deref.ensures.value, c.saw_many.ensures) (count_all c.self.inside.nodes.items is.pool c.self.inside.slots.items is.laid c.self.inside.numbers is.sized
-    c.self.inside.agenda.cell_nodes.items is.agenda.cells c.self.inside.agenda.due c.self.inside.agenda.due
-    ∙ sym is.sized.marked)
+    rw (c.deref.ensures.value, c.saw_many.ensures) (count_all is.agenda.cells ∙ sym is.sized.marked)
 
 pub gather-requires-clause-few : goal.gather-requires-clause-few
 gather-requires-clause-few g c =
     let is = c.self.invariant in
-    rw c.deref.ensures.value (omega (
-      arith,
-      count_all c.self.inside.nodes.items is.pool c.self.inside.slots.items is.laid c.self.inside.numbers
-          is.sized c.self.inside.agenda.cell_nodes.items is.agenda.cells c.self.inside.agenda.due
-          c.self.inside.agenda.due,
-      few_cells c.self.inside.nodes.items,
-      is.few,
-    ))
+    rw c.deref.ensures.value
+    (omega (arith, count_all is.agenda.cells, few_cells c.self.inside.nodes.items, is.few))
 
 pub take_frame-in_order-requires-clause-agreed : goal.take_frame-in_order-requires-clause-agreed
 take_frame-in_order-requires-clause-agreed g c =
@@ -35,7 +27,8 @@ take_frame-in_order-requires-clause-agreed g c =
     c.requires.agrees in
     rw (c.gather.ensures.same, c.saw_many.ensures) (λ k below unmarked.
     let width = ap (λ ws. get_or ws k 0) is.sized.widths
-    ∙ get_or-map (λ d. d.width) (cells_of c.self.inside.nodes.items) k no_cell 0 (omega (arith, below, is.sized.cells)) in
+    ∙ get_or-map (λ d. d.width) (cells_of c.self.inside.nodes.items) k no_cell 0
+    (omega (arith, below, is.sized.cells)) in
     agrees k below unmarked
     ∙ ap (λ w. raw w (g.I.Image.bytes c.args.image.now) (get_or c.self.inside.numbers.watches.places k 0)) (sym width))
 
@@ -55,14 +48,13 @@ pub note_cells-self-inside-requires-clause-cells : goal.note_cells-self-inside-r
 note_cells-self-inside-requires-clause-cells g c =
     let is = c.self.invariant in
     let sized = rw c.deref-2.ensures.value at c.take_frame-in_order.ensures.taken.sized in
-    rw c.deref-then-in_order.ensures.value (count_all c.self.inside.nodes.items is.pool c.self.inside.slots.items is.laid c.self.inside.numbers is.sized
-    c.self.inside.agenda.cell_nodes.items is.agenda.cells c.self.inside.agenda.due c.self.inside.agenda.due
-    ∙ sym sized.cells)
+    rw c.deref-then-in_order.ensures.value (count_all is.agenda.cells ∙ sym sized.cells)
 
 pub invariant_of-self : goal.invariant_of-self
 invariant_of-self g c =
     let is = c.self.invariant in
-    let e = rw (c.deref-2.ensures.value, c.deref-3.ensures.value, c.gather.ensures.same, c.saw_many.ensures) at c.take_frame-in_order.ensures in
+    let e = rw (c.deref-2.ensures.value, c.deref-3.ensures.value, c.gather.ensures.same, c.saw_many.ensures)
+    at c.take_frame-in_order.ensures in
     let small : c.take_frame-in_order.new.self.watches.size ≤ 2 ^ 27 = omega (arith, e.taken.size, is.small) in
     elim c.if-in_order.branch [
       | then-in_order w ↦
