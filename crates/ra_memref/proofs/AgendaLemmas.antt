@@ -1,5 +1,6 @@
 -- The agenda of a table: the lists of what names each node, the nodes of the cells, and what is due before a pass.
-use Rattle.std.proofs.Common.{◌≡◌, ℕ, suc, ◌+◌, ◌<◌, inl, inr, Bool, true, false, List, [], ◌∷◌, ◌++◌, length, map, get_or, set, refl, ap, sym, subst, ◌∙◌, arith, length-append}
+use Rattle.std.proofs.Common.{◌≡◌, ℕ, suc, ◌+◌, ◌<◌, inl, inr, Bool, true, false, List, [], ◌∷◌, ◌++◌, length, map}
+use Rattle.std.proofs.Common.{get_or, set, refl, ap, sym, subst, ◌∙◌, arith, length-append}
 use Rattle.std.proofs.lemmas.List.{get_or-set_same, get_or-set_other, length-map, length-set, get_or_append_left}
 use Rattle.std.proofs.Math.Seq.{get_or-append_seam}
 use Rattle.std.proofs.lemmas.Bool.{cases_eq, cases_lt, false≢true}
@@ -11,7 +12,6 @@ use Rattle.ra_indirect.proofs.PoolLemmas.{below_or_last}
 use Rattle.ra_indirect.specs.declared.node.Node.{Node}
 use Rattle.ra_indirect.specs.declared.node.Node.TheVariants.{Const, Cell as CellNode, View, Arith}
 use Rattle.ra_indirect.specs.Trees.{Cell}
-use Rattle.ra_operand.specs.declared.kind.Kind.TheVariants.{Mem, Delta, Prior, Bcd, Inverted}
 use Rattle.ra_indirect.specs.Pools.{MayFollow, node_at, spelled_by, spelled_with, cells_of}
 use Rattle.ra_indirect.specs.Interned.{IsPool}
 use Rattle.ra_indirect.proofs.Spelling.{spelled_of, length-spelled_by}
@@ -20,8 +20,8 @@ use Rattle.ra_memref.specs.Numbers.{NumbersSeen}
 use Rattle.ra_memref.specs.Layout.{HasSlot, IsLaid, cells_before}
 use Rattle.ra_memref.specs.Pass.{IsSizedFor, earlier_at, value_at}
 use Rattle.ra_memref.specs.Flags.{NoneSet}
-use Rattle.ra_memref.specs.Due.{earlier_by, IsQuiet, IsUnmarked, AreQuiet, AreIdle, Names, AreDependents, entries_of, HasCellNode, AreCellNodes, IsGathered}
-use Rattle.ra_memref.specs.Watches.{WatchesSeen, MarksWatchers}
+use Rattle.ra_memref.specs.Due.{earlier_by, IsQuiet, IsUnmarked, AreQuiet, AreIdle, Names, AreDependents, entries_of}
+use Rattle.ra_memref.specs.Due.{HasCellNode, AreCellNodes, IsGathered}
 use Rattle.ra_memref.proofs.CellsAlong.{cell_with, along_cell, along_same}
 use Rattle.ra_memref.proofs.LaidLemmas.{cells_one, cells_grow, cells_all}
 use Rattle.ra_memref.proofs.PassLemmas.{node_within}
@@ -362,68 +362,3 @@ pub record AreCellsNoted (cell_nodes : List ℕ) (numbers : NumbersSeen) (old ne
   pub kept : (n : ℕ) → get_or new n true ≡ false → get_or old n true ≡ false
   pub noted : (cell : ℕ) → cell < count → get_or new (get_or cell_nodes cell 0) true ≡ false
       → earlier_at numbers cell ≡ value_at numbers (get_or cell_nodes cell 0)
-
-pub cells_noted_none : (cell_nodes : List ℕ) (numbers : NumbersSeen) (due : List Bool)
-    → AreCellsNoted cell_nodes numbers due due 0
-cells_noted_none cell_nodes numbers due = record {
-  long = refl;
-  kept = λ n still. still;
-  noted = λ cell below. absurd (omega (arith, below));
-}
-
-module _ (cell_nodes : List ℕ) (numbers : NumbersSeen) (old now : List Bool) (cell : ℕ)
-    (are : AreCellsNoted cell_nodes numbers old now cell) where
-  -- a cell that has that number still needs not be
-  pub cells_noted_same : earlier_at numbers cell ≡ value_at numbers (get_or cell_nodes cell 0)
-      → AreCellsNoted cell_nodes numbers old now (cell + 1)
-  cells_noted_same same = record {
-    long = are.long;
-    kept = are.kept;
-    noted = λ k below still. elim (cases_eq k cell) [
-      | inl here ↦ subst (λ n. earlier_at numbers n ≡ value_at numbers (get_or cell_nodes n 0)) (sym here) same
-      | inr apart ↦ are.noted k (omega (arith, below, apart)) still
-    ];
-  }
-
-  pub cells_noted_more : (node : ℕ) → node ≡ get_or cell_nodes cell 0 → node < length now
-      → AreCellsNoted cell_nodes numbers old (set now node true) (cell + 1)
-  cells_noted_more node is below = record {
-    long = length-set now node true ∙ are.long;
-    kept = λ n still. are.kept n (kept_by n still);
-    noted = λ k less still. elim (cases_eq k cell) [
-      | inl here ↦
-          absurd (false≢true (sym still ∙ ap (λ i. get_or (set now node true) (get_or cell_nodes i 0) true) here
-          ∙ ap (λ i. get_or (set now node true) i true) (sym is) ∙ get_or-set_same now node true true below))
-      | inr apart ↦ are.noted k (omega (arith, less, apart)) (kept_by (get_or cell_nodes k 0) still)
-    ];
-  }
-    where
-      kept_by : (n : ℕ) → get_or (set now node true) n true ≡ false → get_or now n true ≡ false
-      kept_by n still = elim (cases_eq n node) [
-        | inl here ↦
-            absurd (false≢true (sym still ∙ ap (λ i. get_or (set now node true) i true) here
-            ∙ get_or-set_same now node true true below))
-        | inr apart ↦ sym (get_or-set_other now node n true true apart) ∙ still
-      ]
-
--- which cells are marked does not count for quiet nodes
-quiet_by : (m : List Bool) (numbers : NumbersSeen) (slots : List ℕ) (n : ℕ) (node : Node)
-    → IsQuiet node numbers slots n
-    → IsQuiet node (record numbers { watches = record numbers.watches { marked = m } }) slots n
-quiet_by m numbers slots n (Const k) quiet = quiet
-quiet_by m numbers slots n (CellNode pointer offset width) quiet = quiet
-quiet_by m numbers slots n (View Mem size c) quiet = quiet
-quiet_by m numbers slots n (View Delta size c) quiet = quiet
-quiet_by m numbers slots n (View Prior size c) quiet = quiet
-quiet_by m numbers slots n (View Bcd size c) quiet = quiet
-quiet_by m numbers slots n (View Inverted size c) quiet = quiet
-quiet_by m numbers slots n (Arith op left right) quiet = quiet
-
-pub told_quiet : (nodes : List Node) (due : List Bool) (slots : List ℕ) (old new : NumbersSeen) (at count : ℕ)
-    → MarksWatchers old.watches new.watches at count → new ≡ record old { watches = new.watches }
-    → AreQuiet nodes due old slots → AreQuiet nodes due new slots
-told_quiet nodes due slots old new at count marks rest quiet =
-    let same : new ≡ record old { watches = record old.watches { marked = new.watches.marked } } = rest
-    ∙ ap (λ (w : WatchesSeen). record old { watches = w }) marks.rest in
-    subst (λ (n : NumbersSeen). AreQuiet nodes due n slots) (sym same)
-    (λ n within still. quiet_by new.watches.marked old slots n (node_at nodes n) (quiet n within still))

@@ -1,11 +1,12 @@
 -- Going through a row of flags, part by part.
-use Rattle.std.proofs.Common.{◌≡◌, ℕ, ◌+◌, ◌-◌, ◌*◌, ◌/◌, ◌%◌, ◌^◌, ◌<◌, ◌≤◌, inl, inr, Bool, true, false, List, length, get_or, set, replicate, refl, ap, subst, sym, ◌∙◌, arith, div-le_self, w64}
-use Rattle.std.proofs.lemmas.List.{get_or-replicate, get_or-set_same, get_or-set_other, length-replicate, length-set, set-get_or}
+use Rattle.std.proofs.Common.{◌≡◌, ℕ, ◌+◌, ◌-◌, ◌*◌, ◌/◌, ◌%◌, ◌^◌, ◌<◌, ◌≤◌, inl, inr, Bool, true, false, List, length}
+use Rattle.std.proofs.Common.{get_or, set, replicate, refl, ap, sym, ◌∙◌, arith, div-le_self, w64}
+use Rattle.std.proofs.lemmas.List.{get_or-replicate, get_or-set_same, get_or-set_other, length-replicate, length-set}
 use Rattle.std.proofs.lemmas.Bool.{cases_eq, cases_lt, false≢true}
 use Rattle.std.proofs.lemmas.Nat.{shr-shr}
 use Rattle.std.proofs.lemmas.Nat.Bits.{bit_at-trailing_zeros, bit_at-zero, bit_at_above, bit_at_ones}
 use Rattle.std.specs.Int.{bit_at, trailing_zeros}
-use Rattle.ra_memref.specs.Flags.{AreBlocked, AreWorded, IsFirstSet, NoneSet, SetsBit}
+use Rattle.ra_memref.specs.Flags.{AreBlocked, AreWorded, NoneSet}
 
 -- none is set up to a place, and none from there on
 pub none_further : (flags : List Bool) (from at to : ℕ) → NoneSet flags from at → NoneSet flags at to
@@ -15,22 +16,9 @@ none_further flags from at to before behind = λ k low high. elim (cases_lt k at
   | inr more ↦ behind k more high
 ]
 
--- the first that is set from a later place on, where none is before that
-pub first_further : (flags : List Bool) (from at n : ℕ) → from ≤ at
-    → ((k : ℕ) → from ≤ k → k < at → k < length flags → get_or flags k true ≡ false) → IsFirstSet flags at n
-    → IsFirstSet flags from n
-first_further flags from at n after none first = record {
-  after = omega (arith, after, first.after);
-  within = first.within;
-  here = first.here;
-  none_before = λ k low high. elim (cases_lt k at) [
-    | inl less ↦ none k low less (omega (arith, high, first.within))
-    | inr more ↦ first.none_before k more high
-  ];
-}
-
 -- none is set up to a block, where no block before it is
-pub none_to_block : (flags blocks : List Bool) → AreBlocked flags blocks → (from at block there : ℕ) → there ≤ length flags
+pub none_to_block : (flags blocks : List Bool) → AreBlocked flags blocks → (from at block there : ℕ)
+    → there ≤ length flags
     → NoneSet flags from at → NoneSet blocks (at / 64) block → ((k : ℕ) → at ≤ k → k < there → k < 64 * block)
     → NoneSet flags from there
 none_to_block flags blocks blocked from at block there within before none below =
@@ -59,61 +47,15 @@ block_gone flags blocks blocked block at end inside none whole flag from = recor
   ];
 }
   where
-    by_flag : (k : ℕ) → k < length flags → get_or flags k true ≡ true → k / 64 ≡ block → (b : Bool) → flag ≡ b → b ≡ true
+    by_flag : (k : ℕ) → k < length flags → get_or flags k true ≡ true → k / 64 ≡ block → (b : Bool)
+        → flag ≡ b → b ≡ true
     by_flag k below is here true same = refl
     by_flag k below is here false same =
         let after : at ≤ k = omega (arith, from same, here) in
         absurd (false≢true (sym (none k after (whole k below here)) ∙ is))
 
--- a row whose flag at a place was set stands in its blocks with any flag there
-pub block_kept : (flags blocks : List Bool) → AreBlocked flags blocks → (place : ℕ) → get_or flags place true ≡ true
-    → place < length flags → (flag : Bool) → AreBlocked (set flags place flag) blocks
-block_kept flags blocks blocked place was inside flag = record {
-  enough = omega (arith, blocked.enough, length-set flags place flag);
-  covered = λ k below is. elim (cases_eq k place) [
-    | inl here ↦ ap (λ i. get_or blocks (i / 64) true) here ∙ blocked.covered place inside was
-    | inr apart ↦ blocked.covered k (omega (arith, below, length-set flags place flag))
-        (sym (get_or-set_other flags place k flag true apart) ∙ is)
-  ];
-}
-
--- to put what a flag is changes none
-pub put_already : (flags : List Bool) (place : ℕ) (flag : Bool) → get_or flags place true ≡ flag
-    → set flags place flag ≡ flags
-put_already flags place flag is = ap (set flags place) (sym is) ∙ set-get_or flags place true
-
--- a flag that is put stands in its blocks where its own tells whether any of it is set
-pub blocked_put : (flags blocks : List Bool) → AreBlocked flags blocks → (place : ℕ) → place < length flags
-    → (flag left : Bool)
-    → (left ≡ false → (k : ℕ) → k < length flags → k / 64 ≡ place / 64 → get_or (set flags place flag) k true ≡ false)
-    → AreBlocked (set flags place flag) (set blocks (place / 64) left)
-blocked_put flags blocks blocked place inside flag left none = record {
-  enough = omega (arith, blocked.enough, length-set flags place flag, length-set blocks (place / 64) left);
-  covered = λ k below is. elim (cases_eq (k / 64) (place / 64)) [
-    | inl same ↦ ap (λ i. get_or (set blocks (place / 64) left) i true) same
-        ∙ get_or-set_same blocks (place / 64) left true (omega (arith, inside, blocked.enough))
-        ∙ by_left left refl k (omega (arith, below, length-set flags place flag)) same is
-    | inr apart ↦ get_or-set_other blocks (place / 64) (k / 64) left true apart
-        ∙ blocked.covered k (omega (arith, below, length-set flags place flag))
-        (sym (get_or-set_other flags place k flag true (λ same. apart (ap (λ i. i / 64) same))) ∙ is)
-  ];
-}
-  where
-    by_left : (b : Bool) → left ≡ b → (k : ℕ) → k < length flags → k / 64 ≡ place / 64
-        → get_or (set flags place flag) k true ≡ true → b ≡ true
-    by_left true same k below here is = refl
-    by_left false same k below here is = absurd (false≢true (sym (none same k below here) ∙ is))
-
--- so it does where that tells it already
-pub blocked_stays : (flags blocks : List Bool) → AreBlocked flags blocks → (place : ℕ) → place < length flags
-    → (flag left : Bool)
-    → (left ≡ false → (k : ℕ) → k < length flags → k / 64 ≡ place / 64 → get_or (set flags place flag) k true ≡ false)
-    → get_or blocks (place / 64) true ≡ left → AreBlocked (set flags place flag) blocks
-blocked_stays flags blocks blocked place inside flag left none is =
-    subst (AreBlocked (set flags place flag)) (put_already blocks (place / 64) left is)
-    (blocked_put flags blocks blocked place inside flag left none)
-
--- no flag from a place on is set, and those before it are what they were, where the flags from there up to another were taken back
+-- no flag from a place on is set, and those before it are what they were, where the flags from there up
+-- to another were taken back
 pub record AreCleared (old new : List Bool) (from at : ℕ) : Type 0 where
   pub long : length new ≡ length old
   pub before : (k : ℕ) → k < from → get_or new k true ≡ get_or old k true
@@ -138,17 +80,6 @@ cleared_more old new from at after below are = record {
   ];
 }
 
--- and then the blocks still are
-pub cleared_blocked : (old new blocks : List Bool) (from : ℕ) → AreCleared old new from (length old)
-    → AreBlocked old blocks → AreBlocked new blocks
-cleared_blocked old new blocks from are blocked = record {
-  enough = omega (arith, blocked.enough, are.long);
-  covered = λ k below is. elim (cases_lt k from) [
-    | inl low ↦ blocked.covered k (omega (arith, below, are.long)) (sym (are.before k low) ∙ is)
-    | inr past ↦ absurd (false≢true (sym (are.none k past (omega (arith, below, are.long))) ∙ is))
-  ];
-}
-
 -- and its words, of which those that lie past the place may be taken back too
 pub cleared_worded : (old new : List Bool) (words left : List ℕ) (from first : ℕ) → AreCleared old new from (length old)
     → AreWorded old words → length left ≡ length words → from ≤ 64 * first
@@ -170,67 +101,10 @@ pub worded_full : (flags : List Bool) (words : List ℕ) (count : ℕ) → words
 worded_full flags words count are enough = record {
   enough = omega (arith, enough, ap length are ∙ length-replicate count (2 ^ 64 - 1));
   covered = λ k below is. ap (λ all. bit_at (get_or all (k / 64) 0) (k % 64)) are
-      ∙ ap (λ word. bit_at word (k % 64)) (get_or-replicate count (k / 64) (2 ^ 64 - 1) 0 (omega (arith, below, enough)))
+      ∙ ap (λ word. bit_at word (k % 64)) (get_or-replicate count (k / 64) (2 ^ 64 - 1) 0
+      (omega (arith, below, enough)))
       ∙ bit_at_ones 64 (k % 64) (omega arith);
 }
-
--- a flag that is put has its bit where its word sets it
-pub worded_put : (flags : List Bool) (words : List ℕ) → AreWorded flags words → (place : ℕ) → place < length flags
-    → (flag : Bool) (word : ℕ) → SetsBit (place % 64) flag (get_or words (place / 64) 0) word
-    → AreWorded (set flags place flag) (set words (place / 64) word)
-worded_put flags words worded place inside flag word sets = record {
-  enough = omega (arith, worded.enough, length-set flags place flag, length-set words (place / 64) word);
-  covered = λ k below is. elim (cases_eq k place) [
-    | inl here ↦
-        let yes : flag ≡ true = sym (get_or-set_same flags place flag true inside)
-        ∙ ap (λ i. get_or (set flags place flag) i true) (sym here) ∙ is in
-        ap (λ i. bit_at (get_or (set words (place / 64) word) (i / 64) 0) (i % 64)) here
-        ∙ ap (λ w. bit_at w (place % 64)) (get_or-set_same words (place / 64) word 0 within) ∙ sets.here yes
-    | inr apart ↦
-        let was = worded.covered k (omega (arith, below, length-set flags place flag))
-        (sym (get_or-set_other flags place k flag true apart) ∙ is) in
-        elim (cases_eq (k / 64) (place / 64)) [
-          | inl same ↦
-              ap (λ i. bit_at (get_or (set words (place / 64) word) i 0) (k % 64)) same
-              ∙ ap (λ w. bit_at w (k % 64)) (get_or-set_same words (place / 64) word 0 within)
-              ∙ sets.others (k % 64) (omega arith) (λ bits. apart (omega (arith, bits, same)))
-              ∙ ap (λ i. bit_at (get_or words i 0) (k % 64)) (sym same) ∙ was
-          | inr other ↦
-              ap (λ w. bit_at w (k % 64)) (get_or-set_other words (place / 64) (k / 64) word 0 other) ∙ was
-        ]
-  ];
-}
-  where
-    within : place / 64 < length words
-    within = omega (arith, inside, worded.enough)
-
--- a flag whose bit is not set is not
-pub none_in_word : (flags : List Bool) (words : List ℕ) → AreWorded flags words → (from bit : ℕ) → bit ≤ 64
-    → ((k : ℕ) → from % 64 ≤ k → k < bit → bit_at (get_or words (from / 64) 0) k ≡ 0)
-    → (k : ℕ) → from ≤ k → k < from / 64 * 64 + bit → k < length flags → get_or flags k true ≡ false
-none_in_word flags words worded from bit most none k low high below = by_flag (get_or flags k true) refl
-  where
-    by_flag : (flag : Bool) → get_or flags k true ≡ flag → get_or flags k true ≡ false
-    by_flag false is = is
-    by_flag true is =
-        let word : k / 64 ≡ from / 64 = omega (arith, low, high, most) in
-        let one : bit_at (get_or words (from / 64) 0) (k % 64) ≡ 1 =
-        ap (λ i. bit_at (get_or words i 0) (k % 64)) (sym word) ∙ worded.covered k below is in
-        let zero = none (k % 64) (omega (arith, low, word)) (omega (arith, high, word)) in
-        absurd (omega (arith, one, zero))
-
--- no flag is set whose word is 0
-pub none_of_zero : (flags : List Bool) (words : List ℕ) → AreWorded flags words → (place : ℕ)
-    → get_or words (place / 64) 0 ≡ 0
-    → (k : ℕ) → k < length flags → k / 64 ≡ place / 64 → get_or flags k true ≡ false
-none_of_zero flags words worded place zero k below here = by_flag (get_or flags k true) refl
-  where
-    by_flag : (flag : Bool) → get_or flags k true ≡ flag → get_or flags k true ≡ false
-    by_flag false is = is
-    by_flag true is =
-        let gone : bit_at (get_or words (k / 64) 0) (k % 64) ≡ 0 =
-        ap (λ i. bit_at (get_or words i 0) (k % 64)) here ∙ ap (λ w. bit_at w (k % 64)) zero ∙ bit_at-zero (k % 64) in
-        absurd (omega (arith, gone, worded.covered k below is))
 
 -- a bit of a word that is cut is one further up
 pub bit_further : (word from k : ℕ) → from ≤ k → bit_at word k ≡ bit_at (word / 2 ^ from) (k - from)

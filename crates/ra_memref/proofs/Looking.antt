@@ -1,5 +1,6 @@
 -- Marks that are set cell by cell, where a test says so.
-use Rattle.std.proofs.Common.{◌≡◌, ℕ, ◌+◌, ◌<◌, ◌≤◌, inl, inr, Bool, true, ◌||◌, List, length, get_or, set, refl, ap, sym, ◌∙◌, arith}
+use Rattle.std.proofs.Common.{◌≡◌, ℕ, ◌+◌, ◌<◌, ◌≤◌, inl, inr, Bool, true, ◌||◌, List, length, get_or, set, ap, sym}
+use Rattle.std.proofs.Common.{◌∙◌, arith}
 use Rattle.std.proofs.lemmas.List.{get_or-set_same, get_or-set_other, length-set}
 use Rattle.std.proofs.lemmas.Bool.{cases_eq}
 
@@ -9,15 +10,9 @@ pub record AreLooked (old now : List Bool) (test : ℕ → Bool) (cell : ℕ) : 
   pub before : (k : ℕ) → k < cell → get_or now k true ≡ (get_or old k true || test k)
   pub behind : (k : ℕ) → cell ≤ k → get_or now k true ≡ get_or old k true
 
-pub looked_none : (old : List Bool) (test : ℕ → Bool) → AreLooked old old test 0
-looked_none old test = record {
-  long = refl;
-  before = λ k low. absurd (omega (arith, low));
-  behind = λ k high. refl;
-}
-
 -- one cell more is tested
-pub looked_more : (old now next : List Bool) (test : ℕ → Bool) (cell : ℕ) → AreLooked old now test cell → cell < length old
+pub looked_more : (old now next : List Bool) (test : ℕ → Bool) (cell : ℕ)
+    → AreLooked old now test cell → cell < length old
     → next ≡ set now cell (get_or old cell true || test cell) → AreLooked old next test (cell + 1)
 looked_more old now next test cell looked below is = record {
   long = ap length is ∙ length-set now cell _ ∙ looked.long;
@@ -27,5 +22,7 @@ looked_more old now next test cell looked below is = record {
         ∙ ap (λ i. get_or old i true || test i) (sym here)
     | inr apart ↦ get_or-set_other now cell k _ true apart ∙ looked.before k (omega (arith, low, apart))
   ];
-  behind = λ k high. ap (λ ms. get_or ms k true) is ∙ get_or-set_other now cell k _ true (λ same. absurd (omega (arith, same, high))) ∙ looked.behind k (omega (arith, high));
+  behind = λ k high. ap (λ ms. get_or ms k true) is
+      ∙ get_or-set_other now cell k _ true (λ same. absurd (omega (arith, same, high)))
+      ∙ looked.behind k (omega (arith, high));
 }

@@ -36,9 +36,6 @@ pub record AreNamed (nodes : List Node) (wanted : List Bool) (names : List (List
   pub each : (n : ℕ) → n < k → is_wanted wanted n ≡ true
       → get_or names n [] ≡ spelled_name (spelled_at (spelled_by nodes) n)
 
-pub named_none : (nodes : List Node) (wanted : List Bool) → AreNamed nodes wanted [] 0
-named_none nodes wanted = record { long = refl; each = λ n under is. absurd (omega (arith, under)) }
-
 -- only a cell spells one
 cell_wanted : (spelled : List Spelled) (wanted : List Bool) (n : ℕ) (c : Cell) (node : Node) → HasWanted wanted n node
     → spelled_with spelled node ≡ IsCell c → is_wanted wanted n ≡ true

@@ -1,7 +1,8 @@
 -- An order in which each cell stands once: what is counted over it is counted over the cells.
-use Rattle.std.proofs.Common.{◌≡◌, ℕ, zero, suc, ◌+◌, ◌++◌, ◌<◌, ◌≤◌, ◌==◌, inl, inr, Bool, true, false, not, ◌||◌, if◌then◌else◌, cond, List, [], ◌∷◌, length, take, get_or, refl, ap, sym, ◌∙◌, arith}
+use Rattle.std.proofs.Common.{◌≡◌, ℕ, zero, suc, ◌+◌, ◌++◌, ◌<◌, ◌≤◌, ◌==◌, inl, inr, Bool, true, false, not, ◌||◌}
+use Rattle.std.proofs.Common.{if◌then◌else◌, cond, List, [], ◌∷◌, length, take, get_or, refl, ap, sym, ◌∙◌, arith}
 use Rattle.std.specs.List.{range_with_len, count_by, sum_by}
-use Rattle.std.proofs.lemmas.List.Sorted.{sum_by-IsPermutation, All-permutation, length_permutation}
+use Rattle.std.proofs.lemmas.List.Sorted.{sum_by-IsPermutation, All-permutation}
 use Rattle.std.proofs.lemmas.List.Sums.{sum_by_more, sum_by_more_le, sum_by-cons}
 use Rattle.std.proofs.lemmas.List.FromFn.{length-range_with_len, get_or-range_with_len}
 use Rattle.std.proofs.lemmas.Bool.{eq-eqb, ne_eqb, cases_eq}
@@ -45,34 +46,38 @@ unmarked_in [] a f each = refl
 unmarked_in (mark ∷ marks) a f each =
     let here : a ≡ a + 0 = omega arith in
     let first : f a ≡ cond (not mark) 1 0 = ap f here ∙ each zero ∙ one_of mark in
-    let rest = unmarked_in marks (a + 1) f (λ i. (let later : a + 1 + i ≡ a + suc i = omega arith in ap f later ∙ each (suc i))) in
-    let both : f a + sum_by f (range_with_len (a + 1) (length marks)) ≡ cond (not mark) 1 0 + count_by not marks = omega (arith, first, rest) in
-    sum_by-cons f a (range_with_len (a + 1) (length marks)) ∙ both ∙ sym (sum_by-cons (λ m. cond (not m) 1 0) mark marks)
+    let rest = unmarked_in marks (a + 1) f (λ i. (let later : a + 1 + i ≡ a + suc i =
+        omega arith in ap f later ∙ each (suc i))) in
+    let both : f a + sum_by f (range_with_len (a + 1) (length marks)) ≡ cond
+        (not mark) 1 0 + count_by not marks = omega (arith, first, rest) in
+    sum_by-cons f a (range_with_len (a + 1) (length marks)) ∙ both
+        ∙ sym (sum_by-cons (λ m. cond (not m) 1 0) mark marks)
   where
     one_of : (mark : Bool) → ◌≡◌ {A = ℕ} (if mark then 0 else 1) (cond (not mark) 1 0)
     one_of true = refl
     one_of false = refl
 
 module _ (n : ℕ) (order : List ℕ) (is : IsOrder n order) where
-  pub order_long : length order ≡ n
-  order_long = length_permutation (range_with_len 0 n) order is ∙ length-range_with_len 0 n
 
   -- each is the number of a cell
   pub order_below : (i d : ℕ) → i < length order → get_or order i d < n
   order_below =
       All-permutation (λ c. c < n) (range_with_len 0 n) order is
-      (λ i d below. (let here = get_or-range_with_len 0 n i d (omega (arith, below, length-range_with_len 0 n)) in omega (arith, here, below, length-range_with_len 0 n)))
+      (λ i d below. (let here = get_or-range_with_len 0 n i d
+      (omega (arith, below, length-range_with_len 0 n)) in omega (arith, here, below, length-range_with_len 0 n)))
 
   -- each cell stands in it once
   pub order_once : (k : ℕ) → k < n → sum_by (one_for k) order ≡ 1
-  order_once k below = sum_by-IsPermutation (one_for k) (range_with_len 0 n) order is ∙ once_in n 0 k (omega arith) (omega (arith, below))
+  order_once k below = sum_by-IsPermutation (one_for k) (range_with_len 0 n) order is
+      ∙ once_in n 0 k (omega arith) (omega (arith, below))
 
   -- as many are not marked in it as there are
   pub order_unmarked : (marks : List Bool) → length marks ≡ n → sum_by (one_unmarked marks) order ≡ count_by not marks
   order_unmarked marks long =
       sum_by-IsPermutation (one_unmarked marks) (range_with_len 0 n) order is
       ∙ ap (λ m. sum_by (one_unmarked marks) (range_with_len 0 m)) (sym long)
-      ∙ unmarked_in marks 0 (one_unmarked marks) (λ i. (let same : 0 + i ≡ i = omega arith in ap (one_unmarked marks) same))
+      ∙ unmarked_in marks 0 (one_unmarked marks) (λ i.
+      (let same : 0 + i ≡ i = omega arith in ap (one_unmarked marks) same))
 
 -- the marks of the cells of a part of an order are set where a test says so too, and the others are what they were
 pub record AreVisited (old now : List Bool) (test : ℕ → Bool) (done : List ℕ) : Type 0 where
@@ -87,7 +92,8 @@ visited_none old test = record {
   others = λ k none. refl;
 }
 
-module _ (n : ℕ) (order : List ℕ) (is : IsOrder n order) (old now : List Bool) (test : ℕ → Bool) (i : ℕ) (below : i < length order) (part : AreVisited old now test (take i order)) where
+module _ (n : ℕ) (order : List ℕ) (is : IsOrder n order) (old now : List Bool) (test : ℕ → Bool)
+    (i : ℕ) (below : i < length order) (part : AreVisited old now test (take i order)) where
   -- the cell whose turn comes was not visited
   pub turn_none : sum_by (one_for (get_or order i 0)) (take i order) ≡ 0
   turn_none =
@@ -102,11 +108,14 @@ module _ (n : ℕ) (order : List ℕ) (is : IsOrder n order) (old now : List Boo
   turn_mark = part.others (get_or order i 0) turn_none
 
   -- one cell more is visited
-  pub visited_more : (next : List Bool) → length next ≡ length now → get_or next (get_or order i 0) true ≡ (get_or old (get_or order i 0) true || test (get_or order i 0))
-      → ((k : ℕ) → (k ≡ get_or order i 0 → ⊥) → get_or next k true ≡ get_or now k true) → AreVisited old next test (take (i + 1) order)
+  pub visited_more : (next : List Bool) → length next ≡ length now
+      → get_or next (get_or order i 0) true ≡ (get_or old (get_or order i 0) true || test (get_or order i 0))
+      → ((k : ℕ) → (k ≡ get_or order i 0 → ⊥) → get_or next k true ≡ get_or now k true)
+      → AreVisited old next test (take (i + 1) order)
   visited_more next long here apart =
       let cell = get_or order i 0 in
-      let more : (k : ℕ) → sum_by (one_for k) (take (i + 1) order) ≡ sum_by (one_for k) (take i order) + one_for k cell = λ k. sum_by_more (one_for k) order i 0 below in
+      let more : (k : ℕ) → sum_by (one_for k) (take (i + 1) order) ≡ sum_by (one_for k)
+          (take i order) + one_for k cell = λ k. sum_by_more (one_for k) order i 0 below in
       record {
         long = long ∙ part.long;
         visited = λ k some. elim (cases_eq k cell) [
@@ -114,15 +123,19 @@ module _ (n : ℕ) (order : List ℕ) (is : IsOrder n order) (old now : List Boo
           | inr other ↦ (let none = one_apart k cell (λ same. other (sym same)) in
               apart k other ∙ part.visited k (omega (arith, some, more k, none)))
         ];
-        others = λ k none. (let differ : (k ≡ cell → ⊥) = λ same. (let one : one_for k cell ≡ 1 = ap (one_for k) (sym same) ∙ one_same k in absurd (omega (arith, none, more k, one))) in
+        others = λ k none. (let differ : (k ≡ cell → ⊥) = λ same.
+            (let one : one_for k cell ≡ 1 = ap (one_for k) (sym same)
+            ∙ one_same k in absurd (omega (arith, none, more k, one))) in
             apart k differ ∙ part.others k (omega (arith, none, more k)));
       }
 
 -- all are visited
-pub visited_all : (n : ℕ) (order : List ℕ) → IsOrder n order → (old now : List Bool) (test : ℕ → Bool) (i : ℕ) → length order ≤ i
+pub visited_all : (n : ℕ) (order : List ℕ) → IsOrder n order
+    → (old now : List Bool) (test : ℕ → Bool) (i : ℕ) → length order ≤ i
     → AreVisited old now test (take i order) → (k : ℕ) → k < n → get_or now k true ≡ (get_or old k true || test k)
 visited_all n order is old now test i end all k below =
-    let whole : sum_by (one_for k) (take i order) ≡ 1 = ap (sum_by (one_for k)) (take_all i order end) ∙ order_once n order is k below in
+    let whole : sum_by (one_for k) (take i order) ≡ 1 = ap (sum_by (one_for k))
+        (take_all i order end) ∙ order_once n order is k below in
     all.visited k (omega (arith, whole))
 
 -- one number more

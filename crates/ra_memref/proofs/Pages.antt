@@ -1,8 +1,11 @@
 -- Pages that are told of, and the cells that watch them.
-use Rattle.std.proofs.Common.{◌≡◌, ℕ, zero, suc, ◌+◌, ◌-◌, ◌*◌, ◌/◌, ◌<◌, ◌≤◌, ◌==◌, inl, inr, Bool, true, false, if◌then◌else◌, not, ◌&&◌, ◌||◌, Option, None, Some, List, [], ◌∷◌, length, refl, sym, ◌∙◌, ap, arith, subst, leb, ltb}
+use Rattle.std.proofs.Common.{◌≡◌, ℕ, zero, suc, ◌+◌, ◌-◌, ◌*◌, ◌/◌, ◌<◌, ◌≤◌, ◌==◌, inl, inr, Bool, true, false}
+use Rattle.std.proofs.Common.{if◌then◌else◌, not, ◌&&◌, ◌||◌, Option, None, Some, List, [], ◌∷◌, length, refl, sym, ◌∙◌}
+use Rattle.std.proofs.Common.{ap, arith, subst, leb, ltb}
 use Rattle.std.specs.List.{list_any, range_with_len}
 use Rattle.std.specs.Prelude.{nat_lt, nat_le}
-use Rattle.std.proofs.lemmas.Bool.{eq-eqb, ne_eqb, false≢true, cases_eq, lt-ltb, le-leb, ltb-true, leb-true, and_from, and_parts, or_cases, or_left, or_right}
+use Rattle.std.proofs.lemmas.Bool.{eq-eqb, ne_eqb, false≢true, cases_eq, lt-ltb, le-leb, ltb-true, leb-true, and_from}
+use Rattle.std.proofs.lemmas.Bool.{and_parts, or_cases, or_left, or_right}
 use Rattle.std.proofs.lemmas.Bool.Decides.{eqb_tells, leb_tells}
 use Rattle.ra_links.specs.Rows.{Rows, IsOnce, holds, row_at, holder_of, holder_from}
 use Rattle.ra_links.proofs.Members.{In_holds, holds_In}
@@ -18,9 +21,6 @@ same_tests true false f g = absurd (false≢true (f refl))
 same_tests false true f g = absurd (false≢true (g refl))
 same_tests false false f g = refl
 
-or_false_first : (a b c : Bool) → a ≡ false → (a || b) ≡ b
-or_false_first a b c is = ap (λ x. x || b) is
-
 -- a cell's nodes are 2k and 2k + 1
 node_of_cell : (node k : ℕ) → (node / 2 == k) ≡ ((node == 2 * k) || (node == 2 * k + 1))
 node_of_cell node k = elim (eqb_tells (node / 2) k) [
@@ -29,7 +29,8 @@ node_of_cell node k = elim (eqb_tells (node / 2) k) [
     | inr z ↦ rw (e.0, z.0, eq-eqb node (2 * k + 1) (omega (arith, e.1, z.1))) refl
   ]
   | inr n ↦
-      rw (n.0, ne_eqb node (2 * k) (λ z. n.1 (omega (arith, z))), ne_eqb node (2 * k + 1) (λ z. n.1 (omega (arith, z)))) refl
+      rw (n.0, ne_eqb node (2 * k) (λ z. n.1 (omega (arith, z))), ne_eqb node (2 * k + 1)
+          (λ z. n.1 (omega (arith, z)))) refl
 ]
 
 mixed : (a b c d : Bool) → ((a || b) || (c || d)) ≡ ((a || c) || (b || d))
@@ -41,10 +42,15 @@ mixed false false c d = refl
 cell_on_holds : (k : ℕ) (row : List ℕ) → cell_on k row ≡ (holds (2 * k) row || holds (2 * k + 1) row)
 cell_on_holds k [] = refl
 cell_on_holds k (x ∷ row) =
-    rw (node_of_cell x k, cell_on_holds k row) (mixed (x == 2 * k) (x == 2 * k + 1) (holds (2 * k) row) (holds (2 * k + 1) row))
+    rw (node_of_cell x k, cell_on_holds k row) (mixed (x == 2 * k) (x == 2 * k + 1)
+        (holds (2 * k) row) (holds (2 * k + 1) row))
 
 -- what is found to hold a node holds it
-found_by : (number node q : ℕ) (row : List ℕ) (lists : List (List ℕ)) → (holder_from (number + 1) lists node ≡ Some q → (l : ℕ) × (q ≡ number + 1 + l) × (holds node (row_at lists l) ≡ true)) → (b : Bool) → holds node row ≡ b → (if b then Some number else holder_from (number + 1) lists node) ≡ Some q → (l : ℕ) × (q ≡ number + l) × (holds node (row_at (row ∷ lists) l) ≡ true)
+found_by : (number node q : ℕ) (row : List ℕ) (lists : List (List ℕ))
+    → (holder_from (number + 1) lists node ≡ Some q
+    → (l : ℕ) × (q ≡ number + 1 + l) × (holds node (row_at lists l) ≡ true)) → (b : Bool)
+    → holds node row ≡ b → (if b then Some number else holder_from (number + 1) lists node) ≡ Some q
+    → (l : ℕ) × (q ≡ number + l) × (holds node (row_at (row ∷ lists) l) ≡ true)
 found_by number node q row lists more true held is = (0, omega (arith, ap (of number) is), held)
   where
     of : ℕ → Option ℕ → ℕ
@@ -54,13 +60,15 @@ found_by number node q row lists more false held is =
     let rest = more is in
     (suc rest.0, omega (arith, rest.1), rest.2)
 
-pub holder_holds : (number node q : ℕ) (lists : List (List ℕ)) → holder_from number lists node ≡ Some q → (l : ℕ) × (q ≡ number + l) × (holds node (row_at lists l) ≡ true)
+pub holder_holds : (number node q : ℕ) (lists : List (List ℕ))
+    → holder_from number lists node ≡ Some q → (l : ℕ) × (q ≡ number + l) × (holds node (row_at lists l) ≡ true)
 holder_holds number node q [] is = cc
 holder_holds number node q (row ∷ lists) is =
     found_by number node q row lists (holder_holds (number + 1) node q lists) (holds node row) refl is
 
 module _ (pages : Rows) (once : IsOnce pages) (page : ℕ) (below : page < length pages.lists) where
-  at_by : (node : ℕ) (o : Option ℕ) → holder_of pages.lists node ≡ o → is_at o page ≡ true → holds node (row_at pages.lists page) ≡ true
+  at_by : (node : ℕ) (o : Option ℕ) → holder_of pages.lists node ≡ o → is_at o page ≡ true
+      → holds node (row_at pages.lists page) ≡ true
   at_by node None found is = absurd (false≢true is)
   at_by node (Some q) found is = elim (eqb_tells q page) [
     | inl e ↦
@@ -73,17 +81,22 @@ module _ (pages : Rows) (once : IsOnce pages) (page : ℕ) (below : page < lengt
   holds_at : (node : ℕ) → holds node (row_at pages.lists page) ≡ is_at (holder_of pages.lists node) page
   holds_at node =
       let there : holds node (row_at pages.lists page) ≡ true → is_at (holder_of pages.lists node) page ≡ true = λ held.
-      let found : holder_of pages.lists node ≡ Some (0 + page) = holder_some 0 pages.lists node page below (In_holds node (row_at pages.lists page) held) (λ k small h. once.one_list k page node (holds_In node (row_at pages.lists k) h) held) in
+      let found : holder_of pages.lists node ≡ Some (0 + page) =
+          holder_some 0 pages.lists node page below (In_holds node (row_at pages.lists page) held)
+              (λ k small h. once.one_list k page node (holds_In node (row_at pages.lists k) h) held) in
       let here : 0 + page ≡ page = omega arith in
       rw (found, here) (eq-eqb page page refl) in
-      same_tests (holds node (row_at pages.lists page)) (is_at (holder_of pages.lists node) page) there (λ is. at_by node (holder_of pages.lists node) refl is)
+      same_tests (holds node (row_at pages.lists page))
+          (is_at (holder_of pages.lists node) page) there (λ is. at_by node (holder_of pages.lists node) refl is)
 
   -- a cell is on the list of the page where one of its nodes is
-  pub on_list : (k : ℕ) → cell_on k (row_at pages.lists page) ≡ (is_at (holder_of pages.lists (2 * k)) page || is_at (holder_of pages.lists (2 * k + 1)) page)
+  pub on_list : (k : ℕ) → cell_on k (row_at pages.lists page) ≡ (is_at
+      (holder_of pages.lists (2 * k)) page || is_at (holder_of pages.lists (2 * k + 1)) page)
   on_list k = rw (cell_on_holds k (row_at pages.lists page), holds_at (2 * k), holds_at (2 * k + 1)) refl
 
 -- one page more
-pub between_more : (first page : ℕ) (o : Option ℕ) → first ≤ page → is_between first (page + 1) o ≡ (is_between first page o || is_at o page)
+pub between_more : (first page : ℕ) (o : Option ℕ) → first ≤ page
+    → is_between first (page + 1) o ≡ (is_between first page o || is_at o page)
 between_more first page None above = refl
 between_more first page (Some q) above = elim (eqb_tells q page) [
   | inl e ↦
@@ -119,13 +132,16 @@ between_none first (Some q) = elim (leb_tells first q) [
 ]
 
 -- a test of numbers in a row
-found_by_first : (test : ℕ → Bool) (a n : ℕ) → (list_any test (range_with_len (a + 1) n) ≡ true → (k : ℕ) × (a + 1 ≤ k) × (k < a + 1 + n) × (test k ≡ true)) → (b : Bool) → test a ≡ b → (b || list_any test (range_with_len (a + 1) n)) ≡ true → (k : ℕ) × (a ≤ k) × (k < a + suc n) × (test k ≡ true)
+found_by_first : (test : ℕ → Bool) (a n : ℕ) → (list_any test (range_with_len (a + 1) n) ≡ true
+    → (k : ℕ) × (a + 1 ≤ k) × (k < a + 1 + n) × (test k ≡ true)) → (b : Bool) → test a ≡ b
+    → (b || list_any test (range_with_len (a + 1) n)) ≡ true → (k : ℕ) × (a ≤ k) × (k < a + suc n) × (test k ≡ true)
 found_by_first test a n more true here is = (a, omega arith, omega arith, here)
 found_by_first test a n more false here is =
     let rest = more is in
     (rest.0, omega (arith, rest.1), omega (arith, rest.2), rest.3)
 
-pub found_in_range : (test : ℕ → Bool) (a n : ℕ) → list_any test (range_with_len a n) ≡ true → (k : ℕ) × (a ≤ k) × (k < a + n) × (test k ≡ true)
+pub found_in_range : (test : ℕ → Bool) (a n : ℕ) → list_any test (range_with_len a n) ≡ true
+    → (k : ℕ) × (a ≤ k) × (k < a + n) × (test k ≡ true)
 found_in_range test a zero is = absurd (false≢true is)
 found_in_range test a (suc n) is = found_by_first test a n (found_in_range test (a + 1) n) (test a) refl is
 
@@ -133,18 +149,22 @@ or_true : (b : Bool) → (b || true) ≡ true
 or_true true = refl
 or_true false = refl
 
-pub in_range_found : (test : ℕ → Bool) (a n k : ℕ) → a ≤ k → k < a + n → test k ≡ true → list_any test (range_with_len a n) ≡ true
+pub in_range_found : (test : ℕ → Bool) (a n k : ℕ) → a ≤ k → k < a + n → test k ≡ true
+    → list_any test (range_with_len a n) ≡ true
 in_range_found test a zero k low high is = absurd (omega (arith, low, high))
 in_range_found test a (suc n) k low high is = elim (cases_eq a k) [
   | inl e ↦ ap (λ b. b || list_any test (range_with_len (a + 1) n)) (ap test e ∙ is)
-  | inr n' ↦ ap (λ b. test a || b) (in_range_found test (a + 1) n k (omega (arith, low, n')) (omega (arith, high)) is) ∙ or_true (test a)
+  | inr n' ↦ ap (λ b. test a || b) (in_range_found test (a + 1) n k (omega (arith, low, n'))
+      (omega (arith, high)) is) ∙ or_true (test a)
 ]
 
 -- pages that stand between two
 between_true : (first last page : ℕ) → first ≤ page → page < last → is_between first last (Some page) ≡ true
-between_true first last page low high = and_from (leb first page) (ltb page last) (le-leb first page low) (lt-ltb page last high)
+between_true first last page low high = and_from (leb first page) (ltb page last)
+    (le-leb first page low) (lt-ltb page last high)
 
-between_is : (first last : ℕ) (o : Option ℕ) → is_between first last o ≡ true → (page : ℕ) × (o ≡ Some page) × (first ≤ page) × (page < last)
+between_is : (first last : ℕ) (o : Option ℕ) → is_between first last o ≡ true
+    → (page : ℕ) × (o ≡ Some page) × (first ≤ page) × (page < last)
 between_is first last None is = absurd (false≢true is)
 between_is first last (Some page) is =
     let both = and_parts (leb first page) (ltb page last) is in
@@ -163,7 +183,9 @@ first_is size place page is = elim (leb_tells (suc place) size) [
 first_some : (size place : ℕ) → place < size → first_page size place ≡ Some (place / 16)
 first_some size place below = rw (lt-ltb place size below) refl
 
-second_by : (page first all : ℕ) (other : ℕ) → (if not (page == first) && nat_lt page all then Some page else None) ≡ Some other → (page ≡ first → ⊥) × (page < all) × (other ≡ page)
+second_by : (page first all : ℕ) (other : ℕ) → (if not
+    (page == first) && nat_lt page all then Some page else None) ≡ Some other
+    → (page ≡ first → ⊥) × (page < all) × (other ≡ page)
 second_by page first all other is = elim (eqb_tells page first) [
   | inl e ↦ let none : None ≡ Some other = rw e.0 at is in cc
   | inr n ↦ elim (leb_tells (suc page) all) [
@@ -172,7 +194,8 @@ second_by page first all other is = elim (eqb_tells page first) [
   ]
 ]
 
-second_some : (page first all : ℕ) → (page ≡ first → ⊥) → page < all → (if not (page == first) && nat_lt page all then Some page else None) ≡ Some page
+second_some : (page first all : ℕ) → (page ≡ first → ⊥) → page < all
+    → (if not (page == first) && nat_lt page all then Some page else None) ≡ Some page
 second_some page first all apart below = rw (ne_eqb page first apart, lt-ltb page all below) refl
 
 module _ (size place width at count : ℕ) (some : 0 < count) (few : width ≤ 4) (one : 0 < width) where
@@ -188,13 +211,16 @@ module _ (size place width at count : ℕ) (some : 0 < count) (few : width ≤ 4
   watches_from : (k : ℕ) → k < size → from ≤ k / 16 → k / 16 < to → watches k ≡ true
   watches_from k below low high =
       and_from (nat_lt k size) (touches at count (page_of k)) (lt-ltb k size below)
-      (and_from (nat_lt 0 count) (nat_le (page_of at) (page_of k) && nat_le (page_of k) (page_of (at + count - 1))) (lt-ltb 0 count some)
-      (and_from (nat_le (page_of at) (page_of k)) (nat_le (page_of k) (page_of (at + count - 1))) (le-leb (page_of at) (page_of k) low) (le-leb (page_of k) (page_of (at + count - 1)) (omega (arith, high)))))
+      (and_from (nat_lt 0 count) (nat_le (page_of at) (page_of k) && nat_le (page_of k)
+      (page_of (at + count - 1))) (lt-ltb 0 count some)
+      (and_from (nat_le (page_of at) (page_of k)) (nat_le (page_of k) (page_of (at + count - 1)))
+      (le-leb (page_of at) (page_of k) low) (le-leb (page_of k) (page_of (at + count - 1)) (omega (arith, high)))))
 
   watches_to : (k : ℕ) → watches k ≡ true → (k < size) × (from ≤ k / 16) × (k / 16 < to)
   watches_to k is =
       let both = and_parts (nat_lt k size) (touches at count (page_of k)) is in
-      let inner = and_parts (nat_lt 0 count) (nat_le (page_of at) (page_of k) && nat_le (page_of k) (page_of (at + count - 1))) both.1 in
+      let inner = and_parts (nat_lt 0 count) (nat_le (page_of at) (page_of k) && nat_le (page_of k)
+          (page_of (at + count - 1))) both.1 in
       let last = and_parts (nat_le (page_of at) (page_of k)) (nat_le (page_of k) (page_of (at + count - 1))) inner.1 in
       let high : page_of k ≤ page_of (at + count - 1) = leb-true (page_of k) (page_of (at + count - 1)) last.1 in
       (ltb-true k size both.0, leb-true (page_of at) (page_of k) last.0, omega (arith, high))
@@ -211,22 +237,31 @@ module _ (size place width at count : ℕ) (some : 0 < count) (few : width ≤ 4
         | inl e ↦
             let low : from ≤ place / 16 = omega (arith, told.1, e) in
             let high : place / 16 < to = omega (arith, told.2, e) in
-            let here : is_between from to (first_page size place) ≡ true = ap (is_between from to) (first_some size place (omega (arith, found.1, told.0))) ∙ between_true from to (place / 16) low high in
-            or_left (is_between from to (first_page size place)) (is_between from to (second_page size place width)) here
+            let here : is_between from to (first_page size place) ≡ true = ap (is_between from to)
+                (first_some size place (omega (arith, found.1, told.0))) ∙ between_true from to (place / 16) low high in
+            or_left (is_between from to (first_page size place))
+                (is_between from to (second_page size place width)) here
         | inr n ↦
             let same : (place + width - 1) / 16 ≡ k / 16 = omega (arith, n, found.1, found.2, few, one) in
             let below : (place + width - 1) / 16 < pages_of size = omega (arith, same, told.0) in
-            let here : is_between from to (second_page size place width) ≡ true = ap (is_between from to) (second_some ((place + width - 1) / 16) (place / 16) (pages_of size) (λ e. n (sym same ∙ e)) below) ∙ between_true from to ((place + width - 1) / 16) (omega (arith, same, told.1)) (omega (arith, same, told.2)) in
-            or_right (is_between from to (first_page size place)) (is_between from to (second_page size place width)) here
+            let here : is_between from to (second_page size place width) ≡ true = ap
+                (is_between from to) (second_some ((place + width - 1) / 16) (place / 16)
+                (pages_of size) (λ e. n (sym same ∙ e)) below)
+                ∙ between_true from to ((place + width - 1) / 16) (omega (arith, same, told.1))
+                (omega (arith, same, told.2)) in
+            or_right (is_between from to (first_page size place))
+                (is_between from to (second_page size place width)) here
       ]
 
   backward_first : is_between from to (first_page size place) ≡ true → is_watched size place width at count ≡ true
   backward_first is =
       let page = between_is from to (first_page size place) is in
       let here = first_is size place page.0 page.1 in
-      in_range_found watches place width place (omega arith) (omega (arith, one)) (watches_from place here.0 (omega (arith, here.1, page.2)) (omega (arith, here.1, page.3)))
+      in_range_found watches place width place (omega arith) (omega (arith, one))
+          (watches_from place here.0 (omega (arith, here.1, page.2)) (omega (arith, here.1, page.3)))
 
-  backward_second : is_between from to (second_page size place width) ≡ true → is_watched size place width at count ≡ true
+  backward_second : is_between from to (second_page size place width) ≡ true
+      → is_watched size place width at count ≡ true
   backward_second is =
       let page = between_is from to (second_page size place width) is in
       let here = second_by ((place + width - 1) / 16) (place / 16) (pages_of size) page.0 page.1 in
@@ -235,11 +270,15 @@ module _ (size place width at count : ℕ) (some : 0 < count) (few : width ≤ 4
       let low : place ≤ k = omega (arith, here.0) in
       let high : k < place + width = omega (arith, one) in
       let there : k < size = omega (arith, here.1) in
-      in_range_found watches place width k low high (watches_from k there (omega (arith, is_page, here.2, page.2)) (omega (arith, is_page, here.2, page.3)))
+      in_range_found watches place width k low high (watches_from k there
+          (omega (arith, is_page, here.2, page.2)) (omega (arith, is_page, here.2, page.3)))
 
   pub watched_is : is_watched size place width at count ≡ both_pages
   watched_is =
-      let back : both_pages ≡ true → is_watched size place width at count ≡ true = λ is. elim (or_cases (is_between from to (first_page size place)) (is_between from to (second_page size place width)) is) [ inl a ↦ backward_first a | inr b ↦ backward_second b ] in
+      let back : both_pages ≡ true → is_watched size place width at count ≡ true =
+          λ is. elim (or_cases (is_between from to (first_page size place))
+              (is_between from to (second_page size place width)) is)
+              [ inl a ↦ backward_first a | inr b ↦ backward_second b ] in
       same_tests (is_watched size place width at count) both_pages forward back
 
 -- an empty write is watched by no cell
@@ -248,5 +287,6 @@ watched_none size place width at = same_tests (is_watched size place width at 0)
     (λ is.
     let found = found_in_range (λ k. nat_lt k size && touches at 0 (page_of k)) place width is in
     let both = and_parts (nat_lt found.0 size) (touches at 0 (page_of found.0)) found.3 in
-    let some : 0 < 0 = ltb-true 0 0 (and_parts (nat_lt 0 0) (nat_le (page_of at) (page_of found.0) && nat_le (page_of found.0) (page_of (at + 0 - 1))) both.1).0 in
+    let some : 0 < 0 = ltb-true 0 0 (and_parts (nat_lt 0 0)
+        (nat_le (page_of at) (page_of found.0) && nat_le (page_of found.0) (page_of (at + 0 - 1))) both.1).0 in
     absurd (omega (arith, some))) (λ is. absurd (false≢true is))

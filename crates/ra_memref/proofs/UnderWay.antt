@@ -99,7 +99,8 @@ module _ {p : NodePlan} {old now : NumbersSeen} {begun image : Shown} {k : ℕ} 
     within_way = node_within p.nodes.now done.plan.pool p.slots.now done.plan.laid k here now done.taken.sized _ refl
 
     pub agreed_way : IsAgreedAt (node_at p.nodes.now k) now image.bytes (get_or p.slots.now k 0)
-    agreed_way = rw done.bytes (agreed_node p.nodes.now done.plan.pool p.slots.now done.plan.laid begun.bytes old done.sized
+    agreed_way = rw done.bytes (agreed_node p.nodes.now done.plan.pool p.slots.now done.plan.laid
+        begun.bytes old done.sized
         k here now (image.reads - begun.reads) done.taken done.agreed)
 
     module _ {new : NumbersSeen} (e : new ≡ after_node (node_at p.nodes.now k) now image.bytes p.slots.now k) where
@@ -145,5 +146,6 @@ module _ {p : NodePlan} {old now : NumbersSeen} {begun image : Shown} {k : ℕ} 
         (image.reads - begun.reads) taken_all
 
     pub way_counted : image.reads ≡ begun.reads + reads_of old.watches.marked old.watches.places now.watches.places
-    way_counted = omega (arith, counted p.nodes.now done.plan.pool p.slots.now done.plan.laid begun.bytes old done.sized now
+    way_counted = omega (arith, counted p.nodes.now done.plan.pool p.slots.now done.plan.laid
+        begun.bytes old done.sized now
         (image.reads - begun.reads) taken_all, done.risen)

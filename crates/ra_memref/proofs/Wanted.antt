@@ -10,7 +10,7 @@ use Rattle.ra_indirect.specs.Pools.{node_at}
 use Rattle.ra_indirect.specs.Interned.{IsPool}
 use Rattle.ra_indirect.proofs.SpelledLemmas.{names_below}
 use Rattle.ra_memref.specs.Names.{NamesBelow}
-use Rattle.ra_memref.specs.Naming.{is_wanted, wanted_after, HasWanted, AreWanted}
+use Rattle.ra_memref.specs.Naming.{is_wanted, wanted_after, HasWanted}
 
 -- what holds of both holds of the one that is chosen
 either : {A : Type 0} (b : Bool) (P : A → Type 0) (x y : A) → P x → P y → P (if b then x else y)
@@ -120,14 +120,6 @@ pub record AreWantedFrom (nodes : List Node) (wanted : List Bool) (left : ℕ) :
   pub most : left ≤ length nodes
   pub each : (n : ℕ) → left ≤ n → n < length nodes → HasWanted wanted n (node_at nodes n)
 
-pub wanted_none : (nodes : List Node) (wanted : List Bool) → length wanted ≡ length nodes
-    → AreWantedFrom nodes wanted (length nodes)
-wanted_none nodes wanted long = record {
-  as_many = long;
-  most = omega arith;
-  each = λ n from below. absurd (omega (arith, from, below));
-}
-
 -- a node of a pool names earlier ones
 pub names_earlier : (nodes : List Node) → IsPool nodes → (k : ℕ) → k < length nodes → NamesBelow k (node_at nodes k)
 names_earlier nodes pool k within =
@@ -152,11 +144,3 @@ wanted_more nodes pool wanted left are =
             (here left wanted within (node_at nodes left) names)
       ];
     }
-
--- with all of them the pool has what it wants
-pub wanted_all : (nodes : List Node) (wanted : List Bool) (left : ℕ) → left ≡ 0 → AreWantedFrom nodes wanted left
-    → AreWanted nodes wanted
-wanted_all nodes wanted left none are = record {
-  as_many = are.as_many;
-  each = λ n under. are.each n (omega (arith, none)) under;
-}

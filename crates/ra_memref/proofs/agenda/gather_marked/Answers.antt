@@ -1,4 +1,4 @@
-use Rattle.std.proofs.Common.{◌<◌, ap, subst, sym, ◌∙◌, refl, arith, length, get_or}
+use Rattle.std.proofs.Common.{◌<◌, subst, sym, ◌∙◌, refl, arith, length, get_or}
 use Rattle.ra_memref.specs.Numbers.{NumbersSeen}
 use Rattle.ra_memref.specs.Flags.{NoneSet}
 use Rattle.ra_memref.proofs.AgendaLemmas.{IsGathering, gathering_none, gathering_past, gathering_more, gathered}

@@ -3,7 +3,8 @@ use Rattle.std.proofs.lemmas.Bool.{false≢true}
 use Rattle.ra_memref.proofs.UnderWay.{under_way, way_first, way_end, within_way, agreed_way, settled_way, way_on}
 use Rattle.ra_memref.proofs.UnderWay.{way_taken, way_noted, way_counted}
 use Rattle.ra_memref.proofs.DueLemmas.{settled_to}
-use Rattle.ra_memref.proofs.numbers.Numbers.take_frame.Goals.{else-loop-due-test, then-loop-due-test+in-Some+then-left-eq0}
+use Rattle.ra_memref.proofs.numbers.Numbers.take_frame.Goals.{else-loop-due-test}
+use Rattle.ra_memref.proofs.numbers.Numbers.take_frame.Goals.{then-loop-due-test+in-Some+then-left-eq0}
 use Rattle.ra_memref.proofs.numbers.Numbers.take_frame.Goals as goal
 
 pub loop-due-init : goal.loop-due-init
