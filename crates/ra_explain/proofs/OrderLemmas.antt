@@ -1,5 +1,6 @@
 -- Rows of a longer list in an order of their own.
-use Rattle.std.proofs.Common.{◌≡◌, ℕ, zero, suc, ◌+◌, ◌*◌, ◌<◌, ◌≤◌, Bool, List, [], ◌∷◌, ◌++◌, length, map, take, drop, reverse, get_or, refl, sym, ap, ap₂, subst, ◌∙◌, arith}
+use Rattle.std.proofs.Common.{◌≡◌, ℕ, zero, suc, ◌+◌, ◌*◌, ◌<◌, ◌≤◌, Bool, List, [], ◌∷◌, ◌++◌, length, map, take, drop}
+use Rattle.std.proofs.Common.{reverse, get_or, refl, sym, ap, ap₂, subst, ◌∙◌, arith}
 use Rattle.std.specs.List.{AllByRecursion, range_with_len}
 use Rattle.std.proofs.Math.Seq.{take-add}
 use Rattle.std.proofs.lemmas.Grind.{reverse_onto}
@@ -76,16 +77,6 @@ pub row_is : (t : TriggerContents) (last : ℕ) (rows : List (List Bool)) (k : �
     → get_or rows k [] ≡ row_along t (joined rows) k
 row_is t last rows k are within = sym
     (row_of_joined (trigger_hits t) rows k are.width (omega (arith, are.count, within)))
-
-pub long_at : (t : TriggerContents) (last : ℕ) (rows : List (List Bool)) (k : ℕ) → AreRows t last rows → k ≤ last
-    → length (get_or rows k []) ≡ trigger_hits t
-long_at t last rows k are within = go rows k are.width (omega (arith, are.count, within))
-  where
-    go : (rows : List (List Bool)) (k : ℕ) → AllByRecursion (λ row. length row ≡ trigger_hits t) rows → k < length rows
-        → length (get_or rows k []) ≡ trigger_hits t
-    go [] k all within = absurd (omega (arith, within))
-    go (row ∷ rows) zero all within = all.0
-    go (row ∷ rows) (suc k) all within = go rows k all.1 (omega arith)
 
 -- all rows of a list, from one on
 rows_from_on : (width from n : ℕ) (truths : List Bool)
