@@ -1,5 +1,7 @@
 -- Values that are put by name: the last one of a name stays.
-use Rattle.std.proofs.Common.{◌≡◌, ℕ, suc, ◌+◌, ◌*◌, ◌-◌, ◌<◌, ◌≤◌, ◌==◌, true, false, if◌then◌else◌, Option, Some, List, ◌++◌, length, map, take, drop, append-nil, get_or, bytes_eq, slice_index, slice_index_or, refl, sym, ◌∙◌, ap, subst, arith}
+use Rattle.std.proofs.Common.{◌≡◌, ℕ, suc, ◌+◌, ◌*◌, ◌-◌, ◌<◌, ◌≤◌, ◌==◌, true, false, if◌then◌else◌, Option, Some}
+use Rattle.std.proofs.Common.{List, ◌++◌, length, map, take, drop, append-nil, get_or, bytes_eq, slice_index}
+use Rattle.std.proofs.Common.{slice_index_or, refl, sym, ◌∙◌, ap, subst, arith}
 use Rattle.std.specs.List.{range_with_len, Contains}
 use Rattle.std.proofs.lemmas.List.{drop_all, take_all, get_or-map, length-map, ext_get_or, get_or_default}
 use Rattle.std.proofs.lemmas.Simd.{map-map}
@@ -26,17 +28,10 @@ numbered_from bytes at first count =
 
 -- their numbers
 pub numbers_of : (bytes : List ℕ) (at count : ℕ)
-    → map (λ n. n.number) (numbered_at bytes at count) ≡ map (λ k. word_at bytes (at + 20 * k + 16)) (range_with_len 0 count)
+    → map (λ n. n.number) (numbered_at bytes at count) ≡ map (λ k. word_at bytes (at + 20 * k + 16))
+    (range_with_len 0 count)
 numbers_of bytes at count =
     map-map (λ (n : Numbered). n.number)
-    (λ k. record { name = name_at bytes (at + 20 * k); number = word_at bytes (at + 20 * k + 16) })
-    (range_with_len 0 count)
-
--- their names
-pub names_of_numbered : (bytes : List ℕ) (at count : ℕ)
-    → map (λ n. n.name) (numbered_at bytes at count) ≡ map (λ k. name_at bytes (at + 20 * k)) (range_with_len 0 count)
-names_of_numbered bytes at count =
-    map-map (λ (n : Numbered). n.name)
     (λ k. record { name = name_at bytes (at + 20 * k); number = word_at bytes (at + 20 * k + 16) })
     (range_with_len 0 count)
 
@@ -86,7 +81,8 @@ place_of names order n is less =
     let found = Contains-permutation (range_with_len 0 (length names)) order n is.each here in
     (found.0, found.1, get_or_default order found.0 0 n found.1 ∙ found.2)
 
-module _ {T : Type 0} (names : List Name) (order : List ℕ) (name : Name) (from to : ℕ) (old new : List T) (value : T) where
+module _ {T : Type 0} (names : List Name) (order : List ℕ) (name : Name) (from to : ℕ)
+    (old new : List T) (value : T) where
   -- a value that is put in the range of a name is put by name
   pub put_by_name : IsOrder names order → IsRange names order name from to
       → ((k : ℕ) (d : T) → from ≤ k → k < to → slice_index_or new (slice_index order k) d ≡ value)

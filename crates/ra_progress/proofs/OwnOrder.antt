@@ -1,12 +1,12 @@
 -- The own entries by the places of their order.
-use Rattle.std.proofs.Common.{◌≡◌, ℕ, suc, ◌+◌, ◌-◌, ◌<◌, ◌≤◌, ◌||◌, if◌then◌else◌, Bool, true, false, Option, None, Some, option_map, List, [], ◌∷◌, length, map, take, drop, find, filter, nat_lt, slice_index, refl, sym, ◌∙◌, arith, inl, inr, add-one, drop-cons, length-drop}
+use Rattle.std.proofs.Common.{◌≡◌, ℕ, suc, ◌+◌, ◌-◌, ◌<◌, ◌≤◌, ◌||◌, if◌then◌else◌, Bool, true, false, Option, None}
+use Rattle.std.proofs.Common.{Some, option_map, List, [], ◌∷◌, length, map, take, drop, find, filter, nat_lt}
+use Rattle.std.proofs.Common.{slice_index, refl, sym, ◌∙◌, arith, inl, inr, add-one, drop-cons, length-drop}
 use Rattle.std.specs.List.{list_any}
 use Rattle.std.proofs.lemmas.Bool.{lt-ltb, le-ltb, cases_lt}
 use Rattle.std.proofs.lemmas.List.{length-map, length-take-le}
-use Rattle.std.proofs.lemmas.List.Sums.{sum_by_more_le}
 use Rattle.ra_progress.specs.declared.shape.Shape.{Shape}
 use Rattle.ra_progress.specs.Contents.{Name, shape_contents, Own, own_entries, own_at}
-use Rattle.ra_progress.specs.Layout.{own_length}
 use Rattle.ra_progress.specs.Names.{IsUsable, IsRange, entry_names}
 use Rattle.ra_progress.specs.Reading.{Block, owns_named}
 use Rattle.ra_progress.proofs.Orders.{numbers_within}
@@ -24,10 +24,6 @@ pub between_step : (order : List ℕ) (place to : ℕ) → place < to → to ≤
 between_step order place to less most =
     let one : to - place ≡ suc (to - (place + 1)) = omega (arith, less) in
     rw (drop-cons order place 0 (omega (arith, less, most)), one, add-one) refl
-
--- between a place and itself stands none
-pub between_end : (order : List ℕ) (place to : ℕ) → to ≤ place → take (to - place) (drop place order) ≡ []
-between_end order place to over = let none : to - place ≡ 0 = omega (arith, over) in rw none refl
 
 -- as many stand between two places as lie between
 pub many_between : {A : Type 0} (f : ℕ → A) (order : List ℕ) (from to : ℕ) → from ≤ to → to ≤ length order
@@ -58,13 +54,6 @@ module _ (shape : Shape) (is : IsUsable shape) where
       let below = numbers_within
       (entry_names (shape_contents shape)) shape.entry_order.items is.searchable.entries place less in
       omega (arith, below, names_count (shape_contents shape) is.searchable.paired)
-
-  -- no own block is longer than a file may be
-  pub own_small : (n : ℕ) → n < length (own_entries (shape_contents shape))
-      → own_length (own_at (own_entries (shape_contents shape)) n) ≤ 8388608
-  own_small n less =
-      let within = sum_by_more_le own_length (own_entries (shape_contents shape)) n (own_at [] 0) less in
-      omega (arith, within, is.short)
 
   -- the own entries of a name are those of its range
   pub own_range_is : (name : Name) (from to : ℕ)

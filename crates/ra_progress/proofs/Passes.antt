@@ -1,14 +1,17 @@
 -- Passes over the entries and blocks of a file, one by one.
-use Rattle.std.proofs.Common.{◌≡◌, ℕ, suc, ◌+◌, ◌-◌, ◌<◌, ◌≤◌, ◌==◌, ◌&&◌, Bool, true, false, Option, None, Some, List, [], ◌∷◌, ◌++◌, length, map, take, drop, find, not, slice_index, sum_by, refl, sym, ◌∙◌, ap, arith, drop-cons}
-use Rattle.std.specs.List.{list_any}
+use Rattle.std.proofs.Common.{◌≡◌, ℕ, suc, ◌+◌, ◌-◌, ◌<◌, ◌≤◌, ◌==◌, ◌&&◌, Bool, true, false, Option, None, Some, List}
+use Rattle.std.proofs.Common.{[], ◌∷◌, ◌++◌, length, map, take, drop, find, not, slice_index, sum_by, refl, sym, ◌∙◌}
+use Rattle.std.proofs.Common.{ap, arith, drop-cons}
 use Rattle.std.proofs.lemmas.Bool.{eqb-true}
 use Rattle.std.proofs.lemmas.List.{drop_all}
 use Rattle.std.proofs.lemmas.List.Sums.{sum_by-cons}
 use Rattle.ra_progress.specs.declared.refused.ProgressRefused.{ProgressRefused}
 use Rattle.ra_progress.specs.Contents.{Own, own_at}
 use Rattle.ra_text.specs.Words.{word_at}
-use Rattle.ra_progress.specs.Layout.{Entry, own_length, entry_at, entry_after, entries_from, entries_in, entry_count, first_entry}
-use Rattle.ra_progress.specs.Reading.{HasLayout, or_later, bad_entry, bad_entries, Block, bad_state, bad_states, blocks_from, blocks_beside, blocks_of_entry, blocks_named, have_sizes}
+use Rattle.ra_progress.specs.Layout.{Entry, own_length, entry_at, entry_after, entries_from, entries_in, entry_count}
+use Rattle.ra_progress.specs.Layout.{first_entry}
+use Rattle.ra_progress.specs.Reading.{HasLayout, or_later, bad_entry, bad_entries, Block, bad_state, bad_states}
+use Rattle.ra_progress.specs.Reading.{blocks_from, blocks_beside, blocks_of_entry, blocks_named, have_sizes}
 use Rattle.ra_progress.proofs.Checks.{holds}
 use Rattle.ra_progress.proofs.Walks.{IsWalk, walk_first}
 use Rattle.ra_progress.proofs.OwnOrder.{read_as, between_step, none_passes}
@@ -33,15 +36,11 @@ states_parts bytes (x ∷ xs) ys =
     ap (or_later (bad_state bytes x)) (states_parts bytes xs ys)
     ∙ sym (later_later (bad_state bytes x) (bad_states bytes xs) (bad_states bytes ys))
 
--- an entry that passes is one of them
-pub any_here : (test : Entry → Bool) (bytes : List ℕ) (left at : ℕ) → 0 < left → test (entry_at bytes at) ≡ true
-    → list_any test (entries_from bytes left at) ≡ true
-any_here test bytes left at some passes = rw (entries_step bytes left at some, passes) refl
-
 -- the next entry, and those behind it
 pub entries_next : (owns : List Own) (bytes : List ℕ) (left at : ℕ) → 0 < left
     → bad_entries owns (entries_from bytes left at)
-    ≡ or_later (bad_entry owns (entry_at bytes at)) (bad_entries owns (entries_from bytes (left - 1) (entry_after bytes at)))
+    ≡ or_later (bad_entry owns (entry_at bytes at))
+        (bad_entries owns (entries_from bytes (left - 1) (entry_after bytes at)))
 entries_next owns bytes left at some = ap (bad_entries owns) (entries_step bytes left at some)
 
 pub named_next : (owns : List Own) (bytes : List ℕ) (left at : ℕ) → 0 < left
@@ -72,7 +71,8 @@ as_many (own ∷ owns) (entry ∷ entries) same =
 pub sized_next : (bytes : List ℕ) (owns : List Own) (number at : ℕ) → number < length owns
     → have_sizes (drop number owns) (entries_from bytes (length owns - number) at) ≡ true
     → (word_at bytes (at + 16)
-    ≡ own_length (own_at owns number)) × (have_sizes (drop (number + 1) owns) (entries_from bytes (length owns - (number + 1)) (entry_after bytes at)) ≡ true)
+    ≡ own_length (own_at owns number)) × (have_sizes (drop (number + 1) owns)
+        (entries_from bytes (length owns - (number + 1)) (entry_after bytes at)) ≡ true)
 sized_next bytes owns number at below same =
     let both = both_true (word_at bytes (at + 16) == own_length (own_at owns number))
     (have_sizes (drop (number + 1) owns) (entries_from bytes (length owns - (number + 1)) (entry_after bytes at)))
@@ -128,7 +128,8 @@ between_next bytes owns order at place to less most =
 pub sized_between : (owns : List Own) (order : List ℕ) (size place to : ℕ) → place < to → to ≤ length order
     → find (λ own. not (own_length own == size)) (map (own_at owns) (take (to - place) (drop place order))) ≡ None
     → (own_length (own_at owns (slice_index order place))
-    ≡ size) × (find (λ own. not (own_length own == size)) (map (own_at owns) (take (to - (place + 1)) (drop (place + 1) order))) ≡ None)
+    ≡ size) × (find (λ own. not (own_length own == size))
+        (map (own_at owns) (take (to - (place + 1)) (drop (place + 1) order))) ≡ None)
 sized_between owns order size place to less most none =
     let p : Own → Bool = λ own. not (own_length own == size) in
     let own = own_at owns (slice_index order place) in
