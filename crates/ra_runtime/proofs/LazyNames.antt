@@ -1,5 +1,6 @@
 -- A shape whose names of cells and tracked masks are made late stands for one shape.
-use Rattle.std.proofs.Common.{◌≡◌, ℕ, ◌+◌, ◌*◌, ◌<◌, ◌≤◌, ◌^◌, true, false, List, length, map, sum_by, ap, sym, subst, ◌∙◌, arith}
+use Rattle.std.proofs.Common.{◌≡◌, ℕ, ◌+◌, ◌*◌, ◌<◌, ◌≤◌, ◌^◌, true, false, List, length, map, sum_by, ap, sym, subst}
+use Rattle.std.proofs.Common.{◌∙◌, arith}
 use Rattle.std.proofs.lemmas.List.{length-map}
 use Rattle.ra_memref.specs.Names.{cell_name, tracked_name}
 use Rattle.ra_memref.specs.Table.{TableSeen}
@@ -13,40 +14,23 @@ use Rattle.ra_progress.specs.declared.said.Said.{Said}
 use Rattle.ra_meaning.specs.Order.{set_cells, set_tracked, shape_of}
 use Rattle.ra_runtime.specs.declared.course.Course.TheInside.{Inside}
 use Rattle.ra_runtime.specs.declared.lazy_shape.LazyShape.{LazyShape}
-use Rattle.ra_runtime.specs.Keeping.{IsKeptFor, KeptSeen}
 use Rattle.ra_runtime.specs.Laid.{IsOver}
 use Rattle.ra_runtime.specs.Seen.{IsCourse}
 use Rattle.ra_runtime.specs.Lazy.{IsCopy, IsLazy, IsWhole, MakesNames, MayName, NamesTable, with_names}
 
 -- the names of a set are those of a table over it
 pub names_table : (set : SetContents) (table : TableSeen) → IsOver set table → NamesTable table (shape_of set)
-names_table set table over = record { cells = ap (map cell_name) over.cells; priors = ap (map tracked_name) over.tracked }
-
--- a state that is kept for a shape without names is kept for the shape, and the other way round
-module _ (whole : ShapeContents) (t : LazyShape) (lazy : IsLazy whole t) (kept : KeptSeen) where
-  pub kept_whole : IsKeptFor (shape_contents t.shape) kept → IsKeptFor whole kept
-  kept_whole is = record {
-    digest = is.digest ∙ ap (λ (s : ShapeContents). s.digest) lazy.shape;
-    cells = is.cells ∙ lazy.room.cells;
-    priors = is.priors ∙ lazy.room.priors;
-    items = is.items ∙ ap (λ (s : ShapeContents). s.items) lazy.shape;
-    presence = is.presence ∙ ap (λ (s : ShapeContents). s.presence) lazy.shape;
-  }
-
-  pub kept_lazy : IsKeptFor whole kept → IsKeptFor (shape_contents t.shape) kept
-  kept_lazy is = record {
-    digest = is.digest ∙ sym (ap (λ (s : ShapeContents). s.digest) lazy.shape);
-    cells = is.cells ∙ sym lazy.room.cells;
-    priors = is.priors ∙ sym lazy.room.priors;
-    items = is.items ∙ sym (ap (λ (s : ShapeContents). s.items) lazy.shape);
-    presence = is.presence ∙ sym (ap (λ (s : ShapeContents). s.presence) lazy.shape);
-  }
+names_table set table over = record { cells = ap (map cell_name) over.cells; priors = ap
+    (map tracked_name) over.tracked }
 
 -- a course with other names is the same course
 abbrev pub with_shape : Inside → LazyShape → Inside
-with_shape t shape = record { set = t.set; shape = shape; said = t.said; table = t.table; runs = t.runs; rests = t.rests; presence = t.presence; line_rests = t.line_rests; size = t.size; count = t.count; last = t.last }
+with_shape t shape = record { set = t.set; shape = shape; said = t.said; table = t.table; runs =
+    t.runs; rests = t.rests; presence = t.presence; line_rests = t.line_rests; size =
+        t.size; count = t.count; last = t.last }
 
-pub named_course : (t : Inside) (is : IsCourse t) (shape : LazyShape) → MakesNames (shape_of (set_contents t.set)) t.shape shape → IsCourse (with_shape t shape)
+pub named_course : (t : Inside) (is : IsCourse t) (shape : LazyShape)
+    → MakesNames (shape_of (set_contents t.set)) t.shape shape → IsCourse (with_shape t shape)
 named_course t is shape made = record {
   script = is.script;
   limits = is.limits;
@@ -65,9 +49,11 @@ named_course t is shape made = record {
 }
 
 -- what a call that makes the names of a course does to its shape
-pub course_made : (t : Inside) (is : IsCourse t) (shape : LazyShape) → ((whole : ShapeContents) → IsLazy whole t.shape → NamesTable t.table whole → MakesNames whole t.shape shape)
+pub course_made : (t : Inside) (is : IsCourse t) (shape : LazyShape)
+    → ((whole : ShapeContents) → IsLazy whole t.shape → NamesTable t.table whole → MakesNames whole t.shape shape)
     → MakesNames (shape_of (set_contents t.set)) t.shape shape
-course_made t is shape makes = makes (shape_of (set_contents t.set)) is.lazy (names_table (set_contents t.set) t.table is.over)
+course_made t is shape makes = makes (shape_of (set_contents t.set)) is.lazy
+    (names_table (set_contents t.set) t.table is.over)
 
 -- what a file says of a shape has as many numbers as its table, and few
 pub record FitNumbers (table : TableSeen) (cells priors : List ℕ) : Type 0 where
@@ -76,12 +62,16 @@ pub record FitNumbers (table : TableSeen) (cells priors : List ℕ) : Type 0 whe
   pub few_cells : length cells < 2 ^ 32
   pub few_priors : length priors < 2 ^ 32
 
-pub numbers_fit : (t : Inside) (is : IsCourse t) (shape : LazyShape) → MakesNames (shape_of (set_contents t.set)) t.shape shape → (said : Said) → IsRoom (shape_contents shape.shape) said
+pub numbers_fit : (t : Inside) (is : IsCourse t) (shape : LazyShape)
+    → MakesNames (shape_of (set_contents t.set)) t.shape shape → (said : Said)
+    → IsRoom (shape_contents shape.shape) said
     → FitNumbers t.table said.cells.items said.priors.items
 numbers_fit t is shape made said room =
     let set = set_contents t.set in
-    let cells : length said.cells.items ≡ length (shape_of set).cells = room.cells ∙ ap (λ (s : ShapeContents). length s.cells) made.whole_now.same in
-    let priors : length said.priors.items ≡ length (shape_of set).priors = room.priors ∙ ap (λ (s : ShapeContents). length s.priors) made.whole_now.same in
+    let cells : length said.cells.items ≡ length (shape_of set).cells = room.cells
+        ∙ ap (λ (s : ShapeContents). length s.cells) made.whole_now.same in
+    let priors : length said.priors.items ≡ length (shape_of set).priors = room.priors
+        ∙ ap (λ (s : ShapeContents). length s.priors) made.whole_now.same in
     record {
       cells_many = cells ∙ length-map (set_cells set) cell_name ∙ sym is.over.cells_many;
       priors_many = priors ∙ length-map (set_tracked set) tracked_name ∙ sym is.over.priors_many;
@@ -90,23 +80,32 @@ numbers_fit t is shape made said room =
     }
 
 -- items, names and presence of a shape are paired whatever its names of cells and tracked masks are
-pub paired_lazy : (whole : ShapeContents) (shape : Shape) (cells priors : List Name) → shape_contents shape ≡ with_names whole cells priors → IsPaired whole → IsPaired (shape_contents shape)
-paired_lazy whole shape cells priors same paired = subst IsPaired (sym same) (record { few = paired.few; items = paired.items; presence = paired.presence })
+pub paired_lazy : (whole : ShapeContents) (shape : Shape) (cells priors : List Name)
+    → shape_contents shape ≡ with_names whole cells priors → IsPaired whole → IsPaired (shape_contents shape)
+paired_lazy whole shape cells priors same paired = subst IsPaired (sym same)
+    (record { few = paired.few; items = paired.items; presence = paired.presence })
 
 -- how long a progress file is depends on how many names there are
-pub length_lazy : (whole : ShapeContents) (t : LazyShape) → IsLazy whole t → length_of (shape_contents t.shape) ≡ length_of whole
+pub length_lazy : (whole : ShapeContents) (t : LazyShape) → IsLazy whole t
+    → length_of (shape_contents t.shape) ≡ length_of whole
 length_lazy whole t lazy =
     ap length_of lazy.shape
-    ∙ (λ i. 57 + 20 * (lazy.room.cells i + lazy.room.priors i + length (own_entries whole)) + sum_by own_length (own_entries whole))
+    ∙ (λ i. 57 + 20 * (lazy.room.cells i + lazy.room.priors i + length (own_entries whole)) + sum_by
+    own_length (own_entries whole))
 
 -- a shape whose names were put, and whose orders are those of its names, is the whole one
-pub made_names : (whole : ShapeContents) (t u : LazyShape) → IsLazy whole t → shape_contents u.shape ≡ with_names (shape_contents t.shape) u.shape.cells.items u.shape.priors.items
-    → u.shape.cells.items ≡ whole.cells → u.shape.priors.items ≡ whole.priors → IsOrder u.shape.cells.items u.shape.cell_order.items → IsOrder u.shape.priors.items u.shape.prior_order.items
-    → length u.shape.cell_order.items ≡ length t.shape.cell_order.items → length u.shape.prior_order.items ≡ length t.shape.prior_order.items
-    → u.shape.entry_order.items ≡ t.shape.entry_order.items → u.orders ≡ t.orders → u.room ≡ t.room → MakesNames whole t u
+pub made_names : (whole : ShapeContents) (t u : LazyShape) → IsLazy whole t
+    → shape_contents u.shape ≡ with_names (shape_contents t.shape) u.shape.cells.items u.shape.priors.items
+    → u.shape.cells.items ≡ whole.cells → u.shape.priors.items ≡ whole.priors
+    → IsOrder u.shape.cells.items u.shape.cell_order.items → IsOrder u.shape.priors.items u.shape.prior_order.items
+    → length u.shape.cell_order.items ≡ length t.shape.cell_order.items
+    → length u.shape.prior_order.items ≡ length t.shape.prior_order.items
+    → u.shape.entry_order.items ≡ t.shape.entry_order.items → u.orders ≡ t.orders → u.room ≡ t.room
+    → MakesNames whole t u
 made_names whole t u lazy other cells priors cell_order prior_order many_cells many_priors entries orders room =
     let same : shape_contents u.shape ≡ whole = other ∙ (λ i. with_names (lazy.shape i) (cells i) (priors i)) in
-    let ordered : IsOrder (entry_names whole) u.shape.entry_order.items = subst (IsOrder (entry_names whole)) (sym entries) lazy.entries in
+    let ordered : IsOrder (entry_names whole) u.shape.entry_order.items = subst
+        (IsOrder (entry_names whole)) (sym entries) lazy.entries in
     let is : IsWhole whole u.shape = record {
       same = same;
       usable = record {
@@ -141,15 +140,23 @@ made_names whole t u lazy other cells priors cell_order prior_order many_cells m
     }
 
 -- a shape without names, with as many as its table has cells and tracked masks, stands for that of the set
-pub new_lazy : (set : SetContents) (table : TableSeen) (u : LazyShape) (s : Shape) → IsOver set table → u.shape ≡ s → shape_contents s ≡ with_names (shape_of set) s.cells.items s.priors.items
-    → length s.cells.items ≡ length table.cells → length s.priors.items ≡ length table.priors → length s.cell_order.items ≡ length table.cells → length s.prior_order.items ≡ length table.priors
-    → IsOrder (entry_names (shape_of set)) s.entry_order.items → IsPaired (shape_of set) → length_of (shape_of set) ≤ 8388608
-    → u.named ≡ false → length s.cells.items ≤ u.orders → length s.priors.items ≤ u.orders → u.orders ≤ 2 ^ 32 → IsLazy (shape_of set) u
-new_lazy set table u s over same shape cells priors cell_order prior_order entries paired short unnamed few_cells few_priors few =
-    let many_cells : length table.cells ≡ length (shape_of set).cells = over.cells_many ∙ sym (length-map (set_cells set) cell_name) in
-    let many_priors : length table.priors ≡ length (shape_of set).priors = over.priors_many ∙ sym (length-map (set_tracked set) tracked_name) in
+pub new_lazy : (set : SetContents) (table : TableSeen) (u : LazyShape) (s : Shape)
+    → IsOver set table → u.shape ≡ s → shape_contents s ≡ with_names (shape_of set) s.cells.items s.priors.items
+    → length s.cells.items ≡ length table.cells → length s.priors.items ≡ length table.priors
+    → length s.cell_order.items ≡ length table.cells → length s.prior_order.items ≡ length table.priors
+    → IsOrder (entry_names (shape_of set)) s.entry_order.items → IsPaired (shape_of set)
+    → length_of (shape_of set) ≤ 8388608
+    → u.named ≡ false → length s.cells.items ≤ u.orders → length s.priors.items ≤ u.orders
+    → u.orders ≤ 2 ^ 32 → IsLazy (shape_of set) u
+new_lazy set table u s over same shape cells priors cell_order prior_order entries paired short
+    unnamed few_cells few_priors few =
+    let many_cells : length table.cells ≡ length (shape_of set).cells = over.cells_many
+        ∙ sym (length-map (set_cells set) cell_name) in
+    let many_priors : length table.priors ≡ length (shape_of set).priors = over.priors_many
+        ∙ sym (length-map (set_tracked set) tracked_name) in
     record {
-      shape = subst (λ (x : Shape). shape_contents x ≡ with_names (shape_of set) x.cells.items x.priors.items) (sym same) shape;
+      shape = subst (λ (x : Shape). shape_contents x ≡ with_names
+          (shape_of set) x.cells.items x.priors.items) (sym same) shape;
       paired = paired;
       entries = subst (λ (x : Shape). IsOrder (entry_names (shape_of set)) x.entry_order.items) (sym same) entries;
       short = short;
@@ -175,23 +182,29 @@ pub record HasOwnRoom (t u : LazyShape) : Type 0 where
   pub priors : length u.shape.priors.items ≤ u.orders
   pub few : u.orders ≤ 2 ^ 32
 
-pub own_room : (table : TableSeen) (t u : LazyShape) (s : Shape) → MayName table t → IsCopy t.shape s → u.shape ≡ s → length s.cells.items ≤ u.orders → length s.priors.items ≤ u.orders
+pub own_room : (table : TableSeen) (t u : LazyShape) (s : Shape) → MayName table t
+    → IsCopy t.shape s → u.shape ≡ s → length s.cells.items ≤ u.orders → length s.priors.items ≤ u.orders
     → (length s.cells.items ≤ 2 ^ 32 → length s.priors.items ≤ 2 ^ 32 → u.orders ≤ 2 ^ 32) → HasOwnRoom t u
 own_room table t u s may copy same cells priors few = record {
   copy = subst (IsCopy t.shape) (sym same) copy;
   cells = subst (λ (x : Shape). length x.cells.items ≤ u.orders) (sym same) cells;
   priors = subst (λ (x : Shape). length x.priors.items ≤ u.orders) (sym same) priors;
-  few = few (omega (arith, ap (λ (x : ShapeContents). length x.cells) copy.same, may.cells, may.few_cells, may.few)) (omega (arith, ap (λ (x : ShapeContents). length x.priors) copy.same, may.priors, may.few_priors, may.few));
+  few = few (omega (arith, ap (λ (x : ShapeContents). length x.cells) copy.same, may.cells,
+      may.few_cells, may.few)) (omega (arith, ap (λ (x : ShapeContents). length x.priors) copy.same,
+          may.priors, may.few_priors, may.few));
 }
 
 -- a copy of which no name is made stands for the same shape, and names the same table
 module _ (t u : LazyShape) (own : HasOwnRoom t u) where
-  as_many : (length u.shape.cells.items ≡ length t.shape.cells.items) × (length u.shape.priors.items ≡ length t.shape.priors.items)
-  as_many = (ap (λ (s : ShapeContents). length s.cells) own.copy.same, ap (λ (s : ShapeContents). length s.priors) own.copy.same)
+  as_many : (length u.shape.cells.items ≡ length t.shape.cells.items) ×
+      (length u.shape.priors.items ≡ length t.shape.priors.items)
+  as_many = (ap (λ (s : ShapeContents). length s.cells) own.copy.same, ap
+      (λ (s : ShapeContents). length s.priors) own.copy.same)
 
   pub lazy_copy : (whole : ShapeContents) → IsLazy whole t → u.named ≡ false → IsLazy whole u
   lazy_copy whole lazy unnamed = record {
-    shape = own.copy.same ∙ lazy.shape ∙ (λ i. with_names whole (sym own.copy.same i).cells (sym own.copy.same i).priors);
+    shape = own.copy.same ∙ lazy.shape ∙ (λ i. with_names whole (sym own.copy.same i).cells
+        (sym own.copy.same i).priors);
     paired = lazy.paired;
     entries = subst (IsOrder (entry_names whole)) (sym own.copy.entry_order) lazy.entries;
     short = lazy.short;

@@ -1,4 +1,5 @@
 pub mod CellLemmas
+pub mod CourseFrame
 pub mod CurrentLemmas
 pub mod EarnedCourses
 pub mod FrameLemmas
@@ -7,8 +8,10 @@ pub mod KeptRows
 pub mod LaidShapes
 pub mod LazyNames
 pub mod LineLemmas
+pub mod MadeBlocks
 pub mod MadeLemmas
 pub mod MarkedLemmas
+pub mod PutBack
 pub mod Results
 pub mod SavedOpening
 pub mod ShowLemmas
