@@ -46,7 +46,7 @@ module _ (nodes : List Node) (pool : IsPool nodes) where
       → tracked_of_mask nodes m ≡ tracked_of_mask nodes m' → m ≡ m'
   mask_same m m' left right same =
       let cells : spelled_at spelled m.cell ≡ spelled_at spelled m'.cell = left.1
-          ∙ ap (λ t. IsCell t.cell) same ∙ sym right.1 in
+      ∙ ap (λ t. IsCell t.cell) same ∙ sym right.1 in
       let numbers : m.cell ≡ m'.cell = all_alone nodes pool m'.cell right.0 m.cell left.0 cells in
       (λ i. record { cell = numbers i; mask = (same i).mask })
 
@@ -57,8 +57,12 @@ module _ (nodes : List Node) (pool : IsPool nodes) where
       let within : has.0 < length masks = omega (arith, has.1, length-map masks (tracked_of_mask nodes)) in
       let there = get_or masks has.0 m in
       let same = sym (get_or-map (tracked_of_mask nodes) masks has.0 m (tracked_of_mask nodes m) within) ∙ has.2 in
-      absent (has.0, within, mask_same (get_or masks has.0 m) m
-          (valid (get_or masks has.0 m) (Contains-get_or masks has.0 m within)) is same)
+      absent (
+        has.0,
+        within,
+        mask_same (get_or masks has.0 m) m
+            (valid (get_or masks has.0 m) (Contains-get_or masks has.0 m within)) is same,
+      )
 
   -- what a node adds
   record Lays (places : List ℕ) (masks : List TrackedMask) (node : Node) (slot k : ℕ) : Type 0 where
@@ -123,9 +127,9 @@ module _ (nodes : List Node) (pool : IsPool nodes) where
       lays_prior : Interns masks masks' mask slot → Lays places' masks' (View Prior size c) slot k
       lays_prior (inl found) =
           let stands : slice_get (tracked_before spelled k) slot ≡ Some
-              (tracked_there spelled size c) = ap (λ ts. slice_get ts slot) laying.masked
-              ∙ slice_get-map (tracked_of_mask nodes) masks slot
-              ∙ ap (option_map (tracked_of_mask nodes)) found.stands in
+          (tracked_there spelled size c) = ap (λ ts. slice_get ts slot) laying.masked
+          ∙ slice_get-map (tracked_of_mask nodes) masks slot
+          ∙ ap (option_map (tracked_of_mask nodes)) found.stands in
           record {
             placed = still_placed;
             masked = more ∙ found_more same_tracked tracked_is tracked_itself
@@ -140,13 +144,16 @@ module _ (nodes : List Node) (pool : IsPool nodes) where
           }
       lays_prior (inr fresh) =
           let absent : Contains (tracked_before spelled k) (tracked_there spelled size c)
-              → ⊥ = λ there. absent_too masks mask laying.of_cells of_cell fresh.absent
-              (subst (λ ts. Contains ts (tracked_there spelled size c)) laying.masked there) in
+          → ⊥ = λ there. absent_too masks mask laying.of_cells of_cell fresh.absent
+          (subst (λ ts. Contains ts (tracked_there spelled size c)) laying.masked there) in
           let last : slot ≡ length (tracked_before spelled k) = fresh.last
-              ∙ sym (ap length laying.masked ∙ length-map masks (tracked_of_mask nodes)) in
+          ∙ sym (ap length laying.masked ∙ length-map masks (tracked_of_mask nodes)) in
           let either : (m : TrackedMask) → (Contains masks m) ⊎ (mask ≡ m)
-              → IsOfCell nodes m = λ m there. elim there [ inl old ↦ laying.of_cells m old | inr
-              here ↦ subst (IsOfCell nodes) here of_cell ] in
+          → IsOfCell nodes m = λ m there. elim there [
+            | inl old ↦ laying.of_cells m old
+            | inr
+                here ↦ subst (IsOfCell nodes) here of_cell
+          ] in
           record {
             placed = still_placed;
             masked = more ∙ fresh_more same_tracked tracked_is tracked_itself
@@ -169,7 +176,7 @@ module _ (nodes : List Node) (pool : IsPool nodes) where
         (spelled_with spelled (Const n)) tt is refl refl takes.0 takes.1
     lays (CellNode pointer offset width) may is takes =
         lays_cell _ (CellNode pointer offset width) (takes.0 ∙ ap length laying.placed
-            ∙ length-map (cells_before spelled k) (λ d. d.address)) is takes.1 takes.2
+        ∙ length-map (cells_before spelled k) (λ d. d.address)) is takes.1 takes.2
     lays (View Prior size c) may is takes =
         lays_prior size c may.0 (cell_at_cell nodes pool (width_of size) c may.0 may.1) is takes.0 takes.1
     lays (View Mem size c) may is takes = lays_nothing (View Mem size c) _ tt is refl
@@ -187,10 +194,10 @@ module _ (nodes : List Node) (pool : IsPool nodes) where
         → (n < k) ⊎ (n ≡ k) → HasSlot spelled n (node_at nodes n) (get_or (slots ++ slot ∷ []) n 0)
     each_by node same has n (inl below) =
         subst (HasSlot spelled n (node_at nodes n)) (sym
-            (get_or_append_left slots (slot ∷ []) 0 n (omega (arith, laying.as_many)))) (laying.each n below)
+        (get_or_append_left slots (slot ∷ []) 0 n (omega (arith, laying.as_many)))) (laying.each n below)
     each_by node same has n (inr last) =
         let here : get_or (slots ++ slot ∷ []) n 0 ≡ slot = ap
-            (λ i. get_or (slots ++ slot ∷ []) i 0) (last ∙ sym laying.as_many) ∙ get_or-append_seam slots slot [] 0 in
+        (λ i. get_or (slots ++ slot ∷ []) i 0) (last ∙ sym laying.as_many) ∙ get_or-append_seam slots slot [] 0 in
         subst (HasSlot spelled n (node_at nodes n)) (sym here)
         (subst (λ m. HasSlot spelled m (node_at nodes m) slot) (sym last)
         (subst (λ x. HasSlot spelled k x slot) same has))
@@ -201,7 +208,7 @@ module _ (nodes : List Node) (pool : IsPool nodes) where
     laying_more node same takes =
         let may : MayFollow nodes node = subst (MayFollow nodes) (sym same) (may_follow nodes pool k within) in
         let is : spelled_at spelled k ≡ spelled_with spelled node = spelled_of nodes pool k within
-            ∙ ap (spelled_with spelled) (sym same) in
+        ∙ ap (spelled_with spelled) (sym same) in
         let one = lays node may is takes in
         let next : suc k ≡ k + 1 = omega arith in
         subst (IsLaying nodes (slots ++ slot ∷ []) places' masks') next

@@ -47,18 +47,17 @@ unmarked_in (mark ∷ marks) a f each =
     let here : a ≡ a + 0 = omega arith in
     let first : f a ≡ cond (not mark) 1 0 = ap f here ∙ each zero ∙ one_of mark in
     let rest = unmarked_in marks (a + 1) f (λ i. (let later : a + 1 + i ≡ a + suc i =
-        omega arith in ap f later ∙ each (suc i))) in
+    omega arith in ap f later ∙ each (suc i))) in
     let both : f a + sum_by f (range_with_len (a + 1) (length marks)) ≡ cond
-        (not mark) 1 0 + count_by not marks = omega (arith, first, rest) in
+    (not mark) 1 0 + count_by not marks = omega (arith, first, rest) in
     sum_by-cons f a (range_with_len (a + 1) (length marks)) ∙ both
-        ∙ sym (sum_by-cons (λ m. cond (not m) 1 0) mark marks)
+    ∙ sym (sum_by-cons (λ m. cond (not m) 1 0) mark marks)
   where
     one_of : (mark : Bool) → ◌≡◌ {A = ℕ} (if mark then 0 else 1) (cond (not mark) 1 0)
     one_of true = refl
     one_of false = refl
 
 module _ (n : ℕ) (order : List ℕ) (is : IsOrder n order) where
-
   -- each is the number of a cell
   pub order_below : (i d : ℕ) → i < length order → get_or order i d < n
   order_below =
@@ -115,7 +114,7 @@ module _ (n : ℕ) (order : List ℕ) (is : IsOrder n order) (old now : List Boo
   visited_more next long here apart =
       let cell = get_or order i 0 in
       let more : (k : ℕ) → sum_by (one_for k) (take (i + 1) order) ≡ sum_by (one_for k)
-          (take i order) + one_for k cell = λ k. sum_by_more (one_for k) order i 0 below in
+      (take i order) + one_for k cell = λ k. sum_by_more (one_for k) order i 0 below in
       record {
         long = long ∙ part.long;
         visited = λ k some. elim (cases_eq k cell) [
@@ -135,7 +134,7 @@ pub visited_all : (n : ℕ) (order : List ℕ) → IsOrder n order
     → AreVisited old now test (take i order) → (k : ℕ) → k < n → get_or now k true ≡ (get_or old k true || test k)
 visited_all n order is old now test i end all k below =
     let whole : sum_by (one_for k) (take i order) ≡ 1 = ap (sum_by (one_for k))
-        (take_all i order end) ∙ order_once n order is k below in
+    (take_all i order end) ∙ order_once n order is k below in
     all.visited k (omega (arith, whole))
 
 -- one number more

@@ -29,8 +29,12 @@ node_of_cell node k = elim (eqb_tells (node / 2) k) [
     | inr z ↦ rw (e.0, z.0, eq-eqb node (2 * k + 1) (omega (arith, e.1, z.1))) refl
   ]
   | inr n ↦
-      rw (n.0, ne_eqb node (2 * k) (λ z. n.1 (omega (arith, z))), ne_eqb node (2 * k + 1)
-          (λ z. n.1 (omega (arith, z)))) refl
+      rw (
+        n.0,
+        ne_eqb node (2 * k) (λ z. n.1 (omega (arith, z))),
+        ne_eqb node (2 * k + 1)
+            (λ z. n.1 (omega (arith, z))),
+      ) refl
 ]
 
 mixed : (a b c d : Bool) → ((a || b) || (c || d)) ≡ ((a || c) || (b || d))
@@ -43,7 +47,7 @@ cell_on_holds : (k : ℕ) (row : List ℕ) → cell_on k row ≡ (holds (2 * k) 
 cell_on_holds k [] = refl
 cell_on_holds k (x ∷ row) =
     rw (node_of_cell x k, cell_on_holds k row) (mixed (x == 2 * k) (x == 2 * k + 1)
-        (holds (2 * k) row) (holds (2 * k + 1) row))
+    (holds (2 * k) row) (holds (2 * k + 1) row))
 
 -- what is found to hold a node holds it
 found_by : (number node q : ℕ) (row : List ℕ) (lists : List (List ℕ))
@@ -82,12 +86,12 @@ module _ (pages : Rows) (once : IsOnce pages) (page : ℕ) (below : page < lengt
   holds_at node =
       let there : holds node (row_at pages.lists page) ≡ true → is_at (holder_of pages.lists node) page ≡ true = λ held.
       let found : holder_of pages.lists node ≡ Some (0 + page) =
-          holder_some 0 pages.lists node page below (In_holds node (row_at pages.lists page) held)
-              (λ k small h. once.one_list k page node (holds_In node (row_at pages.lists k) h) held) in
+      holder_some 0 pages.lists node page below (In_holds node (row_at pages.lists page) held)
+      (λ k small h. once.one_list k page node (holds_In node (row_at pages.lists k) h) held) in
       let here : 0 + page ≡ page = omega arith in
       rw (found, here) (eq-eqb page page refl) in
       same_tests (holds node (row_at pages.lists page))
-          (is_at (holder_of pages.lists node) page) there (λ is. at_by node (holder_of pages.lists node) refl is)
+      (is_at (holder_of pages.lists node) page) there (λ is. at_by node (holder_of pages.lists node) refl is)
 
   -- a cell is on the list of the page where one of its nodes is
   pub on_list : (k : ℕ) → cell_on k (row_at pages.lists page) ≡ (is_at
@@ -220,7 +224,7 @@ module _ (size place width at count : ℕ) (some : 0 < count) (few : width ≤ 4
   watches_to k is =
       let both = and_parts (nat_lt k size) (touches at count (page_of k)) is in
       let inner = and_parts (nat_lt 0 count) (nat_le (page_of at) (page_of k) && nat_le (page_of k)
-          (page_of (at + count - 1))) both.1 in
+      (page_of (at + count - 1))) both.1 in
       let last = and_parts (nat_le (page_of at) (page_of k)) (nat_le (page_of k) (page_of (at + count - 1))) inner.1 in
       let high : page_of k ≤ page_of (at + count - 1) = leb-true (page_of k) (page_of (at + count - 1)) last.1 in
       (ltb-true k size both.0, leb-true (page_of at) (page_of k) last.0, omega (arith, high))
@@ -238,19 +242,19 @@ module _ (size place width at count : ℕ) (some : 0 < count) (few : width ≤ 4
             let low : from ≤ place / 16 = omega (arith, told.1, e) in
             let high : place / 16 < to = omega (arith, told.2, e) in
             let here : is_between from to (first_page size place) ≡ true = ap (is_between from to)
-                (first_some size place (omega (arith, found.1, told.0))) ∙ between_true from to (place / 16) low high in
+            (first_some size place (omega (arith, found.1, told.0))) ∙ between_true from to (place / 16) low high in
             or_left (is_between from to (first_page size place))
-                (is_between from to (second_page size place width)) here
+            (is_between from to (second_page size place width)) here
         | inr n ↦
             let same : (place + width - 1) / 16 ≡ k / 16 = omega (arith, n, found.1, found.2, few, one) in
             let below : (place + width - 1) / 16 < pages_of size = omega (arith, same, told.0) in
             let here : is_between from to (second_page size place width) ≡ true = ap
-                (is_between from to) (second_some ((place + width - 1) / 16) (place / 16)
-                (pages_of size) (λ e. n (sym same ∙ e)) below)
-                ∙ between_true from to ((place + width - 1) / 16) (omega (arith, same, told.1))
-                (omega (arith, same, told.2)) in
+            (is_between from to) (second_some ((place + width - 1) / 16) (place / 16)
+            (pages_of size) (λ e. n (sym same ∙ e)) below)
+            ∙ between_true from to ((place + width - 1) / 16) (omega (arith, same, told.1))
+            (omega (arith, same, told.2)) in
             or_right (is_between from to (first_page size place))
-                (is_between from to (second_page size place width)) here
+            (is_between from to (second_page size place width)) here
       ]
 
   backward_first : is_between from to (first_page size place) ≡ true → is_watched size place width at count ≡ true
@@ -258,7 +262,7 @@ module _ (size place width at count : ℕ) (some : 0 < count) (few : width ≤ 4
       let page = between_is from to (first_page size place) is in
       let here = first_is size place page.0 page.1 in
       in_range_found watches place width place (omega arith) (omega (arith, one))
-          (watches_from place here.0 (omega (arith, here.1, page.2)) (omega (arith, here.1, page.3)))
+      (watches_from place here.0 (omega (arith, here.1, page.2)) (omega (arith, here.1, page.3)))
 
   backward_second : is_between from to (second_page size place width) ≡ true
       → is_watched size place width at count ≡ true
@@ -271,14 +275,14 @@ module _ (size place width at count : ℕ) (some : 0 < count) (few : width ≤ 4
       let high : k < place + width = omega (arith, one) in
       let there : k < size = omega (arith, here.1) in
       in_range_found watches place width k low high (watches_from k there
-          (omega (arith, is_page, here.2, page.2)) (omega (arith, is_page, here.2, page.3)))
+      (omega (arith, is_page, here.2, page.2)) (omega (arith, is_page, here.2, page.3)))
 
   pub watched_is : is_watched size place width at count ≡ both_pages
   watched_is =
       let back : both_pages ≡ true → is_watched size place width at count ≡ true =
-          λ is. elim (or_cases (is_between from to (first_page size place))
-              (is_between from to (second_page size place width)) is)
-              [ inl a ↦ backward_first a | inr b ↦ backward_second b ] in
+      λ is. elim (or_cases (is_between from to (first_page size place))
+      (is_between from to (second_page size place width)) is)
+      [ inl a ↦ backward_first a | inr b ↦ backward_second b ] in
       same_tests (is_watched size place width at count) both_pages forward back
 
 -- an empty write is watched by no cell
@@ -288,5 +292,5 @@ watched_none size place width at = same_tests (is_watched size place width at 0)
     let found = found_in_range (λ k. nat_lt k size && touches at 0 (page_of k)) place width is in
     let both = and_parts (nat_lt found.0 size) (touches at 0 (page_of found.0)) found.3 in
     let some : 0 < 0 = ltb-true 0 0 (and_parts (nat_lt 0 0)
-        (nat_le (page_of at) (page_of found.0) && nat_le (page_of found.0) (page_of (at + 0 - 1))) both.1).0 in
+    (nat_le (page_of at) (page_of found.0) && nat_le (page_of found.0) (page_of (at + 0 - 1))) both.1).0 in
     absurd (omega (arith, some))) (λ is. absurd (false≢true is))

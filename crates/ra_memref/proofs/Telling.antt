@@ -69,18 +69,18 @@ module _ (old now : Inside) (first page : ℕ) (marks : List Bool)
 
   one_more : ((k : ℕ) → k < length now.marks → get_or marks k
       true ≡ (get_or now.marks k true || (is_at (holder_of now.pages.lists (2 * k)) page || is_at
-          (holder_of now.pages.lists (2 * k + 1)) page))) → (k : ℕ) → k < length old.places.items
-          → get_or marks k true ≡ (get_or old.marks k true || is_told old first (page + 1) k)
+      (holder_of now.pages.lists (2 * k + 1)) page))) → (k : ℕ) → k < length old.places.items
+      → get_or marks k true ≡ (get_or old.marks k true || is_told old first (page + 1) k)
   one_more marked k below =
       let stands = subst (λ n. StandsAt old.pages.lists n k (slice_index old.places.items k)
-          (slice_index old.widths.items k)) whole (is.stands k below) in
+      (slice_index old.widths.items k)) whole (is.stands k below) in
       let lists : now.pages.lists ≡ old.pages.lists = ap (λ t. t.pages.lists) telling.same in
       let first_at : is_at (holder_of now.pages.lists (2 * k)) page ≡ is_at
-          (first_page old.size (slice_index old.places.items k)) page = ap (λ o. is_at o page)
-          (ap (λ ls. holder_of ls (2 * k)) lists ∙ stands.first) in
+      (first_page old.size (slice_index old.places.items k)) page = ap (λ o. is_at o page)
+      (ap (λ ls. holder_of ls (2 * k)) lists ∙ stands.first) in
       let second_at : is_at (holder_of now.pages.lists (2 * k + 1)) page ≡ is_at
-          (second_page old.size (slice_index old.places.items k) (slice_index old.widths.items k))
-          page = ap (λ o. is_at o page) (ap (λ ls. holder_of ls (2 * k + 1)) lists ∙ stands.second) in
+      (second_page old.size (slice_index old.places.items k) (slice_index old.widths.items k))
+      page = ap (λ o. is_at o page) (ap (λ ls. holder_of ls (2 * k + 1)) lists ∙ stands.second) in
       ap (λ ms. get_or ms k true) marks_after_page
       ∙ marked k (omega (arith, below, telling.long, is.marks_too))
       ∙ ap (λ b. b || (is_at (holder_of now.pages.lists (2 * k)) page || is_at
@@ -134,8 +134,8 @@ told_all old now seen at count view_is is some telling =
       marked = λ k below.
           let wide = at_most_four (slice_index old.widths.items k) (is.wide k below) in
           let watched = telling.marked k below ∙ ap (λ b. get_or old.marks k true || b)
-              (sym (watched_is old.size (slice_index old.places.items k)
-              (slice_index old.widths.items k) at count some wide.1 wide.0)) in
+          (sym (watched_is old.size (slice_index old.places.items k)
+          (slice_index old.widths.items k) at count some wide.1 wide.0)) in
           ap (λ b. get_or (marked_by b now.marks) k true) flag
           ∙ told_by_flag old.all old.marks now.marks k (is_watched old.size
           (slice_index old.places.items k) (slice_index old.widths.items k) at count) watched;

@@ -146,6 +146,10 @@ module _ {p : NodePlan} {old now : NumbersSeen} {begun image : Shown} {k : ℕ} 
         (image.reads - begun.reads) taken_all
 
     pub way_counted : image.reads ≡ begun.reads + reads_of old.watches.marked old.watches.places now.watches.places
-    way_counted = omega (arith, counted p.nodes.now done.plan.pool p.slots.now done.plan.laid
-        begun.bytes old done.sized now
-        (image.reads - begun.reads) taken_all, done.risen)
+    way_counted = omega (
+      arith,
+      counted p.nodes.now done.plan.pool p.slots.now done.plan.laid
+          begun.bytes old done.sized now
+          (image.reads - begun.reads) taken_all,
+      done.risen,
+    )

@@ -1,5 +1,4 @@
-use Rattle.std.proofs.Common.{not, ◌==◌, ap, ap₂, sym, ◌∙◌, refl, arith, length}
-use Rattle.std.proofs.lemmas.Bool.{false≢true}
+use Rattle.std.proofs.Common.{not, ◌==◌, ap, ap₂, ◌∙◌, refl, arith, length}
 use Rattle.ra_memref.proofs.UnderWay.{under_way, way_first, way_end, within_way, agreed_way, settled_way, way_on}
 use Rattle.ra_memref.proofs.UnderWay.{way_taken, way_noted, way_counted}
 use Rattle.ra_memref.proofs.DueLemmas.{settled_to}
@@ -45,7 +44,7 @@ loop-due-preserved g c =
       way = rw c.note.ensures (way_on way (omega (arith, c.in-Some.ensures.first.within, done.dues)) e.taken e.bytes
           e.counter e.reads e.changed);
       idle = λ some. e.idle;
-      start = λ all. absurd (false≢true (sym c.loop-due-test.true ∙ all));
+      start = λ all. cc (all, c.loop-due-test.true);
       dues = e.dues ∙ ap length c.next_from.ensures.same ∙ done.dues;
     }
 
