@@ -31,7 +31,7 @@ module _ (t : TriggerContents) (behind : List (List (List Bool))) (row : List Bo
       → slot_kept (counts_of t) (with_row behind row before) slot ≡ slot_kept (counts_of t) behind slot
   kept_stays slot within =
       ap (λ rows. record (slot_kept (counts_of t) behind slot) { rows = rows })
-          (rows_stay behind row before slot.latest within)
+      (rows_stay behind row before slot.latest within)
 
   fits_stay : (slot : Slot) → FitsSlot t behind slot → FitsSlot t (with_row behind row before) slot
   fits_stay slot fits = record {
@@ -114,19 +114,23 @@ pub slot_of : (table : TableSeen) (trigger : TriggerKept) (slot : Slot) → slot
 slot_of table trigger slot state measured hits numbers hits_fit cells_fit priors_fit = record {
   kept = λ n behind counts.
       let hits_here : Stands slot.hits.items 0 (words trigger.hits) =
-          record { behind = []; here = hits ∙ sym (append-nil (words trigger.hits)) } in
+      record { behind = []; here = hits ∙ sym (append-nil (words trigger.hits)) } in
       let all_here : Stands slot.numbers.items 0 (words table.cells ++ words table.priors) =
-          record { behind = []; here = numbers ∙ sym (append-nil (words table.cells ++ words table.priors)) } in
+      record { behind = []; here = numbers ∙ sym (append-nil (words table.cells ++ words table.priors)) } in
       let cells_here = stands_first slot.numbers.items 0 (words table.cells) (words table.priors) all_here in
       let far : 4 * n.cells ≡ 0 + length (words table.cells) = omega (arith, counts.cells, length_words table.cells) in
       let priors_here = stands_next slot.numbers.items 0 (4 * n.cells) (words table.cells)
-          (words table.priors) far all_here in
+      (words table.priors) far all_here in
       let again = stands_words slot.hits.items 0 n.hits trigger.hits counts.hits hits_fit hits_here in
       let cells = stands_words slot.numbers.items 0 n.cells table.cells counts.cells cells_fit cells_here in
       let priors = stands_words slot.numbers.items (4 * n.cells) n.priors table.priors counts.priors
-          priors_fit priors_here in
-      (λ i. record { trigger = record { state = state i; measured = measured i; hits = again i };
-      cells = cells i; priors = priors i; rows = rows_from behind slot.latest });
+      priors_fit priors_here in
+      (λ i. record {
+        trigger = record { state = state i; measured = measured i; hits = again i };
+        cells = cells i;
+        priors = priors i;
+        rows = rows_from behind slot.latest;
+      });
   hits = ap length hits ∙ length_words trigger.hits;
   numbers = let both = length-append (words table.cells) (words table.priors) in omega
       (arith, ap length numbers, both, length_words table.cells, length_words table.priors);
@@ -139,18 +143,30 @@ pub taken_up : (t : TriggerContents) (old new : TableSeen) (trigger trigger' : T
     → IsPutBack old new (words_at numbers 0 (length old.cells))
     (words_at numbers (4 * length old.cells) (length old.priors)) → numbers ≡ slot.numbers.items
     → hits ≡ slot.hits.items
-    → trigger' ≡ record { state = slot.state; measured = slot.measured; hits = words_at hits 0
-    (length trigger.hits) } → kept_by new trigger' (rows_from behind slot.latest) ≡ slot_kept (counts_of t) behind slot
+    → trigger' ≡ record {
+      state = slot.state;
+      measured = slot.measured;
+      hits = words_at hits 0
+          (length trigger.hits);
+    } → kept_by new trigger' (rows_from behind slot.latest) ≡ slot_kept (counts_of t) behind slot
 taken_up t old new trigger trigger' behind slot numbers hits counts puts is_numbers is_hits is =
     let cells : new.cells ≡ words_at slot.numbers.items 0 (length (trigger_cells t)) =
-        puts.cells_too ∙ ap₂ (λ xs n. words_at xs 0 n) is_numbers counts.cells in
+    puts.cells_too ∙ ap₂ (λ xs n. words_at xs 0 n) is_numbers counts.cells in
     let priors : new.priors ≡ words_at slot.numbers.items (4 * length (trigger_cells t))
-        (length (trigger_tracked t)) = puts.priors_too
-        ∙ (λ i. words_at (is_numbers i) (4 * counts.cells i) (counts.priors i)) in
-    let kept : trigger' ≡ record { state = slot.state; measured = slot.measured; hits =
-        words_at slot.hits.items 0 (trigger_hits t) } = is
-            ∙ (λ i. record { state = slot.state; measured = slot.measured; hits = words_at
-            (is_hits i) 0 (counts.hits i) }) in
+    (length (trigger_tracked t)) = puts.priors_too
+    ∙ (λ i. words_at (is_numbers i) (4 * counts.cells i) (counts.priors i)) in
+    let kept : trigger' ≡ record {
+      state = slot.state;
+      measured = slot.measured;
+      hits =
+          words_at slot.hits.items 0 (trigger_hits t);
+    } = is
+    ∙ (λ i. record {
+      state = slot.state;
+      measured = slot.measured;
+      hits = words_at
+          (is_hits i) 0 (counts.hits i);
+    }) in
     (λ i. record { trigger = kept i; cells = cells i; priors = priors i; rows = rows_from behind slot.latest })
 
 -- what a slot that is there keeps is what is seen of it
@@ -159,7 +175,7 @@ pub slot_is : (t : TriggerContents) (behind : List (List (List Bool))) (slots : 
     → slice_index_or (slots_kept t behind slots) k None ≡ Some kept → slot_kept (counts_of t) behind slot ≡ kept
 slot_is t behind slots k slot kept is holds =
     let both : Some (slot_kept (counts_of t) behind slot) ≡ Some kept = sym
-        (slot_keeps t behind slots k ∙ ap (option_map (slot_kept (counts_of t) behind)) is) ∙ holds in
+    (slot_keeps t behind slots k ∙ ap (option_map (slot_kept (counts_of t) behind)) is) ∙ holds in
     cc
 
 -- what the slots keep where one of them is filled
@@ -181,8 +197,11 @@ some_seen f (Some x) = refl
 -- a slot is filled where something is there
 pub filled_by : (f : Slot → KeptRows) (o : Option Slot) (seen : Option KeptRows) (found : Bool)
     → seen ≡ option_map f o → found ≡ is_some o → IsTrue found ↔ ((kept : KeptRows) × (seen ≡ Some kept))
-filled_by f None seen found is same = (λ h. absurd
-    (false≢true (sym same ∙ h)), λ some. let bad : None ≡ Some some.0 = sym is ∙ some.1 in absurd (cc))
+filled_by f None seen found is same = (
+  λ h. absurd
+      (false≢true (sym same ∙ h)),
+  λ some. let bad : None ≡ Some some.0 = sym is ∙ some.1 in absurd (cc),
+)
 filled_by f (Some slot) seen found is same = (λ h. (f slot, is), λ some. same)
 
 -- ---- what stays for the histories

@@ -40,7 +40,7 @@ states_parts bytes (x ∷ xs) ys =
 pub entries_next : (owns : List Own) (bytes : List ℕ) (left at : ℕ) → 0 < left
     → bad_entries owns (entries_from bytes left at)
     ≡ or_later (bad_entry owns (entry_at bytes at))
-        (bad_entries owns (entries_from bytes (left - 1) (entry_after bytes at)))
+    (bad_entries owns (entries_from bytes (left - 1) (entry_after bytes at)))
 entries_next owns bytes left at some = ap (bad_entries owns) (entries_step bytes left at some)
 
 pub named_next : (owns : List Own) (bytes : List ℕ) (left at : ℕ) → 0 < left
@@ -72,7 +72,7 @@ pub sized_next : (bytes : List ℕ) (owns : List Own) (number at : ℕ) → numb
     → have_sizes (drop number owns) (entries_from bytes (length owns - number) at) ≡ true
     → (word_at bytes (at + 16)
     ≡ own_length (own_at owns number)) × (have_sizes (drop (number + 1) owns)
-        (entries_from bytes (length owns - (number + 1)) (entry_after bytes at)) ≡ true)
+    (entries_from bytes (length owns - (number + 1)) (entry_after bytes at)) ≡ true)
 sized_next bytes owns number at below same =
     let both = both_true (word_at bytes (at + 16) == own_length (own_at owns number))
     (have_sizes (drop (number + 1) owns) (entries_from bytes (length owns - (number + 1)) (entry_after bytes at)))
@@ -129,7 +129,7 @@ pub sized_between : (owns : List Own) (order : List ℕ) (size place to : ℕ) �
     → find (λ own. not (own_length own == size)) (map (own_at owns) (take (to - place) (drop place order))) ≡ None
     → (own_length (own_at owns (slice_index order place))
     ≡ size) × (find (λ own. not (own_length own == size))
-        (map (own_at owns) (take (to - (place + 1)) (drop (place + 1) order))) ≡ None)
+    (map (own_at owns) (take (to - (place + 1)) (drop (place + 1) order))) ≡ None)
 sized_between owns order size place to less most none =
     let p : Own → Bool = λ own. not (own_length own == size) in
     let own = own_at owns (slice_index order place) in

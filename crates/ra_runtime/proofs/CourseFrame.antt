@@ -61,9 +61,19 @@ module _ {t : Inside} (is : IsCourse t) {now : TableSeen} {image : List ℕ} (sa
       → StepsOptional now (set_contents t.set).script (optional_presence_seen t.presence t.line_rests)
       (optional_presence_seen shown lines) → t.count < 2 ^ 64 → length news ≡ t.runs.len
       → (count : ℕ) → count ≡ frames_after t.count 1
-      → TakesFrame (over (course_seen t) image) (over (course_seen (record { set = t.set; shape = t.shape;
-          said = t.said; table = now; runs = with_items t.runs news; rests = rests; presence = shown;
-          line_rests = lines; size = t.size; count = count; last = Some t.count })) image)
+      → TakesFrame (over (course_seen t) image) (over (course_seen (record {
+        set = t.set;
+        shape = t.shape;
+        said = t.said;
+        table = now;
+        runs = with_items t.runs news;
+        rests = rests;
+        presence = shown;
+        line_rests = lines;
+        size = t.size;
+        count = count;
+        last = Some t.count;
+      })) image)
   course_frame news rests shown lines stepped steps small many count counts =
       let set = set_contents t.set in
       let olds = seen_by t.runs.items t.rests in

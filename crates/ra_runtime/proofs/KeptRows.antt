@@ -33,9 +33,17 @@ room_again bytes shapes presence items kept blocks =
     let xs = concat (map item_bytes items) in
     let ys = concat (presence_block kept) in
     let whole = ap length blocks.here in
-    omega (arith, blocks.long, whole, length-drop 20 bytes, length-append
-        (xs ++ ys) blocks.behind, length-append xs ys, blocks_long shapes items blocks.fit,
-        display_long presence kept blocks.fits)
+    omega (
+      arith,
+      blocks.long,
+      whole,
+      length-drop 20 bytes,
+      length-append
+          (xs ++ ys) blocks.behind,
+      length-append xs ys,
+      blocks_long shapes items blocks.fit,
+      display_long presence kept blocks.fits,
+    )
 
 module _ (old mid new : List ℕ) (at next : ℕ) (xs ys : List ℕ) (far : 20 ≤ length old)
     (first : PutsOver old mid 20 at xs) (last : PutsOver mid new at next ys) where
@@ -90,5 +98,5 @@ pub blocks_noted : (t : Inside) → IsKept t → (one two three : List ℕ) (at 
     → PutsOver two three at next (concat (presence_block kept)) → AreBlocks three t.items.items t.presence items kept
 blocks_noted t is one two three at next items kept same fit fits first last =
     blocks_written t.bytes.items two three at next t.items.items t.presence items kept
-        is.blocks.long is.blocks.version is.blocks.small fit fits
-            (subst (λ xs. PutsOver xs two 20 at (concat (map item_bytes items))) same first) last
+    is.blocks.long is.blocks.version is.blocks.small fit fits
+    (subst (λ xs. PutsOver xs two 20 at (concat (map item_bytes items))) same first) last

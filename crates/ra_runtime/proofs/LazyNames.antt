@@ -20,14 +20,29 @@ use Rattle.ra_runtime.specs.Lazy.{IsCopy, IsLazy, IsWhole, MakesNames, MayName, 
 
 -- the names of a set are those of a table over it
 pub names_table : (set : SetContents) (table : TableSeen) → IsOver set table → NamesTable table (shape_of set)
-names_table set table over = record { cells = ap (map cell_name) over.cells; priors = ap
-    (map tracked_name) over.tracked }
+names_table set table over = record {
+  cells = ap (map cell_name) over.cells;
+  priors = ap
+      (map tracked_name) over.tracked;
+}
 
 -- a course with other names is the same course
 abbrev pub with_shape : Inside → LazyShape → Inside
-with_shape t shape = record { set = t.set; shape = shape; said = t.said; table = t.table; runs =
-    t.runs; rests = t.rests; presence = t.presence; line_rests = t.line_rests; size =
-        t.size; count = t.count; last = t.last }
+with_shape t shape = record {
+  set = t.set;
+  shape = shape;
+  said = t.said;
+  table = t.table;
+  runs =
+      t.runs;
+  rests = t.rests;
+  presence = t.presence;
+  line_rests = t.line_rests;
+  size =
+      t.size;
+  count = t.count;
+  last = t.last;
+}
 
 pub named_course : (t : Inside) (is : IsCourse t) (shape : LazyShape)
     → MakesNames (shape_of (set_contents t.set)) t.shape shape → IsCourse (with_shape t shape)
@@ -69,9 +84,9 @@ pub numbers_fit : (t : Inside) (is : IsCourse t) (shape : LazyShape)
 numbers_fit t is shape made said room =
     let set = set_contents t.set in
     let cells : length said.cells.items ≡ length (shape_of set).cells = room.cells
-        ∙ ap (λ (s : ShapeContents). length s.cells) made.whole_now.same in
+    ∙ ap (λ (s : ShapeContents). length s.cells) made.whole_now.same in
     let priors : length said.priors.items ≡ length (shape_of set).priors = room.priors
-        ∙ ap (λ (s : ShapeContents). length s.priors) made.whole_now.same in
+    ∙ ap (λ (s : ShapeContents). length s.priors) made.whole_now.same in
     record {
       cells_many = cells ∙ length-map (set_cells set) cell_name ∙ sym is.over.cells_many;
       priors_many = priors ∙ length-map (set_tracked set) tracked_name ∙ sym is.over.priors_many;
@@ -105,7 +120,7 @@ pub made_names : (whole : ShapeContents) (t u : LazyShape) → IsLazy whole t
 made_names whole t u lazy other cells priors cell_order prior_order many_cells many_priors entries orders room =
     let same : shape_contents u.shape ≡ whole = other ∙ (λ i. with_names (lazy.shape i) (cells i) (priors i)) in
     let ordered : IsOrder (entry_names whole) u.shape.entry_order.items = subst
-        (IsOrder (entry_names whole)) (sym entries) lazy.entries in
+    (IsOrder (entry_names whole)) (sym entries) lazy.entries in
     let is : IsWhole whole u.shape = record {
       same = same;
       usable = record {
@@ -151,9 +166,9 @@ pub new_lazy : (set : SetContents) (table : TableSeen) (u : LazyShape) (s : Shap
 new_lazy set table u s over same shape cells priors cell_order prior_order entries paired short
     unnamed few_cells few_priors few =
     let many_cells : length table.cells ≡ length (shape_of set).cells = over.cells_many
-        ∙ sym (length-map (set_cells set) cell_name) in
+    ∙ sym (length-map (set_cells set) cell_name) in
     let many_priors : length table.priors ≡ length (shape_of set).priors = over.priors_many
-        ∙ sym (length-map (set_tracked set) tracked_name) in
+    ∙ sym (length-map (set_tracked set) tracked_name) in
     record {
       shape = subst (λ (x : Shape). shape_contents x ≡ with_names
           (shape_of set) x.cells.items x.priors.items) (sym same) shape;
@@ -189,17 +204,30 @@ own_room table t u s may copy same cells priors few = record {
   copy = subst (IsCopy t.shape) (sym same) copy;
   cells = subst (λ (x : Shape). length x.cells.items ≤ u.orders) (sym same) cells;
   priors = subst (λ (x : Shape). length x.priors.items ≤ u.orders) (sym same) priors;
-  few = few (omega (arith, ap (λ (x : ShapeContents). length x.cells) copy.same, may.cells,
-      may.few_cells, may.few)) (omega (arith, ap (λ (x : ShapeContents). length x.priors) copy.same,
-          may.priors, may.few_priors, may.few));
+  few = few (omega (
+    arith,
+    ap (λ (x : ShapeContents). length x.cells) copy.same,
+    may.cells,
+    may.few_cells,
+    may.few,
+  )) (omega (
+    arith,
+    ap (λ (x : ShapeContents). length x.priors) copy.same,
+    may.priors,
+    may.few_priors,
+    may.few,
+  ));
 }
 
 -- a copy of which no name is made stands for the same shape, and names the same table
 module _ (t u : LazyShape) (own : HasOwnRoom t u) where
   as_many : (length u.shape.cells.items ≡ length t.shape.cells.items) ×
       (length u.shape.priors.items ≡ length t.shape.priors.items)
-  as_many = (ap (λ (s : ShapeContents). length s.cells) own.copy.same, ap
-      (λ (s : ShapeContents). length s.priors) own.copy.same)
+  as_many = (
+    ap (λ (s : ShapeContents). length s.cells) own.copy.same,
+    ap
+        (λ (s : ShapeContents). length s.priors) own.copy.same,
+  )
 
   pub lazy_copy : (whole : ShapeContents) → IsLazy whole t → u.named ≡ false → IsLazy whole u
   lazy_copy whole lazy unnamed = record {

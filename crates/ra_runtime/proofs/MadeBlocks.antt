@@ -48,8 +48,13 @@ module _ {t : Inside} (is : IsCourse t) {shape : LazyShape}
   -- there is a place for each item, and its block is there
   pub many_places : (said : Said) → IsRoom (shape_contents shape.shape) said
       → length t.runs.items ≤ length said.places.items
-  many_places said room = omega (arith, many_made, room.places, own_count (shape_contents shape.shape)
-      made.whole_now.usable.searchable.paired)
+  many_places said room = omega (
+    arith,
+    many_made,
+    room.places,
+    own_count (shape_contents shape.shape)
+        made.whole_now.usable.searchable.paired,
+  )
 
   pub items_made : (places : List (Option ℕ)) → places ≡ own_places (shape_contents shape.shape) bytes
       → (k : ℕ) (d : ItemShape) → k < length t.runs.items
@@ -63,8 +68,8 @@ module _ {t : Inside} (is : IsCourse t) {shape : LazyShape}
       → IfSome shape.shape.presence (HasDisplay bytes place)
   display_made place there =
       let stands : place ≡ slice_index_or (own_places (shape_contents shape.shape) bytes)
-          (length (shape_contents shape.shape).items) None = there
-          ∙ ap (λ n. slice_index_or (own_places (shape_contents shape.shape) bytes) n None) many_made in
+      (length (shape_contents shape.shape).items) None = there
+      ∙ ap (λ n. slice_index_or (own_places (shape_contents shape.shape) bytes) n None) many_made in
       if_some (HasDisplay bytes place) shape.shape.presence
       (λ p some. subst (λ (o : Option ℕ). HasDisplay bytes o p) (sym stands)
       (display_has (shape_contents shape.shape) bytes made.whole_now.usable.searchable.paired accepted_made p some

@@ -67,9 +67,14 @@ module _ {t : Inside} (is : IsCourse t) {table : TableSeen} {cells priors bytes 
 
   pub back_seen : seen_by (with_items t.runs news).items rests ≡ restored_items bytes t.runs.items places
   back_seen =
-      let long : length (with_items t.runs news).items ≡ length t.rests.each.items = omega
-      (arith, ap length same, back.many, t.runs.ok.0,
-      length_runs t.table.nodes (set_contents t.set).items t.runs.items is.runs, is.rests.many) in
+      let long : length (with_items t.runs news).items ≡ length t.rests.each.items = omega (
+        arith,
+        ap length same,
+        back.many,
+        t.runs.ok.0,
+        length_runs t.table.nodes (set_contents t.set).items t.runs.items is.runs,
+        is.rests.many,
+      ) in
       back.seen (with_items t.runs news).items long ∙ ap (map kept_run) same ∙ back.kept
 
   pub back_earned : map is_earned (seen_by t.runs.items t.rests) ≡ map is_earned (map kept_run t.runs.items)
@@ -85,8 +90,19 @@ module _ {t : Inside} (is : IsCourse t) {table : TableSeen} {cells priors bytes 
   pub course_back : (shape : LazyShape) → IsLazy (shape_of (set_contents t.set)) shape
       → length t.table.nodes ≤ shape.room → (said : Said) → IsRoom (shape_of (set_contents t.set)) said
       → IsOver (set_contents t.set) table → (count : ℕ) (last : Option ℕ) → last ≡ None
-      → IsCourse (record { set = t.set; shape = shape; said = said; table = table; runs = with_items t.runs news;
-          rests = rests; presence = run; line_rests = lines; size = t.size; count = count; last = last })
+      → IsCourse (record {
+        set = t.set;
+        shape = shape;
+        said = said;
+        table = table;
+        runs = with_items t.runs news;
+        rests = rests;
+        presence = run;
+        line_rests = lines;
+        size = t.size;
+        count = count;
+        last = last;
+      })
   course_back shape lazy names said room over count last none = record {
     script = is.script;
     limits = is.limits;

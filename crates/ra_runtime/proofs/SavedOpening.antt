@@ -41,7 +41,7 @@ presence_kept_fits nodes values None (Some run) rests is are fit = absurd is
 presence_kept_fits nodes values (Some script) None rests is are fit = absurd is
 presence_kept_fits nodes values (Some script) (Some run) rests is are fit =
     let longs = members_long (script_members script) (seen_lines run.lines.items rests)
-        (lines_shaped nodes values script.lines run.lines.items rests is.lines are) in
+    (lines_shaped nodes values script.lines run.lines.items rests is.lines are) in
     (is.shown, record { as_many = longs.0; fit = fit.hits }, record { as_many = longs.1; fit = fit.numbers })
 
 -- what is taken from a table over a set, from its runs and from its display

@@ -72,17 +72,23 @@ module _ (set : SetContents) (table after : TableSeen) (is_over : IsOver set tab
       let shaped : map run_shape runs ≡ kept.items = runs_shaped table.nodes set.items runs are ∙ sym for_it.items in
       let earned = map is_earned (map kept_run runs) in
       let said : said_items bytes (map run_shape runs) places ≡ kept.opening.items = ap
-          (λ ss. said_items bytes ss places) shaped ∙ lent.said in
+      (λ ss. said_items bytes ss places) shaped ∙ lent.said in
       let items : news ≡ items_with (both_earned (map is_earned olds) (earned_in kept.opening)) kept.opening.items =
       put ∙ restored_are bytes runs places ∙ ap (λ xs. items_with
-          (both_earned earned (map is_earned xs)) xs) said
-          ∙ ap (λ e. items_with (both_earned e (earned_in kept.opening)) kept.opening.items) (sym same_earned) in
+      (both_earned earned (map is_earned xs)) xs) said
+      ∙ ap (λ e. items_with (both_earned e (earned_in kept.opening)) kept.opening.items) (sym same_earned) in
       let presence : shown ≡ kept.opening.presence =
       seen ∙ back.kept ∙ ap (option_map (λ p. said_or (said_presence bytes p)
-          (plain_presence p) place)) (presence_shaped table.nodes set.script display is
-          ∙ sym for_it.presence) ∙ lent.shown in
-      (λ i. record { frames = frames i; cells = takes.cells_too i; priors =
-      takes.priors_too i; items = items i; presence = presence i })
+      (plain_presence p) place)) (presence_shaped table.nodes set.script display is
+      ∙ sym for_it.presence) ∙ lent.shown in
+      (λ i. record {
+        frames = frames i;
+        cells = takes.cells_too i;
+        priors =
+            takes.priors_too i;
+        items = items i;
+        presence = presence i;
+      })
 
 -- an item that is earned or not, twice
 item_again : (e f : Bool) (item : KeptItem) → item_with f (item_with e item) ≡ item_with
@@ -106,7 +112,7 @@ opening_again : (o kept : Opening) (e f : Earned) → kept ≡ with_earned o e
     → with_earned kept f ≡ with_earned o (earned_in (with_earned kept f))
 opening_again o kept e f is =
     ap (λ k. with_earned k f) is ∙ ap (λ xs. record o { items = xs }) (items_again e f o.items)
-        ∙ sym (ap (λ k. with_earned o (earned_in (with_earned k f))) is)
+    ∙ sym (ap (λ k. with_earned o (earned_in (with_earned k f))) is)
 
 taken_stands : (set : SetContents) (at old new : CourseSeen) → at.set ≡ set → old.set ≡ set
     → Takes old new at.kept → (o : Opening) (history : History) (image now : List ℕ)
@@ -114,7 +120,7 @@ taken_stands : (set : SetContents) (at old new : CourseSeen) → at.set ≡ set 
 taken_stands set at old new same same_too takes o history image now stands =
     let mine : at.set ≡ new.set = same ∙ sym same_too ∙ sym takes.set in
     let here : at.kept ≡ with_earned (snapshot new.set o history) (earned_in at.kept) = stands
-        ∙ ap (λ s. with_earned (snapshot s o history) (earned_in at.kept)) mine in
+    ∙ ap (λ s. with_earned (snapshot s o history) (earned_in at.kept)) mine in
     takes.kept
     ∙ opening_again (snapshot new.set o history) at.kept (earned_in at.kept)
     (both_earned (earned_in old.kept) (earned_in at.kept)) here
@@ -127,10 +133,10 @@ taken_restored : (set : SetContents) → IsShape (shape_of set) → (at old take
 taken_restored set shape at old taken restored same is takes size up =
     let they = up [] in
     let said : says (shape_of old.set) (progress_bytes (shape_of set) at.kept) ≡ at.kept = ap
-        (λ s. says (shape_of s) (progress_bytes (shape_of set) at.kept)) same
-        ∙ (comes_back (shape_of set) at.kept shape is).says_it in
+    (λ s. says (shape_of s) (progress_bytes (shape_of set) at.kept)) same
+    ∙ (comes_back (shape_of set) at.kept shape is).says_it in
     let kept : taken.kept ≡ restored.kept = takes.kept
-        ∙ sym (they.kept ∙ ap (λ k. with_earned k (both_earned (earned_in old.kept) (earned_in k))) said) in
+    ∙ sym (they.kept ∙ ap (λ k. with_earned k (both_earned (earned_in old.kept) (earned_in k))) said) in
     (λ i. record {
       set = (takes.set ∙ sym they.set) i;
       size = (takes.size ∙ sym size) i;

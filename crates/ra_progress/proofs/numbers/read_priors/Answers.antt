@@ -12,8 +12,14 @@ pub read_words-requires : goal.read_words-requires
 read_words-requires c =
     let long = numbers_in_1 (shape_contents c.args.shape.now) c.args.bytes.now c.requires.accepted.whole
     c.if-bytes-eq1.true in
-    omega (arith, ap length c.deref_mut.ensures.value, c.requires.room, c.len.ensures,
-        c.args.shape.now.cells.ok.0, long)
+    omega (
+      arith,
+      ap length c.deref_mut.ensures.value,
+      c.requires.room,
+      c.len.ensures,
+      c.args.shape.now.cells.ok.0,
+      long,
+    )
 
 pub cell_count-requires : goal.cell_count-requires
 cell_count-requires c =
@@ -27,8 +33,15 @@ read_numbers-requires c =
     (ne_eqb (version_in c.args.bytes.now) 1 c.if-bytes-eq1.false) in
     let counts = counts_of_this_set shape c.args.bytes.now (sym (c.requires.own
     (ne_eqb (version_in c.args.bytes.now) 1 c.if-bytes-eq1.false)) ∙ c.if-own.true) in
-    omega (arith, ap length c.deref_mut-then-own.ensures.value, c.requires.room, counts.1, c.from.ensures,
-        c.cell_count.ensures, numbers_named c.args.bytes.now layout)
+    omega (
+      arith,
+      ap length c.deref_mut-then-own.ensures.value,
+      c.requires.room,
+      counts.1,
+      c.from.ensures,
+      c.cell_count.ensures,
+      numbers_named c.args.bytes.now layout,
+    )
 
 pub prior_count-requires : goal.prior_count-requires
 prior_count-requires c =

@@ -69,8 +69,14 @@ returns-clause-taken g c =
     let kept : KeptRows = kept_by c.sample.new.self c.step-change.new.self.trigger
     (rows_from c.fill.new.self.behind c.len.result) in
     let behind = c.fill.new.self.behind in
-    let new : RecorderSeen = record { trigger = t; image = image; frames = length behind - 1; kept = kept;
-        slots = slots_kept t behind r.slots.items; unlocked = unlock } in
+    let new : RecorderSeen = record {
+      trigger = t;
+      image = image;
+      frames = length behind - 1;
+      kept = kept;
+      slots = slots_kept t behind r.slots.items;
+      unlocked = unlock;
+    } in
     record {
       frame = subst (λ (old : RecordingSeen). TakesFrame (over old image) new unlock) c.self.view_is (record {
         few = subst (λ (o : RecordingSeen). product_of (over o image) ≤ most_rows) (sym c.self.view_is)

@@ -57,10 +57,16 @@ back : (c : goal.After-take-last) → IsPutBack c.self.inside c.take_numbers.new
     c.forget-2.new.self
 back c =
     let puts = rw c.deref_mut.ensures.value at c.put_back_runs.ensures in
-    record { takes = rw (c.cells.ensures, c.priors.ensures) at c.take_numbers.ensures; kept = puts.kept;
-      runs = puts.runs; many = c.put_back_runs.auto.runs ∙ c.deref_mut.ensures.len; each = c.forget.ensures.each;
-      seen = c.forget.ensures.kept; presence = c.put_back_presence.ensures;
-      lines_too = record { each = c.forget-2.ensures.each; kept = c.forget-2.ensures.kept } }
+    record {
+      takes = rw (c.cells.ensures, c.priors.ensures) at c.take_numbers.ensures;
+      kept = puts.kept;
+      runs = puts.runs;
+      many = c.put_back_runs.auto.runs ∙ c.deref_mut.ensures.len;
+      each = c.forget.ensures.each;
+      seen = c.forget.ensures.kept;
+      presence = c.put_back_presence.ensures;
+      lines_too = record { each = c.forget-2.ensures.each; kept = c.forget-2.ensures.kept };
+    }
 
 pub invariant_of-self : goal.invariant_of-self
 invariant_of-self c =

@@ -22,8 +22,12 @@ take_numbers-requires c =
     let made = course_made c.self.inside c.self.invariant c.make.new.self c.make.ensures in
     let fit : FitNumbers c.self.inside.table c.read.new.self.cells.items c.read.new.self.priors.items =
     numbers_fit c.self.inside c.self.invariant c.make.new.self made c.read.new.self c.read.ensures.room in
-    rw (c.deref.ensures.value, c.deref-2.ensures.value) (record { cells = fit.cells_many; priors = fit.priors_many;
-      few_cells = fit.few_cells; few_priors = fit.few_priors })
+    rw (c.deref.ensures.value, c.deref-2.ensures.value) (record {
+      cells = fit.cells_many;
+      priors = fit.priors_many;
+      few_cells = fit.few_cells;
+      few_priors = fit.few_priors;
+    })
 
 pub put_back_runs-requires : goal.put_back_runs-requires
 put_back_runs-requires c =
@@ -50,10 +54,16 @@ back : (c : goal.After-self-3-1) → IsPutBack c.self.inside c.take_numbers.new.
     c.put_back_runs.new.runs c.forget.new.self c.put_back_presence.new.run c.forget-2.new.self
 back c =
     let puts = rw (c.deref_mut.ensures.value, c.deref-3.ensures.value) at c.put_back_runs.ensures in
-    record { takes = rw (c.deref.ensures.value, c.deref-2.ensures.value) at c.take_numbers.ensures;
-      kept = puts.kept; runs = puts.runs; many = c.put_back_runs.auto.runs ∙ c.deref_mut.ensures.len;
-      each = c.forget.ensures.each; seen = c.forget.ensures.kept; presence = c.put_back_presence.ensures;
-      lines_too = record { each = c.forget-2.ensures.each; kept = c.forget-2.ensures.kept } }
+    record {
+      takes = rw (c.deref.ensures.value, c.deref-2.ensures.value) at c.take_numbers.ensures;
+      kept = puts.kept;
+      runs = puts.runs;
+      many = c.put_back_runs.auto.runs ∙ c.deref_mut.ensures.len;
+      each = c.forget.ensures.each;
+      seen = c.forget.ensures.kept;
+      presence = c.put_back_presence.ensures;
+      lines_too = record { each = c.forget-2.ensures.each; kept = c.forget-2.ensures.kept };
+    }
 
 pub invariant_of-self : goal.invariant_of-self
 invariant_of-self c =
