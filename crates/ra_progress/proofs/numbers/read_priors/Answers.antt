@@ -12,14 +12,8 @@ pub read_words-requires : goal.read_words-requires
 read_words-requires c =
     let long = numbers_in_1 (shape_contents c.args.shape.now) c.args.bytes.now c.requires.accepted.whole
     c.if-bytes-eq1.true in
-    omega (
-      arith,
-      ap length c.deref_mut.ensures.value,
-      c.requires.room,
-      c.len.ensures,
-      c.args.shape.now.cells.ok.0,
-      long,
-    )
+    let many = ap length c.deref_mut.ensures.value in
+    omega (arith, many, c.requires.room, c.len.ensures, c.args.shape.now.cells.ok.0, long)
 
 pub cell_count-requires : goal.cell_count-requires
 cell_count-requires c =
@@ -33,15 +27,9 @@ read_numbers-requires c =
     (ne_eqb (version_in c.args.bytes.now) 1 c.if-bytes-eq1.false) in
     let counts = counts_of_this_set shape c.args.bytes.now (sym (c.requires.own
     (ne_eqb (version_in c.args.bytes.now) 1 c.if-bytes-eq1.false)) ∙ c.if-own.true) in
-    omega (
-      arith,
-      ap length c.deref_mut-then-own.ensures.value,
-      c.requires.room,
-      counts.1,
-      c.from.ensures,
-      c.cell_count.ensures,
-      numbers_named c.args.bytes.now layout,
-    )
+    let named = numbers_named c.args.bytes.now layout in
+    let long = ap length c.deref_mut-then-own.ensures.value in
+    omega (arith, long, c.requires.room, counts.1, c.from.ensures, c.cell_count.ensures, named)
 
 pub prior_count-requires : goal.prior_count-requires
 prior_count-requires c =
@@ -52,7 +40,8 @@ pub read_named-requires-clause-within : goal.read_named-requires-clause-within
 read_named-requires-clause-within c =
     let layout = whole_layout (shape_contents c.args.shape.now) c.args.bytes.now c.requires.accepted.whole
     (ne_eqb (version_in c.args.bytes.now) 1 c.if-bytes-eq1.false) in
-    omega (arith, c.from.ensures, c.cell_count.ensures, c.prior_count.ensures, numbers_named c.args.bytes.now layout)
+    let named = numbers_named c.args.bytes.now layout in
+    omega (arith, c.from.ensures, c.cell_count.ensures, c.prior_count.ensures, named)
 
 pub returns-then-bytes-eq1-clause-says : goal.returns-then-bytes-eq1-clause-says
 returns-then-bytes-eq1-clause-says c =
