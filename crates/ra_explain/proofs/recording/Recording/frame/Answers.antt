@@ -1,7 +1,7 @@
 use Rattle.std.proofs.Common.{◌≤◌, ◌+◌, ◌-◌, ◌*◌, false, length, replicate, ap, sym, subst, ◌∙◌, arith}
 use Rattle.ra_condition.specs.Contents.{trigger_contents, trigger_hits, groups_of}
 use Rattle.ra_member.proofs.LaidLemmas.{laid_fills, length_ops}
-use Rattle.ra_explain.specs.Recorders.{RecorderSeen, KeptRows, TakesFrame, product_of, most_rows}
+use Rattle.ra_explain.specs.Recorders.{RecorderSeen, TakesFrame, product_of, most_rows}
 use Rattle.ra_explain.specs.Recordings.{RecordingSeen, over}
 use Rattle.ra_explain.specs.RowLists.{RowsSeen, rows_from}
 use Rattle.ra_explain.specs.Slots.{kept_by}
@@ -14,8 +14,7 @@ use Rattle.ra_explain.proofs.recording.Recording.frame.Goals as goal
 
 pub fill-requires-clause-may : goal.fill-requires-clause-may
 fill-requires-clause-may g c =
-    laid_fills c.sample.new.self.nodes (groups_of (trigger_contents c.self.inside.text)) c.step-change.new.self.laid
-    c.step-change.ensures.run.laid
+    laid_fills _ (groups_of (trigger_contents c.self.inside.text)) _ c.step-change.ensures.run.laid
 
 pub fill-requires-clause-width : goal.fill-requires-clause-width
 fill-requires-clause-width g c =
@@ -31,8 +30,7 @@ invariant_of-self-2 g c =
     let takes = takes_row r.rows c.add.new.self c.fill.new.self (replicate r.rows.width false) r.latest c.len.result
     inv.over c.sample.ensures.taken c.step-change.ensures.run c.step-change.ensures.steps c.in_ok-add.ensures.ok
     c.fill.ensures c.len.ensures in
-    let product : (length r.rows.behind - 1 + 1) * (trigger_hits t + 1) ≤ most_rows =
-    subst (λ (o : RecordingSeen). product_of (over o image) ≤ most_rows) (sym c.self.view_is)
+    let product = subst (λ (o : RecordingSeen). product_of (over o image) ≤ most_rows) (sym c.self.view_is)
     (omega (arith, c.product-found.ensures, c.if-found-gt-MOST_ROWS.false)) in
     record {
       few = inv.few;
@@ -60,25 +58,23 @@ returns-clause-taken g c =
     let image = g.I.Image.bytes c.args.image.now in
     let t = trigger_contents r.text in
     let inv = c.self.invariant in
-    let unlock = c.unlocks-self-inside.result in
     let takes = takes_row r.rows c.add.new.self c.fill.new.self (replicate r.rows.width false) r.latest c.len.result
     inv.over c.sample.ensures.taken c.step-change.ensures.run c.step-change.ensures.steps c.in_ok-add.ensures.ok
     c.fill.ensures c.len.ensures in
     let frames = frames_on takes (omega (arith, inv.latest)) in
     let slots = slots_same takes r.slots.items inv.slots_fit in
-    let kept : KeptRows = kept_by c.sample.new.self c.step-change.new.self.trigger
-    (rows_from c.fill.new.self.behind c.len.result) in
     let behind = c.fill.new.self.behind in
+    let kept = kept_by c.sample.new.self c.step-change.new.self.trigger (rows_from behind c.len.result) in
     let new : RecorderSeen = record {
       trigger = t;
       image = image;
       frames = length behind - 1;
       kept = kept;
       slots = slots_kept t behind r.slots.items;
-      unlocked = unlock;
+      unlocked = c.unlocks-self-inside.result;
     } in
     record {
-      frame = subst (λ (old : RecordingSeen). TakesFrame (over old image) new unlock) c.self.view_is (record {
+      frame = subst (λ (old : RecordingSeen). TakesFrame (over old image) new _) c.self.view_is (record {
         few = subst (λ (o : RecordingSeen). product_of (over o image) ≤ most_rows) (sym c.self.view_is)
             (omega (arith, c.product-found.ensures, c.if-found-gt-MOST_ROWS.false));
         rest = (λ i. record new { frames = frames i; slots = slots i });

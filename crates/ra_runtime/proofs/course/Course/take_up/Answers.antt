@@ -20,14 +20,10 @@ read-requires c =
 pub take_numbers-requires : goal.take_numbers-requires
 take_numbers-requires c =
     let made = course_made c.self.inside c.self.invariant c.make.new.self c.make.ensures in
-    let fit : FitNumbers c.self.inside.table c.read.new.self.cells.items c.read.new.self.priors.items =
+    let f : FitNumbers c.self.inside.table c.read.new.self.cells.items c.read.new.self.priors.items =
     numbers_fit c.self.inside c.self.invariant c.make.new.self made c.read.new.self c.read.ensures.room in
-    rw (c.deref.ensures.value, c.deref-2.ensures.value) (record {
-      cells = fit.cells_many;
-      priors = fit.priors_many;
-      few_cells = fit.few_cells;
-      few_priors = fit.few_priors;
-    })
+    rw (c.deref.ensures.value, c.deref-2.ensures.value)
+    (record { cells = f.cells_many; priors = f.priors_many; few_cells = f.few_cells; few_priors = f.few_priors })
 
 pub put_back_runs-requires : goal.put_back_runs-requires
 put_back_runs-requires c =
@@ -69,9 +65,8 @@ pub invariant_of-self : goal.invariant_of-self
 invariant_of-self c =
     let made = course_made c.self.inside c.self.invariant c.make.new.self c.make.ensures in
     let room = subst (λ (s : ShapeContents). IsRoom s c.read.new.self) made.whole_now.same c.read.ensures.room in
-    course_back c.self.invariant (back c) c.make.new.self made.lazy (rw made.room c.self.invariant.names)
-    c.read.new.self room (over_restored (set_contents c.self.inside.set) c.self.inside.table
-    c.take_numbers.new.table c.self.invariant.over c.args.bytes.now c.read.new.self room (back c).takes) _ None refl
+    course_back c.self.invariant (back c) c.make.new.self made.lazy (rw made.room c.self.invariant.names) c.read.new.self
+    room (over_restored _ _ _ c.self.invariant.over c.args.bytes.now c.read.new.self room (back c).takes) _ None refl
 
 pub returns-clause-taken : goal.returns-clause-taken
 returns-clause-taken c =
@@ -82,16 +77,14 @@ returns-clause-taken c =
     let said = c.read.new.self in
     let room = subst (λ (s : ShapeContents). IsRoom s said) made.whole_now.same c.read.ensures.room in
     let says = subst (λ (s : ShapeContents). Says s c.args.bytes.now said) made.whole_now.same c.read.ensures.says in
-    let many : c.len.result ≡ length t.runs.items = omega
-    (arith, c.len.ensures, c.put_back_runs.auto.runs, c.deref_mut.ensures.len) in
-    let place : c.place-display.result ≡ slice_index_or said.places.items (length t.runs.items) None =
-    c.place-display.ensures ∙ ap (λ n. slice_index_or said.places.items n None) many in
     rw (← c.self.view_is) (λ image. record {
       set = refl;
       image = refl;
       kept = kept_restored set t.table c.take_numbers.new.table inv.over c.args.bytes.now said room (back c).takes
           says t.runs.items _ _ t.presence c.put_back_presence.new.run _ inv.runs inv.presence
-          (back_earned inv (back c)) (back_seen inv (back c)) c.place-display.result place
+          (back_earned inv (back c)) (back_seen inv (back c)) c.place-display.result
+          (c.place-display.ensures ∙ ap (λ n. slice_index_or said.places.items n None)
+          (omega (arith, c.len.ensures, c.put_back_runs.auto.runs, c.deref_mut.ensures.len)))
           c.put_back_presence.ensures (back_shown inv (back c)) _ c.frames_at-self-inside.ensures;
       events = refl;
       lines = refl;
@@ -103,5 +96,5 @@ pub returns-clause-current : goal.returns-clause-current
 returns-clause-current c =
     let made = course_made c.self.inside c.self.invariant c.make.new.self c.make.ensures in
     let room = subst (λ (s : ShapeContents). IsRoom s c.read.new.self) made.whole_now.same c.read.ensures.room in
-    current_back c.self.invariant (back c) (over_restored (set_contents c.self.inside.set) c.self.inside.table
-    c.take_numbers.new.table c.self.invariant.over c.args.bytes.now c.read.new.self room (back c).takes)
+    current_back c.self.invariant (back c)
+    (over_restored _ _ _ c.self.invariant.over c.args.bytes.now c.read.new.self room (back c).takes)
