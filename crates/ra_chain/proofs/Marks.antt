@@ -20,14 +20,6 @@ pub record AreMarked (cs : List Condition) (marks : List Bool) (place : ℕ) (pa
   pub first : pauses ≡ in_pause_chain cs place
   pub each : (k : ℕ) → place ≤ k → k < length cs → get_or marks k false ≡ in_pause_chain cs k
 
-pub marked_none : (cs : List Condition) (marks : List Bool) → length marks ≡ length cs → AreMarked cs marks (length cs) false
-marked_none cs marks whole = record {
-  whole = whole;
-  within = omega arith;
-  first = sym (in_pause_chain_past cs (length cs) (omega arith));
-  each = λ k g l. absurd (omega arith);
-}
-
 -- one condition more, from the end on
 pub marked_more : (cs : List Condition) (marks : List Bool) (place : ℕ) (pauses pauses' : Bool) → AreMarked cs marks (suc place) pauses → pauses' ≡ in_pause_chain cs place → AreMarked cs (set marks place pauses') place pauses'
 marked_more cs marks place pauses pauses' m is = record {

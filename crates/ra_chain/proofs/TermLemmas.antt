@@ -21,9 +21,6 @@ terms_more : (ts : List Term) (t : Term) → terms_sum (ts ++ t ∷ []) ≡ Some
 terms_more [] t = refl
 terms_more (u ∷ ts) t = summed_more (term_tree u) ts t
 
-pub terms_none : (nodes : List Node) → IsPool nodes → PlantsTerms nodes nodes None None
-terms_none nodes pool = record { grows = grows_none nodes pool; spells = tt }
-
 -- one term more
 pub plants_term : (first a b c : List Node) (terms : List Term) (k : ℕ) (d : Term) → k < length terms → (sum : Option ℕ) (product more : ℕ) → PlantsTerms first a (terms_sum (take k terms)) sum → Plants a b (term_tree (get_or terms k d) ∷ []) (term_tree (get_or terms k d)) product → Plants b c [] (added (terms_sum (take k terms)) (term_tree (get_or terms k d))) more → PlantsTerms first c (terms_sum (take (k + 1) terms)) (Some more)
 plants_term first a b c terms k d within sum product more before one last =
@@ -32,15 +29,3 @@ plants_term first a b c terms k d within sum product more before one last =
       grows = grows_added first b c (terms_sum (take k terms)) (term_tree (get_or terms k d)) (grows_through first a b (sum_trees (terms_sum (take k terms))) (term_tree (get_or terms k d) ∷ []) before.grows one.grows) last.grows;
       spells = last.spells;
     })
-
--- the whole sum
-pub terms_whole : (old new : List Node) (terms : List Term) (n : ℕ) → PlantsTerms old new (terms_sum terms) (Some n) → Plants old new (terms_tree terms ∷ []) (terms_tree terms) n
-terms_whole old new [] n plants = absurd plants.spells
-terms_whole old new (t ∷ ts) n plants = record { grows = plants.grows; spells = plants.spells }
-
-pub terms_zero : (old mid new : List Node) (terms : List Term) (n : ℕ) → PlantsTerms old mid (terms_sum terms) None → Plants mid new (constant 0 ∷ []) (constant 0) n → Plants old new (terms_tree terms ∷ []) (terms_tree terms) n
-terms_zero old mid new [] n plants zero_node = record {
-  grows = grows_through old mid new [] (constant 0 ∷ []) plants.grows zero_node.grows;
-  spells = zero_node.spells;
-}
-terms_zero old mid new (t ∷ ts) n plants zero_node = absurd plants.spells

@@ -118,10 +118,3 @@ pub columns_room : (row bound : ℕ) (events : List (List Event)) (hits : List �
 columns_room row bound [] hits below = tt
 columns_room row bound (own ∷ events) [] below = tt
 columns_room row bound (own ∷ events) (h ∷ hits) below = (below, columns_room row bound events hits below)
-
-pub room_at : (changes : List ChangesSeen) (bound k : ℕ) (d : ChangesSeen)
-    → AllByRecursion (λ (o : ChangesSeen). o.row < bound) changes → k < length changes
-    → (get_or changes k d).row < bound
-room_at [] bound k d all within = absurd (omega (arith, within))
-room_at (own ∷ changes) bound zero d all within = all.0
-room_at (own ∷ changes) bound (suc k) d all within = room_at changes bound k d all.1 (omega arith)

@@ -51,14 +51,6 @@ pub long_rows : (width : ℕ) (truths : List Bool) (order : List ℕ) → AllByR
 long_rows width truths [] all = tt
 long_rows width truths (k ∷ order) all = (long_row width truths k all.0, long_rows width truths order all.1)
 
--- the place of a row is within
-pub place_within : (width : ℕ) (truths : List Bool) (order : List ℕ) (k d : ℕ)
-    → AllByRecursion (LiesWithin width truths) order → k < length order → LiesWithin width truths (get_or order k d)
-place_within width truths [] k d all within = absurd (omega (arith, within))
-place_within width truths (first ∷ order) zero d all within = all.0
-place_within width truths (first ∷ order) (suc k) d all within = place_within width truths order k d all.1
-    (omega arith)
-
 -- the row at a place of rows that stand in one list
 row_of_joined : (width : ℕ) (rows : List (List Bool)) (k : ℕ) → AllByRecursion (λ row. length row ≡ width) rows
     → k < length rows → take width (drop (k * width) (joined rows)) ≡ get_or rows k []

@@ -28,8 +28,3 @@ pub fold_goes_on : {K : Type 0} (step : Start → History → K → K) (trees : 
 fold_goes_on step trees looks start opened earlier goes kept later =
     after_cut (step start) kept later earlier
     ∙ after_agrees (λ h. step start (h ++ earlier)) (step opened) (λ image before k. looks start opened (image ∷ (before ++ earlier)) (image ∷ before) (goes image before) k) (after (step start) kept earlier) later
-
--- a member of which all is stepped
-pub member_goes_on : (m : MemberContents) (start opened : Start) (earlier : History) → GoesOn start opened earlier (trees_in_member m) → (kept : MemberKept) (later : History) → after (λ h. member_next start m h) kept (later ++ earlier) ≡ after (λ h. member_next opened m h) (after (λ h. member_next start m h) kept earlier) later
-member_goes_on m =
-    fold_goes_on (λ start. member_next start m) (trees_in_member m) (λ start start' h h' agree kept. member_agrees start start' h h' m agree kept)

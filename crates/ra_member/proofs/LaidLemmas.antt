@@ -119,15 +119,6 @@ module _ (nodes : List Node) (groups : List (List Condition)) where
       let ops : length laid.ops.items ≡ sum_by length groups = ap length is.ops ∙ length_ops groups in
       (is.truths ∙ ops, is.lefts ∙ ops)
 
-  -- a new plan with its operators and room
-  pub laid_new : (laid : Laid) (plan : GroupPlan) (ops : List Op) → IsPlan nodes groups plan → laid.plan ≡ plan → ops ≡ ops_of groups → laid.ops.items ≡ ops → length laid.truths.items ≡ length ops → length laid.lefts.items ≡ length ops → IsLaid nodes groups laid
-  laid_new laid plan ops is same those made truths lefts = record {
-    plan = subst (IsPlan nodes groups) (sym same) is;
-    ops = made ∙ those;
-    truths = truths ∙ ap length (sym made);
-    lefts = lefts ∙ ap length (sym made);
-  }
-
 -- the truths of groups laid in a row
 truths_row : (ops : List Op) (xs ys : List ℕ) (ops' : List Op) (xs' ys' : List ℕ) → length xs ≡ length ops → length ys ≡ length ops → truths_by (ops ++ ops') (xs ++ xs') (ys ++ ys') ≡ truths_by ops xs ys ++ truths_by ops' xs' ys'
 truths_row [] [] [] ops' xs' ys' long long_too = refl

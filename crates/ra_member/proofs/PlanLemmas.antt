@@ -79,15 +79,6 @@ plan_more old new groups plan front is = record {
   rights = spelled_more old new plan.rights.items (flat_map rights_of groups) front is.rights;
 }
 
--- a plan of no groups
-pub plan_none : (nodes : List Node) (plan : GroupPlan) → plan.order.items ≡ [] → plan.pauses.items ≡ [] → plan.lefts.items ≡ [] → plan.rights.items ≡ [] → IsPlan nodes [] plan
-plan_none nodes plan order pauses lefts rights = record {
-  order = order;
-  pauses = pauses;
-  lefts = subst (λ ns. AreSpelled nodes ns []) (sym lefts) tt;
-  rights = subst (λ ns. AreSpelled nodes ns []) (sym rights) tt;
-}
-
 -- a plan of one group
 pub plan_one : (nodes : List Node) (cs : List Condition) (plan : GroupPlan) → plan.order.items ≡ pass_order cs
     → plan.pauses.items ≡ pause_count cs ∷ [] → SpellsEach nodes plan.lefts.items (length cs) (left_of cs)
@@ -146,12 +137,6 @@ sums_row nodes (Legacy terms ∷ parts) (Some m ∷ ns) part n are one = (are.0,
 sums_row nodes (Grouped cs ∷ parts) [] part n are one = absurd are
 sums_row nodes (Grouped cs ∷ parts) (Some m ∷ ns) part n are one = absurd are
 sums_row nodes (Grouped cs ∷ parts) (None ∷ ns) part n are one = sums_row nodes parts ns part n are one
-
-pub value_plan_more : (old new : List Node) (parts : List PartContents) (plan : ValuePlan) → IsFront old new → IsValuePlan old parts plan → IsValuePlan new parts plan
-value_plan_more old new parts plan front is = record {
-  groups = plan_more old new (map counted_in parts) plan.groups front is.groups;
-  sums = sums_more old new parts plan.sums.items front is.sums;
-}
 
 -- a part behind others, from its groups and its sum
 pub part_added : (old new : List Node) (part : PartContents) (n : Option ℕ) (before after : ValuePlan) → IsFront old new

@@ -74,9 +74,6 @@ module _ {A : Type 0} (k : ℕ) (olds runs : List A) (d : A) (within : k < lengt
 
 -- before the first element and behind the last
 module _ {A : Type 0} (numbers : A → List ℕ) (bytes : List ℕ) (from : ℕ) where
-  pub row_begins : (olds : List A) → IsRowBack numbers bytes from from 0 olds olds
-  row_begins olds = record { at_too = omega arith; row = refl }
-
   pub row_ends : (at k : ℕ) (olds runs : List A) → length olds ≤ k → length runs ≤ k → IsRowBack numbers bytes from at k olds runs → (flat_map numbers runs ≡ words_at bytes from (length (flat_map numbers olds))) × (at ≡ from + 4 * length (flat_map numbers olds))
   row_ends at k olds runs enough enough_too back =
       (rw (take_all k olds enough, take_all k runs enough_too) at back.row, rw (take_all k olds enough) at back.at_too)

@@ -91,10 +91,6 @@ pub record AreValuesLong (values : List (List PartContents)) (kept : List ValueK
   pub hits : map length (map (λ (v : ValueKept). v.hits) kept) ≡ map value_hits values
   pub numbers : map length (map (λ (v : ValueKept). v.numbers) kept) ≡ map length values
 
--- the head and the rest of equal rows
-head_long : (m n : ℕ) (ms ns : List ℕ) → m ∷ ms ≡ n ∷ ns → m ≡ n
-head_long m n ms ns same = cc
-
 rest_long : (m n : ℕ) (ms ns : List ℕ) → m ∷ ms ≡ n ∷ ns → ms ≡ ns
 rest_long m n ms ns same = cc
 
@@ -156,10 +152,6 @@ next_shape start m history kept shape =
     (tests_long start history m.tests kept.tests shape.tests)
     (values_long start history m.values kept.values (values_in_shape m kept shape))
 
-pub after_shape : (start : Start) (m : MemberContents) (kept : MemberKept) → HasShape m kept → (history : History) → HasShape m (after (λ h. member_next start m h) kept history)
-after_shape start m kept shape =
-    after_keeps (λ h k. HasShape m k) (λ h. member_next start m h) (λ image earlier k fits. next_shape start m (image ∷ earlier) k fits) kept shape
-
 -- members beside each other
 pub members_fit : (start : Start) (members : List MemberContents) (history : History) (kept : List MemberKept) → HaveShapes members kept → HaveShapes members (members_next start members history kept)
 members_fit start [] history [] fits = tt
@@ -167,17 +159,6 @@ members_fit start [] history (k ∷ kept) fits = absurd fits
 members_fit start (m ∷ members) history [] fits = absurd fits
 members_fit start (m ∷ members) history (k ∷ kept) fits =
     (next_shape start m history k fits.0, members_fit start members history kept fits.1)
-
--- values whose numbers are all set to 0 begin anew
-pub cleared_long : (values : List (List PartContents)) (kept : List ValueKept) → AreValuesLong values kept → map zeroed kept ≡ no_values values
-cleared_long [] [] long = refl
-cleared_long [] (k ∷ kept) long = absurd (none_long (length k.hits) (map length (map (λ (w : ValueKept). w.hits) kept)) (sym long.hits))
-cleared_long (v ∷ values) [] long = absurd (none_long (value_hits v) (map value_hits values) long.hits)
-cleared_long (v ∷ values) (k ∷ kept) long =
-    let hits = head_long (length k.hits) (value_hits v) (map length (map (λ (w : ValueKept). w.hits) kept)) (map value_hits values) long.hits in
-    let numbers = head_long (length k.numbers) (length v) (map length (map (λ (w : ValueKept). w.numbers) kept)) (map length values) long.numbers in
-    let rest = cleared_long values kept (rest_values v values k kept long) in
-    (λ i. record { hits = replicate (hits i) 0; numbers = replicate (numbers i) 0 } ∷ rest i)
 
 -- what a member with its plans keeps
 module _ (nodes : List Node) where

@@ -128,13 +128,6 @@ between_more first page (Some q) above = elim (eqb_tells q page) [
     not_lt : (a b : ℕ) → (a < b → ⊥) → ltb a b ≡ false
     not_lt a b out = elim (leb_tells (suc a) b) [ inl l ↦ absurd (out l.1) | inr l ↦ l.0 ]
 
-pub between_none : (first : ℕ) (o : Option ℕ) → is_between first first o ≡ false
-between_none first None = refl
-between_none first (Some q) = elim (leb_tells first q) [
-  | inl l ↦ elim (leb_tells (suc q) first) [ inl m ↦ absurd (omega (arith, l.1, m.1)) | inr m ↦ rw (l.0, m.0) refl ]
-  | inr l ↦ rw l.0 refl
-]
-
 -- a test of numbers in a row
 found_by_first : (test : ℕ → Bool) (a n : ℕ) → (list_any test (range_with_len (a + 1) n) ≡ true
     → (k : ℕ) × (a + 1 ≤ k) × (k < a + 1 + n) × (test k ≡ true)) → (b : Bool) → test a ≡ b

@@ -154,18 +154,6 @@ names_stand bytes (own ∷ owns) (block ∷ blocks) [] stand = absurd stand
 names_stand bytes (own ∷ owns) (block ∷ blocks) (entry ∷ entries) stand =
     ap₂ (λ x xs. x ∷ xs) stand.0 (names_stand bytes owns blocks entries stand.3)
 
-pub fitting_count : (owns : List Own) (blocks : List (List ℕ)) → Fitting owns blocks
-    → (length blocks ≡ length owns) × (sum_by length blocks ≡ sum_by own_length owns)
-fitting_count [] [] fit = (refl, refl)
-fitting_count [] (block ∷ blocks) fit = absurd fit
-fitting_count (own ∷ owns) [] fit = absurd fit
-fitting_count (own ∷ owns) (block ∷ blocks) fit =
-    let rest = fitting_count owns blocks fit.1 in (
-      omega (arith, rest.0),
-      omega
-          (arith, rest.1, fit.0.long, sum_by-cons length block blocks, sum_by-cons own_length own owns),
-    )
-
 pub length_named_blocks : (owns : List Own) (blocks : List (List ℕ)) → Fitting owns blocks
     → AllByRecursion IsHeld owns
     → length (named_blocks (map (λ own. own.name) owns) blocks) ≡ 20 * length owns + sum_by own_length owns

@@ -30,12 +30,6 @@ module _ (old : List Comparison) (c : Comparison) (distinct : AreDistinct old) (
   distinct_more i k less within =
       apart i k less (below_or_last k (length old) (omega (arith, within, length-append old (c ∷ []))))
 
-pub AreDistinct-interned : (old new : List Comparison) (c : Comparison) (place : ℕ) → AreDistinct old
-    → Interns old new c place → AreDistinct new
-AreDistinct-interned old new c place distinct (inl found) = subst AreDistinct (sym found.same) distinct
-AreDistinct-interned old new c place distinct (inr fresh) =
-    subst AreDistinct (sym fresh.grown) (distinct_more old c distinct fresh.absent)
-
 -- an interned comparison stands at its number
 pub placed : (old new : List Comparison) (c : Comparison) (place : ℕ) → Interns old new c place
     → (place < length new) × (comparison_at new place ≡ c)

@@ -14,15 +14,7 @@ pub paid_at_most : (n : ℕ) (before hits : List ℕ) → paid (min n 4294967295
 paid_at_most n before hits =
     (λ i. map (λ j. if slice_index hits j == slice_index before j then slice_index hits j else plus_most n (slice_index hits j) i) (range_with_len 0 (length hits)))
 
-tests_at_most : (n : ℕ) (before hits : List (List ℕ)) → owed_tests (min n 4294967295) before hits ≡ owed_tests n before hits
-tests_at_most n [] hits = refl
-tests_at_most n (b ∷ before) [] = refl
-tests_at_most n (b ∷ before) (row ∷ hits) = (λ i. paid_at_most n b row i ∷ tests_at_most n before hits i)
-
 values_at_most : (n : ℕ) (before : List (List ℕ)) (kept : List ValueKept) → owed_values (min n 4294967295) before kept ≡ owed_values n before kept
 values_at_most n [] kept = refl
 values_at_most n (b ∷ before) [] = refl
 values_at_most n (b ∷ before) (v ∷ kept) = (λ i. record { hits = paid_at_most n b v.hits i; numbers = v.numbers } ∷ values_at_most n before kept i)
-
-pub member_at_most : (n : ℕ) (old new : MemberKept) → owed_member (min n 4294967295) old new ≡ owed_member n old new
-member_at_most n old new = (λ i. record { tests = tests_at_most n old.tests new.tests i; values = values_at_most n (map (λ (v : ValueKept). v.hits) old.values) new.values i })

@@ -99,19 +99,11 @@ apart_values _ _ = []
 abbrev pub apart_member : MemberCounted → MemberKept → MemberKept
 apart_member counts kept = record { tests = apart_rows counts.tests kept.tests; values = apart_values counts.values kept.values }
 
-rows_apart : (n : ℕ) (counts : List (List Bool)) (rows : List (List ℕ)) → owed_rows_by n counts rows ≡ owed_tests n (apart_rows counts rows) rows
-rows_apart n [] rows = refl
-rows_apart n (c ∷ counts) [] = refl
-rows_apart n (c ∷ counts) (row ∷ rows) = ap₂ (λ x xs. x ∷ xs) (owed_apart n c row) (rows_apart n counts rows)
-
 values_apart : (n : ℕ) (counts : List (List Bool)) (values : List ValueKept) → owed_values_by n counts values ≡ owed_values n (hit_rows (apart_values counts values)) values
 values_apart n [] values = refl
 values_apart n (c ∷ counts) [] = refl
 values_apart n (c ∷ counts) (v ∷ values) =
     ap₂ (λ (x : ValueKept) xs. x ∷ xs) (λ i. record { hits = owed_apart n c v.hits i; numbers = v.numbers }) (values_apart n counts values)
-
-pub owed_member_apart : (n : ℕ) (counts : MemberCounted) (kept : MemberKept) → owed_member_by n counts kept ≡ owed_member n (apart_member counts kept) kept
-owed_member_apart n counts kept = (λ i. record { tests = rows_apart n counts.tests kept.tests i; values = values_apart n counts.values kept.values i })
 
 none : {A : Type 0} (x : A) (xs : List A) → x ∷ xs ≡ [] → ⊥
 none x xs same = cc
@@ -144,13 +136,6 @@ numbers_long [] (v ∷ values) long = absurd (none (length v.hits) (map length (
 numbers_long (c ∷ counts) [] long = absurd (none (length c) (map length counts) long)
 numbers_long (c ∷ counts) (v ∷ values) long =
     ap (λ xs. length v.numbers ∷ xs) (numbers_long counts values (tails (length c) (length v.hits) (map length counts) (map length (hit_rows values)) long))
-
-pub apart_shape : (counts : MemberCounted) (kept : MemberKept) → CountsFit counts kept → HaveOneShape (apart_member counts kept) kept
-apart_shape counts kept fit = record {
-  tests = rows_long counts.tests kept.tests fit.tests;
-  hits = values_long counts.values kept.values fit.values;
-  numbers = numbers_long counts.values kept.values fit.values;
-}
 
 -- more frames than a hit can count owe what the most that it can count do
 plus_most : (n h : ℕ) → plus (min n 4294967295) h ≡ plus n h

@@ -61,35 +61,6 @@ heard_more s laid count reader heard last j below = elim (below_or_last j count 
   | inr here ↦ subst (λ k. is_comparing (slice_index_or laid.ops.items k Bare) ≡ true → Hears s (comparison_in laid k) reader) (sym here) last
 ]
 
--- an operator that may come out either way is no arithmetic one
-comparing_compares : (op : Op) → is_comparing op ≡ true → is_arithmetic op ≡ false
-comparing_compares ops.Bare is = refl
-comparing_compares ops.Eq is = refl
-comparing_compares ops.Ne is = refl
-comparing_compares ops.Lt is = refl
-comparing_compares ops.Le is = refl
-comparing_compares ops.Gt is = refl
-comparing_compares ops.Ge is = refl
-comparing_compares ops.Mul is = absurd (false≢true is)
-comparing_compares ops.Div is = absurd (false≢true is)
-comparing_compares ops.And is = absurd (false≢true is)
-comparing_compares ops.Xor is = absurd (false≢true is)
-comparing_compares ops.Rem is = absurd (false≢true is)
-comparing_compares ops.Add is = absurd (false≢true is)
-comparing_compares ops.Sub is = absurd (false≢true is)
-
--- the comparisons of a laid plan are over nodes with values
-pub over_laid : (nodes : List Node) (laid : Laid) → MayFill nodes laid → (j : ℕ) → j < length laid.ops.items → is_comparing (slice_index_or laid.ops.items j Bare) ≡ true → IsOver nodes (comparison_in laid j)
-over_laid nodes laid may j below comparing =
-    let left = may.lefts j (omega (arith, below, may.left_nodes)) in
-    let right = may.rights j (omega (arith, below, may.right_nodes)) in
-    record {
-      compares = comparing_compares (slice_index_or laid.ops.items j Bare) comparing;
-      within = record { left = left.0; right = right.0 };
-      left = left.1;
-      right = right.1;
-    }
-
 module _ (readers : ReadersSeen) (reader : ℕ) where
   -- one place more is read
   pub given_more : (given : List Bool) (laid : Laid) (count : ℕ) → IsGivenRead given laid count readers reader

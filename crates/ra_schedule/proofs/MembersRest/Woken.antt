@@ -43,11 +43,6 @@ module _ (one two three : Instant) where
   member_through m first second =
       record { tests = tests_through m.tests first.tests second.tests; values = values_through m.values first.values second.values }
 
--- of no readers none is let rest
-pub none_quiet : (due : List Bool) (r : ℕ) → length due ≡ 0 → slice_index_or due r true ≡ false → ⊥
-none_quiet [] r none quiet = cc
-none_quiet (b ∷ due) r none quiet = absurd (omega (arith, none))
-
 -- a node that is not listed among those with another value has the same one
 same_unless_listed : (values later : List ℕ) (n : ℕ) → ((slice_index values n ≡ slice_index later n → ⊥) → ⊥) → slice_index later n ≡ slice_index values n
 same_unless_listed values later n listed = by_test (slice_index values n == slice_index later n) refl

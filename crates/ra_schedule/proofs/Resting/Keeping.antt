@@ -20,13 +20,6 @@ pub groups_more : (form : Form) (cs : List Condition) (gs : List (List Condition
 groups_more form cs gs before after here =
     ap (λ b. b && groups_keep form gs (drop (length cs) before) (drop (length cs) after)) here
 
--- and one that does not is enough
-pub groups_not : (form : Form) (cs : List Condition) (gs : List (List Condition)) (before after : List ℕ)
-    → all_keep form cs (take (length cs) before) (take (length cs) after) ≡ false
-    → groups_keep form (cs ∷ gs) before after ≡ false
-groups_not form cs gs before after here =
-    ap (λ b. b && groups_keep form gs (drop (length cs) before) (drop (length cs) after)) here
-
 pub and_left : (a b : Bool) → (a && b) ≡ true → a ≡ true
 and_left true b e = refl
 and_left false b e = e

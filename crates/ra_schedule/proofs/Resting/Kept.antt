@@ -28,28 +28,11 @@ keeps_at form cs before after j =
     keeps_or_counts form (condition_at cs j) (slice_index before j) (slice_index after j)
 
 module _ (form : Form) (cs : List Condition) (before after : List ℕ) where
-  pub keeps_more : (i : ℕ) → i < length cs → list_all (keeps_at form cs before after) (take i (places cs)) ≡ true
-      → keeps_at form cs before after i ≡ true
-      → list_all (keeps_at form cs before after) (take (i + 1) (places cs)) ≡ true
-  keeps_more i l so_far here =
-      list_all_more (keeps_at form cs before after) (places cs) i 0 (omega
-      (arith, length-range_with_len 0 (length cs)))
-      ∙ ap (λ b. b && keeps_at form cs before after (get_or (places cs) i 0)) so_far
-      ∙ ap (keeps_at form cs before after) (get_or-range_with_len 0 (length cs) i 0 l ∙ zero-add i)
-      ∙ here
-
   pub keeps_not : (i : ℕ) → i < length cs → keeps_at form cs before after i ≡ false
       → all_keep form cs before after ≡ false
   keeps_not i l here =
       list_all_at (keeps_at form cs before after) (places cs) i 0 (omega (arith, length-range_with_len 0 (length cs)))
       (ap (keeps_at form cs before after) (get_or-range_with_len 0 (length cs) i 0 l ∙ zero-add i) ∙ here)
-
-  pub keeps_all : (i : ℕ) → length cs ≤ i → list_all (keeps_at form cs before after) (take i (places cs)) ≡ true
-      → all_keep form cs before after ≡ true
-  keeps_all i past so_far =
-      ap (list_all (keeps_at form cs before after))
-      (sym (take_all i (places cs) (omega (arith, length-range_with_len 0 (length cs)))))
-      ∙ so_far
 
   pub keeps_place : all_keep form cs before after ≡ true → (j : ℕ) → j < length cs
       → keeps_at form cs before after j ≡ true

@@ -18,11 +18,6 @@ use Rattle.ra_value.specs.Steps.{PartStep, ValueKept, number_after, part_step, p
 use Rattle.ra_schedule.specs.Given.{AgreeWhereGiven, GiveTheSame, with_lefts}
 
 module _ (form : Form) where
-  -- a row of left values gives what it gives
-  pub give_themselves : (groups : List (List Condition)) (lefts : List ℕ) → GiveTheSame form groups lefts lefts
-  give_themselves [] lefts = tt
-  give_themselves (cs ∷ groups) lefts = (record { at = λ j gives. refl }, give_themselves groups (drop (length cs) lefts))
-
   -- what gives the same as a second row, which gives the same as a third one, gives the same as the third one
   pub give_through : (groups : List (List Condition)) (one two three : List ℕ) → GiveTheSame form groups one two → GiveTheSame form groups two three → GiveTheSame form groups one three
   give_through [] one two three first second = tt

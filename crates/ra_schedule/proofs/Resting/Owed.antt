@@ -163,28 +163,6 @@ paid_at n before hits j l =
     get_or-map-range_with_len (λ k. owed n (slice_index before k) (slice_index hits k)) 0 (length hits) j j 0 l (omega
     arith)
 
--- what is owed is of 32 bits
-owed_most : (n before after : ℕ) → after ≤ 4294967295 → owed n before after ≤ 4294967295
-owed_most n before after most = by_test (after == before)
-  where
-    by_test : (b : Bool) → cond b after (plus n after) ≤ 4294967295
-    by_test true = most
-    by_test false = omega arith
-
--- hits of 32 bits are so once they are paid
-pub paid_most : (n : ℕ) (before hits : List ℕ) → ((j : ℕ) → slice_index hits j ≤ 4294967295)
-    → (j : ℕ) → slice_index (paid n before hits) j ≤ 4294967295
-paid_most n before hits most j =
-    elim (cases_lt j (length hits)) [
-      | inl l ↦
-          omega (arith, paid_at n before hits j l, owed_most n (slice_index before j) (slice_index hits j) (most j))
-      | inr g ↦
-          omega (
-            arith,
-            get_or_past (paid n before hits) j 0 (omega (arith, g, length-paid n before hits)),
-          )
-    ]
-
 -- after no frames nothing is owed
 pub paid_nothing : (before hits : List ℕ) → ((j : ℕ) → slice_index hits j ≤ 4294967295) → paid 0 before hits ≡ hits
 paid_nothing before hits most =
