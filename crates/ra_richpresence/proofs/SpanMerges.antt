@@ -224,10 +224,3 @@ module _ (over under spans new : List Span) (first second : Option ℕ) (os us :
       (left_behind span.from os) (left_behind span.from us) span.line
   merging-next (inl e) = rw e pushed
   merging-next (inr e) = rw e.1 (same e.0)
-
-  cases : (b : Bool) → nat_le m.at n ≡ b → line_at None spans n ≡ option_or (line_at None over n) (line_at None under n)
-  cases true low = m.here n (true-le m.at n low) ∙ m.line_is ∙ sym
-      (ap (λ l. option_or l (line_at None under n))
-      (m.over_left n (true-le m.at n low) ∙ ap (λ ss. line_at first ss n) none.0)
-      ∙ ap (option_or first) (m.under_left n (true-le m.at n low) ∙ ap (λ ss. line_at second ss n) none.1))
-  cases false high = m.below n (false-lt m.at n high)
