@@ -16,7 +16,8 @@ one_of : (a b : Bool) → (a || b) ≡ true → IsTrue a ⊎ IsTrue b
 one_of true _ _ = inl refl
 one_of false _ is = inr is
 
-taken : (hands may : Bool) (op : Op) → takes_op hands may op ≡ true → IsTrue hands → IsTrue (is_bare op) ⊎ IsTrue (is_arithmetic op)
+taken : (hands may : Bool) (op : Op) → takes_op hands may op ≡ true → IsTrue hands
+    → IsTrue (is_bare op) ⊎ IsTrue (is_arithmetic op)
 taken hands may op takes is = one_of (is_bare op) (is_arithmetic op) (subst (λ h. takes_op h may op ≡ true) is takes)
 
 pub joins_condition : (setting : Setting) (c : Condition) → IsCondition setting c → JoinsValues c
@@ -24,4 +25,5 @@ joins_condition setting c spelled = taken (hands_on c.flag) (stands_bare setting
 
 -- what `elaborate` asks of a group, from what a text spells
 pub all_join : (setting : Setting) (cs : List Condition) → All (IsCondition setting) cs → AllJoin cs
-all_join setting cs spelled j inside = joins_condition setting _ (All-get_or (IsCondition setting) cs j no_condition inside spelled)
+all_join setting cs spelled j inside =
+    joins_condition setting _ (All-get_or (IsCondition setting) cs j no_condition inside spelled)

@@ -1,5 +1,6 @@
 -- How many places of the order stand in pause chains, found by its last PauseIf.
-use Rattle.std.proofs.Common.{◌≡◌, ℕ, ◌+◌, ◌-◌, ◌<◌, ◌≤◌, true, false, List, length, get_or, ◌⊎◌, ap, ◌∙◌, subst, inl, inr, arith}
+use Rattle.std.proofs.Common.{◌≡◌, ℕ, ◌+◌, ◌-◌, ◌<◌, ◌≤◌, true, false, List, length, get_or, ◌⊎◌, ap, ◌∙◌, subst, inl}
+use Rattle.std.proofs.Common.{inr, arith}
 use Rattle.std.proofs.lemmas.Bool.{cases_eq}
 use Rattle.ra_condition.specs.declared.condition.Condition.{Condition}
 use Rattle.ra_condition.specs.Flags.{is_pause}
@@ -16,7 +17,8 @@ pub record EndsPauses (cs : List Condition) (order : List ℕ) (turn pauses : �
 pub pauses_none : (cs : List Condition) (order : List ℕ) → EndsPauses cs order 0 0
 pauses_none cs order = record { within = omega arith; none = λ k g l. absurd (omega arith); last = inl (omega arith) }
 
-pub pauses_here : (cs : List Condition) (order : List ℕ) (turn : ℕ) → is_pause (flag_at cs (get_or order turn 0)) ≡ true → EndsPauses cs order (turn + 1) (turn + 1)
+pub pauses_here : (cs : List Condition) (order : List ℕ) (turn : ℕ)
+    → is_pause (flag_at cs (get_or order turn 0)) ≡ true → EndsPauses cs order (turn + 1) (turn + 1)
 pauses_here cs order turn h =
     let e : turn + 1 - 1 ≡ turn = omega arith in
     record {
@@ -25,7 +27,9 @@ pauses_here cs order turn h =
       last = inr (ap (λ k. is_pause (flag_at cs (get_or order k 0))) e ∙ h);
     }
 
-pub pauses_there : (cs : List Condition) (order : List ℕ) (turn pauses : ℕ) → is_pause (flag_at cs (get_or order turn 0)) ≡ false → EndsPauses cs order turn pauses → EndsPauses cs order (turn + 1) pauses
+pub pauses_there : (cs : List Condition) (order : List ℕ) (turn pauses : ℕ)
+    → is_pause (flag_at cs (get_or order turn 0)) ≡ false → EndsPauses cs order turn pauses
+    → EndsPauses cs order (turn + 1) pauses
 pauses_there cs order turn pauses h before = record {
   within = omega (arith, before.within);
   none = λ k g l. elim (cases_eq k turn) [
@@ -35,8 +39,10 @@ pauses_there cs order turn pauses h before = record {
   last = before.last;
 }
 
-pub pauses_all : (cs : List Condition) (order : List ℕ) (turn pauses : ℕ) → order ≡ pass_order cs → turn ≡ length order → EndsPauses cs order turn pauses → pauses ≡ length (pausing cs)
+pub pauses_all : (cs : List Condition) (order : List ℕ) (turn pauses : ℕ) → order ≡ pass_order cs
+    → turn ≡ length order → EndsPauses cs order turn pauses → pauses ≡ length (pausing cs)
 pauses_all cs order turn pauses passes end all =
     let whole : EndsPauses cs (pass_order cs) (length (pass_order cs)) pauses =
-    subst (λ (xs : List ℕ). EndsPauses cs xs (length xs) pauses) passes (subst (λ (n : ℕ). EndsPauses cs order n pauses) end all) in
+    subst (λ (xs : List ℕ). EndsPauses cs xs (length xs) pauses) passes
+    (subst (λ (n : ℕ). EndsPauses cs order n pauses) end all) in
     pauses_end cs pauses whole.within whole.none whole.last

@@ -1,5 +1,7 @@
--- The trees of a group's conditions, by looking back in the text and, for `{recall}`, in the pass order: docs/DEFINITIONS.md, "Trees of a group".
-use Rattle.std.specs.Prelude.{◌≡◌, ℕ, zero, suc, ◌<◌, ◌==◌, Option, None, Some, List, [], ◌∷◌, length, map, replicate, slice_set, slice_index_or, if◌then◌else◌}
+-- The trees of a group's conditions, by looking back in the text and, for `{recall}`, in the pass order:
+-- docs/DEFINITIONS.md, "Trees of a group".
+use Rattle.std.specs.Prelude.{◌≡◌, ℕ, zero, suc, ◌<◌, ◌==◌, Option, None, Some, List, [], ◌∷◌, length, map, replicate}
+use Rattle.std.specs.Prelude.{slice_set, slice_index_or, if◌then◌else◌}
 use Rattle.std.specs.List.{before_first}
 use Rattle.ra_operand.specs.declared.operand.Operand.{Operand}
 use Rattle.ra_operand.specs.declared.operand.Operand.TheVariants.{Cell, Const, Recall}

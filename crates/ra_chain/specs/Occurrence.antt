@@ -1,4 +1,5 @@
--- The trees of groups, triggers and values in the order in which their cells occur: docs/DEFINITIONS.md, "Order of first occurrence".
+-- The trees of groups, triggers and values in the order in which their cells occur: docs/DEFINITIONS.md, "Order of
+-- first occurrence".
 use Rattle.std.specs.Prelude.{List, [], ◌∷◌}
 use Rattle.std.specs.List.{flat_map}
 use Rattle.ra_condition.specs.declared.condition.Condition.{Condition}

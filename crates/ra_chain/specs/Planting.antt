@@ -1,4 +1,5 @@
--- What the calls of an elaboration leave in a pool: the step between the code and docs/DEFINITIONS.md, "Trees of a group".
+-- What the calls of an elaboration leave in a pool: the step between the code and docs/DEFINITIONS.md, "Trees of a
+-- group".
 use Rattle.std.specs.Prelude.{◌≡◌, ℕ, ◌+◌, ◌<◌, ◌≤◌, ◌^◌, Option, None, Some, List, [], length}
 use Rattle.ra_condition.specs.declared.flag.Flag.{Flag}
 use Rattle.ra_condition.specs.declared.flag.Flag.TheVariants.{AddSource, SubSource, AddAddress}

@@ -18,7 +18,8 @@ chain_end cs j h =
 pub returns : goal.returns
 returns c = record {
   pause_chain = λ cs j. (chain_end cs j, pauses_from_end cs j);
-  each_once = λ cs. IsPermutation-filter_both (in_pause_chain cs) (λ j. not (in_pause_chain cs j)) (λ j. refl) (places cs);
+  each_once = λ cs. IsPermutation-filter_both (in_pause_chain cs) (λ j. not (in_pause_chain cs j))
+      (λ j. refl) (places cs);
   text_order = before_chained;
   pauses_first = before_pauses;
 }

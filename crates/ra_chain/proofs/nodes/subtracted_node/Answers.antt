@@ -13,5 +13,8 @@ pub returns-in_ok-number-in-None-clause-ok : goal.returns-in_ok-number-in-None-c
 returns-in_ok-number-in-None-clause-ok c =
     λ s v sum value. (
     let first = c.in_ok-zero-in-None.ensures in
-    plants_subtracted c.args.pool.now c.constant_node.new.pool c.joined_node-in-None.new.pool c.in_ok-zero-in-None.zero c.in_ok-number-in-None.number v s (subst (λ o. SpellsSum c.args.pool.now o s) c.in-None.is sum) first.ok
-    (c.in_ok-number-in-None.ensures.ok (constant 0) v first.ok.spells (spells_more c.args.pool.now c.constant_node.new.pool c.args.value v first.kept.front value)))
+    plants_subtracted c.args.pool.now c.constant_node.new.pool c.joined_node-in-None.new.pool
+    c.in_ok-zero-in-None.zero c.in_ok-number-in-None.number v s
+    (subst (λ o. SpellsSum c.args.pool.now o s) c.in-None.is sum) first.ok
+    (c.in_ok-number-in-None.ensures.ok (constant 0) v first.ok.spells
+    (spells_more c.args.pool.now c.constant_node.new.pool c.args.value v first.kept.front value)))

@@ -9,7 +9,9 @@ loop-condition-init c = λ k d within. absurd (omega (arith, within))
 pub loop-condition-preserved : goal.loop-condition-preserved
 loop-condition-preserved c = λ k d within. elim (cases_lt k c.loop-condition.condition-index) [
   | inl before ↦ c.loop-condition.invariant k d before
-  | inr last ↦ one_more c.args.conditions.now c.loop-condition.condition-index k d _ last within (omega (arith, within, c.loop-condition-test.true)) (sym c.is_pause.ensures ∙ c.if-is_pause.false)
+  | inr last ↦ one_more c.args.conditions.now c.loop-condition.condition-index k d _ last within
+      (omega (arith, within, c.loop-condition-test.true)) (sym c.is_pause.ensures
+      ∙ c.if-is_pause.false)
 ]
 
 pub returns : goal.returns

@@ -22,5 +22,8 @@ returns c =
     let pauses = chosen_marked cs c.deref.result.now (c.deref.ensures.value ∙ c.in_ok-pausing.ensures) in
     let others = chosen_unmarked cs c.deref-2.result.now (c.deref-2.ensures.value ∙ c.in_ok-pausing.ensures) in
     c.in_ok-push_places-2.ensures
-    ∙ ap (λ xs. xs ++ chosen (λ j. beq (get_or c.deref-2.result.now j false) false) (length c.deref-2.result.now)) (c.in_ok-push_places.ensures ∙ ap (λ xs. xs ++ chosen (λ j. beq (get_or c.deref.result.now j false) true) (length c.deref.result.now)) c.new-order.ensures.items ∙ pauses)
+    ∙ ap (λ xs. xs ++ chosen (λ j. beq (get_or c.deref-2.result.now j false) false)
+    (length c.deref-2.result.now)) (c.in_ok-push_places.ensures
+    ∙ ap (λ xs. xs ++ chosen (λ j. beq (get_or c.deref.result.now j false) true)
+    (length c.deref.result.now)) c.new-order.ensures.items ∙ pauses)
     ∙ ap (λ xs. chosen (in_pause_chain cs) (length cs) ++ xs) others

@@ -22,11 +22,15 @@ returns-in_ok-number-in_default-clause-ok c =
     let e = c.in_ok-right-in_default.ensures in
     let op = c.args.condition.now.op in
     let t = operand_tree c.args.condition.now.right p r in
-    let arithmetic : IsTrue (is_arithmetic c.args.condition.now.op) = arithmetic_from c.args.condition.now.op c.in_default.not-Bare c.requires.joins in
+    let arithmetic : IsTrue (is_arithmetic c.args.condition.now.op) =
+    arithmetic_from c.args.condition.now.op c.in_default.not-Bare c.requires.joins in
     let first = e.ok p r pointed recalled in
-    let second = c.in_ok-number-in_default.ensures.ok l t (spells_more c.args.pool.now c.operand_node.new.pool c.args.left l e.kept.front left) first.spells in
-    subst (λ x. Plants base c.joined_node.new.pool (trees ++ x ∷ []) x c.in_ok-number-in_default.number) (sym (joined_is op l t arithmetic))
+    let second = c.in_ok-number-in_default.ensures.ok l t (spells_more c.args.pool.now
+    c.operand_node.new.pool c.args.left l e.kept.front left) first.spells in
+    subst (λ x. Plants base c.joined_node.new.pool
+    (trees ++ x ∷ []) x c.in_ok-number-in_default.number) (sym (joined_is op l t arithmetic))
     (record {
-      grows = grows_joined base c.args.pool.now c.operand_node.new.pool c.joined_node.new.pool op trees l t grew first.grows second.grows;
+      grows = grows_joined base c.args.pool.now c.operand_node.new.pool c.joined_node.new.pool op
+          trees l t grew first.grows second.grows;
       spells = second.spells;
     }))

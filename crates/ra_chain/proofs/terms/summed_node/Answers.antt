@@ -18,8 +18,15 @@ loop-term-preserved c =
     let e = c.in_ok-product.ensures in
     let f = c.in_ok-more.ensures in
     let before = c.loop-term.invariant in
-    let sums = sum_more c.loop-term.pool c.term_node.new.pool c.loop-term.sum (terms_sum (take c.loop-term.term-index c.args.terms.now)) e.kept.front before.sum.spells in
+    let sums = sum_more c.loop-term.pool c.term_node.new.pool c.loop-term.sum
+    (terms_sum (take c.loop-term.term-index c.args.terms.now)) e.kept.front before.sum.spells in
     record {
-      sum = plants_term c.args.pool.now c.loop-term.pool c.term_node.new.pool c.added_node.new.pool c.args.terms.now k _ c.loop-term-test.true c.loop-term.sum c.in_ok-product.product c.in_ok-more.more before.sum e.ok (f.ok _ _ sums e.ok.spells);
-      kept = kept_through c.args.pool.now c.term_node.new.pool c.added_node.new.pool (12 * k + 7) (2 * k + 2) (2 * k + 2) 1 0 0 (12 * (k + 1)) (2 * (k + 1)) (2 * (k + 1)) (omega arith) (omega arith) (omega arith) (kept_through c.args.pool.now c.loop-term.pool c.term_node.new.pool (12 * k) (2 * k) (2 * k) 7 2 2 (12 * k + 7) (2 * k + 2) (2 * k + 2) (omega arith) (omega arith) (omega arith) before.kept e.kept) f.kept;
+      sum = plants_term c.args.pool.now c.loop-term.pool c.term_node.new.pool c.added_node.new.pool
+          c.args.terms.now k _ c.loop-term-test.true c.loop-term.sum c.in_ok-product.product
+          c.in_ok-more.more before.sum e.ok (f.ok _ _ sums e.ok.spells);
+      kept = kept_through c.args.pool.now c.term_node.new.pool c.added_node.new.pool (12 * k + 7)
+          (2 * k + 2) (2 * k + 2) 1 0 0 (12 * (k + 1)) (2 * (k + 1)) (2 * (k + 1)) (omega arith)
+          (omega arith) (omega arith) (kept_through c.args.pool.now c.loop-term.pool
+          c.term_node.new.pool (12 * k) (2 * k) (2 * k) 7 2 2 (12 * k + 7) (2 * k + 2) (2 * k + 2)
+          (omega arith) (omega arith) (omega arith) before.kept e.kept) f.kept;
     }

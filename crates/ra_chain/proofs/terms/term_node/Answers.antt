@@ -14,9 +14,14 @@ returns-in_ok-product-in-Some-clause-ok c =
     let first = c.in_ok-operand.ensures.ok (constant 0) (constant 0) refl refl in
     let factor = c.in_ok-factor-in-Some.ensures in
     let second = factor.ok (constant 0) (constant 0) refl refl in
-    let third = c.in_ok-product-in-Some.ensures.ok l t (spells_more c.operand_node.new.pool c.operand_node-in-Some.new.pool c.in_ok-operand.operand l factor.kept.front first.spells) second.spells in
-    subst (λ f. Plants c.args.pool.now c.joined_node.new.pool (times (operand_tree c.args.term.operand (constant 0) (constant 0)) f ∷ []) (times (operand_tree c.args.term.operand (constant 0) (constant 0)) f) c.in_ok-product-in-Some.product) (sym c.in-Some.is)
+    let third = c.in_ok-product-in-Some.ensures.ok l t
+    (spells_more c.operand_node.new.pool c.operand_node-in-Some.new.pool c.in_ok-operand.operand l
+    factor.kept.front first.spells) second.spells in
+    subst (λ f. Plants c.args.pool.now c.joined_node.new.pool (times (operand_tree
+    c.args.term.operand (constant 0) (constant 0)) f ∷ []) (times (operand_tree c.args.term.operand
+    (constant 0) (constant 0)) f) c.in_ok-product-in-Some.product) (sym c.in-Some.is)
     (record {
-      grows = grows_joined c.args.pool.now c.operand_node.new.pool c.operand_node-in-Some.new.pool c.joined_node.new.pool Mul [] l t first.grows second.grows third.grows;
+      grows = grows_joined c.args.pool.now c.operand_node.new.pool c.operand_node-in-Some.new.pool
+          c.joined_node.new.pool Mul [] l t first.grows second.grows third.grows;
       spells = third.spells;
     })
