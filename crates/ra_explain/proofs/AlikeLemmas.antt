@@ -7,7 +7,8 @@ use Rattle.ra_trigger.specs.States.{is_waiting, is_triggered, is_cleared, state_
 use Rattle.ra_trigger.specs.Steps.{TriggerKept, Together, together, step, kept_after, cleared}
 use Rattle.ra_explain.specs.Explains.{clears_at}
 use Rattle.ra_explain.specs.Beginnings.{CountAlike, StepsOver}
-use Rattle.ra_explain.proofs.LeftLemmas.{together_reset, together_valid, together_paused, together_primed, together_hits}
+use Rattle.ra_explain.proofs.LeftLemmas.{together_reset, together_valid, together_paused, together_primed}
+use Rattle.ra_explain.proofs.LeftLemmas.{together_hits}
 
 pub alike_same : (a b : TriggerKept) → a ≡ b → CountAlike a b
 alike_same a b is = record { state = ap (λ (k : TriggerKept). k.state) is; hits = ap (λ (k : TriggerKept). k.hits) is }
@@ -19,7 +20,8 @@ alike_by : (p : Bool) (a b x y : TriggerKept) → CountAlike a b → CountAlike 
 alike_by true a b x y ab xy = ab
 alike_by false a b x y ab xy = xy
 
-module _ (t : TriggerContents) (row : List Bool) (lefts lefts' : List ℕ) (a b : TriggerKept) (alike : CountAlike a b) where
+module _ (t : TriggerContents) (row : List Bool) (lefts lefts' : List ℕ) (a b : TriggerKept)
+    (alike : CountAlike a b) where
   abbrev now : Together
   now = together t row lefts a.hits
 
@@ -64,7 +66,9 @@ quiet true primed = refl
 quiet false true = refl
 quiet false false = refl
 
-told_by : (state : State) (reset valid paused primed : Bool) → (reset || is_waiting (cond (is_triggered state) state (state_after state reset valid paused primed))) ≡ is_cleared state reset valid
+told_by : (state : State) (reset valid paused primed : Bool) → (reset || is_waiting
+    (cond (is_triggered state) state (state_after state reset valid paused primed)))
+    ≡ is_cleared state reset valid
 told_by state true valid paused primed = refl
 told_by Waiting false true paused primed = refl
 told_by Waiting false false paused primed = quiet paused primed
@@ -81,13 +85,17 @@ state_by true x y = refl
 state_by false x y = refl
 
 -- a row steps an achievement, whatever left values it has
-pub steps_over : (t : TriggerContents) (row : List Bool) (lefts : List ℕ) (old new : TriggerKept) (reset clears : Bool) → new ≡ step t row lefts old → reset ≡ (together t row [] old.hits).reset → clears ≡ (reset || is_waiting new.state) → StepsOver t row old new clears
+pub steps_over : (t : TriggerContents) (row : List Bool) (lefts : List ℕ) (old new : TriggerKept)
+    (reset clears : Bool) → new ≡ step t row lefts old → reset ≡ (together t row [] old.hits).reset
+    → clears ≡ (reset || is_waiting new.state) → StepsOver t row old new clears
 steps_over t row lefts old new reset clears is resets tells =
     let now = together t row [] old.hits in
     let alike = step_alike t row lefts [] old old (alike_same old old refl) in
     record {
       alike = alike_on new (step t row lefts old) (step t row [] old) (alike_same new (step t row lefts old) is) alike;
       told =
-          tells ∙ ap (λ (k : TriggerKept). reset || is_waiting k.state) is ∙ ap (λ s. reset || is_waiting s) alike.state ∙ ap (λ r. r || is_waiting (step t row [] old).state) resets
-          ∙ ap (λ s. now.reset || is_waiting s) (state_by (is_triggered old.state) old (kept_after old now)) ∙ told_by old.state now.reset now.valid now.paused now.primed;
+          tells ∙ ap (λ (k : TriggerKept). reset || is_waiting k.state) is ∙ ap (λ s. reset ||
+          is_waiting s) alike.state ∙ ap (λ r. r || is_waiting (step t row [] old).state) resets
+          ∙ ap (λ s. now.reset || is_waiting s) (state_by (is_triggered old.state) old
+          (kept_after old now)) ∙ told_by old.state now.reset now.valid now.paused now.primed;
     }

@@ -4,7 +4,8 @@ use Rattle.std.specs.List.{AllByRecursion}
 use Rattle.ra_condition.specs.Contents.{TriggerContents, trigger_hits}
 use Rattle.ra_explain.specs.HitChanges.{ChangesSeen, events_of, unchanged, with_rows}
 use Rattle.ra_explain.specs.Replays.{noted, hits_through, events_through}
-use Rattle.ra_explain.proofs.NoteLemmas.{columns, columns_events, columns_first, columns_hits, columns_more, columns_room, length_columns}
+use Rattle.ra_explain.proofs.NoteLemmas.{columns, columns_events, columns_first, columns_hits, columns_more}
+use Rattle.ra_explain.proofs.NoteLemmas.{columns_room, length_columns}
 use Rattle.ra_explain.proofs.TraceLemmas.{many_events, many_hits}
 
 -- the conditions at a row

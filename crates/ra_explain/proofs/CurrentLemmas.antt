@@ -26,7 +26,8 @@ module _ (t : TriggerContents) (table : TableSeen) (image : List ℕ) (over : Is
 abbrev pub with_table : Inside → TableSeen → Inside
 with_table t table = record t { table = table }
 
-module _ (t : Inside) (is : IsRecording t) (table : TableSeen) (rest : table ≡ record t.table { marked = table.marked }) where
+module _ (t : Inside) (is : IsRecording t) (table : TableSeen) (rest : table
+    ≡ record t.table { marked = table.marked }) where
   pub marked_recording : IsRecording (with_table t table)
   marked_recording = subst (λ (x : TableSeen). IsRecording (with_table t x)) (sym rest) (record {
     few = is.few;

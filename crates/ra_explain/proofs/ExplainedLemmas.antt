@@ -1,5 +1,6 @@
 -- The explanation of rows explains each history that has these rows, and no other does.
-use Rattle.std.proofs.Common.{◌≡◌, ℕ, suc, ◌+◌, ◌-◌, ◌*◌, ◌≤◌, Bool, true, false, not, ◌&&◌, List, [], ◌∷◌, length, reverse, refl, sym, ap, ap₂, subst, ◌∙◌, arith}
+use Rattle.std.proofs.Common.{◌≡◌, ℕ, suc, ◌+◌, ◌-◌, ◌*◌, ◌≤◌, Bool, true, false, not, ◌&&◌, List, [], ◌∷◌, length}
+use Rattle.std.proofs.Common.{reverse, refl, sym, ap, ap₂, subst, ◌∙◌, arith}
 use Rattle.std.specs.List.{flat_map}
 use Rattle.std.proofs.lemmas.Bool.{false≢true}
 use Rattle.std.proofs.lemmas.List.{length-map}
@@ -13,7 +14,8 @@ use Rattle.ra_explain.specs.Beginnings.{StandsAtUnlock, UnlocksLast, ExplainsRow
 use Rattle.ra_explain.specs.Unlocks.{rows_along, after_clear, waits_before, IsExplanation, ExplainsHistory}
 use Rattle.ra_explain.proofs.BeginningLemmas.{begins_within}
 use Rattle.ra_trigger.proofs.GroupsLemmas.{length-hits_along}
-use Rattle.ra_explain.proofs.HistoryLemmas.{length_behind, length_along, begins_along, waits_along, triggered_before, triggered_after}
+use Rattle.ra_explain.proofs.HistoryLemmas.{length_behind, length_along, begins_along, waits_along, triggered_before}
+use Rattle.ra_explain.proofs.HistoryLemmas.{triggered_after}
 use Rattle.ra_explain.proofs.TraceLemmas.{are_traced}
 
 both : (a b : Bool) → (not a && b) ≡ true → (a ≡ false) × (b ≡ true)
@@ -29,7 +31,8 @@ module _ (t : TriggerContents) (kept : KeptRows) (at : StandsAtUnlock t kept) wh
 
   -- there is a row
   pub some_rows : length kept.rows ≡ length at.earlier + 1
-  some_rows = let long = count_of (at.image ∷ at.earlier) at.stands in let one : suc (length at.earlier) ≡ length at.earlier + 1 = omega arith in long ∙ one
+  some_rows = let long = count_of (at.image ∷ at.earlier) at.stands in
+      let one : suc (length at.earlier) ≡ length at.earlier + 1 = omega arith in long ∙ one
 
   pub long_rows : (last : ℕ) → last + 1 ≡ length kept.rows → length (rows_in_order kept) ≡ (last + 1) * trigger_hits t
   long_rows last is =
@@ -40,13 +43,18 @@ module _ (t : TriggerContents) (kept : KeptRows) (at : StandsAtUnlock t kept) wh
   unlocks_last last is =
       let here : last ≡ length at.earlier = omega (arith, is, some_rows) in
       let rows = rows_of (at.image ∷ at.earlier) at.stands in
-      let states = both (is_triggered (kept_after t at.earlier).state) (is_triggered (kept_after t (at.image ∷ at.earlier)).state) at.unlocks in
+      let states = both (is_triggered (kept_after t at.earlier).state)
+      (is_triggered (kept_after t (at.image ∷ at.earlier)).state) at.unlocks in
       record {
-        before = ap₂ (λ rs n. is_triggered (replayed t rs n).state) rows here ∙ triggered_before t at.image at.earlier ∙ states.0;
-        after = ap₂ (λ rs n. is_triggered (replayed t rs (suc n)).state) rows here ∙ triggered_after t at.image at.earlier ∙ states.1;
+        before = ap₂ (λ rs n. is_triggered (replayed t rs n).state) rows here
+            ∙ triggered_before t at.image at.earlier ∙ states.0;
+        after = ap₂ (λ rs n. is_triggered (replayed t rs (suc n)).state) rows here
+            ∙ triggered_after t at.image at.earlier ∙ states.1;
       }
 
-  pub explains_each : (rows : List Bool) (last : ℕ) (e : ExplanationContents) → rows ≡ rows_in_order kept → last + 1 ≡ length kept.rows → ExplainsRows t rows last e → (history : History) → StandsFor t kept history → ExplainsHistory t history e
+  pub explains_each : (rows : List Bool) (last : ℕ) (e : ExplanationContents) → rows
+      ≡ rows_in_order kept → last + 1 ≡ length kept.rows → ExplainsRows t rows last e
+      → (history : History) → StandsFor t kept history → ExplainsHistory t history e
   explains_each rows last e are is x [] stands = absurd (omega (arith, count_of [] stands, is))
   explains_each rows last e are is x (image ∷ earlier) stands =
       let same : rows ≡ rows_along t (image ∷ earlier) = are ∙ rows_of (image ∷ earlier) stands in
@@ -56,7 +64,8 @@ module _ (t : TriggerContents) (kept : KeptRows) (at : StandsAtUnlock t kept) wh
         explains = subst (λ rs. Explains t rs e) same x.explains;
         last = x.last_too ∙ here;
         since = x.since ∙ ap₂ (begins_by t) same here ∙ begins_along t image earlier;
-        waited = x.waited ∙ ap (λ rs. is_waiting (replayed t rs e.since).state) same ∙ waits_along t image earlier e.since within;
+        waited = x.waited ∙ ap (λ rs. is_waiting (replayed t rs e.since).state) same
+            ∙ waits_along t image earlier e.since within;
       }
 
 -- there is one explanation of a history alone
@@ -65,7 +74,8 @@ module _ (t : TriggerContents) (image : List ℕ) (earlier : History) where
   all = rows_along t (image ∷ earlier)
 
   within : (e : ExplanationContents) → IsExplanation t image earlier e → e.since ≤ e.last
-  within e is = let w = begins_within t all (length earlier) in omega (arith, w, is.since, is.last, begins_along t image earlier)
+  within e is = let w = begins_within t all (length earlier) in
+      omega (arith, w, is.since, is.last, begins_along t image earlier)
 
   many : (e : ExplanationContents) → IsExplanation t image earlier e → length e.events ≡ trigger_hits t
   many e is =
@@ -73,12 +83,14 @@ module _ (t : TriggerContents) (image : List ℕ) (earlier : History) where
       ∙ ap length (is.explains.counts e.since (omega arith) (within e is))
       ∙ length-hits_along (groups_of t) (row_at t all e.since) [] (said_before e e.since)
 
-  traced : (e : ExplanationContents) → IsExplanation t image earlier e → e.events ≡ events_through t all (after_clear t earlier) (length earlier + 1 - after_clear t earlier)
+  traced : (e : ExplanationContents) → IsExplanation t image earlier e → e.events
+      ≡ events_through t all (after_clear t earlier) (length earlier + 1 - after_clear t earlier)
   traced e is =
       are_traced t all e (within e is) (many e is) is.explains
       ∙ (λ i. events_through t all (is.since i) (is.last i + 1 - is.since i))
 
-  pub one_explanation : (e e' : ExplanationContents) → IsExplanation t image earlier e → IsExplanation t image earlier e' → e ≡ e'
+  pub one_explanation : (e e' : ExplanationContents) → IsExplanation t image earlier e
+      → IsExplanation t image earlier e' → e ≡ e'
   one_explanation e e' is is' = λ i. record {
     last = (is.last ∙ sym is'.last) i;
     since = (is.since ∙ sym is'.since) i;

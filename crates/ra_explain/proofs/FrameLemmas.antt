@@ -1,5 +1,6 @@
 -- One frame goes on from every history for which what is kept stands.
-use Rattle.std.proofs.Common.{◌≡◌, ℕ, suc, not, ◌&&◌, Bool, List, [], ◌∷◌, length, map, slice_index, refl, sym, ◌∙◌, ap, ap₂, arith}
+use Rattle.std.proofs.Common.{◌≡◌, ℕ, suc, not, ◌&&◌, Bool, List, [], ◌∷◌, length, map, slice_index, refl, sym, ◌∙◌, ap}
+use Rattle.std.proofs.Common.{ap₂, arith}
 use Rattle.std.specs.Vec.{with_items}
 use Rattle.std.proofs.lemmas.List.{length-map, with_items_is}
 use Rattle.ra_condition.specs.Contents.{TriggerContents, groups_of, trigger_hits}
@@ -20,12 +21,14 @@ use Rattle.ra_member.specs.Runs.{HasValues, IsLaid, MayFill, IsTriggerRun, IsFil
 use Rattle.ra_member.specs.Readings.{numbers_at, truths_by}
 use Rattle.ra_member.proofs.LaidLemmas.{truths_read, laid_fills}
 use Rattle.ra_explain.specs.Making.{IsOver}
-use Rattle.ra_explain.specs.Recorders.{plain_start, trigger_cells, trigger_tracked, kept_after, row_of, StandsFor, unlocks_at}
+use Rattle.ra_explain.specs.Recorders.{plain_start, trigger_cells, trigger_tracked, kept_after, row_of, StandsFor}
+use Rattle.ra_explain.specs.Recorders.{unlocks_at}
 use Rattle.ra_explain.specs.RowLists.{truths_laid}
 use Rattle.ra_explain.specs.Slots.{HaveCounts, counts_of, kept_by, StandsSomewhere}
 
 -- as many truths as operators
-length_truths : (ops : List Op) (xs ys : List ℕ) → length xs ≡ length ops → length ys ≡ length ops → length (truths_by ops xs ys) ≡ length ops
+length_truths : (ops : List Op) (xs ys : List ℕ) → length xs ≡ length ops → length ys ≡ length ops
+    → length (truths_by ops xs ys) ≡ length ops
 length_truths [] xs ys long long_too = refl
 length_truths (op ∷ ops) [] ys long long_too = absurd (omega arith)
 length_truths (op ∷ ops) (x ∷ xs) [] long long_too = absurd (omega arith)
@@ -40,7 +43,8 @@ filled_by values laid = record {
   lefts = with_items laid.lefts (numbers_at values laid.plan.lefts.items);
 }
 
-module _ (nodes : List Node) (groups : List (List Condition)) (values : List ℕ) (laid : Laid) (is : IsLaid nodes groups laid) where
+module _ (nodes : List Node) (groups : List (List Condition)) (values : List ℕ) (laid : Laid)
+    (is : IsLaid nodes groups laid) where
   may : MayFill nodes laid
   may = laid_fills nodes groups laid is
 
@@ -51,17 +55,24 @@ module _ (nodes : List Node) (groups : List (List Condition)) (values : List ℕ
   rights_many = length-map laid.plan.rights.items (λ n. slice_index values n) ∙ may.right_nodes
 
   pub filled_truths : (filled_by values laid).truths.items ≡ truths_laid values laid
-  filled_truths = with_items_is laid.truths (truths_laid values laid) (length_truths laid.ops.items (numbers_at values laid.plan.lefts.items) (numbers_at values laid.plan.rights.items) lefts_many rights_many ∙ sym may.truths ∙ sym laid.truths.ok.0)
+  filled_truths = with_items_is laid.truths (truths_laid values laid)
+      (length_truths laid.ops.items (numbers_at values laid.plan.lefts.items) (numbers_at values
+      laid.plan.rights.items) lefts_many rights_many ∙ sym may.truths ∙ sym laid.truths.ok.0)
 
   pub filled_is : IsFilled values laid (filled_by values laid)
   filled_is = record {
     plan = refl;
     ops = refl;
-    lefts = with_items_is laid.lefts (numbers_at values laid.plan.lefts.items) (lefts_many ∙ sym may.left_values ∙ sym laid.lefts.ok.0);
+    lefts = with_items_is laid.lefts (numbers_at values laid.plan.lefts.items) (lefts_many
+        ∙ sym may.left_values ∙ sym laid.lefts.ok.0);
     truths = filled_truths;
   }
 
-module _ (t : TriggerContents) (old new : TableSeen) (image : List ℕ) (before after : TriggerRun) (change : Change) (rows : List (List Bool)) (over : IsOver t old) (samples : Samples old new image) (run : IsTriggerRun new.nodes t after) (steps : StepsAchievement new t before after change) (history : History) (stands : StandsFor t (kept_by old before.trigger rows) history) where
+module _ (t : TriggerContents) (old new : TableSeen) (image : List ℕ) (before after : TriggerRun)
+    (change : Change) (rows : List (List Bool)) (over : IsOver t old)
+    (samples : Samples old new image) (run : IsTriggerRun new.nodes t after)
+    (steps : StepsAchievement new t before after change) (history : History)
+    (stands : StandsFor t (kept_by old before.trigger rows) history) where
   are_kept : AreKept plain_start history old.nodes old.cells old.priors
   are_kept = record {
     numbers = stands.cells ∙ ap (map (λ c. cell_number plain_start c history)) (sym over.cells);
@@ -70,26 +81,33 @@ module _ (t : TriggerContents) (old new : TableSeen) (image : List ℕ) (before 
 
   has_values : HasValues new plain_start (image ∷ history)
   has_values =
-      samples.values plain_start history are_kept ∙ ap (λ ns. map (spelled_value plain_start (image ∷ history)) (spelled_by ns)) (sym samples.pool.0)
+      samples.values plain_start history are_kept ∙ ap
+      (λ ns. map (spelled_value plain_start (image ∷ history)) (spelled_by ns)) (sym samples.pool.0)
 
   -- where each cell lies after the frame
   pub frame_places : new.places ≡ map (λ c. cell_place plain_start c (image ∷ history)) (trigger_cells t)
-  frame_places = samples.places plain_start history are_kept ∙ ap (map (λ c. cell_place plain_start c (image ∷ history))) over.cells
+  frame_places = samples.places plain_start history are_kept
+      ∙ ap (map (λ c. cell_place plain_start c (image ∷ history))) over.cells
 
   stepped : after.trigger ≡ kept_after t (image ∷ history)
   stepped =
-      steps.kept plain_start (image ∷ history) has_values ∙ ap (achievement_next plain_start t (image ∷ history)) stands.trigger
+      steps.kept plain_start (image ∷ history) has_values
+      ∙ ap (achievement_next plain_start t (image ∷ history)) stands.trigger
 
   -- the row that is read is that of the frame
   row_read : truths_laid new.values after.laid ≡ row_of t (image ∷ history)
   row_read =
       sym (filled_truths new.nodes (groups_of t) new.values after.laid run.laid)
-      ∙ truths_read new.nodes new.values plain_start (image ∷ history) has_values (groups_of t) after.laid (filled_by new.values after.laid) run.laid (filled_is new.nodes (groups_of t) new.values after.laid run.laid)
+      ∙ truths_read new.nodes new.values plain_start (image ∷ history) has_values
+      (groups_of t) after.laid (filled_by new.values after.laid) run.laid
+      (filled_is new.nodes (groups_of t) new.values after.laid run.laid)
 
   -- what is kept after the frame stands for the history with its image
-  pub frame_stands : StandsFor t (kept_by new after.trigger (truths_laid new.values after.laid ∷ rows)) (image ∷ history)
+  pub frame_stands : StandsFor t
+      (kept_by new after.trigger (truths_laid new.values after.laid ∷ rows)) (image ∷ history)
   frame_stands =
-      let kept : AreKept plain_start (image ∷ history) old.nodes new.cells new.priors = samples.kept plain_start history are_kept in
+      let kept : AreKept plain_start (image ∷ history) old.nodes new.cells new.priors =
+      samples.kept plain_start history are_kept in
       record {
         trigger = stepped;
         cells = kept.numbers ∙ ap (map (λ c. cell_number plain_start c (image ∷ history))) over.cells;
@@ -104,16 +122,21 @@ module _ (t : TriggerContents) (old new : TableSeen) (image : List ℕ) (before 
       ∙ ap₂ (λ (k l : TriggerKept). not (is_triggered k.state) && is_triggered l.state) stands.trigger stepped
 
 -- the table is over the trigger after a frame
-pub over_after : (t : TriggerContents) (old new : TableSeen) (image : List ℕ) → IsOver t old → Samples old new image → IsOver t new
+pub over_after : (t : TriggerContents) (old new : TableSeen) (image : List ℕ) → IsOver t old
+    → Samples old new image → IsOver t new
 over_after t old new image over samples = record {
   cells = ap cells_of samples.pool.0 ∙ over.cells;
   tracked = ap tracked_of samples.pool.0 ∙ over.tracked;
 }
 
 -- what stands for a history has the counts of the trigger
-pub counts_kept : (t : TriggerContents) (table : TableSeen) (trigger : TriggerKept) (rows : List (List Bool)) → length trigger.hits ≡ trigger_hits t → StandsSomewhere t (kept_by table trigger rows) → HaveCounts (counts_of t) table trigger
+pub counts_kept : (t : TriggerContents) (table : TableSeen) (trigger : TriggerKept)
+    (rows : List (List Bool)) → length trigger.hits ≡ trigger_hits t
+    → StandsSomewhere t (kept_by table trigger rows) → HaveCounts (counts_of t) table trigger
 counts_kept t table trigger rows hits somewhere = record {
-  cells = ap length somewhere.stands.cells ∙ length-map (trigger_cells t) (λ c. cell_number plain_start c somewhere.history);
-  priors = ap length somewhere.stands.priors ∙ length-map (trigger_tracked t) (λ m. tracked_number plain_start m somewhere.history);
+  cells = ap length somewhere.stands.cells
+      ∙ length-map (trigger_cells t) (λ c. cell_number plain_start c somewhere.history);
+  priors = ap length somewhere.stands.priors
+      ∙ length-map (trigger_tracked t) (λ m. tracked_number plain_start m somewhere.history);
   hits = hits;
 }

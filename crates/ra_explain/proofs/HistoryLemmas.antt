@@ -1,9 +1,12 @@
 -- The rows of a history, and what they tell of it.
-use Rattle.std.proofs.Common.{◌≡◌, ℕ, zero, suc, ◌+◌, ◌-◌, ◌*◌, ◌<◌, ◌≤◌, Bool, cond, List, [], ◌∷◌, ◌++◌, length, map, sum_by, take, drop, reverse, refl, sym, ap, ap₂, subst, ◌∙◌, inl, inr, arith, length-append}
+use Rattle.std.proofs.Common.{◌≡◌, ℕ, zero, suc, ◌+◌, ◌-◌, ◌*◌, ◌<◌, ◌≤◌, Bool, cond, List, [], ◌∷◌, ◌++◌, length, map}
+use Rattle.std.proofs.Common.{sum_by, take, drop, reverse, refl, sym, ap, ap₂, subst, ◌∙◌, inl, inr, arith}
+use Rattle.std.proofs.Common.{length-append}
 use Rattle.std.specs.List.{flat_map}
 use Rattle.std.proofs.lemmas.Bool.{cases_lt}
 use Rattle.std.proofs.lemmas.Grind.{flat_map-append}
-use Rattle.std.proofs.lemmas.List.{append-nil, length-map, length-drop, take_all, take-append-le, drop-append-le, reverse-append}
+use Rattle.std.proofs.lemmas.List.{append-nil, length-map, length-drop, take_all, take-append-le, drop-append-le}
+use Rattle.std.proofs.lemmas.List.{reverse-append}
 use Rattle.std.proofs.lemmas.List.Concat.{length-flat_map}
 use Rattle.std.proofs.Math.Seq.{drop-append_seam}
 use Rattle.std.proofs.lemmas.List.FromFn.{length-range_with_len}
@@ -24,7 +27,8 @@ use Rattle.ra_explain.proofs.AlikeLemmas.{alike_same, alike_on, clears_alike, st
 row_fits : (width k n : ℕ) → k < n → k * width + width ≤ n * width
 row_fits width k n below =
     let is : n ≡ k + 1 + (n - (k + 1)) = omega (arith, below) in
-    subst (λ m. k * width + width ≤ m * width) (sym is) (let far : (k + 1 + (n - (k + 1))) * width ≡ k * width + width + (n - (k + 1)) * width = omega arith in omega (arith, far))
+    subst (λ m. k * width + width ≤ m * width) (sym is) (let far : (k + 1 + (n - (k + 1))) * width
+    ≡ k * width + width + (n - (k + 1)) * width = omega arith in omega (arith, far))
 
 module _ (t : TriggerContents) where
   length_row : (history : History) → length (row_of t history) ≡ trigger_hits t
@@ -39,7 +43,8 @@ module _ (t : TriggerContents) where
   length_behind [] = refl
   length_behind (image ∷ earlier) = ap suc (length_behind earlier)
 
-  rows_more : (image : List ℕ) (earlier : History) → rows_along t (image ∷ earlier) ≡ rows_along t earlier ++ row_of t (image ∷ earlier)
+  rows_more : (image : List ℕ) (earlier : History) → rows_along t (image ∷ earlier)
+      ≡ rows_along t earlier ++ row_of t (image ∷ earlier)
   rows_more image earlier =
       let row = row_of t (image ∷ earlier) in
       ap (flat_map (λ r. r)) (reverse-append (row ∷ []) (rows_behind t earlier))
@@ -49,7 +54,8 @@ module _ (t : TriggerContents) where
   pub length_along : (history : History) → length (rows_along t history) ≡ length history * trigger_hits t
   length_along [] = let none : 0 ≡ 0 * trigger_hits t = omega arith in none
   length_along (image ∷ earlier) =
-      let far : suc (length earlier) * trigger_hits t ≡ length earlier * trigger_hits t + trigger_hits t = omega arith in
+      let far : suc (length earlier) * trigger_hits t
+      ≡ length earlier * trigger_hits t + trigger_hits t = omega arith in
       ap length (rows_more image earlier) ∙ length-append (rows_along t earlier) (row_of t (image ∷ earlier))
       ∙ ap₂ (λ a b. a + b) (length_along earlier) (length_row (image ∷ earlier)) ∙ sym far
 
@@ -83,29 +89,37 @@ module _ (t : TriggerContents) where
 
     replayed_before : (k : ℕ) → k ≤ length earlier → replayed t all k ≡ replayed t front k
     replayed_before zero within = refl
-    replayed_before (suc k) within = ap₂ (λ r kept. step t r [] kept) (row_before k (omega (arith, within))) (replayed_before k (omega (arith, within)))
+    replayed_before (suc k) within = ap₂ (λ r kept. step t r [] kept)
+        (row_before k (omega (arith, within))) (replayed_before k (omega (arith, within)))
 
     clears_before : (k : ℕ) → k < length earlier → clears_row t all k ≡ clears_row t front k
-    clears_before k below = ap₂ (λ r kept. clears_at t r [] kept) (row_before k below) (replayed_before k (omega (arith, below)))
+    clears_before k below = ap₂ (λ r kept. clears_at t r [] kept) (row_before k below)
+        (replayed_before k (omega (arith, below)))
 
     begins_before : (k : ℕ) → k ≤ length earlier → begins_by t all k ≡ begins_by t front k
     begins_before zero within = refl
-    begins_before (suc k) within = ap₂ (λ b n. cond b (suc k) n) (clears_before k (omega (arith, within))) (begins_before k (omega (arith, within)))
+    begins_before (suc k) within = ap₂ (λ b n. cond b (suc k) n)
+        (clears_before k (omega (arith, within))) (begins_before k (omega (arith, within)))
 
   -- the rows of a history tell the state and the hits after it
-  replay_whole : (history : History) → CountAlike (replayed t (rows_along t history) (length history)) (kept_after t history)
+  replay_whole : (history : History)
+      → CountAlike (replayed t (rows_along t history) (length history)) (kept_after t history)
   replay_whole [] = record { state = refl; hits = refl }
   replay_whole (image ∷ earlier) =
       let all = rows_along t (image ∷ earlier) in
       let front = rows_along t earlier in
       let row = row_of t (image ∷ earlier) in
       let lefts = lefts_at plain_start (image ∷ earlier) (groups_of t) in
-      alike_on (replayed t all (suc (length earlier))) (step t row [] (replayed t front (length earlier))) (kept_after t (image ∷ earlier))
-      (alike_same (replayed t all (suc (length earlier))) (step t row [] (replayed t front (length earlier))) (ap₂ (λ r kept. step t r [] kept) (row_last image earlier) (replayed_before image earlier (length earlier) (omega arith))))
+      alike_on (replayed t all (suc (length earlier)))
+      (step t row [] (replayed t front (length earlier))) (kept_after t (image ∷ earlier))
+      (alike_same (replayed t all (suc (length earlier)))
+      (step t row [] (replayed t front (length earlier))) (ap₂ (λ r kept. step t r [] kept)
+      (row_last image earlier) (replayed_before image earlier (length earlier) (omega arith))))
       (step_alike t row [] lefts (replayed t front (length earlier)) (kept_after t earlier) (replay_whole earlier))
 
   -- and after each front of it
-  replay_is : (history : History) (k : ℕ) → k ≤ length history → CountAlike (replayed t (rows_along t history) k) (kept_after t (drop (length history - k) history))
+  replay_is : (history : History) (k : ℕ) → k ≤ length history → CountAlike
+      (replayed t (rows_along t history) k) (kept_after t (drop (length history - k) history))
   replay_is [] zero within = record { state = refl; hits = refl }
   replay_is [] (suc k) within = absurd (omega (arith, within))
   replay_is (image ∷ earlier) k within = elim (cases_lt (length earlier) k) [
@@ -114,38 +128,50 @@ module _ (t : TriggerContents) where
         let none : 0 ≡ length (image ∷ earlier) - k = omega (arith, whole) in
         let all = rows_along t (image ∷ earlier) in
         subst (λ n. CountAlike (replayed t all k) (kept_after t (drop n (image ∷ earlier)))) none
-        (subst (λ n. CountAlike (replayed t all n) (kept_after t (image ∷ earlier))) (sym whole) (replay_whole (image ∷ earlier)))
+        (subst (λ n. CountAlike (replayed t all n) (kept_after t (image ∷ earlier))) (sym whole)
+        (replay_whole (image ∷ earlier)))
     | inr below ↦
         let few : k ≤ length earlier = omega (arith, below) in
         let one : suc (length earlier - k) ≡ length (image ∷ earlier) - k = omega (arith, few) in
         let all = rows_along t (image ∷ earlier) in
         let front = rows_along t earlier in
         subst (λ n. CountAlike (replayed t all k) (kept_after t (drop n (image ∷ earlier)))) one
-        (subst (λ kept. CountAlike kept (kept_after t (drop (length earlier - k) earlier))) (sym (replayed_before image earlier k few)) (replay_is earlier k few))
+        (subst (λ kept. CountAlike kept (kept_after t (drop (length earlier - k) earlier)))
+        (sym (replayed_before image earlier k few)) (replay_is earlier k few))
   ]
 
-  clears_is : (image : List ℕ) (earlier : History) → clears_row t (rows_along t (image ∷ earlier)) (length earlier) ≡ clears_last t image earlier
+  clears_is : (image : List ℕ) (earlier : History)
+      → clears_row t (rows_along t (image ∷ earlier)) (length earlier) ≡ clears_last t image earlier
   clears_is image earlier =
-      ap₂ (λ r kept. clears_at t r [] kept) (row_last image earlier) (replayed_before image earlier (length earlier) (omega arith))
-      ∙ clears_alike t (row_of t (image ∷ earlier)) [] (lefts_at plain_start (image ∷ earlier) (groups_of t)) (replayed t (rows_along t earlier) (length earlier)) (kept_after t earlier) (replay_whole earlier)
+      ap₂ (λ r kept. clears_at t r [] kept) (row_last image earlier)
+      (replayed_before image earlier (length earlier) (omega arith))
+      ∙ clears_alike t (row_of t (image ∷ earlier)) []
+      (lefts_at plain_start (image ∷ earlier) (groups_of t)) (replayed t (rows_along t earlier)
+      (length earlier)) (kept_after t earlier) (replay_whole earlier)
 
   begins_is : (history : History) → begins_by t (rows_along t history) (length history) ≡ after_clear t history
   begins_is [] = refl
   begins_is (image ∷ earlier) =
-      ap₂ (λ b n. cond b (suc (length earlier)) n) (clears_is image earlier) (begins_before image earlier (length earlier) (omega arith) ∙ begins_is earlier)
+      ap₂ (λ b n. cond b (suc (length earlier)) n) (clears_is image earlier)
+      (begins_before image earlier (length earlier) (omega arith) ∙ begins_is earlier)
 
   module _ (image : List ℕ) (earlier : History) where
     -- the rows of a history with a frame more tell of it
     pub begins_along : begins_by t (rows_along t (image ∷ earlier)) (length earlier) ≡ after_clear t earlier
     begins_along = begins_before image earlier (length earlier) (omega arith) ∙ begins_is earlier
 
-    pub waits_along : (row : ℕ) → row ≤ length earlier → is_waiting (replayed t (rows_along t (image ∷ earlier)) row).state ≡ waits_before t earlier row
+    pub waits_along : (row : ℕ) → row ≤ length earlier → is_waiting
+        (replayed t (rows_along t (image ∷ earlier)) row).state ≡ waits_before t earlier row
     waits_along row within =
-        ap (λ (k : TriggerKept). is_waiting k.state) (replayed_before image earlier row within) ∙ ap is_waiting (replay_is earlier row within).state
+        ap (λ (k : TriggerKept). is_waiting k.state) (replayed_before image earlier row within)
+        ∙ ap is_waiting (replay_is earlier row within).state
 
-    pub triggered_before : is_triggered (replayed t (rows_along t (image ∷ earlier)) (length earlier)).state ≡ is_triggered (kept_after t earlier).state
+    pub triggered_before : is_triggered (replayed t (rows_along t (image ∷ earlier))
+        (length earlier)).state ≡ is_triggered (kept_after t earlier).state
     triggered_before =
-        ap (λ (k : TriggerKept). is_triggered k.state) (replayed_before image earlier (length earlier) (omega arith)) ∙ ap is_triggered (replay_whole earlier).state
+        ap (λ (k : TriggerKept). is_triggered k.state) (replayed_before image earlier
+        (length earlier) (omega arith)) ∙ ap is_triggered (replay_whole earlier).state
 
-    pub triggered_after : is_triggered (replayed t (rows_along t (image ∷ earlier)) (suc (length earlier))).state ≡ is_triggered (kept_after t (image ∷ earlier)).state
+    pub triggered_after : is_triggered (replayed t (rows_along t (image ∷ earlier))
+        (suc (length earlier))).state ≡ is_triggered (kept_after t (image ∷ earlier)).state
     triggered_after = ap is_triggered (replay_whole (image ∷ earlier)).state

@@ -1,5 +1,6 @@
 -- Left values count for no hits and for no state.
-use Rattle.std.proofs.Common.{◌≡◌, ℕ, zero, suc, Bool, false, not, ◌&&◌, ◌||◌, cond, List, [], ◌∷◌, ◌++◌, length, map, take, drop, slice_index, slice_index_or, refl, sym, ap, ap₂, ◌∙◌}
+use Rattle.std.proofs.Common.{◌≡◌, ℕ, zero, suc, Bool, false, not, ◌&&◌, ◌||◌, cond, List, [], ◌∷◌, ◌++◌, length, map}
+use Rattle.std.proofs.Common.{take, drop, slice_index, slice_index_or, refl, sym, ap, ap₂, ◌∙◌}
 use Rattle.std.specs.List.{list_any, list_all, flat_map}
 use Rattle.ra_condition.specs.declared.flag.Flag.{Flag}
 use Rattle.ra_condition.specs.declared.condition.Condition.{Condition}
@@ -21,18 +22,21 @@ module _ (cs : List Condition) (truths : List Bool) (lefts lefts' hits : List �
 
   prev_same : (j : ℕ) → prev_of f j ≡ prev_of f' j
   prev_same zero = refl
-  prev_same (suc i) = ap (λ prev. seen_after (condition_at cs i) (settled (condition_at cs i) (slice_index_or truths i false) (slice_index hits i) prev) prev) (prev_same i)
+  prev_same (suc i) = ap (λ prev. seen_after (condition_at cs i) (settled (condition_at cs i)
+      (slice_index_or truths i false) (slice_index hits i) prev) prev) (prev_same i)
 
   settled_same : (j : ℕ) → settled_at f j ≡ settled_at f' j
   settled_same j = ap (settled (condition_at cs j) (slice_index_or truths j false) (slice_index hits j)) (prev_same j)
 
   some_same : (class : Flag → Bool) (js : List ℕ) → some_valid class f js ≡ some_valid class f' js
   some_same class [] = refl
-  some_same class (j ∷ js) = ap₂ (λ s rest. (class (condition_at cs j).flag && s.valid) || rest) (settled_same j) (some_same class js)
+  some_same class (j ∷ js) = ap₂ (λ s rest. (class (condition_at cs j).flag && s.valid) || rest)
+      (settled_same j) (some_same class js)
 
   all_same : (class : Flag → Bool) (js : List ℕ) → all_valid class f js ≡ all_valid class f' js
   all_same class [] = refl
-  all_same class (j ∷ js) = ap₂ (λ s rest. (not (class (condition_at cs j).flag) || s.valid) && rest) (settled_same j) (all_same class js)
+  all_same class (j ∷ js) = ap₂ (λ s rest. (not (class (condition_at cs j).flag) || s.valid)
+      && rest) (settled_same j) (all_same class js)
 
   paused_same : (outcome_of InTrigger f).paused ≡ (outcome_of InTrigger f').paused
   paused_same = some_same is_pause (places cs)
@@ -47,7 +51,8 @@ module _ (cs : List Condition) (truths : List Bool) (lefts lefts' hits : List �
   primed_same = λ i. (not (paused_same i) && not (reset_same i)) && all_same is_wanted (places cs) i
 
   hit_same : (j : ℕ) → next_hit f j ≡ next_hit f' j
-  hit_same j = λ i. cond (not (hands_on (condition_at cs j).flag) && (not (paused_same i) || in_pause_chain cs j)) (settled_same j i).hit (slice_index hits j)
+  hit_same j = λ i. cond (not (hands_on (condition_at cs j).flag)
+      && (not (paused_same i) || in_pause_chain cs j)) (settled_same j i).hit (slice_index hits j)
 
   map_same : (js : List ℕ) → map (next_hit f) js ≡ map (next_hit f') js
   map_same [] = refl
@@ -57,12 +62,18 @@ module _ (cs : List Condition) (truths : List Bool) (lefts lefts' hits : List �
   hits_same = map_same (places cs)
 
 -- the same of the groups of a trigger
-module _ (field : Outcome → Bool) (same : (cs : List Condition) (truths : List Bool) (lefts lefts' hits : List ℕ) → field (outcome_of InTrigger (frame_of cs truths lefts hits)) ≡ field (outcome_of InTrigger (frame_of cs truths lefts' hits))) where
-  fields_same : (groups : List (List Condition)) (truths : List Bool) (lefts lefts' hits : List ℕ) → map field (map (outcome_of InTrigger) (frames_along groups truths lefts hits)) ≡ map field (map (outcome_of InTrigger) (frames_along groups truths lefts' hits))
+module _ (field : Outcome → Bool) (same : (cs : List Condition) (truths : List Bool)
+    (lefts lefts' hits : List ℕ) → field (outcome_of InTrigger (frame_of cs truths lefts hits))
+    ≡ field (outcome_of InTrigger (frame_of cs truths lefts' hits))) where
+  fields_same : (groups : List (List Condition)) (truths : List Bool) (lefts lefts' hits : List ℕ)
+      → map field (map (outcome_of InTrigger) (frames_along groups truths lefts hits))
+      ≡ map field (map (outcome_of InTrigger) (frames_along groups truths lefts' hits))
   fields_same [] truths lefts lefts' hits = refl
   fields_same (cs ∷ groups) truths lefts lefts' hits =
-      ap₂ (λ b bs. b ∷ bs) (same cs (take (length cs) truths) (take (length cs) lefts) (take (length cs) lefts') (take (length cs) hits))
-      (fields_same groups (drop (length cs) truths) (drop (length cs) lefts) (drop (length cs) lefts') (drop (length cs) hits))
+      ap₂ (λ b bs. b ∷ bs) (same cs (take (length cs) truths) (take (length cs) lefts)
+      (take (length cs) lefts') (take (length cs) hits))
+      (fields_same groups (drop (length cs) truths) (drop (length cs) lefts)
+      (drop (length cs) lefts') (drop (length cs) hits))
 
   abbrev holds : Bool → Bool
   holds b = b
@@ -96,20 +107,29 @@ module _ (field : Outcome → Bool) (same : (cs : List Condition) (truths : List
   every_is (o ∷ p ∷ os) = ap (λ b. field o || b) (all_is (p ∷ os))
 
   module _ (groups : List (List Condition)) (truths : List Bool) (lefts lefts' hits : List ℕ) where
-    any_along : list_any field (map (outcome_of InTrigger) (frames_along groups truths lefts hits)) ≡ list_any field (map (outcome_of InTrigger) (frames_along groups truths lefts' hits))
+    any_along : list_any field (map (outcome_of InTrigger) (frames_along groups truths lefts hits))
+        ≡ list_any field (map (outcome_of InTrigger) (frames_along groups truths lefts' hits))
     any_along = any_is _ ∙ ap (list_any holds) (fields_same groups truths lefts lefts' hits) ∙ sym (any_is _)
 
-    some_along : core_and_some field (map (outcome_of InTrigger) (frames_along groups truths lefts hits)) ≡ core_and_some field (map (outcome_of InTrigger) (frames_along groups truths lefts' hits))
+    some_along : core_and_some field (map (outcome_of InTrigger)
+        (frames_along groups truths lefts hits))
+        ≡ core_and_some field (map (outcome_of InTrigger) (frames_along groups truths lefts' hits))
     some_along = some_is _ ∙ ap some_of (fields_same groups truths lefts lefts' hits) ∙ sym (some_is _)
 
-    every_along : core_or_all field (map (outcome_of InTrigger) (frames_along groups truths lefts hits)) ≡ core_or_all field (map (outcome_of InTrigger) (frames_along groups truths lefts' hits))
+    every_along : core_or_all field (map (outcome_of InTrigger)
+        (frames_along groups truths lefts hits))
+        ≡ core_or_all field (map (outcome_of InTrigger) (frames_along groups truths lefts' hits))
     every_along = every_is _ ∙ ap every_of (fields_same groups truths lefts lefts' hits) ∙ sym (every_is _)
 
-hits_along : (groups : List (List Condition)) (truths : List Bool) (lefts lefts' hits : List ℕ) → flat_map next_hits (frames_along groups truths lefts hits) ≡ flat_map next_hits (frames_along groups truths lefts' hits)
+hits_along : (groups : List (List Condition)) (truths : List Bool) (lefts lefts' hits : List ℕ)
+    → flat_map next_hits (frames_along groups truths lefts hits)
+    ≡ flat_map next_hits (frames_along groups truths lefts' hits)
 hits_along [] truths lefts lefts' hits = refl
 hits_along (cs ∷ groups) truths lefts lefts' hits =
-    ap₂ (λ a b. a ++ b) (hits_same cs (take (length cs) truths) (take (length cs) lefts) (take (length cs) lefts') (take (length cs) hits))
-    (hits_along groups (drop (length cs) truths) (drop (length cs) lefts) (drop (length cs) lefts') (drop (length cs) hits))
+    ap₂ (λ a b. a ++ b) (hits_same cs (take (length cs) truths) (take (length cs) lefts)
+    (take (length cs) lefts') (take (length cs) hits))
+    (hits_along groups (drop (length cs) truths) (drop (length cs) lefts) (drop (length cs) lefts')
+    (drop (length cs) hits))
 
 -- together they say the same, but for the measured number
 module _ (t : TriggerContents) (truths : List Bool) (lefts lefts' hits : List ℕ) where
@@ -117,7 +137,8 @@ module _ (t : TriggerContents) (truths : List Bool) (lefts lefts' hits : List �
   together_reset = any_along (λ o. o.reset) reset_same (groups_of t) truths lefts lefts' hits
 
   pub together_valid : (together t truths lefts hits).valid ≡ (together t truths lefts' hits).valid
-  together_valid = ap₂ (λ r v. not r && v) together_reset (some_along (λ o. o.valid) valid_same (groups_of t) truths lefts lefts' hits)
+  together_valid = ap₂ (λ r v. not r && v) together_reset
+      (some_along (λ o. o.valid) valid_same (groups_of t) truths lefts lefts' hits)
 
   pub together_hits : (together t truths lefts hits).hits ≡ (together t truths lefts' hits).hits
   together_hits = hits_along (groups_of t) truths lefts lefts' hits
@@ -126,4 +147,5 @@ module _ (t : TriggerContents) (truths : List Bool) (lefts lefts' hits : List �
   together_paused = every_along (λ o. o.paused) paused_same (groups_of t) truths lefts lefts' hits
 
   pub together_primed : (together t truths lefts hits).primed ≡ (together t truths lefts' hits).primed
-  together_primed = ap₂ (λ r p. not r && (has_trigger (groups_of t) && p)) together_reset (some_along (λ o. o.primed) primed_same (groups_of t) truths lefts lefts' hits)
+  together_primed = ap₂ (λ r p. not r && (has_trigger (groups_of t) && p)) together_reset
+      (some_along (λ o. o.primed) primed_same (groups_of t) truths lefts lefts' hits)

@@ -16,11 +16,15 @@ use Rattle.ra_explain.specs.Recorders.{trigger_cells, trigger_tracked, StandsFor
 use Rattle.ra_explain.specs.Slots.{kept_by}
 
 -- a table over a pool that grew by the trees of the trigger is over the trigger, and its plan is that of the pool
-pub laid : (t : TriggerContents) (nodes : List Node) (size : ℕ) (table : TableSeen) (run : TriggerRun) → IsNewTrigger [] nodes t run → IsFresh nodes size table → IsLaidOut t size table run
+pub laid : (t : TriggerContents) (nodes : List Node) (size : ℕ) (table : TableSeen)
+    (run : TriggerRun) → IsNewTrigger [] nodes t run → IsFresh nodes size table
+    → IsLaidOut t size table run
 laid t nodes size table run is fresh =
     let grows = is.grows.grows in
-    let cells : cells_of nodes ≡ trigger_cells t = grows.cells ∙ grown-firsts same_cell cell_is cell_itself [] (flat_map cells_in (trees_in_trigger t)) in
-    let tracked : tracked_of nodes ≡ trigger_tracked t = grows.tracked ∙ grown-firsts same_tracked tracked_is tracked_itself [] (flat_map tracked_in (trees_in_trigger t)) in
+    let cells : cells_of nodes ≡ trigger_cells t = grows.cells
+    ∙ grown-firsts same_cell cell_is cell_itself [] (flat_map cells_in (trees_in_trigger t)) in
+    let tracked : tracked_of nodes ≡ trigger_tracked t = grows.tracked ∙ grown-firsts same_tracked
+    tracked_is tracked_itself [] (flat_map tracked_in (trees_in_trigger t)) in
     record {
       fresh = subst (λ (ns : List Node). IsFresh ns size table) (sym fresh.pool) fresh;
       over = record {
@@ -37,7 +41,8 @@ zeros [] = refl
 zeros (x ∷ xs) = ap (λ ns. 0 ∷ ns) (zeros xs)
 
 -- what was laid out and no row stand for the empty history
-pub stands_first : (t : TriggerContents) (size : ℕ) (table : TableSeen) (run : TriggerRun) → IsLaidOut t size table run → StandsFor t (kept_by table run.trigger []) []
+pub stands_first : (t : TriggerContents) (size : ℕ) (table : TableSeen) (run : TriggerRun)
+    → IsLaidOut t size table run → StandsFor t (kept_by table run.trigger []) []
 stands_first t size table run laid = record {
   trigger = laid.plain;
   cells = laid.fresh.cells ∙ ap (λ n. replicate n 0) (ap length laid.over.cells) ∙ zeros (trigger_cells t);

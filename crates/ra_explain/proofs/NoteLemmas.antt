@@ -1,5 +1,6 @@
 -- The conditions after some rows, and the events that are noted.
-use Rattle.std.proofs.Common.{◌≡◌, ℕ, zero, suc, ◌+◌, ◌<◌, List, [], ◌∷◌, ◌++◌, length, map, take, drop, replicate, get_or, set, refl, sym, ◌∙◌, ap, ap₂, arith, append_assoc, drop-cons, add-one}
+use Rattle.std.proofs.Common.{◌≡◌, ℕ, zero, suc, ◌+◌, ◌<◌, List, [], ◌∷◌, ◌++◌, length, map, take, drop, replicate}
+use Rattle.std.proofs.Common.{get_or, set, refl, sym, ◌∙◌, ap, ap₂, arith, append_assoc, drop-cons, add-one}
 use Rattle.std.specs.List.{AllByRecursion}
 use Rattle.std.proofs.lemmas.List.{get_or-map, length-take-le, take_more, set_at}
 use Rattle.ra_explain.specs.declared.explanation.Event.{Event}
