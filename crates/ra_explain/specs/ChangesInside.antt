@@ -1,4 +1,5 @@
--- What the changes of a condition are seen as, by their fields, and what these always have: docs/DEFINITIONS.md, "Explanations".
+-- What the changes of a condition are seen as, by their fields, and what these always have: docs/DEFINITIONS.md,
+-- "Explanations".
 use Rattle.std.specs.Prelude.{◌≡◌, ◌≤◌, ◌^◌}
 use Rattle.ra_explain.specs.declared.hit_changes.HitChanges.TheInside.{Inside}
 use Rattle.ra_explain.specs.HitChanges.{ChangesSeen, unchanged, changed_by}

@@ -1,5 +1,6 @@
 -- Explanations of an unlock: docs/DEFINITIONS.md, "Explanations".
-use Rattle.std.specs.Prelude.{◌≡◌, ◌≢◌, ◌⊎◌, ℕ, zero, suc, ◌+◌, ◌*◌, ◌<◌, ◌≤◌, Bool, true, false, nat_le, ◌==◌, if◌then◌else◌, List, [], ◌∷◌, length, map, take, drop, replicate}
+use Rattle.std.specs.Prelude.{◌≡◌, ◌≢◌, ◌⊎◌, ℕ, zero, suc, ◌+◌, ◌*◌, ◌<◌, ◌≤◌, Bool, true, false, nat_le, ◌==◌}
+use Rattle.std.specs.Prelude.{if◌then◌else◌, List, [], ◌∷◌, length, map, take, drop, replicate}
 use Rattle.std.specs.List.{AllByRecursion}
 use Rattle.ra_condition.specs.Contents.{TriggerContents, trigger_hits}
 use Rattle.ra_trigger.specs.declared.state.State.{State}
@@ -18,7 +19,8 @@ pub record ExplanationContents : Type 0 where
 
 -- the contents of an explanation
 abbrev pub explanation_contents : Explanation → ExplanationContents
-explanation_contents e = record { last = e.last; since = e.since; waited = e.waited; events = map (λ own. own.list.items) e.events.items }
+explanation_contents e =
+    record { last = e.last; since = e.since; waited = e.waited; events = map (λ own. own.list.items) e.events.items }
 
 -- the comparisons of a row, of rows that stand one after the other
 abbrev pub row_at : TriggerContents → List Bool → ℕ → List Bool
@@ -27,7 +29,8 @@ row_at t rows row = take (trigger_hits t) (drop (row * trigger_hits t) rows)
 -- the events rise from a row on, up to the last one, and each changes the hits
 abbrev pub AreRising : (from last hits : ℕ) → List Event → Type 0
 AreRising from last hits [] = Unit {0}
-AreRising from last hits (e ∷ es) = (from ≤ e.row) × (e.row ≤ last) × (e.hits ≢ hits) × AreRising (e.row + 1) last e.hits es
+AreRising from last hits (e ∷ es) =
+    (from ≤ e.row) × (e.row ≤ last) × (e.hits ≢ hits) × AreRising (e.row + 1) last e.hits es
 
 -- the hits of a condition after a row: those of its latest event up to it, or these
 abbrev pub said_from : ℕ → List Event → ℕ → ℕ
@@ -70,19 +73,23 @@ BeginsIn false state = (is_waiting state ≡ false) × (is_triggered state ≡ f
 
 -- nothing is cleared at a row
 abbrev pub clears_at : TriggerContents → List Bool → List ℕ → TriggerKept → Bool
-clears_at t row lefts old = is_cleared old.state (together t row lefts old.hits).reset (together t row lefts old.hits).valid
+clears_at t row lefts old =
+    is_cleared old.state (together t row lefts old.hits).reset (together t row lefts old.hits).valid
 
 -- an achievement goes through one row: it clears nothing, has these hits after it, and is triggered or not
-pub record PassesRow (t : TriggerContents) (row : List Bool) (lefts : List ℕ) (old : TriggerKept) (hits : List ℕ) (triggered : Bool) : Type 0 where
+pub record PassesRow (t : TriggerContents) (row : List Bool) (lefts : List ℕ) (old : TriggerKept)
+    (hits : List ℕ) (triggered : Bool) : Type 0 where
   pub clears : clears_at t row lefts old ≡ false
   pub hits_too : (step t row lefts old).hits ≡ hits
   pub before : is_triggered old.state ≡ false
   pub after : is_triggered (step t row lefts old).state ≡ triggered
 
 -- From no hits, and waiting or not as the explanation says, an achievement goes through the rows up to the last one
--- without clearing anything, has the hits of the events after each row, and becomes triggered at the last and not before.
+-- without clearing anything, has the hits of the events after each row, and becomes triggered at the last and not
+-- before.
 abbrev pub UnlockFollows : TriggerContents → List Bool → ExplanationContents → Type 0
 UnlockFollows t rows e =
     (lefts : ℕ → List ℕ) (kept : TriggerKept) → kept.hits ≡ replicate (length e.events) 0 → BeginsIn e.waited kept.state
     → (count : ℕ) → e.since + count ≤ e.last
-    → PassesRow t (row_at t rows (e.since + count)) (lefts (e.since + count)) (kept_through t rows lefts kept e.since count) (said_after e (e.since + count)) (e.since + count == e.last)
+    → PassesRow t (row_at t rows (e.since + count)) (lefts (e.since + count)) (kept_through t rows
+    lefts kept e.since count) (said_after e (e.since + count)) (e.since + count == e.last)

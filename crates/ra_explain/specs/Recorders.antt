@@ -1,5 +1,7 @@
--- What a recorder is seen as, the histories for which it stands, and what its calls do: docs/DEFINITIONS.md, "Recorders".
-use Rattle.std.specs.Prelude.{◌≡◌, ◌≢◌, ℕ, ◌+◌, ◌*◌, ◌<◌, ◌≤◌, Bool, false, not, ◌&&◌, Option, None, Some, List, [], ◌∷◌, map, replicate, reverse, slice_set, slice_index_or}
+-- What a recorder is seen as, the histories for which it stands, and what its calls do: docs/DEFINITIONS.md,
+-- "Recorders".
+use Rattle.std.specs.Prelude.{◌≡◌, ◌≢◌, ℕ, ◌+◌, ◌*◌, ◌<◌, ◌≤◌, Bool, false, not, ◌&&◌, Option, None, Some, List, []}
+use Rattle.std.specs.Prelude.{◌∷◌, map, replicate, reverse, slice_set, slice_index_or}
 use Rattle.std.specs.List.{flat_map}
 use Rattle.ra_condition.specs.Contents.{TriggerContents, groups_of, trigger_hits}
 use Rattle.ra_memory.specs.Image.{History, written}

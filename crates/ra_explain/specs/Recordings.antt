@@ -1,12 +1,15 @@
--- What a recording is seen as, an achievement over images that its caller holds, and its calls: docs/DEFINITIONS.md, "A frame that looks".
-use Rattle.std.specs.Prelude.{◌≡◌, ℕ, ◌+◌, ◌-◌, ◌<◌, ◌≤◌, Bool, true, false, not, Option, None, Some, List, ◌∷◌, length, map, replicate, count_by, slice_set, slice_index, slice_index_or}
+-- What a recording is seen as, an achievement over images that its caller holds, and its calls: docs/DEFINITIONS.md,
+-- "A frame that looks".
+use Rattle.std.specs.Prelude.{◌≡◌, ℕ, ◌+◌, ◌-◌, ◌<◌, ◌≤◌, Bool, true, false, not, Option, None, Some, List, ◌∷◌, length}
+use Rattle.std.specs.Prelude.{map, replicate, count_by, slice_set, slice_index, slice_index_or}
 use Rattle.ra_condition.specs.Contents.{TriggerContents}
 use Rattle.ra_memory.specs.Image.{History, raw}
 use Rattle.ra_memref.specs.Values.{cell_place}
 use Rattle.ra_memref.specs.Marks.{marks_after, marks_seen, reads_of}
 use Rattle.ra_memref.specs.Table.{DifferWithin, no_cell}
 use Rattle.ra_explain.specs.declared.refused.ExplainRefused.{ExplainRefused}
-use Rattle.ra_explain.specs.Recorders.{KeepsSlots, KeptRows, RefusesFrame, StandsFor, RecorderSeen, IsNew, TakesFrame, plain_start, trigger_cells}
+use Rattle.ra_explain.specs.Recorders.{KeepsSlots, KeptRows, RefusesFrame, StandsFor, RecorderSeen, IsNew, TakesFrame}
+use Rattle.ra_explain.specs.Recorders.{plain_start, trigger_cells}
 
 -- what a caller sees: a recorder but for its image, the size of the images, the marked cells, and where each lies
 pub record RecordingSeen : Type 0 where
@@ -37,7 +40,8 @@ IsCurrent recording image =
     slice_index recording.kept.cells k
     ≡ raw (slice_index_or (trigger_cells recording.trigger) k no_cell).width image (slice_index recording.places k)
 
--- Before the first frame: a new recorder where the image is all 0, each cell marked and at its address, every image current.
+-- Before the first frame: a new recorder where the image is all 0, each cell marked and at its address, every image
+-- current.
 pub record IsBegun (t : TriggerContents) (size : ℕ) (recording : RecordingSeen) : Type 0 where
   pub made : IsNew t size (over recording (replicate size 0))
   pub size_too : recording.size ≡ size
@@ -65,21 +69,25 @@ pub record ReadsFew (old new : RecordingSeen) (image : List ℕ) (reads : ℕ) :
       → new.places ≡ map (λ c. cell_place plain_start c (image ∷ history)) (trigger_cells old.trigger)
   pub counted : reads ≡ reads_of old.marked old.places new.places
 
--- A frame that looks reads each cell that is not marked, then each that is marked by then or moved; it leaves none marked.
+-- A frame that looks reads each cell that is not marked, then each that is marked by then or moved; it leaves none
+-- marked.
 pub record ReadsLooked (old new : RecordingSeen) (image : List ℕ) (reads : ℕ) : Type 0 where
   pub unmarked : new.marked ≡ replicate (length (trigger_cells old.trigger)) false
   pub places : (history : History) → StandsFor old.trigger old.kept history
       → new.places ≡ map (λ c. cell_place plain_start c (image ∷ history)) (trigger_cells old.trigger)
   pub counted : reads ≡ count_by not old.marked
-      + reads_of (marks_seen image (trigger_cells old.trigger) old.places old.kept.cells old.marked) old.places new.places
+      + reads_of (marks_seen image (trigger_cells old.trigger) old.places old.kept.cells old.marked)
+      old.places new.places
 
--- After a frame of an image, taken or refused, each slot stands for what it stood for, the image is current, and the size stays.
+-- After a frame of an image, taken or refused, each slot stands for what it stood for, the image is current, and the
+-- size stays.
 pub record StaysOver (old new : RecordingSeen) (image : List ℕ) : Type 0 where
   pub slots : KeepsSlots (over old image) (over new image)
   pub current : IsCurrent new image
   pub size : new.size ≡ old.size
 
--- A frame is taken of an image of which each change was told or looked for; the reads so far are counted before and after.
+-- A frame is taken of an image of which each change was told or looked for; the reads so far are counted before and
+-- after.
 pub record TakesTold (old new : RecordingSeen) (image : List ℕ) (before after : ℕ) (unlock : Bool) : Type 0 where
   pub frame : TakesFrame (over old image) (over new image) unlock
   pub reads : ReadsFew old new image (after - before)
@@ -92,13 +100,15 @@ pub record TakesLooked (old new : RecordingSeen) (image : List ℕ) (before afte
   pub counts : before ≤ after
 
 -- A frame is refused: the recording is unchanged, and nothing was read.
-pub record RefusesTold (old new : RecordingSeen) (image : List ℕ) (before after : ℕ) (why : ExplainRefused) : Type 0 where
+pub record RefusesTold (old new : RecordingSeen) (image : List ℕ) (before after : ℕ)
+    (why : ExplainRefused) : Type 0 where
   pub refused : RefusesFrame (over old image) why
   pub unchanged : new ≡ old
   pub unread : after ≡ before
 
 -- A frame is refused after a look, which alone was done.
-pub record RefusesLooked (old new : RecordingSeen) (image : List ℕ) (before after : ℕ) (why : ExplainRefused) : Type 0 where
+pub record RefusesLooked (old new : RecordingSeen) (image : List ℕ) (before after : ℕ)
+    (why : ExplainRefused) : Type 0 where
   pub refused : RefusesFrame (over old image) why
   pub looked : LooksAt old new image
   pub reads : after ≡ before + count_by not old.marked

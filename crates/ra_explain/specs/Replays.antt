@@ -1,5 +1,6 @@
 -- The hits from one row on, and the events that they make: docs/DEFINITIONS.md, "Explanations".
-use Rattle.std.specs.Prelude.{◌≡◌, ℕ, zero, suc, ◌+◌, ◌-◌, ◌<◌, ◌≤◌, ◌==◌, if◌then◌else◌, Bool, false, Option, None, Some, List, [], ◌∷◌, ◌++◌, length, map, replicate}
+use Rattle.std.specs.Prelude.{◌≡◌, ℕ, zero, suc, ◌+◌, ◌-◌, ◌<◌, ◌≤◌, ◌==◌, if◌then◌else◌, Bool, false, Option, None}
+use Rattle.std.specs.Prelude.{Some, List, [], ◌∷◌, ◌++◌, length, map, replicate}
 use Rattle.ra_condition.specs.Contents.{TriggerContents, trigger_hits}
 use Rattle.ra_trigger.specs.Kept.{orders_of, pauses_of}
 use Rattle.ra_trigger.specs.Steps.{Together, together}
@@ -51,7 +52,8 @@ noted row _ _ _ = []
 abbrev pub events_through : TriggerContents → List Bool → (since count : ℕ) → List (List Event)
 events_through t rows since zero = replicate (trigger_hits t) []
 events_through t rows since (suc count) =
-    noted (since + count) (events_through t rows since count) (hits_through t rows since count) (hits_through t rows since (suc count))
+    noted (since + count) (events_through t rows since count) (hits_through t rows since count)
+    (hits_through t rows since (suc count))
 
 -- a row on the way to the unlock: it does not reset, and is valid exactly where it is the last
 pub record GoesOn (t : TriggerContents) (rows : List Bool) (since last count : ℕ) : Type 0 where

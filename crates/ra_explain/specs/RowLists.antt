@@ -1,5 +1,6 @@
 -- Rows in one list, each with the place of the row before it: docs/DEFINITIONS.md, "Recorders".
-use Rattle.std.specs.Prelude.{◌≡◌, ℕ, ◌-◌, ◌*◌, ◌<◌, ◌≤◌, Bool, List, [], ◌∷◌, ◌++◌, length, map, take, drop, slice_index, slice_index_or}
+use Rattle.std.specs.Prelude.{◌≡◌, ℕ, ◌-◌, ◌*◌, ◌<◌, ◌≤◌, Bool, List, [], ◌∷◌, ◌++◌, length, map, take, drop}
+use Rattle.std.specs.Prelude.{slice_index, slice_index_or}
 use Rattle.std.specs.List.{AllByRecursion}
 use Rattle.ra_member.specs.declared.laid.Laid.{Laid}
 use Rattle.ra_member.specs.Readings.{numbers_at, truths_by}
@@ -43,7 +44,8 @@ row_at width truths index = take width (drop (index * width) truths)
 -- these are the indices of the rows from a place back, the newest first
 pub record AreIndices (links : List ℕ) (place : ℕ) (indices : List ℕ) : Type 0 where
   pub within : AllByRecursion (λ k. k < length links) indices
-  pub rows : (width : ℕ) (truths : List Bool) → map (row_at width truths) indices ≡ rows_from (behind_each width truths links) place
+  pub rows : (width : ℕ) (truths : List Bool) → map (row_at width truths) indices
+      ≡ rows_from (behind_each width truths links) place
 
 -- whether each comparison of a plan holds, by the values of its nodes
 abbrev pub truths_laid : List ℕ → Laid → List Bool

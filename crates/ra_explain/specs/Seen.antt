@@ -1,4 +1,5 @@
--- What a recording and a recorder are seen as, by their fields, and what these always have: docs/DEFINITIONS.md, "Recorders" and "A frame that looks".
+-- What a recording and a recorder are seen as, by their fields, and what these always have: docs/DEFINITIONS.md,
+-- "Recorders" and "A frame that looks".
 use Rattle.std.specs.Prelude.{◌≡◌, ◌+◌, ◌-◌, ◌*◌, ◌<◌, ◌≤◌, true, option_map, length, map}
 use Rattle.std.specs.List.{AllByRecursion}
 use Rattle.ra_condition.specs.Contents.{trigger_contents, trigger_hits}
@@ -34,10 +35,12 @@ pub record IsRecording (t : Inside) : Type 0 where
   pub width : t.rows.width ≡ trigger_hits (trigger_contents t.text)
   pub rows_few : (length t.rows.behind - 1) * (trigger_hits (trigger_contents t.text) + 1) ≤ most_rows
   pub latest : t.latest < length t.rows.behind
-  pub somewhere : StandsSomewhere (trigger_contents t.text) (kept_by t.table t.run.trigger (rows_from t.rows.behind t.latest))
+  pub somewhere : StandsSomewhere (trigger_contents t.text)
+      (kept_by t.table t.run.trigger (rows_from t.rows.behind t.latest))
   pub sixteen : length t.slots.items ≡ 16
   pub slots_fit : AllByRecursion (FitsOptional (trigger_contents t.text) t.rows.behind) t.slots.items
-  pub unlock : t.unlocked ≡ true → StandsAtUnlock (trigger_contents t.text) (kept_by t.table t.run.trigger (rows_from t.rows.behind t.latest))
+  pub unlock : t.unlocked ≡ true → StandsAtUnlock (trigger_contents t.text)
+      (kept_by t.table t.run.trigger (rows_from t.rows.behind t.latest))
 
 -- what a caller sees of the inside of a recorder: its recording, over its memory
 abbrev pub recorder_seen : RecorderInside → RecorderSeen

@@ -57,7 +57,8 @@ FitsOptional t behind (Some slot) = FitsSlot t behind slot
 
 -- a slot of what a table and an achievement keep, and of a place
 pub record IsSlotOf (table : TableSeen) (trigger : TriggerKept) (latest : ℕ) (slot : Slot) : Type 0 where
-  pub kept : (n : Counts) (behind : List (List (List Bool))) → HaveCounts n table trigger → slot_kept n behind slot ≡ kept_by table trigger (rows_from behind latest)
+  pub kept : (n : Counts) (behind : List (List (List Bool))) → HaveCounts n table trigger
+      → slot_kept n behind slot ≡ kept_by table trigger (rows_from behind latest)
   pub hits : length slot.hits.items ≡ 4 * length trigger.hits
   pub numbers : length slot.numbers.items ≡ 4 * (length table.cells + length table.priors)
   pub latest_too : slot.latest ≡ latest

@@ -17,7 +17,8 @@ loop-row-init c =
     record {
       upto = omega arith;
       replay = c.in_ok-replay.ensures.replay;
-      kept = alike_same c.in_ok-replay.replay.trigger (replayed t (joined c.args.rows.now) 0) c.in_ok-replay.ensures.plain;
+      kept = alike_same c.in_ok-replay.replay.trigger
+          (replayed t (joined c.args.rows.now) 0) c.in_ok-replay.ensures.plain;
       begins = record { since = refl; waited = refl };
     }
 
@@ -31,18 +32,24 @@ loop-row-preserved c =
     let new = c.advance.new.self.trigger in
     let next : suc row ≡ row + 1 = omega arith in
     let cut = c.row.result.now in
-    let slice : cut ≡ row_at t rows row = c.row.ensures ∙ row_is t c.args.last c.args.rows.now row c.requires.rows (omega (arith, c.loop-row-test.true)) in
+    let slice : cut ≡ row_at t rows row = c.row.ensures ∙ row_is t c.args.last c.args.rows.now row
+    c.requires.rows (omega (arith, c.loop-row-test.true)) in
     record {
       upto = omega (arith, c.loop-row-test.true);
       replay = c.advance.ensures.replay;
-      kept = subst (λ n. CountAlike new (replayed t rows n)) next (row_alike t rows row cut slice old new c.advance.result inv.kept c.advance.ensures.steps);
+      kept = subst (λ n. CountAlike new (replayed t rows n)) next (row_alike t rows row cut slice
+          old new c.advance.result inv.kept c.advance.ensures.steps);
       begins = elim c.if-advance.branch [
         | then-advance w ↦
             subst (λ n. IsBeginning t rows n c.if-advance.beginning) next
-            (begins_there t rows row cut slice old new c.advance.result inv.kept c.advance.ensures.steps c.if-advance.beginning w.if-advance.true
-            (ap (λ (b : Beginning). b.since) w.beginning-is ∙ sym next) (ap (λ (b : Beginning). b.waited) w.beginning-is ∙ w.waits-waited.ensures ∙ ap is_waiting w.state.ensures))
+            (begins_there t rows row cut slice old new c.advance.result inv.kept
+            c.advance.ensures.steps c.if-advance.beginning w.if-advance.true
+            (ap (λ (b : Beginning). b.since) w.beginning-is ∙ sym next) (ap (λ (b : Beginning).
+            b.waited) w.beginning-is ∙ w.waits-waited.ensures ∙ ap is_waiting w.state.ensures))
         | else-advance w ↦
             subst (λ n. IsBeginning t rows n c.if-advance.beginning) next
-            (subst (IsBeginning t rows (suc row)) (sym w.beginning-is) (begins_on t rows row cut slice old new c.advance.result inv.kept c.advance.ensures.steps c.loop-row.beginning w.if-advance.false inv.begins))
+            (subst (IsBeginning t rows (suc row)) (sym w.beginning-is)
+            (begins_on t rows row cut slice old new c.advance.result inv.kept
+            c.advance.ensures.steps c.loop-row.beginning w.if-advance.false inv.begins))
       ];
     }

@@ -12,14 +12,21 @@ loop-place-preserved c =
     let inv = c.loop-place.invariant in
     let so_far : ChangesSeen = changed_by (unchanged c.args.since) (take place changes) in
     let change = get_or changes place _ in
-    let more : changed_by (unchanged c.args.since) (take (place + 1) changes) ≡ with_row so_far (hits_by change so_far.hits) =
-    ap (changed_by (unchanged c.args.since)) (take_more changes place _ c.loop-place-test.true) ∙ changed_more (unchanged c.args.since) (take place changes) change in
-    let row : so_far.row ≡ c.args.since + place = changed_row (unchanged c.args.since) (take place changes) ∙ ap (λ n. c.args.since + n) (length-take-le place changes (omega (arith, c.loop-place-test.true))) in
+    let more : changed_by (unchanged c.args.since) (take (place + 1) changes)
+    ≡ with_row so_far (hits_by change so_far.hits) =
+    ap (changed_by (unchanged c.args.since)) (take_more changes place _ c.loop-place-test.true)
+    ∙ changed_more (unchanged c.args.since) (take place changes) change in
+    let row : so_far.row ≡ c.args.since + place =
+    changed_row (unchanged c.args.since) (take place changes) ∙ ap (λ n. c.args.since + n)
+    (length-take-le place changes (omega (arith, c.loop-place-test.true))) in
     let hits : c.after-hits.result ≡ hits_by change so_far.hits = c.after-hits.ensures ∙ ap (hits_by change) inv.hits in
     record {
       hits = hits ∙ sym (ap (λ (o : ChangesSeen). o.hits) more);
-      events = c.in_ok-note_one.ensures ∙ (λ i. noted_one (sym row i) (inv.events i) (inv.hits i) (hits i)) ∙ sym (ap (λ (o : ChangesSeen). o.events) more);
+      events = c.in_ok-note_one.ensures ∙ (λ i. noted_one (sym row i) (inv.events i) (inv.hits i)
+          (hits i)) ∙ sym (ap (λ (o : ChangesSeen). o.events) more);
     }
 
 pub returns : goal.returns
-returns c = c.loop-place.invariant.events ∙ ap (λ xs. (changed_by (unchanged c.args.since) xs).events) (take_all c.loop-place.place c.args.changes.now (omega (arith, c.loop-place-test.false)))
+returns c = c.loop-place.invariant.events ∙ ap (λ xs. (changed_by
+    (unchanged c.args.since) xs).events)
+    (take_all c.loop-place.place c.args.changes.now (omega (arith, c.loop-place-test.false)))

@@ -13,7 +13,8 @@ loop-at-preserved c =
     record {
       there = omega (arith, named, below);
       few = omega (arith, named, some, c.loop-at.invariant.few);
-      rows = λ width truths. let one = one_fewer width truths links at c.requires.earlier some c.loop-at.invariant.there in omega (arith, one, c.loop-at.invariant.rows width truths);
+      rows = λ width truths. let one = one_fewer width truths links at c.requires.earlier some
+          c.loop-at.invariant.there in omega (arith, one, c.loop-at.invariant.rows width truths);
     }
 
 pub returns : goal.returns

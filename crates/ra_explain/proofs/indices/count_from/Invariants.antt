@@ -7,7 +7,8 @@ abbrev pub invariant-loop-at : goal.invariant-loop-at
 invariant-loop-at l = record {
   there : l.at ≤ length l.links;
   few : l.count + l.at ≤ l.fn.place;
-  rows : (width : ℕ) (truths : List Bool) → length (rows_from (behind_each width truths l.links) l.fn.place) ≡ l.count + length (rows_from (behind_each width truths l.links) l.at);
+  rows : (width : ℕ) (truths : List Bool) → length (rows_from (behind_each width truths l.links)
+      l.fn.place) ≡ l.count + length (rows_from (behind_each width truths l.links) l.at);
 }
 
 abbrev pub decreases-loop-at : goal.decreases-loop-at

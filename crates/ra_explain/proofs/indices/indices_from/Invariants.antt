@@ -8,7 +8,9 @@ abbrev pub invariant-loop-at : goal.invariant-loop-at
 invariant-loop-at l = record {
   there : l.at ≤ length l.links;
   within : AllByRecursion (λ k. k < length l.links) l.indices.items;
-  rows : (width : ℕ) (truths : List Bool) → map (row_at width truths) l.indices.items ++ rows_from (behind_each width truths l.links) l.at ≡ rows_from (behind_each width truths l.links) l.fn.place;
+  rows : (width : ℕ) (truths : List Bool) → map (row_at width truths) l.indices.items
+      ++ rows_from (behind_each width truths l.links) l.at
+      ≡ rows_from (behind_each width truths l.links) l.fn.place;
 }
 
 abbrev pub decreases-loop-at : goal.decreases-loop-at

@@ -9,5 +9,6 @@ pub returns : goal.returns
 returns c =
     let t = trigger_contents c.args.text.now in
     let run = c.in_ok-run.run' in
-    let made : IsNewTrigger [] c.new.new.pool t run = subst (λ (ns : List Node). IsNewTrigger ns c.new.new.pool t run) c.new-pool.ensures c.in_ok-run.ensures in
+    let made : IsNewTrigger [] c.new.new.pool t run = subst (λ (ns : List Node). IsNewTrigger ns
+    c.new.new.pool t run) c.new-pool.ensures c.in_ok-run.ensures in
     laid t c.new.new.pool c.args.size c.in_ok-table.table run made c.in_ok-table.ensures

@@ -8,11 +8,14 @@ pub loop-index-preserved : goal.loop-index-preserved
 loop-index-preserved c =
     let index = c.loop-index.index in
     let next : suc index ≡ index + 1 = omega arith in
-    c.in_ok-push.ensures.items ∙ ap (λ ks. ks ++ index ∷ []) c.loop-index.invariant ∙ sym (range_more 0 index index (omega arith)) ∙ ap (range_with_len 0) next
+    c.in_ok-push.ensures.items ∙ ap (λ ks. ks ++ index ∷ []) c.loop-index.invariant
+    ∙ sym (range_more 0 index index (omega arith)) ∙ ap (range_with_len 0) next
 
 pub new-requires : goal.new-requires
 new-requires c =
     let count = c.args.last + 1 in
     let end : c.loop-index.index ≡ count = omega (arith, c.loop-index-test.false) in
-    subst (AllByRecursion (LiesWithin c.args.width c.args.truths.now)) (sym (c.loop-index.invariant ∙ ap (range_with_len 0) end))
-    (all_within c.args.width count c.args.truths.now (range_with_len 0 count) c.requires (all_below 0 count count (omega arith)))
+    subst (AllByRecursion (LiesWithin c.args.width c.args.truths.now))
+    (sym (c.loop-index.invariant ∙ ap (range_with_len 0) end))
+    (all_within c.args.width count c.args.truths.now (range_with_len 0 count) c.requires
+    (all_below 0 count count (omega arith)))

@@ -9,7 +9,8 @@ returns-clause-taken g c =
 
 pub returns-clause-refused : goal.returns-clause-refused
 returns-clause-refused g c =
-    rw (← c.self.view_is) (MatchResult-weaker c.frame.result c.frame.ensures.refused (λ unlock none. none) (λ why no. no.refused))
+    rw (← c.self.view_is) (MatchResult-weaker c.frame.result c.frame.ensures.refused
+    (λ unlock none. none) (λ why no. no.refused))
 
 pub returns-clause-err : goal.returns-clause-err
 returns-clause-err g c =

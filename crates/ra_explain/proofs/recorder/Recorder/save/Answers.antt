@@ -12,6 +12,9 @@ invariant_of-self c =
     let inv = c.self.invariant in
     let image = c.self.inside.memory in
     record {
-      size = either c.save.result (λ saved. ap (λ (s : RecordingSeen). s.size) saved) (λ same. ap (λ (s : RecordingSeen). s.size) same) c.save.ensures.saved c.save.ensures.err ∙ inv.size;
-      current = either c.save.result (λ saved. subst (λ (s : RecordingSeen). IsCurrent s image) (sym saved) inv.current) (λ same. subst (λ (s : RecordingSeen). IsCurrent s image) (sym same) inv.current) c.save.ensures.saved c.save.ensures.err;
+      size = either c.save.result (λ saved. ap (λ (s : RecordingSeen). s.size) saved) (λ same. ap
+          (λ (s : RecordingSeen). s.size) same) c.save.ensures.saved c.save.ensures.err ∙ inv.size;
+      current = either c.save.result (λ saved. subst (λ (s : RecordingSeen). IsCurrent s image)
+          (sym saved) inv.current) (λ same. subst (λ (s : RecordingSeen). IsCurrent s image)
+          (sym same) inv.current) c.save.ensures.saved c.save.ensures.err;
     }

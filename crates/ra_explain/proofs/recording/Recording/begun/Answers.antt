@@ -1,4 +1,5 @@
-use Rattle.std.proofs.Common.{◌≡◌, ◌≤◌, ◌+◌, ◌-◌, ◌*◌, [], None, Option, true, length, map, replicate, refl, ap, sym, subst, ◌∙◌, arith}
+use Rattle.std.proofs.Common.{◌≡◌, ◌≤◌, ◌+◌, ◌-◌, ◌*◌, [], None, Option, true, length, map, replicate, refl, ap, sym}
+use Rattle.std.proofs.Common.{subst, ◌∙◌, arith}
 use Rattle.std.specs.List.{AllByRecursion}
 use Rattle.std.proofs.lemmas.Bool.{false≢true}
 use Rattle.std.proofs.lemmas.List.{length-replicate}
@@ -32,10 +33,12 @@ invariant_of-result c =
       width = ap (λ (r : RowsSeen). r.width) c.new-rows.ensures ∙ ap length c.hits.ensures ∙ laid.run_too.hits;
       rows_few = subst (λ n. n * (trigger_hits t + 1) ≤ most_rows) (sym frames) few;
       latest = omega (arith, one);
-      somewhere = record { history = []; stands = subst (λ rs. StandsFor t (kept_by table run.trigger rs) []) (sym none) (stands_first t c.args.size table run laid) };
+      somewhere =
+          record { history = []; stands = subst (λ rs. StandsFor t (kept_by table run.trigger rs) []) (sym none) (stands_first t c.args.size table run laid) };
       unlock = λ is. absurd (false≢true is);
       sixteen = ap length c.in_ok-slots.ensures ∙ length-replicate {A = Option Slot} 16 None;
-      slots_fit = subst (AllByRecursion (FitsOptional t rows.behind)) (sym c.in_ok-slots.ensures) (slots_fit_none t rows.behind 16);
+      slots_fit = subst (AllByRecursion (FitsOptional t rows.behind)) (sym c.in_ok-slots.ensures)
+          (slots_fit_none t rows.behind 16);
     }
 
 pub returns : goal.returns
@@ -54,10 +57,12 @@ returns c =
         frames = omega (arith, one);
         slots = ap (slots_kept t rows.behind) c.in_ok-slots.ensures ∙ none_kept t rows.behind 16;
         unlocked = refl;
-        stands = subst (λ rs. StandsFor t (kept_by table run.trigger rs) []) (sym none) (stands_first t c.args.size table run laid);
+        stands = subst (λ rs. StandsFor t (kept_by table run.trigger rs) []) (sym none)
+            (stands_first t c.args.size table run laid);
       };
       size_too = laid.fresh.size_too;
       marked = laid.fresh.marked ∙ ap (λ cs. replicate (length cs) true) laid.over.cells;
       places = laid.fresh.places ∙ ap (map (λ c. c.address)) laid.over.cells;
-      current = λ image. current_agrees t table image laid.over (Agrees-marked table image (length (cells_of table.nodes)) laid.fresh.marked);
+      current = λ image. current_agrees t table image laid.over
+          (Agrees-marked table image (length (cells_of table.nodes)) laid.fresh.marked);
     }

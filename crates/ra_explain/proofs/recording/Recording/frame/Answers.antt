@@ -74,7 +74,7 @@ returns-clause-taken g c =
       unlocked = c.unlocks-self-inside.result;
     } in
     record {
-      frame = subst (λ (old : RecordingSeen). TakesFrame (over old image) new _) c.self.view_is (record {
+      frame = subst (λ (old : RecordingSeen). TakesFrame (over old image) new new.unlocked) c.self.view_is (record {
         few = subst (λ (o : RecordingSeen). product_of (over o image) ≤ most_rows) (sym c.self.view_is)
             (omega (arith, c.product-found.ensures, c.if-found-gt-MOST_ROWS.false));
         rest = (λ i. record new { frames = frames i; slots = slots i });

@@ -12,6 +12,9 @@ pub returns : goal.returns
 returns c =
     let r = c.self.inside in
     let t = trigger_contents r.text in
-    let found : c.is_some.result ≡ is_some (slice_index_or r.slots.items c.args.slot None) = c.is_some.ensures ∙ some_seen (λ kept. kept.now) c.slot_in.result ∙ ap is_some (c.slot_in.ensures ∙ ap (λ ss. slice_index_or ss c.args.slot None) c.as_slice.ensures.value) in
+    let found : c.is_some.result ≡ is_some (slice_index_or r.slots.items c.args.slot None) =
+    c.is_some.ensures ∙ some_seen (λ kept. kept.now) c.slot_in.result ∙ ap is_some
+    (c.slot_in.ensures ∙ ap (λ ss. slice_index_or ss c.args.slot None) c.as_slice.ensures.value) in
     subst (λ (o : RecordingSeen). IsTrue c.is_some.result ↔ IsFilled (over o []) c.args.slot) c.self.view_is
-    (filled_by (slot_kept (counts_of t) r.rows.behind) (slice_index_or r.slots.items c.args.slot None) _ c.is_some.result (slot_keeps t r.rows.behind r.slots.items c.args.slot) found)
+    (filled_by (slot_kept (counts_of t) r.rows.behind) (slice_index_or r.slots.items c.args.slot
+    None) _ c.is_some.result (slot_keeps t r.rows.behind r.slots.items c.args.slot) found)

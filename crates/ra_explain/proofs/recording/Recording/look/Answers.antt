@@ -16,5 +16,6 @@ returns-clause-looked g c =
     rw (← c.self.view_is) (record {
       rest = marked_rest r is c.look.new.self looked.rest;
       marked = looked.marked ∙ (λ i. marks_seen image (is.over.cells i) r.table.places r.table.cells r.table.marked);
-      current = current_agrees (trigger_contents r.text) c.look.new.self image (marked_recording r is c.look.new.self looked.rest).over looked.agrees;
+      current = current_agrees (trigger_contents r.text) c.look.new.self image
+          (marked_recording r is c.look.new.self looked.rest).over looked.agrees;
     })

@@ -16,7 +16,8 @@ returns c =
     let over = (marked_recording r is c.write.new.self told.rest).over in
     rw (← c.self.view_is) (record {
       rest = marked_rest r is c.write.new.self told.rest;
-      marked = told.marked ∙ (λ i. marks_after r.table.size (is.over.cells i) r.table.places c.args.at c.args.count r.table.marked);
+      marked = told.marked ∙ (λ i. marks_after r.table.size
+          (is.over.cells i) r.table.places c.args.at c.args.count r.table.marked);
       current = λ image image' long differ current. current_agrees t c.write.new.self image' over
           (told.agrees image image' long differ (agrees_current t r.table image is.over current));
     })
