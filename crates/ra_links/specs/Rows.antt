@@ -1,5 +1,6 @@
 -- A row of lists of numbers: docs/INTERNALS.md, "Linked lists".
-use Rattle.std.specs.Prelude.{◌≡◌, ℕ, ◌<◌, Bool, true, not, eqb, ◌+◌, ◌==◌, if◌then◌else◌, Option, None, Some, List, [], ◌∷◌, filter, slice_get, slice_index_or}
+use Rattle.std.specs.Prelude.{◌≡◌, ℕ, ◌<◌, Bool, true, not, eqb, ◌+◌, ◌==◌, if◌then◌else◌, Option, None, Some, List, []}
+use Rattle.std.specs.Prelude.{◌∷◌, filter, slice_get, slice_index_or}
 use Rattle.std.specs.List.{list_any, IsDistinct}
 
 -- the lists, and how many nodes there are, on a list or on none
@@ -41,6 +42,7 @@ without node row = filter (λ x. not (x == node)) row
 
 -- a node stands at most once in all lists together, and only nodes stand there
 pub record IsOnce (row : Rows) : Type 0 where
-  pub one_list : (k l node : ℕ) → holds node (row_at row.lists k) ≡ true → holds node (row_at row.lists l) ≡ true → k ≡ l
+  pub one_list : (k l node : ℕ) → holds node (row_at row.lists k) ≡ true
+      → holds node (row_at row.lists l) ≡ true → k ≡ l
   pub one_place : (k : ℕ) → IsDistinct eqb (row_at row.lists k)
   pub in_range : (k node : ℕ) → holds node (row_at row.lists k) ≡ true → node < row.nodes
