@@ -1,5 +1,6 @@
 -- What a laid plan reads at a frame is what the definitions say over the whole history.
-use Rattle.std.proofs.Common.{◌≡◌, ℕ, zero, suc, ◌+◌, ◌<◌, Option, None, Some, List, [], ◌∷◌, ◌++◌, length, map, get_or, sum_by, slice_index, refl, sym, ◌∙◌, ap, ap₂, subst, arith, length-append, append_assoc}
+use Rattle.std.proofs.Common.{◌≡◌, ℕ, zero, suc, ◌+◌, ◌<◌, Option, None, Some, List, [], ◌∷◌, ◌++◌, length, map, get_or}
+use Rattle.std.proofs.Common.{sum_by, slice_index, refl, sym, ◌∙◌, ap, ap₂, subst, arith, length-append, append_assoc}
 use Rattle.std.specs.List.{flat_map, range_with_len}
 use Rattle.std.proofs.lemmas.Option.{slice_get_within, get_or_from_slice_get}
 use Rattle.std.proofs.Math.Seq.{get_or-append_seam}
@@ -10,7 +11,8 @@ use Rattle.std.proofs.lemmas.List.Sums.{sum_by-cons}
 use Rattle.ra_operand.specs.declared.op.Op.{Op}
 use Rattle.ra_operand.specs.Operators.{compared}
 use Rattle.ra_condition.specs.declared.condition.Condition.{Condition}
-use Rattle.ra_condition.specs.Contents.{condition_at, no_condition, PartContents, Legacy, Grouped, counted_in, value_hits}
+use Rattle.ra_condition.specs.Contents.{condition_at, no_condition, PartContents, Legacy, Grouped, counted_in}
+use Rattle.ra_condition.specs.Contents.{value_hits}
 use Rattle.ra_condition.specs.Chains.{places}
 use Rattle.ra_memory.specs.Image.{History}
 use Rattle.ra_indirect.specs.declared.node.Node.{Node}
@@ -35,11 +37,13 @@ gives_value s (CellNode pointer offset width) tree is = absurd (cc)
 gives_value s (View kind size c) tree is = tt
 gives_value s (Arith op left right) tree is = tt
 
-pub valued : (nodes : List Node) (n : ℕ) (tree : Tree) → Spells nodes n tree → (n < length nodes) × IsValued (node_at nodes n)
+pub valued : (nodes : List Node) (n : ℕ) (tree : Tree) → Spells nodes n tree → (n < length nodes)
+    × IsValued (node_at nodes n)
 valued nodes n tree is =
     let listed : n < length (spelled_by nodes) = slice_get_within (spelled_by nodes) n (IsTree tree) is in
     let within : n < length nodes = omega (arith, length-spelled_by nodes) in
-    let here : spelled_at (spelled_by nodes) n ≡ IsTree tree = get_or_from_slice_get (spelled_by nodes) n (IsTree tree) (IsTree (constant 0)) is in
+    let here : spelled_at (spelled_by nodes) n ≡ IsTree tree =
+    get_or_from_slice_get (spelled_by nodes) n (IsTree tree) (IsTree (constant 0)) is in
     (within, gives_value _ (node_at nodes n) tree (sym (spelled_by-here nodes n within) ∙ here))
 
 pub all_valued : (nodes : List Node) (ns : List ℕ) (trees : List Tree) → AreSpelled nodes ns trees → AreValued nodes ns
@@ -48,17 +52,20 @@ all_valued nodes (n ∷ ns) [] are k within = absurd are
 all_valued nodes (n ∷ ns) (tree ∷ trees) are zero within = valued nodes n tree are.0
 all_valued nodes (n ∷ ns) (tree ∷ trees) are (suc k) within = all_valued nodes ns trees are.1 k (omega arith)
 
-pub all_summed : (nodes : List Node) (parts : List PartContents) (ns : List (Option ℕ)) → AreSums nodes parts ns → AreValuedSums nodes ns
+pub all_summed : (nodes : List Node) (parts : List PartContents) (ns : List (Option ℕ))
+    → AreSums nodes parts ns → AreValuedSums nodes ns
 all_summed nodes parts [] are k within = absurd (omega arith)
 all_summed nodes [] (n ∷ ns) are k within = absurd are
 all_summed nodes (Legacy terms ∷ parts) (None ∷ ns) are k within = absurd are
 all_summed nodes (Legacy terms ∷ parts) (Some n ∷ ns) are zero within = valued nodes n (terms_tree terms) are.0
-all_summed nodes (Legacy terms ∷ parts) (Some n ∷ ns) are (suc k) within = all_summed nodes parts ns are.1 k (omega arith)
+all_summed nodes (Legacy terms ∷ parts) (Some n ∷ ns) are (suc k) within =
+    all_summed nodes parts ns are.1 k (omega arith)
 all_summed nodes (Grouped cs ∷ parts) (Some n ∷ ns) are k within = absurd are
 all_summed nodes (Grouped cs ∷ parts) (None ∷ ns) are zero within = tt
 all_summed nodes (Grouped cs ∷ parts) (None ∷ ns) are (suc k) within = all_summed nodes parts ns are k (omega arith)
 
-pub length_sums : (nodes : List Node) (parts : List PartContents) (ns : List (Option ℕ)) → AreSums nodes parts ns → length ns ≡ length parts
+pub length_sums : (nodes : List Node) (parts : List PartContents) (ns : List (Option ℕ))
+    → AreSums nodes parts ns → length ns ≡ length parts
 length_sums nodes [] [] are = refl
 length_sums nodes [] (n ∷ ns) are = absurd are
 length_sums nodes (Legacy terms ∷ parts) [] are = absurd are
@@ -68,17 +75,20 @@ length_sums nodes (Grouped cs ∷ parts) [] are = absurd are
 length_sums nodes (Grouped cs ∷ parts) (Some n ∷ ns) are = absurd are
 length_sums nodes (Grouped cs ∷ parts) (None ∷ ns) are = ap suc (length_sums nodes parts ns are)
 
-length_spelled : (nodes : List Node) (ns : List ℕ) (trees : List Tree) → AreSpelled nodes ns trees → length ns ≡ length trees
+length_spelled : (nodes : List Node) (ns : List ℕ) (trees : List Tree) → AreSpelled nodes ns trees
+    → length ns ≡ length trees
 length_spelled nodes [] [] are = refl
 length_spelled nodes [] (tree ∷ trees) are = absurd are
 length_spelled nodes (n ∷ ns) [] are = absurd are
 length_spelled nodes (n ∷ ns) (tree ∷ trees) are = ap suc (length_spelled nodes ns trees are.1)
 
 -- lists laid in a row, an entry for each condition
-along : {A : Type 0} (f : List Condition → List A) → ((cs : List Condition) → length (f cs) ≡ length cs) → (groups : List (List Condition)) → length (flat_map f groups) ≡ sum_by length groups
+along : {A : Type 0} (f : List Condition → List A) → ((cs : List Condition) → length (f cs) ≡ length
+    cs) → (groups : List (List Condition)) → length (flat_map f groups) ≡ sum_by length groups
 along f each [] = refl
 along f each (cs ∷ groups) =
-    length-append (f cs) (flat_map f groups) ∙ ap₂ (λ m n. m + n) (each cs) (along f each groups) ∙ sym (sum_by-cons length cs groups)
+    length-append (f cs) (flat_map f groups) ∙ ap₂ (λ m n. m + n) (each cs) (along f each groups)
+    ∙ sym (sum_by-cons length cs groups)
 
 length_places : {A : Type 0} (f : ℕ → A) (cs : List Condition) → length (map f (places cs)) ≡ length cs
 length_places f cs = length-map (places cs) f ∙ length-range_with_len 0 (length cs)
@@ -108,19 +118,24 @@ module _ (nodes : List Node) (groups : List (List Condition)) where
       record {
         lefts = all_valued nodes laid.plan.lefts.items (flat_map lefts_of groups) is.plan.lefts;
         rights = all_valued nodes laid.plan.rights.items (flat_map rights_of groups) is.plan.rights;
-        left_nodes = length_spelled nodes laid.plan.lefts.items (flat_map lefts_of groups) is.plan.lefts ∙ length_lefts groups ∙ sym ops;
-        right_nodes = length_spelled nodes laid.plan.rights.items (flat_map rights_of groups) is.plan.rights ∙ length_rights groups ∙ sym ops;
+        left_nodes = length_spelled nodes laid.plan.lefts.items
+            (flat_map lefts_of groups) is.plan.lefts ∙ length_lefts groups ∙ sym ops;
+        right_nodes = length_spelled nodes laid.plan.rights.items
+            (flat_map rights_of groups) is.plan.rights ∙ length_rights groups ∙ sym ops;
         truths = is.truths;
         left_values = is.lefts;
       }
 
-  pub length_laid : (laid : Laid) → IsLaid nodes groups laid → (length laid.truths.items ≡ sum_by length groups) × (length laid.lefts.items ≡ sum_by length groups)
+  pub length_laid : (laid : Laid) → IsLaid nodes groups laid → (length laid.truths.items
+      ≡ sum_by length groups) × (length laid.lefts.items ≡ sum_by length groups)
   length_laid laid is =
       let ops : length laid.ops.items ≡ sum_by length groups = ap length is.ops ∙ length_ops groups in
       (is.truths ∙ ops, is.lefts ∙ ops)
 
 -- the truths of groups laid in a row
-truths_row : (ops : List Op) (xs ys : List ℕ) (ops' : List Op) (xs' ys' : List ℕ) → length xs ≡ length ops → length ys ≡ length ops → truths_by (ops ++ ops') (xs ++ xs') (ys ++ ys') ≡ truths_by ops xs ys ++ truths_by ops' xs' ys'
+truths_row : (ops : List Op) (xs ys : List ℕ) (ops' : List Op) (xs' ys' : List ℕ) → length xs
+    ≡ length ops → length ys ≡ length ops → truths_by (ops ++ ops') (xs ++ xs') (ys ++ ys')
+    ≡ truths_by ops xs ys ++ truths_by ops' xs' ys'
 truths_row [] [] [] ops' xs' ys' long long_too = refl
 truths_row [] [] (y ∷ ys) ops' xs' ys' long long_too = absurd (omega arith)
 truths_row [] (x ∷ xs) ys ops' xs' ys' long long_too = absurd (omega arith)
@@ -129,43 +144,53 @@ truths_row (op ∷ ops) (x ∷ xs) [] ops' xs' ys' long long_too = absurd (omega
 truths_row (op ∷ ops) (x ∷ xs) (y ∷ ys) ops' xs' ys' long long_too =
     ap (λ r. compared op x y ∷ r) (truths_row ops xs ys ops' xs' ys' (omega arith) (omega arith))
 
-truths_places : (op : ℕ → Op) (f g : ℕ → ℕ) (js : List ℕ) → truths_by (map op js) (map f js) (map g js) ≡ map (λ j. compared (op j) (f j) (g j)) js
+truths_places : (op : ℕ → Op) (f g : ℕ → ℕ) (js : List ℕ)
+    → truths_by (map op js) (map f js) (map g js) ≡ map (λ j. compared (op j) (f j) (g j)) js
 truths_places op f g [] = refl
 truths_places op f g (j ∷ js) = ap (λ r. compared (op j) (f j) (g j) ∷ r) (truths_places op f g js)
 
 -- what is said of each element is said of each place
-map_shifted : {A B : Type 0} (f : A → B) (d : A) (before xs : List A) → map f xs ≡ map (λ j. f (get_or (before ++ xs) j d)) (range_with_len (length before) (length xs))
+map_shifted : {A B : Type 0} (f : A → B) (d : A) (before xs : List A) → map f xs
+    ≡ map (λ j. f (get_or (before ++ xs) j d)) (range_with_len (length before) (length xs))
 map_shifted f d before [] = refl
 map_shifted f d before (x ∷ xs) =
     let here : get_or (before ++ x ∷ xs) (length before) d ≡ x = get_or-append_seam before x xs d in
     let count : length (before ++ x ∷ []) ≡ length before + 1 = omega (arith, length-append before (x ∷ [])) in
-    let rest : map f xs ≡ map (λ j. f (get_or ((before ++ x ∷ []) ++ xs) j d)) (range_with_len (length (before ++ x ∷ [])) (length xs)) = map_shifted f d (before ++ x ∷ []) xs in
-    let later : map f xs ≡ map (λ j. f (get_or (before ++ x ∷ xs) j d)) (range_with_len (length before + 1) (length xs)) = rest ∙ ap₂ (λ l n. map (λ j. f (get_or l j d)) (range_with_len n (length xs))) (append_assoc before (x ∷ []) xs) count in
+    let rest : map f xs ≡ map (λ j. f (get_or ((before ++ x ∷ []) ++ xs) j d)) (range_with_len
+    (length (before ++ x ∷ [])) (length xs)) = map_shifted f d (before ++ x ∷ []) xs in
+    let later : map f xs ≡ map (λ j. f (get_or (before ++ x ∷ xs) j d))
+    (range_with_len (length before + 1) (length xs)) = rest ∙ ap₂ (λ l n. map (λ j. f
+    (get_or l j d)) (range_with_len n (length xs))) (append_assoc before (x ∷ []) xs) count in
     ap₂ (λ y ys. y ∷ ys) (ap f (sym here)) later
 
 ops_places : (cs : List Condition) → ops_in cs ≡ map (λ j. (condition_at cs j).op) (places cs)
 ops_places cs = map_shifted (λ c. c.op) no_condition [] cs
 
-module _ (nodes : List Node) (values : List ℕ) (start : Start) (h : History) (has : values ≡ map (spelled_value start h) (spelled_by nodes)) where
+module _ (nodes : List Node) (values : List ℕ) (start : Start) (h : History) (has : values
+    ≡ map (spelled_value start h) (spelled_by nodes)) where
   -- a node's number is the value of its tree
   read_one : (n : ℕ) (tree : Tree) → Spells nodes n tree → slice_index values n ≡ value_of start tree h
   read_one n tree is =
       ap (λ vs. get_or vs n 0) has
-      ∙ get_or-map (spelled_value start h) (spelled_by nodes) n (IsTree tree) 0 (slice_get_within (spelled_by nodes) n (IsTree tree) is)
+      ∙ get_or-map (spelled_value start h) (spelled_by nodes) n (IsTree tree) 0
+      (slice_get_within (spelled_by nodes) n (IsTree tree) is)
       ∙ ap (spelled_value start h) (get_or_from_slice_get (spelled_by nodes) n (IsTree tree) (IsTree tree) is)
 
-  read_all : (ns : List ℕ) (trees : List Tree) → AreSpelled nodes ns trees → numbers_at values ns ≡ map (λ tree. value_of start tree h) trees
+  read_all : (ns : List ℕ) (trees : List Tree) → AreSpelled nodes ns trees → numbers_at values ns
+      ≡ map (λ tree. value_of start tree h) trees
   read_all [] [] are = refl
   read_all [] (tree ∷ trees) are = absurd are
   read_all (n ∷ ns) [] are = absurd are
   read_all (n ∷ ns) (tree ∷ trees) are = ap₂ (λ x xs. x ∷ xs) (read_one n tree are.0) (read_all ns trees are.1)
 
-  pub read_sums_of : (parts : List PartContents) (ns : List (Option ℕ)) → AreSums nodes parts ns → map (sum_by_node values) ns ≡ map (sum_at start h) parts
+  pub read_sums_of : (parts : List PartContents) (ns : List (Option ℕ)) → AreSums nodes parts ns
+      → map (sum_by_node values) ns ≡ map (sum_at start h) parts
   read_sums_of [] [] are = refl
   read_sums_of [] (n ∷ ns) are = absurd are
   read_sums_of (Legacy terms ∷ parts) [] are = absurd are
   read_sums_of (Legacy terms ∷ parts) (None ∷ ns) are = absurd are
-  read_sums_of (Legacy terms ∷ parts) (Some n ∷ ns) are = ap₂ (λ x xs. x ∷ xs) (read_one n (terms_tree terms) are.0) (read_sums_of parts ns are.1)
+  read_sums_of (Legacy terms ∷ parts) (Some n ∷ ns) are =
+      ap₂ (λ x xs. x ∷ xs) (read_one n (terms_tree terms) are.0) (read_sums_of parts ns are.1)
   read_sums_of (Grouped cs ∷ parts) [] are = absurd are
   read_sums_of (Grouped cs ∷ parts) (Some n ∷ ns) are = absurd are
   read_sums_of (Grouped cs ∷ parts) (None ∷ ns) are = ap (λ xs. 0 ∷ xs) (read_sums_of parts ns are)
@@ -179,19 +204,27 @@ module _ (nodes : List Node) (values : List ℕ) (start : Start) (h : History) (
       map-append value (lefts_of cs) (flat_map lefts_of groups)
       ∙ ap₂ (λ xs ys. xs ++ ys) (map-map value (left_of cs) (places cs)) (lefts_row groups)
 
-  truths_one : (cs : List Condition) → truths_by (ops_in cs) (map value (lefts_of cs)) (map value (rights_of cs)) ≡ map (truth_at start h cs) (places cs)
+  truths_one : (cs : List Condition) → truths_by (ops_in cs) (map value (lefts_of cs))
+      (map value (rights_of cs)) ≡ map (truth_at start h cs) (places cs)
   truths_one cs =
-      (λ i. truths_by (ops_places cs i) (map-map value (left_of cs) (places cs) i) (map-map value (right_of cs) (places cs) i))
+      (λ i. truths_by (ops_places cs i) (map-map value (left_of cs) (places cs) i)
+      (map-map value (right_of cs) (places cs) i))
       ∙ truths_places (λ j. (condition_at cs j).op) (λ j. value (left_of cs j)) (λ j. value (right_of cs j)) (places cs)
 
-  truths_all : (groups : List (List Condition)) → truths_by (ops_of groups) (map value (flat_map lefts_of groups)) (map value (flat_map rights_of groups)) ≡ truths_at start h groups
+  truths_all : (groups : List (List Condition)) → truths_by (ops_of groups) (map value
+      (flat_map lefts_of groups)) (map value (flat_map rights_of groups)) ≡ truths_at start h groups
   truths_all [] = refl
   truths_all (cs ∷ groups) =
       let ops : length (ops_in cs) ≡ length cs = length-map cs (λ c. c.op) in
-      let xs : length (map value (lefts_of cs)) ≡ length cs = length-map (lefts_of cs) value ∙ length_places (left_of cs) cs in
-      let ys : length (map value (rights_of cs)) ≡ length cs = length-map (rights_of cs) value ∙ length_places (right_of cs) cs in
-      (λ i. truths_by (ops_of (cs ∷ groups)) (map-append value (lefts_of cs) (flat_map lefts_of groups) i) (map-append value (rights_of cs) (flat_map rights_of groups) i))
-      ∙ truths_row (ops_in cs) (map value (lefts_of cs)) (map value (rights_of cs)) (ops_of groups) (map value (flat_map lefts_of groups)) (map value (flat_map rights_of groups)) (xs ∙ sym ops) (ys ∙ sym ops)
+      let xs : length (map value (lefts_of cs)) ≡ length cs =
+      length-map (lefts_of cs) value ∙ length_places (left_of cs) cs in
+      let ys : length (map value (rights_of cs)) ≡ length cs =
+      length-map (rights_of cs) value ∙ length_places (right_of cs) cs in
+      (λ i. truths_by (ops_of (cs ∷ groups)) (map-append value (lefts_of cs)
+      (flat_map lefts_of groups) i) (map-append value (rights_of cs) (flat_map rights_of groups) i))
+      ∙ truths_row (ops_in cs) (map value (lefts_of cs)) (map value (rights_of cs)) (ops_of groups)
+      (map value (flat_map lefts_of groups)) (map value (flat_map rights_of groups)) (xs ∙ sym ops)
+      (ys ∙ sym ops)
       ∙ ap₂ (λ a b. a ++ b) (truths_one cs) (truths_all groups)
 
   module _ (groups : List (List Condition)) (old : Laid) (is : IsLaid nodes groups old) where
@@ -199,14 +232,16 @@ module _ (nodes : List Node) (values : List ℕ) (start : Start) (h : History) (
     pub laid_lefts : numbers_at values old.plan.lefts.items ≡ lefts_at start h groups
     laid_lefts = read_all old.plan.lefts.items (flat_map lefts_of groups) is.plan.lefts ∙ lefts_row groups
 
-    pub laid_truths : truths_by old.ops.items (numbers_at values old.plan.lefts.items) (numbers_at values old.plan.rights.items)
+    pub laid_truths : truths_by old.ops.items (numbers_at values old.plan.lefts.items)
+        (numbers_at values old.plan.rights.items)
         ≡ truths_at start h groups
     laid_truths =
         (λ i. truths_by (is.ops i) (read_all old.plan.lefts.items (flat_map lefts_of groups) is.plan.lefts i)
         (read_all old.plan.rights.items (flat_map rights_of groups) is.plan.rights i))
         ∙ truths_all groups
 
-  module _ (groups : List (List Condition)) (old new : Laid) (is : IsLaid nodes groups old) (filled : IsFilled values old new) where
+  module _ (groups : List (List Condition)) (old new : Laid) (is : IsLaid nodes groups old)
+      (filled : IsFilled values old new) where
     pub lefts_read : new.lefts.items ≡ lefts_at start h groups
     lefts_read = filled.lefts ∙ laid_lefts groups old is
 
@@ -216,21 +251,26 @@ module _ (nodes : List Node) (values : List ℕ) (start : Start) (h : History) (
 length_numbers : (values ns : List ℕ) → length (numbers_at values ns) ≡ length ns
 length_numbers values ns = length-map ns (λ n. slice_index values n)
 
-length_truths : (ops : List Op) (xs ys : List ℕ) → length xs ≡ length ops → length ys ≡ length ops → length (truths_by ops xs ys) ≡ length ops
+length_truths : (ops : List Op) (xs ys : List ℕ) → length xs ≡ length ops → length ys ≡ length ops
+    → length (truths_by ops xs ys) ≡ length ops
 length_truths [] xs ys long long_too = refl
 length_truths (op ∷ ops) [] ys long long_too = absurd (omega arith)
 length_truths (op ∷ ops) (x ∷ xs) [] long long_too = absurd (omega arith)
 length_truths (op ∷ ops) (x ∷ xs) (y ∷ ys) long long_too = ap suc (length_truths ops xs ys (omega arith) (omega arith))
 
-pub laid_again : (nodes : List Node) (values : List ℕ) (groups : List (List Condition)) (old new : Laid) → IsLaid nodes groups old → IsFilled values old new → IsLaid nodes groups new
+pub laid_again : (nodes : List Node) (values : List ℕ) (groups : List (List Condition))
+    (old new : Laid) → IsLaid nodes groups old → IsFilled values old new → IsLaid nodes groups new
 laid_again nodes values groups old new is filled =
     let may : MayFill nodes old = laid_fills nodes groups old is in
     let count : length new.ops.items ≡ length old.ops.items = ap (λ o. length o.items) filled.ops in
-    let xs : length (numbers_at values old.plan.lefts.items) ≡ length old.ops.items = length_numbers values old.plan.lefts.items ∙ may.left_nodes in
-    let ys : length (numbers_at values old.plan.rights.items) ≡ length old.ops.items = length_numbers values old.plan.rights.items ∙ may.right_nodes in
+    let xs : length (numbers_at values old.plan.lefts.items) ≡ length old.ops.items =
+    length_numbers values old.plan.lefts.items ∙ may.left_nodes in
+    let ys : length (numbers_at values old.plan.rights.items) ≡ length old.ops.items =
+    length_numbers values old.plan.rights.items ∙ may.right_nodes in
     record {
       plan = subst (IsPlan nodes groups) (sym filled.plan) is.plan;
       ops = ap (λ o. o.items) filled.ops ∙ is.ops;
-      truths = ap length filled.truths ∙ length_truths old.ops.items (numbers_at values old.plan.lefts.items) (numbers_at values old.plan.rights.items) xs ys ∙ sym count;
+      truths = ap length filled.truths ∙ length_truths old.ops.items (numbers_at values
+          old.plan.lefts.items) (numbers_at values old.plan.rights.items) xs ys ∙ sym count;
       lefts = ap length filled.lefts ∙ xs ∙ sym count;
     }
