@@ -1,9 +1,11 @@
--- What the tests and values of a member do at one frame: docs/DEFINITIONS.md, "Triggers over frames" and "Values over frames".
+-- What the tests and values of a member do at one frame: docs/DEFINITIONS.md, "Triggers over frames" and "Values over
+-- frames".
 use Rattle.std.specs.Prelude.{ℕ, Bool, List, map}
 use Rattle.std.specs.List.{flat_map}
 use Rattle.ra_operand.specs.Operators.{compared}
 use Rattle.ra_condition.specs.declared.condition.Condition.{Condition}
-use Rattle.ra_condition.specs.Contents.{condition_at, TriggerContents, groups_of, PartContents, Legacy, Grouped, counted_in}
+use Rattle.ra_condition.specs.Contents.{condition_at, TriggerContents, groups_of, PartContents, Legacy, Grouped}
+use Rattle.ra_condition.specs.Contents.{counted_in}
 use Rattle.ra_condition.specs.Chains.{places}
 use Rattle.ra_memory.specs.Image.{History}
 use Rattle.ra_chain.specs.Elaboration.{left_of, right_of, terms_tree}
@@ -51,4 +53,5 @@ sum_at start history (Grouped cs) = 0
 -- a value after the last frame, from what was kept before it
 abbrev pub value_next : Start → List PartContents → History → ValueKept → ValueKept
 value_next start parts history kept =
-    value_step parts (truths_at start history (map counted_in parts)) (lefts_at start history (map counted_in parts)) (map (sum_at start history) parts) kept
+    value_step parts (truths_at start history (map counted_in parts))
+    (lefts_at start history (map counted_in parts)) (map (sum_at start history) parts) kept

@@ -11,7 +11,8 @@ use Rattle.ra_member.specs.declared.member.Member.{Member}
 use Rattle.ra_member.specs.declared.trigger_run.TriggerRun.{TriggerRun}
 use Rattle.ra_member.specs.declared.value_run.ValueRun.{ValueRun}
 use Rattle.ra_member.specs.Beside.{AreBeside}
-use Rattle.ra_member.specs.Members.{MemberContents, MemberKept, no_member, trees_in_member, member_conditions, values_next}
+use Rattle.ra_member.specs.Members.{MemberContents, MemberKept, no_member, trees_in_member, member_conditions}
+use Rattle.ra_member.specs.Members.{values_next}
 use Rattle.ra_member.specs.Plans.{GrowsWithin}
 use Rattle.ra_member.specs.Runs.{HasValues, IsTriggerRun, IsValueRun, StepsTest, StepsValue}
 
@@ -36,12 +37,15 @@ pub record IsNewMember (old new : List Node) (m : MemberContents) (member : Memb
 -- a new member with one test more, after the others and before all values
 abbrev pub AddsTest : (old new : List Node) → TriggerContents → (before after : Member) → Type 0
 AddsTest old new t before after =
-    (first : List Node) (tests : List TriggerContents) → IsNewMember first old (record { tests = tests; values = [] }) before → IsNewMember first new (record { tests = tests ++ t ∷ []; values = [] }) after
+    (first : List Node) (tests : List TriggerContents)
+    → IsNewMember first old (record { tests = tests; values = [] }) before
+    → IsNewMember first new (record { tests = tests ++ t ∷ []; values = [] }) after
 
 -- a new member with one value more, after all others
 abbrev pub AddsValue : (old new : List Node) → List PartContents → (before after : Member) → Type 0
 AddsValue old new parts before after =
-    (first : List Node) (m : MemberContents) → IsNewMember first old m before → IsNewMember first new (record m { values = m.values ++ parts ∷ [] }) after
+    (first : List Node) (m : MemberContents) → IsNewMember first old m before
+    → IsNewMember first new (record m { values = m.values ++ parts ∷ [] }) after
 
 -- the test at a place is this one, with its plan
 pub record HasTest (nodes : List Node) (t : TriggerContents) (place : ℕ) (member : Member) : Type 0 where
@@ -54,7 +58,8 @@ pub record HasValue (nodes : List Node) (parts : List PartContents) (place : ℕ
   pub run : (d : ValueRun) → IsValueRun nodes parts (get_or member.values.items place d)
 
 -- one frame of the test at a place; all else stays
-pub record StepsTestAt (table : TableSeen) (t : TriggerContents) (place : ℕ) (old new : Member) (holds : Bool) : Type 0 where
+pub record StepsTestAt (table : TableSeen) (t : TriggerContents) (place : ℕ) (old new : Member)
+    (holds : Bool) : Type 0 where
   pub run : TriggerRun
   pub is : IsTriggerRun table.nodes t run
   pub steps : (d : TriggerRun) → StepsTest table t (get_or old.tests.items place d) run holds
@@ -72,7 +77,8 @@ pub record StepsValueAt (table : TableSeen) (parts : List PartContents) (place :
 -- one frame of each value of a member; its tests stay
 pub record StepsValues (table : TableSeen) (values : List (List PartContents)) (old new : Member) : Type 0 where
   pub values_too : AreBeside (IsValueRun table.nodes) values new.values.items
-  pub kept : (start : Start) (history : History) → HasValues table start history → (kept_by new).values ≡ values_next start values history (kept_by old).values
+  pub kept : (start : Start) (history : History) → HasValues table start history
+      → (kept_by new).values ≡ values_next start values history (kept_by old).values
   pub tests : new.tests ≡ old.tests
 
 -- the member is one with its plans where the old one was
@@ -91,12 +97,14 @@ pub record PutsBehind (old new numbers : List ℕ) : Type 0 where
 -- the tests have the plans that they had
 abbrev pub StayTests : (olds news : List TriggerRun) → Type 0
 StayTests olds news =
-    (nodes : List Node) (tests : List TriggerContents) → AreBeside (IsTriggerRun nodes) tests olds → AreBeside (IsTriggerRun nodes) tests news
+    (nodes : List Node) (tests : List TriggerContents) → AreBeside (IsTriggerRun nodes) tests olds
+    → AreBeside (IsTriggerRun nodes) tests news
 
 -- the values have the plans that they had
 abbrev pub StayValues : (olds news : List ValueRun) → Type 0
 StayValues olds news =
-    (nodes : List Node) (values : List (List PartContents)) → AreBeside (IsValueRun nodes) values olds → AreBeside (IsValueRun nodes) values news
+    (nodes : List Node) (values : List (List PartContents))
+    → AreBeside (IsValueRun nodes) values olds → AreBeside (IsValueRun nodes) values news
 
 -- the hits of a trigger are those at a place
 pub record PutsBackTest (bytes : List ℕ) (at : ℕ) (old new : TriggerRun) : Type 0 where

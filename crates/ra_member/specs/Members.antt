@@ -1,4 +1,5 @@
--- Tests and values that are kept together, as those of a leaderboard or of a display line: docs/DEFINITIONS.md, "Members".
+-- Tests and values that are kept together, as those of a leaderboard or of a display line: docs/DEFINITIONS.md,
+-- "Members".
 use Rattle.std.specs.Prelude.{◌≡◌, ℕ, ◌+◌, Bool, List, ◌++◌, length, map, take, drop, replicate, zip, sum, sum_by}
 use Rattle.std.specs.List.{concat, flat_map}
 use Rattle.ra_condition.specs.Contents.{TriggerContents, trigger_hits, PartContents, value_hits}

@@ -1,4 +1,5 @@
--- Plans of triggers and values: pass orders, and nodes that spell the trees of conditions: docs/DEFINITIONS.md, "Trees of a group".
+-- Plans of triggers and values: pass orders, and nodes that spell the trees of conditions: docs/DEFINITIONS.md, "Trees
+-- of a group".
 use Rattle.std.specs.Prelude.{◌≡◌, ℕ, ◌+◌, ◌*◌, ◌≤◌, Option, None, Some, List, [], ◌∷◌, length, map, filter}
 use Rattle.std.specs.List.{flat_map}
 use Rattle.ra_condition.specs.declared.condition.Condition.{Condition}

@@ -44,7 +44,8 @@ pub record IsFilled (values : List ℕ) (old new : Laid) : Type 0 where
   pub plan : new.plan ≡ old.plan
   pub ops : new.ops ≡ old.ops
   pub lefts : new.lefts.items ≡ numbers_at values old.plan.lefts.items
-  pub truths : new.truths.items ≡ truths_by old.ops.items (numbers_at values old.plan.lefts.items) (numbers_at values old.plan.rights.items)
+  pub truths : new.truths.items ≡ truths_by old.ops.items (numbers_at values old.plan.lefts.items)
+      (numbers_at values old.plan.rights.items)
 
 -- a trigger with its plan
 pub record IsTriggerRun (nodes : List Node) (t : TriggerContents) (run : TriggerRun) : Type 0 where
@@ -59,12 +60,16 @@ pub record IsNewTrigger (old new : List Node) (t : TriggerContents) (run : Trigg
 
 -- one frame of a trigger without states
 pub record StepsTest (table : TableSeen) (t : TriggerContents) (old new : TriggerRun) (holds : Bool) : Type 0 where
-  pub truth : (start : Start) (history : History) → HasValues table start history → holds ≡ test_holds start t history old.trigger.hits
-  pub hits : (start : Start) (history : History) → HasValues table start history → new.trigger.hits ≡ test_next start t history old.trigger.hits
+  pub truth : (start : Start) (history : History) → HasValues table start history → holds
+      ≡ test_holds start t history old.trigger.hits
+  pub hits : (start : Start) (history : History) → HasValues table start history → new.trigger.hits
+      ≡ test_next start t history old.trigger.hits
 
 -- one frame of an achievement, and what it tells
-pub record StepsAchievement (table : TableSeen) (t : TriggerContents) (old new : TriggerRun) (change : Change) : Type 0 where
-  pub kept : (start : Start) (history : History) → HasValues table start history → new.trigger ≡ achievement_next start t history old.trigger
+pub record StepsAchievement (table : TableSeen) (t : TriggerContents) (old new : TriggerRun)
+    (change : Change) : Type 0 where
+  pub kept : (start : Start) (history : History) → HasValues table start history → new.trigger
+      ≡ achievement_next start t history old.trigger
   pub told : change ≡ change_between old.trigger new.trigger
 
 -- a value with its plan
@@ -91,4 +96,5 @@ pub record IsRead (values : List ℕ) (old new : ValueRun) : Type 0 where
 -- one frame of a value
 abbrev pub StepsValue : TableSeen → List PartContents → (old new : ValueRun) → Type 0
 StepsValue table parts old new =
-    (start : Start) (history : History) → HasValues table start history → new.value ≡ value_next start parts history old.value
+    (start : Start) (history : History) → HasValues table start history → new.value
+    ≡ value_next start parts history old.value

@@ -18,7 +18,10 @@ loop-place-preserved c =
     let within : p.place < length olds = omega arith in
     let within_too : p.place < length p.tests = omega arith in
     record {
-      stay = λ nodes tests are. beside_set (IsTriggerRun nodes) tests p.tests p.place d new within_too (test_cleared old new refl is nodes) (p.invariant.stay nodes tests are);
-      kept = mapped_next p.place olds p.tests d within within_too p.invariant.rest (λ (t : TriggerRun). t.trigger.hits) (λ (t : TriggerRun). cleared t.trigger.hits) new is p.invariant.kept;
+      stay = λ nodes tests are. beside_set (IsTriggerRun nodes) tests p.tests p.place d new
+          within_too (test_cleared old new refl is nodes) (p.invariant.stay nodes tests are);
+      kept = mapped_next p.place olds p.tests d within within_too p.invariant.rest (λ
+          (t : TriggerRun). t.trigger.hits)
+          (λ (t : TriggerRun). cleared t.trigger.hits) new is p.invariant.kept;
       rest = rest_next p.place olds p.tests d within within_too p.invariant.rest new;
     }

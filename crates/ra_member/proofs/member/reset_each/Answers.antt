@@ -17,7 +17,11 @@ loop-place-preserved c =
     let within : p.place < length olds = omega arith in
     let within_too : p.place < length p.values = omega arith in
     record {
-      stay = λ nodes values are. beside_set (IsValueRun nodes) values p.values p.place d new within_too (value_cleared old new refl c.reset.ensures nodes) (p.invariant.stay nodes values are);
-      kept = mapped_next p.place olds p.values d within within_too p.invariant.rest (λ (v : ValueRun). v.value) (λ (v : ValueRun). cleared v.value) new c.reset.ensures p.invariant.kept;
+      stay = λ nodes values are. beside_set (IsValueRun nodes) values p.values p.place d new
+          within_too (value_cleared old new refl c.reset.ensures nodes)
+          (p.invariant.stay nodes values are);
+      kept = mapped_next p.place olds p.values d within within_too p.invariant.rest (λ
+          (v : ValueRun). v.value)
+          (λ (v : ValueRun). cleared v.value) new c.reset.ensures p.invariant.kept;
       rest = rest_next p.place olds p.values d within within_too p.invariant.rest new;
     }

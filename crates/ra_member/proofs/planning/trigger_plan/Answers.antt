@@ -1,4 +1,5 @@
-use Rattle.std.proofs.Common.{◌≡◌, ◌+◌, ◌<◌, ◌∷◌, ◌++◌, [], length, map, take, get_or, sum_by, sym, ◌∙◌, ap, subst, arith}
+use Rattle.std.proofs.Common.{◌≡◌, ◌+◌, ◌<◌, ◌∷◌, ◌++◌, [], length, map, take, get_or, sum_by, sym, ◌∙◌, ap, subst}
+use Rattle.std.proofs.Common.{arith}
 use Rattle.std.specs.List.{flat_map}
 use Rattle.std.proofs.lemmas.List.{append-nil}
 use Rattle.std.proofs.lemmas.List.Sums.{sum_by-cons}
@@ -19,7 +20,9 @@ loop-alt-init c =
     let core = group_contents c.args.text.now.core in
     record {
       plan = e.plan;
-      grows = within_as c.args.pool.now c.group_plan.new.pool (trees_in_group core) (trees_in_group core ++ []) (length core) (0 + length core) (sym (append-nil (trees_in_group core))) (omega arith) e.grows;
+      grows = within_as c.args.pool.now c.group_plan.new.pool (trees_in_group core)
+          (trees_in_group core ++ []) (length core) (0 + length core)
+          (sym (append-nil (trees_in_group core))) (omega arith) e.grows;
     }
 
 pub put_group-requires-clause-joins : goal.put_group-requires-clause-joins
@@ -29,7 +32,8 @@ put_group-requires-clause-joins c =
     let alt = c.alt-item.result in
     let within : k < length alts = omega (arith, c.deref-alt-items.ensures.len) in
     let is : alt ≡ get_or alts k alt = c.alt-item.is ∙ ap (λ xs. get_or xs k alt) c.deref-alt-items.ensures.value in
-    all_join InTrigger (group_contents alt) (holds_at group_contents alts k alt within is IsTriggerGroup c.requires.spelled.alts)
+    all_join InTrigger (group_contents alt)
+    (holds_at group_contents alts k alt within is IsTriggerGroup c.requires.spelled.alts)
 
 pub put_group-requires-clause-room : goal.put_group-requires-clause-room
 put_group-requires-clause-room c =
@@ -51,10 +55,14 @@ loop-alt-preserved c =
     let groups = core ∷ map group_contents (take k alts) in
     let within : k < length alts = omega (arith, c.deref-alt-items.ensures.len) in
     let is : alt ≡ get_or alts k alt = c.alt-item.is ∙ ap (λ xs. get_or xs k alt) c.deref-alt-items.ensures.value in
-    let next : core ∷ map group_contents (take (k + 1) alts) ≡ groups ++ group_contents alt ∷ [] = ap (λ gs. core ∷ gs) (taken_next group_contents alts k alt within is) in
+    let next : core ∷ map group_contents (take (k + 1) alts) ≡ groups ++ group_contents alt ∷ [] =
+    ap (λ gs. core ∷ gs) (taken_next group_contents alts k alt within is) in
     record {
-      plan = subst (λ gs. IsPlan c.put_group.new.pool gs c.put_group.new.plan) (sym next) (e.plan groups c.loop-alt.invariant.plan);
+      plan = subst (λ gs. IsPlan c.put_group.new.pool gs c.put_group.new.plan) (sym next)
+          (e.plan groups c.loop-alt.invariant.plan);
       grows =
-          subst (λ gs. GrowsWithin c.args.pool.now c.put_group.new.pool (flat_map trees_in_group gs) (sum_by length gs)) (sym next)
-          (grows_more trees_in_group length c.args.pool.now c.loop-alt.pool c.put_group.new.pool groups (group_contents alt) c.loop-alt.invariant.grows e.grows);
+          subst (λ gs. GrowsWithin c.args.pool.now c.put_group.new.pool (flat_map trees_in_group gs)
+          (sum_by length gs)) (sym next)
+          (grows_more trees_in_group length c.args.pool.now c.loop-alt.pool c.put_group.new.pool
+          groups (group_contents alt) c.loop-alt.invariant.grows e.grows);
     }

@@ -1,4 +1,5 @@
-use Rattle.std.proofs.Common.{◌≡◌, ◌+◌, ◌<◌, ◌∷◌, ◌++◌, [], length, map, take, get_or, sum_by, sym, ◌∙◌, ap, subst, arith}
+use Rattle.std.proofs.Common.{◌≡◌, ◌+◌, ◌<◌, ◌∷◌, ◌++◌, [], length, map, take, get_or, sum_by, sym, ◌∙◌, ap, subst}
+use Rattle.std.proofs.Common.{arith}
 use Rattle.std.specs.List.{flat_map}
 use Rattle.ra_condition.specs.Contents.{part_contents}
 use Rattle.ra_condition.specs.Spelled.{IsPart}
@@ -15,7 +16,8 @@ put_part-requires-clause-spelled c =
     let k = c.loop-part.part-index in
     let part = c.part-item.result in
     let within : k < length parts = omega (arith, c.deref-part-items.ensures.len) in
-    let is : part ≡ get_or parts k part = c.part-item.is ∙ ap (λ xs. get_or xs k part) c.deref-part-items.ensures.value in
+    let is : part ≡ get_or parts k part =
+    c.part-item.is ∙ ap (λ xs. get_or xs k part) c.deref-part-items.ensures.value in
     holds_at part_contents parts k part within is IsPart c.requires.spelled.each
 
 pub put_part-requires-clause-room : goal.put_part-requires-clause-room
@@ -24,7 +26,8 @@ put_part-requires-clause-room c =
     let k = c.loop-part.part-index in
     let part = c.part-item.result in
     let within : k < length parts = omega (arith, c.deref-part-items.ensures.len) in
-    let is : part ≡ get_or parts k part = c.part-item.is ∙ ap (λ xs. get_or xs k part) c.deref-part-items.ensures.value in
+    let is : part ≡ get_or parts k part =
+    c.part-item.is ∙ ap (λ xs. get_or xs k part) c.deref-part-items.ensures.value in
     omega (arith, weight_at part_contents parts k part within is part_conditions, c.loop-part.invariant.grows.few, c.requires.room)
 
 pub loop-part-preserved : goal.loop-part-preserved
@@ -35,11 +38,16 @@ loop-part-preserved c =
     let e = c.in_ok-put_part.ensures in
     let before = map part_contents (take k parts) in
     let within : k < length parts = omega (arith, c.deref-part-items.ensures.len) in
-    let is : part ≡ get_or parts k part = c.part-item.is ∙ ap (λ xs. get_or xs k part) c.deref-part-items.ensures.value in
-    let next : map part_contents (take (k + 1) parts) ≡ before ++ part_contents part ∷ [] = taken_next part_contents parts k part within is in
+    let is : part ≡ get_or parts k part =
+    c.part-item.is ∙ ap (λ xs. get_or xs k part) c.deref-part-items.ensures.value in
+    let next : map part_contents (take (k + 1) parts) ≡ before ++ part_contents part ∷ [] =
+    taken_next part_contents parts k part within is in
     record {
-      plan = subst (λ ps. IsValuePlan c.put_part.new.pool ps c.put_part.new.plan) (sym next) (e.plan before c.loop-part.invariant.plan);
+      plan = subst (λ ps. IsValuePlan c.put_part.new.pool ps c.put_part.new.plan) (sym next)
+          (e.plan before c.loop-part.invariant.plan);
       grows =
-          subst (λ ps. GrowsWithin c.args.pool.now c.put_part.new.pool (flat_map trees_in_part ps) (sum_by part_conditions ps)) (sym next)
-          (grows_more trees_in_part part_conditions c.args.pool.now c.loop-part.pool c.put_part.new.pool before (part_contents part) c.loop-part.invariant.grows e.grows);
+          subst (λ ps. GrowsWithin c.args.pool.now c.put_part.new.pool (flat_map trees_in_part ps)
+          (sum_by part_conditions ps)) (sym next)
+          (grows_more trees_in_part part_conditions c.args.pool.now c.loop-part.pool
+          c.put_part.new.pool before (part_contents part) c.loop-part.invariant.grows e.grows);
     }

@@ -9,6 +9,7 @@ returns-clause-test c =
     record {
       hits =
           ap (λ (k : TriggerKept). k.hits) c.put_back.ensures
-          ∙ words_piece c.args.bytes.now at (at + 4 * length c.hits.result.now - at) 0 at (length c.args.run.now.trigger.hits) (omega (arith, ap length c.hits.ensures)) (omega arith);
+          ∙ words_piece c.args.bytes.now at (at + 4 * length c.hits.result.now - at) 0 at (length
+          c.args.run.now.trigger.hits) (omega (arith, ap length c.hits.ensures)) (omega arith);
       laid = refl;
     }

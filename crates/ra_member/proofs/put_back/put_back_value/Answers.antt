@@ -10,7 +10,11 @@ returns-clause-value c =
     let numbers = c.args.at.numbers in
     let old = c.args.run.now.value in
     record {
-      hits_too = ap (λ (k : ValueKept). k.hits) c.put_back.ensures ∙ words_piece bytes at (at + 4 * length c.hits.result.now - at) 0 at (length old.hits) (omega (arith, ap length c.hits.ensures)) (omega arith);
-      numbers_too = ap (λ (k : ValueKept). k.numbers) c.put_back.ensures ∙ words_piece bytes numbers (numbers + 4 * length c.kept.result.now - numbers) 0 numbers (length old.numbers) (omega (arith, ap length c.kept.ensures)) (omega arith);
+      hits_too = ap (λ (k : ValueKept). k.hits) c.put_back.ensures
+          ∙ words_piece bytes at (at + 4 * length c.hits.result.now - at) 0 at (length old.hits)
+          (omega (arith, ap length c.hits.ensures)) (omega arith);
+      numbers_too = ap (λ (k : ValueKept). k.numbers) c.put_back.ensures
+          ∙ words_piece bytes numbers (numbers + 4 * length c.kept.result.now - numbers) 0 numbers
+          (length old.numbers) (omega (arith, ap length c.kept.ensures)) (omega arith);
       rest = refl;
     }

@@ -8,6 +8,7 @@ abbrev pub invariant-loop-place : goal.invariant-loop-place
 invariant-loop-place l = record {
   stay : StayValues l.fn.values l.values;
   hits : IsRowBack (λ (v : ValueRun). v.value.hits) l.bytes l.fn.from.hits l.at.hits l.place l.fn.values l.values;
-  numbers : IsRowBack (λ (v : ValueRun). v.value.numbers) l.bytes l.fn.from.numbers l.at.numbers l.place l.fn.values l.values;
+  numbers : IsRowBack (λ (v : ValueRun). v.value.numbers) l.bytes l.fn.from.numbers l.at.numbers
+      l.place l.fn.values l.values;
   rest : drop l.place l.values ≡ drop l.place l.fn.values;
 }

@@ -24,20 +24,26 @@ returns-clause-hits c =
     let tests = c.put_back_tests-hits.new.tests in
     let values = c.put_back_values.new.values in
     let new : Member = record { tests = with_items old.tests tests; values = with_items old.values values } in
-    let same : new.tests.items ≡ tests = with_items_is old.tests tests (c.put_back_tests-hits.auto.tests ∙ c.deref_mut.ensures.len) in
-    let same_too : new.values.items ≡ values = with_items_is old.values values (c.put_back_values.auto.values ∙ c.deref_mut-2.ensures.len) in
+    let same : new.tests.items ≡ tests =
+    with_items_is old.tests tests (c.put_back_tests-hits.auto.tests ∙ c.deref_mut.ensures.len) in
+    let same_too : new.values.items ≡ values =
+    with_items_is old.values values (c.put_back_values.auto.values ∙ c.deref_mut-2.ensures.len) in
     let tests_back = rw c.deref_mut.ensures.value at c.put_back_tests-hits.ensures.hits in
     let values_back = rw c.deref_mut-2.ensures.value at c.put_back_values.ensures.hits in
     let place = rw c.deref_mut.ensures.value at c.put_back_tests-hits.ensures.place in
-    hits_back c.args.bytes.now c.args.at.hits c.put_back_tests-hits.result old new (ap hits_of_tests same ∙ tests_back) (ap hits_of_values same_too ∙ values_back) place
+    hits_back c.args.bytes.now c.args.at.hits c.put_back_tests-hits.result old new
+    (ap hits_of_tests same ∙ tests_back) (ap hits_of_values same_too ∙ values_back) place
 
 pub returns-clause-numbers : goal.returns-clause-numbers
 returns-clause-numbers c =
     let old = c.args.self.now in
     let values = c.put_back_values.new.values in
-    let new : Member = record { tests = with_items old.tests c.put_back_tests-hits.new.tests; values = with_items old.values values } in
-    let same : new.values.items ≡ values = with_items_is old.values values (c.put_back_values.auto.values ∙ c.deref_mut-2.ensures.len) in
-    numbers_back c.args.bytes.now c.args.at.numbers old new (ap numbers_of_values same ∙ rw c.deref_mut-2.ensures.value at c.put_back_values.ensures.numbers)
+    let new : Member =
+    record { tests = with_items old.tests c.put_back_tests-hits.new.tests; values = with_items old.values values } in
+    let same : new.values.items ≡ values =
+    with_items_is old.values values (c.put_back_values.auto.values ∙ c.deref_mut-2.ensures.len) in
+    numbers_back c.args.bytes.now c.args.at.numbers old new (ap numbers_of_values same
+    ∙ rw c.deref_mut-2.ensures.value at c.put_back_values.ensures.numbers)
 
 pub returns-clause-next_hits : goal.returns-clause-next_hits
 returns-clause-next_hits c =

@@ -14,7 +14,8 @@ returns c =
       is = c.truth.ensures.run;
       steps = λ d.
           let same = c.index_mut-run.ensures.value ∙ get_or_default runs c.args.place here d c.requires.test.within in
-          subst (λ (r : TriggerRun). StepsTest c.args.table.now (trigger_contents c.args.text.now) r c.truth.new.self c.truth.result) same c.truth.ensures.steps;
+          subst (λ (r : TriggerRun). StepsTest c.args.table.now (trigger_contents c.args.text.now) r
+          c.truth.new.self c.truth.result) same c.truth.ensures.steps;
       tests = refl;
       values = refl;
     }

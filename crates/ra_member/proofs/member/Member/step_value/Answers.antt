@@ -14,7 +14,8 @@ returns c =
       is = c.step.ensures.run;
       steps = λ d.
           let same = c.index_mut-run.ensures.value ∙ get_or_default runs c.args.place here d c.requires.value.within in
-          subst (λ (r : ValueRun). StepsValue c.args.table.now (value_contents c.args.text.now) r c.step.new.self) same c.step.ensures.steps;
+          subst (λ (r : ValueRun). StepsValue c.args.table.now
+          (value_contents c.args.text.now) r c.step.new.self) same c.step.ensures.steps;
       values = refl;
       tests = refl;
     }

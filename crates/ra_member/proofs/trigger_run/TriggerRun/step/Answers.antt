@@ -11,13 +11,15 @@ fill-requires-clause-room c = laid_fills _ _ _ c.requires.run.laid
 pub step-requires-clause-truths : goal.step-requires-clause-truths
 step-requires-clause-truths c =
     let groups = groups_of (trigger_contents c.args.text.now) in
-    let again : IsLaid c.args.table.now.nodes groups c.fill.new.self = laid_again _ _ _ _ _ c.requires.run.laid c.fill.ensures in
+    let again : IsLaid c.args.table.now.nodes groups c.fill.new.self =
+    laid_again _ _ _ _ _ c.requires.run.laid c.fill.ensures in
     ap length c.deref-3.ensures.value ∙ (length_laid _ _ _ again).0
 
 pub step-requires-clause-lefts : goal.step-requires-clause-lefts
 step-requires-clause-lefts c =
     let groups = groups_of (trigger_contents c.args.text.now) in
-    let again : IsLaid c.args.table.now.nodes groups c.fill.new.self = laid_again _ _ _ _ _ c.requires.run.laid c.fill.ensures in
+    let again : IsLaid c.args.table.now.nodes groups c.fill.new.self =
+    laid_again _ _ _ _ _ c.requires.run.laid c.fill.ensures in
     ap length c.deref-4.ensures.value ∙ (length_laid _ _ _ again).1
 
 pub returns-clause-run : goal.returns-clause-run
@@ -30,8 +32,10 @@ pub returns-clause-steps : goal.returns-clause-steps
 returns-clause-steps c = record {
   kept = λ start h has.
       let t = trigger_contents c.args.text.now in
-      let truths = c.deref-3.ensures.value ∙ truths_read _ _ start h has (groups_of t) _ _ c.requires.run.laid c.fill.ensures in
-      let lefts = c.deref-4.ensures.value ∙ lefts_read _ _ start h has (groups_of t) _ _ c.requires.run.laid c.fill.ensures in
+      let truths = c.deref-3.ensures.value
+      ∙ truths_read _ _ start h has (groups_of t) _ _ c.requires.run.laid c.fill.ensures in
+      let lefts = c.deref-4.ensures.value
+      ∙ lefts_read _ _ start h has (groups_of t) _ _ c.requires.run.laid c.fill.ensures in
       c.step.ensures.kept ∙ (λ i. step t (truths i) (lefts i) c.args.self.now.trigger);
   told = c.step.ensures.change;
 }

@@ -11,13 +11,15 @@ fill-requires-clause-room c = laid_fills _ _ _ c.requires.run.laid
 pub truth-requires-clause-truths : goal.truth-requires-clause-truths
 truth-requires-clause-truths c =
     let groups = groups_of (trigger_contents c.args.text.now) in
-    let again : IsLaid c.args.table.now.nodes groups c.fill.new.self = laid_again _ _ _ _ _ c.requires.run.laid c.fill.ensures in
+    let again : IsLaid c.args.table.now.nodes groups c.fill.new.self =
+    laid_again _ _ _ _ _ c.requires.run.laid c.fill.ensures in
     ap length c.deref-3.ensures.value ∙ (length_laid _ _ _ again).0
 
 pub truth-requires-clause-lefts : goal.truth-requires-clause-lefts
 truth-requires-clause-lefts c =
     let groups = groups_of (trigger_contents c.args.text.now) in
-    let again : IsLaid c.args.table.now.nodes groups c.fill.new.self = laid_again _ _ _ _ _ c.requires.run.laid c.fill.ensures in
+    let again : IsLaid c.args.table.now.nodes groups c.fill.new.self =
+    laid_again _ _ _ _ _ c.requires.run.laid c.fill.ensures in
     ap length c.deref-4.ensures.value ∙ (length_laid _ _ _ again).1
 
 pub returns-clause-run : goal.returns-clause-run
@@ -30,12 +32,17 @@ pub returns-clause-steps : goal.returns-clause-steps
 returns-clause-steps c = record {
   truth = λ start h has.
       let t = trigger_contents c.args.text.now in
-      let truths = c.deref-3.ensures.value ∙ truths_read _ _ start h has (groups_of t) _ _ c.requires.run.laid c.fill.ensures in
-      let lefts = c.deref-4.ensures.value ∙ lefts_read _ _ start h has (groups_of t) _ _ c.requires.run.laid c.fill.ensures in
+      let truths = c.deref-3.ensures.value
+      ∙ truths_read _ _ start h has (groups_of t) _ _ c.requires.run.laid c.fill.ensures in
+      let lefts = c.deref-4.ensures.value
+      ∙ lefts_read _ _ start h has (groups_of t) _ _ c.requires.run.laid c.fill.ensures in
       c.truth.ensures.truth ∙ (λ i. truth t (truths i) (lefts i) c.args.self.now.trigger.hits);
   hits = λ start h has.
       let t = trigger_contents c.args.text.now in
-      let truths = c.deref-3.ensures.value ∙ truths_read _ _ start h has (groups_of t) _ _ c.requires.run.laid c.fill.ensures in
-      let lefts = c.deref-4.ensures.value ∙ lefts_read _ _ start h has (groups_of t) _ _ c.requires.run.laid c.fill.ensures in
-      ap (λ (k : TriggerKept). k.hits) c.truth.ensures.kept ∙ (λ i. hits_after_truth t (truths i) (lefts i) c.args.self.now.trigger.hits);
+      let truths = c.deref-3.ensures.value
+      ∙ truths_read _ _ start h has (groups_of t) _ _ c.requires.run.laid c.fill.ensures in
+      let lefts = c.deref-4.ensures.value
+      ∙ lefts_read _ _ start h has (groups_of t) _ _ c.requires.run.laid c.fill.ensures in
+      ap (λ (k : TriggerKept). k.hits) c.truth.ensures.kept
+      ∙ (λ i. hits_after_truth t (truths i) (lefts i) c.args.self.now.trigger.hits);
 }
