@@ -11,4 +11,5 @@ elements xs place (suc count) = get_or xs place 0 ∷ elements xs (suc place) co
 pub elements_are : (xs : List ℕ) (place count : ℕ) → place + count ≡ length xs → drop place xs ≡ elements xs place count
 elements_are xs place zero whole = drop_all place xs (omega (arith, whole))
 elements_are xs place (suc count) whole =
-    drop-cons xs place 0 (omega (arith, whole)) ∙ ap (λ t. get_or xs place 0 ∷ t) (elements_are xs (suc place) count (omega (arith, whole)))
+    drop-cons xs place 0 (omega (arith, whole))
+    ∙ ap (λ t. get_or xs place 0 ∷ t) (elements_are xs (suc place) count (omega (arith, whole)))

@@ -5,13 +5,15 @@ use Rattle.ra_operand.specs.declared.kind.Kind.{Kind}
 use Rattle.ra_operand.specs.Views.{width_of, mask_of, view_of, transformed}
 use Rattle.ra_memory.specs.Image.{History}
 use Rattle.ra_indirect.specs.declared.node.Node.{Node}
-use Rattle.ra_indirect.specs.Pools.{Spelled, IsTree, IsCell, tree_in, view_in, spelled_at, spelled_by, cells_of, tracked_of}
+use Rattle.ra_indirect.specs.Pools.{Spelled, IsTree, IsCell, tree_in, view_in, spelled_at, spelled_by, cells_of}
+use Rattle.ra_indirect.specs.Pools.{tracked_of}
 use Rattle.ra_indirect.proofs.SpelledLemmas.{GivesCell, GivesTree}
 use Rattle.ra_memref.specs.Numbers.{NumbersSeen}
 use Rattle.ra_memref.specs.Values.{Start, looked_at, masked_by, value_of, cell_number, cell_place, tracked_number}
 use Rattle.ra_memref.specs.Table.{spelled_value}
 use Rattle.ra_memref.specs.Layout.{cells_before, tracked_before, cell_there}
-use Rattle.ra_memref.specs.Pass.{value_after, cells_after, earlier_after, places_after, marked_after, priors_after, after_node}
+use Rattle.ra_memref.specs.Pass.{value_after, cells_after, earlier_after, places_after, marked_after, priors_after}
+use Rattle.ra_memref.specs.Pass.{after_node}
 use Rattle.ra_memref.proofs.Halfway.{IsDone, IsHalfway}
 use Rattle.ra_memref.proofs.LaidLemmas.{cell_of_there}
 
@@ -33,12 +35,16 @@ abbrev pub tracked_count : List Node → ℕ → ℕ
 tracked_count nodes k = length (tracked_before (spelled_by nodes) k)
 
 -- the nodes below k have taken up the frame
-pub record IsPassed (nodes : List Node) (start : Start) (history : History) (image : List ℕ) (k : ℕ) (numbers : NumbersSeen) : Type 0 where
-  pub cells : IsHalfway (numbers_after nodes start history) (numbers_after nodes start (image ∷ history)) (cell_count nodes k) numbers.cells
+pub record IsPassed (nodes : List Node) (start : Start) (history : History) (image : List ℕ) (k : ℕ)
+    (numbers : NumbersSeen) : Type 0 where
+  pub cells : IsHalfway (numbers_after nodes start history)
+      (numbers_after nodes start (image ∷ history)) (cell_count nodes k) numbers.cells
   pub earlier : IsDone (numbers_after nodes start history) (cell_count nodes k) numbers.earlier
   pub places : IsDone (places_at nodes start (image ∷ history)) (cell_count nodes k) numbers.watches.places
-  pub priors : IsHalfway (kept_priors nodes start history) (kept_priors nodes start (image ∷ history)) (tracked_count nodes k) numbers.priors
-  pub values : (n : ℕ) → n < k → get_or numbers.values n 0 ≡ spelled_value start (image ∷ history) (spelled_at (spelled_by nodes) n)
+  pub priors : IsHalfway (kept_priors nodes start history)
+      (kept_priors nodes start (image ∷ history)) (tracked_count nodes k) numbers.priors
+  pub values : (n : ℕ) → n < k → get_or numbers.values n 0
+      ≡ spelled_value start (image ∷ history) (spelled_at (spelled_by nodes) n)
 
 -- the node of number k has taken up the frame
 pub record TakesNode (node : Node) (slots image : List ℕ) (k : ℕ) (old new : NumbersSeen) : Type 0 where
@@ -51,7 +57,8 @@ pub record TakesNode (node : Node) (slots image : List ℕ) (k : ℕ) (old new :
   pub widths : new.watches.widths ≡ old.watches.widths
 
 -- what the equation of a node says of each row
-pub takes_node : (node : Node) (slots image : List ℕ) (k : ℕ) (old new : NumbersSeen) → new ≡ after_node node old image slots k → TakesNode node slots image k old new
+pub takes_node : (node : Node) (slots image : List ℕ) (k : ℕ) (old new : NumbersSeen) → new
+    ≡ after_node node old image slots k → TakesNode node slots image k old new
 takes_node node slots image k old new is = record {
   values = ap (λ (n : NumbersSeen). n.values) is;
   cells = ap (λ (n : NumbersSeen). n.cells) is;
@@ -63,17 +70,25 @@ takes_node node slots image k old new is = record {
 }
 
 -- what a tree and what a cell gives
-pub value_of_tree : (start : Start) (history : History) (a : Spelled) → GivesTree a → spelled_value start history a ≡ value_of start (tree_in a) history
+pub value_of_tree : (start : Start) (history : History) (a : Spelled) → GivesTree a
+    → spelled_value start history a ≡ value_of start (tree_in a) history
 value_of_tree start history (IsTree x) gives = refl
 value_of_tree start history (IsCell c) gives = absurd gives
 
-pub number_of_cell : (start : Start) (history : History) (width : ℕ) (a : Spelled) → GivesCell width a → spelled_value start history a ≡ cell_number start (cell_there a) history
+pub number_of_cell : (start : Start) (history : History) (width : ℕ) (a : Spelled)
+    → GivesCell width a → spelled_value start history a ≡ cell_number start (cell_there a) history
 number_of_cell start history width (IsTree x) gives = absurd gives
 number_of_cell start history width (IsCell c) gives = refl
 
 -- the value of a view, by its cell
-pub view_value : (start : Start) (image : List ℕ) (history : History) (kind : Kind) (size : Size) (a : Spelled) → GivesCell (width_of size) a → spelled_value start (image ∷ history) (IsTree (view_in kind size a)) ≡ transformed kind size (view_of size (looked_at kind (cell_number start (cell_there a)) (masked_by (mask_of size) (cell_number start (cell_there a))) (start.prior (record { cell = cell_there a; mask = mask_of size })) (image ∷ history)))
+pub view_value : (start : Start) (image : List ℕ) (history : History) (kind : Kind) (size : Size)
+    (a : Spelled) → GivesCell (width_of size) a → spelled_value start (image ∷ history)
+    (IsTree (view_in kind size a)) ≡ transformed kind size (view_of size (looked_at kind
+    (cell_number start (cell_there a)) (masked_by (mask_of size) (cell_number start (cell_there a)))
+    (start.prior (record { cell = cell_there a; mask = mask_of size })) (image ∷ history)))
 view_value start image history kind size (IsTree x) gives = absurd gives
 view_value start image history kind size (IsCell c) gives =
-    ap (λ d. transformed kind size (view_of size (looked_at kind (cell_number start d) (masked_by (mask_of size) (cell_number start d)) (start.prior (record { cell = d; mask = mask_of size })) (image ∷ history))))
+    ap (λ d. transformed kind size (view_of size
+    (looked_at kind (cell_number start d) (masked_by (mask_of size) (cell_number start d))
+    (start.prior (record { cell = d; mask = mask_of size })) (image ∷ history))))
     (cell_of_there size (IsCell c) gives)

@@ -1,12 +1,14 @@
 -- Names that are put at the slots of cells and of tracked masks, node by node.
-use Rattle.std.proofs.Common.{◌≡◌, ℕ, suc, ◌+◌, ◌<◌, ◌⊎◌, inl, inr, None, Some, List, [], length, map, get_or, set, refl, ap, sym, subst, ◌∙◌, arith}
+use Rattle.std.proofs.Common.{◌≡◌, ℕ, suc, ◌+◌, ◌<◌, ◌⊎◌, inl, inr, None, Some, List, [], length, map, get_or, set}
+use Rattle.std.proofs.Common.{refl, ap, sym, subst, ◌∙◌, arith}
 use Rattle.std.proofs.lemmas.Bool.{cases_eq}
 use Rattle.std.proofs.lemmas.List.{same_lists, get_or-map, get_or-set_same, get_or-set_other}
 use Rattle.ra_operand.specs.declared.kind.Kind.TheVariants.{Mem, Delta, Prior, Bcd, Inverted}
 use Rattle.ra_operand.specs.Views.{width_of, mask_of}
 use Rattle.ra_indirect.specs.declared.node.Node.{Node}
 use Rattle.ra_indirect.specs.declared.node.Node.TheVariants.{Const, Cell as CellNode, View, Arith}
-use Rattle.ra_indirect.specs.Pools.{Spelled, spelled_at, spelled_with, spelled_by, tracked_at, node_at, MayFollow, IsCellOf, cells_of, tracked_of}
+use Rattle.ra_indirect.specs.Pools.{Spelled, spelled_at, spelled_with, spelled_by, tracked_at, node_at, MayFollow}
+use Rattle.ra_indirect.specs.Pools.{IsCellOf, cells_of, tracked_of}
 use Rattle.ra_indirect.specs.Interned.{Interns, IsPool}
 use Rattle.ra_indirect.proofs.Spelling.{spelled_of}
 use Rattle.ra_indirect.proofs.SpelledLemmas.{may_follow, cell_at_cell}
@@ -18,7 +20,8 @@ use Rattle.ra_memref.specs.Naming.{NameCells}
 use Rattle.ra_memref.proofs.CellsAlong.{no_cell_with}
 use Rattle.ra_memref.proofs.LaidLemmas.{none_tracked, is_cell_there}
 use Rattle.ra_memref.proofs.Passed.{cell_count, tracked_count}
-use Rattle.ra_memref.proofs.PassLemmas.{IsPriorSlot, prior_slot, cell_slot, cell_node_slot, counts_same, tracked_counts_same}
+use Rattle.ra_memref.proofs.PassLemmas.{IsPriorSlot, prior_slot, cell_slot, cell_node_slot, counts_same}
+use Rattle.ra_memref.proofs.PassLemmas.{tracked_counts_same}
 
 -- the names below j are put
 abbrev pub ArePut : (wanted : List (List ℕ)) → ℕ → (put : List (List ℕ)) → Type 0

@@ -1,5 +1,6 @@
 -- A quiet node: taking it changes nothing, and taking another one leaves it quiet where it sees no other number.
-use Rattle.std.proofs.Common.{◌≡◌, ℕ, suc, ◌<◌, inl, inr, true, false, List, length, get_or, set, refl, ap, ap₂, sym, subst, ◌∙◌, arith}
+use Rattle.std.proofs.Common.{◌≡◌, ℕ, suc, ◌<◌, inl, inr, true, false, List, length, get_or, set, refl, ap, ap₂, sym}
+use Rattle.std.proofs.Common.{subst, ◌∙◌, arith}
 use Rattle.std.proofs.lemmas.List.{get_or-set_same, get_or-set_other, set-get_or, get_or_default}
 use Rattle.std.proofs.lemmas.Bool.{cases_eq, cases_lt, eq-eqb}
 use Rattle.ra_operand.specs.declared.size.Size.{Size}
@@ -17,7 +18,9 @@ use Rattle.ra_indirect.proofs.SpelledLemmas.{may_follow, NamesBelow, cell_at_cel
 use Rattle.ra_memref.specs.Numbers.{NumbersSeen}
 use Rattle.ra_memref.specs.Values.{moved_by}
 use Rattle.ra_memref.specs.Layout.{HasSlot, IsLaid, tracked_there}
-use Rattle.ra_memref.specs.Pass.{prior_after, place_in, number_in, prior_in, value_at, value_after, cells_after, earlier_after, places_after, marked_after, priors_after, reads_at, IsAgreedAt, IsSizedFor}
+use Rattle.ra_memref.specs.Pass.{prior_after, place_in, number_in, prior_in, value_at, value_after, cells_after}
+use Rattle.ra_memref.specs.Pass.{earlier_after, places_after, marked_after, priors_after, reads_at, IsAgreedAt}
+use Rattle.ra_memref.specs.Pass.{IsSizedFor}
 use Rattle.ra_memref.specs.Due.{earlier_by, IsQuiet, IsUnmarked, Names}
 use Rattle.ra_memref.proofs.LaidLemmas.{cells_grow, is_cell_there}
 use Rattle.ra_memref.proofs.Passed.{cell_count, TakesNode}

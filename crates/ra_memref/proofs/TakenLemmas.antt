@@ -1,5 +1,6 @@
 -- What stands when the nodes below a number are taken; a node that is not due is taken by leaving it.
-use Rattle.std.proofs.Common.{◌≡◌, ℕ, zero, suc, ◌+◌, ◌-◌, ◌<◌, ◌≤◌, List, Bool, false, true, length, get_or, refl, ap, subst, ◌∙◌, arith}
+use Rattle.std.proofs.Common.{◌≡◌, ℕ, zero, suc, ◌+◌, ◌-◌, ◌<◌, ◌≤◌, List, Bool, false, true, length, get_or, refl, ap}
+use Rattle.std.proofs.Common.{subst, ◌∙◌, arith}
 use Rattle.ra_memory.specs.Image.{History}
 use Rattle.ra_indirect.specs.declared.node.Node.{Node}
 use Rattle.ra_indirect.specs.Pools.{node_at, cells_of}
@@ -16,7 +17,8 @@ use Rattle.ra_memref.proofs.LaidLemmas.{cells_all}
 use Rattle.ra_memref.proofs.Passed.{IsPassed, TakesNode, takes_node, cell_count}
 use Rattle.ra_memref.proofs.PassEnds.{passed_none, sized_more, kept_all, values_all, places_all}
 use Rattle.ra_memref.proofs.PassLemmas.{passed_more}
-use Rattle.ra_memref.proofs.Visited.{IsVisited, visited_none, visited_node, agreed_there, unmarked_all, agreed_all, counted_all}
+use Rattle.ra_memref.proofs.Visited.{IsVisited, visited_none, visited_node, agreed_there, unmarked_all, agreed_all}
+use Rattle.ra_memref.proofs.Visited.{counted_all}
 use Rattle.ra_memref.proofs.QuietLemmas.{idle_takes, idle_reads}
 
 -- the nodes below k are taken
