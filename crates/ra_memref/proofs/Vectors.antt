@@ -10,15 +10,25 @@ use Rattle.ra_memref.specs.Marks.{marks_after, reads_of}
 
 -- a pool with a cell, its view and its delta view, and two priors of one mask and one of another
 abbrev nodes : List Node
-nodes = Const 0 ∷ CellNode 0 16 1 ∷ View Mem Byte 1 ∷ Const 5 ∷ View Delta Byte 1 ∷ View Prior Byte 1 ∷ View Prior Count 1 ∷ View Prior Bit0 1 ∷ CellNode 2 4 4 ∷ View Mem Four 8 ∷ []
+nodes = Const 0 ∷ CellNode 0 16 1 ∷ View Mem Byte 1 ∷ Const 5 ∷ View Delta Byte 1 ∷ View Prior Byte
+    1 ∷ View Prior Count 1 ∷ View Prior Bit0 1 ∷ CellNode 2 4 4 ∷ View Mem Four 8 ∷ []
 
-spelled : spelled_by nodes ≡ IsTree (constant 0) ∷ IsCell (record { pointer = constant 0; address = 16; width = 1 }) ∷ IsTree (view Mem Byte (constant 0) 16) ∷ IsTree (constant 5) ∷ IsTree (view Delta Byte (constant 0) 16) ∷ IsTree (view Prior Byte (constant 0) 16) ∷ IsTree (view Prior Count (constant 0) 16) ∷ IsTree (view Prior Bit0 (constant 0) 16) ∷ IsCell (record { pointer = view Mem Byte (constant 0) 16; address = 4; width = 4 }) ∷ IsTree (view Mem Four (view Mem Byte (constant 0) 16) 4) ∷ []
+spelled : spelled_by nodes ≡ IsTree (constant 0)
+    ∷ IsCell (record { pointer = constant 0; address = 16; width = 1 })
+    ∷ IsTree (view Mem Byte (constant 0) 16) ∷ IsTree (constant 5)
+    ∷ IsTree (view Delta Byte (constant 0) 16) ∷ IsTree (view Prior Byte (constant 0) 16)
+    ∷ IsTree (view Prior Count (constant 0) 16) ∷ IsTree (view Prior Bit0 (constant 0) 16)
+    ∷ IsCell (record { pointer = view Mem Byte (constant 0) 16; address = 4; width = 4 })
+    ∷ IsTree (view Mem Four (view Mem Byte (constant 0) 16) 4) ∷ []
 spelled = refl
 
-cells : cells_of nodes ≡ record { pointer = constant 0; address = 16; width = 1 } ∷ record { pointer = view Mem Byte (constant 0) 16; address = 4; width = 4 } ∷ []
+cells : cells_of nodes ≡ record { pointer = constant 0; address = 16; width = 1 }
+    ∷ record { pointer = view Mem Byte (constant 0) 16; address = 4; width = 4 } ∷ []
 cells = refl
 
-tracked : tracked_of nodes ≡ record { cell = record { pointer = constant 0; address = 16; width = 1 }; mask = 255 } ∷ record { cell = record { pointer = constant 0; address = 16; width = 1 }; mask = 1 } ∷ []
+tracked : tracked_of nodes
+    ≡ record { cell = record { pointer = constant 0; address = 16; width = 1 }; mask = 255 }
+    ∷ record { cell = record { pointer = constant 0; address = 16; width = 1 }; mask = 1 } ∷ []
 tracked = refl
 
 -- the second cell lies at 30, on two pages

@@ -1,5 +1,7 @@
 -- A walk along the list of a page, from one node to the next, marks the cells on it.
-use Rattle.std.proofs.Common.{◌≡◌, ℕ, ◌/◌, ◌<◌, ◌==◌, inl, inr, Bool, true, false, if◌then◌else◌, ◌||◌, eqb, Option, None, Some, List, [], ◌∷◌, length, slice_get, get_or, set, refl, sym, ◌∙◌, ap, arith, subst}
+use Rattle.std.proofs.Common.{◌≡◌, ℕ, ◌/◌, ◌<◌, ◌==◌, inl, inr, Bool, true, false, if◌then◌else◌, ◌||◌, eqb, Option}
+use Rattle.std.proofs.Common.{None, Some, List, [], ◌∷◌, length, slice_get, get_or, set, refl, sym, ◌∙◌, ap, arith}
+use Rattle.std.proofs.Common.{subst}
 use Rattle.std.specs.List.{IsDistinct, AllByRecursion}
 use Rattle.std.proofs.lemmas.Bool.{eq-eqb, ne_eqb, false≢true}
 use Rattle.std.proofs.lemmas.Bool.Decides.{eqb_tells}
@@ -53,11 +55,14 @@ after_In node (x ∷ row) m is = elim (eqb_tells x node) [
 ]
 
 -- past another node the rest is the same
-rest_past : (x : ℕ) (row : List ℕ) (next : Option ℕ) → ((m : ℕ) → next ≡ Some m → In m row) → (In x row → ⊥) → rest_of next (x ∷ row) ≡ rest_of next row
+rest_past : (x : ℕ) (row : List ℕ) (next : Option ℕ) → ((m : ℕ) → next ≡ Some m → In m row)
+    → (In x row → ⊥) → rest_of next (x ∷ row) ≡ rest_of next row
 rest_past x row None there out = refl
-rest_past x row (Some m) there out = rw (ne_eqb x m (λ same. out (subst (λ n. In n row) (sym same) (there m refl)))) refl
+rest_past x row (Some m) there out =
+    rw (ne_eqb x m (λ same. out (subst (λ n. In n row) (sym same) (there m refl)))) refl
 
-pub rest_step : (node : ℕ) (row : List ℕ) → Once row → In node row → rest_from node row ≡ node ∷ rest_of (after_in node row) row
+pub rest_step : (node : ℕ) (row : List ℕ) → Once row → In node row → rest_from node row
+    ≡ node ∷ rest_of (after_in node row) row
 rest_step node [] once there = absurd there
 rest_step node (x ∷ row) once there = elim (eqb_tells x node) [
   | inl e ↦ rw (e.0, rest_past x row (slice_get row 0) (first_In row) once.0, first_rest row) (ap (λ n. n ∷ row) e.1)
@@ -70,13 +75,16 @@ rest_step node (x ∷ row) once there = elim (eqb_tells x node) [
 pub record IsWalking (pages : Rows) (page : ℕ) (old now : List Bool) (next : Option ℕ) : Type 0 where
   pub once : IsOnce pages
   pub there : (m : ℕ) → next ≡ Some m → In m (row_at pages.lists page)
-  pub marked : (k : ℕ) → k < length old → (get_or now k true || cell_on k (rest_of next (row_at pages.lists page))) ≡ (get_or old k true || cell_on k (row_at pages.lists page))
+  pub marked : (k : ℕ) → k < length old → (get_or now k true || cell_on k (rest_of next
+      (row_at pages.lists page))) ≡ (get_or old k true || cell_on k (row_at pages.lists page))
 
-pub walking_none : (pages : Rows) (page : ℕ) (old : List Bool) (next : Option ℕ) → IsOnce pages → next ≡ slice_get (row_at pages.lists page) 0 → IsWalking pages page old old next
+pub walking_none : (pages : Rows) (page : ℕ) (old : List Bool) (next : Option ℕ) → IsOnce pages
+    → next ≡ slice_get (row_at pages.lists page) 0 → IsWalking pages page old old next
 walking_none pages page old next once is = record {
   once = once;
   there = λ m some. first_In (row_at pages.lists page) m (sym is ∙ some);
-  marked = λ k below. ap (λ rest. get_or old k true || cell_on k rest) (ap (λ o. rest_of o (row_at pages.lists page)) is ∙ first_rest (row_at pages.lists page));
+  marked = λ k below. ap (λ rest. get_or old k true || cell_on k rest)
+      (ap (λ o. rest_of o (row_at pages.lists page)) is ∙ first_rest (row_at pages.lists page));
 }
 
 or_true : (a b : Bool) → (a || true) ≡ b → true ≡ b
@@ -84,7 +92,8 @@ or_true true b e = e
 or_true false b e = e
 
 -- a node that a walk came to is a node
-pub node_there : (pages : Rows) (page : ℕ) (old now : List Bool) (node : ℕ) → IsWalking pages page old now (Some node) → node < pages.nodes
+pub node_there : (pages : Rows) (page : ℕ) (old now : List Bool) (node : ℕ)
+    → IsWalking pages page old now (Some node) → node < pages.nodes
 node_there pages page old now node walking =
     walking.once.in_range page node (holds_In node (row_at pages.lists page) (walking.there node refl))
 
@@ -93,10 +102,14 @@ or-false true = refl
 or-false false = refl
 
 -- at its end each cell on the list is marked
-pub walked : (pages : Rows) (page : ℕ) (old now : List Bool) → IsWalking pages page old now None → (k : ℕ) → k < length old → get_or now k true ≡ (get_or old k true || cell_on k (row_at pages.lists page))
+pub walked : (pages : Rows) (page : ℕ) (old now : List Bool) → IsWalking pages page old now None
+    → (k : ℕ) → k < length old → get_or now k true
+    ≡ (get_or old k true || cell_on k (row_at pages.lists page))
 walked pages page old now walking k below = sym (or-false (get_or now k true)) ∙ walking.marked k below
 
-module _ (pages : Rows) (page : ℕ) (old now : List Bool) (node : ℕ) (next : Option ℕ) (below : page < length pages.lists) (walking : IsWalking pages page old now (Some node)) (is : next ≡ next_of pages.lists node) where
+module _ (pages : Rows) (page : ℕ) (old now : List Bool) (node : ℕ) (next : Option ℕ)
+    (below : page < length pages.lists) (walking : IsWalking pages page old now (Some node))
+    (is : next ≡ next_of pages.lists node) where
   abbrev row : List ℕ
   row = row_at pages.lists page
 
@@ -107,7 +120,8 @@ module _ (pages : Rows) (page : ℕ) (old now : List Bool) (node : ℕ) (next : 
   once_row = Once_distinct row (walking.once.one_place page)
 
   is_after : next ≡ after_in node row
-  is_after = is ∙ next_some pages.lists node page below here (λ k small there. walking.once.one_list k page node (holds_In node (row_at pages.lists k) there) (holds_In node row here))
+  is_after = is ∙ next_some pages.lists node page below here (λ k small there. walking.once.one_list
+      k page node (holds_In node (row_at pages.lists k) there) (holds_In node row here))
 
   rest : rest_from node row ≡ node ∷ rest_of next row
   rest = rest_step node row once_row here ∙ ap (λ o. node ∷ rest_of o row) (sym is_after)
@@ -115,16 +129,22 @@ module _ (pages : Rows) (page : ℕ) (old now : List Bool) (node : ℕ) (next : 
   pub shorter : length (rest_of next row) < length (rest_from node row)
   shorter = rw rest (omega arith)
 
-  marked_one : length now ≡ length old → (k : ℕ) → k < length old → (get_or (set now (node / 2) true) k true || cell_on k (rest_of next row)) ≡ (get_or old k true || cell_on k row)
+  marked_one : length now ≡ length old → (k : ℕ) → k < length old → (get_or (set now (node / 2)
+      true) k true || cell_on k (rest_of next row)) ≡ (get_or old k true || cell_on k row)
   marked_one long k small =
-      let before : (get_or now k true || cell_on k (node ∷ rest_of next row)) ≡ (get_or old k true || cell_on k row) = ap (λ r. get_or now k true || cell_on k r) (sym rest) ∙ walking.marked k small in
+      let before : (get_or now k true || cell_on k (node ∷ rest_of next row))
+      ≡ (get_or old k true || cell_on k row) = ap (λ r. get_or now k true || cell_on k r) (sym rest)
+      ∙ walking.marked k small in
       elim (eqb_tells (node / 2) k) [
         | inl e ↦
-            let now_marked : get_or (set now (node / 2) true) k true ≡ true = ap (λ i. get_or (set now (node / 2) true) i true) (sym e.1) ∙ get_or-set_same now (node / 2) true true (omega (arith, e.1)) in
+            let now_marked : get_or (set now (node / 2) true) k true ≡ true =
+            ap (λ i. get_or (set now (node / 2) true) i true) (sym e.1)
+            ∙ get_or-set_same now (node / 2) true true (omega (arith, e.1)) in
             let all : (get_or now k true || true) ≡ (get_or old k true || cell_on k row) = rw e.0 at before in
             rw now_marked (or_true (get_or now k true) (get_or old k true || cell_on k row) all)
         | inr n ↦
-            let same : get_or (set now (node / 2) true) k true ≡ get_or now k true = get_or-set_other now (node / 2) k true true (λ e. n.1 (sym e)) in
+            let same : get_or (set now (node / 2) true) k true ≡ get_or now k true =
+            get_or-set_other now (node / 2) k true true (λ e. n.1 (sym e)) in
             rw same (rw n.0 at before)
       ]
 

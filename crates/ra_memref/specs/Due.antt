@@ -28,7 +28,8 @@ IsQuiet (CellNode pointer offset width) numbers slots number =
 IsQuiet (View Prior size c) numbers slots number =
     (slice_index numbers.priors (slice_index slots number)
     ≡ prior_in numbers (mask_of size) (slice_index slots number) (slice_index slots c) c)
-    × (value_at numbers number ≡ transformed Prior size (view_of size (slice_index numbers.priors (slice_index slots number))))
+    × (value_at numbers number
+    ≡ transformed Prior size (view_of size (slice_index numbers.priors (slice_index slots number))))
 IsQuiet (View kind size c) numbers slots number =
     value_at numbers number ≡ transformed kind size
     (view_of size (looked_in kind numbers (mask_of size) (slice_index slots number) (slice_index slots c) c))
@@ -48,7 +49,8 @@ AreQuiet nodes due numbers slots =
 -- and no marked cell is left out
 pub record AreIdle (nodes : List Node) (due : List Bool) (numbers : NumbersSeen) (slots : List ℕ) : Type 0 where
   pub quiet : AreQuiet nodes due numbers slots
-  pub unmarked : (n : ℕ) → n < length nodes → slice_index_or due n true ≡ false → IsUnmarked (node_at nodes n) numbers (slice_index slots n)
+  pub unmarked : (n : ℕ) → n < length nodes → slice_index_or due n true ≡ false
+      → IsUnmarked (node_at nodes n) numbers (slice_index slots n)
 
 -- a node names another
 abbrev pub Names : Node → ℕ → Type 0
@@ -62,7 +64,8 @@ abbrev pub entries_of : (number : ℕ) → Node → List Entry
 entries_of number (Const n) = []
 entries_of number (CellNode pointer offset width) = record { row = pointer; number = number } ∷ []
 entries_of number (View kind size c) = record { row = c; number = number } ∷ []
-entries_of number (Arith op left right) = record { row = left; number = number } ∷ record { row = right; number = number } ∷ []
+entries_of number (Arith op left right) =
+    record { row = left; number = number } ∷ record { row = right; number = number } ∷ []
 
 -- there is a row for each node, on which those stand that name it, and nodes alone
 pub record AreDependents (nodes : List Node) (rows : List (List ℕ)) : Type 0 where
@@ -79,10 +82,12 @@ HasCellNode _ cell_nodes slot n = Unit {0}
 pub record AreCellNodes (nodes : List Node) (count : ℕ) (cell_nodes : List ℕ) : Type 0 where
   pub long : length cell_nodes ≡ length (cells_before (spelled_by nodes) count)
   pub within : (k : ℕ) → k < length cell_nodes → slice_index cell_nodes k < count
-  pub each : (n : ℕ) → n < count → HasCellNode (node_at nodes n) cell_nodes (length (cells_before (spelled_by nodes) n)) n
+  pub each : (n : ℕ) → n < count
+      → HasCellNode (node_at nodes n) cell_nodes (length (cells_before (spelled_by nodes) n)) n
 
 -- the marked cells are due too: what is still not due was not, and is the node of no marked cell
 pub record IsGathered (cell_nodes : List ℕ) (marked old new : List Bool) : Type 0 where
   pub long : length new ≡ length old
   pub kept : (n : ℕ) → slice_index_or new n true ≡ false → slice_index_or old n true ≡ false
-  pub marked_too : (cell : ℕ) → cell < length cell_nodes → slice_index_or marked cell true ≡ true → slice_index_or new (slice_index cell_nodes cell) true ≡ true
+  pub marked_too : (cell : ℕ) → cell < length cell_nodes → slice_index_or marked cell true ≡ true
+      → slice_index_or new (slice_index cell_nodes cell) true ≡ true

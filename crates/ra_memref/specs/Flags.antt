@@ -1,12 +1,14 @@
 -- Rows of flags.
-use Rattle.std.specs.Prelude.{◌≡◌, ◌≢◌, ℕ, ◌+◌, ◌*◌, ◌/◌, ◌%◌, ◌<◌, ◌≤◌, Bool, true, false, List, length, slice_index, slice_index_or}
+use Rattle.std.specs.Prelude.{◌≡◌, ◌≢◌, ℕ, ◌+◌, ◌*◌, ◌/◌, ◌%◌, ◌<◌, ◌≤◌, Bool, true, false, List, length, slice_index}
+use Rattle.std.specs.Prelude.{slice_index_or}
 use Rattle.std.specs.Int.{bit_at}
 use Rattle.ra_links.specs.FlatRows.{IsListed}
 
 -- a flag that is set has its bit in its word, of 64 flags each
 pub record AreWorded (flags : List Bool) (words : List ℕ) : Type 0 where
   pub enough : length flags < 64 * length words
-  pub covered : (k : ℕ) → k < length flags → slice_index_or flags k true ≡ true → bit_at (slice_index words (k / 64)) (k % 64) ≡ 1
+  pub covered : (k : ℕ) → k < length flags → slice_index_or flags k true ≡ true
+      → bit_at (slice_index words (k / 64)) (k % 64) ≡ 1
 
 -- a word has one of its 64 bits as it is to be, if that is set, and of the others those that the old one has
 pub record SetsBit (bit : ℕ) (set : Bool) (old new : ℕ) : Type 0 where
@@ -16,14 +18,16 @@ pub record SetsBit (bit : ℕ) (set : Bool) (old new : ℕ) : Type 0 where
 -- a flag that is set stands in a block that is, of 64 flags each
 pub record AreBlocked (flags blocks : List Bool) : Type 0 where
   pub enough : length flags < 64 * length blocks
-  pub covered : (k : ℕ) → k < length flags → slice_index_or flags k true ≡ true → slice_index_or blocks (k / 64) true ≡ true
+  pub covered : (k : ℕ) → k < length flags → slice_index_or flags k true ≡ true
+      → slice_index_or blocks (k / 64) true ≡ true
 
 -- the same where there are no more blocks than flags take, and one
 pub record AreInBlocks (flags blocks : List Bool) : Type 0 where
   pub tight : length blocks ≤ length flags / 64 + 1
   pub blocked : AreBlocked flags blocks
 
--- some flags are set: each of these places has its flag, what is still not set was not, and what became set is one of them
+-- some flags are set: each of these places has its flag, what is still not set was not, and what became set is one of
+-- them
 pub record SetsAll (places : List ℕ) (old new : List Bool) : Type 0 where
   pub long : length new ≡ length old
   pub kept : (k : ℕ) → slice_index_or new k true ≡ false → slice_index_or old k true ≡ false

@@ -1,5 +1,7 @@
--- Where a table keeps the number of each cell and of each tracked mask: docs/DEFINITIONS.md, "Order of first occurrence".
-use Rattle.std.specs.Prelude.{◌≡◌, ℕ, suc, ◌<◌, List, [], ◌∷◌, ◌++◌, length, map, take, slice_index, Option, None, Some, Contains}
+-- Where a table keeps the number of each cell and of each tracked mask: docs/DEFINITIONS.md, "Order of first
+-- occurrence".
+use Rattle.std.specs.Prelude.{◌≡◌, ℕ, suc, ◌<◌, List, [], ◌∷◌, ◌++◌, length, map, take, slice_index, Option, None, Some}
+use Rattle.std.specs.Prelude.{Contains}
 use Rattle.std.specs.List.{flat_map}
 use Rattle.ra_operand.specs.declared.size.Size.{Size}
 use Rattle.ra_operand.specs.declared.kind.Kind.TheVariants.{Prior}
@@ -7,7 +9,8 @@ use Rattle.ra_operand.specs.Views.{mask_of}
 use Rattle.ra_indirect.specs.declared.node.Node.{Node}
 use Rattle.ra_indirect.specs.declared.node.Node.TheVariants.{Cell as CellNode, View}
 use Rattle.ra_indirect.specs.Trees.{Cell, Tracked, same_tracked, firsts}
-use Rattle.ra_indirect.specs.Pools.{Spelled, IsTree, IsCell, spelled_at, spelled_by, cell_in, tracked_at, tracked_of, node_at}
+use Rattle.ra_indirect.specs.Pools.{Spelled, IsTree, IsCell, spelled_at, spelled_by, cell_in, tracked_at, tracked_of}
+use Rattle.ra_indirect.specs.Pools.{node_at}
 use Rattle.ra_indirect.specs.Interned.{Interns}
 use Rattle.ra_memref.specs.declared.layout.TrackedMask.{TrackedMask}
 use Rattle.ra_memref.specs.Table.{no_cell}
@@ -61,7 +64,8 @@ tracked_of_mask nodes m = record { cell = cell_there (spelled_at (spelled_by nod
 -- it is a mask of a cell of the pool
 abbrev pub IsOfCell : List Node → TrackedMask → Type 0
 IsOfCell nodes m =
-    (m.cell < length nodes) × (spelled_at (spelled_by nodes) m.cell ≡ IsCell (cell_there (spelled_at (spelled_by nodes) m.cell)))
+    (m.cell < length nodes) × (spelled_at (spelled_by nodes) m.cell
+    ≡ IsCell (cell_there (spelled_at (spelled_by nodes) m.cell)))
 
 -- these are the tracked masks of the pool, each of a cell of it
 pub record AreMasks (nodes : List Node) (masks : List TrackedMask) : Type 0 where

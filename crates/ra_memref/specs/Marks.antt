@@ -1,5 +1,6 @@
 -- Which cells a table has to read at the next frame: docs/INTERNALS.md, "Marked and moved cells".
-use Rattle.std.specs.Prelude.{ℕ, ◌+◌, ◌-◌, ◌/◌, ◌==◌, Bool, not, ◌&&◌, ◌||◌, if◌then◌else◌, nat_lt, nat_le, List, [], ◌∷◌}
+use Rattle.std.specs.Prelude.{ℕ, ◌+◌, ◌-◌, ◌/◌, ◌==◌, Bool, not, ◌&&◌, ◌||◌, if◌then◌else◌, nat_lt, nat_le, List, []}
+use Rattle.std.specs.Prelude.{◌∷◌}
 use Rattle.std.specs.List.{list_any, range_with_len}
 use Rattle.ra_indirect.specs.Trees.{Cell}
 use Rattle.ra_memref.specs.Marking.{is_other}

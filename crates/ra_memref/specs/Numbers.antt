@@ -2,7 +2,8 @@
 use Rattle.std.specs.Prelude.{◌≡◌, ℕ, List, length}
 use Rattle.ra_memref.specs.Watches.{WatchesSeen}
 
--- of each cell its number, the one of the frame before and its watch; of each tracked mask its prior; of each node its number
+-- of each cell its number, the one of the frame before and its watch; of each tracked mask its prior; of each node its
+-- number
 pub record NumbersSeen : Type 0 where
   pub cells : List ℕ
   pub earlier : List ℕ

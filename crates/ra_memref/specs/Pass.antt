@@ -1,5 +1,6 @@
 -- What one node of a pass does to the numbers of a table: docs/DEFINITIONS.md, "Values at a frame".
-use Rattle.std.specs.Prelude.{◌≡◌, ℕ, ◌<◌, ◌==◌, Bool, true, false, IsTrue, if◌then◌else◌, List, ◌∷◌, length, map, replicate, bit_and, slice_index, slice_index_or, slice_set}
+use Rattle.std.specs.Prelude.{◌≡◌, ℕ, ◌<◌, ◌==◌, Bool, true, false, IsTrue, if◌then◌else◌, List, ◌∷◌, length, map}
+use Rattle.std.specs.Prelude.{replicate, bit_and, slice_index, slice_index_or, slice_set}
 use Rattle.ra_operand.specs.declared.kind.Kind.{Kind}
 use Rattle.ra_operand.specs.declared.kind.Kind.TheVariants.{Delta, Prior}
 use Rattle.ra_operand.specs.Views.{mask_of, view_of, transformed}
@@ -81,7 +82,8 @@ marked_after _ numbers slot = numbers.watches.marked
 -- the kept priors, once a node is taken
 abbrev pub priors_after : Node → NumbersSeen → List ℕ → ℕ → List ℕ
 priors_after (View Prior size c) numbers slots number =
-    slice_set numbers.priors (slice_index slots number) (prior_in numbers (mask_of size) (slice_index slots number) (slice_index slots c) c)
+    slice_set numbers.priors (slice_index slots number)
+    (prior_in numbers (mask_of size) (slice_index slots number) (slice_index slots c) c)
 priors_after _ numbers slots number = numbers.priors
 
 -- the numbers, once a node is taken
@@ -89,7 +91,8 @@ abbrev pub after_node : Node → NumbersSeen → (image slots : List ℕ) → �
 after_node node numbers image slots number = record {
   cells = cells_after node numbers image (slice_index slots number);
   earlier = earlier_after node numbers (slice_index slots number);
-  watches = record numbers.watches { places = places_after node numbers (slice_index slots number); marked = marked_after node numbers (slice_index slots number) };
+  watches = record numbers.watches
+      { places = places_after node numbers (slice_index slots number); marked = marked_after node numbers (slice_index slots number) };
   priors = priors_after node numbers slots number;
   values = slice_set numbers.values number (value_after node numbers image slots number);
 }
@@ -97,13 +100,15 @@ after_node node numbers image slots number = record {
 -- how often a node reads the image: a cell where it is marked or moved, and no other node
 abbrev pub reads_at : Node → NumbersSeen → ℕ → ℕ
 reads_at (CellNode pointer offset width) numbers slot =
-    read_of (slice_index_or numbers.watches.marked slot true) (slice_index numbers.watches.places slot) (place_in numbers pointer offset)
+    read_of (slice_index_or numbers.watches.marked slot true)
+    (slice_index numbers.watches.places slot) (place_in numbers pointer offset)
 reads_at _ numbers slot = 0
 
 -- where the cell of a slot is not marked, its kept number is the image's at its place
 abbrev pub IsAgreedIn : NumbersSeen → List ℕ → (slot width : ℕ) → Type 0
 IsAgreedIn numbers image slot width =
-    slice_index_or numbers.watches.marked slot true ≡ false → slice_index numbers.cells slot ≡ raw width image (slice_index numbers.watches.places slot)
+    slice_index_or numbers.watches.marked slot true ≡ false → slice_index numbers.cells slot
+    ≡ raw width image (slice_index numbers.watches.places slot)
 
 -- the same of a node's cell, where it is one
 abbrev pub IsAgreedAt : Node → NumbersSeen → List ℕ → ℕ → Type 0
@@ -121,7 +126,8 @@ IsWithin (Const n) numbers slots number = Unit {0}
 IsWithin (CellNode pointer offset width) numbers slots number =
     (pointer < length numbers.values) × (slice_index slots number < length numbers.cells) × IsReadWidth width
 IsWithin (View Prior size c) numbers slots number =
-    (c < length numbers.values) × (slice_index slots c < length numbers.cells) × (slice_index slots number < length numbers.priors)
+    (c < length numbers.values) × (slice_index slots c < length numbers.cells)
+    × (slice_index slots number < length numbers.priors)
 IsWithin (View _ size c) numbers slots number =
     (c < length numbers.values) × (slice_index slots c < length numbers.cells)
 IsWithin (Arith op left right) numbers slots number =
@@ -137,11 +143,16 @@ pub record IsSizedFor (nodes : List Node) (numbers : NumbersSeen) : Type 0 where
   pub priors : length numbers.priors ≡ length (tracked_of nodes)
   pub values : length numbers.values ≡ length nodes
 
--- a pass takes up one frame, for every start and every history after which the kept numbers are the old ones, and leaves no cell marked
+-- a pass takes up one frame, for every start and every history after which the kept numbers are the old ones, and
+-- leaves no cell marked
 pub record TakesFrame (nodes : List Node) (old new : NumbersSeen) (image : List ℕ) : Type 0 where
-  pub kept : (start : Start) (history : History) → AreKept start history nodes old.cells old.priors → AreKept start (image ∷ history) nodes new.cells new.priors
-  pub values : (start : Start) (history : History) → AreKept start history nodes old.cells old.priors → new.values ≡ map (spelled_value start (image ∷ history)) (spelled_by nodes)
-  pub places : (start : Start) (history : History) → AreKept start history nodes old.cells old.priors → new.watches.places ≡ map (λ c. cell_place start c (image ∷ history)) (cells_of nodes)
+  pub kept : (start : Start) (history : History) → AreKept start history nodes old.cells old.priors
+      → AreKept start (image ∷ history) nodes new.cells new.priors
+  pub values : (start : Start) (history : History) → AreKept start history nodes old.cells
+      old.priors → new.values ≡ map (spelled_value start (image ∷ history)) (spelled_by nodes)
+  pub places : (start : Start) (history : History) → AreKept start history nodes old.cells
+      old.priors → new.watches.places
+      ≡ map (λ c. cell_place start c (image ∷ history)) (cells_of nodes)
   pub sized : IsSizedFor nodes new
   pub size : new.watches.size ≡ old.watches.size
   pub unmarked : new.watches.marked ≡ replicate (length (cells_of nodes)) false

@@ -1,5 +1,7 @@
--- What a table is seen as, and what its calls do: docs/DEFINITIONS.md, "Values at a frame" and "Marked and moved cells".
-use Rattle.std.specs.Prelude.{◌≡◌, ◌≢◌, ℕ, ◌+◌, ◌<◌, ◌≤◌, Bool, true, false, not, count_by, List, ◌∷◌, length, map, replicate, take, drop, slice_index, slice_index_or}
+-- What a table is seen as, and what its calls do: docs/DEFINITIONS.md, "Values at a frame" and "Marked and moved
+-- cells".
+use Rattle.std.specs.Prelude.{◌≡◌, ◌≢◌, ℕ, ◌+◌, ◌<◌, ◌≤◌, Bool, true, false, not, count_by, List, ◌∷◌, length, map}
+use Rattle.std.specs.Prelude.{replicate, take, drop, slice_index, slice_index_or}
 use Rattle.ra_memory.specs.Image.{History, raw}
 use Rattle.ra_indirect.specs.declared.node.Node.{Node}
 use Rattle.ra_indirect.specs.Trees.{Cell, constant}
@@ -37,7 +39,8 @@ no_cell = record { pointer = constant 0; address = 0; width = 1 }
 abbrev pub Agrees : TableSeen → List ℕ → Type 0
 Agrees table image =
     (k : ℕ) → k < length table.cells → slice_index_or table.marked k true ≡ false →
-    slice_index table.cells k ≡ raw (slice_index_or (cells_of table.nodes) k no_cell).width image (slice_index table.places k)
+    slice_index table.cells k
+    ≡ raw (slice_index_or (cells_of table.nodes) k no_cell).width image (slice_index table.places k)
 
 -- what a node gives at the last frame: a tree its value, a cell its number
 abbrev pub spelled_value : Start → History → Spelled → ℕ
@@ -62,10 +65,13 @@ pub record IsFresh (nodes : List Node) (size : ℕ) (table : TableSeen) : Type 0
 -- a sample takes up one frame, for every start and every history after which the kept numbers are old's
 pub record Samples (old new : TableSeen) (image : List ℕ) : Type 0 where
   pub pool : SamePool old new
-  pub kept : (start : Start) (history : History) → AreKept start history old.nodes old.cells old.priors → AreKept start (image ∷ history) old.nodes new.cells new.priors
-  pub values : (start : Start) (history : History) → AreKept start history old.nodes old.cells old.priors → new.values ≡ map (spelled_value start (image ∷ history)) (spelled_by old.nodes)
+  pub kept : (start : Start) (history : History) → AreKept start history old.nodes old.cells
+      old.priors → AreKept start (image ∷ history) old.nodes new.cells new.priors
+  pub values : (start : Start) (history : History) → AreKept start history old.nodes old.cells
+      old.priors → new.values ≡ map (spelled_value start (image ∷ history)) (spelled_by old.nodes)
   pub is_sampled : new.sampled ≡ true
-  pub places : (start : Start) (history : History) → AreKept start history old.nodes old.cells old.priors → new.places ≡ map (λ c. cell_place start c (image ∷ history)) (cells_of old.nodes)
+  pub places : (start : Start) (history : History) → AreKept start history old.nodes old.cells
+      old.priors → new.places ≡ map (λ c. cell_place start c (image ∷ history)) (cells_of old.nodes)
   pub agrees : Agrees new image
 
 -- each cell that was marked or has moved was read, once, and no other; no cell is marked any more
@@ -73,10 +79,12 @@ pub record ReadsWanted (old new : TableSeen) (reads : ℕ) : Type 0 where
   pub unmarked : new.marked ≡ replicate (length (cells_of old.nodes)) false
   pub counted : reads ≡ reads_of old.marked old.places new.places
 
--- each cell that was not marked was read, and then each one that was marked, has another number in the image, or has moved; no cell is marked any more
+-- each cell that was not marked was read, and then each one that was marked, has another number in the image, or has
+-- moved; no cell is marked any more
 pub record ReadsLooked (old new : TableSeen) (image : List ℕ) (reads : ℕ) : Type 0 where
   pub unmarked : new.marked ≡ replicate (length (cells_of old.nodes)) false
-  pub counted : reads ≡ count_by not old.marked + reads_of (marks_seen image (cells_of old.nodes) old.places old.cells old.marked) old.places new.places
+  pub counted : reads ≡ count_by not old.marked + reads_of
+      (marks_seen image (cells_of old.nodes) old.places old.cells old.marked) old.places new.places
 
 -- each node that a sample gave another number is listed, and only nodes are
 pub record ListsChanged (old new : TableSeen) : Type 0 where
@@ -95,7 +103,8 @@ pub record DifferWithin (at count : ℕ) (image image' : List ℕ) : Type 0 wher
 pub record IsTold (old new : TableSeen) (at count : ℕ) : Type 0 where
   pub rest : new ≡ record old { marked = new.marked }
   pub marked : new.marked ≡ marks_after old.size (cells_of old.nodes) old.places at count old.marked
-  pub agrees : (image image' : List ℕ) → length image ≡ old.size → DifferWithin at count image image' → Agrees old image → Agrees new image'
+  pub agrees : (image image' : List ℕ) → length image ≡ old.size
+      → DifferWithin at count image image' → Agrees old image → Agrees new image'
 
 -- an image is looked at: it marks the cells that have another number in it than the kept one, and changes nothing else
 pub record IsLooked (old new : TableSeen) (image : List ℕ) : Type 0 where

@@ -65,7 +65,8 @@ value_of start (view kind size pointer address) history =
     let c = cell_of size pointer address in
     let number = number_of (start.number c) (value_of start pointer) address (width_of size) in
     transformed kind size
-    (view_of size (looked_at kind number (masked_by (mask_of size) number) (start.prior (record { cell = c; mask = mask_of size })) history))
+    (view_of size (looked_at kind number (masked_by (mask_of size) number)
+    (start.prior (record { cell = c; mask = mask_of size })) history))
 
 -- the number of a cell at the last frame of a history; the opening's before the first frame
 abbrev pub cell_number : Start → Cell → History → ℕ

@@ -1,5 +1,7 @@
 -- Which cells watch which pages, by lists of nodes: docs/INTERNALS.md, "Marked and moved cells".
-use Rattle.std.specs.Prelude.{◌≡◌, ℕ, ◌+◌, ◌-◌, ◌*◌, ◌/◌, ◌<◌, ◌≤◌, ◌^◌, ◌==◌, Bool, not, ◌&&◌, ◌||◌, if◌then◌else◌, nat_lt, Option, None, Some, List, length, replicate, true, false, slice_index, slice_index_or}
+use Rattle.std.specs.Prelude.{◌≡◌, ℕ, ◌+◌, ◌-◌, ◌*◌, ◌/◌, ◌<◌, ◌≤◌, ◌^◌, ◌==◌, Bool, not, ◌&&◌, ◌||◌, if◌then◌else◌}
+use Rattle.std.specs.Prelude.{nat_lt, Option, None, Some, List, length, replicate, true, false, slice_index}
+use Rattle.std.specs.Prelude.{slice_index_or}
 use Rattle.std.specs.List.{range_with_len}
 use Rattle.std.specs.List.Sorted.{IsPermutation}
 use Rattle.ra_memory.specs.Image.{IsReadWidth}
@@ -30,7 +32,8 @@ first_page size place = if nat_lt place size then Some (page_of place) else None
 -- the page of a cell's last byte, where it is another one and the image has it
 abbrev pub second_page : ℕ → ℕ → ℕ → Option ℕ
 second_page size place width =
-    if not (page_of (place + width - 1) == page_of place) && nat_lt (page_of (place + width - 1)) (pages_of size) then Some (page_of (place + width - 1)) else None
+    if not (page_of (place + width - 1) == page_of place) && nat_lt (page_of (place + width - 1))
+    (pages_of size) then Some (page_of (place + width - 1)) else None
 
 -- a cell of this width at this place watches one of the pages from the first one on and before the end
 abbrev pub watches_between : ℕ → (first end place width : ℕ) → Bool
@@ -62,7 +65,8 @@ abbrev pub one_unmarked : List Bool → ℕ → ℕ
 one_unmarked marks cell = if slice_index_or marks cell true then 0 else 1
 
 -- each cell stands on the lists of the pages that it watches, and once in the order of looks
-pub record AreWatched (size : ℕ) (widths places : List ℕ) (marks : List Bool) (pages : Rows) (order : List ℕ) : Type 0 where
+pub record AreWatched (size : ℕ) (widths places : List ℕ) (marks : List Bool) (pages : Rows)
+    (order : List ℕ) : Type 0 where
   pub indexed : IsIndexed size widths places marks pages
   pub ordered : IsOrder (length places) order
 
@@ -70,10 +74,14 @@ pub record AreWatched (size : ℕ) (widths places : List ℕ) (marks : List Bool
 pub record MarksWatchers (old new : WatchesSeen) (at count : ℕ) : Type 0 where
   pub rest : new ≡ record old { marked = new.marked }
   pub long : length new.marked ≡ length old.marked
-  pub marked : (k : ℕ) → k < length old.places → slice_index_or new.marked k true ≡ (slice_index_or old.marked k true || is_watched old.size (slice_index old.places k) (slice_index old.widths k) at count)
+  pub marked : (k : ℕ) → k < length old.places → slice_index_or new.marked k true
+      ≡ (slice_index_or old.marked k true
+      || is_watched old.size (slice_index old.places k) (slice_index old.widths k) at count)
 
 -- the image is looked at: the cells that have another number in it are marked, and nothing else changes
 pub record MarksOthers (old new : WatchesSeen) (image numbers : List ℕ) : Type 0 where
   pub rest : new ≡ record old { marked = new.marked }
   pub long : length new.marked ≡ length old.marked
-  pub marked : (k : ℕ) → k < length old.places → slice_index_or new.marked k true ≡ (slice_index_or old.marked k true || is_other image (slice_index old.widths k) (slice_index old.places k) (slice_index numbers k))
+  pub marked : (k : ℕ) → k < length old.places → slice_index_or new.marked k true
+      ≡ (slice_index_or old.marked k true || is_other image (slice_index old.widths k)
+      (slice_index old.places k) (slice_index numbers k))

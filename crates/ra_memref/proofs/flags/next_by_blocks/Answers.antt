@@ -17,7 +17,8 @@ returns-in-Some-next_in-clause-first c =
       after = omega (arith, done.after, c.max-at.ensures, found.after);
       within = found.within;
       here = found.here;
-      none_before = none_further c.args.flags.now c.args.from c.max-at.result c.in-Some-next_in.place up found.none_before;
+      none_before = none_further c.args.flags.now c.args.from c.max-at.result
+          c.in-Some-next_in.place up found.none_before;
     }
 
 pub loop-block-preserved : goal.loop-block-preserved

@@ -10,4 +10,5 @@ loop-number-preserved c =
     let node = c.node.result in
     c.in_ok-push.ensures.items
     ∙ ap (λ ns. ns ++ c.node.result ∷ []) c.loop-number.invariant
-    ∙ sym (take_more pool number node (omega arith) ∙ ap (λ x. take c.loop-number.number c.args.pool.now ++ x ∷ []) (get_or_from_slice_get pool number node node c.node.ensures.node))
+    ∙ sym (take_more pool number node (omega arith) ∙ ap (λ x. take c.loop-number.number
+    c.args.pool.now ++ x ∷ []) (get_or_from_slice_get pool number node node c.node.ensures.node))

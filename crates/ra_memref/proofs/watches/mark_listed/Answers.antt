@@ -40,7 +40,8 @@ loop-next-preserved c =
     let marks = c.put.ensures in
     record {
       walking = rw marks
-          (walking_more c.args.lists.now c.args.list c.args.marks.now c.loop-next.marks c.in-Some.node c.next-next.result
+          (walking_more c.args.lists.now c.args.list c.args.marks.now c.loop-next.marks
+          c.in-Some.node c.next-next.result
           c.requires.list (subst
           (IsWalking c.args.lists.now c.args.list c.args.marks.now c.loop-next.marks) c.in-Some.is
           c.loop-next.invariant.walking) c.next-next.ensures c.loop-next.invariant.long);

@@ -5,12 +5,19 @@ use Rattle.ra_memref.proofs.Holders.{holder-without_here, holder-without_other, 
 use Rattle.ra_memref.proofs.watches.put.Goals as goal
 
 pub link-requires-clause-free : goal.link-requires-clause-free
-link-requires-clause-free c = ap (λ ls. holder_of ls c.args.node) c.unlink.ensures.unlinked ∙ holder-without_here 0 c.args.node c.args.pages.now.lists
+link-requires-clause-free c = ap (λ ls. holder_of ls c.args.node) c.unlink.ensures.unlinked
+    ∙ holder-without_here 0 c.args.node c.args.pages.now.lists
 
 pub returns-in-Some-clause-here : goal.returns-in-Some-clause-here
 returns-in-Some-clause-here c =
     ap (λ ls. holder_of ls c.args.node) c.link.ensures.linked
-    ∙ holder-put_here 0 c.args.node c.in-Some.page c.unlink.new.self.lists (let below : c.in-Some.page < length c.args.pages.now.lists = subst (λ o. IfSome o (λ page. page < length c.args.pages.now.lists)) c.in-Some.is c.requires.page in rw (c.unlink.ensures.unlinked, length-map) below) (ap (λ ls. holder_of ls c.args.node) c.unlink.ensures.unlinked ∙ holder-without_here 0 c.args.node c.args.pages.now.lists)
+    ∙ holder-put_here 0 c.args.node c.in-Some.page c.unlink.new.self.lists (let below :
+    c.in-Some.page < length c.args.pages.now.lists = subst (λ o. IfSome o (λ page. page
+    < length c.args.pages.now.lists)) c.in-Some.is c.requires.page in rw (
+      c.unlink.ensures.unlinked,
+      length-map,
+    ) below) (ap (λ ls. holder_of ls c.args.node) c.unlink.ensures.unlinked ∙
+    holder-without_here 0 c.args.node c.args.pages.now.lists)
     ∙ (let e : 0 + c.in-Some.page ≡ c.in-Some.page = omega arith in ap Some e) ∙ sym c.in-Some.is
 
 pub returns-in-Some-clause-others : goal.returns-in-Some-clause-others
@@ -21,7 +28,10 @@ returns-in-Some-clause-others c = λ other apart.
     ∙ holder-without_other 0 c.args.node other c.args.pages.now.lists apart
 
 pub returns-in_default-clause-here : goal.returns-in_default-clause-here
-returns-in_default-clause-here c = ap (λ ls. holder_of ls c.args.node) c.unlink.ensures.unlinked ∙ holder-without_here 0 c.args.node c.args.pages.now.lists ∙ sym c.in_default.is
+returns-in_default-clause-here c = ap (λ ls. holder_of ls c.args.node) c.unlink.ensures.unlinked
+    ∙ holder-without_here 0 c.args.node c.args.pages.now.lists ∙ sym c.in_default.is
 
 pub returns-in_default-clause-others : goal.returns-in_default-clause-others
-returns-in_default-clause-others c = λ other apart. ap (λ ls. holder_of ls other) c.unlink.ensures.unlinked ∙ holder-without_other 0 c.args.node other c.args.pages.now.lists apart
+returns-in_default-clause-others c = λ other apart. ap (λ ls. holder_of ls other)
+    c.unlink.ensures.unlinked
+    ∙ holder-without_other 0 c.args.node other c.args.pages.now.lists apart

@@ -9,5 +9,8 @@ use Rattle.ra_memref.proofs.table.Table.look.Goals as goal
 pub returns-clause-looked : goal.returns-clause-looked
 returns-clause-looked g c =
     let image = g.I.Image.bytes c.args.image.now in
-    let looked = subst (λ t. IsLooked t (table_seen (with_watches c.self.inside c.look.new.self.watches)) image) c.self.view_is (looked_by c.self.inside c.self.invariant c.look.new.self.watches image c.look.ensures.marks) in
-    subst (λ (n : NumbersSeen). IsLooked c.args.self.now (table_seen (with_numbers c.self.inside n)) image) (sym c.look.ensures.rest) looked
+    let looked = subst (λ t. IsLooked t (table_seen
+    (with_watches c.self.inside c.look.new.self.watches)) image) c.self.view_is
+    (looked_by c.self.inside c.self.invariant c.look.new.self.watches image c.look.ensures.marks) in
+    subst (λ (n : NumbersSeen). IsLooked c.args.self.now
+    (table_seen (with_numbers c.self.inside n)) image) (sym c.look.ensures.rest) looked

@@ -8,12 +8,18 @@ pub loop-cell-init : goal.loop-cell-init
 loop-cell-init c =
     standing_none c.args.listed c.args.widths.items c.args.places.items c.in_ok-pages.pages (c.in_ok-pages.ensures
     ∙ ap (λ n. record { lists = replicate n []; nodes = 2 * c.len-2.result }) (c.div_ceil.ensures ∙ omega arith)
-    ∙ ap (λ n. record { lists = replicate (pages_of c.args.listed) []; nodes = 2 * n }) (c.len-2.ensures ∙ c.args.places.ok.0))
+    ∙ ap (λ n. record { lists = replicate (pages_of c.args.listed) []; nodes = 2 * n })
+    (c.len-2.ensures ∙ c.args.places.ok.0))
 
 pub loop-cell-preserved : goal.loop-cell-preserved
 loop-cell-preserved c =
-    standing_more c.args.listed c.args.widths.items c.args.places.items c.loop-cell.pages c.stand.new.pages c.loop-cell.cell c.loop-cell.invariant
-    (puts_of c.loop-cell.pages c.stand.new.pages c.args.listed c.loop-cell.cell _ _ _ _ (read_at c.args.places.items c.loop-cell.cell _ (omega arith) c.index.ensures) (read_at c.args.widths.items c.loop-cell.cell _ (omega (arith, c.requires.widths)) c.index-in-loop-cell.ensures) c.stand.ensures.stands c.stand.ensures.others c.stand.ensures.lists c.stand.ensures.nodes)
+    standing_more c.args.listed c.args.widths.items c.args.places.items c.loop-cell.pages
+    c.stand.new.pages c.loop-cell.cell c.loop-cell.invariant
+    (puts_of c.loop-cell.pages c.stand.new.pages c.args.listed c.loop-cell.cell _ _ _ _
+    (read_at c.args.places.items c.loop-cell.cell _ (omega arith) c.index.ensures)
+    (read_at c.args.widths.items c.loop-cell.cell _
+    (omega (arith, c.requires.widths)) c.index-in-loop-cell.ensures) c.stand.ensures.stands
+    c.stand.ensures.others c.stand.ensures.lists c.stand.ensures.nodes)
 
 pub invariant_of-result : goal.invariant_of-result
 invariant_of-result c =
@@ -24,7 +30,8 @@ invariant_of-result c =
         small = c.requires.listed;
         few = c.requires.few;
         widths_too = c.requires.widths;
-        marks_too = ap length c.in_ok-marks.ensures ∙ length-replicate c.len.result true ∙ c.len.ensures ∙ c.args.places.ok.0;
+        marks_too = ap length c.in_ok-marks.ensures ∙ length-replicate c.len.result true
+            ∙ c.len.ensures ∙ c.args.places.ok.0;
         wide = c.requires.wide;
         lists = standing.lists;
         nodes = standing.nodes;

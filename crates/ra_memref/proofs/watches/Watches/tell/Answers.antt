@@ -9,7 +9,8 @@ pub returns-then-self : goal.returns-then-self
 returns-then-self c =
     let some : 0 < c.args.count = omega (arith, c.if-count-eq0.false) in
     let marked = rw (c.deref.ensures.value, c.deref-then-self.ensures.value) at c.mark_watchers.ensures in
-    told_all c.self.inside (with_marks c.self.inside c.mark_watchers.new.marks) c.args.self.now c.args.at c.args.count c.self.view_is c.self.invariant.indexed some (record {
+    told_all c.self.inside (with_marks c.self.inside c.mark_watchers.new.marks) c.args.self.now
+    c.args.at c.args.count c.self.view_is c.self.invariant.indexed some (record {
       same = refl;
       long = marked.long;
       marked = λ k below. marked.marked k (omega (arith, below, c.self.invariant.indexed.marks_too));
@@ -17,10 +18,16 @@ returns-then-self c =
 
 pub loop-page-preserved : goal.loop-page-preserved
 loop-page-preserved c =
-    telling_more c.self.inside c.loop-page.self-inside (c.args.at / 16) c.loop-page.page c.mark_listed.new.marks c.loop-page.invariant (omega (arith, c.if-self.false)) c.self.invariant.indexed c.loop-page.auto.page c.mark_listed.ensures.long c.mark_listed.ensures.marked
+    telling_more c.self.inside c.loop-page.self-inside
+    (c.args.at / 16) c.loop-page.page c.mark_listed.new.marks c.loop-page.invariant
+    (omega (arith, c.if-self.false)) c.self.invariant.indexed c.loop-page.auto.page
+    c.mark_listed.ensures.long c.mark_listed.ensures.marked
 
 pub returns : goal.returns
 returns c =
     let some : 0 < c.args.count = omega (arith, c.if-count-eq0.false) in
-    let end : c.loop-page.page ≡ (c.args.at + c.args.count - 1) / 16 + 1 = omega (arith, c.loop-page-test.false, c.loop-page.auto.page-end, some) in
-    told_all c.self.inside c.loop-page.self-inside c.args.self.now c.args.at c.args.count c.self.view_is c.self.invariant.indexed some (subst (IsTelling c.self.inside c.loop-page.self-inside (c.args.at / 16)) end c.loop-page.invariant)
+    let end : c.loop-page.page ≡ (c.args.at + c.args.count - 1) / 16 + 1 =
+    omega (arith, c.loop-page-test.false, c.loop-page.auto.page-end, some) in
+    told_all c.self.inside c.loop-page.self-inside c.args.self.now c.args.at c.args.count
+    c.self.view_is c.self.invariant.indexed some (subst
+    (IsTelling c.self.inside c.loop-page.self-inside (c.args.at / 16)) end c.loop-page.invariant)
