@@ -1,5 +1,7 @@
 -- The set's own bytes are the bytes of what they say.
-use Rattle.std.proofs.Common.{◌≡◌, ℕ, zero, suc, ◌+◌, ◌*◌, ◌-◌, ◌<◌, ◌≤◌, ◌==◌, true, false, if◌then◌else◌, nat_le, Option, None, Some, option_map, is_some, List, [], ◌∷◌, ◌++◌, length, map, take, bytes_eq, slice_index, slice_index_or, refl, sym, ◌∙◌, ap, ap₂, subst, arith, drop-cons}
+use Rattle.std.proofs.Common.{◌≡◌, ℕ, zero, suc, ◌+◌, ◌*◌, ◌-◌, ◌<◌, ◌≤◌, ◌==◌, true, false, if◌then◌else◌, nat_le}
+use Rattle.std.proofs.Common.{Option, None, Some, option_map, is_some, List, [], ◌∷◌, ◌++◌, length, map, take, bytes_eq}
+use Rattle.std.proofs.Common.{slice_index, slice_index_or, refl, sym, ◌∙◌, ap, ap₂, subst, arith, drop-cons}
 use Rattle.std.specs.List.{AllByRecursion}
 use Rattle.std.specs.Int.{w32, w64, to_le_bytes}
 use Rattle.std.proofs.lemmas.Bool.{eqb-true, leb-true}
@@ -10,13 +12,18 @@ use Rattle.md5.specs.Md5.{md5}
 use Rattle.ra_progress.specs.declared.shape.ItemShape.{ItemShape}
 use Rattle.ra_progress.specs.declared.shape.ItemShape.TheVariants.{Achievement, Leaderboard}
 use Rattle.ra_progress.specs.declared.shape.PresenceShape.{PresenceShape}
-use Rattle.ra_progress.specs.Contents.{Name, ShapeContents, OfPresence, Own, own_items, own_presence, own_entries, plain_presence}
+use Rattle.ra_progress.specs.Contents.{Name, ShapeContents, OfPresence, Own, own_items, own_presence, own_entries}
+use Rattle.ra_progress.specs.Contents.{plain_presence}
 use Rattle.ra_text.specs.Words.{word_at, words_at, words}
-use Rattle.ra_progress.specs.Layout.{Entry, name_at, version_in, digest_in, frames_at, item_length, block_length, cell_count, prior_count, entry_count, first_entry, entry_after, entries_from, entries_in, cells_in, priors_in}
+use Rattle.ra_progress.specs.Layout.{Entry, name_at, version_in, digest_in, frames_at, item_length, block_length}
+use Rattle.ra_progress.specs.Layout.{cell_count, prior_count, entry_count, first_entry, entry_after, entries_from}
+use Rattle.ra_progress.specs.Layout.{entries_in, cells_in, priors_in}
 use Rattle.ra_progress.specs.Names.{entry_names}
-use Rattle.ra_progress.specs.Spelling.{state_byte, item_bytes, presence_bytes, presence_block, blocks_of, named_words, named_blocks, mark, body_bytes, progress_bytes}
+use Rattle.ra_progress.specs.Spelling.{state_byte, item_bytes, presence_bytes, presence_block, blocks_of, named_words}
+use Rattle.ra_progress.specs.Spelling.{named_blocks, mark, body_bytes, progress_bytes}
 use Rattle.ra_progress.specs.Reading.{HasLayout, have_sizes, IsAccepted}
-use Rattle.ra_progress.specs.Saying.{is_earned, state_said, said_item, said_items, said_presence, said_or, own_places, says}
+use Rattle.ra_progress.specs.Saying.{is_earned, state_said, said_item, said_items, said_presence, said_or, own_places}
+use Rattle.ra_progress.specs.Saying.{says}
 use Rattle.ra_progress.specs.Laws.{IsShape, IsOwn}
 use Rattle.ra_progress.proofs.Owns.{names_count}
 use Rattle.ra_progress.proofs.Walks.{IsWalk, walk_first, walk_next}
@@ -85,7 +92,8 @@ module _ (bytes : List ℕ) (fit : AllByRecursion (λ b. b < 256) bytes) where
 
   -- names with their numbers
   named_again : (at j count : ℕ) → at + 20 * j + 20 * count ≤ length bytes
-      → named_words (map (λ n. n.name) (numbered_from bytes at j count)) (map (λ n. n.number) (numbered_from bytes at j count)) ≡ piece bytes (at + 20 * j) (20 * count)
+      → named_words (map (λ n. n.name) (numbered_from bytes at j count)) (map (λ n. n.number)
+      (numbered_from bytes at j count)) ≡ piece bytes (at + 20 * j) (20 * count)
   named_again at j zero within = refl
   named_again at j (suc count) within =
       let place = at + 20 * j in
@@ -104,7 +112,8 @@ module _ (bytes : List ℕ) (fit : AllByRecursion (λ b. b < 256) bytes) where
 
   -- entries up to the closing sum
   blocks_again : (left at : ℕ) → IsWalk bytes left at
-      → named_blocks (map (λ entry. entry.name) (entries_from bytes left at)) (map block_of_entry (entries_from bytes left at)) ≡ piece bytes at (length bytes - 16 - at)
+      → named_blocks (map (λ entry. entry.name) (entries_from bytes left at))
+      (map block_of_entry (entries_from bytes left at)) ≡ piece bytes at (length bytes - 16 - at)
   blocks_again zero at walk =
       let none : length bytes - 16 - at ≡ 0 = omega (arith, walk.whole) in
       rw none refl
@@ -129,7 +138,9 @@ module _ (bytes : List ℕ) (fit : AllByRecursion (λ b. b < 256) bytes) where
   -- the blocks of what the items and the script say
   script_blocks : (name : Option Name) (shape : Option PresenceShape) (left at : ℕ) → is_some name ≡ is_some shape
       → IsWalk bytes left at → have_sizes (own_presence name shape) (entries_from bytes left at) ≡ true
-      → presence_block (option_map (λ p. said_or (said_presence bytes p) (plain_presence p) (slice_index_or (map place_of_block (entries_from bytes left at)) 0 None)) shape) ≡ map block_of_entry (entries_from bytes left at)
+      → presence_block (option_map (λ p. said_or (said_presence bytes p) (plain_presence p)
+      (slice_index_or (map place_of_block (entries_from bytes left at)) 0 None)) shape)
+      ≡ map block_of_entry (entries_from bytes left at)
   script_blocks None None zero at same walk sized = refl
   script_blocks None None (suc left) at same walk sized = absurd (cc sized)
   script_blocks None (Some p) left at same walk sized = absurd (cc same)
@@ -145,9 +156,14 @@ module _ (bytes : List ℕ) (fit : AllByRecursion (λ b. b < 256) bytes) where
       let both = both_true (word_at bytes (at + 16) == block_length (OfPresence p)) false sized in absurd
       (cc both.1)
 
-  items_blocks : (names : List Name) (shapes : List ItemShape) (name : Option Name) (shape : Option PresenceShape) (left at : ℕ) → version_in bytes ≡ 3 → length names ≡ length shapes → is_some name ≡ is_some shape → IsWalk bytes left at
+  items_blocks : (names : List Name) (shapes : List ItemShape) (name : Option Name)
+      (shape : Option PresenceShape) (left at : ℕ) → version_in bytes ≡ 3 → length names
+      ≡ length shapes → is_some name ≡ is_some shape → IsWalk bytes left at
       → have_sizes (own_items names shapes ++ own_presence name shape) (entries_from bytes left at) ≡ true
-      → map item_bytes (said_items bytes shapes (map place_of_block (entries_from bytes left at))) ++ presence_block (option_map (λ p. said_or (said_presence bytes p) (plain_presence p) (slice_index_or (map place_of_block (entries_from bytes left at)) (length shapes) None)) shape)
+      → map item_bytes (said_items bytes shapes (map place_of_block (entries_from bytes left at)))
+      ++ presence_block (option_map (λ p. said_or (said_presence bytes p) (plain_presence p)
+      (slice_index_or (map place_of_block (entries_from bytes left at)) (length shapes) None))
+      shape)
       ≡ map block_of_entry (entries_from bytes left at)
   items_blocks [] [] name shape left at three many same walk sized =
       script_blocks name shape left at same walk sized
@@ -166,7 +182,8 @@ module _ (bytes : List ℕ) (fit : AllByRecursion (λ b. b < 256) bytes) where
       (items_blocks names items name shape left (entry_after bytes at) three (omega (arith, many)) same
       (subst (λ n. IsWalk bytes n (entry_after bytes at)) one next.1) both.1)
 
-  module _ (shape : ShapeContents) (is_shape : IsShape shape) (ok : IsAccepted shape bytes) (own : IsOwn shape bytes) where
+  module _ (shape : ShapeContents) (is_shape : IsShape shape) (ok : IsAccepted shape bytes)
+      (own : IsOwn shape bytes) where
     abbrev owns : List Own
     owns = own_entries shape
 
@@ -221,7 +238,8 @@ module _ (bytes : List ℕ) (fit : AllByRecursion (λ b. b < 256) bytes) where
         ∙ items_blocks shape.item_names shape.items shape.presence_name shape.presence (entry_count bytes)
         (first_entry bytes) own.version is_shape.paired.items is_shape.paired.presence walk sized
 
-    entries_bytes : named_blocks (entry_names shape) (blocks_of (says shape bytes)) ≡ piece bytes (first_entry bytes) (ends - first_entry bytes)
+    entries_bytes : named_blocks (entry_names shape) (blocks_of (says shape bytes))
+        ≡ piece bytes (first_entry bytes) (ends - first_entry bytes)
     entries_bytes =
         ap₂ named_blocks (sym own.entries) blocks_said ∙ blocks_again (entry_count bytes) (first_entry bytes) walk
 
@@ -230,7 +248,8 @@ module _ (bytes : List ℕ) (fit : AllByRecursion (λ b. b < 256) bytes) where
         ap₂ named_words (sym own.cells) cells_said ∙ named_again 33 0 (cell_count bytes)
         (omega (arith, walk.within))
 
-    priors_bytes : named_words shape.priors (says shape bytes).priors ≡ piece bytes (37 + 20 * cell_count bytes) (20 * prior_count bytes)
+    priors_bytes : named_words shape.priors (says shape bytes).priors
+        ≡ piece bytes (37 + 20 * cell_count bytes) (20 * prior_count bytes)
     priors_bytes =
         let start : 37 + 20 * cell_count bytes + 20 * 0 ≡ 37 + 20 * cell_count bytes = omega arith in
         ap₂ named_words (sym own.priors) priors_said ∙ named_again (37 + 20 * cell_count bytes) 0

@@ -4,7 +4,10 @@ use Rattle.std.proofs.lemmas.List.{take_all, length-drop}
 use Rattle.ra_progress.specs.Layout.{sum_in}
 use Rattle.ra_text.proofs.Bytes.{step, four_bytes}
 
-pub eight_bytes : (bytes : List ℕ) (at : ℕ) → at + 8 ≤ length bytes → take 8 (drop at bytes) ≡ get_or bytes at 0 ∷ get_or bytes (at + 1) 0 ∷ get_or bytes (at + 2) 0 ∷ get_or bytes (at + 3) 0 ∷ get_or bytes (at + 4) 0 ∷ get_or bytes (at + 5) 0 ∷ get_or bytes (at + 6) 0 ∷ get_or bytes (at + 7) 0 ∷ []
+pub eight_bytes : (bytes : List ℕ) (at : ℕ) → at + 8 ≤ length bytes → take 8 (drop at bytes)
+    ≡ get_or bytes at 0 ∷ get_or bytes (at + 1) 0 ∷ get_or bytes (at + 2) 0
+    ∷ get_or bytes (at + 3) 0 ∷ get_or bytes (at + 4) 0 ∷ get_or bytes (at + 5) 0
+    ∷ get_or bytes (at + 6) 0 ∷ get_or bytes (at + 7) 0 ∷ []
 eight_bytes bytes at within =
     step bytes at (at + 1) 7 (omega arith) (omega arith)
     ∙ ap (λ t. get_or bytes at 0 ∷ t) (step bytes (at + 1) (at + 2) 6 (omega arith) (omega arith)
@@ -12,7 +15,9 @@ eight_bytes bytes at within =
     ∙ ap (λ t. get_or bytes (at + 2) 0 ∷ t) (step bytes (at + 3) (at + 4) 4 (omega arith) (omega arith)
     ∙ ap (λ t. get_or bytes (at + 3) 0 ∷ t) (four_bytes bytes (at + 4) (omega arith) ∙ later))))
   where
-    later : get_or bytes (at + 4) 0 ∷ get_or bytes (at + 4 + 1) 0 ∷ get_or bytes (at + 4 + 2) 0 ∷ get_or bytes (at + 4 + 3) 0 ∷ [] ≡ get_or bytes (at + 4) 0 ∷ get_or bytes (at + 5) 0 ∷ get_or bytes (at + 6) 0 ∷ get_or bytes (at + 7) 0 ∷ []
+    later : get_or bytes (at + 4) 0 ∷ get_or bytes (at + 4 + 1) 0 ∷ get_or bytes (at + 4 + 2) 0
+        ∷ get_or bytes (at + 4 + 3) 0 ∷ [] ≡ get_or bytes (at + 4) 0 ∷ get_or bytes (at + 5) 0
+        ∷ get_or bytes (at + 6) 0 ∷ get_or bytes (at + 7) 0 ∷ []
     later =
         let a : at + 4 + 1 ≡ at + 5 = omega arith in
         let b : at + 4 + 2 ≡ at + 6 = omega arith in

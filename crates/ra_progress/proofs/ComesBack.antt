@@ -1,5 +1,6 @@
 -- The bytes of an opening are accepted, say it again, and are the set's own.
-use Rattle.std.proofs.Common.{◌≡◌, ℕ, ◌+◌, ◌*◌, ◌-◌, ◌<◌, ◌≤◌, ◌^◌, true, false, nat_lt, List, [], ◌∷◌, ◌++◌, length, length-append, map, sum_by, refl, sym, ◌∙◌, ap, ap₂, subst, arith}
+use Rattle.std.proofs.Common.{◌≡◌, ℕ, ◌+◌, ◌*◌, ◌-◌, ◌<◌, ◌≤◌, ◌^◌, true, false, nat_lt, List, [], ◌∷◌, ◌++◌, length}
+use Rattle.std.proofs.Common.{length-append, map, sum_by, refl, sym, ◌∙◌, ap, ap₂, subst, arith}
 use Rattle.std.specs.List.{AllByRecursion}
 use Rattle.std.specs.Int.{w32, w64, to_le_bytes}
 use Rattle.std.proofs.lemmas.Nat.{from_le_bytes-to_le_bytes_8}
@@ -12,7 +13,9 @@ use Rattle.md5.specs.Md5.{md5}
 use Rattle.md5.proofs.StandardFacts.{length-md5}
 use Rattle.ra_progress.specs.Contents.{ShapeContents, Own, own_entries, own_presence, Opening, IsOpening}
 use Rattle.ra_text.specs.Words.{word_at}
-use Rattle.ra_progress.specs.Layout.{version_in, digest_in, frames_at, summed_in, own_length, cell_count, prior_count, entry_count, first_entry, cells_in, priors_in, entries_in, entries_from, need_of, need_from, up_to, length_of, numbered_at}
+use Rattle.ra_progress.specs.Layout.{version_in, digest_in, frames_at, summed_in, own_length, cell_count, prior_count}
+use Rattle.ra_progress.specs.Layout.{entry_count, first_entry, cells_in, priors_in, entries_in, entries_from, need_of}
+use Rattle.ra_progress.specs.Layout.{need_from, up_to, length_of, numbered_at}
 use Rattle.ra_progress.specs.Names.{IsName, entry_names}
 use Rattle.ra_progress.specs.Spelling.{presence_block, blocks_of, named_words, named_blocks, body_bytes, progress_bytes}
 use Rattle.ra_progress.specs.Reading.{of_this_set, IsAccepted}
@@ -20,7 +23,9 @@ use Rattle.ra_progress.specs.Saying.{says}
 use Rattle.ra_progress.specs.Laws.{IsShape, ComesBack, IsOwn}
 use Rattle.ra_progress.proofs.OwnNames.{own_names}
 use Rattle.ra_text.proofs.Pieces.{Stands, stands_first, stands_next, stands_take, stands_word}
-use Rattle.ra_progress.proofs.OwnFile.{IsHeld, Fitting, StandBeside, fitting, fitting_script, entries_stand, need_stand, sizes_stand, states_stand, names_stand, numbered_stand, length_named_words, length_named_blocks, SaidItems, said_items_are, said_script_is}
+use Rattle.ra_progress.proofs.OwnFile.{IsHeld, Fitting, StandBeside, fitting, fitting_script, entries_stand, need_stand}
+use Rattle.ra_progress.proofs.OwnFile.{sizes_stand, states_stand, names_stand, numbered_stand, length_named_words}
+use Rattle.ra_progress.proofs.OwnFile.{length_named_blocks, SaidItems, said_items_are, said_script_is}
 
 -- own entries whose names are names and whose blocks are small together can be held
 held : (owns : List Own) (most : ℕ) → sum_by own_length owns ≤ most → most < 2 ^ 32
@@ -68,7 +73,8 @@ module _ (shape : ShapeContents) (o : Opening) (is_shape : IsShape shape) (fits 
   all_fit =
       fitting shape.item_names shape.items o.items (own_presence shape.presence_name shape.presence)
       (presence_block o.presence) is_shape.paired.items fits.items
-      (fitting_script shape.presence_name shape.presence o.presence is_shape.paired.presence is_shape.lines fits.presence)
+      (fitting_script shape.presence_name shape.presence o.presence is_shape.paired.presence
+      is_shape.lines fits.presence)
 
   names_are : map (λ own. own.name) owns ≡ entry_names shape
   names_are = own_names shape is_shape.paired
@@ -270,14 +276,16 @@ module _ (shape : ShapeContents) (o : Opening) (is_shape : IsShape shape) (fits 
       (stands_first file 21 (to_le_bytes w64 o.frames) behind_frames at_frames))
       (from_le_bytes-to_le_bytes_8 o.frames fits.frames)
 
-  said : SaidItems file shape.items o.items (own_presence shape.presence_name shape.presence) (presence_block o.presence) (entries_in file)
+  said : SaidItems file shape.items o.items (own_presence shape.presence_name shape.presence)
+      (presence_block o.presence) (entries_in file)
   said =
       said_items_are file shape.item_names shape.items o.items (own_presence shape.presence_name shape.presence)
       (presence_block o.presence) (entries_in file) three is_shape.paired.items fits.items all_beside
 
   pub says_it : says shape file ≡ o
   says_it =
-      let script = said_script_is file shape.presence_name shape.presence o.presence said.tail is_shape.paired.presence is_shape.lines fits.presence said.behind in
+      let script = said_script_is file shape.presence_name shape.presence o.presence said.tail
+      is_shape.paired.presence is_shape.lines fits.presence said.behind in
       rw (this_set, frames_are, cells_read.1, priors_read.1, said.are, said.script, script) refl
 
   pub comes_back : ComesBack shape o

@@ -1,5 +1,6 @@
 -- An order of names, and how a name splits it.
-use Rattle.std.proofs.Common.{◌≡◌, ℕ, ◌<◌, ◌≤◌, inl, inr, Bool, true, false, List, refl, sym, ◌∙◌, subst, arith, length, slice_index, Option, None, Some, option_to_list}
+use Rattle.std.proofs.Common.{◌≡◌, ℕ, ◌<◌, ◌≤◌, inl, inr, Bool, true, false, List, refl, sym, ◌∙◌, subst, arith, length}
+use Rattle.std.proofs.Common.{slice_index, Option, None, Some, option_to_list}
 use Rattle.std.proofs.lemmas.Bool.{cases_lt}
 use Rattle.std.proofs.lemmas.List.Sorted.{sorted_far, ranks_by, All-permutation, length_permutation}
 use Rattle.std.proofs.lemmas.List.FromFn.{length-range_with_len, get_or-range_with_len}
@@ -36,34 +37,47 @@ module _ (names : List Name) (order : List ℕ) (is : IsOrder names order) where
   pub rises : (i k : ℕ) → i ≤ k → k < length order → before (name_in k) (name_in i) ≡ false
   rises i k up within =
       first_decides (slice_cmp nat_cmp (name_in k) (name_in i)) _
-      (sorted_far (λ x y. is_lt (place_cmp names x y)) (ranks_by (places_total names) (λ n. n)) order is.rising i k 0 up within)
+      (sorted_far (λ x y. is_lt (place_cmp names x y))
+      (ranks_by (places_total names) (λ n. n)) order is.rising i k 0 up within)
 
   -- each number of the order is one of the names
   pub numbers_within : (k : ℕ) → k < length order → slice_index order k < length names
   numbers_within k within =
       All-permutation (λ n. n < length names) (range_with_len 0 (length names)) order is.each
-      (λ i d below. let small : i < length names = omega (arith, length-range_with_len 0 (length names)) in rw (get_or-range_with_len 0 (length names) i d small) (omega arith))
+      (λ i d below. let small : i < length names =
+      omega (arith, length-range_with_len 0 (length names)) in
+      rw (get_or-range_with_len 0 (length names) i d small) (omega arith))
       k 0 within
 
   module _ (name : Name) where
     -- what the middle says of the places before it, and of those behind it
-    pub all_before : (middle : ℕ) → middle < length order → before (name_in middle) name ≡ true → (k : ℕ) → k ≤ middle → before (name_in k) name ≡ true
-    all_before middle within less k up = elim (before (name_in k) name) as (λ b. before (name_in k) name ≡ b → b ≡ true) [
-      | true ↦ λ e. refl
-      | false ↦ λ e. absurd (cc (less, names_ranked.chain (name_in middle) (name_in k) name (rises k middle up within) e))
-    ] refl
+    pub all_before : (middle : ℕ) → middle < length order → before (name_in middle) name ≡ true
+        → (k : ℕ) → k ≤ middle → before (name_in k) name ≡ true
+    all_before middle within less k up =
+        elim (before (name_in k) name) as (λ b. before (name_in k) name ≡ b → b ≡ true) [
+          | true ↦ λ e. refl
+          | false ↦ λ e. absurd (cc
+              (less, names_ranked.chain (name_in middle) (name_in k) name (rises k middle up within) e))
+        ] refl
 
-    pub none_before : (middle : ℕ) → middle < length order → before (name_in middle) name ≡ false → (k : ℕ) → middle ≤ k → k < length order → before (name_in k) name ≡ false
-    none_before middle within not k up below = names_ranked.chain (name_in k) (name_in middle) name (rises middle k up below) not
+    pub none_before : (middle : ℕ) → middle < length order → before (name_in middle) name ≡ false
+        → (k : ℕ) → middle ≤ k → k < length order → before (name_in k) name ≡ false
+    none_before middle within not k up below =
+        names_ranked.chain (name_in k) (name_in middle) name (rises middle k up below) not
 
-    pub all_behind : (middle : ℕ) → middle < length order → before name (name_in middle) ≡ true → (k : ℕ) → middle ≤ k → k < length order → before name (name_in k) ≡ true
-    all_behind middle within less k up below = elim (before name (name_in k)) as (λ b. before name (name_in k) ≡ b → b ≡ true) [
-      | true ↦ λ e. refl
-      | false ↦ λ e. absurd (cc (less, names_ranked.chain name (name_in k) (name_in middle) e (rises middle k up below)))
-    ] refl
+    pub all_behind : (middle : ℕ) → middle < length order → before name (name_in middle) ≡ true
+        → (k : ℕ) → middle ≤ k → k < length order → before name (name_in k) ≡ true
+    all_behind middle within less k up below =
+        elim (before name (name_in k)) as (λ b. before name (name_in k) ≡ b → b ≡ true) [
+          | true ↦ λ e. refl
+          | false ↦ λ e. absurd (cc
+              (less, names_ranked.chain name (name_in k) (name_in middle) e (rises middle k up below)))
+        ] refl
 
-    pub none_behind : (middle : ℕ) → middle < length order → before name (name_in middle) ≡ false → (k : ℕ) → k ≤ middle → before name (name_in k) ≡ false
-    none_behind middle within not k up = names_ranked.chain name (name_in middle) (name_in k) not (rises k middle up within)
+    pub none_behind : (middle : ℕ) → middle < length order → before name (name_in middle) ≡ false
+        → (k : ℕ) → k ≤ middle → before name (name_in k) ≡ false
+    none_behind middle within not k up =
+        names_ranked.chain name (name_in middle) (name_in k) not (rises k middle up within)
 
 -- two names of which neither is before the other are one
 neither : (r s : Ordering) → r ≡ ordering_reverse s → is_lt r ≡ false → is_lt s ≡ false → r ≡ Equal
@@ -94,14 +108,23 @@ module _ (names : List Name) (order : List ℕ) (name : Name) (low high : ℕ) w
       → IsRange names order name low high
   range_between low-most high-most below from under behind = record {
     within = elim (cases_lt high low) [
-      | inl crossed ↦ absurd (cc (names_ranked.one_way (named_by names (slice_index order high)) name (below high crossed), behind high (omega arith) (omega arith)))
+      | inl crossed ↦ absurd (cc
+          (names_ranked.one_way (named_by names (slice_index order high)) name (below high crossed), behind high (omega arith) (omega arith)))
       | inr fine ↦ fine
     ];
     most = high-most;
     only = λ k within. (
       λ same. (
-        elim (cases_lt k low) [ inl under-low ↦ absurd (cc (below k under-low, subst (λ n. before n name ≡ false) (sym same) (not_before_itself name))) | inr fine ↦ fine ],
-        elim (cases_lt k high) [ inl fine ↦ fine | inr over ↦ absurd (cc (behind k over within, subst (λ n. before name n ≡ false) (sym same) (not_before_itself name))) ],
+        elim (cases_lt k low) [
+          | inl under-low ↦ absurd (cc
+              (below k under-low, subst (λ n. before n name ≡ false) (sym same) (not_before_itself name)))
+          | inr fine ↦ fine
+        ],
+        elim (cases_lt k high) [
+          | inl fine ↦ fine
+          | inr over ↦ absurd (cc
+              (behind k over within, subst (λ n. before name n ≡ false) (sym same) (not_before_itself name)))
+        ],
       ),
       λ between. one_name (named_by names (slice_index order k)) name (from k between.0 within) (under k between.1),
     );
@@ -109,7 +132,8 @@ module _ (names : List Name) (order : List ℕ) (name : Name) (low high : ℕ) w
 
 -- an order is as long as its names
 pub order_length : (names : List Name) (order : List ℕ) → IsOrder names order → length order ≡ length names
-order_length names order is = length_permutation (range_with_len 0 (length names)) order is.each ∙ length-range_with_len 0 (length names)
+order_length names order is = length_permutation (range_with_len 0 (length names)) order is.each
+    ∙ length-range_with_len 0 (length names)
 
 pub at_most_one : {A : Type 0} (o : Option A) → length (option_to_list o) ≤ 1
 at_most_one None = omega arith

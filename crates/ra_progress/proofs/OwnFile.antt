@@ -1,5 +1,7 @@
 -- Names with numbers and blocks that stand in a file, as they are read.
-use Rattle.std.proofs.Common.{◌≡◌, ℕ, ◌+◌, ◌*◌, ◌<◌, ◌≤◌, ◌^◌, Bool, true, false, nat_lt, nat_le, Option, None, Some, option_map, is_some, List, [], ◌∷◌, ◌++◌, length, length-append, map, sum_by, slice_index, slice_index_or, refl, ◌∙◌, ap, ap₂, arith, inl, inr}
+use Rattle.std.proofs.Common.{◌≡◌, ℕ, ◌+◌, ◌*◌, ◌<◌, ◌≤◌, ◌^◌, Bool, true, false, nat_lt, nat_le, Option, None, Some}
+use Rattle.std.proofs.Common.{option_map, is_some, List, [], ◌∷◌, ◌++◌, length, length-append, map, sum_by, slice_index}
+use Rattle.std.proofs.Common.{slice_index_or, refl, ◌∙◌, ap, ap₂, arith, inl, inr}
 use Rattle.std.specs.List.{AllByRecursion}
 use Rattle.std.specs.Int.{w32, to_le_bytes}
 use Rattle.std.proofs.lemmas.Bool.{lt-ltb, le-ltb, le-leb, leb-true, eq-eqb, cases_lt}
@@ -7,17 +9,20 @@ use Rattle.std.proofs.lemmas.List.Sums.{sum_by-cons}
 use Rattle.ra_progress.specs.declared.shape.ItemShape.{ItemShape}
 use Rattle.ra_progress.specs.declared.shape.ItemShape.TheVariants.{Achievement, Leaderboard}
 use Rattle.ra_progress.specs.declared.shape.PresenceShape.{PresenceShape}
-use Rattle.ra_progress.specs.Contents.{Name, OfItem, OfPresence, Own, own_items, own_presence, KeptItem, OfAchievement, OfBoard, KeptPresence, ItemFits, ItemsFit, PresenceFits, plain_presence}
+use Rattle.ra_progress.specs.Contents.{Name, OfItem, OfPresence, Own, own_items, own_presence, KeptItem, OfAchievement}
+use Rattle.ra_progress.specs.Contents.{OfBoard, KeptPresence, ItemFits, ItemsFit, PresenceFits, plain_presence}
 use Rattle.ra_text.specs.Words.{word_at, words_at, words}
 use Rattle.ra_progress.specs.Layout.{Entry, name_at, version_in, own_length, entry_after, entries_from, need_from}
 use Rattle.ra_progress.specs.Names.{IsName}
-use Rattle.ra_progress.specs.Spelling.{state_byte, item_bytes, presence_bytes, presence_block, named_words, named_blocks}
+use Rattle.ra_progress.specs.Spelling.{state_byte, item_bytes, presence_bytes, presence_block, named_words}
+use Rattle.ra_progress.specs.Spelling.{named_blocks}
 use Rattle.ra_progress.specs.Reading.{have_sizes, is_state, bad_state, blocks_beside}
 use Rattle.ra_progress.specs.Saying.{is_earned, state_said, said_item, said_items, said_presence, said_or}
 use Rattle.ra_progress.proofs.Blocks.{length_item, length_presence}
 use Rattle.ra_progress.proofs.ByName.{numbered_from}
 use Rattle.ra_progress.proofs.OwnOrder.{read_as}
-use Rattle.ra_text.proofs.Pieces.{length_words, Stands, stands_first, stands_next, stands_take, stands_byte, stands_word, stands_words}
+use Rattle.ra_text.proofs.Pieces.{length_words, Stands, stands_first, stands_next, stands_take, stands_byte}
+use Rattle.ra_text.proofs.Pieces.{stands_word, stands_words}
 
 -- names with their numbers take twenty bytes each
 pub length_named_words : (names : List Name) (numbers : List ℕ) → AllByRecursion IsName names
@@ -290,7 +295,9 @@ fitting_script (Some name) (Some shape) None same small fits = absurd fits
 fitting_script (Some name) (Some shape) (Some p) same small fits =
     (own_script_block name shape p (small shape refl) fits, tt)
 
-pub fitting : (names : List Name) (shapes : List ItemShape) (items : List KeptItem) (rest : List Own) (more : List (List ℕ)) → length names ≡ length shapes → ItemsFit shapes items → Fitting rest more → Fitting (own_items names shapes ++ rest) (map item_bytes items ++ more)
+pub fitting : (names : List Name) (shapes : List ItemShape) (items : List KeptItem)
+    (rest : List Own) (more : List (List ℕ)) → length names ≡ length shapes → ItemsFit shapes items
+    → Fitting rest more → Fitting (own_items names shapes ++ rest) (map item_bytes items ++ more)
 fitting [] [] [] rest more same fits behind = behind
 fitting [] [] (item ∷ items) rest more same fits behind = absurd fits
 fitting [] (shape ∷ shapes) items rest more same fits behind = absurd (omega (arith, same))
@@ -307,13 +314,17 @@ abbrev pub place_of_block : Entry → Option ℕ
 place_of_block entry = Some (entry.at + 20)
 
 -- what comes of items that stand, and what stands behind them
-pub record SaidItems (bytes : List ℕ) (shapes : List ItemShape) (items : List KeptItem) (rest : List Own) (more : List (List ℕ)) (entries : List Entry) : Type 0 where
+pub record SaidItems (bytes : List ℕ) (shapes : List ItemShape) (items : List KeptItem)
+    (rest : List Own) (more : List (List ℕ)) (entries : List Entry) : Type 0 where
   pub are : said_items bytes shapes (map place_of_block entries) ≡ items
   pub tail : List Entry
   pub behind : StandBeside bytes rest more tail
-  pub script : slice_index_or (map place_of_block entries) (length shapes) None ≡ slice_index_or (map place_of_block tail) 0 None
+  pub script : slice_index_or (map place_of_block entries) (length shapes) None
+      ≡ slice_index_or (map place_of_block tail) 0 None
 
-pub said_items_are : (bytes : List ℕ) (names : List Name) (shapes : List ItemShape) (items : List KeptItem) (rest : List Own) (more : List (List ℕ)) (entries : List Entry) → version_in bytes ≡ 3 → length names ≡ length shapes → ItemsFit shapes items
+pub said_items_are : (bytes : List ℕ) (names : List Name) (shapes : List ItemShape)
+    (items : List KeptItem) (rest : List Own) (more : List (List ℕ)) (entries : List Entry)
+    → version_in bytes ≡ 3 → length names ≡ length shapes → ItemsFit shapes items
     → StandBeside bytes (own_items names shapes ++ rest) (map item_bytes items ++ more) entries
     → SaidItems bytes shapes items rest more entries
 said_items_are bytes [] [] [] rest more entries three same fits stand =
@@ -336,9 +347,12 @@ said_items_are bytes (name ∷ names) (shape ∷ shapes) (item ∷ items) rest m
     }
 
 -- what comes of the script, which stands behind the items
-pub said_script_is : (bytes : List ℕ) (name : Option Name) (shape : Option PresenceShape) (p : Option KeptPresence) (tail : List Entry) → is_some name ≡ is_some shape → ((q : PresenceShape) → shape ≡ Some q → q.lines < 2 ^ 32) → PresenceFits shape p
+pub said_script_is : (bytes : List ℕ) (name : Option Name) (shape : Option PresenceShape)
+    (p : Option KeptPresence) (tail : List Entry) → is_some name ≡ is_some shape
+    → ((q : PresenceShape) → shape ≡ Some q → q.lines < 2 ^ 32) → PresenceFits shape p
     → StandBeside bytes (own_presence name shape) (presence_block p) tail
-    → option_map (λ q. said_or (said_presence bytes q) (plain_presence q) (slice_index_or (map place_of_block tail) 0 None)) shape ≡ p
+    → option_map (λ q. said_or (said_presence bytes q) (plain_presence q)
+    (slice_index_or (map place_of_block tail) 0 None)) shape ≡ p
 said_script_is bytes None None None tail same small fits stand = refl
 said_script_is bytes None None (Some p) tail same small fits stand = absurd fits
 said_script_is bytes None (Some shape) p tail same small fits stand = absurd (cc same)

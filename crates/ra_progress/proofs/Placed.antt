@@ -1,5 +1,7 @@
 -- Each place of an own entry is that of a block that is looked at, and such a block lies within the file.
-use Rattle.std.proofs.Common.{◌≡◌, ◌⊎◌, inl, inr, ℕ, zero, suc, ◌+◌, ◌-◌, ◌*◌, ◌<◌, ◌≤◌, ◌==◌, not, true, false, if◌then◌else◌, Option, None, Some, List, [], ◌∷◌, ◌++◌, length, map, drop, find, get_or, drop-cons, bytes_eq, slice_index_or, sum_by, refl, sym, ◌∙◌, subst, arith}
+use Rattle.std.proofs.Common.{◌≡◌, ◌⊎◌, inl, inr, ℕ, zero, suc, ◌+◌, ◌-◌, ◌*◌, ◌<◌, ◌≤◌, ◌==◌, not, true, false}
+use Rattle.std.proofs.Common.{if◌then◌else◌, Option, None, Some, List, [], ◌∷◌, ◌++◌, length, map, drop, find, get_or}
+use Rattle.std.proofs.Common.{drop-cons, bytes_eq, slice_index_or, sum_by, refl, sym, ◌∙◌, subst, arith}
 use Rattle.std.specs.List.{AllByRecursion}
 use Rattle.std.proofs.lemmas.Bool.{eqb-true}
 use Rattle.std.proofs.lemmas.List.{length-map, get_or-map}
@@ -9,8 +11,12 @@ use Rattle.ra_progress.specs.Contents.{Name, ShapeContents, Own, own_entries, ow
 use Rattle.std.specs.Prelude.{IfSome}
 use Rattle.ra_progress.specs.declared.shape.ItemShape.{ItemShape}
 use Rattle.ra_text.specs.Words.{word_at}
-use Rattle.ra_progress.specs.Layout.{Entry, block_length, own_length, entry_at, entry_after, entries_from, entries_in, entry_count, first_entry, version_in, blocks_at_1, length_1_of, cell_count, prior_count, digest_in}
-use Rattle.ra_progress.specs.Reading.{HasLayout, IsWhole, IsAccepted, have_sizes, of_this_set, is_version, owns_named, bad_entry, Block, blocks_from, blocks_beside, blocks_of_entry, blocks_named, blocks_in}
+use Rattle.ra_progress.specs.Layout.{Entry, block_length, own_length, entry_at, entry_after, entries_from, entries_in}
+use Rattle.ra_progress.specs.Layout.{entry_count, first_entry, version_in, blocks_at_1, length_1_of, cell_count}
+use Rattle.ra_progress.specs.Layout.{prior_count, digest_in}
+use Rattle.ra_progress.specs.Reading.{HasLayout, IsWhole, IsAccepted, have_sizes, of_this_set, is_version, owns_named}
+use Rattle.ra_progress.specs.Reading.{bad_entry, Block, blocks_from, blocks_beside, blocks_of_entry, blocks_named}
+use Rattle.ra_progress.specs.Reading.{blocks_in}
 use Rattle.ra_progress.specs.Saying.{last_block, own_places, said_or, said_item, said_items}
 use Rattle.ra_progress.proofs.Checks.{holds}
 use Rattle.ra_progress.proofs.Walks.{IsWalk, walk_first, walk_next}
@@ -153,15 +159,22 @@ module _ (P : Block → Type 0) where
       let entries = entries_in bytes in
       (elim (version_in bytes == 1) as
       (λ b. AllByRecursion P (if b then blocks_from
-      (blocks_at_1 shape) owns else if of_this_set shape bytes then blocks_beside owns entries else blocks_named owns entries)
-      → slice_index_or (if b then map (λ block. Some block.at) (blocks_from (blocks_at_1 shape) owns) else if of_this_set shape bytes then map (λ entry. Some (entry.at + 20)) entries else map (λ own. last_block own.name entries None) owns) n None ≡ Some at
+      (blocks_at_1 shape) owns else if of_this_set shape bytes then blocks_beside owns entries
+      else blocks_named owns entries)
+      → slice_index_or (if b then map (λ block. Some block.at) (blocks_from (blocks_at_1 shape)
+      owns) else if of_this_set shape bytes then map (λ entry. Some (entry.at + 20)) entries
+      else map (λ own. last_block own.name entries None) owns) n None ≡ Some at
       → P (read_as at (own_at owns n))) [
         | true ↦ λ all is. place_1 owns (blocks_at_1 shape) n at all less is
-        | false ↦ λ all is. (elim (of_this_set shape bytes) as (λ b. of_this_set shape bytes ≡ b → AllByRecursion P (if b then blocks_beside owns entries else blocks_named owns entries)
-            → slice_index_or (if b then map (λ entry. Some (entry.at + 20)) entries else map (λ own. last_block own.name entries None) owns) n None ≡ Some at
+        | false ↦ λ all is. (elim (of_this_set shape bytes) as (λ b. of_this_set shape bytes ≡ b
+            → AllByRecursion P (if b then blocks_beside owns entries else blocks_named owns entries)
+            → slice_index_or (if b then map (λ entry. Some (entry.at + 20)) entries
+            else map (λ own. last_block own.name entries None) owns) n None ≡ Some at
             → P (read_as at (own_at owns n))) [
               | true ↦ λ e all is. place_beside owns entries n at (sizes_of_this_set shape bytes e) all less is
-              | false ↦ λ e all is. place_named owns n entries None at less all (λ a none. absurd (cc none)) (sym (get_or-map (λ own. last_block own.name entries None) owns n (own_at [] 0) None less) ∙ is)
+              | false ↦ λ e all is. place_named owns n entries None at less all
+                  (λ a none. absurd (cc none)) (sym (get_or-map
+                  (λ own. last_block own.name entries None) owns n (own_at [] 0) None less) ∙ is)
             ]) refl all is
       ]) all is
 
@@ -223,7 +236,8 @@ blocks_within shape bytes ok =
     (elim (version_in bytes == 1) as
     (λ b. (version_in bytes == 1) ≡ b → AllByRecursion (Within bytes)
     (if b then blocks_from
-    (blocks_at_1 shape) owns else if of_this_set shape bytes then blocks_beside owns entries else blocks_named owns entries)) [
+    (blocks_at_1 shape) owns else if of_this_set shape bytes then blocks_beside owns entries
+    else blocks_named owns entries)) [
       | true ↦ λ e.
           let long : length bytes ≡ length_1_of shape = ok.whole.as_long ∙ rw e refl in
           within_1 bytes owns (blocks_at_1 shape) (omega (arith, long))
@@ -232,8 +246,10 @@ blocks_within shape bytes ok =
           (elim (of_this_set shape bytes) as
           (λ b. of_this_set shape bytes ≡ b → AllByRecursion (Within bytes)
           (if b then blocks_beside owns entries else blocks_named owns entries)) [
-            | true ↦ λ f. within_beside bytes owns (entry_count bytes) (first_entry bytes) walk (sizes_of_this_set shape bytes f)
-            | false ↦ λ f. within_named bytes owns (entry_count bytes) (first_entry bytes) walk (ok.entries (rw (e, f) refl))
+            | true ↦ λ f. within_beside bytes owns (entry_count bytes) (first_entry bytes) walk
+                (sizes_of_this_set shape bytes f)
+            | false ↦ λ f. within_named bytes owns (entry_count bytes) (first_entry bytes) walk
+                (ok.entries (rw (e, f) refl))
           ]) refl
     ]) refl
 
@@ -260,11 +276,15 @@ places_count shape bytes =
     (blocks_from (blocks_at_1 shape) owns) else if of_this_set shape bytes then map
     (λ entry. Some (entry.at + 20)) entries else map
     (λ own. last_block own.name entries None) owns) ≡ length owns) [
-      | true ↦ length-map (blocks_from (blocks_at_1 shape) owns) (λ block. Some block.at) ∙ blocks_count owns (blocks_at_1 shape)
-      | false ↦ (elim (of_this_set shape bytes) as (λ b. of_this_set shape bytes ≡ b → length (if b then map (λ entry. Some (entry.at + 20)) entries else map (λ own. last_block own.name entries None) owns) ≡ length owns) [
-        | true ↦ λ e. length-map entries (λ entry. Some (entry.at + 20)) ∙ as_many owns entries (sizes_of_this_set shape bytes e)
-        | false ↦ λ e. length-map owns (λ own. last_block own.name entries None)
-      ]) refl
+      | true ↦ length-map (blocks_from (blocks_at_1 shape) owns) (λ block. Some block.at)
+          ∙ blocks_count owns (blocks_at_1 shape)
+      | false ↦ (elim (of_this_set shape bytes) as (λ b. of_this_set shape bytes ≡ b
+          → length (if b then map (λ entry. Some (entry.at + 20)) entries
+          else map (λ own. last_block own.name entries None) owns) ≡ length owns) [
+            | true ↦ λ e. length-map entries (λ entry. Some (entry.at + 20))
+                ∙ as_many owns entries (sizes_of_this_set shape bytes e)
+            | false ↦ λ e. length-map owns (λ own. last_block own.name entries None)
+          ]) refl
     ]
 
 -- what holds of each value that may be there holds of what is there

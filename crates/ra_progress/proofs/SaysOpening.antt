@@ -1,5 +1,8 @@
 -- What accepted bytes say is an opening.
-use Rattle.std.proofs.Common.{◌≡◌, ℕ, zero, suc, ◌+◌, ◌*◌, ◌-◌, ◌<◌, ◌≤◌, ◌^◌, ◌==◌, ◌&&◌, ◌||◌, Bool, true, false, if◌then◌else◌, nat_lt, nat_le, Option, None, Some, option_map, List, [], ◌∷◌, length, map, replicate, get_or, bytes_eq, slice_index, slice_index_or, refl, sym, ◌∙◌, ap, subst, arith}
+use Rattle.std.proofs.Common.{◌≡◌, ℕ, zero, suc, ◌+◌, ◌*◌, ◌-◌, ◌<◌, ◌≤◌, ◌^◌, ◌==◌, ◌&&◌, ◌||◌, Bool, true, false}
+use Rattle.std.proofs.Common.{if◌then◌else◌, nat_lt, nat_le, Option, None, Some, option_map, List, [], ◌∷◌, length, map}
+use Rattle.std.proofs.Common.{replicate, get_or, bytes_eq, slice_index, slice_index_or, refl, sym, ◌∙◌, ap, subst}
+use Rattle.std.proofs.Common.{arith}
 use Rattle.std.specs.List.{AllByRecursion, range_with_len}
 use Rattle.std.proofs.lemmas.Bool.{eqb-true, eq-eqb, ltb-true}
 use Rattle.std.proofs.lemmas.List.{length-map, length-replicate}
@@ -9,11 +12,14 @@ use Rattle.ra_progress.specs.declared.shape.ItemShape.TheVariants.{Achievement, 
 use Rattle.ra_progress.specs.declared.shape.PresenceShape.{PresenceShape}
 use Rattle.ra_progress.specs.declared.refused.ProgressRefused.{ProgressRefused}
 use Rattle.ra_text.specs.Words.{word_at, words_at, AreWords}
-use Rattle.ra_progress.specs.Contents.{Name, ShapeContents, OfItem, OfPresence, own_entries, ItemFits, ItemsFit, PresenceFits, IsOpening, plain_item, plain_presence}
-use Rattle.ra_progress.specs.Layout.{Numbered, name_at, version_in, digest_in, frames_at, cell_count, prior_count, numbered_at}
+use Rattle.ra_progress.specs.Contents.{Name, ShapeContents, OfItem, OfPresence, own_entries, ItemFits, ItemsFit}
+use Rattle.ra_progress.specs.Contents.{PresenceFits, IsOpening, plain_item, plain_presence}
+use Rattle.ra_progress.specs.Layout.{Numbered, name_at, version_in, digest_in, frames_at, cell_count, prior_count}
+use Rattle.ra_progress.specs.Layout.{numbered_at}
 use Rattle.ra_progress.specs.Names.{IsPaired}
 use Rattle.ra_progress.specs.Reading.{is_state, bad_state, of_this_set, IsAccepted}
-use Rattle.ra_progress.specs.Saying.{is_earned, state_said, said_item, said_items, said_presence, said_or, last_number, own_places, script_place, said_numbers, says}
+use Rattle.ra_progress.specs.Saying.{is_earned, state_said, said_item, said_items, said_presence, said_or, last_number}
+use Rattle.ra_progress.specs.Saying.{own_places, script_place, said_numbers, says}
 use Rattle.ra_progress.specs.Laws.{HasLines}
 use Rattle.ra_progress.proofs.Owns.{own_count, own_item, own_script, script_count}
 use Rattle.ra_progress.proofs.ByName.{numbered_from}
@@ -186,10 +192,14 @@ module _ (bytes : List ℕ) (fit : AllByRecursion (λ b. b < 256) bytes) where
       (if b then words_at bytes at (length names) else if of_this_set shape bytes then map
       (λ n. n.number) numbered else map (λ name. last_number name numbered 0) names)) [
         | true ↦ words_are at (length names)
-        | false ↦ (elim (of_this_set shape bytes) as (λ b. of_this_set shape bytes ≡ b → AreWords (length names) (if b then map (λ n. n.number) numbered else map (λ name. last_number name numbered 0) names)) [
-          | true ↦ λ e. record { as_many = numbered_count place count ∙ many e; fit = all_numbers numbered (numbered_small place 0 count) }
-          | false ↦ λ e. record { as_many = length-map names (λ name. last_number name numbered 0); fit = all_last names numbered (numbered_small place 0 count) }
-        ]) refl
+        | false ↦ (elim (of_this_set shape bytes) as (λ b. of_this_set shape bytes ≡ b
+            → AreWords (length names) (if b then map (λ n. n.number) numbered
+            else map (λ name. last_number name numbered 0) names)) [
+              | true ↦ λ e. record
+                  { as_many = numbered_count place count ∙ many e; fit = all_numbers numbered (numbered_small place 0 count) }
+              | false ↦ λ e. record
+                  { as_many = length-map names (λ name. last_number name numbered 0); fit = all_last names numbered (numbered_small place 0 count) }
+            ]) refl
       ]
 
   pub says_opening : (shape : ShapeContents) → IsPaired shape → HasLines shape → IsAccepted shape bytes

@@ -17,7 +17,8 @@ module _ (shape : Shape) (is : IsUsable shape) where
 
   pub few_entries : length shape.entry_order.items < 2 ^ 32
   few_entries =
-      let same = order_length (shape.item_names.items ++ option_to_list shape.presence_name) shape.entry_order.items is.searchable.entries in
+      let same = order_length (shape.item_names.items ++ option_to_list shape.presence_name)
+      shape.entry_order.items is.searchable.entries in
       let both = length-append shape.item_names.items (option_to_list shape.presence_name) in
       let one = at_most_one shape.presence_name in
       omega (arith, same, both, one, is.searchable.paired.items, is.searchable.paired.few)

@@ -1,5 +1,6 @@
 -- A progress file as it is written, one piece behind the other.
-use Rattle.std.proofs.Common.{◌≡◌, ℕ, zero, suc, ◌+◌, ◌<◌, ◌≤◌, ◌^◌, Bool, Option, None, Some, List, [], ◌∷◌, ◌++◌, length, map, get_or, option_to_list, sum_by, All, sym, ◌∙◌, ap, arith, append_assoc, Fits}
+use Rattle.std.proofs.Common.{◌≡◌, ℕ, zero, suc, ◌+◌, ◌<◌, ◌≤◌, ◌^◌, Bool, Option, None, Some, List, [], ◌∷◌, ◌++◌}
+use Rattle.std.proofs.Common.{length, map, get_or, option_to_list, sum_by, All, sym, ◌∙◌, ap, arith, append_assoc, Fits}
 use Rattle.std.specs.Int.{w32, w64, to_le_bytes}
 use Rattle.std.specs.List.{AllByRecursion}
 use Rattle.std.proofs.lemmas.List.{length-map}
@@ -7,10 +8,12 @@ use Rattle.std.proofs.lemmas.List.Sums.{sum_by-cons}
 use Rattle.ra_progress.specs.declared.shape.ItemShape.{ItemShape}
 use Rattle.ra_progress.specs.declared.shape.ItemShape.TheVariants.{Achievement, Leaderboard}
 use Rattle.ra_progress.specs.declared.shape.PresenceShape.{PresenceShape}
-use Rattle.ra_progress.specs.Contents.{ShapeContents, KeptItem, OfAchievement, OfBoard, KeptPresence, Opening, ItemFits, ItemsFit, PresenceFits}
+use Rattle.ra_progress.specs.Contents.{ShapeContents, KeptItem, OfAchievement, OfBoard, KeptPresence, Opening, ItemFits}
+use Rattle.ra_progress.specs.Contents.{ItemsFit, PresenceFits}
 use Rattle.ra_progress.specs.Layout.{item_length, script_length}
 use Rattle.ra_progress.specs.Names.{entry_names}
-use Rattle.ra_progress.specs.Spelling.{mark, named_words, named_blocks, item_bytes, presence_block, blocks_of, body_bytes}
+use Rattle.ra_progress.specs.Spelling.{mark, named_words, named_blocks, item_bytes, presence_block, blocks_of}
+use Rattle.ra_progress.specs.Spelling.{body_bytes}
 use Rattle.ra_progress.specs.Writing.{front_bytes, FitsShort, PresenceShort}
 use Rattle.ra_progress.proofs.Blocks.{blocks_parts}
 

@@ -9,7 +9,8 @@ use Rattle.ra_progress.proofs.entries.bad_entries.Given as goal
 abbrev pub invariant-loop-left : goal.invariant-loop-left
 invariant-loop-left l = record {
   walk : IsWalk l.bytes l.left l.at;
-  rest : bad_entries (own_entries (shape_contents l.shape)) (entries_from l.bytes l.left l.at) ≡ bad_entries (own_entries (shape_contents l.shape)) (entries_in l.bytes);
+  rest : bad_entries (own_entries (shape_contents l.shape)) (entries_from l.bytes l.left l.at)
+      ≡ bad_entries (own_entries (shape_contents l.shape)) (entries_in l.bytes);
 }
 
 abbrev pub decreases-loop-left : goal.decreases-loop-left

@@ -10,7 +10,9 @@ use Rattle.ra_progress.proofs.entries.has_own.Given as goal
 abbrev pub invariant-loop-left : goal.invariant-loop-left
 invariant-loop-left l = record {
   walk : IsWalk l.bytes l.left l.at;
-  rest : list_any (λ entry. has_named (own_entries (shape_contents l.shape)) entry.name) (entries_from l.bytes l.left l.at) ≡ list_any (λ entry. has_named (own_entries (shape_contents l.shape)) entry.name) (entries_in l.bytes);
+  rest : list_any (λ entry. has_named (own_entries (shape_contents l.shape)) entry.name)
+      (entries_from l.bytes l.left l.at) ≡ list_any
+      (λ entry. has_named (own_entries (shape_contents l.shape)) entry.name) (entries_in l.bytes);
 }
 
 abbrev pub decreases-loop-left : goal.decreases-loop-left

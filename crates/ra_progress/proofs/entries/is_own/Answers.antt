@@ -9,4 +9,5 @@ returns c =
     sym (any_filter (λ own. bytes_eq own.name c.args.name.now) owns
     ∙ ap (λ xs. nat_lt 0 (length xs)) c.own_range-from.ensures.named
     ∙ many_between
-    (own_at owns) c.args.shape.now.entry_order.items c.own_range-from.result.0 c.own_range-from.result.1 c.own_range-from.ensures.rising c.own_range-from.ensures.most)
+    (own_at owns) c.args.shape.now.entry_order.items c.own_range-from.result.0
+    c.own_range-from.result.1 c.own_range-from.ensures.rising c.own_range-from.ensures.most)

@@ -1,4 +1,5 @@
-use Rattle.std.proofs.Common.{◌≡◌, ◌+◌, ◌-◌, ◌==◌, ◌∙◌, sym, ap, not, true, false, Bool, Some, map, find, take, drop, option_map, slice_index}
+use Rattle.std.proofs.Common.{◌≡◌, ◌+◌, ◌-◌, ◌==◌, ◌∙◌, sym, ap, not, true, false, Bool, Some, map, find, take, drop}
+use Rattle.std.proofs.Common.{option_map, slice_index}
 use Rattle.std.proofs.lemmas.Bool.{eq-eqb, ne_eqb}
 use Rattle.ra_progress.specs.Contents.{Own, shape_contents, own_entries, own_at}
 use Rattle.ra_progress.specs.Layout.{own_length, block_length}

@@ -1,4 +1,5 @@
-use Rattle.std.proofs.Common.{◌≡◌, ◌+◌, ◌-◌, ◌<◌, ◌++◌, ◌∷◌, [], ◌∙◌, Some, length, take, set, sym, ap, map, append_assoc, append-nil, arith}
+use Rattle.std.proofs.Common.{◌≡◌, ◌+◌, ◌-◌, ◌<◌, ◌++◌, ◌∷◌, [], ◌∙◌, Some, length, take, set, sym, ap, map}
+use Rattle.std.proofs.Common.{append_assoc, append-nil, arith}
 use Rattle.std.proofs.lemmas.List.{take_all, take_more_set, length-set}
 use Rattle.ra_progress.specs.Layout.{Entry, entry_after, entries_from}
 use Rattle.ra_progress.proofs.Sizes.{entries_step}
@@ -33,7 +34,8 @@ returns c =
     let places = c.loop-number.places in
     let number = c.loop-number.number in
     let place = λ (entry : Entry). Some (entry.at + 20) in
-    let all : length places ≡ number = omega (arith, c.loop-number-test.false, c.loop-number.auto.places, c.loop-number.auto.number-end) in
+    let all : length places ≡ number = omega
+    (arith, c.loop-number-test.false, c.loop-number.auto.places, c.loop-number.auto.number-end) in
     let none : length places - number ≡ 0 = omega (arith, all) in
     let over : take number places ≡ places = take_all number places (omega (arith, all)) in
     sym over ∙ sym (append-nil (take number places))

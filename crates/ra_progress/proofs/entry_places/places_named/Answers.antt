@@ -1,4 +1,5 @@
-use Rattle.std.proofs.Common.{◌≡◌, ℕ, ◌+◌, ◌-◌, ◌<◌, ◌∙◌, if◌then◌else◌, bytes_eq, sym, ap, ap₂, refl, [], None, Some, length, slice_index, slice_index_or, subst, replicate, arith}
+use Rattle.std.proofs.Common.{◌≡◌, ℕ, ◌+◌, ◌-◌, ◌<◌, ◌∙◌, if◌then◌else◌, bytes_eq, sym, ap, ap₂, refl, [], None, Some}
+use Rattle.std.proofs.Common.{length, slice_index, slice_index_or, subst, replicate, arith}
 use Rattle.std.proofs.lemmas.List.{get_or-replicate, length-replicate}
 use Rattle.ra_progress.specs.Contents.{Name, shape_contents, own_entries, own_at}
 use Rattle.ra_progress.specs.Layout.{name_at, entry_after, entries_from, entries_in}
@@ -14,7 +15,8 @@ use Rattle.ra_progress.proofs.entry_places.places_named.Goals as goal
 pub loop-left-init : goal.loop-left-init
 loop-left-init c =
     let owns = own_entries (shape_contents c.args.shape.now) in
-    let none : c.fill_all.new.values.items ≡ replicate (length owns) None = c.fill_all.ensures ∙ ap (λ n. replicate n None) c.requires.room in
+    let none : c.fill_all.new.values.items ≡ replicate (length owns) None =
+    c.fill_all.ensures ∙ ap (λ n. replicate n None) c.requires.room in
     record {
       walk = rw (c.first_entry-at.ensures, c.entry_count-left.ensures)
           (walk_first c.args.bytes.now c.requires.layout);
@@ -54,7 +56,9 @@ loop-left-preserved c =
           let own = own_at owns n in
           let old = slice_index_or c.loop-left.places.items n None in
           let below : n < length names = omega (arith, less, names_count shape paired) in
-          let put = put_by_name names c.deref.result.now c.name_at.result c.matches-range.result.0 c.matches-range.result.1 c.loop-left.places.items c.put_all.new.values.items (Some (at + 20)) is range c.put_all.ensures.there c.put_all.ensures.kept n None below in
+          let put = put_by_name names c.deref.result.now c.name_at.result c.matches-range.result.0
+          c.matches-range.result.1 c.loop-left.places.items c.put_all.new.values.items
+          (Some (at + 20)) is range c.put_all.ensures.there c.put_all.ensures.kept n None below in
           let named : slice_index_or c.put_all.new.values.items n None ≡
           (if bytes_eq (name_at bytes at) own.name then Some (at + 20) else old) =
           put ∙ ap₂ (λ (x y : Name). if bytes_eq x y then Some (at + 20) else old) c.name_at.ensures

@@ -10,7 +10,10 @@ abbrev pub invariant-loop-left : goal.invariant-loop-left
 invariant-loop-left l = record {
   walk : IsWalk l.bytes l.left l.at;
   many : length l.places.items ≡ length (own_entries (shape_contents l.shape));
-  rest : (n : ℕ) → n < length (own_entries (shape_contents l.shape)) → last_block (own_at (own_entries (shape_contents l.shape)) n).name (entries_from l.bytes l.left l.at) (slice_index_or l.places.items n None) ≡ last_block (own_at (own_entries (shape_contents l.shape)) n).name (entries_in l.bytes) None;
+  rest : (n : ℕ) → n < length (own_entries (shape_contents l.shape))
+      → last_block (own_at (own_entries (shape_contents l.shape)) n).name
+      (entries_from l.bytes l.left l.at) (slice_index_or l.places.items n None)
+      ≡ last_block (own_at (own_entries (shape_contents l.shape)) n).name (entries_in l.bytes) None;
 }
 
 abbrev pub decreases-loop-left : goal.decreases-loop-left

@@ -22,7 +22,8 @@ places_beside-requires-clause-room c =
     let shape = shape_contents c.args.shape.now in
     ap length c.deref_mut-then-own.ensures.value ∙ c.requires.room
     ∙ this_set_count (own_entries shape) c.args.bytes.now
-    (sizes_of_this_set shape c.args.bytes.now (sym (c.requires.own (ne_eqb (version_in c.args.bytes.now) 1 c.if-bytes-eq1.false)) ∙ c.if-own.true))
+    (sizes_of_this_set shape c.args.bytes.now (sym
+    (c.requires.own (ne_eqb (version_in c.args.bytes.now) 1 c.if-bytes-eq1.false)) ∙ c.if-own.true))
 
 pub returns-then-bytes-eq1 : goal.returns-then-bytes-eq1
 returns-then-bytes-eq1 c =

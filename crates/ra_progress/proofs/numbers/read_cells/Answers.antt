@@ -10,7 +10,8 @@ use Rattle.ra_progress.proofs.numbers.read_cells.Goals as goal
 
 pub read_words-requires : goal.read_words-requires
 read_words-requires c =
-    let long = numbers_in_1 (shape_contents c.args.shape.now) c.args.bytes.now c.requires.accepted.whole c.if-bytes-eq1.true in
+    let long = numbers_in_1 (shape_contents c.args.shape.now) c.args.bytes.now
+    c.requires.accepted.whole c.if-bytes-eq1.true in
     omega (arith, ap length c.deref_mut.ensures.value, c.requires.room, long)
 
 pub cell_count-requires : goal.cell_count-requires
@@ -23,7 +24,8 @@ read_numbers-requires c =
     let shape = shape_contents c.args.shape.now in
     let layout = whole_layout shape c.args.bytes.now c.requires.accepted.whole
     (ne_eqb (version_in c.args.bytes.now) 1 c.if-bytes-eq1.false) in
-    let counts = counts_of_this_set shape c.args.bytes.now (sym (c.requires.own (ne_eqb (version_in c.args.bytes.now) 1 c.if-bytes-eq1.false)) ∙ c.if-own.true) in
+    let counts = counts_of_this_set shape c.args.bytes.now (sym (c.requires.own
+    (ne_eqb (version_in c.args.bytes.now) 1 c.if-bytes-eq1.false)) ∙ c.if-own.true) in
     omega (
       arith,
       ap length c.deref_mut-then-own.ensures.value,

@@ -8,8 +8,10 @@ abbrev pub invariant-loop-low : goal.invariant-loop-low
 invariant-loop-low l = record {
   within : l.low ≤ l.high;
   most : l.high ≤ length l.order;
-  below : (k : ℕ) → k < l.low → is_lt (slice_cmp nat_cmp (named_by (l.names ++ option_to_list l.last) (slice_index l.order k)) l.name) ≡ true;
-  above : (k : ℕ) → l.high ≤ k → k < length l.order → is_lt (slice_cmp nat_cmp (named_by (l.names ++ option_to_list l.last) (slice_index l.order k)) l.name) ≡ false;
+  below : (k : ℕ) → k < l.low → is_lt (slice_cmp nat_cmp
+      (named_by (l.names ++ option_to_list l.last) (slice_index l.order k)) l.name) ≡ true;
+  above : (k : ℕ) → l.high ≤ k → k < length l.order → is_lt (slice_cmp nat_cmp
+      (named_by (l.names ++ option_to_list l.last) (slice_index l.order k)) l.name) ≡ false;
 }
 
 abbrev pub decreases-loop-low : goal.decreases-loop-low

@@ -14,13 +14,16 @@ loop-place-preserved g c =
     record {
       long = length-set values n c.args.value ∙ c.loop-place.invariant.long;
       there = λ k d low less. elim (cases_eq (slice_index order k) n) [
-        | inl same ↦ ap (λ i. slice_index_or (slice_set values n c.args.value) i d) same ∙ get_or-set_same values n c.args.value d within
+        | inl same ↦ ap (λ i. slice_index_or (slice_set values n c.args.value) i d) same
+            ∙ get_or-set_same values n c.args.value d within
         | inr apart ↦ elim (cases_lt k place) [
-          | inl before ↦ get_or-set_other values n (slice_index order k) c.args.value d apart ∙ c.loop-place.invariant.there k d low before
+          | inl before ↦ get_or-set_other values n (slice_index order k) c.args.value d apart
+              ∙ c.loop-place.invariant.there k d low before
           | inr behind ↦ absurd (apart (ap (slice_index order) (omega (arith, less, behind))))
         ]
       ];
-      kept = λ i d never. get_or-set_other values n i c.args.value d (λ same. never place (omega arith) (omega arith) (sym same))
+      kept = λ i d never. get_or-set_other values n i c.args.value d
+          (λ same. never place (omega arith) (omega arith) (sym same))
           ∙ c.loop-place.invariant.kept i d (λ k low less. never k low (omega (arith, less)));
     }
 

@@ -1,4 +1,5 @@
-use Rattle.std.proofs.Common.{◌≡◌, ◌+◌, ◌<◌, ◌++◌, ◌∷◌, [], ◌∙◌, sym, ap, None, drop, length, map, get_or, slice_index_or, append_assoc, arith}
+use Rattle.std.proofs.Common.{◌≡◌, ◌+◌, ◌<◌, ◌++◌, ◌∷◌, [], ◌∙◌, sym, ap, None, drop, length, map, get_or}
+use Rattle.std.proofs.Common.{slice_index_or, append_assoc, arith}
 use Rattle.std.proofs.lemmas.List.{get_or_read, map-append}
 use Rattle.ra_progress.specs.declared.shape.ItemShape.TheVariants.{Achievement}
 use Rattle.ra_progress.specs.Contents.{shape_contents, own_entries, own_at, kept_item, plain_item}

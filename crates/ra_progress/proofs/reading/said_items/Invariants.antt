@@ -6,4 +6,5 @@ use Rattle.ra_progress.proofs.reading.said_items.Given as goal
 -- what is left to say
 abbrev pub invariant-loop-k : goal.invariant-loop-k
 invariant-loop-k l =
-    map kept_item l.items.items ++ said_items l.bytes (drop l.k l.shape.items.items) (drop l.k l.places) ≡ said_items l.bytes l.shape.items.items l.places
+    map kept_item l.items.items ++ said_items l.bytes (drop l.k l.shape.items.items)
+    (drop l.k l.places) ≡ said_items l.bytes l.shape.items.items l.places

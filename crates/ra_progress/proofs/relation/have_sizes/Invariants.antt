@@ -9,5 +9,7 @@ use Rattle.ra_progress.proofs.relation.have_sizes.Given as goal
 abbrev pub invariant-loop-number : goal.invariant-loop-number
 invariant-loop-number l = record {
   walk : IsWalk l.bytes (length (own_entries (shape_contents l.shape)) - l.number) l.at;
-  rest : have_sizes (drop l.number (own_entries (shape_contents l.shape))) (entries_from l.bytes (length (own_entries (shape_contents l.shape)) - l.number) l.at) ≡ have_sizes (own_entries (shape_contents l.shape)) (entries_in l.bytes);
+  rest : have_sizes (drop l.number (own_entries (shape_contents l.shape)))
+      (entries_from l.bytes (length (own_entries (shape_contents l.shape)) - l.number) l.at)
+      ≡ have_sizes (own_entries (shape_contents l.shape)) (entries_in l.bytes);
 }

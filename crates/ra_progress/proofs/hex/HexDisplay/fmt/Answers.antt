@@ -14,6 +14,7 @@ loop-byte-preserved g c = λ plain.
     let so_far = c.loop-byte.invariant plain in
     let styled : styled_digits_output c.in_radix.result c.laid_out.result ≡ Some (hex_byte byte) =
     rw c.laid_out.ensures (two_styled (digits_output c.in_radix.result) byte small c.in_radix.ensures) in
-    let wrote = subst (λ o. DisplaysOnOk g.W.Write.write_str_gives c.loop-byte.f c.write.result o c.write.new.self) styled c.write.ensures.writes in
+    let wrote = subst (λ o. DisplaysOnOk g.W.Write.write_str_gives c.loop-byte.f c.write.result o
+    c.write.new.self) styled c.write.ensures.writes in
     let text : hex (take at bytes) ++ hex_byte byte ≡ hex (take (at + 1) bytes) = hex_more bytes at (search rules) in
     has_written_of_eq _ _ _ _ _ text (has_written_append _ _ _ _ _ _ so_far (wrote so_far.plain (search rules)))

@@ -6,4 +6,5 @@ use Rattle.ra_progress.proofs.hex.HexDisplay.fmt.Given as goal
 -- what was written so far are the digits of the bytes so far
 abbrev pub invariant-loop-byte : goal.invariant-loop-byte
 invariant-loop-byte g l =
-    IsPlainFormatter l.initial.f → HasWritten g.W.Write.write_str_gives l.initial.f (hex (take l.byte-index l.byte-items)) l.f
+    IsPlainFormatter l.initial.f
+    → HasWritten g.W.Write.write_str_gives l.initial.f (hex (take l.byte-index l.byte-items)) l.f
