@@ -1,5 +1,6 @@
 -- What a snapshot and a shape contain. The contents of a snapshot are an opening: what stands before the first frame.
-use Rattle.std.specs.Prelude.{◌≡◌, ℕ, ◌-◌, ◌<◌, ◌≤◌, ◌^◌, Bool, true, false, Option, None, Some, option_map, List, [], ◌∷◌, ◌++◌, length, map, replicate, slice_index_or}
+use Rattle.std.specs.Prelude.{◌≡◌, ℕ, ◌-◌, ◌<◌, ◌≤◌, ◌^◌, Bool, true, false, Option, None, Some, option_map, List, []}
+use Rattle.std.specs.Prelude.{◌∷◌, ◌++◌, length, map, replicate, slice_index_or}
 use Rattle.ra_progress.specs.declared.own.OwnShape.{OwnShape}
 use Rattle.ra_progress.specs.declared.own.OwnShape.TheVariants as owned
 use Rattle.ra_progress.specs.declared.shape.ItemShape.{ItemShape}
@@ -16,7 +17,8 @@ use Rattle.ra_text.specs.Words.{AreWords}
 abbrev pub Name : Type 0
 Name = List ℕ
 
--- the shape of a set: its digest, the names of its cells, tracked masks, items and script, and how many numbers these keep
+-- the shape of a set: its digest, the names of its cells, tracked masks, items and script, and how many numbers these
+-- keep
 pub record ShapeContents : Type 0 where
   pub digest : List ℕ
   pub cells : List Name
@@ -71,7 +73,8 @@ own_entries shape = own_items shape.item_names shape.items ++ own_presence shape
 abbrev pub own_at : List Own → ℕ → Own
 own_at owns number = slice_index_or owns number (record { name = []; shape = OfItem (shapes.Achievement 0) })
 
--- what is kept of an item: a state byte, an achievement's measured number or a board's kept numbers, and hits; and whether an achievement is earned
+-- what is kept of an item: a state byte, an achievement's measured number or a board's kept numbers, and hits; and
+-- whether an achievement is earned
 pub data KeptItem : Type 0 where
   OfAchievement : (state measured : ℕ) → (hits : List ℕ) → (earned : Bool) → KeptItem
   OfBoard : (state : ℕ) → (hits numbers : List ℕ) → KeptItem
@@ -109,11 +112,13 @@ snapshot_contents s = record {
   presence = option_map kept_presence s.presence;
 }
 
--- what is kept has the counts of the shape, its state is in its table, and each number is of 32 bits; a triggered achievement is earned
+-- what is kept has the counts of the shape, its state is in its table, and each number is of 32 bits; a triggered
+-- achievement is earned
 abbrev pub ItemFits : ItemShape → KeptItem → Type 0
 ItemFits (shapes.Achievement count) (OfAchievement state measured hits earned) =
     (state ≤ 4) × (state ≡ 4 → earned ≡ true) × (measured < 2 ^ 32) × AreWords count hits
-ItemFits (shapes.Leaderboard count parts) (OfBoard state hits numbers) = (state ≤ 4) × AreWords count hits × AreWords parts numbers
+ItemFits (shapes.Leaderboard count parts) (OfBoard state hits numbers) =
+    (state ≤ 4) × AreWords count hits × AreWords parts numbers
 ItemFits _ _ = ⊥
 
 -- items one beside the other have the shapes of a set
@@ -125,7 +130,8 @@ ItemsFit _ _ = ⊥
 -- a presence has the shape of a script, and neither is there without the other
 abbrev pub PresenceFits : Option PresenceShape → Option KeptPresence → Type 0
 PresenceFits None None = Unit {0}
-PresenceFits (Some shape) (Some p) = (p.shown < shape.lines) × AreWords shape.hits p.hits × AreWords shape.parts p.numbers
+PresenceFits (Some shape) (Some p) =
+    (p.shown < shape.lines) × AreWords shape.hits p.hits × AreWords shape.parts p.numbers
 PresenceFits _ _ = ⊥
 
 -- the opening is one of this shape
@@ -143,7 +149,8 @@ plain_item (shapes.Leaderboard hits parts) = OfBoard 0 (replicate hits 0) (repli
 
 -- the presence of a set that was never played: the last line, and all numbers 0
 abbrev pub plain_presence : PresenceShape → KeptPresence
-plain_presence shape = record { shown = shape.lines - 1; hits = replicate shape.hits 0; numbers = replicate shape.parts 0 }
+plain_presence shape = record
+    { shown = shape.lines - 1; hits = replicate shape.hits 0; numbers = replicate shape.parts 0 }
 
 -- the opening of a shape that was never played
 abbrev pub plain_of : ShapeContents → Opening

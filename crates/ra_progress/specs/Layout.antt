@@ -1,5 +1,6 @@
 -- Where the fields of a progress file stand, and how long it has to be.
-use Rattle.std.specs.Prelude.{ℕ, zero, suc, ◌+◌, ◌-◌, ◌*◌, ◌==◌, if◌then◌else◌, nat_lt, Option, None, Some, List, [], ◌∷◌, length, map, take, drop, slice_index, sum_by}
+use Rattle.std.specs.Prelude.{ℕ, zero, suc, ◌+◌, ◌-◌, ◌*◌, ◌==◌, if◌then◌else◌, nat_lt, Option, None, Some, List, []}
+use Rattle.std.specs.Prelude.{◌∷◌, length, map, take, drop, slice_index, sum_by}
 use Rattle.std.specs.List.{range_with_len}
 use Rattle.std.specs.Int.{w64, from_le_bytes}
 use Rattle.ra_progress.specs.declared.shape.ItemShape.{ItemShape}
@@ -91,7 +92,8 @@ up_to bytes need further = if nat_lt (length bytes) need then need else further
 abbrev pub need_from : List ℕ → (count at need : ℕ) → ℕ
 need_from bytes zero at need = need
 need_from bytes (suc more) at need =
-    up_to bytes (need + word_at bytes (at + 16)) (need_from bytes more (entry_after bytes at) (need + word_at bytes (at + 16)))
+    up_to bytes (need + word_at bytes (at + 16))
+    (need_from bytes more (entry_after bytes at) (need + word_at bytes (at + 16)))
 
 -- the need at the first point at which it exceeds the length, and the need at the end where it does not
 abbrev pub need_of : List ℕ → ℕ
@@ -111,7 +113,9 @@ pub record Numbered : Type 0 where
 -- this many names with their numbers, from a place on
 abbrev pub numbered_at : List ℕ → (at count : ℕ) → List Numbered
 numbered_at bytes at count =
-    map (λ k. record { name = name_at bytes (at + 20 * k); number = word_at bytes (at + 20 * k + 16) }) (range_with_len 0 count)
+    map (λ k. record
+    { name = name_at bytes (at + 20 * k); number = word_at bytes (at + 20 * k + 16) })
+    (range_with_len 0 count)
 
 -- the cells of a file with their names
 abbrev pub cells_in : List ℕ → List Numbered
@@ -143,10 +147,12 @@ entries_in bytes = entries_from bytes (entry_count bytes) (first_entry bytes)
 -- the length of the set's own bytes in versions 2 and 3
 abbrev pub length_of : ShapeContents → ℕ
 length_of shape =
-    57 + 20 * (length shape.cells + length shape.priors + length (own_entries shape)) + sum_by own_length (own_entries shape)
+    57 + 20 * (length shape.cells + length shape.priors + length (own_entries shape))
+    + sum_by own_length (own_entries shape)
 
 -- where the block of an own entry stands in the set's own bytes of a version
 abbrev pub block_at : ShapeContents → (version number : ℕ) → ℕ
 block_at shape version number =
     if version == 1 then blocks_at_1 shape + sum_by own_length (take number (own_entries shape))
-    else 61 + 20 * (length shape.cells + length shape.priors + number) + sum_by own_length (take number (own_entries shape))
+    else 61 + 20 * (length shape.cells + length shape.priors + number)
+    + sum_by own_length (take number (own_entries shape))

@@ -1,14 +1,18 @@
 -- Which bytes are a progress file that a shape accepts, and why others are none.
-use Rattle.std.specs.Prelude.{◌≡◌, ◌⊎◌, ℕ, ◌+◌, ◌≤◌, ◌==◌, ◌&&◌, ◌||◌, not, Bool, true, false, if◌then◌else◌, nat_lt, nat_le, Option, None, Some, option_map, List, [], ◌∷◌, length, map, filter, take, find, bytes_eq, slice_index}
+use Rattle.std.specs.Prelude.{◌≡◌, ◌⊎◌, ℕ, ◌+◌, ◌≤◌, ◌==◌, ◌&&◌, ◌||◌, not, Bool, true, false, if◌then◌else◌, nat_lt}
+use Rattle.std.specs.Prelude.{nat_le, Option, None, Some, option_map, List, [], ◌∷◌, length, map, filter, take, find}
+use Rattle.std.specs.Prelude.{bytes_eq, slice_index}
 use Rattle.std.specs.List.{flat_map, list_any, AllByRecursion}
 use Rattle.md5.specs.Md5.{md5}
 use Rattle.ra_progress.specs.declared.shape.ItemShape.{ItemShape}
 use Rattle.ra_progress.specs.declared.shape.ItemShape.TheVariants as shapes
 use Rattle.ra_progress.specs.declared.refused.ProgressRefused.{ProgressRefused}
-use Rattle.ra_progress.specs.declared.refused.ProgressRefused.TheVariants.{WrongLength, WrongMark, WrongVersion, WrongSum, OtherSet, BadEntry, BadState}
+use Rattle.ra_progress.specs.declared.refused.ProgressRefused.TheVariants.{WrongLength, WrongMark, WrongVersion}
+use Rattle.ra_progress.specs.declared.refused.ProgressRefused.TheVariants.{WrongSum, OtherSet, BadEntry, BadState}
 use Rattle.ra_progress.specs.Contents.{Name, ShapeContents, EntryShape, OfItem, OfPresence, Own, own_entries}
 use Rattle.ra_text.specs.Words.{word_at}
-use Rattle.ra_progress.specs.Layout.{Entry, version_in, digest_in, sum_in, summed_in, own_length, blocks_at_1, length_1_of, cell_count, prior_count, need_of, entries_in}
+use Rattle.ra_progress.specs.Layout.{Entry, version_in, digest_in, sum_in, summed_in, own_length, blocks_at_1}
+use Rattle.ra_progress.specs.Layout.{length_1_of, cell_count, prior_count, need_of, entries_in}
 use Rattle.ra_progress.specs.Spelling.{mark}
 
 -- the most and the fewest bytes of a file
@@ -89,7 +93,8 @@ blocks_from at (own ∷ owns) = record { at = at; shape = own.shape } ∷ blocks
 
 -- the blocks of entries that stand beside the own ones
 abbrev pub blocks_beside : List Own → List Entry → List Block
-blocks_beside (own ∷ owns) (entry ∷ entries) = record { at = entry.at + 20; shape = own.shape } ∷ blocks_beside owns entries
+blocks_beside (own ∷ owns) (entry ∷ entries) =
+    record { at = entry.at + 20; shape = own.shape } ∷ blocks_beside owns entries
 blocks_beside _ _ = []
 
 -- the blocks that an entry is read as: one for every own entry of its name
@@ -107,7 +112,8 @@ blocks_in shape bytes =
     else if of_this_set shape bytes then blocks_beside (own_entries shape) (entries_in bytes)
     else blocks_named (own_entries shape) (entries_in bytes)
 
--- a state byte of an item is in its table: in version 3 that of an achievement is 8 more where it is earned, and never 4
+-- a state byte of an item is in its table: in version 3 that of an achievement is 8 more where it is earned, and never
+-- 4
 abbrev pub is_state : (version : ℕ) → ItemShape → ℕ → Bool
 is_state version (shapes.Achievement hits) byte =
     if version == 3 then nat_lt byte 4 || (nat_le 8 byte && nat_lt byte 13) else nat_lt byte 5
@@ -116,8 +122,10 @@ is_state version (shapes.Leaderboard hits parts) byte = nat_lt byte 5
 -- the refusal of a block whose state byte or shown index is not in its table
 abbrev pub bad_state : List ℕ → Block → Option ProgressRefused
 bad_state bytes block = elim block.shape [
-  | OfItem shape ↦ if is_state (version_in bytes) shape (slice_index bytes block.at) then None else Some (BadState block.at (slice_index bytes block.at))
-  | OfPresence p ↦ if nat_lt (word_at bytes block.at) p.lines then None else Some (BadState block.at (word_at bytes block.at))
+  | OfItem shape ↦ if is_state (version_in bytes) shape (slice_index bytes block.at) then None
+      else Some (BadState block.at (slice_index bytes block.at))
+  | OfPresence p ↦ if nat_lt (word_at bytes block.at) p.lines then None
+      else Some (BadState block.at (word_at bytes block.at))
 ]
 
 -- the first of them
@@ -143,8 +151,10 @@ refusal shape bytes =
     else if nat_lt (length bytes) fewest_bytes then Some (WrongLength fewest_bytes (length bytes))
     else if not (bytes_eq (take 4 bytes) mark) then Some (WrongMark (take 4 bytes))
     else if not (is_version (version_in bytes)) then Some (WrongVersion (version_in bytes))
-    else if not (length bytes == wanted_length shape bytes) then Some (WrongLength (wanted_length shape bytes) (length bytes))
-    else if not (bytes_eq (sum_in bytes) (md5 (summed_in bytes))) then Some (WrongSum (sum_in bytes) (md5 (summed_in bytes)))
+    else if not (length bytes == wanted_length shape bytes)
+    then Some (WrongLength (wanted_length shape bytes) (length bytes))
+    else if not (bytes_eq (sum_in bytes) (md5 (summed_in bytes)))
+    then Some (WrongSum (sum_in bytes) (md5 (summed_in bytes)))
     else misfit shape bytes
 
 -- the bytes have a layout with names: version 2 or 3, with the length that their counts and lengths ask for
@@ -168,5 +178,6 @@ pub record IsAccepted (shape : ShapeContents) (bytes : List ℕ) : Type 0 where
   pub whole : IsWhole shape bytes
   pub sum : sum_in bytes ≡ md5 (summed_in bytes)
   pub related : is_related shape bytes ≡ true
-  pub entries : by_places shape bytes ≡ false → AllByRecursion (λ entry. bad_entry (own_entries shape) entry ≡ None) (entries_in bytes)
+  pub entries : by_places shape bytes ≡ false
+      → AllByRecursion (λ entry. bad_entry (own_entries shape) entry ≡ None) (entries_in bytes)
   pub states : AllByRecursion (λ block. bad_state bytes block ≡ None) (blocks_in shape bytes)

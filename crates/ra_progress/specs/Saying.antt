@@ -1,14 +1,18 @@
 -- What accepted bytes say.
-use Rattle.std.specs.Prelude.{ℕ, ◌+◌, ◌-◌, ◌*◌, ◌==◌, Bool, if◌then◌else◌, nat_le, Option, None, Some, option_map, List, [], ◌∷◌, length, map, bytes_eq, slice_index, slice_index_or}
+use Rattle.std.specs.Prelude.{ℕ, ◌+◌, ◌-◌, ◌*◌, ◌==◌, Bool, if◌then◌else◌, nat_le, Option, None, Some, option_map, List}
+use Rattle.std.specs.Prelude.{[], ◌∷◌, length, map, bytes_eq, slice_index, slice_index_or}
 use Rattle.ra_progress.specs.declared.shape.ItemShape.{ItemShape}
 use Rattle.ra_progress.specs.declared.shape.ItemShape.TheVariants as shapes
 use Rattle.ra_progress.specs.declared.shape.PresenceShape.{PresenceShape}
-use Rattle.ra_progress.specs.Contents.{Name, ShapeContents, own_entries, KeptItem, OfAchievement, OfBoard, KeptPresence, Opening, plain_item, plain_presence}
+use Rattle.ra_progress.specs.Contents.{Name, ShapeContents, own_entries, KeptItem, OfAchievement, OfBoard, KeptPresence}
+use Rattle.ra_progress.specs.Contents.{Opening, plain_item, plain_presence}
 use Rattle.ra_text.specs.Words.{word_at, words_at}
-use Rattle.ra_progress.specs.Layout.{Numbered, Entry, version_in, frames_at, cells_in, priors_in, entries_in, blocks_at_1}
+use Rattle.ra_progress.specs.Layout.{Numbered, Entry, version_in, frames_at, cells_in, priors_in, entries_in}
+use Rattle.ra_progress.specs.Layout.{blocks_at_1}
 use Rattle.ra_progress.specs.Reading.{of_this_set, blocks_from}
 
--- whether an achievement's state byte says that it is earned: in version 3 by itself, and in an older one where it is triggered
+-- whether an achievement's state byte says that it is earned: in version 3 by itself, and in an older one where it is
+-- triggered
 abbrev pub is_earned : (version byte : ℕ) → Bool
 is_earned version byte = if version == 3 then nat_le 8 byte else byte == 4
 
@@ -19,7 +23,8 @@ state_said version byte = if is_earned version byte then (if version == 3 then b
 -- the item that the block at a place says
 abbrev pub said_item : List ℕ → ItemShape → (at : ℕ) → KeptItem
 said_item bytes (shapes.Achievement hits) at =
-    OfAchievement (state_said (version_in bytes) (slice_index bytes at)) (word_at bytes (at + 1)) (words_at bytes (at + 5) hits) (is_earned (version_in bytes) (slice_index bytes at))
+    OfAchievement (state_said (version_in bytes) (slice_index bytes at)) (word_at bytes (at + 1))
+    (words_at bytes (at + 5) hits) (is_earned (version_in bytes) (slice_index bytes at))
 said_item bytes (shapes.Leaderboard hits parts) at =
     OfBoard (slice_index bytes at) (words_at bytes (at + 1) hits) (words_at bytes (at + 1 + 4 * hits) parts)
 
@@ -78,5 +83,6 @@ says shape bytes = record {
   cells = said_numbers shape bytes 29 shape.cells (cells_in bytes);
   priors = said_numbers shape bytes (29 + 4 * length shape.cells) shape.priors (priors_in bytes);
   items = said_items bytes shape.items (own_places shape bytes);
-  presence = option_map (λ p. said_or (said_presence bytes p) (plain_presence p) (script_place shape bytes)) shape.presence;
+  presence = option_map (λ p. said_or (said_presence bytes p) (plain_presence p)
+      (script_place shape bytes)) shape.presence;
 }

@@ -43,7 +43,8 @@ named_blocks _ _ = []
 abbrev pub mark : List ℕ
 mark = codes "RAPG"
 
--- mark, version, the set's digest, the frame count; the count of cells, and each with its name; the priors the same; the count of entries, and each with its name and length
+-- mark, version, the set's digest, the frame count; the count of cells, and each with its name; the priors the same;
+-- the count of entries, and each with its name and length
 abbrev pub body_bytes : ShapeContents → Opening → List ℕ
 body_bytes shape o =
     mark ++ 3 ∷ (shape.digest ++ (to_le_bytes w64 o.frames

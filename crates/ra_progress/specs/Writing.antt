@@ -7,7 +7,8 @@ use Rattle.ra_progress.specs.Layout.{item_length}
 use Rattle.ra_progress.specs.Names.{entry_names}
 use Rattle.ra_progress.specs.Spelling.{mark, named_words}
 
--- what stands before the first entry: mark, version, the set's digest, the frame count, the counts of cells, priors and entries, and each cell and prior with its name
+-- what stands before the first entry: mark, version, the set's digest, the frame count, the counts of cells, priors
+-- and entries, and each cell and prior with its name
 abbrev pub front_bytes : ShapeContents → (frames : ℕ) → (cells priors : List ℕ) → List ℕ
 front_bytes shape frames cells priors =
     mark ++ 3 ∷ (shape.digest ++ (to_le_bytes w64 frames

@@ -8,5 +8,7 @@ use Rattle.ra_progress.proofs.states.bad_state_1.Given as goal
 abbrev pub invariant-loop-number : goal.invariant-loop-number
 invariant-loop-number l = record {
   place : l.at + sum_by own_length (drop l.number (own_entries (shape_contents l.shape))) + 16 ≡ length l.bytes;
-  rest : bad_states l.bytes (blocks_from l.at (drop l.number (own_entries (shape_contents l.shape)))) ≡ bad_states l.bytes (blocks_from (blocks_at_1 (shape_contents l.shape)) (own_entries (shape_contents l.shape)));
+  rest : bad_states l.bytes (blocks_from l.at (drop l.number
+      (own_entries (shape_contents l.shape)))) ≡ bad_states l.bytes
+      (blocks_from (blocks_at_1 (shape_contents l.shape)) (own_entries (shape_contents l.shape)));
 }

@@ -4,7 +4,8 @@ use Rattle.ra_progress.specs.Layout.{block_length, own_length}
 use Rattle.ra_progress.specs.Reading.{bad_state, bad_states, blocks_beside, have_sizes}
 use Rattle.ra_progress.proofs.Walks.{walk_next}
 use Rattle.ra_progress.proofs.OwnOrder.{read_as}
-use Rattle.ra_progress.proofs.Passes.{this_set_entries, this_set_walk, sized_next, beside_next, beside_end, first_is, later_is}
+use Rattle.ra_progress.proofs.Passes.{this_set_entries, this_set_walk, sized_next, beside_next, beside_end, first_is}
+use Rattle.ra_progress.proofs.Passes.{later_is}
 use Rattle.ra_progress.proofs.states.bad_state_beside.Goals as goal
 
 pub loop-number-init : goal.loop-number-init
@@ -13,7 +14,8 @@ loop-number-init c =
     let bytes = c.args.bytes.now in
     let entries = this_set_entries owns bytes c.first_entry-at.result c.first_entry-at.ensures c.requires.sized in
     record {
-      walk = this_set_walk owns bytes c.first_entry-at.result c.first_entry-at.ensures c.requires.layout c.requires.sized;
+      walk = this_set_walk owns bytes c.first_entry-at.result c.first_entry-at.ensures
+          c.requires.layout c.requires.sized;
       sized = ap (have_sizes owns) entries ∙ c.requires.sized;
       rest = ap (λ entries. bad_states bytes (blocks_beside owns entries)) entries;
     }
@@ -23,7 +25,8 @@ bad_state-requires-clause-within c =
     let owns = own_entries (shape_contents c.args.shape.now) in
     let below : c.loop-number.number < length owns = omega
     (arith, c.loop-number-test.true, c.own_count-number-end.ensures) in
-    let fits = sized_next c.args.bytes.now owns c.loop-number.number c.loop-number.at below c.loop-number.invariant.sized in
+    let fits = sized_next c.args.bytes.now owns c.loop-number.number c.loop-number.at below
+    c.loop-number.invariant.sized in
     let next = walk_next c.args.bytes.now (length owns - c.loop-number.number) c.loop-number.at
     (omega (arith, below)) c.loop-number.invariant.walk in
     let long : block_length (entry_shape c.own_shape.result) ≡ own_length

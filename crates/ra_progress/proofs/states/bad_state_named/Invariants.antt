@@ -10,7 +10,9 @@ abbrev pub invariant-loop-left : goal.invariant-loop-left
 invariant-loop-left l = record {
   walk : IsWalk l.bytes l.left l.at;
   sized : bad_entries (own_entries (shape_contents l.shape)) (entries_from l.bytes l.left l.at) ≡ None;
-  rest : bad_states l.bytes (blocks_named (own_entries (shape_contents l.shape)) (entries_from l.bytes l.left l.at)) ≡ bad_states l.bytes (blocks_named (own_entries (shape_contents l.shape)) (entries_in l.bytes));
+  rest : bad_states l.bytes (blocks_named (own_entries (shape_contents l.shape))
+      (entries_from l.bytes l.left l.at)) ≡ bad_states l.bytes
+      (blocks_named (own_entries (shape_contents l.shape)) (entries_in l.bytes));
 }
 
 abbrev pub decreases-loop-left : goal.decreases-loop-left

@@ -24,7 +24,8 @@ bad_state-requires-clause-within c =
     let order = c.args.shape.now.entry_order.items in
     let fits = sized_between owns order
     (word_at c.args.bytes.now
-    (c.args.at + 16)) c.loop-place.place c.own_range-from.result.1 c.loop-place-test.true c.own_range-from.ensures.most c.loop-place.invariant.sized in
+    (c.args.at + 16)) c.loop-place.place c.own_range-from.result.1 c.loop-place-test.true
+    c.own_range-from.ensures.most c.loop-place.invariant.sized in
     let long : block_length (entry_shape c.own_in_order.result) ≡ own_length
     (own_at owns (slice_index order c.loop-place.place)) = ap block_length c.own_in_order.ensures in
     omega (arith, long, fits.0, c.requires.within)
@@ -35,7 +36,8 @@ returns-in-Some c =
     let order = c.args.shape.now.entry_order.items in
     let bytes = c.args.bytes.now in
     let next = between_next bytes owns order
-    (c.args.at + 20) c.loop-place.place c.own_range-from.result.1 c.loop-place-test.true c.own_range-from.ensures.most in
+    (c.args.at + 20) c.loop-place.place c.own_range-from.result.1 c.loop-place-test.true
+    c.own_range-from.ensures.most in
     let here = ap (λ (shape : EntryShape). bad_state bytes (record { at = c.args.at + 20; shape = shape }))
     (sym c.own_in_order.ensures) ∙ sym c.bad_state.ensures ∙ c.in-Some.is in
     sym (sym c.loop-place.invariant.rest ∙ next ∙ first_is
@@ -49,9 +51,11 @@ loop-place-preserved c =
     let bytes = c.args.bytes.now in
     let fits = sized_between owns order
     (word_at bytes
-    (c.args.at + 16)) c.loop-place.place c.own_range-from.result.1 c.loop-place-test.true c.own_range-from.ensures.most c.loop-place.invariant.sized in
+    (c.args.at + 16)) c.loop-place.place c.own_range-from.result.1 c.loop-place-test.true
+    c.own_range-from.ensures.most c.loop-place.invariant.sized in
     let next = between_next bytes owns order
-    (c.args.at + 20) c.loop-place.place c.own_range-from.result.1 c.loop-place-test.true c.own_range-from.ensures.most in
+    (c.args.at + 20) c.loop-place.place c.own_range-from.result.1 c.loop-place-test.true
+    c.own_range-from.ensures.most in
     let here = ap (λ (shape : EntryShape). bad_state bytes (record { at = c.args.at + 20; shape = shape }))
     (sym c.own_in_order.ensures) ∙ sym c.bad_state.ensures ∙ c.in_default.is in
     record {
