@@ -9,10 +9,13 @@ use Rattle.ra_runtime.specs.Laid.{IsOver}
 module _ (set : SetContents) (table : TableSeen) (image : List ℕ) (over : IsOver set table) where
   -- the same by the cells of the set
   abbrev pub HasNumbers : Type 0
-  HasNumbers = (k : ℕ) → k < length table.cells → get_or table.marked k true ≡ false → get_or table.cells k 0 ≡ raw (get_or (set_cells set) k no_cell).width image (get_or table.places k 0)
+  HasNumbers = (k : ℕ) → k < length table.cells → get_or table.marked k true ≡ false → get_or
+      table.cells k 0 ≡ raw (get_or (set_cells set) k no_cell).width image (get_or table.places k 0)
 
   pub agrees_current : HasNumbers → Agrees table image
-  agrees_current has k below unmarked = has k below unmarked ∙ ap (λ cs. raw (get_or cs k no_cell).width image (get_or table.places k 0)) (sym over.cells)
+  agrees_current has k below unmarked = has k below unmarked
+      ∙ ap (λ cs. raw (get_or cs k no_cell).width image (get_or table.places k 0)) (sym over.cells)
 
   pub current_agrees : Agrees table image → HasNumbers
-  current_agrees agrees k below unmarked = agrees k below unmarked ∙ ap (λ cs. raw (get_or cs k no_cell).width image (get_or table.places k 0)) over.cells
+  current_agrees agrees k below unmarked = agrees k below unmarked
+      ∙ ap (λ cs. raw (get_or cs k no_cell).width image (get_or table.places k 0)) over.cells

@@ -1,5 +1,6 @@
 -- The shape of a set is that of what is laid out for it, and within the types of its numbers.
-use Rattle.std.proofs.Common.{◌≡◌, ℕ, ◌+◌, ◌<◌, ◌≤◌, ◌^◌, Option, None, Some, option_map, List, length, map, All, refl, sym, subst, arith}
+use Rattle.std.proofs.Common.{◌≡◌, ℕ, ◌+◌, ◌<◌, ◌≤◌, ◌^◌, Option, None, Some, option_map, List, length, map, All, refl}
+use Rattle.std.proofs.Common.{sym, subst, arith}
 use Rattle.ra_indirect.specs.declared.node.Node.{Node}
 use Rattle.ra_memref.specs.Table.{TableSeen}
 use Rattle.ra_richpresence.specs.Contents.{ScriptContents}
@@ -22,24 +23,29 @@ use Rattle.ra_meaning.proofs.Counts.Items.{lines_within}
 use Rattle.ra_items.proofs.ShapeLemmas.{runs_shaped, items_small}
 
 -- what a display keeps has the counts of its script
-pub presence_shaped : (nodes : List Node) (script : Option ScriptContents) (run : Option PresenceRun) → IsOptionalPresence nodes script run → optional_run_shape run ≡ option_map presence_shape script
+pub presence_shaped : (nodes : List Node) (script : Option ScriptContents)
+    (run : Option PresenceRun) → IsOptionalPresence nodes script run → optional_run_shape run
+    ≡ option_map presence_shape script
 presence_shaped nodes None None is = refl
 presence_shaped nodes None (Some run) is = absurd is
 presence_shaped nodes (Some script) None is = absurd is
 presence_shaped nodes (Some script) (Some run) is =
-    let longs = members_long (script_members script) (map kept_by run.lines.items) (lines_fit_runs nodes script.lines run.lines.items is.lines) in
+    let longs = members_long (script_members script) (map kept_by run.lines.items)
+    (lines_fit_runs nodes script.lines run.lines.items is.lines) in
     let many = beside_length (IsLineRun nodes) script.lines run.lines.items is.lines in
     (λ i. Some (record { lines = many i; hits = longs.0 i; parts = longs.1 i }))
 
 -- the shape of a display within the limits of a set is small
-pub presence_small : (script : Option ScriptContents) → OptionalScript script → script_conditions script ≤ 65536 → IsSmallPresence (option_map presence_shape script)
+pub presence_small : (script : Option ScriptContents) → OptionalScript script
+    → script_conditions script ≤ 65536 → IsSmallPresence (option_map presence_shape script)
 presence_small None is few = tt
 presence_small (Some script) is few =
     let within = lines_within script.lines (shown_lines script.lines is.0.lines) in
     (is.1, omega (arith, few, within.0), omega (arith, few, within.1))
 
 -- what a table that is laid out keeps fits into the shape
-module _ (set : SetContents) (size : ℕ) (table : TableSeen) (runs : List ItemRun) (presence : Option PresenceRun) (is : IsLaidOut set size table runs presence) where
+module _ (set : SetContents) (size : ℕ) (table : TableSeen) (runs : List ItemRun)
+    (presence : Option PresenceRun) (is : IsLaidOut set size table runs presence) where
   pub laid_few : length table.cells + length table.priors < 2 ^ 32
   laid_few = omega (arith, is.over.cells_many, is.over.priors_many, is.few_cells, is.few_tracked)
 
@@ -55,4 +61,5 @@ module _ (set : SetContents) (size : ℕ) (table : TableSeen) (runs : List ItemR
 
   pub laid_small_presence : IsWithinLimits set → IsSpelled set → IsSmallPresence (optional_run_shape presence)
   laid_small_presence limits spelled =
-      subst IsSmallPresence (sym laid_presence) (presence_small set.script spelled.script (omega (arith, limits.conditions)))
+      subst IsSmallPresence (sym laid_presence)
+      (presence_small set.script spelled.script (omega (arith, limits.conditions)))

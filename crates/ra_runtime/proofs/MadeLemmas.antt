@@ -1,5 +1,6 @@
 -- A table that is laid out for a set is over it.
-use Rattle.std.proofs.Common.{◌≡◌, ℕ, ◌+◌, ◌*◌, ◌≤◌, Option, List, [], length, map, filter, sum_by, sym, ◌∙◌, ap, subst, arith}
+use Rattle.std.proofs.Common.{◌≡◌, ℕ, ◌+◌, ◌*◌, ◌≤◌, Option, List, [], length, map, filter, sum_by, sym, ◌∙◌, ap, subst}
+use Rattle.std.proofs.Common.{arith}
 use Rattle.std.specs.List.{flat_map}
 use Rattle.std.proofs.lemmas.List.{length-replicate}
 use Rattle.ra_indirect.specs.declared.node.Node.{Node}
@@ -37,7 +38,8 @@ module _ (set : SetContents) where
       grows.tracked ∙ grown-firsts same_tracked tracked_is tracked_itself [] (flat_map tracked_in (trees_in_set set))
 
   -- a table over such a pool is over the set
-  pub over_fresh : (nodes : List Node) (size : ℕ) (table : TableSeen) → GrowsBy [] nodes (trees_in_set set) → IsFresh nodes size table → IsOver set table
+  pub over_fresh : (nodes : List Node) (size : ℕ) (table : TableSeen)
+      → GrowsBy [] nodes (trees_in_set set) → IsFresh nodes size table → IsOver set table
   over_fresh nodes size table grows fresh =
       let cells : cells_of nodes ≡ set_cells set = grown_cells nodes grows in
       let tracked : tracked_of nodes ≡ set_tracked set = grown_tracked nodes grows in
@@ -49,10 +51,14 @@ module _ (set : SetContents) where
       }
 
   -- a pool that grew by the items and then by the display of the set
-  module _ (items pool : List Node) (limits : IsWithinLimits set) (first : GrowsByItems [] items set.items) (next : GrowsWithin items pool (flat_map trees_in_line (lines_in set.script)) (script_conditions set.script)) where
+  module _ (items pool : List Node) (limits : IsWithinLimits set)
+      (first : GrowsByItems [] items set.items) (next : GrowsWithin items pool
+      (flat_map trees_in_line (lines_in set.script)) (script_conditions set.script)) where
     pub all_grown : GrowsWithin [] pool (trees_in_set set) (set_conditions set)
     all_grown =
-        within_through [] items pool (flat_map trees_in_item set.items) (flat_map trees_in_line (lines_in set.script)) (sum_by item_conditions set.items) (script_conditions set.script) (set_conditions set) (omega arith) first next
+        within_through [] items pool (flat_map trees_in_item set.items)
+        (flat_map trees_in_line (lines_in set.script)) (sum_by item_conditions set.items)
+        (script_conditions set.script) (set_conditions set) (omega arith) first next
 
     -- two cells and two views for each of 65,536 conditions
     pub few_cells : length (set_cells set) ≤ 131072
@@ -66,14 +72,18 @@ module _ (set : SetContents) where
         omega (arith, most, masks_few pool, limits.conditions, ap length (grown_tracked pool all_grown.grows))
 
     -- the names of such a pool are those of the set
-    pub names_set : (names : Names) → names.cells.items ≡ map cell_name (cells_of pool) → names.priors.items ≡ map tracked_name (tracked_of pool) → NameSet set names
+    pub names_set : (names : Names) → names.cells.items ≡ map cell_name (cells_of pool)
+        → names.priors.items ≡ map tracked_name (tracked_of pool) → NameSet set names
     names_set names cells priors = record {
       cells = cells ∙ ap (map cell_name) (grown_cells pool all_grown.grows);
       priors_too = priors ∙ ap (map tracked_name) (grown_tracked pool all_grown.grows);
     }
 
   -- items that wait and a new display over a fresh table
-  module _ (items pool : List Node) (size : ℕ) (table : TableSeen) (runs : List ItemRun) (presence : Option PresenceRun) (limits : IsWithinLimits set) (are : AreWaiting [] items set.items runs) (is : IsNewPresence items pool set.script presence) (fresh : IsFresh pool size table) where
+  module _ (items pool : List Node) (size : ℕ) (table : TableSeen) (runs : List ItemRun)
+      (presence : Option PresenceRun) (limits : IsWithinLimits set)
+      (are : AreWaiting [] items set.items runs) (is : IsNewPresence items pool set.script presence)
+      (fresh : IsFresh pool size table) where
     set_grown : GrowsWithin [] pool (trees_in_set set) (set_conditions set)
     set_grown = all_grown items pool limits are.grows is.grows
 

@@ -14,9 +14,11 @@ use Rattle.ra_runtime.specs.Seen.{course_seen, IsCourse}
 
 -- the course with another table
 abbrev pub with_table : Inside → TableSeen → Inside
-with_table t table = record { set = t.set; shape = t.shape; said = t.said; table = table; runs = t.runs; rests = t.rests; presence = t.presence; line_rests = t.line_rests; size = t.size; count = t.count; last = t.last }
+with_table t table = record
+    { set = t.set; shape = t.shape; said = t.said; table = table; runs = t.runs; rests = t.rests; presence = t.presence; line_rests = t.line_rests; size = t.size; count = t.count; last = t.last }
 
-module _ (t : Inside) (is : IsCourse t) (table : TableSeen) (rest : table ≡ record t.table { marked = table.marked }) where
+module _ (t : Inside) (is : IsCourse t) (table : TableSeen) (rest : table
+    ≡ record t.table { marked = table.marked }) where
   nodes : t.table.nodes ≡ table.nodes
   nodes = sym (ap (λ (x : TableSeen). x.nodes) rest)
 
@@ -42,12 +44,16 @@ module _ (t : Inside) (is : IsCourse t) (table : TableSeen) (rest : table ≡ re
     runs = subst (λ (ns : List Node). AreItemRuns ns (set_contents t.set).items t.runs.items) nodes is.runs;
     rests =
         subst (λ (ns : List Node). AreRests ns table.values (set_contents t.set).items t.runs.items t.rests) nodes
-        (subst (λ (vs : List ℕ). AreRests t.table.nodes vs (set_contents t.set).items t.runs.items t.rests) values is.rests);
+        (subst (λ (vs : List ℕ). AreRests t.table.nodes vs
+        (set_contents t.set).items t.runs.items t.rests) values is.rests);
     told = is.told;
-    presence = subst (λ (ns : List Node). IsOptionalPresence ns (set_contents t.set).script t.presence) nodes is.presence;
+    presence = subst (λ (ns : List Node). IsOptionalPresence ns
+        (set_contents t.set).script t.presence) nodes is.presence;
     lines =
-        subst (λ (ns : List Node). AreOptionalRests ns table.values (set_contents t.set).script t.presence t.line_rests) nodes
-        (subst (λ (vs : List ℕ). AreOptionalRests t.table.nodes vs (set_contents t.set).script t.presence t.line_rests) values is.lines);
+        subst (λ (ns : List Node). AreOptionalRests ns table.values
+        (set_contents t.set).script t.presence t.line_rests) nodes
+        (subst (λ (vs : List ℕ). AreOptionalRests t.table.nodes vs
+        (set_contents t.set).script t.presence t.line_rests) values is.lines);
     digits = is.digits;
     size = ap (λ (x : TableSeen). x.size) rest ∙ is.size;
     small = is.small;

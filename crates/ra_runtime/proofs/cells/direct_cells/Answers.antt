@@ -13,7 +13,9 @@ returns c =
     let set = set_contents c.args.set.now in
     let items = c.new_runs.new.pool in
     let pool = c.counted_presence.new.pool in
-    let first : GrowsByItems [] items set.items = rw (c.new-pool.ensures, c.deref.ensures.value) at c.in_ok-_runs.ensures.grows in
+    let first : GrowsByItems [] items set.items =
+    rw (c.new-pool.ensures, c.deref.ensures.value) at c.in_ok-_runs.ensures.grows in
     let grown = all_grown set items pool c.requires.limits first c.in_ok-_presence.ensures.grows in
-    let cells : cells_of c.deref-2.result.now ≡ set_cells set = ap cells_of (c.deref-2.ensures.value ∙ c.in_ok-nodes.ensures.nodes) ∙ grown_cells set pool grown.grows in
+    let cells : cells_of c.deref-2.result.now ≡ set_cells set = ap cells_of (c.deref-2.ensures.value
+    ∙ c.in_ok-nodes.ensures.nodes) ∙ grown_cells set pool grown.grows in
     subst (λ cs. IfOk c.direct_in.result (λ cells. cells.items ≡ direct_of cs)) cells c.direct_in.ensures

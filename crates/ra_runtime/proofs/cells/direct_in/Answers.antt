@@ -27,5 +27,7 @@ loop-number-preserved c =
 
 pub returns : goal.returns
 returns c =
-    let end : c.loop-number.number ≡ length c.args.nodes.now = omega (arith, c.loop-number-test.false, c.loop-number.auto.number-end) in
-    c.loop-number.invariant ∙ ap direct_of (ap (cells_before (spelled_by c.args.nodes.now)) end ∙ cells_all c.args.nodes.now)
+    let end : c.loop-number.number ≡ length c.args.nodes.now =
+    omega (arith, c.loop-number-test.false, c.loop-number.auto.number-end) in
+    c.loop-number.invariant ∙ ap direct_of (ap (cells_before (spelled_by c.args.nodes.now)) end
+    ∙ cells_all c.args.nodes.now)

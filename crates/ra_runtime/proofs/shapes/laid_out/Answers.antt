@@ -12,5 +12,8 @@ returns c =
     let pool = c.new_presence.new.pool in
     let runs = c.in_ok-runs.runs.items in
     let same : map item_contents c.deref.result.now ≡ set.items = ap (map item_contents) c.deref.ensures.value in
-    let are : AreWaiting [] items set.items runs = subst (λ (xs : List ItemContents). AreWaiting [] items xs runs) same (subst (λ (ns : List Node). AreWaiting ns items (map item_contents c.deref.result.now) runs) c.in_ok-pool.ensures c.in_ok-runs.ensures) in
-    laid set items pool c.args.size c.in_ok-table.table runs c.in_ok-presence.presence c.requires.limits are c.in_ok-presence.ensures c.in_ok-table.ensures
+    let are : AreWaiting [] items set.items runs = subst (λ (xs : List ItemContents). AreWaiting []
+    items xs runs) same (subst (λ (ns : List Node). AreWaiting ns items (map item_contents
+    c.deref.result.now) runs) c.in_ok-pool.ensures c.in_ok-runs.ensures) in
+    laid set items pool c.args.size c.in_ok-table.table runs c.in_ok-presence.presence
+    c.requires.limits are c.in_ok-presence.ensures c.in_ok-table.ensures

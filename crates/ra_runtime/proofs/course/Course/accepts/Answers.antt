@@ -28,11 +28,13 @@ returns-clause-accepted c =
     let t = c.self.inside in
     let made = course_made t c.self.invariant c.make.new.self c.make.ensures in
     let shown = ap (λ (r : CourseSeen). shape_of r.set) c.self.view_is in
-    subst (λ (s : ShapeContents). OnOk c.check.result (IsAccepted s c.args.bytes.now)) (made.whole_now.same ∙ shown) (when_ok c.check.result c.check.ensures.ok.0)
+    subst (λ (s : ShapeContents). OnOk c.check.result (IsAccepted s c.args.bytes.now))
+    (made.whole_now.same ∙ shown) (when_ok c.check.result c.check.ensures.ok.0)
 
 pub returns-clause-refused : goal.returns-clause-refused
 returns-clause-refused c =
     let t = c.self.inside in
     let made = course_made t c.self.invariant c.make.new.self c.make.ensures in
     let shown = ap (λ (r : CourseSeen). shape_of r.set) c.self.view_is in
-    subst (λ (s : ShapeContents). IfErr c.check.result (λ why. refusal s c.args.bytes.now ≡ Some why)) (made.whole_now.same ∙ shown) c.check.ensures.err
+    subst (λ (s : ShapeContents). IfErr c.check.result (λ why. refusal s c.args.bytes.now
+    ≡ Some why)) (made.whole_now.same ∙ shown) c.check.ensures.err

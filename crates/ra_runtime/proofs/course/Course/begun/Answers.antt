@@ -22,7 +22,8 @@ shape_and_room-requires-clause-over c = c.in_ok-table.ensures.laid.over
 
 pub shape_and_room-requires-clause-few : goal.shape_and_room-requires-clause-few
 shape_and_room-requires-clause-few c =
-    laid_few (set_contents c.args.set) c.args.size c.in_ok-table.table c.in_ok-table.runs.items c.in_ok-table.presence c.in_ok-table.ensures.laid
+    laid_few (set_contents c.args.set) c.args.size c.in_ok-table.table c.in_ok-table.runs.items
+    c.in_ok-table.presence c.in_ok-table.ensures.laid
 
 pub shape_and_room-requires-clause-short : goal.shape_and_room-requires-clause-short
 shape_and_room-requires-clause-short c =
@@ -32,19 +33,24 @@ shape_and_room-requires-clause-short c =
 pub shape_and_room-requires-clause-small : goal.shape_and_room-requires-clause-small
 shape_and_room-requires-clause-small c =
     subst (λ (runs : List ItemRun). All IsSmall (map run_shape runs)) (sym c.deref.ensures.value)
-    (laid_small (set_contents c.args.set) c.args.size c.in_ok-table.table c.in_ok-table.runs.items c.in_ok-table.presence c.in_ok-table.ensures.laid c.requires.limits c.requires.spelled)
+    (laid_small (set_contents c.args.set) c.args.size c.in_ok-table.table c.in_ok-table.runs.items
+    c.in_ok-table.presence c.in_ok-table.ensures.laid c.requires.limits c.requires.spelled)
 
 pub shape_and_room-requires-clause-items : goal.shape_and_room-requires-clause-items
 shape_and_room-requires-clause-items c =
-    ap (map run_shape) c.deref.ensures.value ∙ laid_shapes (set_contents c.args.set) c.args.size c.in_ok-table.table c.in_ok-table.runs.items c.in_ok-table.presence c.in_ok-table.ensures.laid
+    ap (map run_shape) c.deref.ensures.value ∙ laid_shapes (set_contents c.args.set) c.args.size
+    c.in_ok-table.table c.in_ok-table.runs.items c.in_ok-table.presence c.in_ok-table.ensures.laid
 
 pub shape_and_room-requires-clause-small_presence : goal.shape_and_room-requires-clause-small_presence
 shape_and_room-requires-clause-small_presence c =
-    laid_small_presence (set_contents c.args.set) c.args.size c.in_ok-table.table c.in_ok-table.runs.items c.in_ok-table.presence c.in_ok-table.ensures.laid c.requires.limits c.requires.spelled
+    laid_small_presence (set_contents c.args.set) c.args.size c.in_ok-table.table
+    c.in_ok-table.runs.items c.in_ok-table.presence c.in_ok-table.ensures.laid c.requires.limits
+    c.requires.spelled
 
 pub shape_and_room-requires-clause-presence : goal.shape_and_room-requires-clause-presence
 shape_and_room-requires-clause-presence c =
-    laid_presence (set_contents c.args.set) c.args.size c.in_ok-table.table c.in_ok-table.runs.items c.in_ok-table.presence c.in_ok-table.ensures.laid
+    laid_presence (set_contents c.args.set) c.args.size c.in_ok-table.table c.in_ok-table.runs.items
+    c.in_ok-table.presence c.in_ok-table.ensures.laid
 
 pub invariant_of-result : goal.invariant_of-result
 invariant_of-result c =
@@ -74,8 +80,11 @@ returns c =
       size_too = refl;
       kept = (λ i. record {
         frames = 0;
-        cells = (laid.fresh.cells ∙ ap (λ cs. replicate (length cs) 0) laid.over.cells ∙ ap (λ n. replicate n 0) (sym (length-map (set_cells (set_contents c.args.set)) cell_name))) i;
-        priors = (laid.fresh.priors ∙ ap (λ ts. replicate (length ts) 0) laid.over.tracked ∙ ap (λ n. replicate n 0) (sym (length-map (set_tracked (set_contents c.args.set)) tracked_name))) i;
+        cells = (laid.fresh.cells ∙ ap (λ cs. replicate (length cs) 0) laid.over.cells ∙ ap (λ n.
+            replicate n 0) (sym (length-map (set_cells (set_contents c.args.set)) cell_name))) i;
+        priors = (laid.fresh.priors ∙ ap (λ ts. replicate (length ts) 0) laid.over.tracked
+            ∙ ap (λ n. replicate n 0)
+            (sym (length-map (set_tracked (set_contents c.args.set)) tracked_name))) i;
         items = c.in_ok-table.ensures.kept i;
         presence = c.in_ok-table.ensures.shown i;
       });
@@ -83,5 +92,7 @@ returns c =
       lines = refl;
       marked = search rules;
       places = search rules;
-      current = λ image. current_agrees (set_contents c.args.set) c.in_ok-table.table image laid.over (Agrees-marked c.in_ok-table.table image (length (cells_of c.in_ok-table.table.nodes)) laid.fresh.marked);
+      current = λ image. current_agrees (set_contents c.args.set) c.in_ok-table.table image
+          laid.over (Agrees-marked c.in_ok-table.table image
+          (length (cells_of c.in_ok-table.table.nodes)) laid.fresh.marked);
     }

@@ -33,8 +33,10 @@ returns-clause-reads g c =
     let new = c.frame.new.self in
     let reads = g.I.Image.reads c.frame.new.image - g.I.Image.reads c.look.new.image in
     let looked = c.look.ensures.looked in
-    let few : ReadsFew (over mid image) (over new image) reads = subst (λ bytes. ReadsFew (over mid bytes) (over new bytes) reads) c.look.ensures.bytes c.frame.ensures.reads in
-    let places : reads_of mid.marked mid.places new.places ≡ reads_of mid.marked old.places new.places = ap (λ (s : CourseSeen). reads_of mid.marked s.places new.places) looked.rest in
+    let few : ReadsFew (over mid image) (over new image) reads = subst (λ bytes. ReadsFew
+    (over mid bytes) (over new bytes) reads) c.look.ensures.bytes c.frame.ensures.reads in
+    let places : reads_of mid.marked mid.places new.places ≡ reads_of mid.marked old.places
+    new.places = ap (λ (s : CourseSeen). reads_of mid.marked s.places new.places) looked.rest in
     let marked = ap (λ ms. reads_of ms old.places new.places) looked.marked in
     let rested = subst (λ (s : CourseSeen). ReadsFew (over s image) (over new image) reads) looked.rest few in
     let counted = few.counted ∙ places ∙ marked in

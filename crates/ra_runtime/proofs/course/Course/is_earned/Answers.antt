@@ -14,4 +14,5 @@ returns c =
     rw (← c.self.view_is)
     (c.earned_in.ensures
     ∙ ap (λ (runs : List ItemRun). slice_index_or (map is_earned (map kept_run runs)) place false) c.deref.ensures.value
-    ∙ ap (λ e. slice_index_or e place false) (sym (rests_earned t.table.nodes t.table.values (set_contents t.set).items t.runs.items t.rests inv.runs inv.rests)))
+    ∙ ap (λ e. slice_index_or e place false) (sym (rests_earned t.table.nodes t.table.values
+    (set_contents t.set).items t.runs.items t.rests inv.runs inv.rests)))

@@ -27,8 +27,10 @@ note_blocks-requires-clause-items c =
     let inv = c.self.invariant in
     let yes : c.is_for.result ≡ true = c.if-not-is_for.false in
     let for_it : IsKeptFor (shape_contents t.shape.shape) c.args.kept.now = c.is_for.ensures.so yes in
-    let shaped = runs_shaped t.table.nodes (set_contents t.set).items t.runs.items inv.runs ∙ ap (λ (s : ShapeContents). s.items) (sym inv.lazy.shape) in
-    ap (λ (k : KeptSeen). k.items) c.note_numbers.ensures.noted ∙ for_it.items ∙ sym shaped ∙ ap (map run_shape) (sym c.deref.ensures.value)
+    let shaped = runs_shaped t.table.nodes (set_contents t.set).items t.runs.items inv.runs
+    ∙ ap (λ (s : ShapeContents). s.items) (sym inv.lazy.shape) in
+    ap (λ (k : KeptSeen). k.items) c.note_numbers.ensures.noted ∙ for_it.items ∙ sym shaped
+    ∙ ap (map run_shape) (sym c.deref.ensures.value)
 
 pub note_blocks-requires-clause-many : goal.note_blocks-requires-clause-many
 note_blocks-requires-clause-many c =
@@ -49,20 +51,23 @@ note_blocks-requires-clause-presence c =
     let inv = c.self.invariant in
     let yes : c.is_for.result ≡ true = c.if-not-is_for.false in
     let for_it : IsKeptFor (shape_contents t.shape.shape) c.args.kept.now = c.is_for.ensures.so yes in
-    ap (λ (k : KeptSeen). k.presence) c.note_numbers.ensures.noted ∙ for_it.presence ∙ ap (λ (s : ShapeContents). s.presence) inv.lazy.shape
+    ap (λ (k : KeptSeen). k.presence) c.note_numbers.ensures.noted ∙ for_it.presence
+    ∙ ap (λ (s : ShapeContents). s.presence) inv.lazy.shape
     ∙ sym (presence_shaped t.table.nodes (set_contents t.set).script t.presence inv.presence)
 
 pub note_blocks-requires-clause-lines : goal.note_blocks-requires-clause-lines
 note_blocks-requires-clause-lines c =
     let t = c.self.inside in
-    optional_fitting t.table.nodes t.table.values (set_contents t.set).script t.presence t.line_rests c.self.invariant.presence c.self.invariant.lines
+    optional_fitting t.table.nodes t.table.values (set_contents t.set).script t.presence
+    t.line_rests c.self.invariant.presence c.self.invariant.lines
 
 pub note_blocks-requires-clause-shows : goal.note_blocks-requires-clause-shows
 note_blocks-requires-clause-shows c =
     let t = c.self.inside in
     let inv = c.self.invariant in
     let script = (set_contents t.set).script in
-    λ fits. subst (λ (p : Option PresenceShape). PresenceFits p (optional_presence_seen t.presence t.line_rests)) (sym (presence_shaped t.table.nodes script t.presence inv.presence))
+    λ fits. subst (λ (p : Option PresenceShape). PresenceFits p (optional_presence_seen t.presence
+    t.line_rests)) (sym (presence_shaped t.table.nodes script t.presence inv.presence))
     (presence_kept_fits t.table.nodes t.table.values script t.presence t.line_rests inv.presence inv.lines fits)
 
 pub returns-clause-opening : goal.returns-clause-opening
@@ -74,13 +79,18 @@ returns-clause-opening c =
     let shown = optional_presence_seen t.presence t.line_rests in
     let small : t.count < 2 ^ 64 = omega arith in
     let cells : AreWords (length (shape_of set).cells) t.table.cells =
-    subst (λ n. AreWords n t.table.cells) (inv.over.cells_many ∙ sym (length-map (set_cells set) cell_name)) (rw c.cells.ensures at c.note_numbers.ensures.fit_cells) in
+    subst (λ n. AreWords n t.table.cells) (inv.over.cells_many ∙ sym (length-map
+    (set_cells set) cell_name)) (rw c.cells.ensures at c.note_numbers.ensures.fit_cells) in
     let priors : AreWords (length (shape_of set).priors) t.table.priors =
-    subst (λ n. AreWords n t.table.priors) (inv.over.priors_many ∙ sym (length-map (set_tracked set) tracked_name)) (rw c.priors.ensures at c.note_numbers.ensures.fit_priors) in
+    subst (λ n. AreWords n t.table.priors) (inv.over.priors_many ∙ sym (length-map
+    (set_tracked set) tracked_name)) (rw c.priors.ensures at c.note_numbers.ensures.fit_priors) in
     let items : ItemsFit (shape_of set).items (seen_by runs t.rests) =
-    subst (λ (ss : List ItemShape). ItemsFit ss (seen_by runs t.rests)) (runs_shaped t.table.nodes set.items runs inv.runs)
-    (subst (λ (rs : List ItemRun). ItemsFit (map run_shape rs) (seen_by rs t.rests)) c.deref.ensures.value c.note_blocks.ensures.fit) in
+    subst (λ (ss : List ItemShape). ItemsFit ss (seen_by runs t.rests))
+    (runs_shaped t.table.nodes set.items runs inv.runs)
+    (subst (λ (rs : List ItemRun). ItemsFit (map run_shape rs) (seen_by rs t.rests))
+    c.deref.ensures.value c.note_blocks.ensures.fit) in
     let presence : PresenceFits (shape_of set).presence shown =
-    subst (λ (p : Option PresenceShape). PresenceFits p shown) (presence_shaped t.table.nodes set.script t.presence inv.presence) c.note_blocks.ensures.fits in
+    subst (λ (p : Option PresenceShape). PresenceFits p shown)
+    (presence_shaped t.table.nodes set.script t.presence inv.presence) c.note_blocks.ensures.fits in
     subst (λ (r : CourseSeen). IsOpening (shape_of r.set) r.kept) c.self.view_is
     (record { frames = small; cells = cells; priors = priors; items = items; presence = presence })

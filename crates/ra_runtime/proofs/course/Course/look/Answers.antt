@@ -15,6 +15,8 @@ returns-clause-looked g c =
     let looked = c.look.ensures.looked in
     rw (← c.self.view_is) (record {
       rest = marked_rest t c.self.invariant c.look.new.self looked.rest;
-      marked = looked.marked ∙ (λ i. marks_seen image (c.self.invariant.over.cells i) t.table.places t.table.cells t.table.marked);
-      current = current_agrees (set_contents t.set) c.look.new.self image (marked_over t c.self.invariant c.look.new.self looked.rest) looked.agrees;
+      marked = looked.marked ∙ (λ i. marks_seen image
+          (c.self.invariant.over.cells i) t.table.places t.table.cells t.table.marked);
+      current = current_agrees (set_contents t.set) c.look.new.self image
+          (marked_over t c.self.invariant c.look.new.self looked.rest) looked.agrees;
     })

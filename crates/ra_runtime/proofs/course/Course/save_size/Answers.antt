@@ -7,7 +7,8 @@ use Rattle.ra_runtime.proofs.course.Course.save_size.Goals as goal
 pub file_length-requires-clause-paired : goal.file_length-requires-clause-paired
 file_length-requires-clause-paired c =
     let t = c.self.inside in
-    paired_lazy (shape_of (set_contents t.set)) t.shape.shape _ _ c.self.invariant.lazy.shape c.self.invariant.lazy.paired
+    paired_lazy (shape_of (set_contents t.set)) t.shape.shape _ _ c.self.invariant.lazy.shape
+    c.self.invariant.lazy.paired
 
 pub file_length-requires-clause-few_cells : goal.file_length-requires-clause-few_cells
 file_length-requires-clause-few_cells c =
@@ -22,7 +23,8 @@ file_length-requires-clause-few_priors c =
 pub returns-clause-size : goal.returns-clause-size
 returns-clause-size c =
     let t = c.self.inside in
-    rw (← c.self.view_is) (c.file_length.ensures ∙ length_lazy (shape_of (set_contents t.set)) t.shape c.self.invariant.lazy)
+    rw (← c.self.view_is) (c.file_length.ensures
+    ∙ length_lazy (shape_of (set_contents t.set)) t.shape c.self.invariant.lazy)
 
 pub returns-clause-short : goal.returns-clause-short
 returns-clause-short c =

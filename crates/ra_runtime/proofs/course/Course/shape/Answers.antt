@@ -10,5 +10,7 @@ pub returns : goal.returns
 returns c =
     let t = c.self.inside in
     let whole = shape_of (set_contents t.set) in
-    rw (← c.self.view_is) (IfOk-weaker c.whole.result (λ shape. (w : ShapeContents) → IsLazy w t.shape → NamesTable t.table w → IsWhole w shape) (IsWhole whole)
-    (λ shape is. is whole c.self.invariant.lazy (names_table (set_contents t.set) t.table c.self.invariant.over)) c.whole.ensures)
+    rw (← c.self.view_is) (IfOk-weaker c.whole.result (λ shape. (w : ShapeContents)
+    → IsLazy w t.shape → NamesTable t.table w → IsWhole w shape) (IsWhole whole)
+    (λ shape is. is whole c.self.invariant.lazy
+    (names_table (set_contents t.set) t.table c.self.invariant.over)) c.whole.ensures)

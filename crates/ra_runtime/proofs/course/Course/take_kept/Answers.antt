@@ -44,7 +44,7 @@ put_back_presence-requires c =
     let for_it : IsKeptFor (shape_of (set_contents t.set)) c.args.kept.now = rw (← c.self.view_is) at c.requires in
     let same = ap (λ (s : ShapeContents). s.presence) c.self.invariant.lazy.shape in
     record {
-      shape = same ∙ sym (presence_shaped t.table.nodes (set_contents t.set).script t.presence c.self.invariant.presence);
+      shape = same ∙ sym (presence_shaped _ _ t.presence c.self.invariant.presence);
       block = subst (λ (p : Option PresenceShape). IfSome p (HasDisplay c.blocks-display.result.0.now
           c.blocks-display.result.2)) (sym (same ∙ sym for_it.presence)) c.blocks-display.ensures.shows;
     }

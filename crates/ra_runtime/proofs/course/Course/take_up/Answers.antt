@@ -65,8 +65,8 @@ pub invariant_of-self : goal.invariant_of-self
 invariant_of-self c =
     let made = course_made c.self.inside c.self.invariant c.make.new.self c.make.ensures in
     let room = subst (λ (s : ShapeContents). IsRoom s c.read.new.self) made.whole_now.same c.read.ensures.room in
-    course_back c.self.invariant (back c) c.make.new.self made.lazy (rw made.room c.self.invariant.names) c.read.new.self
-    room (over_restored _ _ _ c.self.invariant.over c.args.bytes.now c.read.new.self room (back c).takes) _ None refl
+    course_back c.self.invariant (back c) c.make.new.self made.lazy (rw made.room c.self.invariant.names)
+    c.read.new.self room (over_restored _ _ _ c.self.invariant.over c.args.bytes.now _ room (back c).takes) _ None refl
 
 pub returns-clause-taken : goal.returns-clause-taken
 returns-clause-taken c =

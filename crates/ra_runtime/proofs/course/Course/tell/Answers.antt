@@ -17,7 +17,8 @@ returns c =
     let over = marked_over t is c.write.new.self told.rest in
     rw (← c.self.view_is) (record {
       rest = marked_rest t is c.write.new.self told.rest;
-      marked = told.marked ∙ (λ i. marks_after (is.size i) (is.over.cells i) t.table.places c.args.at c.args.count t.table.marked);
+      marked = told.marked ∙ (λ i. marks_after (is.size i)
+          (is.over.cells i) t.table.places c.args.at c.args.count t.table.marked);
       current = λ image image' long differ current. current_agrees set c.write.new.self image' over
           (told.agrees image image' (long ∙ sym is.size) differ (agrees_current set t.table image is.over current));
     })

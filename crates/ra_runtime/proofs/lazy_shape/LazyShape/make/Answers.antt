@@ -13,13 +13,18 @@ returns c = λ whole lazy names.
     let s = c.args.self.now.shape in
     let cells = with_items_is s.cells c.put_names.new.cells (c.put_names.auto.cells ∙ c.deref_mut.ensures.len) in
     let priors = with_items_is s.priors c.put_names.new.priors (c.put_names.auto.priors ∙ c.deref_mut-2.ensures.len) in
-    let cell_order = with_items_is s.cell_order c.put_order.new.order (c.put_order.auto.order ∙ c.deref_mut-3.ensures.len) in
-    let prior_order = with_items_is s.prior_order c.put_order-2.new.order (c.put_order-2.auto.order ∙ c.deref_mut-4.ensures.len) in
+    let cell_order = with_items_is s.cell_order c.put_order.new.order (c.put_order.auto.order
+    ∙ c.deref_mut-3.ensures.len) in
+    let prior_order = with_items_is s.prior_order c.put_order-2.new.order (c.put_order-2.auto.order
+    ∙ c.deref_mut-4.ensures.len) in
     made_names whole c.args.self.now _ lazy refl
     (cells ∙ c.put_names.ensures.cells ∙ names.cells)
     (priors ∙ c.put_names.ensures.priors ∙ names.priors)
-    (subst (λ o. IsOrder (with_items s.cells c.put_names.new.cells).items o) (sym cell_order) (subst (λ ns. IsOrder ns c.put_order.new.order) c.deref.ensures.value c.put_order.ensures.order))
-    (subst (λ o. IsOrder (with_items s.priors c.put_names.new.priors).items o) (sym prior_order) (subst (λ ns. IsOrder ns c.put_order-2.new.order) c.deref-2.ensures.value c.put_order-2.ensures.order))
+    (subst (λ o. IsOrder (with_items s.cells c.put_names.new.cells).items o) (sym cell_order) (subst
+    (λ ns. IsOrder ns c.put_order.new.order) c.deref.ensures.value c.put_order.ensures.order))
+    (subst (λ o. IsOrder (with_items s.priors c.put_names.new.priors).items o) (sym prior_order)
+    (subst (λ ns. IsOrder ns c.put_order-2.new.order) c.deref-2.ensures.value
+    c.put_order-2.ensures.order))
     (ap length cell_order ∙ c.put_order.auto.order ∙ ap length c.deref_mut-3.ensures.value)
     (ap length prior_order ∙ c.put_order-2.auto.order ∙ ap length c.deref_mut-4.ensures.value)
     refl

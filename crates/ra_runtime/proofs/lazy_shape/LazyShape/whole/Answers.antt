@@ -5,11 +5,14 @@ use Rattle.ra_runtime.proofs.lazy_shape.LazyShape.whole.Goals as goal
 pub make-requires : goal.make-requires
 make-requires c =
     let is = c.in_ok-lazy.ensures in
-    let own = own_room c.args.table.now c.args.self.now c.in_ok-lazy.lazy c.in_ok-shape.shape c.requires c.in_ok-shape.ensures is.shape is.cells is.priors is.few in
-    may_copy c.args.self.now c.in_ok-lazy.lazy own c.args.table.now c.requires (omega (arith, is.room, c.node_count.ensures))
+    let own = own_room c.args.table.now c.args.self.now c.in_ok-lazy.lazy c.in_ok-shape.shape
+    c.requires c.in_ok-shape.ensures is.shape is.cells is.priors is.few in
+    may_copy c.args.self.now c.in_ok-lazy.lazy own c.args.table.now c.requires
+    (omega (arith, is.room, c.node_count.ensures))
 
 pub returns : goal.returns
 returns c = λ whole lazy names.
     let is = c.in_ok-lazy.ensures in
-    let own = own_room c.args.table.now c.args.self.now c.in_ok-lazy.lazy c.in_ok-shape.shape c.requires c.in_ok-shape.ensures is.shape is.cells is.priors is.few in
+    let own = own_room c.args.table.now c.args.self.now c.in_ok-lazy.lazy c.in_ok-shape.shape
+    c.requires c.in_ok-shape.ensures is.shape is.cells is.priors is.few in
     (c.make.ensures whole (lazy_copy c.args.self.now c.in_ok-lazy.lazy own whole lazy is.unnamed) names).whole_now

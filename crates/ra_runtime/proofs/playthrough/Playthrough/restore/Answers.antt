@@ -9,7 +9,9 @@ invariant_of-self c =
     let is = c.restore.ensures in
     record {
       size = is.size ∙ c.self.invariant.size;
-      current = either c.restore.result (λ current. current t.memory) (λ same. subst (λ (s : CourseSeen). IsCurrent (over s t.memory)) (sym same) c.self.invariant.current) is.current is.err;
+      current = either c.restore.result (λ current. current t.memory) (λ same. subst (λ
+          (s : CourseSeen). IsCurrent (over s t.memory)) (sym same) c.self.invariant.current)
+          is.current is.err;
     }
 
 pub returns-clause-ok : goal.returns-clause-ok

@@ -8,8 +8,11 @@ invariant_of-self c =
     let t = c.self.inside in
     let is = c.take.ensures in
     record {
-      size = either c.take.result (λ takes. takes.size) (λ same. ap (λ (s : CourseSeen). s.size) same) is.taken is.err ∙ c.self.invariant.size;
-      current = either c.take.result (λ takes. takes.current t.memory) (λ same. subst (λ (s : CourseSeen). IsCurrent (over s t.memory)) (sym same) c.self.invariant.current) is.taken is.err;
+      size = either c.take.result (λ takes. takes.size)
+          (λ same. ap (λ (s : CourseSeen). s.size) same) is.taken is.err ∙ c.self.invariant.size;
+      current = either c.take.result (λ takes. takes.current t.memory) (λ same. subst (λ
+          (s : CourseSeen). IsCurrent (over s t.memory)) (sym same) c.self.invariant.current)
+          is.taken is.err;
     }
 
 pub returns-clause-taken : goal.returns-clause-taken

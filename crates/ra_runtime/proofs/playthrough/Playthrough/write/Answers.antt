@@ -20,8 +20,10 @@ invariant_of-self c =
     let told = c.tell.ensures in
     let same = ap (λ (s : RuntimeSeen). length s.image) c.self.view_is in
     let fits : at + length bytes ≤ length image = omega (arith, same, c.requires) in
-    let now : c.write.new.self ≡ written image at bytes = holds_by c.write.result c.write.ensures.ok (λ e. let more = c.write.ensures.refused.0 e in absurd (omega (arith, more, fits))) in
-    let differ : DifferWithin at (length bytes) image c.write.new.self = subst (λ m. DifferWithin at (length bytes) image m) (sym now) (DifferWithin-written image bytes at fits) in
+    let now : c.write.new.self ≡ written image at bytes = holds_by c.write.result c.write.ensures.ok
+    (λ e. let more = c.write.ensures.refused.0 e in absurd (omega (arith, more, fits))) in
+    let differ : DifferWithin at (length bytes) image c.write.new.self = subst (λ m. DifferWithin at
+    (length bytes) image m) (sym now) (DifferWithin-written image bytes at fits) in
     record {
       size = ap (λ (s : CourseSeen). s.size) told.rest ∙ inv.size ∙ sym differ.size;
       current = told.current image c.write.new.self (sym inv.size) differ inv.current;
