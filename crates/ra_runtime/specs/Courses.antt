@@ -1,5 +1,7 @@
--- What a course is seen as, a set whose images its caller holds, and what its calls do: docs/DEFINITIONS.md, "A frame that looks".
-use Rattle.std.specs.Prelude.{◌≡◌, ℕ, ◌+◌, ◌<◌, Bool, true, false, not, List, [], ◌∷◌, length, map, replicate, count_by, slice_index, slice_index_or}
+-- What a course is seen as, a set whose images its caller holds, and what its calls do: docs/DEFINITIONS.md, "A frame
+-- that looks".
+use Rattle.std.specs.Prelude.{◌≡◌, ℕ, ◌+◌, ◌<◌, Bool, true, false, not, List, [], ◌∷◌, length, map, replicate, count_by}
+use Rattle.std.specs.Prelude.{slice_index, slice_index_or}
 use Rattle.ra_set.specs.Contents.{SetContents}
 use Rattle.ra_memory.specs.Image.{History, raw}
 use Rattle.ra_memref.specs.Values.{cell_place}
@@ -38,9 +40,11 @@ over course image = record {
 abbrev pub IsCurrent : RuntimeSeen → Type 0
 IsCurrent runtime =
     (k : ℕ) → k < length runtime.kept.cells → slice_index_or runtime.marked k true ≡ false →
-    slice_index runtime.kept.cells k ≡ raw (slice_index_or (set_cells runtime.set) k no_cell).width runtime.image (slice_index runtime.places k)
+    slice_index runtime.kept.cells k ≡ raw (slice_index_or (set_cells runtime.set) k no_cell).width
+    runtime.image (slice_index runtime.places k)
 
--- A course before the first frame: the plain opening, no events and no lines, and each cell marked and at its address, so that every image is current.
+-- A course before the first frame: the plain opening, no events and no lines, and each cell marked and at its address,
+-- so that every image is current.
 pub record IsBegun (set : SetContents) (size : ℕ) (course : CourseSeen) : Type 0 where
   pub set_too : course.set ≡ set
   pub size_too : course.size ≡ size
@@ -55,9 +59,11 @@ pub record IsBegun (set : SetContents) (size : ℕ) (course : CourseSeen) : Type
 pub record IsTold (old new : CourseSeen) (at count : ℕ) : Type 0 where
   pub rest : new ≡ record old { marked = new.marked }
   pub marked : new.marked ≡ marks_after old.size (set_cells old.set) old.places at count old.marked
-  pub current : (image image' : List ℕ) → length image ≡ old.size → DifferWithin at count image image' → IsCurrent (over old image) → IsCurrent (over new image')
+  pub current : (image image' : List ℕ) → length image ≡ old.size → DifferWithin at count image
+      image' → IsCurrent (over old image) → IsCurrent (over new image')
 
--- An image is looked at: the cells that have another number in it than the kept one are marked, and nothing else changes.
+-- An image is looked at: the cells that have another number in it than the kept one are marked, and nothing else
+-- changes.
 pub record LooksAt (old new : CourseSeen) (image : List ℕ) : Type 0 where
   pub rest : new ≡ record old { marked = new.marked }
   pub marked : new.marked ≡ marks_seen image (set_cells old.set) old.places old.kept.cells old.marked
@@ -69,13 +75,19 @@ pub record TakesImage (old new : CourseSeen) (image : List ℕ) : Type 0 where
   pub current : IsCurrent (over new image)
   pub size : new.size ≡ old.size
 
--- A frame that looks reads each cell that is not marked, and then each one that is marked by then or has moved; it leaves none marked.
+-- A frame that looks reads each cell that is not marked, and then each one that is marked by then or has moved; it
+-- leaves none marked.
 pub record ReadsLooked (old new : RuntimeSeen) (reads : ℕ) : Type 0 where
   pub unmarked : new.marked ≡ replicate (length (set_cells old.set)) false
-  pub places : (o : Opening) (history : History) → IsOpening (shape_of old.set) o → StandsAfter old o history → new.places ≡ map (λ c. cell_place (start_of old.set o) c (old.image ∷ history)) (set_cells old.set)
-  pub counted : reads ≡ count_by not old.marked + reads_of (marks_seen old.image (set_cells old.set) old.places old.kept.cells old.marked) old.places new.places
+  pub places : (o : Opening) (history : History) → IsOpening (shape_of old.set) o
+      → StandsAfter old o history → new.places
+      ≡ map (λ c. cell_place (start_of old.set o) c (old.image ∷ history)) (set_cells old.set)
+  pub counted : reads ≡ count_by not old.marked + reads_of (marks_seen old.image
+      (set_cells old.set) old.places old.kept.cells old.marked) old.places new.places
 
--- More is earned, by an answer for each item, and nothing else changes; the course stands after every history after which it stood.
+-- More is earned, by an answer for each item, and nothing else changes; the course stands after every history after
+-- which it stood.
 pub record EarnsToo (old new : CourseSeen) (earned : Earned) : Type 0 where
   pub rest : new ≡ record old { kept = with_earned old.kept (both_earned (earned_in old.kept) earned) }
-  pub stands : (image : List ℕ) (o : Opening) (history : History) → StandsAfter (over old image) o history → StandsAfter (over new image) o history
+  pub stands : (image : List ℕ) (o : Opening) (history : History)
+      → StandsAfter (over old image) o history → StandsAfter (over new image) o history

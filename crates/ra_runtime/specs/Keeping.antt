@@ -1,11 +1,13 @@
 -- States of a course that are kept in memory, and what their calls do: docs/DEFINITIONS.md, "States kept in memory".
-use Rattle.std.specs.Prelude.{◌≡◌, ℕ, ◌+◌, ◌<◌, ◌≤◌, ◌^◌, true, Option, None, Some, option_map, IfSome, List, [], ◌∷◌, ◌++◌, length, map, drop, replicate, sum_by, slice_index_or, get_or}
+use Rattle.std.specs.Prelude.{◌≡◌, ℕ, ◌+◌, ◌<◌, ◌≤◌, ◌^◌, true, Option, None, Some, option_map, IfSome, List, [], ◌∷◌}
+use Rattle.std.specs.Prelude.{◌++◌, length, map, drop, replicate, sum_by, slice_index_or, get_or}
 use Rattle.std.specs.List.{concat}
 use Rattle.ra_set.specs.Contents.{SetContents}
 use Rattle.ra_memory.specs.Image.{History}
 use Rattle.ra_progress.specs.declared.shape.ItemShape.{ItemShape}
 use Rattle.ra_progress.specs.declared.shape.PresenceShape.{PresenceShape}
-use Rattle.ra_progress.specs.Contents.{KeptItem, KeptPresence, ItemsFit, PresenceFits, Opening, IsOpening, ShapeContents, plain_presence}
+use Rattle.ra_progress.specs.Contents.{KeptItem, KeptPresence, ItemsFit, PresenceFits, Opening, IsOpening}
+use Rattle.ra_progress.specs.Contents.{ShapeContents, plain_presence}
 use Rattle.ra_progress.specs.Layout.{item_length, version_in}
 use Rattle.ra_progress.specs.Laws.{IsShape}
 use Rattle.ra_progress.specs.Saying.{said_items, said_or, said_presence}
@@ -18,7 +20,8 @@ use Rattle.ra_meaning.specs.Runtime.{RuntimeSeen, StandsAfter, TakesUp}
 use Rattle.ra_runtime.specs.Courses.{CourseSeen, over, IsCurrent}
 use Rattle.ra_runtime.specs.declared.kept.Kept.TheInside.{Inside}
 
--- what a caller sees of a kept state: the digest of the set that it is for, how many numbers its items and its display keep, and the opening
+-- what a caller sees of a kept state: the digest of the set that it is for, how many numbers its items and its display
+-- keep, and the opening
 pub record KeptSeen : Type 0 where
   pub digest : List ℕ
   pub items : List ItemShape
@@ -46,7 +49,8 @@ kept_seen t = record {
 }
 
 -- the blocks of these items and of this display stand in a row, from the twentieth byte on, as version 3 has them
-pub record AreBlocks (bytes : List ℕ) (shapes : List ItemShape) (presence : Option PresenceShape) (items : List KeptItem) (kept : Option KeptPresence) : Type 0 where
+pub record AreBlocks (bytes : List ℕ) (shapes : List ItemShape) (presence : Option PresenceShape)
+    (items : List KeptItem) (kept : Option KeptPresence) : Type 0 where
   pub long : 20 ≤ length bytes
   pub version : version_in bytes ≡ 3
   pub fit : ItemsFit shapes items
@@ -57,7 +61,8 @@ pub record AreBlocks (bytes : List ℕ) (shapes : List ItemShape) (presence : Op
 
 -- the blocks stand where the places are, and say what is seen
 pub record IsKept (t : Inside) : Type 0 where
-  pub blocks : AreBlocks t.bytes.items t.items.items t.presence (kept_seen t).opening.items (kept_seen t).opening.presence
+  pub blocks : AreBlocks t.bytes.items t.items.items t.presence (kept_seen t).opening.items
+      (kept_seen t).opening.presence
   pub places : t.places.items ≡ item_places 20 t.items.items
   pub display : t.display ≡ 20 + sum_by item_length t.items.items
 
@@ -74,15 +79,19 @@ pub record IsKeptFor (shape : ShapeContents) (kept : KeptSeen) : Type 0 where
   pub items : kept.items ≡ shape.items
   pub presence : kept.presence ≡ shape.presence
 
--- the blocks of a kept state, as the calls that put a file back take them: they stand where the places are, and say what is seen
+-- the blocks of a kept state, as the calls that put a file back take them: they stand where the places are, and say
+-- what is seen
 pub record AreLent (kept : KeptSeen) (bytes : List ℕ) (places : List (Option ℕ)) (display : Option ℕ) : Type 0 where
   pub many : length kept.items ≡ length places
-  pub has : (k : ℕ) (d : ItemShape) → k < length kept.items → HasItem bytes (slice_index_or places k None) (get_or kept.items k d)
+  pub has : (k : ℕ) (d : ItemShape) → k < length kept.items
+      → HasItem bytes (slice_index_or places k None) (get_or kept.items k d)
   pub said : said_items bytes kept.items places ≡ kept.opening.items
   pub shows : IfSome kept.presence (HasDisplay bytes display)
-  pub shown : option_map (λ p. said_or (said_presence bytes p) (plain_presence p) display) kept.presence ≡ kept.opening.presence
+  pub shown : option_map (λ p. said_or (said_presence bytes p) (plain_presence p) display)
+      kept.presence ≡ kept.opening.presence
 
--- A kept state is taken up: what was earned stays earned; the last events and lines go, and each cell is marked, so that every image is current; set, size and places stay.
+-- A kept state is taken up: what was earned stays earned; the last events and lines go, and each cell is marked, so
+-- that every image is current; set, size and places stay.
 pub record Takes (old new : CourseSeen) (opening : Opening) : Type 0 where
   pub set : new.set ≡ old.set
   pub size : new.size ≡ old.size
@@ -105,8 +114,13 @@ course_of runtime = record {
   places = runtime.places;
 }
 
--- A taken state is a restored one: the course stands after each history after which the one that was kept stood, and is what a restore of that one's own bytes makes of it.
+-- A taken state is a restored one: the course stands after each history after which the one that was kept stood, and
+-- is what a restore of that one's own bytes makes of it.
 pub record TakesAsRestored (set : SetContents) : Type 0 where
-  pub stands : (at old new : CourseSeen) → at.set ≡ set → old.set ≡ set → Takes old new at.kept → (o : Opening) (history : History) (image now : List ℕ) → StandsAfter (over at image) o history → StandsAfter (over new now) o history
-  pub restores : IsShape (shape_of set) → (at old taken restored : CourseSeen) → old.set ≡ set → IsOpening (shape_of set) at.kept → Takes old taken at.kept → restored.size ≡ old.size
-      → ((image : List ℕ) → TakesUp (over old image) (over restored image) (progress_bytes (shape_of set) at.kept)) → taken ≡ restored
+  pub stands : (at old new : CourseSeen) → at.set ≡ set → old.set ≡ set → Takes old new at.kept
+      → (o : Opening) (history : History) (image now : List ℕ)
+      → StandsAfter (over at image) o history → StandsAfter (over new now) o history
+  pub restores : IsShape (shape_of set) → (at old taken restored : CourseSeen) → old.set ≡ set
+      → IsOpening (shape_of set) at.kept → Takes old taken at.kept → restored.size ≡ old.size
+      → ((image : List ℕ) → TakesUp (over old image) (over restored image)
+      (progress_bytes (shape_of set) at.kept)) → taken ≡ restored

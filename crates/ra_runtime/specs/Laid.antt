@@ -17,7 +17,8 @@ use Rattle.ra_display.specs.PresenceRuns.{IsOptionalPresence, optional_presence_
 
 -- what is kept, from a count, a table, and what the items and the display are seen to keep
 abbrev pub opening_by : ℕ → TableSeen → List KeptItem → Option KeptPresence → Opening
-opening_by count table kept presence = record { frames = count; cells = table.cells; priors = table.priors; items = kept; presence = presence }
+opening_by count table kept presence =
+    record { frames = count; cells = table.cells; priors = table.priors; items = kept; presence = presence }
 
 -- the table is over the cells and tracked masks of the set
 pub record IsOver (set : SetContents) (table : TableSeen) : Type 0 where
@@ -38,8 +39,10 @@ pub record HasNaming (naming : Naming) (shape : Shape) : Type 0 where
   pub cell_order : shape.cell_order.items ≡ naming.cell_order.items
   pub prior_order : shape.prior_order.items ≡ naming.prior_order.items
 
--- a table without a frame over the trees of a set, of at most 131,072 cells and as many tracked masks; runs that wait, and a display that shows its last line
-pub record IsLaidOut (set : SetContents) (size : ℕ) (table : TableSeen) (runs : List ItemRun) (presence : Option PresenceRun) : Type 0 where
+-- a table without a frame over the trees of a set, of at most 131,072 cells and as many tracked masks; runs that wait,
+-- and a display that shows its last line
+pub record IsLaidOut (set : SetContents) (size : ℕ) (table : TableSeen) (runs : List ItemRun)
+    (presence : Option PresenceRun) : Type 0 where
   pub fresh : IsFresh table.nodes size table
   pub few : length table.nodes < 2 ^ 30
   pub over : IsOver set table

@@ -9,7 +9,8 @@ pub record GrewByFront (old new lines : List ℕ) : Type 0 where
   pub whole : front ++ rest ≡ lines
   pub grew : new ≡ old ++ front
 
--- A frame read the cells that were marked or moved, and this is how many reads it took; the count stops at the last number of 64 bits.
+-- A frame read the cells that were marked or moved, and this is how many reads it took; the count stops at the last
+-- number of 64 bits.
 pub record CountsReads (old new : RuntimeSeen) (count : ℕ) : Type 0 where
   pub reads : ℕ
   pub few : ReadsFew old new reads

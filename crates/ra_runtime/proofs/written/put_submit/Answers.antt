@@ -11,7 +11,10 @@ returns c =
     let text = formatted c.args.format c.args.value in
     let number = to_z-of_z w32 c.args.value c.ranges.value in
     c.in_ok-push-3.ensures.items
-    ∙ ap (λ t. t ++ 10 ∷ []) (c.in_ok-put_value-2.ensures ∙ ap (λ n. c.push-2.new.self.items ++ formatted c.args.format n) number
-    ∙ ap (λ t. t ++ text) (c.in_ok-push-2.ensures.items ∙ ap (λ t. t ++ 32 ∷ []) (c.in_ok-put_value.ensures ∙ ap (λ n. c.push.new.self.items ++ signed_decimal n) number
+    ∙ ap (λ t. t ++ 10 ∷ []) (c.in_ok-put_value-2.ensures
+    ∙ ap (λ n. c.push-2.new.self.items ++ formatted c.args.format n) number
+    ∙ ap (λ t. t ++ text) (c.in_ok-push-2.ensures.items ∙ ap (λ t. t ++ 32 ∷ [])
+    (c.in_ok-put_value.ensures ∙ ap (λ n. c.push.new.self.items ++ signed_decimal n) number
     ∙ ap (λ t. t ++ value) (c.in_ok-push.ensures.items ∙ ap (λ t. t ++ 32 ∷ []) c.in_ok-put_head.ensures))))
-    ∙ submit_words c.args.out.now.items (codes "submit") (decimal c.args.subject.frame) (decimal c.args.subject.id) value text
+    ∙ submit_words c.args.out.now.items (codes "submit") (decimal c.args.subject.frame)
+    (decimal c.args.subject.id) value text
