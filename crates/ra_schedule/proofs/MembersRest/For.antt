@@ -1,5 +1,7 @@
--- Counts that are made for a member: there is a bit for each hit, also after a step is judged, and what is judged to keep does.
-use Rattle.std.proofs.Common.{◌≡◌, ℕ, ◌+◌, ◌==◌, not, true, List, [], ◌∷◌, length, map, take, slice_index, sum_by, refl, sym, ap, ap₂, ◌∙◌, length-append, subst}
+-- Counts that are made for a member: there is a bit for each hit, also after a step is judged, and what is judged to
+-- keep does.
+use Rattle.std.proofs.Common.{◌≡◌, ℕ, ◌+◌, ◌==◌, not, true, List, [], ◌∷◌, length, map, take, slice_index, sum_by, refl}
+use Rattle.std.proofs.Common.{sym, ap, ap₂, ◌∙◌, length-append, subst}
 use Rattle.std.proofs.lemmas.List.{length-map, take-map}
 use Rattle.std.proofs.lemmas.Simd.{map-map}
 use Rattle.std.proofs.lemmas.List.FromFn.{length-map-range_with_len}
@@ -36,7 +38,8 @@ tests_long (t ∷ tests) = ap₂ (λ x xs. x ∷ xs) (length-free InTrigger (gro
 
 values_long : (values : List (List PartContents)) → map length (map free_value values) ≡ map value_hits values
 values_long [] = refl
-values_long (v ∷ values) = ap₂ (λ x xs. x ∷ xs) (length-free InValue (map counted_in v) ∙ sym (counted_sum v)) (values_long values)
+values_long (v ∷ values) = ap₂ (λ x xs. x ∷ xs) (length-free InValue (map counted_in v)
+    ∙ sym (counted_sum v)) (values_long values)
 
 abbrev hits : List ValueKept → List (List ℕ)
 hits = map (λ (v : ValueKept). v.hits)
@@ -54,10 +57,13 @@ module _ (m : MemberContents) (c : MemberCounts) (for : AreFor m c) (kept : Memb
   -- a room that holds what a member kept holds it still
   pub held_again : (room : Room) (old : MemberKept) → HasShape m old → Holds room old → held room kept ≡ old
   held_again room old old_shape holds =
-      let tests : length kept.tests ≡ length old.tests = as_many kept.tests m.tests trigger_hits shape.tests ∙ sym (as_many old.tests m.tests trigger_hits old_shape.tests) in
+      let tests : length kept.tests ≡ length old.tests = as_many kept.tests m.tests trigger_hits
+      shape.tests ∙ sym (as_many old.tests m.tests trigger_hits old_shape.tests) in
       let values : length kept.values ≡ length old.values =
-      sym (length-map kept.values (λ (v : ValueKept). v.hits)) ∙ as_many (hits kept.values) m.values value_hits shape.hits
-      ∙ sym (sym (length-map old.values (λ (v : ValueKept). v.hits)) ∙ as_many (hits old.values) m.values value_hits old_shape.hits) in
+      sym (length-map kept.values (λ (v : ValueKept). v.hits))
+      ∙ as_many (hits kept.values) m.values value_hits shape.hits
+      ∙ sym (sym (length-map old.values (λ (v : ValueKept). v.hits))
+      ∙ as_many (hits old.values) m.values value_hits old_shape.hits) in
       (λ i. record {
         tests = take (tests i) (map (λ row. row.items) room.tests.items);
         values = take (values i) (map value_held room.values.items);
@@ -67,7 +73,8 @@ module _ (m : MemberContents) (c : MemberCounts) (for : AreFor m c) (kept : Memb
   -- a member may be judged by a room that holds what it kept
   pub may_judge : (room : Room) (old : MemberKept) → HasShape m old → Holds room old → MayJudge c room kept
   may_judge room old old_shape holds = record {
-    shape = subst (λ (k : MemberKept). HaveOneShape k kept) (sym (held_again room old old_shape holds)) (one_shape_of m old kept old_shape shape);
+    shape = subst (λ (k : MemberKept). HaveOneShape k kept)
+        (sym (held_again room old old_shape holds)) (one_shape_of m old kept old_shape shape);
     tests = record { bits = counts_fit.tests; free = free_tests };
     values = record { bits = counts_fit.values; free = free_values };
   }
@@ -79,14 +86,17 @@ length-counted before after =
 none : (x : ℕ) (xs : List ℕ) → x ∷ xs ≡ [] → ⊥
 none x xs same = cc
 
-counted_long : (befores afters : List (List ℕ)) → map length befores ≡ map length afters → map length (counted_rows befores afters) ≡ map length afters
+counted_long : (befores afters : List (List ℕ)) → map length befores ≡ map length afters
+    → map length (counted_rows befores afters) ≡ map length afters
 counted_long [] [] long = refl
 counted_long [] (after ∷ afters) long = absurd (none (length after) (map length afters) (sym long))
 counted_long (before ∷ befores) [] long = absurd (none (length before) (map length befores) long)
 counted_long (before ∷ befores) (after ∷ afters) long =
-    ap₂ (λ x xs. x ∷ xs) (length-counted before after) (counted_long befores afters (tails (length before) (length after) (map length befores) (map length afters) long))
+    ap₂ (λ x xs. x ∷ xs) (length-counted before after) (counted_long befores afters
+    (tails (length before) (length after) (map length befores) (map length afters) long))
 
-module _ (m : MemberContents) (old new : MemberCounts) (before after : MemberKept) (result : Judged) (for : AreFor m old)
+module _ (m : MemberContents) (old new : MemberCounts) (before after : MemberKept) (result : Judged)
+    (for : AreFor m old)
     (shape : HasShape m before) (shape_too : HasShape m after) (judges : Judges old new before after result) where
   same_tests : map length (bit_rows new.tests.items) ≡ map length (free_rows new.tests.items)
   same_tests =
@@ -95,7 +105,8 @@ module _ (m : MemberContents) (old new : MemberCounts) (before after : MemberKep
 
   same_values : map length (bit_rows new.values.items) ≡ map length (free_rows new.values.items)
   same_values =
-      ap (map length) judges.values.bits ∙ counted_long (hits before.values) (hits after.values) (shape.hits ∙ sym shape_too.hits)
+      ap (map length) judges.values.bits
+      ∙ counted_long (hits before.values) (hits after.values) (shape.hits ∙ sym shape_too.hits)
       ∙ sym (free_values m old for after shape_too) ∙ sym (ap (map length) judges.values.free)
 
   -- the counts are for the member still
@@ -108,22 +119,26 @@ module _ (m : MemberContents) (old new : MemberCounts) (before after : MemberKep
   }
 
   rows_many : (kept : MemberKept) → HasShape m kept → length kept.values ≡ length m.values
-  rows_many kept fits = sym (length-map kept.values (λ (v : ValueKept). v.hits)) ∙ as_many (hits kept.values) m.values value_hits fits.hits
+  rows_many kept fits = sym (length-map kept.values (λ (v : ValueKept). v.hits))
+      ∙ as_many (hits kept.values) m.values value_hits fits.hits
 
   pub judged_tests : result.tests ≡ true → TestsKeep m.tests before.tests after.tests
   judged_tests kept =
       tests_keep m.tests (free_rows old.tests.items) before.tests after.tests for.tests
-      (as_many before.tests m.tests trigger_hits shape.tests ∙ sym (as_many after.tests m.tests trigger_hits shape_too.tests)) shape_too.tests
+      (as_many before.tests m.tests trigger_hits shape.tests
+      ∙ sym (as_many after.tests m.tests trigger_hits shape_too.tests)) shape_too.tests
       (judges.tests.keep kept)
 
   pub judged_values : result.values ≡ true → ValuesKeep m.values before.values after.values
   judged_values kept =
       values_keep m.values (free_rows old.values.items) before.values after.values for.values
-      (rows_many before shape ∙ sym (rows_many after shape_too)) shape_too.hits (judges.numbers kept) (judges.values.keep kept)
+      (rows_many before shape ∙ sym (rows_many after shape_too)) shape_too.hits
+      (judges.numbers kept) (judges.values.keep kept)
 
 -- what a room holds of values, of one kind
 pub taken_held : (f : ValueKept → List ℕ) (rows : List ValueRoom) (values : List ValueRun)
-    → map f (take (length (map (λ (v : ValueRun). v.value) values)) (map value_held rows)) ≡ take (length values) (map (λ (r : ValueRoom). f (value_held r)) rows)
+    → map f (take (length (map (λ (v : ValueRun). v.value) values)) (map value_held rows))
+    ≡ take (length values) (map (λ (r : ValueRoom). f (value_held r)) rows)
 taken_held f rows values =
     sym (take-map f (length (map (λ (v : ValueRun). v.value) values)) (map value_held rows))
     ∙ ap (take (length (map (λ (v : ValueRun). v.value) values))) (map-map f value_held rows)
