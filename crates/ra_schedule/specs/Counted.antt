@@ -1,5 +1,6 @@
 -- Which conditions counted a hit at a frame, and what they owe at rest: docs/INTERNALS.md, "Rest".
-use Rattle.std.specs.Prelude.{◌≡◌, ℕ, ◌+◌, Bool, false, if◌then◌else◌, not, ◌&&◌, ◌||◌, ◌==◌, List, ◌++◌, length, map, slice_index, slice_index_or, zip}
+use Rattle.std.specs.Prelude.{◌≡◌, ℕ, ◌+◌, Bool, false, if◌then◌else◌, not, ◌&&◌, ◌||◌, ◌==◌, List, ◌++◌, length, map}
+use Rattle.std.specs.Prelude.{slice_index, slice_index_or, zip}
 use Rattle.std.specs.List.{flat_map, list_all, range_with_len}
 use Rattle.ra_condition.specs.declared.condition.Condition.{Condition}
 use Rattle.ra_group.specs.declared.form.Form.{Form}

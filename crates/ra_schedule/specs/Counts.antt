@@ -57,14 +57,17 @@ pub record FitRows (counts : List Counts) (hits : List (List ℕ)) : Type 0 wher
   pub bits : map length (bit_rows counts) ≡ map length hits
   pub free : map length (free_rows counts) ≡ map length hits
 
--- a step is noted row by row: the bits say which hits changed, and it is said whether each stayed, or is free and one more
+-- a step is noted row by row: the bits say which hits changed, and it is said whether each stayed, or is free and one
+-- more
 pub record JudgesRows (old new : List Counts) (befores afters : List (List ℕ)) (keeps : Bool) : Type 0 where
   pub free : free_rows new ≡ free_rows old
   pub bits : bit_rows new ≡ counted_rows befores afters
   pub keep : keeps ≡ true → (k : ℕ) → k < length afters
-      → all_keep_by (slice_index_or (free_rows old) k []) (slice_index_or befores k []) (slice_index_or afters k []) ≡ true
+      → all_keep_by (slice_index_or (free_rows old) k []) (slice_index_or befores k [])
+      (slice_index_or afters k []) ≡ true
 
--- a member may be judged: a room holds as much of what it kept before as it keeps now, and there is a bit for each of its hits
+-- a member may be judged: a room holds as much of what it kept before as it keeps now, and there is a bit for each of
+-- its hits
 pub record MayJudge (counts : MemberCounts) (room : Room) (kept : MemberKept) : Type 0 where
   pub shape : HaveOneShape (held room kept) kept
   pub tests : FitRows counts.tests.items kept.tests
@@ -73,5 +76,6 @@ pub record MayJudge (counts : MemberCounts) (room : Room) (kept : MemberKept) : 
 -- a member is judged by what it kept before and after a step
 pub record Judges (old new : MemberCounts) (before after : MemberKept) (result : Judged) : Type 0 where
   pub tests : JudgesRows old.tests.items new.tests.items before.tests after.tests result.tests
-  pub values : JudgesRows old.values.items new.values.items (map (λ v. v.hits) before.values) (map (λ v. v.hits) after.values) result.values
+  pub values : JudgesRows old.values.items new.values.items (map (λ v. v.hits) before.values)
+      (map (λ v. v.hits) after.values) result.values
   pub numbers : result.values ≡ true → map (λ v. v.numbers) before.values ≡ map (λ v. v.numbers) after.values

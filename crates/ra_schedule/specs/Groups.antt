@@ -1,5 +1,7 @@
--- A group at rest: a frame adds a hit to some conditions at whose hits nothing looks, and changes nothing else: docs/INTERNALS.md, "Rest".
-use Rattle.std.specs.Prelude.{◌≡◌, ℕ, ◌+◌, min, Bool, true, false, if◌then◌else◌, not, ◌&&◌, ◌||◌, ◌==◌, List, [], ◌∷◌, length, take, drop, map, slice_index, slice_index_or}
+-- A group at rest: a frame adds a hit to some conditions at whose hits nothing looks, and changes nothing else:
+-- docs/INTERNALS.md, "Rest".
+use Rattle.std.specs.Prelude.{◌≡◌, ℕ, ◌+◌, min, Bool, true, false, if◌then◌else◌, not, ◌&&◌, ◌||◌, ◌==◌, List, [], ◌∷◌}
+use Rattle.std.specs.Prelude.{length, take, drop, map, slice_index, slice_index_or}
 use Rattle.std.specs.List.{list_all, range_with_len}
 use Rattle.ra_condition.specs.declared.flag.Flag.{Flag}
 use Rattle.ra_condition.specs.declared.flag.Flag.TheVariants.{AddHits, SubHits}
@@ -24,12 +26,14 @@ is_free form c = (c.target == 0) && (not (hands_hits c.flag) && not (is_measured
 -- the hits of the condition at j are those of the frame, and not those before it
 abbrev pub is_stepped : Frame → ℕ → Bool
 is_stepped f j =
-    not (hands_on (condition_at f.conditions j).flag) && (not (some_valid is_pause f (places f.conditions)) || in_pause_chain f.conditions j)
+    not (hands_on (condition_at f.conditions j).flag)
+    && (not (some_valid is_pause f (places f.conditions)) || in_pause_chain f.conditions j)
 
 -- a free condition at j counts a hit at the frame
 abbrev pub is_counting : Form → Frame → ℕ → Bool
 is_counting form f j =
-    is_free form (condition_at f.conditions j) && (is_stepped f j && (not (reset_by (prev_of f j)) && met (prev_of f j) (slice_index_or f.truths j false)))
+    is_free form (condition_at f.conditions j) && (is_stepped f j
+    && (not (reset_by (prev_of f j)) && met (prev_of f j) (slice_index_or f.truths j false)))
 
 -- hits with n more, at most the greatest number of 32 bits
 abbrev pub plus : ℕ → ℕ → ℕ
@@ -64,7 +68,8 @@ all_keep form cs before after =
 abbrev pub groups_keep : Form → List (List Condition) → (before after : List ℕ) → Bool
 groups_keep form [] before after = true
 groups_keep form (cs ∷ groups) before after =
-    all_keep form cs (take (length cs) before) (take (length cs) after) && groups_keep form groups (drop (length cs) before) (drop (length cs) after)
+    all_keep form cs (take (length cs) before) (take (length cs) after)
+    && groups_keep form groups (drop (length cs) before) (drop (length cs) after)
 
 -- hits with n more where others stood before the frame at which the rest began, at most the greatest number of 32 bits
 abbrev pub paid : ℕ → (before hits : List ℕ) → List ℕ

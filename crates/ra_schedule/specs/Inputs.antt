@@ -1,4 +1,5 @@
--- What tests and values see at the last frame of a history, and when they see the same at another: docs/INTERNALS.md, "Members at rest".
+-- What tests and values see at the last frame of a history, and when they see the same at another: docs/INTERNALS.md,
+-- "Members at rest".
 use Rattle.std.specs.Prelude.{◌≡◌, List, [], ◌∷◌, map}
 use Rattle.ra_condition.specs.declared.condition.Condition.{Condition}
 use Rattle.ra_condition.specs.Contents.{TriggerContents, groups_of, PartContents, counted_in}
@@ -15,10 +16,12 @@ pub record Instant : Type 0 where
   pub start : Start
   pub history : History
 
--- the conditions of some groups see the same at two moments: the same comparisons hold, and what is given as a number is the same
+-- the conditions of some groups see the same at two moments: the same comparisons hold, and what is given as a number
+-- is the same
 pub record SeeSame (form : Form) (now later : Instant) (groups : List (List Condition)) : Type 0 where
   pub truths : truths_at later.start later.history groups ≡ truths_at now.start now.history groups
-  pub lefts : GiveTheSame form groups (lefts_at now.start now.history groups) (lefts_at later.start later.history groups)
+  pub lefts : GiveTheSame form groups (lefts_at now.start now.history groups)
+      (lefts_at later.start later.history groups)
 
 -- each of some tests sees the same at two moments
 abbrev pub TestsSeeSame : (now later : Instant) → List TriggerContents → Type 0

@@ -1,5 +1,6 @@
 -- Who reads a node, and who is due: docs/INTERNALS.md, "Readers of nodes".
-use Rattle.std.specs.Prelude.{◌≡◌, ◌⊎◌, ℕ, ◌-◌, ◌<◌, Bool, true, false, Some, List, [], length, replicate, slice_get, slice_index_or}
+use Rattle.std.specs.Prelude.{◌≡◌, ◌⊎◌, ℕ, ◌-◌, ◌<◌, Bool, true, false, Some, List, [], length, replicate, slice_get}
+use Rattle.std.specs.Prelude.{slice_index_or}
 pub use Rattle.ra_memref.specs.Table.{IsListed}
 
 -- for each node the readers that are noted for it, and for each reader whether it is due

@@ -1,5 +1,7 @@
 -- Who is due at a frame, and what those at rest owe: docs/INTERNALS.md, "Schedules".
-use Rattle.std.specs.Prelude.{◌≡◌, ℕ, suc, ◌+◌, ◌-◌, ◌<◌, ◌≤◌, min, not, Bool, true, false, if◌then◌else◌, Option, None, Some, IfSome, List, [], ◌∷◌, ◌++◌, length, map, replicate, slice_index, slice_index_or, slice_set}
+use Rattle.std.specs.Prelude.{◌≡◌, ℕ, suc, ◌+◌, ◌-◌, ◌<◌, ◌≤◌, min, not, Bool, true, false, if◌then◌else◌, Option, None}
+use Rattle.std.specs.Prelude.{Some, IfSome, List, [], ◌∷◌, ◌++◌, length, map, replicate, slice_index, slice_index_or}
+use Rattle.std.specs.Prelude.{slice_set}
 use Rattle.std.specs.Option.{is_some}
 use Rattle.ra_indirect.specs.declared.node.Node.{Node}
 use Rattle.ra_memref.specs.Table.{TableSeen}
@@ -9,7 +11,8 @@ use Rattle.ra_truths.specs.Truths.{IsTold, Takes, TruthsSeen}
 use Rattle.ra_schedule.specs.Readers.{ReadersSeen, all_woken}
 use Rattle.ra_schedule.specs.Waking.{IsWoken, IsWokenAlone}
 
--- what a schedule is seen as: who reads which signal and who is due, the comparisons among the signals with their truths, since which count of frames each place rests, and the count of now
+-- what a schedule is seen as: who reads which signal and who is due, the comparisons among the signals with their
+-- truths, since which count of frames each place rests, and the count of now
 pub record ScheduleSeen : Type 0 where
   pub readers : ReadersSeen
   pub truths : TruthsSeen
@@ -72,7 +75,8 @@ noted_at place rests s = record s {
 abbrev pub signals_at : TableSeen → TruthsSeen → List ℕ
 signals_at table truths = table.changed ++ map (λ k. truths.nodes + k) truths.flipped
 
--- a frame may begin: the table was sampled, has the nodes of the comparisons, and lists those with another value than the truths are by
+-- a frame may begin: the table was sampled, has the nodes of the comparisons, and lists those with another value than
+-- the truths are by
 pub record MayBegin (table : TableSeen) (s : ScheduleSeen) : Type 0 where
   pub nodes : length table.nodes ≡ s.truths.nodes
   pub over : AreOver table.nodes s.truths.comparisons
@@ -80,7 +84,8 @@ pub record MayBegin (table : TableSeen) (s : ScheduleSeen) : Type 0 where
   pub told : s.truths.known ≡ true → IsTold s.truths.comparisons s.truths.truths table
   pub changed : (k : ℕ) → k < length table.changed → slice_index table.changed k < length table.nodes
 
--- a frame begins by a table: the truths are taken, who reads a signal that changed is due, and none owes more or less; where not many changed, who became due reads one
+-- a frame begins by a table: the truths are taken, who reads a signal that changed is due, and none owes more or less;
+-- where not many changed, who became due reads one
 pub record Begins (table : TableSeen) (old new : ScheduleSeen) : Type 0 where
   pub truths : Takes old.truths new.truths table
   pub woken : IsWoken old.clock (signals_at table new.truths) old.readers new.readers
@@ -94,7 +99,8 @@ pub record IsHeard (nodes : List Node) (values : List ℕ) (s : ScheduleSeen) : 
   pub over : AreOver nodes s.truths.comparisons
   pub truths : s.truths.known ≡ true → s.truths.truths ≡ truths_by values s.truths.comparisons
 
--- between frames: this many places, of which each rests since no later count; who is not due rests, a frame was taken, and this holds of it
+-- between frames: this many places, of which each rests since no later count; who is not due rests, a frame was taken,
+-- and this holds of it
 pub record AreAtRest (On : ℕ → Type 0) (places : ℕ) (s : ScheduleSeen) : Type 0 where
   pub due_many : length s.readers.due ≡ places
   pub since_many : length s.since ≡ places
@@ -104,12 +110,15 @@ pub record AreAtRest (On : ℕ → Type 0) (places : ℕ) (s : ScheduleSeen) : T
   pub on : (k : ℕ) → k < places → is_due s k ≡ false → On k
 
 -- what is seen of each place, by what it has, what it had before its rest, and how many frames it owes
-abbrev pub seen_all : {Run Before Kept : Type 0} → (Run → Before → Option ℕ → Kept) → (owed : ℕ → Option ℕ) → List Run → List Before → List Kept
-seen_all seen owed (run ∷ runs) (before ∷ befores) = seen run before (owed 0) ∷ seen_all seen (λ k. owed (suc k)) runs befores
+abbrev pub seen_all : {Run Before Kept : Type 0} → (Run → Before → Option ℕ → Kept)
+    → (owed : ℕ → Option ℕ) → List Run → List Before → List Kept
+seen_all seen owed (run ∷ runs) (before ∷ befores) =
+    seen run before (owed 0) ∷ seen_all seen (λ k. owed (suc k)) runs befores
 seen_all seen owed _ _ = []
 
 -- one frame of each, from what is seen of it before to what is seen of it after, beside what it says
-abbrev pub AllSteps : {Thing Kept Said : Type 0} → (Thing → Kept → Kept → Said → Type 0) → List Thing → (olds news : List Kept) → List Said → Type 0
+abbrev pub AllSteps : {Thing Kept Said : Type 0} → (Thing → Kept → Kept → Said → Type 0)
+    → List Thing → (olds news : List Kept) → List Said → Type 0
 AllSteps Steps [] [] [] [] = Unit {0}
 AllSteps Steps (thing ∷ things) (old ∷ olds) (new ∷ news) (said ∷ all) =
     Steps thing old new said × AllSteps Steps things olds news all

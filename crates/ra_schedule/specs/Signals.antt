@@ -1,5 +1,6 @@
 -- What readers are woken by, nodes and comparisons, and who reads which: docs/INTERNALS.md, "Signals".
-use Rattle.std.specs.Prelude.{◌≡◌, ℕ, ◌+◌, ◌<◌, ◌≤◌, Bool, true, false, Option, None, Some, List, length, replicate, slice_index, slice_index_or}
+use Rattle.std.specs.Prelude.{◌≡◌, ℕ, ◌+◌, ◌<◌, ◌≤◌, Bool, true, false, Option, None, Some, List, length, replicate}
+use Rattle.std.specs.Prelude.{slice_index, slice_index_or}
 use Rattle.ra_operand.specs.declared.op.Op.{Op}
 use Rattle.ra_operand.specs.declared.op.Op.TheVariants.{Bare, Eq, Ne, Lt, Le, Gt, Ge}
 use Rattle.ra_indirect.specs.declared.node.Node.{Node}
@@ -66,12 +67,14 @@ comparison_in laid j = record {
 -- a reader reads the comparisons of the conditions in front of a place, where these may come out otherwise
 abbrev pub AreHeard : SignalsSeen → Laid → (count reader : ℕ) → Type 0
 AreHeard s laid count reader =
-    (j : ℕ) → j < count → is_comparing (slice_index_or laid.ops.items j Bare) ≡ true → Hears s (comparison_in laid j) reader
+    (j : ℕ) → j < count → is_comparing (slice_index_or laid.ops.items j Bare) ≡ true
+    → Hears s (comparison_in laid j) reader
 
 -- a reader reads the left nodes of the conditions in front of a place, where these give their left values as numbers
 abbrev pub IsGivenRead : (given : List Bool) → Laid → (count : ℕ) → ReadersSeen → (reader : ℕ) → Type 0
 IsGivenRead given laid count readers reader =
-    (j : ℕ) → j < count → slice_index_or given j false ≡ true → Reads readers (slice_index laid.plan.lefts.items j) reader
+    (j : ℕ) → j < count → slice_index_or given j false ≡ true
+    → Reads readers (slice_index laid.plan.lefts.items j) reader
 
 -- a reader reads a node that may be missing
 abbrev pub IsSumRead : Option ℕ → ReadersSeen → (reader : ℕ) → Type 0
@@ -83,7 +86,8 @@ abbrev pub AreSumsRead : List (Option ℕ) → (count : ℕ) → ReadersSeen →
 AreSumsRead nodes count readers reader = (j : ℕ) → j < count → IsSumRead (slice_index_or nodes j None) readers reader
 
 -- this many places are all due, and of those in front of a place this holds; all comparisons are over nodes with values
-pub record AreSignals (nodes : List Node) (Told : SignalsSeen → ℕ → Type 0) (places : ℕ) (s : SignalsSeen) (place : ℕ) : Type 0 where
+pub record AreSignals (nodes : List Node) (Told : SignalsSeen → ℕ → Type 0) (places : ℕ)
+    (s : SignalsSeen) (place : ℕ) : Type 0 where
   pub nodes_too : length nodes ≡ s.nodes
   pub over : AreOver nodes s.comparisons
   pub due : s.readers.due ≡ replicate places true

@@ -11,7 +11,8 @@ use Rattle.ra_schedule.specs.Groups.{rested_hits, paid}
 abbrev pub rested_groups : ℕ → TriggerContents → List Bool → (lefts hits : List ℕ) → List ℕ
 rested_groups n t truths lefts hits = flat_map (rested_hits n InTrigger) (frames_along (groups_of t) truths lefts hits)
 
--- what is kept of an achievement after n frames at rest: where no frame clears its hits, the free conditions go on to count
+-- what is kept of an achievement after n frames at rest: where no frame clears its hits, the free conditions go on to
+-- count
 abbrev pub rested_achievement : ℕ → TriggerContents → List Bool → List ℕ → TriggerKept → TriggerKept
 rested_achievement n t truths lefts old =
     let now = together t truths lefts old.hits in

@@ -15,7 +15,8 @@ counted_by_part part = counted_in (part_contents part)
 
 -- the hits of all parts of a value after n frames at rest
 abbrev pub rested_parts : ℕ → List PartContents → List Bool → (lefts hits : List ℕ) → List ℕ
-rested_parts n parts truths lefts hits = flat_map (rested_hits n InValue) (frames_along (map counted_in parts) truths lefts hits)
+rested_parts n parts truths lefts hits =
+    flat_map (rested_hits n InValue) (frames_along (map counted_in parts) truths lefts hits)
 
 -- what is kept of a value after n frames at rest: where no part resets, the free conditions go on to count
 abbrev pub rested_value : ℕ → List PartContents → List Bool → (lefts sums : List ℕ) → ValueKept → ValueKept

@@ -1,5 +1,6 @@
 -- When readers are woken at a frame, and what they see of its values: docs/INTERNALS.md, "Members at rest".
-use Rattle.std.specs.Prelude.{◌≡◌, ℕ, ◌+◌, ◌/◌, ◌<◌, ◌≤◌, true, false, List, [], ◌∷◌, length, map, slice_index, slice_index_or}
+use Rattle.std.specs.Prelude.{◌≡◌, ℕ, ◌+◌, ◌/◌, ◌<◌, ◌≤◌, true, false, List, [], ◌∷◌, length, map, slice_index}
+use Rattle.std.specs.Prelude.{slice_index_or}
 use Rattle.ra_indirect.specs.declared.node.Node.{Node}
 use Rattle.ra_indirect.specs.Pools.{spelled_by}
 use Rattle.ra_memref.specs.Table.{TableSeen, spelled_value}
@@ -25,8 +26,10 @@ pub record IsSomeFrame (table : TableSeen) : Type 0 where
   pub image : List ℕ
   pub has : AreValuesAt table.nodes table.values (first_frame start image)
 
--- a reader reads the same at two rows of values: the numbers of the nodes that it reads, and the truths of the comparisons
-pub record Agrees (nodes : ℕ) (comparisons : List Comparison) (readers : ReadersSeen) (reader : ℕ) (values later : List ℕ) : Type 0 where
+-- a reader reads the same at two rows of values: the numbers of the nodes that it reads, and the truths of the
+-- comparisons
+pub record Agrees (nodes : ℕ) (comparisons : List Comparison) (readers : ReadersSeen) (reader : ℕ)
+    (values later : List ℕ) : Type 0 where
   pub numbers : (n : ℕ) → n < nodes → Reads readers n reader → slice_index later n ≡ slice_index values n
   pub truths : (k : ℕ) → k < length comparisons → Reads readers (nodes + k) reader
       → holds_by later (comparison_at comparisons k) ≡ holds_by values (comparison_at comparisons k)
@@ -35,21 +38,25 @@ pub record Agrees (nodes : ℕ) (comparisons : List Comparison) (readers : Reade
 pub record IsWoken (clock : ℕ) (nodes : List ℕ) (old new : ReadersSeen) : Type 0 where
   pub rows : new.rows ≡ old.rows
   pub long : length new.due ≡ length old.due
-  pub kept : (r : ℕ) → slice_index_or new.due r true ≡ false → (slice_index_or old.due r true ≡ false) × (clock < 18446744073709551615)
+  pub kept : (r : ℕ) → slice_index_or new.due r true ≡ false
+      → (slice_index_or old.due r true ≡ false) × (clock < 18446744073709551615)
   pub woken : (r n : ℕ) → slice_index_or new.due r true ≡ false → IsListed n nodes → Reads old n r → ⊥
 
--- who became due reads one of these signals, unless more than a quarter of all signals are among them, or the count of frames is at its end
+-- who became due reads one of these signals, unless more than a quarter of all signals are among them, or the count of
+-- frames is at its end
 abbrev pub IsWokenAlone : (clock : ℕ) → List ℕ → (old new : ReadersSeen) → Type 0
 IsWokenAlone clock nodes old new =
     length nodes ≤ length old.rows / 4 → clock < 18446744073709551615
     → (r : ℕ) → slice_index_or old.due r true ≡ false → slice_index_or new.due r true ≡ true → ReadsOne old nodes r
 
 -- a reader is told of all that something sees: where it reads the same, that sees the same
-abbrev pub IsTold : (Sees : Instant → Instant → Type 0) → List Node → List Comparison → ReadersSeen → (reader : ℕ) → Type 0
+abbrev pub IsTold : (Sees : Instant → Instant → Type 0) → List Node → List Comparison → ReadersSeen
+    → (reader : ℕ) → Type 0
 IsTold Sees nodes comparisons readers reader =
     (values values' : List ℕ) (now later : Instant) → AreValuesAt nodes values now → AreValuesAt nodes values' later
     → Agrees (length nodes) comparisons readers reader values values' → Sees now later
 
 -- a reader is told of all that a member sees
 abbrev pub IsMemberTold : List Node → List Comparison → ReadersSeen → MemberContents → (reader : ℕ) → Type 0
-IsMemberTold nodes comparisons readers m reader = IsTold (λ now later. MemberSeesSame now later m) nodes comparisons readers reader
+IsMemberTold nodes comparisons readers m reader =
+    IsTold (λ now later. MemberSeesSame now later m) nodes comparisons readers reader

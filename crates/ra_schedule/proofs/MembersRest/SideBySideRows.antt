@@ -1,5 +1,6 @@
 -- Rows that stand beside what is kept, and a walk over both.
-use Rattle.std.proofs.Common.{◌≡◌, ℕ, zero, suc, ◌+◌, ◌<◌, Bool, List, [], ◌∷◌, ◌++◌, length, map, take, drop, get_or, set, zip, sym, ◌∙◌, ap, ap₂, subst, arith}
+use Rattle.std.proofs.Common.{◌≡◌, ℕ, zero, suc, ◌+◌, ◌<◌, Bool, List, [], ◌∷◌, ◌++◌, length, map, take, drop, get_or}
+use Rattle.std.proofs.Common.{set, zip, sym, ◌∙◌, ap, ap₂, subst, arith}
 use Rattle.std.specs.List.{AllByRecursion}
 use Rattle.std.proofs.lemmas.List.{map-append, take_more, take_more_set, get_or-drop, length-map, length-take-le}
 use Rattle.ra_member.proofs.SideBySide.{zip_more}
@@ -36,7 +37,8 @@ module _ {A B X Y : Type 0} (f : X → List A) (g : Y → List B) where
       )
 
   -- the rows at one place are as long
-  pub as_long : (xs : List X) (ys : List Y) (k : ℕ) (d : X) (e : Y) → k < length xs → map length (map f xs) ≡ map length (map g ys)
+  pub as_long : (xs : List X) (ys : List Y) (k : ℕ) (d : X) (e : Y) → k < length xs
+      → map length (map f xs) ≡ map length (map g ys)
       → length (f (get_or xs k d)) ≡ length (g (get_or ys k e))
   as_long [] ys k d e within long = absurd (omega (arith, within))
   as_long (x ∷ xs) [] k d e within long = absurd (none (length (f x)) (map length (map f xs)) long)
@@ -100,11 +102,14 @@ module _ {X Y R K : Type 0} (row : X → R) (kept : Y → K) (op : R × K → K)
       (sym (said_next kept olds k e within))
 
 -- whether hits changed is noted at one place more
-module _ {X Y C : Type 0} (row : X → List ℕ) (kept : Y → List ℕ) (bits : C → List Bool) (rows : List X) (runs : List Y) (counts : List C)
-    (k : ℕ) (d : X) (e : Y) (within_rows : k < length rows) (within : k < length runs) (within_too : k < length counts) where
+module _ {X Y C : Type 0} (row : X → List ℕ) (kept : Y → List ℕ) (bits : C → List Bool)
+    (rows : List X) (runs : List Y) (counts : List C)
+    (k : ℕ) (d : X) (e : Y) (within_rows : k < length rows) (within : k < length runs)
+    (within_too : k < length counts) where
   pub counted_next : (new : C) → bits new ≡ counted (row (get_or rows k d)) (kept (get_or runs k e))
       → map bits (take k counts) ≡ counted_rows (map row (take k rows)) (map kept (take k runs))
-      → map bits (take (k + 1) (set counts k new)) ≡ counted_rows (map row (take (k + 1) rows)) (map kept (take (k + 1) runs))
+      → map bits (take (k + 1) (set counts k new))
+      ≡ counted_rows (map row (take (k + 1) rows)) (map kept (take (k + 1) runs))
   counted_next new one before =
       let same_many : length (map kept (take k runs)) ≡ length (map row (take k rows)) =
       omega (
@@ -119,5 +124,6 @@ module _ {X Y C : Type 0} (row : X → List ℕ) (kept : Y → List ℕ) (bits :
       ap (map bits) (take_more_set counts k new within_too)
       ∙ map-append bits (take k counts) (new ∷ [])
       ∙ ap₂ (λ xs x. xs ++ x ∷ []) before one
-      ∙ sym (zip_more (λ (p : List ℕ × List ℕ). counted p.0 p.1) (map row (take k rows)) (map kept (take k runs)) (row (get_or rows k d)) (kept (get_or runs k e)) same_many)
+      ∙ sym (zip_more (λ (p : List ℕ × List ℕ). counted p.0 p.1) (map row (take k rows))
+      (map kept (take k runs)) (row (get_or rows k d)) (kept (get_or runs k e)) same_many)
       ∙ ap₂ counted_rows (sym (said_next row rows k d within_rows)) (sym (said_next kept runs k e within))

@@ -1,5 +1,6 @@
 -- Signals that are noted: nothing that was noted before is lost.
-use Rattle.std.proofs.Common.{◌≡◌, inl, inr, ℕ, ◌+◌, ◌<◌, ◌≤◌, true, false, Bool, Option, None, Some, List, [], ◌∷◌, length, slice_index, slice_index_or, refl, sym, ◌∙◌, ap, subst, arith, length-append}
+use Rattle.std.proofs.Common.{◌≡◌, inl, inr, ℕ, ◌+◌, ◌<◌, ◌≤◌, true, false, Bool, Option, None, Some, List, [], ◌∷◌}
+use Rattle.std.proofs.Common.{length, slice_index, slice_index_or, refl, sym, ◌∙◌, ap, subst, arith, length-append}
 use Rattle.std.proofs.lemmas.Bool.{false≢true}
 use Rattle.ra_operand.specs.declared.op.Op.{Op}
 use Rattle.ra_operand.specs.declared.op.Op.TheVariants as ops
@@ -14,7 +15,8 @@ use Rattle.ra_truths.proofs.ComparisonLemmas.{kept_interned, over_interned, plac
 use Rattle.ra_member.specs.declared.laid.Laid.{Laid}
 use Rattle.ra_member.specs.Runs.{MayFill}
 use Rattle.ra_schedule.specs.Readers.{Notes, ReadersSeen, Reads}
-use Rattle.ra_schedule.specs.Signals.{AreHeard, AreSumsRead, Hears, IsGivenRead, IsSumRead, KeepsAll, NotesComparison, NotesNode, SignalsSeen, comparison_in, is_comparing}
+use Rattle.ra_schedule.specs.Signals.{AreHeard, AreSumsRead, Hears, IsGivenRead, IsSumRead, KeepsAll, NotesComparison}
+use Rattle.ra_schedule.specs.Signals.{NotesNode, SignalsSeen, comparison_in, is_comparing}
 
 module _ (nodes : List Node) where
   -- nothing was noted yet
@@ -41,48 +43,59 @@ module _ (nodes : List Node) where
   }
 
   -- who hears a comparison hears it still
-  pub hears_still : (a b : SignalsSeen) (c : Comparison) (reader : ℕ) → KeepsAll nodes a b → Hears a c reader → Hears b c reader
+  pub hears_still : (a b : SignalsSeen) (c : Comparison) (reader : ℕ) → KeepsAll nodes a b
+      → Hears a c reader → Hears b c reader
   hears_still a b c reader keeps hears = record {
     number = hears.number;
     within = omega (arith, hears.within, keeps.front.long);
     is = keeps.front.same hears.number hears.within ∙ hears.is;
-    reads = subst (λ n. Reads b.readers (n + hears.number) reader) (sym keeps.nodes_too) (keeps.kept (a.nodes + hears.number) reader hears.reads);
+    reads = subst (λ n. Reads b.readers (n + hears.number) reader) (sym keeps.nodes_too)
+        (keeps.kept (a.nodes + hears.number) reader hears.reads);
   }
 
-  pub heard_still : (a b : SignalsSeen) (laid : Laid) (count reader : ℕ) → KeepsAll nodes a b → AreHeard a laid count reader → AreHeard b laid count reader
+  pub heard_still : (a b : SignalsSeen) (laid : Laid) (count reader : ℕ) → KeepsAll nodes a b
+      → AreHeard a laid count reader → AreHeard b laid count reader
   heard_still a b laid count reader keeps heard j below comparing =
       hears_still a b (comparison_in laid j) reader keeps (heard j below comparing)
 
 -- one place more is heard
 pub heard_more : (s : SignalsSeen) (laid : Laid) (count reader : ℕ) → AreHeard s laid count reader
-    → (is_comparing (slice_index_or laid.ops.items count Bare) ≡ true → Hears s (comparison_in laid count) reader) → AreHeard s laid (count + 1) reader
+    → (is_comparing (slice_index_or laid.ops.items count Bare) ≡ true
+    → Hears s (comparison_in laid count) reader) → AreHeard s laid (count + 1) reader
 heard_more s laid count reader heard last j below = elim (below_or_last j count below) [
   | inl less ↦ heard j less
-  | inr here ↦ subst (λ k. is_comparing (slice_index_or laid.ops.items k Bare) ≡ true → Hears s (comparison_in laid k) reader) (sym here) last
+  | inr here ↦ subst (λ k. is_comparing (slice_index_or laid.ops.items k Bare) ≡ true
+      → Hears s (comparison_in laid k) reader) (sym here) last
 ]
 
 module _ (readers : ReadersSeen) (reader : ℕ) where
   -- one place more is read
   pub given_more : (given : List Bool) (laid : Laid) (count : ℕ) → IsGivenRead given laid count readers reader
-      → (slice_index_or given count false ≡ true → Reads readers (slice_index laid.plan.lefts.items count) reader) → IsGivenRead given laid (count + 1) readers reader
+      → (slice_index_or given count false ≡ true → Reads readers (slice_index laid.plan.lefts.items
+      count) reader) → IsGivenRead given laid (count + 1) readers reader
   given_more given laid count read last j below = elim (below_or_last j count below) [
     | inl less ↦ read j less
-    | inr here ↦ subst (λ k. slice_index_or given k false ≡ true → Reads readers (slice_index laid.plan.lefts.items k) reader) (sym here) last
+    | inr here ↦ subst (λ k. slice_index_or given k false ≡ true
+        → Reads readers (slice_index laid.plan.lefts.items k) reader) (sym here) last
   ]
 
-  pub sums_more : (sums : List (Option ℕ)) (count : ℕ) → AreSumsRead sums count readers reader → IsSumRead (slice_index_or sums count None) readers reader → AreSumsRead sums (count + 1) readers reader
+  pub sums_more : (sums : List (Option ℕ)) (count : ℕ) → AreSumsRead sums count readers reader
+      → IsSumRead (slice_index_or sums count None) readers reader
+      → AreSumsRead sums (count + 1) readers reader
   sums_more sums count read last j below = elim (below_or_last j count below) [
     | inl less ↦ read j less
     | inr here ↦ subst (λ k. IsSumRead (slice_index_or sums k None) readers reader) (sym here) last
   ]
 
 -- who reads a node that may be missing reads it still
-pub sum_still : (a b : ReadersSeen) (reader : ℕ) → ((s r : ℕ) → Reads a s r → Reads b s r) → (sum : Option ℕ) → IsSumRead sum a reader → IsSumRead sum b reader
+pub sum_still : (a b : ReadersSeen) (reader : ℕ) → ((s r : ℕ) → Reads a s r → Reads b s r)
+    → (sum : Option ℕ) → IsSumRead sum a reader → IsSumRead sum b reader
 sum_still a b reader kept None read = tt
 sum_still a b reader kept (Some node) read = kept node reader read
 
 -- a node is noted
-pub node_noted : (node reader : ℕ) (a b : SignalsSeen) → b.nodes ≡ a.nodes → b.comparisons ≡ a.comparisons → Notes node reader a.readers b.readers → NotesNode node reader a b
+pub node_noted : (node reader : ℕ) (a b : SignalsSeen) → b.nodes ≡ a.nodes → b.comparisons
+    ≡ a.comparisons → Notes node reader a.readers b.readers → NotesNode node reader a b
 node_noted node reader a b nodes_too same notes = record {
   reads = notes.noted;
   keeps = λ nodes. record {
@@ -95,8 +108,10 @@ node_noted node reader a b nodes_too same notes = record {
 }
 
 -- a comparison is noted at its number
-pub comparison_noted : (c : Comparison) (reader number : ℕ) (a b : SignalsSeen) (mid : ReadersSeen) → b.nodes ≡ a.nodes → Interns a.comparisons b.comparisons c number
-    → ((s r : ℕ) → Reads a.readers s r → Reads mid s r) → mid.due ≡ a.readers.due → Notes (a.nodes + number) reader mid b.readers → NotesComparison c reader a b
+pub comparison_noted : (c : Comparison) (reader number : ℕ) (a b : SignalsSeen) (mid : ReadersSeen)
+    → b.nodes ≡ a.nodes → Interns a.comparisons b.comparisons c number
+    → ((s r : ℕ) → Reads a.readers s r → Reads mid s r) → mid.due ≡ a.readers.due
+    → Notes (a.nodes + number) reader mid b.readers → NotesComparison c reader a b
 comparison_noted c reader number a b mid nodes_too interns kept due notes =
     let place = placed a.comparisons b.comparisons c number interns in
     record {

@@ -1,5 +1,6 @@
 -- Those that are due, taken one after the other: what holds of all of them at the end.
-use Rattle.std.proofs.Common.{◌≡◌, ◌⊎◌, inl, inr, ℕ, zero, suc, ◌+◌, ◌<◌, ◌≤◌, Bool, true, false, List, [], ◌∷◌, length, slice_index_or, refl, sym, ◌∙◌, subst, arith}
+use Rattle.std.proofs.Common.{◌≡◌, ◌⊎◌, inl, inr, ℕ, zero, suc, ◌+◌, ◌<◌, ◌≤◌, Bool, true, false, List, [], ◌∷◌, length}
+use Rattle.std.proofs.Common.{slice_index_or, refl, sym, ◌∙◌, subst, arith}
 use Rattle.std.proofs.lemmas.Bool.{cases_lt}
 use Rattle.ra_memref.specs.Flags.{NoneSet}
 
@@ -10,7 +11,8 @@ element (x ∷ xs) zero within = x
 element (x ∷ xs) (suc k) within = element xs k (omega (arith, within))
 
 -- those in front of a place are gone through: who was due is done, and each other one is as it was
-pub record AreTaken (A : Type 0) (due : List Bool) (before : ℕ → A) (Done : ℕ → A → Type 0) (after : ℕ → A) (at : ℕ) : Type 0 where
+pub record AreTaken (A : Type 0) (due : List Bool) (before : ℕ → A) (Done : ℕ → A → Type 0)
+    (after : ℕ → A) (at : ℕ) : Type 0 where
   pub done : (k : ℕ) → k < at → slice_index_or due k true ≡ true → Done k (after k)
   pub same : (k : ℕ) → ((at ≤ k) ⊎ (slice_index_or due k true ≡ false)) → after k ≡ before k
 
@@ -19,8 +21,10 @@ module _ (A : Type 0) (due : List Bool) (before : ℕ → A) (Done : ℕ → A �
   taken_begins = record { done = λ k within is. absurd (omega (arith, within)); same = λ k either. refl }
 
   -- one more is taken
-  pub taken_on : (after next : ℕ → A) (at place : ℕ) → AreTaken A due before Done after at → at ≤ place → slice_index_or due place true ≡ true → NoneSet due at place
-      → Done place (next place) → ((k : ℕ) → (k ≡ place → ⊥) → next k ≡ after k) → AreTaken A due before Done next (place + 1)
+  pub taken_on : (after next : ℕ → A) (at place : ℕ) → AreTaken A due before Done after at
+      → at ≤ place → slice_index_or due place true ≡ true → NoneSet due at place
+      → Done place (next place) → ((k : ℕ) → (k ≡ place → ⊥) → next k ≡ after k)
+      → AreTaken A due before Done next (place + 1)
   taken_on after next at place taken order here none done others = record {
     done = λ k within is. done_at k within is (cases_lt k place);
     same = λ k either. others k (other k either) ∙ taken.same k (still k either);
@@ -41,21 +45,26 @@ module _ (A : Type 0) (due : List Bool) (before : ℕ → A) (Done : ℕ → A �
 
       other : (k : ℕ) → ((place + 1 ≤ k) ⊎ (slice_index_or due k true ≡ false)) → k ≡ place → ⊥
       other k (inl late) same = omega (arith, late, same)
-      other k (inr quiet) same = is_not (slice_index_or due k true) (subst (λ n. slice_index_or due n true ≡ true) (sym same) here) quiet
+      other k (inr quiet) same = is_not (slice_index_or due k true)
+          (subst (λ n. slice_index_or due n true ≡ true) (sym same) here) quiet
 
-      still : (k : ℕ) → ((place + 1 ≤ k) ⊎ (slice_index_or due k true ≡ false)) → (at ≤ k) ⊎ (slice_index_or due k true ≡ false)
+      still : (k : ℕ) → ((place + 1 ≤ k) ⊎ (slice_index_or due k true ≡ false))
+          → (at ≤ k) ⊎ (slice_index_or due k true ≡ false)
       still k (inl late) = inl (omega (arith, late, order))
       still k (inr quiet) = inr quiet
 
   -- at the end each is done, or was not due and is as it was
-  pub taken_ends : (after : ℕ → A) (at count : ℕ) → AreTaken A due before Done after at → NoneSet due at count → (k : ℕ) → k < count
+  pub taken_ends : (after : ℕ → A) (at count : ℕ) → AreTaken A due before Done after at
+      → NoneSet due at count → (k : ℕ) → k < count
       → (Done k (after k)) ⊎ ((slice_index_or due k true ≡ false) × (after k ≡ before k))
   taken_ends after at count taken none k within = by_due (slice_index_or due k true) refl
     where
-      by_due : (b : Bool) → slice_index_or due k true ≡ b → (Done k (after k)) ⊎ ((slice_index_or due k true ≡ false) × (after k ≡ before k))
+      by_due : (b : Bool) → slice_index_or due k true ≡ b → (Done k (after k))
+          ⊎ ((slice_index_or due k true ≡ false) × (after k ≡ before k))
       by_due false quiet = inr (quiet, taken.same k (inr quiet))
       by_due true is = by_at (cases_lt k at)
         where
-          by_at : (k < at) ⊎ (at ≤ k) → (Done k (after k)) ⊎ ((slice_index_or due k true ≡ false) × (after k ≡ before k))
+          by_at : (k < at) ⊎ (at ≤ k) → (Done k (after k))
+              ⊎ ((slice_index_or due k true ≡ false) × (after k ≡ before k))
           by_at (inl early) = inl (taken.done k early is)
           by_at (inr late) = let bad : true ≡ false = sym is ∙ none k late within in absurd (cc)

@@ -1,18 +1,23 @@
 -- Hits of free conditions change nothing of what a group says, and nothing of other hits.
-use Rattle.std.proofs.Common.{◌≡◌, ℕ, zero, suc, min, Bool, true, false, not, ◌&&◌, ◌||◌, ◌==◌, cond, nat_le, Option, None, Some, option_map, List, [], ◌∷◌, slice_index, slice_index_or, pos, ℤ, ◌+ℤ◌, refl, sym, ap, ◌∙◌}
+use Rattle.std.proofs.Common.{◌≡◌, ℕ, zero, suc, min, Bool, true, false, not, ◌&&◌, ◌||◌, ◌==◌, cond, nat_le, Option}
+use Rattle.std.proofs.Common.{None, Some, option_map, List, [], ◌∷◌, slice_index, slice_index_or, pos, ℤ, ◌+ℤ◌, refl}
+use Rattle.std.proofs.Common.{sym, ap, ◌∙◌}
 use Rattle.std.specs.List.{list_any, list_all}
 use Rattle.std.proofs.lemmas.Bool.{false≢true, cond-true, cond-false}
 use Rattle.ra_condition.specs.declared.flag.Flag.{Flag}
 use Rattle.ra_condition.specs.declared.flag.Flag.TheVariants.{AddHits, SubHits}
 use Rattle.ra_condition.specs.declared.condition.Condition.{Condition}
-use Rattle.ra_condition.specs.Flags.{combines, hands_on, is_pause, is_reset, is_measured, is_measured_if, is_wanted, is_required}
+use Rattle.ra_condition.specs.Flags.{combines, hands_on, is_pause, is_reset, is_measured, is_measured_if, is_wanted}
+use Rattle.ra_condition.specs.Flags.{is_required}
 use Rattle.ra_condition.specs.Contents.{condition_at, flag_at}
 use Rattle.ra_condition.specs.Chains.{in_pause_chain, places}
 use Rattle.ra_group.specs.declared.form.Form.{Form}
 use Rattle.ra_group.specs.declared.outcome.Outcome.{Outcome}
 use Rattle.ra_group.specs.declared.settled.Settled.{Settled}
-use Rattle.ra_group.specs.Equations.{Frame, met, reset_by, add_after, add_by, hits_after, valid_alone, valid_by, clamped, settled, prev_of, settled_at}
-use Rattle.ra_group.specs.Outcome.{some_valid, all_valid, from_total, number_of, larger, offer, greatest, option_if, outcome_of}
+use Rattle.ra_group.specs.Equations.{Frame, met, reset_by, add_after, add_by, hits_after, valid_alone, valid_by}
+use Rattle.ra_group.specs.Equations.{clamped, settled, prev_of, settled_at}
+use Rattle.ra_group.specs.Outcome.{some_valid, all_valid, from_total, number_of, larger, offer, greatest, option_if}
+use Rattle.ra_group.specs.Outcome.{outcome_of}
 use Rattle.ra_schedule.specs.Groups.{hands_hits, is_free, is_stepped, is_counting, with_hits, AgreeButFree}
 
 -- a condition by its equations, from what it takes of the one before it

@@ -9,7 +9,8 @@ use Rattle.ra_group.specs.Equations.{Frame}
 use Rattle.ra_group.specs.Outcome.{outcome_of, next_hits}
 use Rattle.ra_trigger.specs.declared.state.State.{State}
 use Rattle.ra_trigger.specs.States.{is_cleared, is_triggered}
-use Rattle.ra_trigger.specs.Steps.{TriggerKept, Together, frames_along, core_and_some, core_or_all, greatest_of, has_trigger, together, cleared, kept_after, step, truth, hits_after_truth}
+use Rattle.ra_trigger.specs.Steps.{TriggerKept, Together, frames_along, core_and_some, core_or_all, greatest_of}
+use Rattle.ra_trigger.specs.Steps.{has_trigger, together, cleared, kept_after, step, truth, hits_after_truth}
 use Rattle.ra_schedule.specs.Triggers.{rested_groups, rested_achievement, rested_test}
 use Rattle.ra_schedule.proofs.Resting.AlongRest.{frames-rested, outcomes-rested, hits-rested}
 

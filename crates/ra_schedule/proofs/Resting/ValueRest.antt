@@ -1,5 +1,6 @@
 -- Values at rest.
-use Rattle.std.proofs.Common.{◌≡◌, ℕ, ◌+◌, ◌≤◌, Bool, true, false, ◌||◌, cond, unwrap_or, List, [], ◌∷◌, ◌++◌, length, take, drop, map, replicate, slice_index, sum_by, refl, sym, ap, ◌∙◌}
+use Rattle.std.proofs.Common.{◌≡◌, ℕ, ◌+◌, ◌≤◌, Bool, true, false, ◌||◌, cond, unwrap_or, List, [], ◌∷◌, ◌++◌, length}
+use Rattle.std.proofs.Common.{take, drop, map, replicate, slice_index, sum_by, refl, sym, ap, ◌∙◌}
 use Rattle.std.specs.List.{flat_map, list_any}
 use Rattle.std.proofs.lemmas.Bool.{cond-true, cond-false}
 use Rattle.std.proofs.lemmas.List.Sums.{sum_by-cons}
@@ -16,7 +17,8 @@ use Rattle.ra_schedule.proofs.Resting.SeenLaws.{cleared_kept}
 use Rattle.ra_schedule.specs.Values.{rested_parts, rested_value, owed_value}
 use Rattle.ra_schedule.proofs.Resting.GroupLemmas.{outcome_same}
 use Rattle.ra_schedule.proofs.Resting.GroupRest.{rested_agree}
-use Rattle.ra_schedule.proofs.Resting.AlongRest.{first, length-along, take_part, drop_part, length-rested, frames-rested, hits-rested}
+use Rattle.ra_schedule.proofs.Resting.AlongRest.{first, length-along, take_part, drop_part, length-rested}
+use Rattle.ra_schedule.proofs.Resting.AlongRest.{frames-rested, hits-rested}
 
 -- what a part says, but for its hits
 abbrev said : PartStep → PartStep

@@ -1,5 +1,6 @@
 -- Nodes whose readers are made due, one after another.
-use Rattle.std.proofs.Common.{refl, ◌≡◌, ℕ, ◌+◌, ◌⊎◌, inl, inr, Bool, true, false, List, [], ◌∷◌, ◌++◌, map, get_or, ap, ap₂, sym, ◌∙◌, subst, arith}
+use Rattle.std.proofs.Common.{refl, ◌≡◌, ℕ, ◌+◌, ◌⊎◌, inl, inr, Bool, true, false, List, [], ◌∷◌, ◌++◌, map, get_or, ap}
+use Rattle.std.proofs.Common.{ap₂, sym, ◌∙◌, subst, arith}
 use Rattle.std.proofs.lemmas.List.{get_or-map, length-map}
 use Rattle.std.proofs.lemmas.Bool.{false≢true}
 use Rattle.ra_links.proofs.Listed.{is_one, listed_back, listed_either, listed_front, listed_one}
@@ -58,7 +59,8 @@ wakes_more nodes node first before after so_far same row = record {
 }
 
 -- some nodes and then others, whose readers are woken
-pub wakes_both : (xs ys : List ℕ) (first mid last : ReadersSeen) → Wakes xs first mid → Wakes ys mid last → Wakes (xs ++ ys) first last
+pub wakes_both : (xs ys : List ℕ) (first mid last : ReadersSeen) → Wakes xs first mid
+    → Wakes ys mid last → Wakes (xs ++ ys) first last
 wakes_both xs ys first mid last one two = record {
   rows = two.rows ∙ one.rows;
   long = two.long ∙ one.long;

@@ -12,16 +12,20 @@ loop-place-preserved c =
     let before = c.args.before.now in
     let after = c.args.after.now in
     record {
-      bits = filled_next p.counted (λ k. not (slice_index after k == slice_index before k)) p.place (omega arith) p.invariant.bits;
-      so_far = all_next (keeps_place c.args.free.now before after) (length after) p.place p.keeps _ c.loop-place-test.true p.invariant.so_far
-          (ap (λ one. (slice_index after p.place == slice_index before p.place) || (slice_index_or c.args.free.now p.place false && one)) c.is_one_more.ensures);
+      bits = filled_next p.counted (λ k. not (slice_index after k == slice_index before k)) p.place
+          (omega arith) p.invariant.bits;
+      so_far = all_next (keeps_place c.args.free.now before after)
+          (length after) p.place p.keeps _ c.loop-place-test.true p.invariant.so_far
+          (ap (λ one. (slice_index after p.place == slice_index before p.place)
+          || (slice_index_or c.args.free.now p.place false && one)) c.is_one_more.ensures);
     }
 
 pub returns-clause-counted : goal.returns-clause-counted
 returns-clause-counted c =
     let before = c.args.before.now in
     let after = c.args.after.now in
-    fill_by_all (λ k. not (slice_index after k == slice_index before k)) c.loop-place.counted (length after) false (omega arith)
+    fill_by_all (λ k. not (slice_index after k == slice_index before k)) c.loop-place.counted
+    (length after) false (omega arith)
     (λ k l. c.loop-place.invariant.bits k (omega (arith, l)))
 
 pub returns-clause-keeps : goal.returns-clause-keeps
@@ -29,4 +33,5 @@ returns-clause-keeps c =
     let after = c.args.after.now in
     c.loop-place.invariant.so_far
     ∙ ap (list_all (keeps_place c.args.free.now c.args.before.now after))
-    (take_all c.loop-place.place (range_with_len 0 (length after)) (omega (arith, length-range_with_len 0 (length after))))
+    (take_all c.loop-place.place (range_with_len 0 (length after))
+    (omega (arith, length-range_with_len 0 (length after))))

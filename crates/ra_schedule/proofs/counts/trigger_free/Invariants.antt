@@ -7,4 +7,5 @@ use Rattle.ra_schedule.proofs.counts.trigger_free.Given as goal
 
 abbrev pub invariant-loop-alt : goal.invariant-loop-alt
 invariant-loop-alt l =
-    l.free.items ≡ map (is_free InTrigger) (group_contents l.text.core) ++ free_in InTrigger (map group_contents (take l.alt-index l.text.alts.items))
+    l.free.items ≡ map (is_free InTrigger) (group_contents l.text.core)
+    ++ free_in InTrigger (map group_contents (take l.alt-index l.text.alts.items))

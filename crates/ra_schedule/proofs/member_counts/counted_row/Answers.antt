@@ -17,6 +17,7 @@ returns c =
     let counts = c.args.counts.now in
     c.in_ok-put_counted-2.ensures
     ∙ ap₂ (λ xs ys. xs ++ ys)
-    (c.in_ok-put_counted.ensures ∙ ap₂ (λ xs ys. xs ++ ys) c.new-row.ensures.items (ap (flat_map bits) c.deref.ensures.value ∙ sym (flat_map-map own bits counts.tests.items)))
+    (c.in_ok-put_counted.ensures ∙ ap₂ (λ xs ys. xs ++ ys) c.new-row.ensures.items
+    (ap (flat_map bits) c.deref.ensures.value ∙ sym (flat_map-map own bits counts.tests.items)))
     (ap (flat_map bits) c.deref-2.ensures.value ∙ sym (flat_map-map own bits counts.values.items))
     ∙ sym (flat_map-append own (bit_rows counts.tests.items) (bit_rows counts.values.items))

@@ -5,7 +5,8 @@ use Rattle.ra_schedule.proofs.Resting.Keeping.{and_left, and_right}
 use Rattle.ra_member.specs.declared.value_run.ValueRun.{ValueRun}
 use Rattle.ra_schedule.specs.declared.room.ValueRoom.{ValueRoom}
 use Rattle.ra_schedule.specs.Counted.{all_keep_by, counted}
-use Rattle.ra_schedule.proofs.MembersRest.Judged.{bits_long, enough, free_long, judged_rows, next_bits, next_free, next_keep, next_rest, row_long}
+use Rattle.ra_schedule.proofs.MembersRest.Judged.{bits_long, enough, free_long, judged_rows, next_bits, next_free}
+use Rattle.ra_schedule.proofs.MembersRest.Judged.{next_keep, next_rest, row_long}
 use Rattle.ra_schedule.proofs.member_counts.judge_values.Goals as goal
 
 abbrev row : ValueRoom → List ℕ
@@ -34,14 +35,16 @@ pub judge-stay-requires-clause-free : goal.judge-stay-requires-clause-free
 judge-stay-requires-clause-free c =
     let p = c.loop-place in
     let e = c.index-values-place.result in
-    free_long row kept c.args.rows.now c.args.values.now c.requires.rows c.args.counts.now p.counts c.requires.fit p.place c.index-counts-place.result c.index-rows-place.result e c.loop-place-test.true p.invariant.rest
+    free_long row kept c.args.rows.now c.args.values.now c.requires.rows c.args.counts.now p.counts c.requires.fit
+    p.place c.index-counts-place.result c.index-rows-place.result e c.loop-place-test.true p.invariant.rest
     ∙ sym (ap length c.hits.ensures)
 
 pub judge-stay-requires-clause-counted : goal.judge-stay-requires-clause-counted
 judge-stay-requires-clause-counted c =
     let p = c.loop-place in
     let e = c.index-values-place.result in
-    bits_long row kept c.args.rows.now c.args.values.now c.requires.rows c.args.counts.now p.counts c.requires.fit p.place c.index-counts-place.result c.index-rows-place.result e c.loop-place-test.true p.invariant.rest
+    bits_long row kept c.args.rows.now c.args.values.now c.requires.rows c.args.counts.now p.counts c.requires.fit
+    p.place c.index-counts-place.result c.index-rows-place.result e c.loop-place-test.true p.invariant.rest
     ∙ sym (ap length c.hits.ensures)
 
 pub loop-place-preserved : goal.loop-place-preserved
@@ -59,22 +62,30 @@ loop-place-preserved c =
     let told = stay.ensures.counted ∙ ap₂ counted before after in
     let says = stay.ensures.keeps ∙ ap₂ (all_keep_by _) before after in
     record {
-      free = next_free row kept rows values c.requires.rows olds p.counts c.requires.fit p.place r d e c.loop-place-test.true p.invariant.rest stay.new.self stay.ensures.free told p.invariant.free;
-      bits = next_bits row kept rows values c.requires.rows olds p.counts c.requires.fit p.place r d e c.loop-place-test.true p.invariant.rest stay.new.self stay.ensures.free told p.invariant.bits;
-      keep = λ both. next_keep row kept rows values c.requires.rows olds p.counts c.requires.fit p.place r d e c.loop-place-test.true p.invariant.rest p.keeps stay.result says p.invariant.keep
+      free = next_free row kept rows values c.requires.rows olds p.counts c.requires.fit p.place r d e
+          c.loop-place-test.true p.invariant.rest stay.new.self stay.ensures.free told p.invariant.free;
+      bits = next_bits row kept rows values c.requires.rows olds p.counts c.requires.fit p.place r d e
+          c.loop-place-test.true p.invariant.rest stay.new.self stay.ensures.free told p.invariant.bits;
+      keep = λ both. next_keep row kept rows values c.requires.rows olds p.counts c.requires.fit p.place r d e
+          c.loop-place-test.true p.invariant.rest p.keeps stay.result says p.invariant.keep
           (and_from p.keeps stay.result (and_left p.keeps _ both) (and_left stay.result _ (and_right p.keeps _ both)));
       numbers = λ both.
-          map_more room_numbers rows p.place c.index-rows-place-in-loop-place.result (omega (arith, c.loop-place-test.true, enough row kept rows values c.requires.rows))
+          map_more room_numbers rows p.place c.index-rows-place-in-loop-place.result
+          (omega (arith, c.loop-place-test.true, enough row kept rows values c.requires.rows))
           ∙ ap₂ (λ xs x. xs ++ x ∷ []) (p.invariant.numbers (and_left p.keeps _ both))
-          (sym c.deref-in-loop-place.ensures.value ∙ c.are_same-same.ensures (and_right stay.result _ (and_right p.keeps _ both)) ∙ c.kept.ensures)
+          (sym c.deref-in-loop-place.ensures.value
+          ∙ c.are_same-same.ensures (and_right stay.result _ (and_right p.keeps _ both)) ∙ c.kept.ensures)
           ∙ sym (map_more numbers values p.place c.index-values-place-in-loop-place.result c.loop-place-test.true);
-      rest = next_rest row kept rows values c.requires.rows olds p.counts c.requires.fit p.place r d e c.loop-place-test.true p.invariant.rest stay.new.self stay.ensures.free told;
+      rest = next_rest row kept rows values c.requires.rows olds p.counts c.requires.fit p.place r d e
+          c.loop-place-test.true p.invariant.rest stay.new.self stay.ensures.free told;
     }
 
 pub returns-clause-hits : goal.returns-clause-hits
 returns-clause-hits c =
     let p = c.loop-place in
-    judged_rows row kept c.args.rows.now c.args.values.now c.requires.rows c.args.counts.now p.counts c.requires.fit p.place p.keeps (omega (arith, c.loop-place-test.false)) (omega (arith, c.loop-place.auto.place-end)) p.invariant.free p.invariant.bits p.invariant.keep p.invariant.rest
+    judged_rows row kept c.args.rows.now c.args.values.now c.requires.rows c.args.counts.now p.counts c.requires.fit
+    p.place p.keeps (omega (arith, c.loop-place-test.false))
+    (omega (arith, c.loop-place.auto.place-end)) p.invariant.free p.invariant.bits p.invariant.keep p.invariant.rest
 
 pub returns-clause-numbers : goal.returns-clause-numbers
 returns-clause-numbers c = λ keeps.

@@ -10,5 +10,7 @@ pub pay_values-requires : goal.pay_values-requires
 pay_values-requires c =
     ap (λ (rows : List Counts). map length (bit_rows rows)) c.deref-2.ensures.value
     ∙ c.requires.values
-    ∙ ap (map length) (map-map (λ (v : ValueKept). v.hits) (λ (value : ValueRun). value.value) c.args.member.now.values.items)
-    ∙ sym (ap (λ (values : List ValueRun). map length (map (λ (value : ValueRun). value.value.hits) values)) c.deref_mut-2.ensures.value)
+    ∙ ap (map length) (map-map (λ (v : ValueKept). v.hits)
+    (λ (value : ValueRun). value.value) c.args.member.now.values.items)
+    ∙ sym (ap (λ (values : List ValueRun). map length
+    (map (λ (value : ValueRun). value.value.hits) values)) c.deref_mut-2.ensures.value)

@@ -16,7 +16,8 @@ loop-node-preserved c =
     elim c.match-node.branch [
       | in-Some+in_ok-note_node w ↦ rw w.signals-is (
         w.in_ok-note_node.ensures.keeps nodes,
-        subst (λ sum. IsSumRead sum w.note_node.new.self.readers reader) (sym w.in-Some.is) w.in_ok-note_node.ensures.reads,
+        subst (λ sum. IsSumRead sum w.note_node.new.self.readers reader)
+            (sym w.in-Some.is) w.in_ok-note_node.ensures.reads,
       )
       | in_default w ↦ rw w.signals-is (
         keeps_itself nodes first,
@@ -26,5 +27,6 @@ loop-node-preserved c =
     record {
       keeps = keeps_both nodes c.args.signals.now first last c.loop-node.invariant.keeps one.0;
       read = sums_more last.readers reader sums place
-          (λ j below. sum_still first.readers last.readers reader one.0.kept (slice_index_or sums j None) (c.loop-node.invariant.read j below)) one.1;
+          (λ j below. sum_still first.readers last.readers reader one.0.kept
+          (slice_index_or sums j None) (c.loop-node.invariant.read j below)) one.1;
     }

@@ -6,4 +6,5 @@ use Rattle.ra_schedule.proofs.reads.trigger_given.Given as goal
 
 abbrev pub invariant-loop-alt : goal.invariant-loop-alt
 invariant-loop-alt l =
-    l.given.items ≡ given_in InTrigger (group_contents l.text.core) ++ given_by InTrigger (map group_contents (take l.alt-index l.text.alts.items))
+    l.given.items ≡ given_in InTrigger (group_contents l.text.core)
+    ++ given_by InTrigger (map group_contents (take l.alt-index l.text.alts.items))

@@ -46,30 +46,39 @@ pub judge_values-requires-clause-fit : goal.judge_values-requires-clause-fit
 judge_values-requires-clause-fit c =
     let values = c.args.member.now.values.items in
     transport
-    (λ i. FitRows (sym c.deref_mut-2.ensures.value i) ((map-map hits kept values ∙ sym (ap (map value_hits) c.deref-4.ensures.value)) i))
+    (λ i. FitRows (sym c.deref_mut-2.ensures.value i)
+    ((map-map hits kept values ∙ sym (ap (map value_hits) c.deref-4.ensures.value)) i))
     c.requires.values
 
 -- counts that are written back whole
 written : (n : ℕ) (new olds : List Counts) → length new ≡ n → take n (new ++ drop (length new) olds) ≡ new
-written n new olds long = take-append-le n new (drop (length new) olds) (omega (arith, long)) ∙ take_all n new (omega (arith, long))
+written n new olds long = take-append-le n new (drop (length new) olds) (omega (arith, long))
+    ∙ take_all n new (omega (arith, long))
 
 pub returns : goal.returns
 returns c =
     let tests = c.args.member.now.tests.items in
     let values = c.args.member.now.values.items in
     let room = c.args.room.now in
-    let tests_back = written c.args.self.now.tests.len c.judge_tests.new.counts c.args.self.now.tests.items (omega (arith, c.judge_tests.auto.counts, c.deref_mut.ensures.len)) in
-    let values_back = written c.args.self.now.values.len c.judge_values.new.counts c.args.self.now.values.items (omega (arith, c.judge_values.auto.counts, c.deref_mut-2.ensures.len)) in
+    let tests_back = written c.args.self.now.tests.len c.judge_tests.new.counts
+    c.args.self.now.tests.items
+    (omega (arith, c.judge_tests.auto.counts, c.deref_mut.ensures.len)) in
+    let values_back = written c.args.self.now.values.len c.judge_values.new.counts
+    c.args.self.now.values.items
+    (omega (arith, c.judge_values.auto.counts, c.deref_mut-2.ensures.len)) in
     record {
       tests = transport
           (λ i. JudgesRows (c.deref_mut.ensures.value i) (sym tests_back i)
-          (((λ j. take (length (c.deref-2.ensures.value j)) (map (λ (row : Vec ℕ Global). row.items) (c.deref.ensures.value j)))
-          ∙ ap (λ n. take n (map (λ (row : Vec ℕ Global). row.items) room.tests.items)) (sym (length-map tests (λ (test : TriggerRun). test.trigger.hits)))) i)
+          (((λ j. take (length (c.deref-2.ensures.value j))
+          (map (λ (row : Vec ℕ Global). row.items) (c.deref.ensures.value j)))
+          ∙ ap (λ n. take n (map (λ (row : Vec ℕ Global). row.items) room.tests.items))
+          (sym (length-map tests (λ (test : TriggerRun). test.trigger.hits)))) i)
           (map (λ (test : TriggerRun). test.trigger.hits) (c.deref-2.ensures.value i)) c.judge_tests.result)
           c.judge_tests.ensures;
       values = transport
           (λ i. JudgesRows (c.deref_mut-2.ensures.value i) (sym values_back i)
-          (((λ j. take (length (c.deref-4.ensures.value j)) (map room_hits (c.deref-3.ensures.value j))) ∙ sym (taken_held hits room.values.items values)) i)
+          (((λ j. take (length (c.deref-4.ensures.value j)) (map room_hits
+          (c.deref-3.ensures.value j))) ∙ sym (taken_held hits room.values.items values)) i)
           ((ap (map value_hits) c.deref-4.ensures.value ∙ sym (map-map hits kept values)) i) c.judge_values.result)
           c.judge_values.ensures.hits;
       numbers = λ holds.

@@ -14,14 +14,17 @@ wake-requires-clause-comparisons c = λ k within.
 pub returns : goal.returns
 returns c =
     let s = c.self.inside in
-    let after : ScheduleSeen = record { readers = c.wake.new.readers; truths = c.take.new.self; since = s.since.items; clock = s.clock } in
+    let after : ScheduleSeen =
+    record { readers = c.wake.new.readers; truths = c.take.new.self; since = s.since.items; clock = s.clock } in
     let signals = signals_at c.args.table.now c.take.new.self in
     subst (λ (old : ScheduleSeen). Begins c.args.table.now old after) c.self.view_is (record {
       truths = c.take.ensures;
       woken = elim c.if-many.branch [
-        | then-many w ↦ woken_all s.clock signals s.readers c.wake.new.readers (c.wake.ensures.all (w.all-is ∙ w.if-many.true))
+        | then-many w ↦ woken_all s.clock signals s.readers c.wake.new.readers
+            (c.wake.ensures.all (w.all-is ∙ w.if-many.true))
         | else-many w ↦ elim (cases_eq s.clock 18446744073709551615) [
-          | inl end ↦ woken_all s.clock signals s.readers c.wake.new.readers (c.wake.ensures.all (w.all-is ∙ eq-eqb s.clock 18446744073709551615 end))
+          | inl end ↦ woken_all s.clock signals s.readers c.wake.new.readers
+              (c.wake.ensures.all (w.all-is ∙ eq-eqb s.clock 18446744073709551615 end))
           | inr apart ↦
               woken_some s.clock signals s.readers c.wake.new.readers (omega (arith, apart))
               (c.wake.ensures.wakes (w.all-is ∙ not_at_end s.clock apart))
@@ -29,7 +32,8 @@ returns c =
       ];
       only = elim c.if-many.branch [
         | then-many w ↦ λ few small. absurd (omega (arith, few, ltb-true _ _ (sym w.if-many.ensures)))
-        | else-many w ↦ λ few small r quiet due. (c.wake.ensures.wakes (w.all-is ∙ not_at_end s.clock (λ same. omega (arith, same, small)))).only r quiet due
+        | else-many w ↦ λ few small r quiet due. (c.wake.ensures.wakes (w.all-is
+            ∙ not_at_end s.clock (λ same. omega (arith, same, small)))).only r quiet due
       ];
       since = refl;
       clock = refl;

@@ -28,12 +28,14 @@ returns c =
         kept = λ n r reads. rw w.in_ok-add.ensures.added (reads_still s.readers n r reads);
         due = ap (λ (rs : ReadersSeen). rs.due) w.in_ok-add.ensures.added;
       })
-      | else-nodes-self w ↦ rw w.self-inside-is (record { nodes = refl; comparisons = refl; kept = λ n r reads. reads; due = refl })
+      | else-nodes-self w ↦ rw w.self-inside-is
+          (record { nodes = refl; comparisons = refl; kept = λ n r reads. reads; due = refl })
     ] in
     let before : SignalsSeen = record { nodes = s.nodes; comparisons = s.comparisons; readers = s.readers } in
     let after : SignalsSeen = record { nodes = q.nodes; comparisons = c.intern.new.self; readers = c.note.new.self } in
     on_ok_weaker c.note.result
     (λ notes. subst (λ (old : SignalsSeen). NotesComparison c.args.comparison c.args.reader old after) c.self.view_is
     (comparison_noted c.args.comparison c.args.reader number before after q.readers row.nodes
-    (subst (λ cs. Interns cs c.intern.new.self c.args.comparison number) row.comparisons c.in_ok-number.ensures.ok) row.kept row.due
+    (subst (λ cs. Interns cs c.intern.new.self c.args.comparison number) row.comparisons
+    c.in_ok-number.ensures.ok) row.kept row.due
     (subst (λ n. Notes (n + number) c.args.reader q.readers c.note.new.self) row.nodes notes))) c.note.ensures.noted
