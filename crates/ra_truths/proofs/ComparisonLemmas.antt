@@ -1,5 +1,6 @@
 -- Comparisons that grow by one stay distinct.
-use Rattle.std.proofs.Common.{◌≡◌, ◌≢◌, ℕ, ◌+◌, ◌<◌, inl, inr, ◌⊎◌, List, [], ◌∷◌, ◌++◌, length, subst, sym, ◌∙◌, ap, arith, length-append}
+use Rattle.std.proofs.Common.{◌≡◌, ◌≢◌, ℕ, ◌+◌, ◌<◌, inl, inr, ◌⊎◌, List, [], ◌∷◌, ◌++◌, length, subst, sym, ◌∙◌, ap}
+use Rattle.std.proofs.Common.{arith, length-append}
 use Rattle.std.specs.List.{Contains}
 use Rattle.std.proofs.lemmas.List.{get_or_append_left}
 use Rattle.std.proofs.lemmas.List.Elements.{Contains-get_or}
@@ -19,11 +20,13 @@ module _ (old : List Comparison) (c : Comparison) (distinct : AreDistinct old) (
   last : comparison_at (old ++ c ∷ []) (length old) ≡ c
   last = get_or-append_seam old c [] (record { op = Bare; left = 0; right = 0 })
 
-  apart : (i k : ℕ) → i < k → (k < length old) ⊎ (k ≡ length old) → comparison_at (old ++ c ∷ []) i ≢ comparison_at (old ++ c ∷ []) k
+  apart : (i k : ℕ) → i < k → (k < length old) ⊎ (k ≡ length old) → comparison_at (old ++ c ∷ []) i
+      ≢ comparison_at (old ++ c ∷ []) k
   apart i k less (inl below) same =
       distinct i k less below (sym (earlier i (omega arith)) ∙ same ∙ earlier k below)
   apart i k less (inr end) same =
-      absent (subst (Contains old) (sym (earlier i (omega arith)) ∙ same ∙ ap (comparison_at (old ++ c ∷ [])) end ∙ last)
+      absent (subst (Contains old) (sym (earlier i (omega arith)) ∙ same
+      ∙ ap (comparison_at (old ++ c ∷ [])) end ∙ last)
       (Contains-get_or old i (record { op = Bare; left = 0; right = 0 }) (omega arith)))
 
   pub distinct_more : AreDistinct (old ++ c ∷ [])

@@ -1,5 +1,6 @@
 -- Comparisons of which no node changed keep their truths.
-use Rattle.std.proofs.Common.{◌≡◌, ◌≢◌, ℕ, suc, ◌+◌, ◌<◌, inl, inr, Bool, true, false, List, [], ◌∷◌, length, map, get_or, refl, sym, subst, ap, ap₂, ◌∙◌, arith}
+use Rattle.std.proofs.Common.{◌≡◌, ◌≢◌, ℕ, suc, ◌+◌, ◌<◌, inl, inr, Bool, true, false, List, [], ◌∷◌, length, map}
+use Rattle.std.proofs.Common.{get_or, refl, sym, subst, ap, ap₂, ◌∙◌, arith}
 use Rattle.std.proofs.lemmas.List.{get_or-map, length-map}
 use Rattle.std.proofs.lemmas.Bool.{cases_eq}
 use Rattle.ra_operand.specs.declared.op.Op.TheVariants.{Bare}
@@ -75,7 +76,8 @@ module _ (values : List ℕ) (comparisons : List Comparison) (old now : KeptSeen
   ]
 
 -- what stands on the row of a node that changed is the number of a comparison
-pub number_within : (comparisons : List Comparison) (rows : List (List ℕ)) (table : TableSeen) (values changed row : List ℕ)
+pub number_within : (comparisons : List Comparison) (rows : List (List ℕ)) (table : TableSeen)
+    (values changed row : List ℕ)
     (p q : ℕ) → AreUses comparisons (length table.nodes) rows → AreChanged table values → changed ≡ table.changed
     → p < length changed → row ≡ row_at rows (get_or changed p 0) → q < length row
     → get_or row q 0 < length comparisons
@@ -83,7 +85,8 @@ number_within comparisons rows table values changed row p q uses are all here is
     uses.within (get_or changed p 0) (get_or row q 0)
     (subst (IsListed (get_or row q 0)) is (record { place = q; within = within; here = refl }))
 
-module _ (comparisons : List Comparison) (rows : List (List ℕ)) (table : TableSeen) (over : AreOver table.nodes comparisons)
+module _ (comparisons : List Comparison) (rows : List (List ℕ)) (table : TableSeen)
+    (over : AreOver table.nodes comparisons)
     (uses : AreUses comparisons (length table.nodes) rows) (old now : KeptSeen)
     (told : IsTold comparisons old.truths table)
     (settles : Settles (truths_by table.values comparisons) old now) where

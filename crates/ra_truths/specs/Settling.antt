@@ -1,5 +1,6 @@
 -- Truths that are computed anew one after another: docs/INTERNALS.md, "Truths of comparisons".
-use Rattle.std.specs.Prelude.{◌≡◌, ◌≢◌, ◌⊎◌, ℕ, ◌+◌, ◌<◌, ◌≤◌, Bool, false, if◌then◌else◌, List, [], ◌∷◌, length, slice_index_or}
+use Rattle.std.specs.Prelude.{◌≡◌, ◌≢◌, ◌⊎◌, ℕ, ◌+◌, ◌<◌, ◌≤◌, Bool, false, if◌then◌else◌, List, [], ◌∷◌, length}
+use Rattle.std.specs.Prelude.{slice_index_or}
 use Rattle.ra_memref.specs.Table.{IsListed}
 use Rattle.ra_truths.specs.Kept.{KeptSeen, differ}
 

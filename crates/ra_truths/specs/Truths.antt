@@ -4,7 +4,8 @@ use Rattle.ra_memref.specs.Table.{TableSeen, IsListed}
 use Rattle.ra_truths.specs.declared.comparison.Comparison.{Comparison}
 use Rattle.ra_truths.specs.Comparisons.{truths_by}
 
--- the comparisons and how many nodes there are, the truths and which flipped at the last frame, and whether one was taken
+-- the comparisons and how many nodes there are, the truths and which flipped at the last frame, and whether one was
+-- taken
 pub record TruthsSeen : Type 0 where
   pub comparisons : List Comparison
   pub nodes : ℕ

@@ -17,27 +17,36 @@ use Rattle.ra_session.proofs.RunLemmas.{played_behind, saved_behind, bad_header,
 use Rattle.ra_session.proofs.run.play_trace.Goals as goal
 
 pub returns-in_err-reader-clause-printed : goal.returns-in_err-reader-clause-printed
-returns-in_err-reader-clause-printed g c = λ bytes o behind earned is_told at. no_memory_left (played (set_contents c.args.beginning.set) o behind earned bytes) c.from_residual.result (g.K.Sink.text c.args.out.now) c.from_residual.ensures.1
+returns-in_err-reader-clause-printed g c = λ bytes o behind earned is_told at. no_memory_left
+    (played (set_contents c.args.beginning.set) o behind earned bytes) c.from_residual.result
+    (g.K.Sink.text c.args.out.now) c.from_residual.ensures.1
 
 pub returns-in_err-size-clause-printed : goal.returns-in_err-size-clause-printed
 returns-in_err-size-clause-printed g c = λ bytes o behind earned is_told at.
     let set = set_contents c.args.beginning.set in
     let name : c.in_ok-reader.reader.name ≡ c.args.trace.now = ap (λ r. r.name) c.in_ok-reader.ensures in
     let limit : c.in_ok-reader.reader.limit ≡ trace_limit = ap (λ r. r.limit) c.in_ok-reader.ensures in
-    let said : IsStop c.in_err-size.field-0.0 (header_stop c.in_ok-reader.reader.limit bytes) = told _ _ bytes (ap (g.F.Files.content c.args.files.now) name ∙ is_told) c.in_err-size.ensures.err in
-    ends_by (played set o behind earned bytes) (trace_failed c.in_err-size.field-0.0) c.from_residual-in_err-size.result (g.K.Sink.text c.args.out.now) (g.K.Sink.text c.args.out.now) c.from_residual-in_err-size.ensures.1
-    (bad_header set o behind earned bytes c.in_err-size.field-0.0 (g.K.Sink.text c.args.out.now) (subst (λ l. IsStop c.in_err-size.field-0.0 (header_stop l bytes)) limit said))
+    let said : IsStop c.in_err-size.field-0.0 (header_stop c.in_ok-reader.reader.limit bytes) =
+    told _ _ bytes (ap (g.F.Files.content c.args.files.now) name ∙ is_told) c.in_err-size.ensures.err in
+    ends_by (played set o behind earned bytes) (trace_failed c.in_err-size.field-0.0)
+    c.from_residual-in_err-size.result (g.K.Sink.text c.args.out.now) (g.K.Sink.text c.args.out.now)
+    c.from_residual-in_err-size.ensures.1
+    (bad_header set o behind earned bytes c.in_err-size.field-0.0 (g.K.Sink.text c.args.out.now)
+    (subst (λ l. IsStop c.in_err-size.field-0.0 (header_stop l bytes)) limit said))
 
 pub new-requires-clause-size : goal.new-requires-clause-size
 new-requires-clause-size g c = omega (arith, c.in_ok-size.ensures.most)
 
 pub returns-in_err-player-clause-printed : goal.returns-in_err-player-clause-printed
-returns-in_err-player-clause-printed g c = λ bytes o behind earned is_told at. no_memory_left (played (set_contents c.args.beginning.set) o behind earned bytes) c.from_residual-in_err-player.result (g.K.Sink.text c.args.out.now) c.from_residual-in_err-player.ensures.1
+returns-in_err-player-clause-printed g c = λ bytes o behind earned is_told at. no_memory_left
+    (played (set_contents c.args.beginning.set) o behind earned bytes) c.from_residual-in_err-player.result
+    (g.K.Sink.text c.args.out.now) c.from_residual-in_err-player.ensures.1
 
 pub play_records-requires : goal.play_records-requires
 play_records-requires g c =
     let set = set_contents c.args.beginning.set in
-    let (o, behind, earned, at) = begins_somewhere set (progress_in c.args.beginning) c.requires.playable c.requires.accepted in
+    let (o, behind, earned, at) =
+    begins_somewhere set (progress_in c.args.beginning) c.requires.playable c.requires.accepted in
     record {
       size = c.in_ok-size.ensures.seen.sized ∙ ap Some (sym c.in_ok-player.ensures.image);
       stands = record {
@@ -54,44 +63,64 @@ returns-in-Ok-clause-printed g c = λ bytes o behind earned is_told at.
     let set = set_contents c.args.beginning.set in
     let name : c.in_ok-reader.reader.name ≡ c.args.trace.now = ap (λ r. r.name) c.in_ok-reader.ensures in
     let limit : c.in_ok-reader.reader.limit ≡ trace_limit = ap (λ r. r.limit) c.in_ok-reader.ensures in
-    let there : g.F.Files.content c.args.files.now c.in_ok-reader.reader.name ≡ Some bytes = ap (g.F.Files.content c.args.files.now) name ∙ is_told in
+    let there : g.F.Files.content c.args.files.now c.in_ok-reader.reader.name ≡ Some bytes =
+    ap (g.F.Files.content c.args.files.now) name ∙ is_told in
     let header = told _ _ bytes there c.in_ok-size.ensures.ok in
-    let left = left_whole bytes c.in_ok-size.size behind c.in_ok-reader.reader c.header.new.self limit c.in_ok-size.ensures.seen (told _ _ bytes there c.in_ok-size.ensures.held) in
-    played_behind set o behind earned bytes c.in_ok-size.size Done (g.K.Sink.text c.args.out.now) (g.K.Sink.text c.play_records.new.out) (subst (λ l. header_size (take l bytes) ≡ Some c.in_ok-size.size) limit header)
-    (c.in-Ok.ensures.printed bytes set o (first_moment c.in_ok-size.size behind) earned (pieces_of c.in_ok-size.size bytes)
-    (ap (g.F.Files.content c.header.new.files) c.in_ok-size.ensures.seen.same.name ∙ c.in_ok-size.ensures.stays.same.each c.in_ok-reader.reader.name ∙ there) (c.in_ok-player.ensures.stands o behind earned at) left)
+    let left = left_whole bytes c.in_ok-size.size behind c.in_ok-reader.reader c.header.new.self limit
+    c.in_ok-size.ensures.seen (told _ _ bytes there c.in_ok-size.ensures.held) in
+    played_behind set o behind earned bytes c.in_ok-size.size Done (g.K.Sink.text c.args.out.now) (g.K.Sink.text
+    c.play_records.new.out) (subst (λ l. header_size (take l bytes) ≡ Some c.in_ok-size.size) limit header)
+    (c.in-Ok.ensures.printed bytes set o (first_moment c.in_ok-size.size behind) earned
+    (pieces_of c.in_ok-size.size bytes)
+    (ap (g.F.Files.content c.header.new.files) c.in_ok-size.ensures.seen.same.name
+    ∙ c.in_ok-size.ensures.stays.same.each c.in_ok-reader.reader.name ∙ there)
+    (c.in_ok-player.ensures.stands o behind earned at) left)
 
 pub returns-in-Ok-clause-kept : goal.returns-in-Ok-clause-kept
 returns-in-Ok-clause-kept g c = λ bytes o behind earned is_told at.
     let set = set_contents c.args.beginning.set in
     let name : c.in_ok-reader.reader.name ≡ c.args.trace.now = ap (λ r. r.name) c.in_ok-reader.ensures in
     let limit : c.in_ok-reader.reader.limit ≡ trace_limit = ap (λ r. r.limit) c.in_ok-reader.ensures in
-    let there : g.F.Files.content c.args.files.now c.in_ok-reader.reader.name ≡ Some bytes = ap (g.F.Files.content c.args.files.now) name ∙ is_told in
+    let there : g.F.Files.content c.args.files.now c.in_ok-reader.reader.name ≡ Some bytes =
+    ap (g.F.Files.content c.args.files.now) name ∙ is_told in
     let header = told _ _ bytes there c.in_ok-size.ensures.ok in
-    let left = left_whole bytes c.in_ok-size.size behind c.in_ok-reader.reader c.header.new.self limit c.in_ok-size.ensures.seen (told _ _ bytes there c.in_ok-size.ensures.held) in
-    saved_behind set o behind earned bytes c.in_ok-size.size c.play_records.new.player.slots.items c.play_records.new.player.runtime (subst (λ l. header_size (take l bytes) ≡ Some c.in_ok-size.size) limit header)
+    let left = left_whole bytes c.in_ok-size.size behind c.in_ok-reader.reader c.header.new.self limit
+    c.in_ok-size.ensures.seen (told _ _ bytes there c.in_ok-size.ensures.held) in
+    saved_behind set o behind earned bytes c.in_ok-size.size c.play_records.new.player.slots.items
+    c.play_records.new.player.runtime (subst (λ l. header_size (take l bytes) ≡ Some c.in_ok-size.size) limit header)
     (c.in-Ok.ensures.ends bytes set o (first_moment c.in_ok-size.size behind) earned (pieces_of c.in_ok-size.size bytes)
-    (ap (g.F.Files.content c.header.new.files) c.in_ok-size.ensures.seen.same.name ∙ c.in_ok-size.ensures.stays.same.each c.in_ok-reader.reader.name ∙ there) (c.in_ok-player.ensures.stands o behind earned at) left)
+    (ap (g.F.Files.content c.header.new.files) c.in_ok-size.ensures.seen.same.name
+    ∙ c.in_ok-size.ensures.stays.same.each c.in_ok-reader.reader.name ∙ there)
+    (c.in_ok-player.ensures.stands o behind earned at) left)
 
 pub returns-clause-printed : goal.returns-clause-printed
 returns-clause-printed g c = λ bytes o behind earned is_told at.
     let set = set_contents c.args.beginning.set in
     let name : c.in_ok-reader.reader.name ≡ c.args.trace.now = ap (λ r. r.name) c.in_ok-reader.ensures in
     let limit : c.in_ok-reader.reader.limit ≡ trace_limit = ap (λ r. r.limit) c.in_ok-reader.ensures in
-    let there : g.F.Files.content c.args.files.now c.in_ok-reader.reader.name ≡ Some bytes = ap (g.F.Files.content c.args.files.now) name ∙ is_told in
+    let there : g.F.Files.content c.args.files.now c.in_ok-reader.reader.name ≡ Some bytes =
+    ap (g.F.Files.content c.args.files.now) name ∙ is_told in
     let header = told _ _ bytes there c.in_ok-size.ensures.ok in
-    let left = left_whole bytes c.in_ok-size.size behind c.in_ok-reader.reader c.header.new.self limit c.in_ok-size.ensures.seen (told _ _ bytes there c.in_ok-size.ensures.held) in
-    played_behind set o behind earned bytes c.in_ok-size.size (ending_of_trace c.in-Err.failed) (g.K.Sink.text c.args.out.now) (g.K.Sink.text c.play_records.new.out) (subst (λ l. header_size (take l bytes) ≡ Some c.in_ok-size.size) limit header)
-    (c.in-Err.ensures.printed bytes set o (first_moment c.in_ok-size.size behind) earned (pieces_of c.in_ok-size.size bytes)
-    (ap (g.F.Files.content c.header.new.files) c.in_ok-size.ensures.seen.same.name ∙ c.in_ok-size.ensures.stays.same.each c.in_ok-reader.reader.name ∙ there) (c.in_ok-player.ensures.stands o behind earned at) left)
+    let left = left_whole bytes c.in_ok-size.size behind c.in_ok-reader.reader c.header.new.self limit
+    c.in_ok-size.ensures.seen (told _ _ bytes there c.in_ok-size.ensures.held) in
+    played_behind set o behind earned bytes c.in_ok-size.size (ending_of_trace c.in-Err.failed)
+    (g.K.Sink.text c.args.out.now) (g.K.Sink.text c.play_records.new.out)
+    (subst (λ l. header_size (take l bytes) ≡ Some c.in_ok-size.size) limit header)
+    (c.in-Err.ensures.printed bytes set o (first_moment c.in_ok-size.size behind) earned
+    (pieces_of c.in_ok-size.size bytes)
+    (ap (g.F.Files.content c.header.new.files) c.in_ok-size.ensures.seen.same.name
+    ∙ c.in_ok-size.ensures.stays.same.each c.in_ok-reader.reader.name ∙ there)
+    (c.in_ok-player.ensures.stands o behind earned at) left)
 
 pub returns-clause-read : goal.returns-clause-read
 returns-clause-read g c =
     let before : List ℕ → ℕ = g.F.Files.read_faults c.args.files.now in
     let mid : List ℕ → ℕ = g.F.Files.read_faults c.header.new.files in
     let after : List ℕ → ℕ = g.F.Files.read_faults c.play_records.new.files in
-    let name : c.header.new.self.name ≡ c.args.trace.now = c.in_ok-size.ensures.seen.same.name ∙ ap (λ r. r.name) c.in_ok-reader.ensures in
+    let name : c.header.new.self.name ≡ c.args.trace.now =
+    c.in_ok-size.ensures.seen.same.name ∙ ap (λ r. r.name) c.in_ok-reader.ensures in
     λ is.
     let same : c.in-Err.failed ≡ failed.Read = cc is in
-    let rose : Rose (mid c.args.trace.now) (after c.args.trace.now) = subst (λ n. Rose (mid n) (after n)) name (c.in-Err.ensures.read (ap Err same)) in
+    let rose : Rose (mid c.args.trace.now) (after c.args.trace.now) =
+    subst (λ n. Rose (mid n) (after n)) name (c.in-Err.ensures.read (ap Err same)) in
     omega (arith, rose, c.in_ok-size.ensures.stays.reads.each c.args.trace.now)

@@ -20,5 +20,6 @@ invariant-loop-number l = record {
   kept : (k : ℕ) → get_or l.initial.kept.truths k false ≡ get_or (truths_by l.table.values l.comparisons) k false
       → get_or l.kept.truths k false ≡ get_or (truths_by l.table.values l.comparisons) k false;
   done : (q : ℕ) → q < l.number-index
-      → get_or l.kept.truths (get_or l.number-items q 0) false ≡ get_or (truths_by l.table.values l.comparisons) (get_or l.number-items q 0) false;
+      → get_or l.kept.truths (get_or l.number-items q 0) false
+      ≡ get_or (truths_by l.table.values l.comparisons) (get_or l.number-items q 0) false;
 }
