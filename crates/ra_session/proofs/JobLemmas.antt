@@ -1,6 +1,6 @@
 -- A run up to its last line, by where it ended.
 use Rattle.std.proofs.Common.{◌≡◌, ◌≢◌, inl, inr, ap, sym, subst, refl, ◌∙◌, ℕ, List, [], ◌∷◌, is_some, if◌then◌else◌}
-use Rattle.std.proofs.Common.{false, Option, Some, Result, Ok, Err}
+use Rattle.std.proofs.Common.{false, Option, Some, IfSome, Result, Ok, Err, take}
 use Rattle.std.specs.Bool.{⊤}
 use Rattle.std.specs.List.{concat, AllByRecursion}
 use Rattle.std.specs.Result.{IsErrOf}
@@ -14,6 +14,10 @@ use Rattle.ra_set.specs.Contents.{SetContents}
 use Rattle.ra_progress.specs.Contents.{Opening}
 use Rattle.ra_args.specs.Words.{Job, Run, file_in, puts_of, reads_of}
 use Rattle.ra_meaning.specs.Earned.{Earned}
+use Rattle.ra_meaning.specs.Play.{first_moment}
+use Rattle.ra_trace.specs.Cutting.{header_size}
+use Rattle.ra_trace.specs.Reading.{ReaderSeen, Holds, IsBehindHeader, opened}
+use Rattle.ra_replay.specs.Left.{IsLeft, trace_limit}
 use Rattle.ra_session.specs.Expected.{Expected, RunSays, played}
 use Rattle.ra_session.specs.Closing.{EndsBefore, EndsJob}
 use Rattle.ra_session.specs.Failures.{ending_at, ending_of_load, ending_of_put, ending_of_trace}
@@ -29,8 +33,25 @@ use Rattle.ra_session.specs.declared.failures.SetFailed.TheVariants as set_faile
 use Rattle.ra_session.specs.declared.failures.TraceFailed.{TraceFailed}
 use Rattle.ra_session.specs.declared.failures.TraceFailed.TheVariants as failed
 use Rattle.ra_jobs.proofs.Parts.{part_all}
+use Rattle.ra_replay.proofs.LeftLemmas.{left_whole, pieces_of}
+use Rattle.ra_session.proofs.NextLemmas.{told}
 use Rattle.ra_session.proofs.RunLemmas.{any_first, any_later, file_of}
 use Rattle.ra_session.proofs.LoadLemmas.{PlaysFrom, loaded_says, loaded_said, stop_decides}
+
+-- behind a good header of a trace that is told all its records are left
+pub behind_header : (name bytes : List ℕ) (size : ℕ) (behind : History) (old new : ReaderSeen)
+    (before now : List ℕ → Option (List ℕ)) → old ≡ opened name trace_limit → before name ≡ Some bytes
+    → SameContent before now → IfSome (before old.name) (λ bytes. header_size (take old.limit bytes) ≡ Some size)
+    → IfSome (before old.name) (Holds new) → IsBehindHeader size old new
+    → (header_size (take trace_limit bytes) ≡ Some size) × (now new.name ≡ Some bytes)
+    × IsLeft bytes (first_moment size behind) new (pieces_of size bytes)
+behind_header name bytes size behind old new before now is is_told same ok held seen =
+    let there = ap (λ (r : ReaderSeen). before r.name) is ∙ is_told in
+    let limit = ap (λ (r : ReaderSeen). r.limit) is in (
+      subst (λ l. header_size (take l bytes) ≡ Some size) limit (told _ _ bytes there ok),
+      ap now seen.same.name ∙ same.each old.name ∙ there,
+      left_whole bytes size behind old new limit seen (told _ _ bytes there held),
+    )
 
 -- a job that is not done, and changed no file
 pub leaves_same : (job : Job) (old new : Outside) (ending : Ending) → (ending ≡ Done → ⊥)
@@ -84,6 +105,21 @@ module _ (set trace : List ℕ) (restore save : Option (List ℕ)) (old new : Ou
         → EndsBefore (played c o behind earned bytes) ⊤ ⊤ ⊤ (ending_at r) old.text new.text
     pub read : IsErrOf r failed.Read → Rose (old.read_faults trace) (new.read_faults trace)
     pub wrote : IsErrOf r failed.Write → SinkRose old new
+
+  -- of a trace played behind a load that changed no file
+  pub plays_loaded : {T : Type 0} (c : SetContents) (progress : Option (List ℕ)) (r : Result T TraceFailed)
+      (mid : List ℕ → Option (List ℕ)) → IsLoaded old.content set restore c progress → SameContent old.content mid
+      → ((bytes : List ℕ) (o : Opening) (behind : History) (earned : Earned) → mid trace ≡ Some bytes
+      → BeginsAt c progress o behind earned
+      → EndsBefore (played c o behind earned bytes) ⊤ ⊤ ⊤ (ending_at r) old.text new.text)
+      → (IsErrOf r failed.Read → Rose (old.read_faults trace) (new.read_faults trace))
+      → (IsErrOf r failed.Write → SinkRose old new) → PlayedSet {T = T} c progress r
+  plays_loaded c progress r mid loaded same printed read wrote = record {
+    loaded = loaded;
+    printed = λ bytes o behind earned told at. printed bytes o behind earned (same.each trace ∙ told) at;
+    read = read;
+    wrote = wrote;
+  }
 
   trace_rose : Rose (old.read_faults trace) (new.read_faults trace) → ReadsRose (reads_of job) old new
   trace_rose rose = any_later _ set (trace ∷ file_in restore) (any_first _ trace (file_in restore) rose)

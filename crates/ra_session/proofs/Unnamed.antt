@@ -1,5 +1,5 @@
 -- What a set says of a trace needs no name, and a set without names may be played.
-use Rattle.std.proofs.Common.{◌≡◌, ◌∙◌, ◌<◌, ℕ, ◌+◌, List, [], ◌∷◌, map, replicate, take, Option, None, Some}
+use Rattle.std.proofs.Common.{◌≡◌, ◌∙◌, ◌<◌, ℕ, zero, suc, ◌+◌, List, [], ◌∷◌, map, replicate, take, Option, None, Some}
 use Rattle.std.proofs.Common.{option_map, Result, ap, ap₂, refl, subst, sym, arith}
 use Rattle.std.specs.Prelude.{IfSome}
 use Rattle.std.specs.Bool.{⊤}
@@ -74,8 +74,8 @@ module _ (text : List ℕ) (c : SetContents) (o : Opening) where
 -- ---- a set without names may be played
 
 zeros_fit : (n : ℕ) → AllByRecursion (λ b. b < 256) (replicate n 0)
-zeros_fit 0 = tt
-zeros_fit (n + 1) = (omega arith, zeros_fit n)
+zeros_fit zero = tt
+zeros_fit (suc n) = (omega arith, zeros_fit n)
 
 zeros_name : IsName zero_name
 zeros_name = record { long = refl; fit = zeros_fit 16 }

@@ -1,17 +1,14 @@
-use Rattle.std.proofs.Common.{arith, ◌≡◌, ◌∙◌, Err, ap, subst, sym, take, ℕ, List, Some}
+use Rattle.std.proofs.Common.{arith, ◌≡◌, ◌∙◌, Err, ap, subst, sym, ℕ, List, Some}
 use Rattle.ra_io.specs.Causes.{Rose}
 use Rattle.ra_set.specs.Contents.{set_contents}
-use Rattle.ra_meaning.specs.Play.{first_moment}
-use Rattle.ra_trace.specs.Cutting.{header_size}
 use Rattle.ra_trace.specs.Reading.{IsStop, header_stop}
-use Rattle.ra_replay.specs.Left.{trace_limit}
 use Rattle.ra_session.specs.Failures.{ending_of_trace, trace_failed}
 use Rattle.ra_session.specs.declared.ending.Ending.TheVariants.{Done}
 use Rattle.ra_session.specs.Expected.{played}
 use Rattle.ra_session.specs.Loading.{progress_in}
 use Rattle.ra_session.proofs.LoadLemmas.{begins_somewhere}
 use Rattle.ra_session.proofs.NextLemmas.{told}
-use Rattle.ra_replay.proofs.LeftLemmas.{left_whole, pieces_of}
+use Rattle.ra_session.proofs.JobLemmas.{behind_header}
 use Rattle.ra_session.specs.declared.failures.TraceFailed.TheVariants as failed
 use Rattle.ra_session.proofs.RunLemmas.{played_behind, saved_behind, bad_header, ends_by, no_memory_left}
 use Rattle.ra_session.proofs.run.play_trace.Goals as goal
@@ -24,15 +21,13 @@ returns-in_err-reader-clause-printed g c = λ bytes o behind earned is_told at. 
 pub returns-in_err-size-clause-printed : goal.returns-in_err-size-clause-printed
 returns-in_err-size-clause-printed g c = λ bytes o behind earned is_told at.
     let set = set_contents c.args.beginning.set in
-    let name : c.in_ok-reader.reader.name ≡ c.args.trace.now = ap (λ r. r.name) c.in_ok-reader.ensures in
-    let limit : c.in_ok-reader.reader.limit ≡ trace_limit = ap (λ r. r.limit) c.in_ok-reader.ensures in
-    let said : IsStop c.in_err-size.field-0.0 (header_stop c.in_ok-reader.reader.limit bytes) =
-    told _ _ bytes (ap (g.F.Files.content c.args.files.now) name ∙ is_told) c.in_err-size.ensures.err in
-    ends_by (played set o behind earned bytes) (trace_failed c.in_err-size.field-0.0)
-    c.from_residual-in_err-size.result (g.K.Sink.text c.args.out.now) (g.K.Sink.text c.args.out.now)
-    c.from_residual-in_err-size.ensures.1
-    (bad_header set o behind earned bytes c.in_err-size.field-0.0 (g.K.Sink.text c.args.out.now)
-    (subst (λ l. IsStop c.in_err-size.field-0.0 (header_stop l bytes)) limit said))
+    let why = c.in_err-size.field-0.0 in
+    let text = g.K.Sink.text c.args.out.now in
+    let said : IsStop why (header_stop c.in_ok-reader.reader.limit bytes) = told _ _ bytes
+    (ap (λ r. g.F.Files.content c.args.files.now r.name) c.in_ok-reader.ensures ∙ is_told) c.in_err-size.ensures.err in
+    ends_by (played set o behind earned bytes) (trace_failed why) c.from_residual-in_err-size.result text text
+    c.from_residual-in_err-size.ensures.1 (bad_header set o behind earned bytes why text
+    (subst (λ l. IsStop why (header_stop l bytes)) (ap (λ r. r.limit) c.in_ok-reader.ensures) said))
 
 pub new-requires-clause-size : goal.new-requires-clause-size
 new-requires-clause-size g c = omega (arith, c.in_ok-size.ensures.most)
@@ -47,70 +42,41 @@ play_records-requires g c =
     let set = set_contents c.args.beginning.set in
     let (o, behind, earned, at) =
     begins_somewhere set (progress_in c.args.beginning) c.requires.playable c.requires.accepted in
+    let stands = c.in_ok-player.ensures.stands o behind earned at in
     record {
       size = c.in_ok-size.ensures.seen.sized ∙ ap Some (sym c.in_ok-player.ensures.image);
-      stands = record {
-        set = set;
-        opening = o;
-        moment = first_moment c.in_ok-size.size behind;
-        earned = earned;
-        stands = c.in_ok-player.ensures.stands o behind earned at;
-      };
+      stands = record { set = set; opening = o; moment = _; earned = earned; stands = stands };
     }
 
 pub returns-in-Ok-clause-printed : goal.returns-in-Ok-clause-printed
 returns-in-Ok-clause-printed g c = λ bytes o behind earned is_told at.
     let set = set_contents c.args.beginning.set in
-    let name : c.in_ok-reader.reader.name ≡ c.args.trace.now = ap (λ r. r.name) c.in_ok-reader.ensures in
-    let limit : c.in_ok-reader.reader.limit ≡ trace_limit = ap (λ r. r.limit) c.in_ok-reader.ensures in
-    let there : g.F.Files.content c.args.files.now c.in_ok-reader.reader.name ≡ Some bytes =
-    ap (g.F.Files.content c.args.files.now) name ∙ is_told in
-    let header = told _ _ bytes there c.in_ok-size.ensures.ok in
-    let left = left_whole bytes c.in_ok-size.size behind c.in_ok-reader.reader c.header.new.self limit
-    c.in_ok-size.ensures.seen (told _ _ bytes there c.in_ok-size.ensures.held) in
-    played_behind set o behind earned bytes c.in_ok-size.size Done (g.K.Sink.text c.args.out.now) (g.K.Sink.text
-    c.play_records.new.out) (subst (λ l. header_size (take l bytes) ≡ Some c.in_ok-size.size) limit header)
-    (c.in-Ok.ensures.printed bytes set o (first_moment c.in_ok-size.size behind) earned
-    (pieces_of c.in_ok-size.size bytes)
-    (ap (g.F.Files.content c.header.new.files) c.in_ok-size.ensures.seen.same.name
-    ∙ c.in_ok-size.ensures.stays.same.each c.in_ok-reader.reader.name ∙ there)
-    (c.in_ok-player.ensures.stands o behind earned at) left)
+    let size = c.in_ok-size.ensures in
+    let there = behind_header _ bytes c.in_ok-size.size behind _ _ _ _ c.in_ok-reader.ensures is_told size.stays.same
+    size.ok size.held size.seen in
+    played_behind set o behind earned bytes c.in_ok-size.size Done _ _ there.0
+    (c.in-Ok.ensures.printed bytes set o _ earned _ there.1 (c.in_ok-player.ensures.stands o
+    behind earned at) there.2)
 
 pub returns-in-Ok-clause-kept : goal.returns-in-Ok-clause-kept
 returns-in-Ok-clause-kept g c = λ bytes o behind earned is_told at.
     let set = set_contents c.args.beginning.set in
-    let name : c.in_ok-reader.reader.name ≡ c.args.trace.now = ap (λ r. r.name) c.in_ok-reader.ensures in
-    let limit : c.in_ok-reader.reader.limit ≡ trace_limit = ap (λ r. r.limit) c.in_ok-reader.ensures in
-    let there : g.F.Files.content c.args.files.now c.in_ok-reader.reader.name ≡ Some bytes =
-    ap (g.F.Files.content c.args.files.now) name ∙ is_told in
-    let header = told _ _ bytes there c.in_ok-size.ensures.ok in
-    let left = left_whole bytes c.in_ok-size.size behind c.in_ok-reader.reader c.header.new.self limit
-    c.in_ok-size.ensures.seen (told _ _ bytes there c.in_ok-size.ensures.held) in
-    saved_behind set o behind earned bytes c.in_ok-size.size c.play_records.new.player.slots.items
-    c.play_records.new.player.runtime (subst (λ l. header_size (take l bytes) ≡ Some c.in_ok-size.size) limit header)
-    (c.in-Ok.ensures.ends bytes set o (first_moment c.in_ok-size.size behind) earned (pieces_of c.in_ok-size.size bytes)
-    (ap (g.F.Files.content c.header.new.files) c.in_ok-size.ensures.seen.same.name
-    ∙ c.in_ok-size.ensures.stays.same.each c.in_ok-reader.reader.name ∙ there)
-    (c.in_ok-player.ensures.stands o behind earned at) left)
+    let size = c.in_ok-size.ensures in
+    let there = behind_header _ bytes c.in_ok-size.size behind _ _ _ _ c.in_ok-reader.ensures is_told size.stays.same
+    size.ok size.held size.seen in
+    saved_behind set o behind earned bytes c.in_ok-size.size c.play_records.new.player.slots.items _ there.0
+    (c.in-Ok.ensures.ends bytes set o _ earned _ there.1 (c.in_ok-player.ensures.stands o
+    behind earned at) there.2)
 
 pub returns-clause-printed : goal.returns-clause-printed
 returns-clause-printed g c = λ bytes o behind earned is_told at.
     let set = set_contents c.args.beginning.set in
-    let name : c.in_ok-reader.reader.name ≡ c.args.trace.now = ap (λ r. r.name) c.in_ok-reader.ensures in
-    let limit : c.in_ok-reader.reader.limit ≡ trace_limit = ap (λ r. r.limit) c.in_ok-reader.ensures in
-    let there : g.F.Files.content c.args.files.now c.in_ok-reader.reader.name ≡ Some bytes =
-    ap (g.F.Files.content c.args.files.now) name ∙ is_told in
-    let header = told _ _ bytes there c.in_ok-size.ensures.ok in
-    let left = left_whole bytes c.in_ok-size.size behind c.in_ok-reader.reader c.header.new.self limit
-    c.in_ok-size.ensures.seen (told _ _ bytes there c.in_ok-size.ensures.held) in
-    played_behind set o behind earned bytes c.in_ok-size.size (ending_of_trace c.in-Err.failed)
-    (g.K.Sink.text c.args.out.now) (g.K.Sink.text c.play_records.new.out)
-    (subst (λ l. header_size (take l bytes) ≡ Some c.in_ok-size.size) limit header)
-    (c.in-Err.ensures.printed bytes set o (first_moment c.in_ok-size.size behind) earned
-    (pieces_of c.in_ok-size.size bytes)
-    (ap (g.F.Files.content c.header.new.files) c.in_ok-size.ensures.seen.same.name
-    ∙ c.in_ok-size.ensures.stays.same.each c.in_ok-reader.reader.name ∙ there)
-    (c.in_ok-player.ensures.stands o behind earned at) left)
+    let size = c.in_ok-size.ensures in
+    let there = behind_header _ bytes c.in_ok-size.size behind _ _ _ _ c.in_ok-reader.ensures is_told size.stays.same
+    size.ok size.held size.seen in
+    played_behind set o behind earned bytes c.in_ok-size.size (ending_of_trace c.in-Err.failed) _ _ there.0
+    (c.in-Err.ensures.printed bytes set o _ earned _ there.1 (c.in_ok-player.ensures.stands o
+    behind earned at) there.2)
 
 pub returns-clause-read : goal.returns-clause-read
 returns-clause-read g c =

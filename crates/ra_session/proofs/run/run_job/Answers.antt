@@ -6,7 +6,7 @@ use Rattle.ra_session.specs.Playing.{kept_bytes}
 use Rattle.ra_args.specs.Words.{file_in}
 use Rattle.ra_session.specs.RunFiles.{run_of}
 use Rattle.ra_session.proofs.JobLemmas.{leaves_same, load_not_done, trace_not_done, ran_on, ran_not_put, leaves_put}
-use Rattle.ra_session.proofs.JobLemmas.{leaves_not_put, others_since, bytes_since}
+use Rattle.ra_session.proofs.JobLemmas.{leaves_not_put, others_since, bytes_since, plays_loaded}
 use Rattle.ra_session.proofs.LoadLemmas.{ran_not_begun}
 use Rattle.ra_session.proofs.RunLemmas.{rose_before}
 use Rattle.ra_jobs.proofs.Stays.{same_after, none_after}
@@ -24,19 +24,12 @@ returns-in-Err-clause-leaves g c = leaves_same (run_of c.args.run.now) _ _ c.fro
 
 pub returns-in-Err-play_trace-clause-ran : goal.returns-in-Err-play_trace-clause-ran
 returns-in-Err-play_trace-clause-ran g c =
-    let run = c.args.run.now in
     let load = c.in-Ok.ensures in
     let play = c.in-Err-play_trace.ensures in
-    ran_on run.set.now run.trace.now (option_map (λ name. name.now) run.restore) (option_map (λ name. name.now)
-    run.save) _ _ {T = Player} (set_contents c.in-Ok.beginning.set) (progress_in c.in-Ok.beginning) (Err
-    c.in-Err-play_trace.failed) c.from-in-Err-play_trace.result c.from-in-Err-play_trace.ensures
-    (record {
-      loaded = load.loaded;
-      printed = λ bytes o behind earned told at. play.printed bytes o behind earned
-          (load.stays.same.each run.trace.now ∙ told) at;
-      read = λ is. let rose = play.read is in omega (arith, rose, load.stays.reads.each run.trace.now);
-      wrote = play.write;
-    })
+    ran_on _ _ _ _ _ _ {T = Player} (set_contents c.in-Ok.beginning.set) (progress_in c.in-Ok.beginning)
+    (Err c.in-Err-play_trace.failed) _ c.from-in-Err-play_trace.ensures
+    (plays_loaded _ _ _ _ _ _ _ _ _ _ load.loaded load.stays.same play.printed
+    (λ is. let rose = play.read is in omega (arith, rose, load.stays.reads.each c.args.run.now.trace.now)) play.write)
 
 pub returns-in-Err-play_trace-clause-leaves : goal.returns-in-Err-play_trace-clause-leaves
 returns-in-Err-play_trace-clause-leaves g c =
@@ -46,19 +39,12 @@ returns-in-Err-play_trace-clause-leaves g c =
 
 pub returns-in-Ok-put_progress-clause-ran : goal.returns-in-Ok-put_progress-clause-ran
 returns-in-Ok-put_progress-clause-ran g c =
-    let run = c.args.run.now in
     let load = c.in-Ok.ensures in
     let play = c.in-Ok-play_trace.ensures in
-    ran_on run.set.now run.trace.now (option_map (λ name. name.now) run.restore)
-    (option_map (λ name. name.now) run.save) _ _ {T = Player} (set_contents c.in-Ok.beginning.set)
-    (progress_in c.in-Ok.beginning) (Ok c.in-Ok-play_trace.player) _ refl
-    (record {
-      loaded = load.loaded;
-      printed = λ bytes o behind earned told at. play.printed bytes o behind earned
-          (load.stays.same.each run.trace.now ∙ told) at;
-      read = λ is. absurd (cc is);
-      wrote = λ is. absurd (cc is);
-    })
+    ran_on _ _ _ _ _ _ {T = Player} (set_contents c.in-Ok.beginning.set) (progress_in c.in-Ok.beginning)
+    (Ok c.in-Ok-play_trace.player) _ refl
+    (plays_loaded _ _ _ _ _ _ _ _ _ _ load.loaded load.stays.same play.printed (λ is. absurd (cc is))
+    (λ is. absurd (cc is)))
 
 pub returns-in-Ok-put_progress-clause-leaves : goal.returns-in-Ok-put_progress-clause-leaves
 returns-in-Ok-put_progress-clause-leaves g c =
@@ -67,35 +53,25 @@ returns-in-Ok-put_progress-clause-leaves g c =
     let play = c.in-Ok-play_trace.ensures in
     let save = option_map (λ name. name.now) run.save in
     let since = same_after _ _ _ load.stays.same play.stays.same in
-    leaves_put run.set.now run.trace.now (option_map (λ name. name.now) run.restore) save _ _ {T = Player}
-    (set_contents c.in-Ok.beginning.set) (progress_in c.in-Ok.beginning) c.in-Ok-play_trace.player
-    (record {
-      loaded = load.loaded;
-      printed = λ bytes o behind earned told at. play.printed bytes o behind earned
-          (load.stays.same.each run.trace.now ∙ told) at;
-      read = λ is. absurd (cc is);
-      wrote = λ is. absurd (cc is);
-    })
-    (kept_bytes c.in-Ok-play_trace.player.runtime) (bytes_since _ _ _ _ (file_in save) since
-    c.in-Ok-put_progress.ensures.saved) (others_since _ _ _ (file_in save) since c.in-Ok-put_progress.ensures.others)
+    leaves_put _ _ _ _ _ _ {T = Player} (set_contents c.in-Ok.beginning.set) (progress_in c.in-Ok.beginning)
+    c.in-Ok-play_trace.player
+    (plays_loaded _ _ _ _ _ _ _ _ _ _ load.loaded load.stays.same play.printed (λ is. absurd (cc is))
+    (λ is. absurd (cc is)))
+    (kept_bytes c.in-Ok-play_trace.player.runtime)
+    (bytes_since _ _ _ _ (file_in save) since c.in-Ok-put_progress.ensures.saved)
+    (others_since _ _ _ (file_in save) since c.in-Ok-put_progress.ensures.others)
     (λ bytes o behind earned told at. play.kept bytes o behind earned (load.stays.same.each run.trace.now ∙ told) at)
 
 pub returns-in-Err-put_progress-clause-ran : goal.returns-in-Err-put_progress-clause-ran
 returns-in-Err-put_progress-clause-ran g c =
-    let run = c.args.run.now in
     let load = c.in-Ok.ensures in
     let play = c.in-Ok-play_trace.ensures in
-    let save = option_map (λ name. name.now) run.save in
-    ran_not_put run.set.now run.trace.now (option_map (λ name. name.now) run.restore) save _ _ {T = Player}
-    (set_contents c.in-Ok.beginning.set) (progress_in c.in-Ok.beginning) c.in-Ok-play_trace.player
-    (record {
-      loaded = load.loaded;
-      printed = λ bytes o behind earned told at. play.printed bytes o behind earned
-          (load.stays.same.each run.trace.now ∙ told) at;
-      read = λ is. absurd (cc is);
-      wrote = λ is. absurd (cc is);
-    })
-    c.in-Err-put_progress.failed c.from-in-Err-put_progress.result c.from-in-Err-put_progress.ensures
+    let save = option_map (λ name. name.now) c.args.run.now.save in
+    ran_not_put _ _ _ _ _ _ {T = Player} (set_contents c.in-Ok.beginning.set) (progress_in c.in-Ok.beginning)
+    c.in-Ok-play_trace.player
+    (plays_loaded _ _ _ _ _ _ _ _ _ _ load.loaded load.stays.same play.printed (λ is. absurd (cc is))
+    (λ is. absurd (cc is)))
+    c.in-Err-put_progress.failed _ c.from-in-Err-put_progress.ensures
     (λ is. rose_before _ _ _ (file_in save) (none_after _ _ _ load.stays.puts play.stays.puts)
     (c.in-Err-put_progress.ensures.failed is))
 
