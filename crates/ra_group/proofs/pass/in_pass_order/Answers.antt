@@ -11,23 +11,23 @@ use Rattle.ra_group.proofs.pass.in_pass_order.Goals as goal
 use Rattle.ra_group.proofs.pass.in_pass_order.Goals.{then-pass, else-pass, then-not-frozen, else-not-frozen}
 
 pub bounds-conditions-place : goal.bounds-conditions-place
-bounds-conditions-place c = place_below _ _ c.loop-turn.turn c.requires.order c.loop-turn-test.true
+bounds-conditions-place c = place_below c.args.conditions.now _ c.loop-turn.turn c.requires.order c.loop-turn-test.true
 
 pub bounds-truths-place : goal.bounds-truths-place
 bounds-truths-place c =
-    omega (arith, place_below _ _ c.loop-turn.turn c.requires.order c.loop-turn-test.true)
+    omega (arith, place_below c.args.conditions.now _ c.loop-turn.turn c.requires.order c.loop-turn-test.true)
 
 pub bounds-lefts-place : goal.bounds-lefts-place
 bounds-lefts-place c =
-    omega (arith, place_below _ _ c.loop-turn.turn c.requires.order c.loop-turn-test.true)
+    omega (arith, place_below c.args.conditions.now _ c.loop-turn.turn c.requires.order c.loop-turn-test.true)
 
 pub bounds-hits-place : goal.bounds-hits-place
 bounds-hits-place c =
-    omega (arith, place_below _ _ c.loop-turn.turn c.requires.order c.loop-turn-test.true)
+    omega (arith, place_below c.args.conditions.now _ c.loop-turn.turn c.requires.order c.loop-turn-test.true)
 
 pub bounds-hits-place-then-not-frozen : goal.bounds-hits-place-then-not-frozen
 bounds-hits-place-then-not-frozen c =
-    omega (arith, place_below _ _ c.loop-turn.turn c.requires.order c.loop-turn-test.true)
+    omega (arith, place_below c.args.conditions.now _ c.loop-turn.turn c.requires.order c.loop-turn-test.true)
 
 pub visit_any-next-requires : goal.visit_any-next-requires
 visit_any-next-requires c =
