@@ -36,95 +36,61 @@ use Rattle.ra_text.specs.Form.{Spell, One, ◌or◌}
 use Rattle.ra_text.specs.Table.{lookup, only, only_letters}
 use Rattle.ra_text.proofs.Items.{one-byte, chain-spelled, joined-spelled}
 use Rattle.ra_text.proofs.Numerals.{decimal-spelled}
+use Rattle.ra_text.proofs.Spelled.{then-spelled, none-spelled, one-spelled}
 
 -- ---- tails
 
 comparison-spelled : (op : Op) → not (is_bare op || is_arithmetic op) ≡ true → comparison (op_text op) op
-comparison-spelled Eq e = inl (record
-    { front = codes "="; behind = []; v = tt; parts = refl; of_first = one-byte 61 refl; of_next = record { front = []; behind = []; v = tt; parts = refl; of_first = inr (record { empty = refl; is = refl }); of_next = record { empty = refl; is = refl } } })
-comparison-spelled Ne e = inr (inl (record
-    { front = codes "!"; behind = codes "="; v = tt; parts = refl; of_first = one-byte 33 refl; of_next = record { front = codes "="; behind = []; v = tt; parts = refl; of_first = one-byte 61 refl; of_next = record { empty = refl; is = refl } } }))
-comparison-spelled Lt e = inr (inr (inl (record
-    { front = codes "<"; behind = []; v = tt; parts = refl; of_first = one-byte 60 refl; of_next = inr (record { empty = refl; is = refl }) })))
-comparison-spelled Le e = inr (inr (inl (record
-    { front = codes "<"; behind = codes "="; v = tt; parts = refl; of_first = one-byte 60 refl; of_next = inl (record { symbol = 61; alone = refl; listed = refl }) })))
-comparison-spelled Gt e = inr (inr (inr (record
-    { front = codes ">"; behind = []; v = tt; parts = refl; of_first = one-byte 62 refl; of_next = inr (record { empty = refl; is = refl }) })))
-comparison-spelled Ge e = inr (inr (inr (record
-    { front = codes ">"; behind = codes "="; v = tt; parts = refl; of_first = one-byte 62 refl; of_next = inl (record { symbol = 61; alone = refl; listed = refl }) })))
+comparison-spelled Eq e = inl (then-spelled (codes "=") [] tt refl (one-byte 61 refl)
+    (then-spelled [] [] tt refl (inr none-spelled) none-spelled))
+comparison-spelled Ne e = inr (inl (then-spelled (codes "!") (codes "=") tt refl (one-byte 33 refl)
+    (then-spelled (codes "=") [] tt refl (one-byte 61 refl) none-spelled)))
+comparison-spelled Lt e =
+    inr (inr (inl (then-spelled (codes "<") [] tt refl (one-byte 60 refl) (inr none-spelled))))
+comparison-spelled Le e = inr (inr (inl
+    (then-spelled (codes "<") (codes "=") tt refl (one-byte 60 refl) (inl (one-spelled 61 refl)))))
+comparison-spelled Gt e =
+    inr (inr (inr (then-spelled (codes ">") [] tt refl (one-byte 62 refl) (inr none-spelled))))
+comparison-spelled Ge e = inr (inr (inr
+    (then-spelled (codes ">") (codes "=") tt refl (one-byte 62 refl) (inl (one-spelled 61 refl)))))
 comparison-spelled _ e = absurd (cc e)
 
 operator-spelled : (op : Op) → is_arithmetic op ≡ true → One (lookup operators) (op_text op) op
-operator-spelled Mul e = record { symbol = 42; alone = refl; listed = refl }
-operator-spelled Div e = record { symbol = 47; alone = refl; listed = refl }
-operator-spelled And e = record { symbol = 38; alone = refl; listed = refl }
-operator-spelled Xor e = record { symbol = 94; alone = refl; listed = refl }
-operator-spelled Rem e = record { symbol = 37; alone = refl; listed = refl }
-operator-spelled Add e = record { symbol = 43; alone = refl; listed = refl }
-operator-spelled Sub e = record { symbol = 45; alone = refl; listed = refl }
+operator-spelled Mul e = one-spelled 42 refl
+operator-spelled Div e = one-spelled 47 refl
+operator-spelled And e = one-spelled 38 refl
+operator-spelled Xor e = one-spelled 94 refl
+operator-spelled Rem e = one-spelled 37 refl
+operator-spelled Add e = one-spelled 43 refl
+operator-spelled Sub e = one-spelled 45 refl
 operator-spelled _ e = absurd (cc e)
 
 some-target : (n : ℕ) → target_text (suc n) ≡ codes "." ++ (decimal (suc n) ++ codes ".")
 some-target n = let some : (suc n == 0) ≡ false = ne_eqb (suc n) 0 (suc-ne-zero n) in rw some
 
 target-spelled : (n : ℕ) → n < 4294967296 → target (target_text n) n
-target-spelled zero small = inr (inr (record { empty = refl; is = refl }))
-target-spelled (suc n) small = subst (λ t. target t (suc n)) (sym (some-target n)) (inl (record {
-  front = codes ".";
-  behind = decimal (suc n) ++ codes ".";
-  v = tt;
-  parts = refl;
-  of_first = one-byte 46 refl;
-  of_next = record {
-    front = decimal (suc n);
-    behind = codes ".";
-    v = suc n;
-    parts = refl;
-    of_first = decimal-spelled (suc n) small;
-    of_next =
-        record { front = codes "."; behind = []; v = tt; parts = refl; of_first = one-byte 46 refl; of_next = record { empty = refl; is = refl } };
-  };
-}))
+target-spelled zero small = inr (inr none-spelled)
+target-spelled (suc n) small = subst (λ t. target t (suc n)) (sym (some-target n))
+    (inl (then-spelled (codes ".") (decimal (suc n) ++ codes ".") tt refl (one-byte 46 refl)
+    (then-spelled (decimal (suc n)) (codes ".") (suc n) refl (decimal-spelled (suc n) small)
+    (then-spelled (codes ".") [] tt refl (one-byte 46 refl) none-spelled))))
 
 compared-spelled : (op : Op) (right : Operand) (n : ℕ) → not (is_bare op || is_arithmetic op) ≡ true
     → Fits32 right → n < 4294967296 → compared (op_text op ++ (operand_text right ++ target_text n))
     (record { op = op; right = right; target = n })
-compared-spelled op right n compares fits small = record {
-  front = op_text op;
-  behind = operand_text right ++ target_text n;
-  v = op;
-  parts = refl;
-  of_first = comparison-spelled op compares;
-  of_next = record {
-    front = operand_text right;
-    behind = target_text n;
-    v = right;
-    parts = refl;
-    of_first = operand-spelled right fits;
-    of_next =
-        record { front = target_text n; behind = []; v = n; parts = sym (append-nil (target_text n)); of_first = target-spelled n small; of_next = record { empty = refl; is = refl } };
-  };
-}
+compared-spelled op right n compares fits small =
+    then-spelled (op_text op) (operand_text right ++ target_text n) op refl
+    (comparison-spelled op compares) (then-spelled (operand_text right) (target_text n) right refl
+    (operand-spelled right fits) (then-spelled (target_text n) [] n
+    (sym (append-nil (target_text n))) (target-spelled n small) none-spelled))
 
 computed-spelled : (op : Op) (right : Operand) → is_arithmetic op ≡ true → Fits32 right
     → computed (op_text op ++ (operand_text right ++ target_text 0))
     (record { op = op; right = right; target = 0 })
-computed-spelled op right arithmetic fits = record {
-  front = op_text op;
-  behind = operand_text right ++ target_text 0;
-  v = op;
-  parts = refl;
-  of_first = operator-spelled op arithmetic;
-  of_next = record {
-    front = operand_text right;
-    behind = [];
-    v = right;
-    parts = refl;
-    of_first = operand-spelled right fits;
-    of_next =
-        record { front = []; behind = []; v = 0; parts = refl; of_first = inr (inr (record { empty = refl; is = refl })); of_next = record { empty = refl; is = refl } };
-  };
-}
+computed-spelled op right arithmetic fits = then-spelled (op_text op)
+    (operand_text right ++ target_text 0) op refl (operator-spelled op arithmetic)
+    (then-spelled (operand_text right) [] right refl (operand-spelled right fits)
+    (then-spelled [] [] 0 refl (inr (inr none-spelled)) none-spelled))
 
 -- no operator is one operator
 bare-only : (op : Op) → is_bare op ≡ true → op ≡ Bare
@@ -132,8 +98,8 @@ bare-only Bare e = refl
 bare-only _ e = absurd (cc e)
 
 bare-spelled : (hands may : Bool) → takes_op hands may Bare ≡ true → tail_of hands may [] bare
-bare-spelled true may takes = inr (inr (record { empty = refl; is = refl }))
-bare-spelled false true takes = inr (record { empty = refl; is = refl })
+bare-spelled true may takes = inr (inr none-spelled)
+bare-spelled false true takes = inr none-spelled
 bare-spelled false false takes = absurd (cc takes)
 
 or-second : (b a : Bool) → b ≡ false → (b || a) ≡ true → a ≡ true
@@ -178,34 +144,19 @@ tail-spelled hands may op right n takes fits small bare_right bare_target none =
 
 unflagged-spelled : (setting : Setting) (c : Condition) → IsCondition setting c
     → unflagged setting c.flag (operand_text c.left ++ tail_text c.op c.right c.target) c
-unflagged-spelled setting c h = record {
-  front = operand_text c.left;
-  behind = tail_text c.op c.right c.target;
-  v = c.left;
-  parts = refl;
-  of_first = operand-spelled c.left h.left;
-  of_next = record {
-    front = tail_text c.op c.right c.target;
-    behind = [];
-    v = record { op = c.op; right = c.right; target = c.target };
-    parts = sym (append-nil (tail_text c.op c.right c.target));
-    of_first = tail-spelled (hands_on c.flag) (stands_bare setting c.flag) c.op c.right c.target
-        h.op h.right h.target h.bare_right h.bare_target h.handed_target;
-    of_next = record { empty = refl; is = refl };
-  };
-}
+unflagged-spelled setting c h = then-spelled (operand_text c.left)
+    (tail_text c.op c.right c.target) c.left refl (operand-spelled c.left h.left)
+    (then-spelled (tail_text c.op c.right c.target) []
+    (record { op = c.op; right = c.right; target = c.target })
+    (sym (append-nil (tail_text c.op c.right c.target)))
+    (tail-spelled (hands_on c.flag) (stands_bare setting c.flag) c.op c.right c.target h.op h.right
+    h.target h.bare_right h.bare_target h.handed_target) none-spelled)
 
 flagged-by : (setting : Setting) (letter : ℕ) (flag : Flag) (rest : List ℕ) (c : Condition)
     → lookup flags letter ≡ Some flag → unflagged setting flag rest c
     → flagged setting (letter ∷ (58 ∷ rest)) c
-flagged-by setting letter flag rest c listed h = record {
-  front = letter ∷ [];
-  behind = 58 ∷ rest;
-  v = flag;
-  parts = refl;
-  of_first = record { symbol = letter; alone = refl; listed = listed };
-  of_next = record { front = 58 ∷ []; behind = rest; v = tt; parts = refl; of_first = one-byte 58 refl; of_next = h };
-}
+flagged-by setting letter flag rest c listed h = then-spelled (letter ∷ []) (58 ∷ rest) flag refl
+    (one-spelled letter listed) (then-spelled (58 ∷ []) rest tt refl (one-byte 58 refl) h)
 
 flagged-spelled : (setting : Setting) (flag : Flag) (rest : List ℕ) (c : Condition) → (flag ≡ Plain
     → ⊥) → unflagged setting flag rest c → flagged setting (flag_text flag ++ rest) c
@@ -259,7 +210,7 @@ each-by P Q into [] each = tt
 each-by P Q into (x ∷ xs) each = (into x each.0, each-by P Q into xs each.1)
 
 group-spelled : (cs : List Condition) → IsTriggerGroup cs → group (group_text cs) cs
-group-spelled [] h = inr (record { empty = refl; is = refl })
+group-spelled [] h = inr none-spelled
 group-spelled (c ∷ cs) h = let each = recursion_from_All (IsCondition InTrigger) (c ∷ cs) h in
     inl (joined-spelled (only (95 ∷ [])) (condition InTrigger) 95 tt condition_text refl c cs
     (condition-spelled InTrigger c each.0) (each-by (IsCondition InTrigger)
@@ -267,16 +218,11 @@ group-spelled (c ∷ cs) h = let each = recursion_from_All (IsCondition InTrigge
 
 -- the canonical text of a trigger spells it
 pub trigger-spelled : (t : TriggerContents) → IsTrigger t → trigger (trigger_text t) t
-trigger-spelled t h = record {
-  front = trigger_text t;
-  behind = [];
-  v = t.core ∷ t.alts;
-  parts = sym (append-nil (trigger_text t));
-  of_first = joined-spelled (only_letters (83 ∷ [])) group 83 tt group_text refl t.core t.alts
-      (group-spelled t.core h.core) (each-by IsTriggerGroup (λ g. group (group_text g) g)
-      group-spelled t.alts (recursion_from_All IsTriggerGroup t.alts h.alts));
-  of_next = record { empty = refl; is = refl };
-}
+trigger-spelled t h = then-spelled (trigger_text t) [] (t.core ∷ t.alts)
+    (sym (append-nil (trigger_text t))) (joined-spelled
+    (only_letters (83 ∷ [])) group 83 tt group_text refl t.core t.alts (group-spelled t.core h.core)
+    (each-by IsTriggerGroup (λ g. group (group_text g) g) group-spelled t.alts
+    (recursion_from_All IsTriggerGroup t.alts h.alts))) none-spelled
 
 -- ---- values
 
@@ -284,65 +230,37 @@ conditions-spelled : (cs : List Condition) → IsValueGroup cs → measured_cond
 conditions-spelled [] h = absurd (h.flagged tt)
 conditions-spelled (c ∷ cs) h =
     let each = recursion_from_All (IsCondition InValue) (c ∷ cs) h.conditions in
-    record {
-      front = condition_text c;
-      behind = flat_map (λ y. 95 ∷ condition_text y) cs;
-      v = c;
-      parts = refl;
-      of_first = flagged-spelled InValue c.flag (operand_text c.left
-          ++ tail_text c.op c.right c.target) c h.flagged (unflagged-spelled InValue c each.0);
-      of_next = record {
-        front = flat_map (λ y. 95 ∷ condition_text y) cs;
-        behind = [];
-        v = cs;
-        parts = sym (append-nil (flat_map (λ y. 95 ∷ condition_text y) cs));
-        of_first = chain-spelled (λ so_far. only (95 ∷ [])) (λ so_far tag. condition InValue)
-            measured_by (λ so_far. so_far) 95 tt condition_text (λ so_far. refl)
-            (is_measured c.flag) cs
-            (each-by (IsCondition InValue) (λ c. (so_far : Bool) → condition InValue
-            (condition_text c) c) (λ c h so_far. condition-spelled InValue c h) cs each.1)
-            (measured-chain (is_measured c.flag) cs ∙ h.measured);
-        of_next = record { empty = refl; is = refl };
-      };
-    }
+    then-spelled (condition_text c) (flat_map (λ y. 95 ∷ condition_text y) cs) c refl
+    (flagged-spelled InValue c.flag (operand_text c.left ++ tail_text c.op c.right c.target) c
+    h.flagged (unflagged-spelled InValue c each.0))
+    (then-spelled (flat_map (λ y. 95 ∷ condition_text y) cs) [] cs
+    (sym (append-nil (flat_map (λ y. 95 ∷ condition_text y) cs)))
+    (chain-spelled (λ so_far. only (95 ∷ [])) (λ so_far tag. condition InValue) measured_by
+    (λ so_far. so_far) 95 tt condition_text (λ so_far. refl) (is_measured c.flag) cs
+    (each-by (IsCondition InValue) (λ c. (so_far : Bool)
+    → condition InValue (condition_text c) c) (λ c h so_far. condition-spelled InValue c h) cs
+    each.1) (measured-chain (is_measured c.flag) cs ∙ h.measured)) none-spelled)
 
 factor-spelled : (f : Option Operand) → FitsFactor f → (times or Spell None) (factor_text f) f
-factor-spelled None h = inr (record { empty = refl; is = refl })
-factor-spelled (Some o) h = inl (record {
-  front = codes "*";
-  behind = operand_text o;
-  v = tt;
-  parts = refl;
-  of_first = one-byte 42 refl;
-  of_next =
-      record { front = operand_text o; behind = []; v = o; parts = sym (append-nil (operand_text o)); of_first = operand-spelled o h; of_next = record { empty = refl; is = refl } };
-})
+factor-spelled None h = inr none-spelled
+factor-spelled (Some o) h = inl (then-spelled (codes "*") (operand_text o) tt refl
+    (one-byte 42 refl) (then-spelled (operand_text o) [] o (sym (append-nil (operand_text o)))
+    (operand-spelled o h) none-spelled))
 
 term-spelled : (t : Term) → IsTerm t → term (term_text t) t
-term-spelled t h = record {
-  front = operand_text t.operand;
-  behind = factor_text t.factor;
-  v = t.operand;
-  parts = refl;
-  of_first = operand-spelled t.operand h.operand;
-  of_next =
-      record { front = factor_text t.factor; behind = []; v = t.factor; parts = sym (append-nil (factor_text t.factor)); of_first = factor-spelled t.factor h.factor; of_next = record { empty = refl; is = refl } };
-}
+term-spelled t h = then-spelled (operand_text t.operand) (factor_text t.factor) t.operand refl
+    (operand-spelled t.operand h.operand) (then-spelled (factor_text t.factor) [] t.factor
+    (sym (append-nil (factor_text t.factor))) (factor-spelled t.factor h.factor) none-spelled)
 
 part-spelled : (p : PartContents) → IsPart p → part (part_text p) p
 part-spelled (Legacy []) h = absurd (omega (arith, h.0))
 part-spelled (Legacy (t ∷ ts)) h = let each = recursion_from_All IsTerm (t ∷ ts) h.1 in
-    inr (record {
-      front = joined_text 95 term_text (t ∷ ts);
-      behind = [];
-      v = t ∷ ts;
-      parts = sym (append-nil (joined_text 95 term_text (t ∷ ts)));
-      of_first = joined-spelled (only (95 ∷ [])) term 95 tt term_text refl t ts (term-spelled t
-          each.0) (each-by IsTerm (λ t. term (term_text t) t) term-spelled ts each.1);
-      of_next = record { empty = refl; is = refl };
-    })
-part-spelled (Grouped cs) h = inl (record
-    { front = group_text cs; behind = []; v = cs; parts = sym (append-nil (group_text cs)); of_first = conditions-spelled cs h; of_next = record { empty = refl; is = refl } })
+    inr (then-spelled (joined_text 95 term_text (t ∷ ts)) [] (t ∷ ts)
+    (sym (append-nil (joined_text 95 term_text (t ∷ ts))))
+    (joined-spelled (only (95 ∷ [])) term 95 tt term_text refl t ts (term-spelled t each.0)
+    (each-by IsTerm (λ t. term (term_text t) t) term-spelled ts each.1)) none-spelled)
+part-spelled (Grouped cs) h = inl (then-spelled (group_text cs) [] cs
+    (sym (append-nil (group_text cs))) (conditions-spelled cs h) none-spelled)
 
 -- the canonical text of a value spells it
 pub value-spelled : (v : List PartContents) → IsValue v → value (value_text v) v

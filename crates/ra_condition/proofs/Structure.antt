@@ -67,7 +67,14 @@ record IsTail (hands may : Bool) (tail : Tail) : Type 0 where
 
 bare-tail : (hands may : Bool) → takes_op hands may Bare ≡ true → IsTail hands may bare
 bare-tail hands may takes =
-    record { op = takes; right = lit< tt; target = lit< tt; bare_right = λ e. refl; bare_target = λ e. refl; handed_target = λ e. refl }
+    record {
+      op = takes;
+      right = lit< tt;
+      target = lit< tt;
+      bare_right = λ e. refl;
+      bare_target = λ e. refl;
+      handed_target = λ e. refl;
+    }
 
 compares-no_bare : (b a : Bool) → not (b || a) ≡ true → b ≡ true → ⊥
 compares-no_bare true a e is = absurd (cc e)
@@ -194,8 +201,12 @@ conditions-structure t cs h =
     let first = flagged-structure InValue h.front h.v h.of_first in
     let others = h.of_next in
     subst IsValueGroup (sym others.of_next.is) (record {
-      conditions = All-from_recursion (IsCondition InValue) (h.v ∷ others.v)
-          (first.0, chain-each (λ so_far. only (95 ∷ [])) (λ so_far tag. condition InValue) measured_by (λ so_far. so_far) (IsCondition InValue) (λ so_far tag. condition-structure InValue) (is_measured h.v.flag) others.front others.v others.of_first);
+      conditions = All-from_recursion (IsCondition InValue) (h.v ∷ others.v) (
+        first.0,
+        chain-each (λ so_far. only (95 ∷ [])) (λ so_far tag. condition InValue) measured_by
+            (λ so_far. so_far) (IsCondition InValue) (λ so_far tag. condition-structure InValue)
+            (is_measured h.v.flag) others.front others.v others.of_first,
+      );
       flagged = first.1;
       measured = sym (measured-chain (is_measured h.v.flag) others.v)
           ∙ chain-done (λ so_far. only (95 ∷ [])) (λ so_far tag. condition InValue) measured_by
@@ -204,7 +215,10 @@ conditions-structure t cs h =
 
 term-structure : (t : List ℕ) (v : Term) → term t v → IsTerm v
 term-structure t v h = subst IsTerm (sym h.of_next.of_next.is)
-    (record { operand = operand-fits h.front h.v h.of_first; factor = factor-fits h.of_next.front h.of_next.v h.of_next.of_first }) where
+    (record {
+      operand = operand-fits h.front h.v h.of_first;
+      factor = factor-fits h.of_next.front h.of_next.v h.of_next.of_first;
+    }) where
       factor-fits : (t : List ℕ) (f : Option Operand) → (times or Spell None) t f → FitsFactor f
       factor-fits t f (inl h) = subst FitsFactor (sym h.of_next.of_next.is)
           (operand-fits h.of_next.front h.of_next.v h.of_next.of_first)
@@ -212,10 +226,15 @@ term-structure t v h = subst IsTerm (sym h.of_next.of_next.is)
 
 part-structure : (t : List ℕ) (v : PartContents) → part t v → IsPart v
 part-structure t v (inl h) = subst IsPart (sym h.of_next.is) (conditions-structure h.front h.v h.of_first)
-part-structure t v (inr h) = subst IsPart (sym h.of_next.is)
-    (joined-some (only (95 ∷ [])) term h.front h.v h.of_first, All-from_recursion IsTerm h.v (joined-each (only (95 ∷ [])) term IsTerm term-structure h.front h.v h.of_first))
+part-structure t v (inr h) = subst IsPart (sym h.of_next.is) (
+  joined-some (only (95 ∷ [])) term h.front h.v h.of_first,
+  All-from_recursion IsTerm h.v (joined-each (only (95 ∷ [])) term IsTerm term-structure h.front h.v h.of_first),
+)
 
 -- every value that some text spells has this structure
 pub value-structure : (t : List ℕ) (v : List PartContents) → value t v → IsValue v
 value-structure t v h =
-    record { some = joined-some (only (36 ∷ [])) part t v h; each = All-from_recursion IsPart v (joined-each (only (36 ∷ [])) part IsPart part-structure t v h) }
+    record {
+      some = joined-some (only (36 ∷ [])) part t v h;
+      each = All-from_recursion IsPart v (joined-each (only (36 ∷ [])) part IsPart part-structure t v h);
+    }

@@ -41,6 +41,7 @@ use Rattle.ra_text.proofs.Readers.{Reader, reader-one, reader-spell, reader-wide
 use Rattle.ra_text.proofs.Steps.{reads-shorter}
 use Rattle.ra_text.proofs.Tables.{In, keys_of, listed_in, in_within, in_apart, begins-byte, is_in-in, not_in-in}
 use Rattle.ra_text.proofs.Tables.{opens-whole}
+use Rattle.ra_text.proofs.Spelled.{viable-by, link-spelled}
 
 -- ---- parts of conditions
 
@@ -65,13 +66,9 @@ measured-spelled = whole_ok (condition InValue) (condition_at InValue) (reads-co
 
 -- from every state some conditions end the part
 completes : (measured : Bool) → Viable (others measured) []
-completes true = record { more = []; v = []; whole = (refl, refl) }
-completes false = record {
-  more = codes "_M:0";
-  v = measured_zero ∷ [];
-  whole = record
-      { symbol = 95; tag = tt; front = codes "M:0"; behind = []; parts = refl; separated = refl; of_item = measured-spelled; of_others = (refl, refl) };
-}
+completes true = viable-by [] [] (refl, refl)
+completes false = viable-by (codes "_M:0") (measured_zero ∷ [])
+    (link-spelled 95 tt (codes "M:0") [] refl refl measured-spelled (refl, refl))
 
 -- what goes on with a part
 abbrev pub part_rest : List ℕ
@@ -267,7 +264,10 @@ pub measured-starts : (text : List ℕ) (first : Condition) (rest : List ℕ) �
     → MeasuredSoFar (first ∷ []) (is_measured first.flag) rest (measured_conditions_at text)
 unfolding measured_conditions_at
 measured-starts text first rest read =
-    record { is = ap (λ o. o >>= λ first. others_at (is_measured first.0.flag) first.1 >>= λ cs. Ok (first.0 ∷ cs.0, cs.1)) read }
+    record {
+      is = ap (λ o. o >>= λ first. others_at (is_measured first.0.flag) first.1 >>= λ cs. Ok
+          (first.0 ∷ cs.0, cs.1)) read;
+    }
 
 pub measured-none : (text rest : List ℕ) → flagged_at InValue text ≡ Err rest → measured_conditions_at text ≡ Err rest
 unfolding measured_conditions_at

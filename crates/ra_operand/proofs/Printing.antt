@@ -15,6 +15,7 @@ use Rattle.ra_operand.specs.Grammar.{kinds, sizes, memory, hex_constant, decimal
 use Rattle.ra_text.specs.Form.{◌or◌, optional}
 use Rattle.ra_text.specs.Table.{lookup}
 use Rattle.ra_text.proofs.Numerals.{hexadecimal-spelled, signed-spelled, hexadecimal-fits, signed-fits}
+use Rattle.ra_text.proofs.Spelled.{then-spelled, none-spelled, one-spelled}
 
 -- what `{:04x}` writes of a number
 pub four-digits : (shortest : List ℕ) → padded_integral (format_spec 32 0 4 4 (2 ^ 64 - 1)) false []
@@ -39,86 +40,52 @@ cell-text old new prefix letter styled address is h = subst
 
 -- the prefix of a kind is read as that kind
 prefix-spelled : (kind : Kind) → optional (lookup kinds) Mem (prefix_of kind) kind
-prefix-spelled Mem = inr (record { empty = refl; is = refl })
-prefix-spelled Delta = inl (record { symbol = 100; alone = refl; listed = refl })
-prefix-spelled Prior = inl (record { symbol = 112; alone = refl; listed = refl })
-prefix-spelled Bcd = inl (record { symbol = 98; alone = refl; listed = refl })
-prefix-spelled Inverted = inl (record { symbol = 126; alone = refl; listed = refl })
+prefix-spelled Mem = inr none-spelled
+prefix-spelled Delta = inl (one-spelled 100 refl)
+prefix-spelled Prior = inl (one-spelled 112 refl)
+prefix-spelled Bcd = inl (one-spelled 98 refl)
+prefix-spelled Inverted = inl (one-spelled 126 refl)
 
 -- the letter of a size is read as that size
 letter-spelled : (size : Size) → optional (lookup sizes) Two (letter_of size) size
-letter-spelled Bit0 = inl (record { symbol = 77; alone = refl; listed = refl })
-letter-spelled Bit1 = inl (record { symbol = 78; alone = refl; listed = refl })
-letter-spelled Bit2 = inl (record { symbol = 79; alone = refl; listed = refl })
-letter-spelled Bit3 = inl (record { symbol = 80; alone = refl; listed = refl })
-letter-spelled Bit4 = inl (record { symbol = 81; alone = refl; listed = refl })
-letter-spelled Bit5 = inl (record { symbol = 82; alone = refl; listed = refl })
-letter-spelled Bit6 = inl (record { symbol = 83; alone = refl; listed = refl })
-letter-spelled Bit7 = inl (record { symbol = 84; alone = refl; listed = refl })
-letter-spelled Low = inl (record { symbol = 76; alone = refl; listed = refl })
-letter-spelled High = inl (record { symbol = 85; alone = refl; listed = refl })
-letter-spelled Byte = inl (record { symbol = 72; alone = refl; listed = refl })
-letter-spelled Count = inl (record { symbol = 75; alone = refl; listed = refl })
-letter-spelled Two = inl (record { symbol = 32; alone = refl; listed = refl })
-letter-spelled TwoBig = inl (record { symbol = 73; alone = refl; listed = refl })
-letter-spelled Three = inl (record { symbol = 87; alone = refl; listed = refl })
-letter-spelled ThreeBig = inl (record { symbol = 74; alone = refl; listed = refl })
-letter-spelled Four = inl (record { symbol = 88; alone = refl; listed = refl })
-letter-spelled FourBig = inl (record { symbol = 71; alone = refl; listed = refl })
+letter-spelled Bit0 = inl (one-spelled 77 refl)
+letter-spelled Bit1 = inl (one-spelled 78 refl)
+letter-spelled Bit2 = inl (one-spelled 79 refl)
+letter-spelled Bit3 = inl (one-spelled 80 refl)
+letter-spelled Bit4 = inl (one-spelled 81 refl)
+letter-spelled Bit5 = inl (one-spelled 82 refl)
+letter-spelled Bit6 = inl (one-spelled 83 refl)
+letter-spelled Bit7 = inl (one-spelled 84 refl)
+letter-spelled Low = inl (one-spelled 76 refl)
+letter-spelled High = inl (one-spelled 85 refl)
+letter-spelled Byte = inl (one-spelled 72 refl)
+letter-spelled Count = inl (one-spelled 75 refl)
+letter-spelled Two = inl (one-spelled 32 refl)
+letter-spelled TwoBig = inl (one-spelled 73 refl)
+letter-spelled Three = inl (one-spelled 87 refl)
+letter-spelled ThreeBig = inl (one-spelled 74 refl)
+letter-spelled Four = inl (one-spelled 88 refl)
+letter-spelled FourBig = inl (one-spelled 71 refl)
 
 memory-spelled : (kind : Kind) (size : Size) (address : ℕ) → address < 4294967296
     → memory (operand_text (Cell kind size address)) (Cell kind size address)
-memory-spelled kind size address small = record {
-  front = prefix_of kind;
-  behind = codes "0x" ++ (letter_of size ++ address_text address);
-  v = kind;
-  parts = refl;
-  of_first = prefix-spelled kind;
-  of_next = record {
-    front = codes "0";
-    behind = codes "x" ++ (letter_of size ++ address_text address);
-    v = tt;
-    parts = refl;
-    of_first = record { symbol = 48; alone = refl; listed = refl };
-    of_next = record {
-      front = codes "x";
-      behind = letter_of size ++ address_text address;
-      v = tt;
-      parts = refl;
-      of_first = record { symbol = 120; alone = refl; listed = refl };
-      of_next = record {
-        front = letter_of size;
-        behind = address_text address;
-        v = size;
-        parts = refl;
-        of_first = letter-spelled size;
-        of_next = record {
-          front = address_text address;
-          behind = [];
-          v = address;
-          parts = sym (append-nil (address_text address));
-          of_first = hexadecimal-spelled (4 - length (digits 16 false address)) address small;
-          of_next = record { empty = refl; is = refl };
-        };
-      };
-    };
-  };
-}
+memory-spelled kind size address small = then-spelled (prefix_of kind)
+    (codes "0x" ++ (letter_of size ++ address_text address)) kind refl (prefix-spelled kind)
+    (then-spelled (codes "0") (codes "x" ++ (letter_of size ++ address_text address)) tt refl
+    (one-spelled 48 refl) (then-spelled (codes "x") (letter_of size ++ address_text address) tt refl
+    (one-spelled 120 refl) (then-spelled (letter_of size) (address_text address) size refl
+    (letter-spelled size) (then-spelled (address_text address) [] address
+    (sym (append-nil (address_text address)))
+    (hexadecimal-spelled (4 - length (digits 16 false address)) address small) none-spelled))))
 
 -- the canonical text of an operand spells it
 pub operand-spelled : (o : Operand) → Fits32 o → operand (operand_text o) o
 operand-spelled (Cell kind size address) small = inr (inl (memory-spelled kind size address small))
-operand-spelled (Const n) small = inr (inr (record {
-  front = [];
-  behind = decimal n;
-  v = tt;
-  parts = refl;
-  of_first = inr (record { empty = refl; is = refl });
-  of_next = inr (record
-      { front = decimal n; behind = []; v = n; parts = sym (append-nil (decimal n)); of_first = signed-spelled n small; of_next = record { empty = refl; is = refl } });
-}))
-operand-spelled Recall small = inl (record
-    { front = codes "{recall}"; behind = []; v = tt; parts = refl; of_first = record { is = refl }; of_next = record { empty = refl; is = refl } })
+operand-spelled (Const n) small = inr (inr (then-spelled [] (decimal n) tt refl (inr none-spelled)
+    (inr (then-spelled (decimal n) [] n (sym (append-nil (decimal n)))
+    (signed-spelled n small) none-spelled))))
+operand-spelled Recall small =
+    inl (then-spelled (codes "{recall}") [] tt refl (record { is = refl }) none-spelled)
 
 -- ---- the operands that texts spell
 

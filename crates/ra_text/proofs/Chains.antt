@@ -8,6 +8,7 @@ use Rattle.ra_text.proofs.Steps.{reads-more, reads-step, reads-none}
 use Rattle.ra_text.proofs.Readers.{Reader, reader-then, then-begins}
 use Rattle.ra_text.proofs.Begins.{Firsts, IsListed}
 use Rattle.ra_text.proofs.Either.{reader-map}
+use Rattle.ra_text.proofs.Spelled.{then-spelled, viable-by, link-spelled}
 
 module _ {A T S V : Type 0} (separator : S → A → Option T) (item : S → T → Form A V) (item_at : S
     → T → List A → Outcome A V) (step : S → V → S) (done : S → Bool) (goes_on item_on : A → Type 0)
@@ -24,23 +25,17 @@ module _ {A T S V : Type 0} (separator : S → A → Option T) (item : S → T �
   nothing : (W : Type 0) (K : List V → Form A W) (s : S) → done s ≡ true → (t : List A) (w : W)
       → K [] t w → before W K s t w
   unfolding before
-  nothing W K s may t w h = record { front = []; behind = t; v = []; parts = refl; of_first = (refl, may); of_next = h }
+  nothing W K s may t w h = then-spelled [] t [] refl (refl, may) h
 
   -- a first item, and the others
   linked : (W : Type 0) (K : List V → Form A W) (s : S) (c : A) (tag : T) → separator s c ≡ Some tag
       → (t : List A) (w : W) → Then (item s tag) (λ v. before W (λ vs. K (v ∷ vs)) (step s v)) t w
       → before W K s (c ∷ t) w
   unfolding before
-  linked W K s c tag listed t w h = record {
-    front = c ∷ (h.front ++ h.of_next.front);
-    behind = h.of_next.behind;
-    v = h.v ∷ h.of_next.v;
-    parts = ap (λ x. c ∷ x) (h.parts ∙ ap (λ x. h.front ++ x) h.of_next.parts
-        ∙ sym (append_assoc h.front h.of_next.front h.of_next.behind));
-    of_first =
-        record { symbol = c; tag = tag; front = h.front; behind = h.of_next.front; parts = refl; separated = listed; of_item = h.of_first; of_others = h.of_next.of_first };
-    of_next = h.of_next.of_next;
-  }
+  linked W K s c tag listed t w h = then-spelled (c ∷ (h.front ++ h.of_next.front)) h.of_next.behind
+      (h.v ∷ h.of_next.v) (ap (λ x. c ∷ x) (h.parts ∙ ap (λ x. h.front ++ x) h.of_next.parts
+      ∙ sym (append_assoc h.front h.of_next.front h.of_next.behind))) (link-spelled c tag h.front
+      h.of_next.front refl listed h.of_first h.of_next.of_first) h.of_next.of_next
 
   -- what a text with items, before another form, is: nothing, or a first item and the others
   data Cut (W : Type 0) (K : List V → Form A W) (s : S) (t : List A) (w : W) : Type 0 where
@@ -55,15 +50,8 @@ module _ {A T S V : Type 0} (separator : S → A → Option T) (item : S → T �
   cut-front W K s front behind [] w h k = none h.1 (subst (λ t. K [] t w) (ap (λ t. t ++ behind) (sym h.0)) k)
   cut-front W K s front behind (v ∷ vs) w h k = some h.symbol h.tag
       ((h.front ++ h.behind) ++ behind) (ap (λ t. t ++ behind) h.parts) h.separated
-      (record {
-        front = h.front;
-        behind = h.behind ++ behind;
-        v = v;
-        parts = append_assoc h.front h.behind behind;
-        of_first = h.of_item;
-        of_next =
-            record { front = h.behind; behind = behind; v = vs; parts = refl; of_first = h.of_others; of_next = k };
-      })
+      (then-spelled h.front (h.behind ++ behind) v (append_assoc h.front h.behind behind) h.of_item
+      (then-spelled h.behind behind vs refl h.of_others k))
 
   cut : (W : Type 0) (K : List V → Form A W) (s : S) (t : List A) (w : W) → before W K s t w → Cut W K s t w
   unfolding before
@@ -85,12 +73,10 @@ module _ {A T S V : Type 0} (separator : S → A → Option T) (item : S → T �
       ])
       (reads [] text (le_refl (length text)))
   reads-end W K k s text false e never reads = reads-none (before W K s) text
-      (record {
-        more = (completes s).more ++ (viable-none (completes s).v).more;
-        v = (viable-none (completes s).v).v;
-        whole = record
-            { front = (completes s).more; behind = (viable-none (completes s).v).more; v = (completes s).v; parts = refl; of_first = (completes s).whole; of_next = (viable-none (completes s).v).whole };
-      })
+      (viable-by ((completes s).more ++ (viable-none (completes s).v).more)
+      ((viable-none (completes s).v).v) (then-spelled ((completes s).more)
+      ((viable-none (completes s).v).more) ((completes s).v) refl ((completes s).whole)
+      ((viable-none (completes s).v).whole)))
       (λ c rest is viable. elim (cut W K s (c ∷ viable.more) viable.v viable.whole) [
         | none may k ↦ absurd (cc (may, e))
         | some d tag more same listed h ↦ absurd (let n : separator s c ≡ None = never c rest is in
@@ -101,7 +87,7 @@ module _ {A T S V : Type 0} (separator : S → A → Option T) (item : S → T �
         | some d tag more same listed h ↦ absurd (cc same)
       ]) where
         empty : {W : Type 0} {form : Form A W} {outcome : Outcome A W} → Reads form [] outcome → Viable form []
-        empty r = record { more = r.front ++ r.viable.more; v = r.viable.v; whole = r.viable.whole }
+        empty r = viable-by (r.front ++ r.viable.more) r.viable.v r.viable.whole
 
         viable-none : (vs : List V) → Viable (K vs) []
         viable-none vs = empty (reads vs [] (omega arith))
@@ -129,7 +115,8 @@ module _ {A T S V : Type 0} (separator : S → A → Option T) (item : S → T �
   reads-chain (suc most) W K k s (c ∷ text) le reads ends =
       decided (separator s c) refl (λ s' K' k' text'. reads-chain most W K' k' s' text') where
         decided : (found : Option T) → separator s c ≡ found
-            → ((s' : S) (K' : List V → Form A W) (k' : List V × List A → Outcome A W) (text' : List A) → length text' ≤ most
+            → ((s' : S) (K' : List V → Form A W) (k' : List V × List A → Outcome A W)
+            (text' : List A) → length text' ≤ most
             → ((vs : List V) (rest : List A) → length rest ≤ length text' → Reads (K' vs) rest (k' (vs, rest)))
             → ((vs : List V) (c : A) (t : List A) (w : W) → K' vs (c ∷ t) w → goes_on c → ⊥)
             → Reads (before W K' s') text' (chain_at separator item_at step done most s' text' >>= k'))
@@ -175,7 +162,9 @@ module _ {A T S V : Type 0} (separator : S → A → Option T) (item : S → T �
       (λ text. chain_at separator item_at step done (length text) s text) goes_on
   unfolding before
   reader-chain s =
-      record { before = λ W K k text reads ends. reads-chain (length text) W K k s text (le_refl (length text)) reads ends }
+      record {
+        before = λ W K k text reads ends. reads-chain (length text) W K k s text (le_refl (length text)) reads ends;
+      }
 
 -- the items behind the first, with one kind of separator between them
 abbrev others : {A T V : Type 0} → (A → Option T) → Form A V → Form A (List V)
@@ -208,7 +197,7 @@ reader-joined {A} {T} {V} separator item item_at goes_on item_on ri apart on_ite
       others-reader = reader-chain {S = Unit {0}} (λ s. separator) (λ s tag. item)
           (λ s tag. item_at) (λ s v. s) (λ s. true) goes_on item_on (λ s tag. ri)
           (λ s c h on. apart c h on) on_item (λ s c h. on_separator c h)
-          (λ s. record { more = []; v = []; whole = (refl, refl) }) tt
+          (λ s. viable-by [] [] (refl, refl)) tt
 
       not-first : (first : V) (c : A) (s : List A) (vs : List V)
           → Then (others separator item) (λ vs. Spell (first ∷ vs)) (c ∷ s) vs → item_on c → ⊥

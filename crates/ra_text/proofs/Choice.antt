@@ -7,6 +7,7 @@ use Rattle.ra_text.specs.Reading.{Outcome, rest_of, Reads, ◌>>=◌, one_at, op
 use Rattle.ra_text.proofs.Steps.{reads-same, reads-shorter, viable-front, viable-whole, viable-same}
 use Rattle.ra_text.proofs.Readers.{Reader, reader-spell, reader-one, Listed, reads-of}
 use Rattle.ra_text.proofs.Begins.{IsListed}
+use Rattle.ra_text.proofs.Spelled.{then-spelled, viable-by}
 
 -- of two ways to cut a text, the one with the shorter front has the next symbol within the other's front
 pub longer-front : {A : Type 0} (front rest other left : List A) → front ++ rest ≡ other ++ left
@@ -81,11 +82,11 @@ reads-either {A} {V} a b text winner loser ra rb short = record {
   parts = ra.parts;
   viable = viable-same ra.front (λ more v h. (v, inl h)) ra.viable;
   halts = λ c rest e viable. elim viable.whole [
-    | inl h ↦ ra.halts c rest e (record { more = viable.more; v = viable.v; whole = h })
+    | inl h ↦ ra.halts c rest e (viable-by viable.more viable.v h)
     | inr h ↦ reads-past rb (ra.front ++ c ∷ []) rest (ra.parts ∙ ap (λ t. ra.front ++ t) e
         ∙ sym (append_assoc ra.front (c ∷ []) rest))
         (omega (arith, stops-by short, ap length e))
-        (record { more = viable.more; v = viable.v; whole = h })
+        (viable-by viable.more viable.v h)
   ];
   spelled = λ v rest e. inl (ra.spelled v rest e);
   only = λ v h. elim h [ inl l ↦ ra.only v l | inr r ↦ absurd (short-outside rb short ra.front ra.parts v r) ];
@@ -146,18 +147,14 @@ loses-short {A} {V} {W} K k text goes_on winner loser x y reads apart (shorter v
 
 either-then : {A V W : Type 0} (a b : Form A V) (K : V → Form A W) (t : List A) (w : W)
     → (Then a K or Then b K) t w → Then (a or b) K t w
-either-then a b K t w (inl h) =
-    record { front = h.front; behind = h.behind; v = h.v; parts = h.parts; of_first = inl h.of_first; of_next = h.of_next }
-either-then a b K t w (inr h) =
-    record { front = h.front; behind = h.behind; v = h.v; parts = h.parts; of_first = inr h.of_first; of_next = h.of_next }
+either-then a b K t w (inl h) = then-spelled h.front h.behind h.v h.parts (inl h.of_first) h.of_next
+either-then a b K t w (inr h) = then-spelled h.front h.behind h.v h.parts (inr h.of_first) h.of_next
 
 then-either : {A V W : Type 0} (a b : Form A V) (K : V → Form A W) (t : List A) (w : W)
     → Then (a or b) K t w → (Then a K or Then b K) t w
 then-either a b K t w h = elim h.of_first [
-  | inl l ↦ inl (record
-      { front = h.front; behind = h.behind; v = h.v; parts = h.parts; of_first = l; of_next = h.of_next })
-  | inr r ↦ inr (record
-      { front = h.front; behind = h.behind; v = h.v; parts = h.parts; of_first = r; of_next = h.of_next })
+  | inl l ↦ inl (then-spelled h.front h.behind h.v h.parts l h.of_next)
+  | inr r ↦ inr (then-spelled h.front h.behind h.v h.parts r h.of_next)
 ]
 
 or-swap : {A V : Type 0} (a b : Form A V) (t : List A) (v : V) → (a or b) t v → (b or a) t v

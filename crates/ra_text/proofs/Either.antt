@@ -9,6 +9,7 @@ use Rattle.ra_text.proofs.Steps.{reads-shorter, viable-front}
 use Rattle.ra_text.proofs.Readers.{Reader, reader-spell, reader-one, reader-then, reader-same, reader-at, reads-of}
 use Rattle.ra_text.proofs.Begins.{Begins, reader-follows, firsts-spell}
 use Rattle.ra_text.proofs.Choice.{Picks, first, second, Loses, fails, shorter, reader-or, longer-front}
+use Rattle.ra_text.proofs.Spelled.{then-spelled, one-spelled}
 
 -- a reader's value, changed
 pub reader-map : {A V W : Type 0} (a : Form A V) (a_at : List A → Outcome A V) (t : A → Type 0)
@@ -131,14 +132,8 @@ literal-cons byte others t v h = record {
 
 cons-literal : (byte : ℕ) (others : List ℕ) (t : List ℕ) (v : Unit {0})
     → Literal (byte ∷ others) t v → Then (One (only (byte ∷ []))) (λ x. Literal others) t v
-cons-literal byte others t v h = record {
-  front = byte ∷ [];
-  behind = others;
-  v = tt;
-  parts = h.is;
-  of_first = record { symbol = byte; alone = refl; listed = one-only byte };
-  of_next = record { is = refl };
-}
+cons-literal byte others t v h = then-spelled (byte ∷ []) others tt h.is
+    (one-spelled byte (one-only byte)) (record { is = refl })
 
 literal-step : (byte : ℕ) (others : List ℕ) (text : List ℕ) → (one_at (only (byte ∷ [])) text
     >>= λ x. literal_at others x.1) ≡ literal_at (byte ∷ others) text

@@ -5,22 +5,16 @@ use Rattle.std.specs.List.{flat_map, AllByRecursion}
 use Rattle.ra_text.specs.Form.{Form, Spell, One, Then}
 use Rattle.ra_text.specs.Chain.{Chain, joined}
 use Rattle.ra_text.specs.Table.{only}
+use Rattle.ra_text.proofs.Spelled.{then-spelled, none-spelled, one-spelled, link-spelled}
 
 -- a byte alone is that byte
 pub one-byte : (byte : ℕ) → only (byte ∷ []) byte ≡ Some tt → One (only (byte ∷ [])) (byte ∷ []) tt
-one-byte byte listed = record { symbol = byte; alone = refl; listed = listed }
+one-byte byte listed = one-spelled byte listed
 
 -- what a form spells, changed
 pub changed : {V W : Type 0} (form : Form ℕ V) (of_it : V → W) (text : List ℕ) (v : V) → form text v
     → Then form (λ v. Spell (of_it v)) text (of_it v)
-changed form of_it text v h = record {
-  front = text;
-  behind = [];
-  v = v;
-  parts = sym (append-nil text);
-  of_first = h;
-  of_next = record { empty = refl; is = refl };
-}
+changed form of_it text v h = then-spelled text [] v (sym (append-nil text)) h none-spelled
 
 -- the state behind items
 abbrev pub ends_in : {S V : Type 0} → (S → V → S) → S → List V → S
@@ -48,22 +42,18 @@ module _ {T S V : Type 0} (separator : S → ℕ → Option T) (item : S → T �
       → AllByRecursion (λ v. (s : S) → item s tag (text v) v) vs → done (ends_in step s vs) ≡ true
       → Chain separator item step done s (flat_map (λ v. byte ∷ text v) vs) vs
   chain-spelled byte tag text listed s [] each end = (refl, end)
-  chain-spelled byte tag text listed s (v ∷ vs) each end = record {
-    symbol = byte;
-    tag = tag;
-    front = text v;
-    behind = flat_map (λ v. byte ∷ text v) vs;
-    parts = refl;
-    separated = listed s;
-    of_item = each.0 s;
-    of_others = chain-spelled byte tag text listed (step s v) vs each.1 end;
-  }
+  chain-spelled byte tag text listed s (v ∷ vs) each end =
+      link-spelled byte tag (text v) (flat_map (λ v. byte ∷ text v) vs) refl (listed s) (each.0 s)
+      (chain-spelled byte tag text listed (step s v) vs each.1 end)
 
 module _ {T V : Type 0} (separator : ℕ → Option T) (item : Form ℕ V) where
   pub joined-each : (P : V → Type 0) → ((t : List ℕ) (v : V) → item t v → P v)
       → (t : List ℕ) (vs : List V) → joined separator item t vs → AllByRecursion P vs
-  joined-each P holds t vs h = subst (AllByRecursion P) (sym h.of_next.of_next.is)
-      (holds h.front h.v h.of_first, chain-each {S = Unit {0}} (λ s. separator) (λ s tag. item) (λ s v. s) (λ s. true) P (λ s tag t v. holds t v) tt h.of_next.front h.of_next.v h.of_next.of_first)
+  joined-each P holds t vs h = subst (AllByRecursion P) (sym h.of_next.of_next.is) (
+    holds h.front h.v h.of_first,
+    chain-each {S = Unit {0}} (λ s. separator) (λ s tag. item) (λ s v. s) (λ s. true) P
+        (λ s tag t v. holds t v) tt h.of_next.front h.of_next.v h.of_next.of_first,
+  )
 
   pub joined-some : (t : List ℕ) (vs : List V) → joined separator item t vs → 0 < length vs
   joined-some t vs h = subst (λ xs. 0 < length xs) (sym h.of_next.of_next.is) (omega arith)
@@ -71,23 +61,13 @@ module _ {T V : Type 0} (separator : ℕ → Option T) (item : Form ℕ V) where
   pub joined-spelled : (byte : ℕ) (tag : T) (text : V → List ℕ) → separator byte ≡ Some tag
       → (v : V) (vs : List V) → item (text v) v → AllByRecursion (λ v. item (text v) v) vs
       → joined separator item (text v ++ flat_map (λ v. byte ∷ text v) vs) (v ∷ vs)
-  joined-spelled byte tag text listed v vs first each = record {
-    front = text v;
-    behind = flat_map (λ v. byte ∷ text v) vs;
-    v = v;
-    parts = refl;
-    of_first = first;
-    of_next = record {
-      front = flat_map (λ v. byte ∷ text v) vs;
-      behind = [];
-      v = vs;
-      parts = sym (append-nil (flat_map (λ v. byte ∷ text v) vs));
-      of_first = chain-spelled {S = Unit {0}} (λ s. separator) (λ s tag. item) (λ s v. s)
-          (λ s. true) byte tag text (λ s. listed) tt vs (each-state vs each) refl;
-      of_next = record { empty = refl; is = refl };
-    };
-  } where
-    each-state : (vs : List V) → AllByRecursion (λ v. item (text v) v) vs
-        → AllByRecursion (λ v. (s : Unit {0}) → item (text v) v) vs
-    each-state [] all = tt
-    each-state (v ∷ vs) all = (λ s. all.0, each-state vs all.1)
+  joined-spelled byte tag text listed v vs first each =
+      then-spelled (text v) (flat_map (λ v. byte ∷ text v) vs) v refl first
+      (then-spelled (flat_map (λ v. byte ∷ text v) vs) [] vs
+      (sym (append-nil (flat_map (λ v. byte ∷ text v) vs)))
+      (chain-spelled {S = Unit {0}} (λ s. separator) (λ s tag. item) (λ s v. s)
+      (λ s. true) byte tag text (λ s. listed) tt vs (each-state vs each) refl) none-spelled) where
+        each-state : (vs : List V) → AllByRecursion (λ v. item (text v) v) vs
+            → AllByRecursion (λ v. (s : Unit {0}) → item (text v) v) vs
+        each-state [] all = tt
+        each-state (v ∷ vs) all = (λ s. all.0, each-state vs all.1)

@@ -5,6 +5,7 @@ pub mod Either
 pub mod Numbers
 pub mod Places
 pub mod Readers
+pub mod Spelled
 pub mod Steps
 pub mod Tables
 pub mod Saturation

@@ -127,7 +127,10 @@ module _ {A T V : Type 0} (separator : A → Option T) (item_at : List A → Out
   pub joined-starts : (text : List A) (v : V) (rest : List A) → item_at text ≡ Ok (v, rest)
       → JoinedSoFar (v ∷ []) rest (joined_at separator item_at text)
   joined-starts text v rest read =
-      record { is = ap (λ o. o >>= λ first. rest_at {S = Unit {0}} (λ s. separator) (λ s tag. item_at) (λ s v. s) (λ s. true) tt first.1 >>= λ others. Ok (first.0 ∷ others.0, others.1)) read }
+      record {
+        is = ap (λ o. o >>= λ first. rest_at {S = Unit {0}} (λ s. separator) (λ s tag. item_at)
+            (λ s v. s) (λ s. true) tt first.1 >>= λ others. Ok (first.0 ∷ others.0, others.1)) read;
+      }
 
   pub joined-none : (text rest : List A) → item_at text ≡ Err rest → joined_at separator item_at text ≡ Err rest
   joined-none text rest fails = ap (λ o. o >>= λ first. rest_at {S = Unit {0}} (λ s. separator)

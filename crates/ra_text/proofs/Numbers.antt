@@ -16,19 +16,19 @@ use Rattle.ra_text.proofs.Begins.{firsts-begins, firsts-spell, begins-past}
 use Rattle.ra_text.proofs.Choice.{reader-optional}
 use Rattle.ra_text.proofs.Either.{reader-map}
 use Rattle.ra_text.proofs.Tables.{In, keys_of, listed_in, in_apart, in_within, begins-byte}
+use Rattle.ra_text.proofs.Spelled.{then-spelled}
 
 -- no digit at all
 no-digits : {W : Type 0} (table : ℕ → Option ℕ) (base so_far : ℕ) (K : ℕ → Form ℕ W) (t : List ℕ)
     (w : W) → K so_far t w → Then (Digits table base so_far) K t w
-no-digits table base so_far K t w h =
-    record { front = []; behind = t; v = so_far; parts = refl; of_first = refl; of_next = h }
+no-digits table base so_far K t w h = then-spelled [] t so_far refl refl h
 
 -- a digit, and the others
 digit-more : {W : Type 0} (table : ℕ → Option ℕ) (base so_far : ℕ) (K : ℕ → Form ℕ W) (c d : ℕ)
     → table c ≡ Some d → (t : List ℕ) (w : W) → Then (Digits table base (so_far * base + d)) K t w
     → Then (Digits table base so_far) K (c ∷ t) w
-digit-more table base so_far K c d listed t w h =
-    record { front = c ∷ h.front; behind = h.behind; v = h.v; parts = ap (λ x. c ∷ x) h.parts; of_first = (d, listed, h.of_first); of_next = h.of_next }
+digit-more table base so_far K c d listed t w h = then-spelled (c ∷ h.front) h.behind h.v
+    (ap (λ x. c ∷ x) h.parts) (d, listed, h.of_first) h.of_next
 
 -- digits, of which the first is this one
 digits-first : (table : ℕ → Option ℕ) (base so_far c : ℕ) (front : List ℕ) (n : ℕ)
@@ -47,7 +47,8 @@ digits-none : {W : Type 0} (table : ℕ → Option ℕ) (base so_far : ℕ) (K :
     → Then (Digits table base so_far) K t w → K so_far t w
 digits-none {W} table base so_far K t w none h =
     subst (λ x. K so_far x w) (sym h.parts) (cases h.front h.parts h.of_first) where
-      cases : (front : List ℕ) → t ≡ front ++ h.behind → Digits table base so_far front h.v → K so_far (front ++ h.behind) w
+      cases : (front : List ℕ) → t ≡ front ++ h.behind → Digits table base so_far front h.v
+          → K so_far (front ++ h.behind) w
       cases [] parts first = subst (λ x. K x h.behind w) first h.of_next
       cases (c ∷ front) parts first =
           absurd (none c (front ++ h.behind) parts (digits-first table base so_far c front h.v first))
@@ -61,8 +62,9 @@ digits-some {W} table base so_far K c d listed ends t w h = cases h.front h.part
       → Then (Digits table base (so_far * base + d)) K t w
   cases [] parts first = absurd (ends h.v t w (subst (λ x. K h.v x w) (sym parts) h.of_next))
   cases (e ∷ front) parts first =
-      let same : e ≡ c = cc parts in
-      record { front = front; behind = h.behind; v = h.v; parts = cc parts; of_first = digits-next table base so_far c d front h.v listed (subst (λ x. Digits table base so_far (x ∷ front) h.v) same first); of_next = h.of_next }
+      let same : e ≡ c = cc parts in then-spelled front h.behind h.v (cc parts)
+      (digits-next table base so_far c d front h.v listed
+      (subst (λ x. Digits table base so_far (x ∷ front) h.v) same first)) h.of_next
 
 module _ (table : ℕ → Option ℕ) (base : ℕ) where
   reads-digits : {W : Type 0} (K : ℕ → Form ℕ W) (k : ℕ × List ℕ → Outcome ℕ W) (text : List ℕ) (so_far : ℕ)

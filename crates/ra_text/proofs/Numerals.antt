@@ -13,6 +13,7 @@ use Rattle.ra_text.specs.declared.base.Base.TheVariants.{Ten, Sixteen}
 use Rattle.ra_text.specs.Form.{Form, Spell, Then}
 use Rattle.ra_text.specs.Number as spec
 use Rattle.ra_text.specs.Number.{digit_of, base_of, Digits, numeral, saturated, signed, hexadecimal}
+use Rattle.ra_text.proofs.Spelled.{then-spelled, none-spelled, one-spelled}
 
 -- every number below the bound passes the test
 abbrev all_below : (ℕ → Bool) → ℕ → Bool
@@ -64,7 +65,14 @@ digit-listed base c h = elim (cases_lt c 123) [
 
   beyond : (c : ℕ) → 123 ≤ c → digit_value c ≡ 36
   beyond c high =
-      rw (le-ltb c 48 (omega arith), le-ltb c 58 (omega arith), le-ltb c 65 (omega arith), le-ltb c 91 (omega arith), le-ltb c 97 (omega arith), le-ltb c 123 high)
+      rw (
+        le-ltb c 48 (omega arith),
+        le-ltb c 58 (omega arith),
+        le-ltb c 65 (omega arith),
+        le-ltb c 91 (omega arith),
+        le-ltb c 97 (omega arith),
+        le-ltb c 123 high,
+      )
 
 pub digits-spelled : (base : Base) (so_far : ℕ) (ds : List ℕ) → AllDigits (base_of base) ds
     → Digits (digit_of base) (base_of base) so_far ds (digits_value_after (base_of base) so_far ds)
@@ -76,16 +84,11 @@ digits-spelled base so_far (c ∷ ds) all =
 pub numeral-spelled : (base : Base) (ds : List ℕ) → IsNumeral (base_of base) ds
     → numeral (digit_of base) (base_of base) ds (digits_value (base_of base) ds)
 numeral-spelled base [] h = absurd (omega (arith, h.0))
-numeral-spelled base (c ∷ ds) h = record {
-  front = c ∷ [];
-  behind = ds;
-  v = digit_value c;
-  parts = refl;
-  of_first = record { symbol = c; alone = refl; listed = digit-listed base c h.1.0 };
-  of_next = (let same : 0 * base_of base + digit_value c ≡ digit_value c = omega arith in
-      subst (λ n. Digits (digit_of base) (base_of base) (digit_value c) ds (digits_value_after
-      (base_of base) n ds)) (sym same) (digits-spelled base (digit_value c) ds h.1.1));
-}
+numeral-spelled base (c ∷ ds) h = then-spelled (c ∷ []) ds (digit_value c) refl
+    (one-spelled c (digit-listed base c h.1.0)) (let same : 0 * base_of base + digit_value c
+    ≡ digit_value c = omega arith in subst (λ n. Digits (digit_of base) (base_of base)
+    (digit_value c) ds (digits_value_after (base_of base) n ds)) (sym same)
+    (digits-spelled base (digit_value c) ds h.1.1))
 
 -- zeros before digits change nothing
 zeros-value : (base : Base) (zeros : ℕ) (ds : List ℕ)
@@ -109,7 +112,7 @@ zeros-numeral base zeros ds h =
 made : {V : Type 0} (form : Form ℕ ℕ) (f : ℕ → V) (text : List ℕ) (n : ℕ) (v : V) → form text n
     → f n ≡ v → Then form (λ n. Spell (f n)) text v
 made form f text n v h e =
-    record { front = text; behind = []; v = n; parts = sym (append-nil text); of_first = h; of_next = record { empty = refl; is = sym e } }
+    then-spelled text [] n (sym (append-nil text)) h (record { empty = refl; is = sym e })
 
 -- the decimal digits of a number of 32 bits spell it
 pub decimal-spelled : (n : ℕ) → n < 4294967296 → spec.decimal (decimal n) n
@@ -121,16 +124,11 @@ decimal-spelled n small =
 -- and so do they where a sign may stand
 pub signed-spelled : (n : ℕ) → n < 4294967296 → signed (decimal n) n
 signed-spelled n small =
-    let d : IsNumeral 10 (decimal n) × (digits_value 10 (decimal n) ≡ n) = decimal_is_IsNumeral n (omega arith) in
-    record {
-      front = [];
-      behind = decimal n;
-      v = false;
-      parts = refl;
-      of_first = inr (record { empty = refl; is = refl });
-      of_next = made (numeral (digit_of Ten) 10) saturated (decimal n) n n (subst (λ m. numeral
-          (digit_of Ten) 10 (decimal n) m) d.1 (numeral-spelled Ten (decimal n) d.0)) (omega arith);
-    }
+    let d : IsNumeral 10 (decimal n) × (digits_value 10 (decimal n) ≡ n) =
+    decimal_is_IsNumeral n (omega arith) in then-spelled [] (decimal n) false refl
+    (inr none-spelled) (made (numeral (digit_of Ten) 10) saturated (decimal n) n n
+    (subst (λ m. numeral (digit_of Ten) 10 (decimal n) m) d.1
+    (numeral-spelled Ten (decimal n) d.0)) (omega arith))
 
 -- the hexadecimal digits of a number of 32 bits spell it, with zeros before them
 pub hexadecimal-spelled : (zeros n : ℕ) → n < 4294967296 → hexadecimal (replicate zeros 48 ++ digits 16 false n) n

@@ -84,7 +84,10 @@ whole-outside {A} {V} {form} {text} outcome r not_whole place e =
     let whole : length text ≡ length r.front + length (rest_of outcome) =
     ap length r.parts ∙ length-append r.front (rest_of outcome) in
     let n : place ≡ length r.front = omega arith in
-    record { place = subst (λ m. IsBadPlace form text m) (sym n) (read-place r); outside = outside (rest_of outcome) refl } where
+    record {
+      place = subst (λ m. IsBadPlace form text m) (sym n) (read-place r);
+      outside = outside (rest_of outcome) refl;
+    } where
       outside : (rest : List A) → rest_of outcome ≡ rest → (v : V) → form text v → ⊥
       outside [] is v h =
           let all : text ≡ r.front = r.parts ∙ ap (λ t. r.front ++ t) is ∙ append-nil r.front in

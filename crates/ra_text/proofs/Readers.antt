@@ -4,6 +4,7 @@ use Rattle.std.proofs.Common.{sym, ap, ◌∙◌, subst, subst₂, arith, append
 use Rattle.ra_text.specs.Form.{Form, Spell, One, Then, Viable}
 use Rattle.ra_text.specs.Reading.{Outcome, Reads, ◌>>=◌, taken, one_at}
 use Rattle.ra_text.proofs.Steps.{same-ok, reads-same, reads-step, reads-none, viable-whole}
+use Rattle.ra_text.proofs.Spelled.{then-spelled, none-spelled, one-spelled, viable-by}
 
 -- A reader of a form, before whatever does not begin with a symbol that goes on with the form.
 pub record Reader {A V : Type 0} (form : Form A V) (at : List A → Outcome A V) (goes_on : A → Type 0) : Type 1 where
@@ -19,8 +20,7 @@ then-spell form text v h =
     subst₂ (λ t w. form t w) p (sym h.of_next.is) h.of_first
 
 spell-then : {A V : Type 0} (form : Form A V) (text : List A) (v : V) → form text v → Then form (λ w. Spell w) text v
-spell-then form text v h =
-    record { front = text; behind = []; v = v; parts = sym (append-nil text); of_first = h; of_next = record { empty = refl; is = refl } }
+spell-then form text v h = then-spelled text [] v (sym (append-nil text)) h none-spelled
 
 -- what a reading gives is itself, when nothing is done with it
 then-ok : {A V : Type 0} (outcome : Outcome A V) → (outcome >>= λ x. Ok (x.0, x.1)) ≡ outcome
@@ -32,7 +32,7 @@ reads-empty : {A V : Type 0} (v : V) (text : List A) → Reads (Spell v) text (O
 reads-empty v text = record {
   front = [];
   parts = refl;
-  viable = viable-whole [] v (record { empty = refl; is = refl });
+  viable = viable-whole [] v none-spelled;
   halts = λ symbol rest e viable. absurd (cc viable.whole.empty);
   spelled = λ w rest e. record { empty = refl; is = sym (ap (λ p. p.0) (same-ok (v, text) (w, rest) e)) };
   only = λ w h. cc h.is;
@@ -53,10 +53,8 @@ pub reader-same : {A V : Type 0} (a b : Form A V) (at : List A → Outcome A V) 
     → Reader a at goes_on → Reader b at goes_on
 reader-same a b at goes_on into back r = record {
   before = λ W K k text reads apart. reads-same (Then a K) (Then b K)
-      (λ t w h. record
-      { front = h.front; behind = h.behind; v = h.v; parts = h.parts; of_first = into h.front h.v h.of_first; of_next = h.of_next })
-      (λ t w h. record
-      { front = h.front; behind = h.behind; v = h.v; parts = h.parts; of_first = back h.front h.v h.of_first; of_next = h.of_next })
+      (λ t w h. then-spelled h.front h.behind h.v h.parts (into h.front h.v h.of_first) h.of_next)
+      (λ t w h. then-spelled h.front h.behind h.v h.parts (back h.front h.v h.of_first) h.of_next)
       (r.before W K k text reads apart);
 }
 
@@ -78,8 +76,7 @@ reader-wider form at t u wider r = record {
 
 -- nothing before a form adds nothing
 spell-first : {A V W : Type 0} (v : V) (K : V → Form A W) (text : List A) (w : W) → K v text w → Then (Spell v) K text w
-spell-first v K text w h =
-    record { front = []; behind = text; v = v; parts = refl; of_first = record { empty = refl; is = refl }; of_next = h }
+spell-first v K text w h = then-spelled [] text v refl none-spelled h
 
 first-spell : {A V W : Type 0} (v : V) (K : V → Form A W) (text : List A) (w : W) → Then (Spell v) K text w → K v text w
 first-spell v K text w h =
@@ -95,8 +92,7 @@ reader-spell v goes_on = record {
 -- a symbol of a table before a form
 one-first : {A V W : Type 0} (table : A → Option V) (K : V → Form A W) (c : A) (v : V) → table c
     ≡ Some v → (text : List A) (w : W) → K v text w → Then (One table) K (c ∷ text) w
-one-first table K c v listed text w h =
-    record { front = c ∷ []; behind = text; v = v; parts = refl; of_first = record { symbol = c; alone = refl; listed = listed }; of_next = h }
+one-first table K c v listed text w h = then-spelled (c ∷ []) text v refl (one-spelled c listed) h
 
 -- the symbol that begins such a text is of the table
 one-begins : {A V W : Type 0} (table : A → Option V) (K : V → Form A W) (c : A) (text : List A)
@@ -132,13 +128,13 @@ one-not_empty table K w h = let p : [] ≡ h.of_first.symbol ∷ h.behind =
 -- an empty text begins some text of a form that is read
 viable-empty : {A V : Type 0} {form : Form A V} {outcome : Outcome A V} → Reads form [] outcome → Viable form []
 viable-empty {A} {V} {form} {outcome} r =
-    record { more = r.front ++ r.viable.more; v = r.viable.v; whole = r.viable.whole }
+    viable-by (r.front ++ r.viable.more) r.viable.v r.viable.whole
 
 -- a symbol of a table before a form begins some text where the form has one
 one-viable : {A V W : Type 0} (table : A → Option V) (K : V → Form A W) → (l : Listed table)
     → Viable (K l.v) [] → Viable (Then (One table) K) []
-one-viable table K l viable =
-    record { more = l.symbol ∷ viable.more; v = viable.v; whole = one-first table K l.symbol l.v l.listed viable.more viable.v viable.whole }
+one-viable table K l viable = viable-by (l.symbol ∷ viable.more) viable.v
+    (one-first table K l.symbol l.v l.listed viable.more viable.v viable.whole)
 
 one-taken : {A V W : Type 0} (table : A → Option V) (l : Listed table) (K : V → Form A W)
     (k : V × List A → Outcome A W) (c : A) (text : List A) (found : Option V) → table c ≡ found
@@ -167,28 +163,17 @@ reader-one {A} {V} table goes_on l = record { before = λ W K k text reads apart
 -- three pieces cut from either side
 then-left : {A V W X : Type 0} (a : Form A V) (b : V → Form A W) (K : W → Form A X) (text : List A)
     (x : X) → Then a (λ v. Then (b v) K) text x → Then (Then a b) K text x
-then-left a b K text x h = record {
-  front = h.front ++ h.of_next.front;
-  behind = h.of_next.behind;
-  v = h.of_next.v;
-  parts = h.parts ∙ ap (λ t. h.front ++ t) h.of_next.parts
-      ∙ sym (append_assoc h.front h.of_next.front h.of_next.behind);
-  of_first =
-      record { front = h.front; behind = h.of_next.front; v = h.v; parts = refl; of_first = h.of_first; of_next = h.of_next.of_first };
-  of_next = h.of_next.of_next;
-}
+then-left a b K text x h = then-spelled (h.front ++ h.of_next.front) h.of_next.behind h.of_next.v
+    (h.parts ∙ ap (λ t. h.front ++ t) h.of_next.parts
+    ∙ sym (append_assoc h.front h.of_next.front h.of_next.behind))
+    (then-spelled h.front h.of_next.front h.v refl h.of_first h.of_next.of_first) h.of_next.of_next
 
 then-right : {A V W X : Type 0} (a : Form A V) (b : V → Form A W) (K : W → Form A X) (text : List A)
     (x : X) → Then (Then a b) K text x → Then a (λ v. Then (b v) K) text x
-then-right a b K text x h = record {
-  front = h.of_first.front;
-  behind = h.of_first.behind ++ h.behind;
-  v = h.of_first.v;
-  parts = h.parts ∙ ap (λ t. t ++ h.behind) h.of_first.parts ∙ append_assoc h.of_first.front h.of_first.behind h.behind;
-  of_first = h.of_first.of_first;
-  of_next =
-      record { front = h.of_first.behind; behind = h.behind; v = h.v; parts = refl; of_first = h.of_first.of_next; of_next = h.of_next };
-}
+then-right a b K text x h = then-spelled h.of_first.front
+    (h.of_first.behind ++ h.behind) h.of_first.v (h.parts ∙ ap (λ t. t ++ h.behind) h.of_first.parts
+    ∙ append_assoc h.of_first.front h.of_first.behind h.behind) h.of_first.of_first
+    (then-spelled h.of_first.behind h.behind h.v refl h.of_first.of_next h.of_next)
 
 -- two steps of reading done with the rest
 read-then : {A V W X : Type 0} (outcome : Outcome A V) (f : V × List A → Outcome A W)

@@ -4,6 +4,7 @@ use Rattle.std.proofs.Common.{◌≡◌, ◌∙◌, ◌≤◌, List, [], ◌∷�
 use Rattle.std.proofs.Common.{append_assoc, append-nil, length-append}
 use Rattle.ra_text.specs.Form.{Form, Viable}
 use Rattle.ra_text.specs.Reading.{Outcome, rest_of, Reads}
+use Rattle.ra_text.proofs.Spelled.{viable-by}
 
 -- what two readings that are one answer
 pub same-ok : {A V : Type 0} (x y : V × List A) → ◌≡◌ {A = Outcome A V} (Ok x) (Ok y) → x ≡ y
@@ -18,19 +19,19 @@ reads-shorter {A} {V} {form} {text} {outcome} r =
 -- a shorter front of what begins some text begins some text
 pub viable-front : {A V : Type 0} {form : Form A V} (front behind : List A)
     → Viable form (front ++ behind) → Viable form front
-viable-front {A} {V} {form} front behind viable =
-    record { more = behind ++ viable.more; v = viable.v; whole = subst (λ text. form text viable.v) (append_assoc front behind viable.more) viable.whole }
+viable-front {A} {V} {form} front behind viable = viable-by (behind ++ viable.more) viable.v
+    (subst (λ text. form text viable.v) (append_assoc front behind viable.more) viable.whole)
 
 -- a text of a form is viable
 pub viable-whole : {A V : Type 0} {form : Form A V} (text : List A) (v : V) → form text v → Viable form text
 viable-whole {A} {V} {form} text v h =
-    record { more = []; v = v; whole = subst (λ t. form t v) (sym (append-nil text)) h }
+    viable-by [] v (subst (λ t. form t v) (sym (append-nil text)) h)
 
 -- what begins a text of one form begins one of another
 pub viable-same : {A V W : Type 0} {a : Form A V} {b : Form A W} (front : List A) → ((more : List A)
     (v : V) → a (front ++ more) v → (w : W) × b (front ++ more) w) → Viable a front → Viable b front
-viable-same front into viable =
-    record { more = viable.more; v = (into viable.more viable.v viable.whole).0; whole = (into viable.more viable.v viable.whole).1 }
+viable-same front into viable = viable-by viable.more ((into viable.more viable.v viable.whole).0)
+    ((into viable.more viable.v viable.whole).1)
 
 -- a reading of a form is one of every form with the same texts
 pub reads-same : {A V : Type 0} (a b : Form A V) {text : List A} {outcome : Outcome A V}
@@ -87,10 +88,11 @@ pub reads-step : {A V : Type 0} (outer inner : Form A V) (symbol : A) (text : Li
 reads-step outer inner symbol text outcome into back r = record {
   front = symbol ∷ r.front;
   parts = ap (λ t. symbol ∷ t) r.parts;
-  viable = record
-      { more = r.viable.more; v = r.viable.v; whole = into (r.front ++ r.viable.more) r.viable.v r.viable.whole };
+  viable = viable-by r.viable.more r.viable.v
+      (into (r.front ++ r.viable.more) r.viable.v r.viable.whole);
   halts = λ next rest e viable. r.halts next rest e
-      (record { more = viable.more; v = viable.v; whole = back ((r.front ++ next ∷ []) ++ viable.more) viable.v viable.whole });
+      (viable-by viable.more viable.v
+      (back ((r.front ++ next ∷ []) ++ viable.more) viable.v viable.whole));
   spelled = λ v rest e. into r.front v (r.spelled v rest e);
   only = λ v h. r.only v (back r.front v h);
 }

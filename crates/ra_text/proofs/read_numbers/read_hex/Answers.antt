@@ -18,9 +18,15 @@ returns-in-Ok-clause-found c = ends_ok hexadecimal hexadecimal_at reads-hexadeci
     c.hexadecimal.new.self.rest.now c.in-Ok.ensures c.place.result c.place.ensures
 
 pub returns-in-Ok-clause-digit : goal.returns-in-Ok-clause-digit
-returns-in-Ok-clause-digit c =
-    (λ is. subst (λ t. BeginsIn (lookup hex_digits) (t)) c.new-cursor.ensures (some-digit Sixteen c.new-cursor.result.rest.now c.in-Ok.number c.hexadecimal.new.self.rest.now c.in-Ok.ensures), λ stands. refl)
+returns-in-Ok-clause-digit c = (
+  λ is. subst (λ t. BeginsIn (lookup hex_digits) (t)) c.new-cursor.ensures (some-digit Sixteen
+      c.new-cursor.result.rest.now c.in-Ok.number c.hexadecimal.new.self.rest.now c.in-Ok.ensures),
+  λ stands. refl,
+)
 
 pub returns-in-Err-clause-digit : goal.returns-in-Err-clause-digit
-returns-in-Err-clause-digit c =
-    (λ is. absurd (cc is), λ stands. absurd (no-digit Sixteen c.new-cursor.result.rest.now c.hexadecimal.new.self.rest.now c.in-Err.ensures (rw c.new-cursor.ensures stands)))
+returns-in-Err-clause-digit c = (
+  λ is. absurd (cc is),
+  λ stands. absurd (no-digit Sixteen c.new-cursor.result.rest.now c.hexadecimal.new.self.rest.now
+      c.in-Err.ensures (rw c.new-cursor.ensures stands)),
+)

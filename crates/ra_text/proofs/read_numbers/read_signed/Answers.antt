@@ -17,9 +17,15 @@ returns-in-Ok-clause-found c = ends_ok signed signed_at reads-signed c.args.text
     c.signed.new.self.rest.now c.in-Ok.ensures c.place.result c.place.ensures
 
 pub returns-in-Ok-clause-digit : goal.returns-in-Ok-clause-digit
-returns-in-Ok-clause-digit c =
-    (λ is. subst (λ t. BeginsIn (lookup digits) (behind_sign t)) c.new-cursor.ensures (some-signed c.new-cursor.result.rest.now c.in-Ok.number c.signed.new.self.rest.now c.in-Ok.ensures), λ stands. refl)
+returns-in-Ok-clause-digit c = (
+  λ is. subst (λ t. BeginsIn (lookup digits) (behind_sign t)) c.new-cursor.ensures (some-signed
+      c.new-cursor.result.rest.now c.in-Ok.number c.signed.new.self.rest.now c.in-Ok.ensures),
+  λ stands. refl,
+)
 
 pub returns-in-Err-clause-digit : goal.returns-in-Err-clause-digit
-returns-in-Err-clause-digit c =
-    (λ is. absurd (cc is), λ stands. absurd (no-signed c.new-cursor.result.rest.now c.signed.new.self.rest.now c.in-Err.ensures (rw c.new-cursor.ensures stands)))
+returns-in-Err-clause-digit c = (
+  λ is. absurd (cc is),
+  λ stands. absurd (no-signed c.new-cursor.result.rest.now c.signed.new.self.rest.now
+      c.in-Err.ensures (rw c.new-cursor.ensures stands)),
+)
