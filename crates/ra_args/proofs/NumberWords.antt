@@ -66,8 +66,11 @@ parsed {E} w (Ok x) h plain unpadded =
     rw is (ap (λ (n : ℕ). Some n) p.1)
 parsed w (Err e) h plain unpadded =
     let p = parse_plain own 32 w (Err e) h plain in
-    none_of w (not_number w (λ n small e. p
-    (rw e (digits_decimal own n (omega (arith, small))), rw e (decimal_nonempty n (omega (arith, small))), rw (e, digits_value-decimal own n (omega (arith, small))) small)))
+    none_of w (not_number w (λ n small e. p (
+      rw e (digits_decimal own n (omega (arith, small))),
+      rw e (decimal_nonempty n (omega (arith, small))),
+      rw (e, digits_value-decimal own n (omega (arith, small))) small,
+    )))
 
 -- no number begins with `-`
 pub dashed : (c : ℕ) (cs : List ℕ) → is_number (c ∷ cs) ≡ true → (c == 45) ≡ false

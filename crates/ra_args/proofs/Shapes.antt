@@ -47,7 +47,10 @@ restore_is (c ∷ cs) (d ∷ ds) (e ∷ es) s t f =
     let hc : (c == 45) ≡ false = not-true (c == 45) s in
     let hd : (d == 45) ≡ false = not-true (d == 45) t in
     let he : (e == 45) ≡ false = not-true (e == 45) f in
-    record { taken = restore.taken c d e cs ds es hc hd he; read = restore.read c d e cs ds es hc hd he ∙ rw (hc, hd, he) refl }
+    record {
+      taken = restore.taken c d e cs ds es hc hd he;
+      read = restore.read c d e cs ds es hc hd he ∙ rw (hc, hd, he) refl;
+    }
 
 save_is : (set trace file : Text) → is_name set ≡ true → is_name trace ≡ true → is_name file ≡ true
     → IsTaken (codes "run" ∷ set ∷ trace ∷ codes "--save" ∷ file ∷ [])
@@ -58,7 +61,10 @@ save_is (c ∷ cs) (d ∷ ds) (e ∷ es) s t f =
     let hc : (c == 45) ≡ false = not-true (c == 45) s in
     let hd : (d == 45) ≡ false = not-true (d == 45) t in
     let he : (e == 45) ≡ false = not-true (e == 45) f in
-    record { taken = save.taken c d e cs ds es hc hd he; read = save.read c d e cs ds es hc hd he ∙ rw (hc, hd, he) refl }
+    record {
+      taken = save.taken c d e cs ds es hc hd he;
+      read = save.read c d e cs ds es hc hd he ∙ rw (hc, hd, he) refl;
+    }
 
 both_is : (set trace first last : Text) → is_name set ≡ true → is_name trace ≡ true → is_name first
     ≡ true → is_name last ≡ true
@@ -72,7 +78,10 @@ both_is (c ∷ cs) (d ∷ ds) (e ∷ es) (f' ∷ fs) s t f l =
     let hd : (d == 45) ≡ false = not-true (d == 45) t in
     let he : (e == 45) ≡ false = not-true (e == 45) f in
     let hf : (f' == 45) ≡ false = not-true (f' == 45) l in
-    record { taken = both.taken c d e f' cs ds es fs hc hd he hf; read = both.read c d e f' cs ds es fs hc hd he hf ∙ rw (hc, hd, he, hf) refl }
+    record {
+      taken = both.taken c d e f' cs ds es fs hc hd he hf;
+      read = both.read c d e f' cs ds es fs hc hd he hf ∙ rw (hc, hd, he, hf) refl;
+    }
 
 check_is : (set : Text) → is_name set ≡ true → IsTaken (codes "check" ∷ set ∷ [])
 check_is [] s = cc
@@ -117,7 +126,10 @@ explain_is (c ∷ cs) (d ∷ ds) (e ∷ es) s t n =
     let hc : (c == 45) ≡ false = not-true (c == 45) s in
     let hd : (d == 45) ≡ false = not-true (d == 45) t in
     let he : (e == 45) ≡ false = dashed e es n in
-    record { taken = explain.taken c d e cs ds es hc hd he; read = explain.read c d e cs ds es hc hd he ∙ rw (hc, hd) refl }
+    record {
+      taken = explain.taken c d e cs ds es hc hd he;
+      read = explain.read c d e cs ds es hc hd he ∙ rw (hc, hd) refl;
+    }
 
 -- one option with its file
 one_option : (option file : Text) → is_some (options_of (option ∷ file ∷ [])) ≡ true

@@ -21,9 +21,17 @@ pub achievements_sum : (items : List Item) → sum_by (λ item. unlocks (item_co
     ≡ achievements_in (map item_contents items)
 achievements_sum [] = refl
 achievements_sum (item.Achievement id t ∷ items) =
-    omega (arith, sum_by-cons (λ item. unlocks (item_contents item)) (item.Achievement id t) items, achievements_sum items)
+    omega (
+      arith,
+      sum_by-cons (λ item. unlocks (item_contents item)) (item.Achievement id t) items,
+      achievements_sum items,
+    )
 achievements_sum (item.Leaderboard id format b ∷ items) =
-    omega (arith, sum_by-cons (λ item. unlocks (item_contents item)) (item.Leaderboard id format b) items, achievements_sum items)
+    omega (
+      arith,
+      sum_by-cons (λ item. unlocks (item_contents item)) (item.Leaderboard id format b) items,
+      achievements_sum items,
+    )
 
 pub boards_sum : (items : List Item) → sum_by (λ item. ranks (item_contents item)) items
     ≡ boards_in (map item_contents items)
@@ -31,7 +39,11 @@ boards_sum [] = refl
 boards_sum (item.Achievement id t ∷ items) =
     omega (arith, sum_by-cons (λ item. ranks (item_contents item)) (item.Achievement id t) items, boards_sum items)
 boards_sum (item.Leaderboard id format b ∷ items) =
-    omega (arith, sum_by-cons (λ item. ranks (item_contents item)) (item.Leaderboard id format b) items, boards_sum items)
+    omega (
+      arith,
+      sum_by-cons (λ item. ranks (item_contents item)) (item.Leaderboard id format b) items,
+      boards_sum items,
+    )
 
 -- a count over all items
 module _ (items : List Item) (index count : ℕ) (end : length items ≤ index) where

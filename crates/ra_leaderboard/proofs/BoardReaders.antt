@@ -32,6 +32,7 @@ use Rattle.ra_text.proofs.Either.{reader-map}
 use Rattle.ra_text.proofs.Places.{whole_ok}
 use Rattle.ra_text.proofs.Readers.{Reader, reader-same, reads-of}
 use Rattle.ra_text.proofs.Tables.{In, in_within, in_apart, is_in-in, listed_in, each-in}
+use Rattle.ra_text.proofs.Spelled.{then-spelled, none-spelled, viable-by, link-spelled}
 
 -- ---- the fields behind the first, while their tags are free
 
@@ -95,28 +96,17 @@ sample-spelled Progress ts = whole_ok (next_field_in (Progress, ts)) (next_field
 -- with one field more a board can be made
 add : (t : Tag) (ts : List Tag) (h : HeldSoFar) → free_tags h ≡ t ∷ ts
     → Viable (others_in (with_field h (sample t))) [] → Viable (others_in h) []
-add t ts h free viable = record {
-  more = 58 ∷ (sample_text t ++ viable.more);
-  v = sample t ∷ viable.v;
-  whole = record {
-    symbol = 58;
-    tag = (t, ts);
-    front = sample_text t;
-    behind = viable.more;
-    parts = refl;
-    separated = ap some_tags free;
-    of_item = sample-spelled t ts;
-    of_others = viable.whole;
-  };
-}
+add t ts h free viable = viable-by (58 ∷ (sample_text t ++ viable.more)) (sample t ∷ viable.v)
+    (link-spelled 58 (t, ts) (sample_text t) viable.more refl (ap some_tags free)
+    (sample-spelled t ts) viable.whole)
 
 complete-value : (start cancel submit : TriggerContents) (value progress : Option (List
     PartContents)) → Viable (others_in (record
     { start = Some start; cancel = Some cancel; submit = Some submit; value = value; progress = progress })) []
-complete-value start cancel submit (Some value) progress = record { more = []; v = []; whole = (refl, refl) }
+complete-value start cancel submit (Some value) progress = viable-by [] [] (refl, refl)
 complete-value start cancel submit None progress = add Value _
     (record { start = Some start; cancel = Some cancel; submit = Some submit; value = None; progress = progress }) refl
-    (record { more = []; v = []; whole = (refl, refl) })
+    (viable-by [] [] (refl, refl))
 
 complete-submit : (start cancel : TriggerContents) (submit : Option TriggerContents) (value
     progress : Option (List PartContents)) → Viable (others_in (record
@@ -194,21 +184,15 @@ held-tag _ text f h = ap tag_of h.of_next.is
 field-of : (tags : SomeTags) (text : List ℕ) (f : FieldContents) → field_in tags text f
     → field text f × Among (tag_of f) (tags.0 ∷ tags.1)
 field-of tags text f h = let word = tag-of tags h.v h.front h.of_first in (
-  record { front = h.front; behind = h.behind; v = h.v; parts = h.parts; of_first = word.0; of_next = h.of_next },
+  then-spelled h.front h.behind h.v h.parts word.0 h.of_next,
   subst (λ t. Among t (tags.0 ∷ tags.1)) (sym (held-tag h.v h.of_next.behind f h.of_next.of_next)) word.1,
 )
 
 field-in : (tags : SomeTags) (text : List ℕ) (f : FieldContents) → field text f
     → Among (tag_of f) (tags.0 ∷ tags.1) → field_in tags text f
-field-in tags text f h free = record {
-  front = h.front;
-  behind = h.behind;
-  v = h.v;
-  parts = h.parts;
-  of_first = tag-in tags h.v h.front h.of_first (subst (λ t. Among t (tags.0 ∷ tags.1))
-      (held-tag h.v h.of_next.behind f h.of_next.of_next) free);
-  of_next = h.of_next;
-}
+field-in tags text f h free = then-spelled h.front h.behind h.v h.parts
+    (tag-in tags h.v h.front h.of_first (subst (λ t. Among t (tags.0 ∷ tags.1))
+    (held-tag h.v h.of_next.behind f h.of_next.of_next) free)) h.of_next
 
 -- the fields behind the first, of any tags
 abbrev others : Form ℕ (List FieldContents)
@@ -221,17 +205,9 @@ others-of h text (f ∷ fs) l =
     let colon = separator-parts h l.symbol l.tag l.separated in
     let item = field-of l.tag l.of_item.behind f l.of_item.of_next in
     let more = others-of (with_field h f) l.behind fs l.of_others in (
-      record {
-        symbol = l.symbol;
-        tag = tt;
-        front = l.front;
-        behind = l.behind;
-        parts = l.parts;
-        separated = subst (λ c. only (codes ":") c ≡ Some tt) (sym colon.0) refl;
-        of_item =
-            record { front = l.of_item.front; behind = l.of_item.behind; v = l.of_item.v; parts = l.of_item.parts; of_first = l.of_item.of_first; of_next = item.0 };
-        of_others = more.0;
-      },
+      link-spelled l.symbol tt l.front l.behind l.parts
+          (subst (λ c. only (codes ":") c ≡ Some tt) (sym colon.0) refl) (then-spelled l.of_item.front
+          l.of_item.behind l.of_item.v l.of_item.parts l.of_item.of_first item.0) more.0,
       (subst (Among (tag_of f)) (sym colon.1) item.1, more.1),
       more.2,
     )
@@ -243,46 +219,24 @@ others-in h text (f ∷ fs) l allowed whole =
     let some = tags-some (tag_of f) (free_tags h) allowed.0 in
     let colon : l.symbol ≡ 58 = each-in (λ c. c ≡ 58) (codes ":") (refl, tt) l.symbol
     (listed_in (marks (codes ":")) l.symbol (l.tag, l.separated)) in
-    record {
-      symbol = l.symbol;
-      tag = some.0;
-      front = l.front;
-      behind = l.behind;
-      parts = l.parts;
-      separated = subst (λ c. separator h c ≡ Some some.0) (sym colon) some.1;
-      of_item = record {
-        front = l.of_item.front;
-        behind = l.of_item.behind;
-        v = l.of_item.v;
-        parts = l.of_item.parts;
-        of_first = l.of_item.of_first;
-        of_next = field-in some.0 l.of_item.behind f l.of_item.of_next (subst (Among (tag_of f)) some.2 allowed.0);
-      };
-      of_others = others-in (with_field h f) l.behind fs l.of_others allowed.1 whole;
-    }
+    link-spelled l.symbol some.0 l.front l.behind l.parts
+    (subst (λ c. separator h c ≡ Some some.0) (sym colon) some.1)
+    (then-spelled l.of_item.front l.of_item.behind l.of_item.v l.of_item.parts l.of_item.of_first
+    (field-in some.0 l.of_item.behind f l.of_item.of_next (subst (Among (tag_of f)) some.2
+    allowed.0))) (others-in (with_field h f) l.behind fs l.of_others allowed.1 whole)
 
 board-of : (text : List ℕ) (b : BoardContents) → board_in text b → board text b
 board-of text b h =
     let first = field-of all_tags h.front h.v h.of_first in
-    let more = others-of (with_field none_held h.v) h.of_next.front h.of_next.v h.of_next.of_first in
-    record {
-      front = h.front ++ h.of_next.front;
-      behind = h.of_next.behind;
-      v = h.v ∷ h.of_next.v;
-      parts = h.parts ∙ ap (λ t. h.front ++ t) h.of_next.parts
-          ∙ sym (append_assoc h.front h.of_next.front h.of_next.behind);
-      of_first = record {
-        front = h.front;
-        behind = h.of_next.front;
-        v = h.v;
-        parts = refl;
-        of_first = first.0;
-        of_next =
-            record { front = h.of_next.front; behind = []; v = h.of_next.v; parts = sym (append-nil h.of_next.front); of_first = more.0; of_next = record { empty = refl; is = refl } };
-      };
-      of_next = subst₂ (λ t x. Arranged (h.v ∷ h.of_next.v) t x) (sym h.of_next.of_next.empty)
-          (sym h.of_next.of_next.is) (whole-arranged (h.v ∷ h.of_next.v) (first.1, more.1) more.2);
-    }
+    let more = others-of (with_field none_held h.v) h.of_next.front h.of_next.v
+    h.of_next.of_first in then-spelled (h.front ++ h.of_next.front) h.of_next.behind
+    (h.v ∷ h.of_next.v) (h.parts ∙ ap (λ t. h.front ++ t) h.of_next.parts
+    ∙ sym (append_assoc h.front h.of_next.front h.of_next.behind))
+    (then-spelled h.front h.of_next.front h.v refl first.0
+    (then-spelled h.of_next.front [] h.of_next.v
+    (sym (append-nil h.of_next.front)) more.0 none-spelled))
+    (subst₂ (λ t x. Arranged (h.v ∷ h.of_next.v) t x) (sym h.of_next.of_next.empty)
+    (sym h.of_next.of_next.is) (whole-arranged (h.v ∷ h.of_next.v) (first.1, more.1) more.2))
 
 board-in : (text : List ℕ) (b : BoardContents) → board text b → board_in text b
 board-in text b h =
@@ -291,23 +245,14 @@ board-in text b h =
     let arranged = subst (λ fs. Arranged fs h.behind b) second.of_next.is h.of_next in
     let allowed = arranged-allowed (first.v ∷ second.v) h.behind b arranged in
     let whole = arranged-whole (first.v ∷ second.v) h.behind b arranged in
-    record {
-      front = first.front;
-      behind = second.front;
-      v = first.v;
-      parts = h.parts ∙ ap (λ t. h.front ++ t) h.of_next.empty ∙ append-nil h.front ∙ first.parts
-          ∙ ap (λ t. first.front ++ t) (second.parts
-          ∙ ap (λ t. second.front ++ t) second.of_next.empty ∙ append-nil second.front);
-      of_first = field-in all_tags first.front first.v first.of_first allowed.0;
-      of_next = record {
-        front = second.front;
-        behind = [];
-        v = second.v;
-        parts = sym (append-nil second.front);
-        of_first = others-in (with_field none_held first.v) second.front second.v second.of_first allowed.1 whole.0;
-        of_next = record { empty = refl; is = sym whole.1 };
-      };
-    }
+    then-spelled first.front second.front first.v (h.parts
+    ∙ ap (λ t. h.front ++ t) h.of_next.empty ∙ append-nil h.front ∙ first.parts
+    ∙ ap (λ t. first.front ++ t) (second.parts
+    ∙ ap (λ t. second.front ++ t) second.of_next.empty
+    ∙ append-nil second.front)) (field-in all_tags first.front first.v first.of_first allowed.0)
+    (then-spelled second.front [] second.v (sym (append-nil second.front))
+    (others-in (with_field none_held first.v) second.front second.v second.of_first allowed.1
+    whole.0) (record { empty = refl; is = sym whole.1 }))
 
 -- ---- boards
 

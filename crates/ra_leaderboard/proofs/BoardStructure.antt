@@ -22,6 +22,7 @@ use Rattle.ra_leaderboard.proofs.TagLemmas.{letter-first}
 use Rattle.ra_text.specs.Form.{Form, Spell, Then}
 use Rattle.ra_text.specs.Table.{only}
 use Rattle.ra_text.proofs.Items.{changed, chain-each, chain-spelled}
+use Rattle.ra_text.proofs.Spelled.{then-spelled, none-spelled, one-spelled}
 
 -- ---- the structure of what is spelled
 
@@ -44,8 +45,12 @@ field-structure : (text : List ℕ) (f : FieldContents) → field text f → IsF
 field-structure text f h = held-structure h.v h.of_next.behind f h.of_next.of_next
 
 fields-structure : (text : List ℕ) (fs : List FieldContents) → fields text fs → AllByRecursion IsField fs
-fields-structure text fs h = subst (AllByRecursion IsField) (sym h.of_next.of_next.is)
-    (field-structure h.front h.v h.of_first, chain-each {S = Unit {0}} (λ s. only (codes ":")) (λ s colon. next_field) (λ s f. s) (λ s. true) IsField (λ s tag t f item. field-structure item.behind f item.of_next) tt h.of_next.front h.of_next.v h.of_next.of_first)
+fields-structure text fs h = subst (AllByRecursion IsField) (sym h.of_next.of_next.is) (
+  field-structure h.front h.v h.of_first,
+  chain-each {S = Unit {0}} (λ s. only (codes ":")) (λ s colon. next_field) (λ s f. s)
+      (λ s. true) IsField (λ s tag t f item. field-structure item.behind f item.of_next) tt
+      h.of_next.front h.of_next.v h.of_next.of_first,
+)
 
 -- what holds of each field holds of what one kind of them holds
 picked : {X : Type 0} (P : X → Type 0) (pick : FieldContents → Option X)
@@ -123,20 +128,13 @@ field_text (OfProgress v) = codes "PRO:" ++ value_text v
 
 -- letters in upper case are letters in either case
 upper-spelled : (word : List ℕ) → in_either_case word word tt
-upper-spelled [] = record { empty = refl; is = refl }
+upper-spelled [] = none-spelled
 upper-spelled (upper ∷ others) = letter-first upper upper others others tt (own-letter upper) (upper-spelled others)
 
 -- a tag, a colon, and what it holds
 tagged : (t : Tag) (text : List ℕ) (f : FieldContents) → held t text f → field (word_of t ++ 58 ∷ text) f
-tagged t text f h = record {
-  front = word_of t;
-  behind = 58 ∷ text;
-  v = t;
-  parts = refl;
-  of_first = upper-spelled (word_of t);
-  of_next =
-      record { front = 58 ∷ []; behind = text; v = tt; parts = refl; of_first = record { symbol = 58; alone = refl; listed = refl }; of_next = h };
-}
+tagged t text f h = then-spelled (word_of t) (58 ∷ text) t refl (upper-spelled (word_of t))
+    (then-spelled (58 ∷ []) text tt refl (one-spelled 58 refl) h)
 
 field-spelled : (f : FieldContents) → IsField f → field (field_text f) f
 field-spelled (OfStart t) h = tagged Start (trigger_text t) (OfStart t)
@@ -156,7 +154,7 @@ next_text f = 58 ∷ field_text f
 
 next-spelled : (f : FieldContents) → IsField f → next_field (next_text f) f
 next-spelled f h =
-    record { front = 58 ∷ []; behind = field_text f; v = tt; parts = refl; of_first = record { symbol = 58; alone = refl; listed = refl }; of_next = field-spelled f h }
+    then-spelled (58 ∷ []) (field_text f) tt refl (one-spelled 58 refl) (field-spelled f h)
 
 -- fields with two colons between them
 abbrev fields_text : FieldContents → List FieldContents → List ℕ
@@ -164,26 +162,16 @@ fields_text first others = field_text first ++ flat_map (λ f. 58 ∷ next_text 
 
 fields-spelled : (first : FieldContents) (others : List FieldContents) → IsField first
     → AllByRecursion IsField others → fields (fields_text first others) (first ∷ others)
-fields-spelled first others h each = record {
-  front = field_text first;
-  behind = flat_map (λ f. 58 ∷ next_text f) others;
-  v = first;
-  parts = refl;
-  of_first = field-spelled first h;
-  of_next = record {
-    front = flat_map (λ f. 58 ∷ next_text f) others;
-    behind = [];
-    v = others;
-    parts = sym (append-nil (flat_map (λ f. 58 ∷ next_text f) others));
-    of_first = chain-spelled {S = Unit {0}} (λ s. only (codes ":")) (λ s colon. next_field)
-        (λ s f. s) (λ s. true) 58 tt next_text (λ s. refl) tt others (each-next others each) refl;
-    of_next = record { empty = refl; is = refl };
-  };
-} where
-  each-next : (fs : List FieldContents) → AllByRecursion IsField fs
-      → AllByRecursion (λ f. (s : Unit {0}) → next_field (next_text f) f) fs
-  each-next [] all = tt
-  each-next (f ∷ fs) all = (λ s. next-spelled f all.0, each-next fs all.1)
+fields-spelled first others h each = then-spelled (field_text first)
+    (flat_map (λ f. 58 ∷ next_text f) others) first refl (field-spelled first h)
+    (then-spelled (flat_map (λ f. 58 ∷ next_text f) others) [] others
+    (sym (append-nil (flat_map (λ f. 58 ∷ next_text f) others)))
+    (chain-spelled {S = Unit {0}} (λ s. only (codes ":")) (λ s colon. next_field) (λ s f. s) (λ s.
+    true) 58 tt next_text (λ s. refl) tt others (each-next others each) refl) none-spelled) where
+      each-next : (fs : List FieldContents) → AllByRecursion IsField fs
+          → AllByRecursion (λ f. (s : Unit {0}) → next_field (next_text f) f) fs
+      each-next [] all = tt
+      each-next (f ∷ fs) all = (λ s. next-spelled f all.0, each-next fs all.1)
 
 -- the fields of a board behind the first, in the order of their tags
 abbrev other_fields : BoardContents → List FieldContents
@@ -196,25 +184,20 @@ board_text b = fields_text (OfStart b.start) (other_fields b)
 
 -- the text of a board spells it
 pub board-spelled : (b : BoardContents) → IsBoard b → board (board_text b) b
-board-spelled b h = record {
-  front = board_text b;
-  behind = [];
-  v = OfStart b.start ∷ other_fields b;
-  parts = sym (append-nil (board_text b));
-  of_first = fields-spelled (OfStart b.start) (other_fields b) h.start
-      (h.cancel, (h.submit, (h.value, progress-fields b.progress h.progress)));
-  of_next = arranged b.start b.cancel b.submit b.value b.progress;
-} where
-  progress-fields : (o : Option (List PartContents)) → IfSome o IsValue
-      → AllByRecursion IsField (map (λ v. OfProgress v) (at_most_one o))
-  progress-fields (Some v) h = (h, tt)
-  progress-fields None h = tt
+board-spelled b h = then-spelled (board_text b) [] (OfStart b.start ∷ other_fields b)
+    (sym (append-nil (board_text b))) (fields-spelled (OfStart b.start) (other_fields b) h.start
+    (h.cancel, (h.submit, (h.value, progress-fields b.progress h.progress))))
+    (arranged b.start b.cancel b.submit b.value b.progress) where
+      progress-fields : (o : Option (List PartContents)) → IfSome o IsValue
+          → AllByRecursion IsField (map (λ v. OfProgress v) (at_most_one o))
+      progress-fields (Some v) h = (h, tt)
+      progress-fields None h = tt
 
-  arranged : (start cancel submit : TriggerContents) (v : List PartContents) (progress : Option (List PartContents))
-      → Arranged (OfStart start ∷ OfCancel cancel ∷ OfSubmit submit ∷ OfValue v
-      ∷ map (λ v. OfProgress v) (at_most_one progress)) []
-      (record { start = start; cancel = cancel; submit = submit; value = v; progress = progress })
-  arranged start cancel submit v (Some progress) = record
-      { empty = refl; start = refl; cancel = refl; submit = refl; value = refl; progress = refl }
-  arranged start cancel submit v None = record
-      { empty = refl; start = refl; cancel = refl; submit = refl; value = refl; progress = refl }
+      arranged : (start cancel submit : TriggerContents) (v : List PartContents) (progress : Option (List PartContents))
+          → Arranged (OfStart start ∷ OfCancel cancel ∷ OfSubmit submit ∷ OfValue v
+          ∷ map (λ v. OfProgress v) (at_most_one progress)) []
+          (record { start = start; cancel = cancel; submit = submit; value = v; progress = progress })
+      arranged start cancel submit v (Some progress) = record
+          { empty = refl; start = refl; cancel = refl; submit = refl; value = refl; progress = refl }
+      arranged start cancel submit v None = record
+          { empty = refl; start = refl; cancel = refl; submit = refl; value = refl; progress = refl }

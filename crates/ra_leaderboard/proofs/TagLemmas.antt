@@ -8,6 +8,7 @@ use Rattle.ra_leaderboard.specs.Tags.{SomeTags, word_of, some_tags, tags_of, cho
 use Rattle.ra_text.specs.Form.{Form, Spell, One, Then}
 use Rattle.ra_text.specs.Table.{is_in, only_letters, letter_marks}
 use Rattle.ra_text.proofs.Tables.{are_apart, in_apart, is_in-in, is_in-listed}
+use Rattle.ra_text.proofs.Spelled.{then-spelled, none-spelled, one-spelled}
 
 -- ---- the tags among others
 
@@ -131,14 +132,14 @@ three-parts a b c text v h = record {
 pub letter-first : (upper byte : ℕ) (others text : List ℕ) (v : Unit {0})
     → is_in (only_letters (upper ∷ [])) byte ≡ true → in_either_case others text v
     → in_either_case (upper ∷ others) (byte ∷ text) v
-letter-first upper byte others text v e h = let listed = is_in-listed (only_letters (upper ∷ [])) byte e in
-    record { front = byte ∷ []; behind = text; v = listed.0; parts = refl; of_first = record { symbol = byte; alone = refl; listed = listed.1 }; of_next = h }
+letter-first upper byte others text v e h = let listed = is_in-listed (only_letters (upper ∷ []))
+    byte e in then-spelled (byte ∷ []) text listed.0 refl (one-spelled byte listed.1) h
 
 parts-three : (a b c : ℕ) (text : List ℕ) → ThreeLetters a b c text → in_either_case (a ∷ b ∷ c ∷ []) text tt
 parts-three a b c text p = subst (λ t. in_either_case (a ∷ b ∷ c ∷ []) t tt) (sym p.is)
     (letter-first a p.first (b ∷ c ∷ []) (p.second ∷ p.third ∷ []) tt p.at_first
     (letter-first b p.second (c ∷ []) (p.third ∷ []) tt p.at_second
-    (letter-first c p.third [] [] tt p.at_third (record { empty = refl; is = refl }))))
+    (letter-first c p.third [] [] tt p.at_third none-spelled)))
 
 -- the letters of a tag
 abbrev pub letter_of : Tag → ℕ → ℕ
@@ -237,26 +238,9 @@ tag-in tags t text h here =
     let in_third = narrowed-among 2 w.third third.0.0 second.0 third.0 third.1 left in
     let in_second = narrowed-among 1 w.second third.0.0 first.0 second.0 second.1 in_third.0 in
     let in_first = narrowed-among 0 w.first third.0.0 tags first.0 first.1 in_second.0 in
-    let same : t ≡ third.0.0 = same-tag t third.0.0 w.first w.second w.at_first in_first.1 w.at_second in_second.1 in
-    record {
-      front = w.first ∷ [];
-      behind = w.second ∷ w.third ∷ [];
-      v = first.0;
-      parts = w.is;
-      of_first = record { symbol = w.first; alone = refl; listed = first.1 };
-      of_next = record {
-        front = w.second ∷ [];
-        behind = w.third ∷ [];
-        v = second.0;
-        parts = refl;
-        of_first = record { symbol = w.second; alone = refl; listed = second.1 };
-        of_next = record {
-          front = w.third ∷ [];
-          behind = [];
-          v = third.0;
-          parts = refl;
-          of_first = record { symbol = w.third; alone = refl; listed = third.1 };
-          of_next = record { empty = refl; is = same };
-        };
-      };
-    }
+    let same : t ≡ third.0.0 = same-tag t third.0.0 w.first w.second w.at_first in_first.1
+    w.at_second in_second.1 in then-spelled (w.first ∷ [])
+    (w.second ∷ w.third ∷ []) first.0 w.is (one-spelled w.first first.1)
+    (then-spelled (w.second ∷ []) (w.third ∷ []) second.0 refl (one-spelled w.second second.1)
+    (then-spelled (w.third ∷ []) [] third.0 refl (one-spelled w.third third.1)
+    (record { empty = refl; is = same })))

@@ -19,7 +19,14 @@ pub length_item : (shape : ItemShape) (item : KeptItem) → ItemFits shape item
 length_item (Achievement count) (OfAchievement state measured hits earned) fits =
     omega (arith, length_words hits, fits.3.as_many)
 length_item (Leaderboard count parts) (OfBoard state hits numbers) fits =
-    omega (arith, length_words hits, length_words numbers, length-append (words hits) (words numbers), fits.1.as_many, fits.2.as_many)
+    omega (
+      arith,
+      length_words hits,
+      length_words numbers,
+      length-append (words hits) (words numbers),
+      fits.1.as_many,
+      fits.2.as_many,
+    )
 length_item (Achievement count) (OfBoard state hits numbers) fits = absurd fits
 length_item (Leaderboard count parts) (OfAchievement state measured hits earned) fits = absurd fits
 
@@ -27,7 +34,14 @@ length_item (Leaderboard count parts) (OfAchievement state measured hits earned)
 pub length_presence : (shape : PresenceShape) (p : KeptPresence)
     → PresenceFits (Some shape) (Some p) → length (presence_bytes p) ≡ script_length (Some shape)
 length_presence shape p fits =
-    omega (arith, length-append (words (p.shown ∷ p.hits)) (words p.numbers), length_words (p.shown ∷ p.hits), length_words p.numbers, fits.1.as_many, fits.2.as_many)
+    omega (
+      arith,
+      length-append (words (p.shown ∷ p.hits)) (words p.numbers),
+      length_words (p.shown ∷ p.hits),
+      length_words p.numbers,
+      fits.1.as_many,
+      fits.2.as_many,
+    )
 
 -- as many items are kept as there are shapes
 pub items_as_many : (shapes : List ItemShape) (items : List KeptItem) → ItemsFit shapes items

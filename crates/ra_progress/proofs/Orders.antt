@@ -108,8 +108,10 @@ module _ (names : List Name) (order : List ℕ) (name : Name) (low high : ℕ) w
       → IsRange names order name low high
   range_between low-most high-most below from under behind = record {
     within = elim (cases_lt high low) [
-      | inl crossed ↦ absurd (cc
-          (names_ranked.one_way (named_by names (slice_index order high)) name (below high crossed), behind high (omega arith) (omega arith)))
+      | inl crossed ↦ absurd (cc (
+        names_ranked.one_way (named_by names (slice_index order high)) name (below high crossed),
+        behind high (omega arith) (omega arith),
+      ))
       | inr fine ↦ fine
     ];
     most = high-most;

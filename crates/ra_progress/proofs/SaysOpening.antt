@@ -195,10 +195,14 @@ module _ (bytes : List ℕ) (fit : AllByRecursion (λ b. b < 256) bytes) where
         | false ↦ (elim (of_this_set shape bytes) as (λ b. of_this_set shape bytes ≡ b
             → AreWords (length names) (if b then map (λ n. n.number) numbered
             else map (λ name. last_number name numbered 0) names)) [
-              | true ↦ λ e. record
-                  { as_many = numbered_count place count ∙ many e; fit = all_numbers numbered (numbered_small place 0 count) }
-              | false ↦ λ e. record
-                  { as_many = length-map names (λ name. last_number name numbered 0); fit = all_last names numbered (numbered_small place 0 count) }
+              | true ↦ λ e. record {
+                as_many = numbered_count place count ∙ many e;
+                fit = all_numbers numbered (numbered_small place 0 count);
+              }
+              | false ↦ λ e. record {
+                as_many = length-map names (λ name. last_number name numbered 0);
+                fit = all_last names numbered (numbered_small place 0 count);
+              }
             ]) refl
       ]
 

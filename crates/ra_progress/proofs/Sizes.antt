@@ -38,7 +38,12 @@ pub sizes_step : (bytes : List ℕ) (owns : List Own) (number at : ℕ) → numb
 sizes_step bytes owns number at below =
     let one : length owns - number - 1 ≡ length owns - (number + 1) = omega arith in
     let more : suc number ≡ number + 1 = omega arith in
-    rw (entries_step bytes (length owns - number) at (omega (arith, below)), drop-cons owns number (own_at [] 0) below, one, ← more) refl
+    rw (
+      entries_step bytes (length owns - number) at (omega (arith, below)),
+      drop-cons owns number (own_at [] 0) below,
+      one,
+      ← more,
+    ) refl
 
 -- where the own ones end, none is left
 pub sizes_end : (bytes : List ℕ) (owns : List Own) (number at : ℕ) → length owns ≤ number

@@ -31,8 +31,13 @@ walk_next bytes left at some walk =
     (need_from bytes (left - 1) (entry_after bytes at) (at + 20 * left + 16 + word_at bytes
     (at + 16))) (sym (need_step bytes left at (at + 20 * left + 16) some) ∙ walk.whole) in
     let same : at + 20 * left + 16 + word_at bytes (at + 16)
-    ≡ entry_after bytes at + 20 * (left - 1) + 16 = omega (arith, some) in
-    (omega (arith, next.0, same), record { within = omega (arith, next.0, same); whole = ap (λ need. need_from bytes (left - 1) (entry_after bytes at) need) (sym same) ∙ next.1 })
+    ≡ entry_after bytes at + 20 * (left - 1) + 16 = omega (arith, some) in (
+      omega (arith, next.0, same),
+      record {
+        within = omega (arith, next.0, same);
+        whole = ap (λ need. need_from bytes (left - 1) (entry_after bytes at) need) (sym same) ∙ next.1;
+      },
+    )
 
 -- a file with a layout begins with a walk
 pub walk_first : (bytes : List ℕ) → HasLayout bytes → IsWalk bytes (entry_count bytes) (first_entry bytes)
@@ -43,7 +48,10 @@ walk_first bytes layout =
     let d = met bytes (57 + 20 * (cell_count bytes + prior_count bytes + entry_count bytes)) _ c.1 in
     let same : 57 + 20 * (cell_count bytes + prior_count bytes + entry_count bytes)
     ≡ first_entry bytes + 20 * entry_count bytes + 16 = omega arith in
-    record { within = omega (arith, d.0, same); whole = ap (λ need. need_from bytes (entry_count bytes) (first_entry bytes) need) (sym same) ∙ d.1 }
+    record {
+      within = omega (arith, d.0, same);
+      whole = ap (λ need. need_from bytes (entry_count bytes) (first_entry bytes) need) (sym same) ∙ d.1;
+    }
 
 -- one entry, and those behind it
 pub any_step : (test : Entry → Bool) (bytes : List ℕ) (left at : ℕ) → 0 < left

@@ -10,6 +10,7 @@ use Rattle.ra_text.specs.Table.{lookup, bytes_for}
 use Rattle.ra_text.proofs.Places.{whole-spelled}
 use Rattle.ra_text.proofs.Readers.{Reader, reads-of}
 use Rattle.ra_text.proofs.Steps.{same-ok, viable-whole, viable-front}
+use Rattle.ra_text.proofs.Spelled.{then-spelled, none-spelled, one-spelled}
 
 -- A text of the form is read before whatever stands behind it, and nothing else is read.
 pub record Closed {V : Type 0} (form : Form ℕ V) (at : List ℕ → Outcome ℕ V) : Type 0 where
@@ -62,7 +63,7 @@ closed-reader {V} form at r = record {
   reads = λ front rest v h. read-before (at (front ++ rest)) v rest
       (reads-whole (r.before (V × List ℕ) Anything (λ x. Ok ((x.0, x.1), [])) (front ++ rest)
       (λ w left le. reads-anything w left) (λ w c s x k on. on)) (v, rest)
-      (record { front = front; behind = rest; v = v; parts = refl; of_first = h; of_next = record { is = refl } }));
+      (then-spelled front rest v refl h (record { is = refl })));
   cuts = λ text v rest e. cut (reads-of form at (λ c. ⊥) r text) v rest e;
 } where
   cut : {text : List ℕ} {outcome : Outcome ℕ V} → Reads form text outcome → (v : V) (rest : List ℕ)
@@ -94,8 +95,8 @@ exact-behind {V} {W} a a_at b b_of closed exact = record {
   spelled : (line : List ℕ) (w : W) (outcome : Outcome ℕ V) → a_at line ≡ outcome
       → behind outcome b_of ≡ Some w → Then a b line w
   spelled line w (Ok x) is e =
-      let cut : (front : List ℕ) × (line ≡ front ++ x.1) × a front x.0 = closed.cuts line x.0 x.1 is in
-      record { front = cut.0; behind = x.1; v = x.0; parts = cut.1; of_first = cut.2; of_next = (exact x.0).spells x.1 w e }
+      let cut : (front : List ℕ) × (line ≡ front ++ x.1) × a front x.0 = closed.cuts line x.0 x.1
+      is in then-spelled cut.0 x.1 x.0 cut.1 cut.2 ((exact x.0).spells x.1 w e)
   spelled line w (Err rest) is e = absurd (cc e)
 
 -- a value of a line, changed
@@ -109,8 +110,8 @@ exact-map {V} {W} a of f exact = record {
 } where
   spelled : (line : List ℕ) (w : W) (found : Option V) → of line ≡ found → option_map f found
       ≡ Some w → Then a (λ v. Spell (f v)) line w
-  spelled line w (Some v) is e =
-      record { front = line; behind = []; v = v; parts = sym (append-nil line); of_first = exact.spells line v is; of_next = record { empty = refl; is = (let same : f v ≡ w = cc e in sym same) } }
+  spelled line w (Some v) is e = then-spelled line [] v (sym (append-nil line)) (exact.spells line v
+      is) (record { empty = refl; is = (let same : f v ≡ w = cc e in sym same) })
   spelled line w None is e = absurd (cc e)
 
 -- what two values that are one are
@@ -194,30 +195,25 @@ module _ {V : Type 0} (item : Form ℕ V) (backslash : V) (item_at : List ℕ �
   -- one item more
   spelled-more : (front rest : List ℕ) (v : V) (vs : List V) → item front v
       → to_line_end item backslash rest vs → to_line_end item backslash (front ++ rest) (v ∷ vs)
-  spelled-more front rest v vs first h = record {
-    front = front ++ h.front;
-    behind = h.behind;
-    v = v ∷ h.v;
-    parts = ap (λ t. front ++ t) h.parts ∙ sym (append_assoc front h.front h.behind);
-    of_first = record { front = front; behind = h.front; parts = refl; of_item = first; of_others = h.of_first };
-    of_next =
-        record { front = h.of_next.front; behind = h.of_next.behind; v = h.of_next.v; parts = h.of_next.parts; of_first = h.of_next.of_first; of_next = record { empty = h.of_next.of_next.empty; is = ap (λ x. v ∷ x) h.of_next.of_next.is } };
-  }
+  spelled-more front rest v vs first h = then-spelled (front ++ h.front) h.behind (v ∷ h.v)
+      (ap (λ t. front ++ t) h.parts ∙ sym (append_assoc front h.front h.behind))
+      (record {
+        front = front;
+        behind = h.front;
+        parts = refl;
+        of_item = first;
+        of_others = h.of_first;
+      }) (then-spelled h.of_next.front h.of_next.behind h.of_next.v h.of_next.parts
+      h.of_next.of_first
+      (record { empty = h.of_next.of_next.empty; is = ap (λ x. v ∷ x) h.of_next.of_next.is }))
 
   spelled-none : to_line_end item backslash [] []
   spelled-none =
-      record { front = []; behind = []; v = []; parts = refl; of_first = refl; of_next = record { front = []; behind = []; v = []; parts = refl; of_first = inr (record { empty = refl; is = refl }); of_next = record { empty = refl; is = refl } } }
+      then-spelled [] [] [] refl refl (then-spelled [] [] [] refl (inr none-spelled) none-spelled)
 
   spelled-lone : to_line_end item backslash (92 ∷ []) (backslash ∷ [])
-  spelled-lone = record {
-    front = [];
-    behind = 92 ∷ [];
-    v = [];
-    parts = refl;
-    of_first = refl;
-    of_next =
-        record { front = 92 ∷ []; behind = []; v = backslash ∷ []; parts = refl; of_first = inl (record { symbol = 92; alone = refl; listed = refl }); of_next = record { empty = refl; is = refl } };
-  }
+  spelled-lone = then-spelled [] (92 ∷ []) [] refl refl
+      (then-spelled (92 ∷ []) [] (backslash ∷ []) refl (inl (one-spelled 92 refl)) none-spelled)
 
   -- the line is a lone backslash
   is_lone : List ℕ → Bool

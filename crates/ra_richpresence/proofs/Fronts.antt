@@ -20,6 +20,7 @@ use Rattle.ra_text.specs.Form.{Form, Viable}
 use Rattle.ra_text.specs.Reading.{Outcome, Reads, rest_of}
 use Rattle.ra_text.proofs.Choice.{same-front}
 use Rattle.ra_text.proofs.Places.{whole-spelled}
+use Rattle.ra_text.proofs.Spelled.{viable-by}
 
 -- ---- the lines of a script may be left so
 
@@ -101,11 +102,8 @@ take-clear (suc n) (line ∷ t) a = (a.0, take-clear n t a.1)
 
 -- what is kept of lines goes on to a script where a script begins with the lines
 pub front-viable : (lines : List (List ℕ)) → IsFront lines → Viable script_lines (kept_of lines)
-front-viable lines f = record {
-  more = kept_of f.more;
-  v = f.whole.parts;
-  whole = subst (λ t. script_lines t f.whole.parts) (ap kept_of f.begins ∙ kept-append lines f.more) f.whole.spelled;
-}
+front-viable lines f = viable-by (kept_of f.more) f.whole.parts (subst (λ t. script_lines t
+    f.whole.parts) (ap kept_of f.begins ∙ kept-append lines f.more) f.whole.spelled)
 
 -- and the other way
 pub viable-front : (lines : List (List ℕ)) → AllClear lines → Viable script_lines (kept_of lines) → IsFront lines
@@ -252,7 +250,14 @@ cut-front lines front rest e =
     (drop (length lines - length rest) lines) in
     same-front front rest (map (λ line. line.1) (take (length lines - length rest) lines))
     (map (λ line. line.1) (drop (length lines - length rest) lines)) parts
-    (omega (arith, length-map (drop (length lines - length rest) lines) (λ (line : ℕ × List ℕ). line.1), length-drop (length lines - length rest) lines, ap length e, length-map lines (λ (line : ℕ × List ℕ). line.1), length-append front rest))
+    (omega (
+      arith,
+      length-map (drop (length lines - length rest) lines) (λ (line : ℕ × List ℕ). line.1),
+      length-drop (length lines - length rest) lines,
+      ap length e,
+      length-map lines (λ (line : ℕ × List ℕ). line.1),
+      length-append front rest,
+    ))
 
 cut-rest : (lines : List (ℕ × List ℕ)) (front rest : List (List ℕ)) → map (λ line. line.1) lines
     ≡ front ++ rest → rest ≡ map (λ line. line.1) (drop (length lines - length rest) lines)
@@ -337,4 +342,7 @@ module _ (text : List ℕ) (outcome : Outcome (List ℕ) ScriptParts) (is : scri
       ≡ first_place (drop (taken_of text outcome) (lines_in text)) (length text)
       → IsOutside text place
   outside-script not_whole place at =
-      record { first_bad = first-bad place (drop (taken_of text outcome) (lines_in text)) refl at; outside = no-script not_whole }
+      record {
+        first_bad = first-bad place (drop (taken_of text outcome) (lines_in text)) refl at;
+        outside = no-script not_whole;
+      }

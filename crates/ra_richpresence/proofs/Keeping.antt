@@ -200,7 +200,13 @@ keeps-lookup : (most : ℕ) (sections : List SectionContents) (old : Kept) (name
     ≡ false → names.keys ≡ insert_key name_cmp old.names.keys key
     → (lookups : Vec Lookup Global) → lookups.items ≡ old.lookups.items ++ found.lookup ∷ []
     → Keeps most (sections ++ Looks name entries ∷ [])
-    (record { most = old.most; long = option_or old.long found.long; names = names; lookups = lookups; formats = old.formats })
+    (record {
+      most = old.most;
+      long = option_or old.long found.long;
+      names = names;
+      lookups = lookups;
+      formats = old.formats;
+    })
 keeps-lookup most sections old name entries found keeps is key named names fresh inserted lookups pushed =
     let of_name : key.items ≡ name = named ∙ ap (λ l. l.name) is.lookup in
     let first : first_named [] (sections ++ Looks name entries ∷ [])
@@ -290,6 +296,12 @@ pub keeps-section_format : (most : ℕ) (sections : List SectionContents) (old :
 keeps-section_format most sections old
     (Formats other found) name format keeps is key named names fresh inserted formats pushed =
     subst₂ (λ n f. Keeps most (sections ++ Formats n f ∷ [])
-    (record { most = old.most; long = old.long; names = names; lookups = old.lookups; formats = formats })) is.0 is.1 (keeps-format most sections old name format keeps key named names fresh inserted formats pushed)
+    (record {
+      most = old.most;
+      long = old.long;
+      names = names;
+      lookups = old.lookups;
+      formats = formats;
+    })) is.0 is.1 (keeps-format most sections old name format keeps key named names fresh inserted formats pushed)
 keeps-section_format most sections old (Looks other entries) name format keeps is key named names
     fresh inserted formats pushed = absurd is

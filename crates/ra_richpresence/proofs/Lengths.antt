@@ -47,7 +47,13 @@ kept-shorter (line ∷ lines) =
           else kept_of (map content_of lines)) ≤ bytes_in (line ∷ lines)
       cases true here others = omega (arith, others, length-append line (flat_map (λ line. line) lines))
       cases false here others =
-          omega (arith, here, others, length-append line (flat_map (λ line. line) lines), length-append (left_of (content_of line)) (flat_map (λ line. line) (kept_of (map content_of lines))))
+          omega (
+            arith,
+            here,
+            others,
+            length-append line (flat_map (λ line. line) lines),
+            length-append (left_of (content_of line)) (flat_map (λ line. line) (kept_of (map content_of lines))),
+          )
 
 -- the lines that are left are together no longer than the text
 pub left_lines-shorter : (text : List ℕ) → bytes_in (left_lines text) ≤ length text

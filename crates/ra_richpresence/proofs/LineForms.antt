@@ -24,6 +24,7 @@ use Rattle.ra_text.proofs.Either.{reader-literal, begins-literal}
 use Rattle.ra_text.proofs.Readers.{Reader, Listed, reader-one, reader-same, reader-spell, reads-of}
 use Rattle.ra_text.proofs.Tables.{In, in_apart, in_within, begins-byte, is_in-in}
 use Rattle.ra_value_format.specs.Formats.{format_of_name}
+use Rattle.ra_text.proofs.Spelled.{none-spelled}
 
 -- ---- what the lines spell
 
@@ -112,7 +113,8 @@ exact-entry = exact-or keyed_entry other_entry keyed_entry_of other_entry_of
 
       on : (line : List ℕ) (v : EntryContents) → other_entry line v → begins (is_in (only (codes "*"))) line ≡ true
       on [] v h = absurd (begins-other_entry.not_empty v h)
-      on (c ∷ line) v h = subst (λ x. is_in (only (codes "*")) x ≡ true) (sym (begins-other_entry.first c line v h)) refl
+      on (c ∷ line) v h = subst (λ x. is_in (only (codes "*")) x ≡ true)
+          (sym (begins-other_entry.first c line v h)) refl
 
 pub exact-tested_line : Exact tested_line tested_line_of
 unfolding tested_line_of
@@ -191,16 +193,24 @@ pub begins-line : {V : Type 0} (form : Form ℕ V) (of : List ℕ → Option V)
     → Exact form of → Begins (LineOf form) (IsListed (left_only of))
 begins-line form of exact = record {
   not_empty = λ v h. absurd (cc h.alone);
-  first = λ c s v h.
-      (v, (let same : c ≡ h.line = cc h.alone in ap (left_only of) same ∙ left-reads form of exact h.line v h.left h.of_form));
+  first = λ c s v h. (
+    v,
+    (let same : c ≡ h.line = cc h.alone in ap (left_only of) same ∙ left-reads form of exact h.line v h.left h.of_form),
+  );
 }
 
 -- any number of lines of a form
 pub reader-lines : {V : Type 0} (form : Form ℕ V) (of : List ℕ → Option V)
     → Exact form of → Reader (many (LineOf form)) (run_at (left_only of)) (IsListed (left_only of))
 reader-lines form of exact = reader-many (LineOf form) (left_only of) (λ tag. Spell tag)
-    (λ t v h. record
-    { symbol = h.line; tag = v; behind = []; is = h.alone; listed = left-reads form of exact h.line v h.left h.of_form; of_rest = record { empty = refl; is = refl } })
+    (λ t v h. record {
+      symbol = h.line;
+      tag = v;
+      behind = [];
+      is = h.alone;
+      listed = left-reads form of exact h.line v h.left h.of_form;
+      of_rest = none-spelled;
+    })
     (λ t v h. let p : (is_left h.symbol ≡ true) × form h.symbol h.tag =
     left-spells form of exact h.symbol h.tag h.listed in
     subst (λ x. LineOf form t x) (sym h.of_rest.is)

@@ -78,7 +78,11 @@ lookup-more : (name : List ℕ) (entries : List EntryContents) (found : EntryCon
 lookup-more name entries (Keyed keys) =
     cc (filter_map-append keys_in entries (Keyed keys ∷ []), first_other-same entries keys)
 lookup-more name entries (Other text) =
-    cc (filter_map-append keys_in entries (Other text ∷ []), first_other-more entries text, append-nil (filter_map keys_in entries))
+    cc (
+      filter_map-append keys_in entries (Other text ∷ []),
+      first_other-more entries text,
+      append-nil (filter_map keys_in entries),
+    )
 
 -- a lookup with a line more has its texts and this one
 pub adds-entry : (most : ℕ) (name : List ℕ) (entries : List EntryContents) (found : EntryContents)
@@ -106,8 +110,11 @@ pub adds-keys : (most : ℕ) (name : List ℕ) (entries : List EntryContents) (o
 adds-keys most name entries old added all long pushed longer so_far =
     adds-entry most name entries (Keyed (keys_contents added)) old
     (record { lookup = record { name = old.lookup.name; keys = all; rest = old.lookup.rest }; long = long }) so_far
-    (ap (λ ks. record
-    { name = old.lookup.name.items; keys = ks; rest = option_map (λ text. text.items) old.lookup.rest }) (ap (map keys_contents) pushed ∙ map-append keys_contents old.lookup.keys.items (added ∷ [])))
+    (ap (λ ks. record {
+      name = old.lookup.name.items;
+      keys = ks;
+      rest = option_map (λ text. text.items) old.lookup.rest;
+    }) (ap (map keys_contents) pushed ∙ map-append keys_contents old.lookup.keys.items (added ∷ [])))
     (longer ∙ same (first_other entries)) where
       same : (first : Option (List ℕ)) → option_or old.long
           (first_over most (length added.text.items ∷ [])) ≡ option_or old.long
@@ -132,9 +139,15 @@ module _ (most : ℕ) (name : List ℕ) (entries : List EntryContents) (old : Re
         → IsLookupOf most name (entries ++ Other text.items ∷ [])
         (record { lookup = record { name = old.lookup.name; keys = old.lookup.keys; rest = Some text }; long = long })
     cases None is none = adds-entry most name entries (Other text.items) old
-        (record { lookup = record { name = old.lookup.name; keys = old.lookup.keys; rest = Some text }; long = long }) so_far
-        (ap (λ rest. record
-        { name = old.lookup.name.items; keys = map keys_contents old.lookup.keys.items; rest = first_text (option_map (λ t. t.items) rest) text.items }) (sym is))
+        (record {
+          lookup = record { name = old.lookup.name; keys = old.lookup.keys; rest = Some text };
+          long = long;
+        }) so_far
+        (ap (λ rest. record {
+          name = old.lookup.name.items;
+          keys = map keys_contents old.lookup.keys.items;
+          rest = first_text (option_map (λ t. t.items) rest) text.items;
+        }) (sym is))
         (longer ∙ ap (λ first. option_or old.long (first_over most
         (map length (text_behind first (Other text.items))))) (sym (other-so_far None is)))
     cases (Some first) is none = absurd (cc none)
@@ -150,7 +163,11 @@ module _ (most : ℕ) (name : List ℕ) (entries : List EntryContents) (old : Re
         → IsLookupOf most name (entries ++ Other text.items ∷ []) old
     cases None is some = absurd (cc some)
     cases (Some first) is some = adds-entry most name entries (Other text.items) old old so_far
-        (ap (λ rest. record
-        { name = old.lookup.name.items; keys = map keys_contents old.lookup.keys.items; rest = rest }) (ap (option_map (λ t. t.items)) is ∙ ap (λ rest. first_text (option_map (λ t. t.items) rest) text.items) (sym is)))
+        (ap (λ rest. record {
+          name = old.lookup.name.items;
+          keys = map keys_contents old.lookup.keys.items;
+          rest = rest;
+        }) (ap (option_map (λ t. t.items)) is
+        ∙ ap (λ rest. first_text (option_map (λ t. t.items) rest) text.items) (sym is)))
         (or-none old.long ∙ ap (λ first. option_or old.long (first_over most
         (map length (text_behind first (Other text.items))))) (sym (other-so_far (Some first) is)))

@@ -8,6 +8,7 @@ use Rattle.ra_text.specs.Reading.{Outcome, chain_at}
 use Rattle.ra_text.proofs.Begins.{IsListed}
 use Rattle.ra_text.proofs.Chains.{reader-chain}
 use Rattle.ra_text.proofs.Readers.{Reader, reader-same, reader-spell}
+use Rattle.ra_text.proofs.Spelled.{none-spelled, viable-by, link-spelled}
 
 -- a symbol of the table, and behind it a text of the form that its tag gives
 pub record Headed {A T V : Type 0} (table : A → Option T) (rest : T → Form A V) (text : List A) (v : V) : Type 0 where
@@ -33,7 +34,8 @@ module _ {A T V : Type 0} (item : Form A V) (table : A → Option T) (rest : T �
   many-chain t [] h = (h, refl)
   many-chain t (v ∷ vs) h =
       let p : Headed table rest h.front v = head h.front v h.of_item in
-      record { symbol = p.symbol; tag = p.tag; front = p.behind; behind = h.behind; parts = h.parts ∙ ap (λ f. f ++ h.behind) p.is; separated = p.listed; of_item = p.of_rest; of_others = many-chain h.behind vs h.of_others }
+      link-spelled p.symbol p.tag p.behind h.behind (h.parts
+      ∙ ap (λ f. f ++ h.behind) p.is) p.listed p.of_rest (many-chain h.behind vs h.of_others)
 
   chain-many : (t : List A) (vs : List V) → chained table rest t vs → many item t vs
   chain-many t [] h = h.0
@@ -42,7 +44,14 @@ module _ {A T V : Type 0} (item : Form A V) (table : A → Option T) (rest : T �
     behind = h.behind;
     parts = h.parts;
     of_item = unhead (h.symbol ∷ h.front) v
-        (record { symbol = h.symbol; tag = h.tag; behind = h.front; is = refl; listed = h.separated; of_rest = h.of_item });
+        (record {
+          symbol = h.symbol;
+          tag = h.tag;
+          behind = h.front;
+          is = refl;
+          listed = h.separated;
+          of_rest = h.of_item;
+        });
     of_others = chain-many h.behind vs h.of_others;
   }
 
@@ -55,18 +64,22 @@ module _ {A T V : Type 0} (item : Form A V) (table : A → Option T) (rest : T �
       (chained table rest) (many item) (chained_at table rest_at) goes_on chain-many many-chain
       (reader-chain {S = Unit {0}} (λ s. table) (λ s. rest) (λ s. rest_at) (λ s v. s)
       (λ s. true) goes_on item_on (λ s. items) (λ s. apart) on_item (λ s. on_table)
-      (λ s. record { more = []; v = []; whole = (refl, refl) }) tt)
+      (λ s. viable-by [] [] (refl, refl)) tt)
 
 -- one symbol is one with nothing behind it
 one-headed : {A V : Type 0} (table : A → Option V) (t : List A) (v : V) → One table t v
     → Headed table (λ tag. Spell tag) t v
 one-headed table t v h =
-    record { symbol = h.symbol; tag = v; behind = []; is = h.alone; listed = h.listed; of_rest = record { empty = refl; is = refl } }
+    record { symbol = h.symbol; tag = v; behind = []; is = h.alone; listed = h.listed; of_rest = none-spelled }
 
 headed-one : {A V : Type 0} (table : A → Option V) (t : List A) (v : V)
     → Headed table (λ tag. Spell tag) t v → One table t v
 headed-one table t v h =
-    record { symbol = h.symbol; alone = h.is ∙ ap (λ b. h.symbol ∷ b) h.of_rest.empty; listed = h.listed ∙ ap (λ x. Some x) (sym h.of_rest.is) }
+    record {
+      symbol = h.symbol;
+      alone = h.is ∙ ap (λ b. h.symbol ∷ b) h.of_rest.empty;
+      listed = h.listed ∙ ap (λ x. Some x) (sym h.of_rest.is);
+    }
 
 -- symbols of a table
 pub reader-run : {A V : Type 0} (table : A → Option V) → Reader (many (One table)) (run_at table) (IsListed table)

@@ -19,6 +19,7 @@ use Rattle.ra_text.proofs.Begins.{Begins, IsListed, begins-then, reader-behind}
 use Rattle.ra_text.proofs.Either.{reader-map}
 use Rattle.ra_text.proofs.Readers.{Reader, Listed, reader-then, reads-of}
 use Rattle.ra_text.proofs.Steps.{reads-shorter}
+use Rattle.ra_text.proofs.Spelled.{then-spelled}
 
 -- what stands behind the first line of a section
 abbrev pub section_behind : HeadContents → Form (List ℕ) SectionContents
@@ -49,10 +50,10 @@ section-head : (t : List (List ℕ)) (v : SectionContents)
 section-head t v h = cases h.tag (left-head-spells h.symbol h.tag h.listed) h.of_rest where
   cases : (tag : HeadContents) → (is_left h.symbol ≡ true) × section_head tag h.symbol
       → section_behind tag h.behind v → section t v
-  cases (OpensLookup n) p rest = inl (record
-      { front = h.symbol ∷ []; behind = h.behind; v = n; parts = h.is; of_first = record { line = h.symbol; alone = refl; left = p.0; of_form = p.1 }; of_next = rest })
-  cases (OpensFormat n) p rest = inr (record
-      { front = h.symbol ∷ []; behind = h.behind; v = n; parts = h.is; of_first = record { line = h.symbol; alone = refl; left = p.0; of_form = p.1 }; of_next = rest })
+  cases (OpensLookup n) p rest = inl (then-spelled (h.symbol ∷ []) h.behind n h.is
+      (record { line = h.symbol; alone = refl; left = p.0; of_form = p.1 }) rest)
+  cases (OpensFormat n) p rest = inr (then-spelled (h.symbol ∷ []) h.behind n h.is
+      (record { line = h.symbol; alone = refl; left = p.0; of_form = p.1 }) rest)
 
 -- the lines that go on with sections
 abbrev pub section_on : List ℕ → Type 0

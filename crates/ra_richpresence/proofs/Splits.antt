@@ -167,7 +167,10 @@ pub record LinesSoFar (text : List ℕ) (lines : List (ℕ × List ℕ)) (rest :
 
 pub lines-start : (text : List ℕ) → LinesSoFar text [] text
 lines-start text =
-    record { within = omega arith; same = ap (λ at. placed at (lines_of text)) (let none : 0 ≡ length text - length text = omega arith in none) }
+    record {
+      within = omega arith;
+      same = ap (λ at. placed at (lines_of text)) (let none : 0 ≡ length text - length text = omega arith in none);
+    }
 
 -- ---- the first and the last of a list
 

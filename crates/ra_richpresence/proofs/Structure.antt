@@ -1,9 +1,8 @@
 -- The structure of what scripts spell.
-use Rattle.std.proofs.Common.{◌≡◌, inl, inr, ℕ, Bool, true, false, if◌then◌else◌, List, [], ◌∷◌, ◌++◌, Option, Some}
-use Rattle.std.proofs.Common.{None, refl, sym, subst, arith}
+use Rattle.std.proofs.Common.{◌≡◌, inl, inr, ℕ, Bool, true, false, if◌then◌else◌, List, [], ◌∷◌, ◌++◌, Some}
+use Rattle.std.proofs.Common.{None, refl, sym, subst}
 use Rattle.std.specs.List.{AllByRecursion, filter_map}
 use Rattle.std.specs.Prelude.{All}
-use Rattle.std.specs.Str.{bytes_eq}
 use Rattle.std.proofs.lemmas.List.Elements.{All-from_recursion}
 use Rattle.ra_condition.specs.Spelled.{IsTrigger}
 use Rattle.ra_condition.proofs.Structure.{trigger-structure, value-structure}
@@ -16,7 +15,8 @@ use Rattle.ra_richpresence.specs.Spelled.{IsPiece, IsTested, IsUntested, IsDispl
 use Rattle.ra_text.specs.Form.{Form, optional, ◌or◌}
 use Rattle.ra_text.specs.Table.{lookup, bytes_for}
 use Rattle.ra_value_format.specs.declared.format.Format.{Format}
-use Rattle.ra_value_format.specs.Formats.{HasDigits, entry_of, named_format, format_of_name, format_names}
+use Rattle.ra_value_format.specs.Formats.{HasDigits}
+use Rattle.ra_value_format.proofs.FormatDigits.{format-digits}
 
 -- what holds of each item that is spelled holds of each in a list of them
 each-many : {A V : Type 0} (item : Form A V) (P : V → Type 0) → ((t : List A) (v : V) → item t v
@@ -99,25 +99,6 @@ display-structure t v h = record {
 }
 
 -- ---- formats
-
--- what holds of each entry of a table of names holds of the one of a name
-entry-each : {X : Type 0} (P : X → Type 0) (table : List (List ℕ × X)) → AllByRecursion
-    (λ row. P row.1) table → (wanted : List ℕ) (v : X) → entry_of wanted table ≡ Some v → P v
-entry-each P [] all wanted v e = absurd (cc e)
-entry-each {X} P (row ∷ table) all wanted v e =
-    cases (bytes_eq row.0 wanted) e (λ f. entry-each P table all.1 wanted v f) where
-      cases : (same : Bool) → (if same then Some row.1 else entry_of wanted table) ≡ Some v
-          → (entry_of wanted table ≡ Some v → P v) → P v
-      cases true e next = subst P (let same : row.1 ≡ v = cc e in same) all.0
-      cases false e next = next e
-
-named-digits : (found : Option Format) → ((v : Format) → found ≡ Some v → HasDigits v) → HasDigits (named_format found)
-named-digits (Some v) h = h v refl
-named-digits None h = tt
-
-format-digits : (wanted : List ℕ) → HasDigits (format_of_name wanted)
-format-digits wanted = named-digits (entry_of wanted format_names) (entry-each HasDigits format_names
-    (tt, (tt, (tt, (tt, (tt, (tt, (tt, (tt, (tt, (tt, (tt, (tt, (tt, (tt, ((omega arith, omega arith), ((omega arith, omega arith), ((omega arith, omega arith), ((omega arith, omega arith), ((omega arith, omega arith), ((omega arith, omega arith), ((omega arith, omega arith), ((omega arith, omega arith), ((omega arith, omega arith), tt))))))))))))))))))))))) wanted)
 
 -- the format of a section is one that a name has
 abbrev SectionDigits : SectionContents → Type 0

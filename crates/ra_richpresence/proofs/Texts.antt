@@ -11,6 +11,7 @@ use Rattle.ra_richpresence.proofs.Exact.{Exact, all-next, exact-all, exact-map}
 use Rattle.ra_richpresence.proofs.Parts.{closed-macro, begins-macro, one_byte}
 use Rattle.ra_text.specs.Form.{◌or◌}
 use Rattle.ra_text.proofs.Steps.{same-ok}
+use Rattle.ra_text.proofs.Spelled.{then-spelled, one-spelled}
 
 -- the bytes that no text goes on with, where it may hold macros
 abbrev pub stops : Bool → List ℕ
@@ -119,17 +120,11 @@ character-cut macros c t not_lone at = cases (c == 92) refl t not_lone where
   cases true is (d ∷ t) not_lone = rw is (record {
     front = c ∷ d ∷ [];
     parts = refl;
-    of_front = inr (record {
-      front = c ∷ [];
-      behind = d ∷ [];
-      v = tt;
-      parts = refl;
-      of_first = record { symbol = c; alone = refl; listed = rw is refl };
-      of_next = record { symbol = d; alone = refl; listed = refl };
-    });
+    of_front = inr
+        (then-spelled (c ∷ []) (d ∷ []) tt refl (one-spelled c (rw is refl)) (one-spelled d refl));
   })
   cases false is t not_lone = rw is
-      (record { front = c ∷ []; parts = refl; of_front = inl (record { symbol = c; alone = refl; listed = itself macros c is at }) })
+      (record { front = c ∷ []; parts = refl; of_front = inl (one-spelled c (itself macros c is at)) })
 
 pub character-smaller : (c : ℕ) (t : List ℕ) → length (character_of c t).1 < length (c ∷ t)
 character-smaller c t = cases (c == 92) refl t where
@@ -213,8 +208,8 @@ cuts-piece (c ∷ t) v rest not_lone e = cases (c == 64) refl e where
       let left : (character_of c t).1 ≡ rest = ap (λ x. x.1) same in (
         p.front,
         p.parts ∙ ap (λ x. p.front ++ x) left,
-        inl (record
-            { front = p.front; behind = []; v = (character_of c t).0; parts = sym (append-nil p.front); of_first = p.of_front; of_next = record { empty = refl; is = sym (ap (λ x. x.0) same) } }),
+        inl (then-spelled p.front [] ((character_of c t).0) (sym (append-nil p.front)) p.of_front
+            (record { empty = refl; is = sym (ap (λ x. x.0) same) })),
       )
 
 pub smaller-piece : (text : List ℕ) (v : PieceContents) (rest : List ℕ) → piece_at text

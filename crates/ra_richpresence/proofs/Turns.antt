@@ -68,7 +68,9 @@ pub name-starts : (text : List ℕ) (c : ℕ) (rest : List ℕ) → one_at name_
     → RunSoFar name_byte (c ∷ []) rest (name_at text)
 unfolding name_at
 name-starts text c rest read =
-    record { is = ap (λ o. o >>= λ first. run_at name_byte first.1 >>= λ others. Ok (first.0 ∷ others.0, others.1)) read }
+    record {
+      is = ap (λ o. o >>= λ first. run_at name_byte first.1 >>= λ others. Ok (first.0 ∷ others.0, others.1)) read;
+    }
 
 pub name-none : (text rest : List ℕ) → one_at name_byte text ≡ Err rest → name_at text ≡ Err rest
 unfolding name_at
@@ -265,7 +267,8 @@ macro-turn so_far [] v new whole at read l = absurd (cc at)
 macro-turn so_far (c ∷ t) v new whole at read l =
     let cut : (front : List ℕ) × (c ∷ t ≡ front ++ new) × macro front v =
     closed-macro.cuts (c ∷ t) v new read in cases v read (macro-shows cut.0 v cut.2) where
-      cases : (v : PieceContents) → macro_at (c ∷ t) ≡ Ok (v, new) → IsShows v → PiecesSoFar (so_far ++ v ∷ []) new whole
+      cases : (v : PieceContents) → macro_at (c ∷ t) ≡ Ok (v, new) → IsShows v
+          → PiecesSoFar (so_far ++ v ∷ []) new whole
       cases v read (a_macro name value) = macro-more so_far c t name value new whole (rw (sym (is-macro c) ∙ at) read) l
 
 pub macro-smaller : (old : List ℕ) (v : PieceContents) (new : List ℕ) → begins

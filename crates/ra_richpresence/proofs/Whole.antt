@@ -82,7 +82,12 @@ module _ (text : List ℕ) (all : List ScriptLine) (cut : map view_of all ≡ pl
   left-fits outcome rest read left =
       let shorter : length (rest_of outcome) ≤ length (bytes_of all) = subst (λ o. length
       (rest_of o) ≤ length (bytes_of all)) read (reads-shorter (reads-script (bytes_of all))) in
-      omega (arith, ap length left, length-map rest (λ (line : ScriptLine). line.bytes.now), length-map all (λ (line : ScriptLine). line.bytes.now))
+      omega (
+        arith,
+        ap length left,
+        length-map rest (λ (line : ScriptLine). line.bytes.now),
+        length-map all (λ (line : ScriptLine). line.bytes.now),
+      )
 
   pub refuses-script : (outcome : Outcome (List ℕ) ScriptParts) (rest : List ScriptLine)
       → script_at (bytes_of all) ≡ outcome → rest_of outcome ≡ bytes_of rest
@@ -91,7 +96,13 @@ module _ (text : List ℕ) (all : List ScriptLine) (cut : map view_of all ≡ pl
       (length text) → IsOutside text place
   refuses-script outcome rest read left not_whole place at =
       let index : length all - length rest ≡ taken_of text outcome =
-      omega (arith, length-map all view_of, ap length cut, ap length left, length-map rest (λ (line : ScriptLine). line.bytes.now)) in
+      omega (
+        arith,
+        length-map all view_of,
+        ap length cut,
+        ap length left,
+        length-map rest (λ (line : ScriptLine). line.bytes.now),
+      ) in
       outside-script text outcome (ap script_at (sym lines-left) ∙ read) not_whole place (at
       ∙ ap (λ lines. first_place (drop (length all - length rest) lines) (length text)) cut
       ∙ ap (λ n. first_place (drop n (lines_in text)) (length text)) index)

@@ -28,7 +28,11 @@ count_read at n behind small = from_le_bytes-to_le_bytes_2 n small
 write_by_rules : (size : ℕ) (rest : List ℕ) → 6 ≤ length rest → 6 + count_in rest ≤ length rest
     → place_in rest + count_in rest ≤ size → write_refusal size rest ≡ None
 write_by_rules size rest long enough fits =
-    rw (le-ltb (length rest) 6 long, le-ltb (length rest) (6 + count_in rest) enough, le-ltb size (place_in rest + count_in rest) fits) refl
+    rw (
+      le-ltb (length rest) 6 long,
+      le-ltb (length rest) (6 + count_in rest) enough,
+      le-ltb size (place_in rest + count_in rest) fits,
+    ) refl
 
 -- a record that keeps the rules is not refused
 none_refused : (size : ℕ) (filled : List Bool) (entry : Entry) (rest : List ℕ) → size ≤ 2 ^ 27
@@ -117,7 +121,11 @@ size_read size rest small =
 no_more_records : (entries : List Entry) → length entries ≤ length (flat_map entry_bytes entries)
 no_more_records [] = omega arith
 no_more_records (Written at bytes ∷ entries) =
-    omega (arith, no_more_records entries, length-append (entry_bytes (Written at bytes)) (flat_map entry_bytes entries))
+    omega (
+      arith,
+      no_more_records entries,
+      length-append (entry_bytes (Written at bytes)) (flat_map entry_bytes entries),
+    )
 no_more_records (_ ∷ entries) = omega (arith, no_more_records entries)
 
 -- a trace of records that keep the rules is cut into them, whatever stands behind its end record
@@ -151,8 +159,10 @@ pub all_take_filled : (size : ℕ) (entries : List Entry) → ByRecursion (Fits 
 all_take_filled size [] fit = tt
 all_take_filled size (Written at bytes ∷ entries) fit = (tt, all_take_filled size entries fit.1)
 all_take_filled size (Framed ∷ entries) fit = (tt, all_take_filled size entries fit.1)
-all_take_filled size (Saved slot ∷ entries) fit =
-    (tt, subst (λ filled. AllTakeFilled filled entries) (sym (filled_stay slot fit.0)) (all_take_filled size entries fit.1))
+all_take_filled size (Saved slot ∷ entries) fit = (
+  tt,
+  subst (λ filled. AllTakeFilled filled entries) (sym (filled_stay slot fit.0)) (all_take_filled size entries fit.1),
+)
 all_take_filled size (Restored slot ∷ entries) fit =
     (get_or-replicate 16 slot true false (omega (arith, fit.0)), all_take_filled size entries fit.1)
 all_take_filled size (Shown ∷ entries) fit = (tt, all_take_filled size entries fit.1)

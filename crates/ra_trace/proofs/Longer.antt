@@ -66,7 +66,12 @@ write_stays : (size : ℕ) (rest more : List ℕ) → (write_refusal size rest �
     → write_refusal size (rest ++ more) ≡ write_refusal size rest
 write_stays size rest more whole =
     let long = write_is_long size rest whole in
-    rw (write_by_fields size (rest ++ more) (longer rest more long), write_by_fields size rest long, place_stays rest more long.fields, count_stays rest more long.fields) refl
+    rw (
+      write_by_fields size (rest ++ more) (longer rest more long),
+      write_by_fields size rest long,
+      place_stays rest more long.fields,
+      count_stays rest more long.fields,
+    ) refl
 
 save_stays : (rest more : List ℕ) → (save_refusal rest ≡ Some Cut → ⊥) → save_refusal (rest ++ more) ≡ save_refusal rest
 save_stays [] more whole = absurd (whole refl)
@@ -94,7 +99,12 @@ written_stays size rest more good =
     let long = write_is_long size rest (λ cut. subst IsNothing (sym good ∙ cut) tt) in
     let behind : drop 6 (rest ++ more) ≡ drop 6 rest ++ more = drop-append-le 6 rest more long.fields in
     let left : length (drop 6 rest) ≡ length rest - 6 = length-drop 6 rest in
-    rw (place_stays rest more long.fields, count_stays rest more long.fields, behind, take-append-le (count_in rest) (drop 6 rest) more (omega (arith, left, long.bytes))) refl
+    rw (
+      place_stays rest more long.fields,
+      count_stays rest more long.fields,
+      behind,
+      take-append-le (count_in rest) (drop 6 rest) more (omega (arith, left, long.bytes)),
+    ) refl
 
 slot_stays : (rest more : List ℕ) → (save_refusal rest ≡ None) → slice_index (rest ++ more) 0 ≡ slice_index rest 0
 slot_stays [] more good = absurd (subst IsNothing (sym good) tt)

@@ -308,7 +308,13 @@ header_stays held more long =
     let behind : take 4 (drop 5 held ++ more) ≡ take 4 (drop 5 held) =
     take-append-le 4 (drop 5 held) more (omega (arith, long, length-drop 5 held)) in
     let longer : 9 ≤ length (held ++ more) = omega (arith, long, length-append held more) in
-    rw (take-append-le 5 held more (omega (arith, long)), rest, behind, le-leb 9 (length (held ++ more)) longer, le-leb 9 (length held) long) refl
+    rw (
+      take-append-le 5 held more (omega (arith, long)),
+      rest,
+      behind,
+      le-leb 9 (length (held ++ more)) longer,
+      le-leb 9 (length held) long,
+    ) refl
 
 -- the header of what may be seen of a file is that of what a reader holds, once it is long enough or all
 pub header_seen : (r : ReaderSeen) (bytes : List ℕ) → IsInside (length r.held) r.limit r.taken 0 → Holds r bytes

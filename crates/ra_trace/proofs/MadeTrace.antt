@@ -58,8 +58,10 @@ behind_fits false false slot after small fit = fit
 all_fit : (n f x : ℕ) → ByRecursion (Fits 65536) (before_end n f x)
 unfolding before_end
 all_fit zero f x = tt
-all_fit (suc n) f x = writes_fit 8 x _
-    (tt, behind_fits (f % 64 == 63) (f % 512 == 511) (f / 64 % 16) _ (omega arith) (all_fit n (f + 1) (drawn_times 16 x)))
+all_fit (suc n) f x = writes_fit 8 x _ (
+  tt,
+  behind_fits (f % 64 == 63) (f % 512 == 511) (f / 64 % 16) _ (omega arith) (all_fit n (f + 1) (drawn_times 16 x)),
+)
 
 -- the slots that are filled after a frame
 after_save : Bool → ℕ → List Bool → List Bool
@@ -140,9 +142,17 @@ frames_cut n x =
     let cut = trace_cut no_slots 65536 before [] (omega arith)
     (All-from_recursion (Fits 65536) before (all_fit n 0 x)) (all_take n 0 x no_slots ready) in
     let last : length (trace_bytes 65536 before) ≡ length (trace_bytes 65536 (before ++ Ended ∷ [])) - 1
-    = omega (arith, ap length (flat_map-append entry_bytes before (Ended ∷ [])), length-append (flat_map entry_bytes before) (69 ∷ [])) in
+    = omega (
+      arith,
+      ap length (flat_map-append entry_bytes before (Ended ∷ [])),
+      length-append (flat_map entry_bytes before) (69 ∷ []),
+    ) in
     subst (λ entries. trace_of (trace_bytes 65536 entries)
-    ≡ record { size = 65536; entries = entries; stop = Reached (length (trace_bytes 65536 entries) - 1) }) (sym (ends n 0 x))
+    ≡ record {
+      size = 65536;
+      entries = entries;
+      stop = Reached (length (trace_bytes 65536 entries) - 1);
+    }) (sym (ends n 0 x))
     (ap trace_of (sym (append-nil (trace_bytes 65536 (before ++ Ended ∷ [])))) ∙ cut
     ∙ ap (λ at. record { size = 65536; entries = before ++ Ended ∷ []; stop = Reached at }) last)
 
@@ -172,7 +182,12 @@ unfolding frames
 frames_length zero f x = omega arith
 frames_length (suc n) f x =
     let behind = frames n (f + 1) (drawn_times 16 x) in
-    omega (arith, writes_length 8 x (Framed ∷ after_frame f behind), behind_length (f % 64 == 63) (f % 512 == 511) (f / 64 % 16) behind, frames_length n (f + 1) (drawn_times 16 x))
+    omega (
+      arith,
+      writes_length 8 x (Framed ∷ after_frame f behind),
+      behind_length (f % 64 == 63) (f % 512 == 511) (f / 64 % 16) behind,
+      frames_length n (f + 1) (drawn_times 16 x),
+    )
 
 pub made_short : (number : ℕ) → length (made_trace number) ≤ 2 ^ 19
 unfolding made_trace made_entries

@@ -41,11 +41,14 @@ unfoldable pub achievement_lines : ℕ → ℕ → ℕ → List ℕ
 achievement_lines zero id x = []
 achievement_lines (suc more) id x = drawn_line id x ++ achievement_lines more (id + 1) (drawn_times 4 x)
 
+-- the lines after the achievements: a leaderboard, and a display of one number
+abbrev pub lines_after : List ℕ
+lines_after = codes
+    "L 1 VALUE STA:0xH0000>d0xH0000::CAN:0xH0001=0::SUB:0xH0002>d0xH0002::VAL:0x 0000\nP\nDisplay:\n@Number(0xX0000)\n"
+
 -- the set file of a workload
 unfoldable pub made_set : ℕ → List ℕ
-made_set number =
-    achievement_lines 256 1 number
-    ++ codes "L 1 VALUE STA:0xH0000>d0xH0000::CAN:0xH0001=0::SUB:0xH0002>d0xH0002::VAL:0x 0000\nP\nDisplay:\n@Number(0xX0000)\n"
+made_set number = achievement_lines 256 1 number ++ lines_after
 
 -- this many writes of one drawn byte each, before the records after them
 unfoldable pub writes : ℕ → ℕ → List Entry → List Entry

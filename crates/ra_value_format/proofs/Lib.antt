@@ -1,1 +1,2 @@
+pub mod FormatDigits
 pub mod Padding

@@ -9,8 +9,11 @@ loop-place-preserved g c =
     let order = c.args.order.now in
     let place = c.loop-place.place in
     let n = slice_index order place in
-    let within : n < length values = omega
-    (arith, c.loop-place.invariant.long, c.requires.numbers place (omega (arith, c.requires.most, c.loop-place-test.true))) in
+    let within : n < length values = omega (
+      arith,
+      c.loop-place.invariant.long,
+      c.requires.numbers place (omega (arith, c.requires.most, c.loop-place-test.true)),
+    ) in
     record {
       long = length-set values n c.args.value ∙ c.loop-place.invariant.long;
       there = λ k d low less. elim (cases_eq (slice_index order k) n) [

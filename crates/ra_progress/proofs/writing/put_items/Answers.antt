@@ -19,7 +19,12 @@ loop-k-preserved c =
     let below : c.loop-k.k < length c.args.items.now = omega (arith, c.requires.many, c.loop-k-test.true) in
     let blocks = map item_bytes (map kept_item c.args.items.now) in
     let more = blocks_more c.args.names.now blocks c.loop-k.k [] (omega (arith, c.loop-k-test.true))
-    (omega (arith, below, length-map c.args.items.now kept_item, length-map (map kept_item c.args.items.now) item_bytes)) in
+    (omega (
+      arith,
+      below,
+      length-map c.args.items.now kept_item,
+      length-map (map kept_item c.args.items.now) item_bytes,
+    )) in
     let here = rw (← c.index-items-k.is) at (block_of c.args.items.now c.loop-k.k c.index-items-k.result below) in
     let before = named_blocks (take c.loop-k.k c.args.names.now) (take c.loop-k.k blocks) in
     let name = get_or c.args.names.now c.loop-k.k [] in
@@ -35,5 +40,11 @@ pub returns : goal.returns
 returns c =
     let names = take_all c.loop-k.k c.args.names.now (omega (arith, c.loop-k-test.false)) in
     let blocks = take_all c.loop-k.k (map item_bytes (map kept_item c.args.items.now))
-    (omega (arith, c.loop-k-test.false, length-map (map kept_item c.args.items.now) item_bytes, length-map c.args.items.now kept_item, c.requires.many)) in
+    (omega (
+      arith,
+      c.loop-k-test.false,
+      length-map (map kept_item c.args.items.now) item_bytes,
+      length-map c.args.items.now kept_item,
+      c.requires.many,
+    )) in
     c.loop-k.invariant ∙ ap (λ xs. c.args.bytes.now.items ++ xs) (ap₂ named_blocks names blocks)

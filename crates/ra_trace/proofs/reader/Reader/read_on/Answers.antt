@@ -27,7 +27,15 @@ pub returns-clause-on : goal.returns-clause-on
 returns-clause-on g c =
     let inside = c.self.inside in
     let old : ReaderSeen =
-    record { name = inside.name.bytes.items; limit = inside.limit; size = inside.size; last = inside.last; next = inside.next; taken = inside.taken; held = inside.window } in
+    record {
+      name = inside.name.bytes.items;
+      limit = inside.limit;
+      size = inside.size;
+      last = inside.last;
+      next = inside.next;
+      taken = inside.taken;
+      held = inside.window;
+    } in
     let content = g.F.Files.content c.args.files.now in
     let named : c.deref.result.now ≡ c.args.self.now.name = c.deref.ensures ∙ ap (λ s. s.name) c.self.view_is in
     let left : drop c.front-front.result inside.window ≡ unanswered old = subst (λ s. drop
