@@ -34,6 +34,7 @@ use Rattle.ra_patch.specs.declared.item_kind.ItemKind.TheVariants.{Achievement, 
 use Rattle.ra_patch.specs.Leaving.{IsItemPlace, IsPlace, before_text, fault_of, id_of, item_text, line_of}
 use Rattle.ra_patch.proofs.CutLemmas.{format-word, head-once, inner-line, word-once}
 use Rattle.ra_patch.proofs.LineLemmas.{format_in, id-fits, item-spelled, whole-achievement, whole-board}
+use Rattle.ra_text.proofs.Spelled.{then-spelled, viable-by}
 
 -- ---- ends of lines
 
@@ -224,14 +225,14 @@ bad-text Achievement text at o = record {
   within = o.place.within;
   more = o.place.viable.more;
   viable = (o.place.viable.v, o.place.viable.whole);
-  longest = λ m lt le others h. o.place.longest m lt le (record { more = others; v = h.0; whole = h.1 });
+  longest = λ m lt le others h. o.place.longest m lt le (viable-by others h.0 h.1);
   outside = λ h. o.outside h.0 h.1;
 }
 bad-text Leaderboard text at o = record {
   within = o.place.within;
   more = o.place.viable.more;
   viable = (o.place.viable.v, o.place.viable.whole);
-  longest = λ m lt le others h. o.place.longest m lt le (record { more = others; v = h.0; whole = h.1 });
+  longest = λ m lt le others h. o.place.longest m lt le (viable-by others h.0 h.1);
   outside = λ h. o.outside h.0 h.1;
 }
 
@@ -281,39 +282,17 @@ spelled-line : (kind : ItemKind) (d : Data) → fault_of kind d ≡ None → (te
     → (x : ItemContents) × line (before_text kind d ++ text) (Some x)
 spelled-line Achievement d none text h = (
   Unlocks (id_of d) h.0,
-  inr (inl (record {
-    front = head_text 65 (id_of d);
-    behind = text;
-    v = id_of d;
-    parts = refl;
-    of_first = head-spelled 65 (id_of d) refl (id-fits d);
-    of_next = changed trigger (λ t. Some (Unlocks (id_of d) t)) text h.0 h.1;
-  })),
+  inr (inl (then-spelled (head_text 65 (id_of d)) text (id_of d) refl (head-spelled 65 (id_of d)
+      refl (id-fits d)) (changed trigger (λ t. Some (Unlocks (id_of d) t)) text h.0 h.1))),
 )
 spelled-line Leaderboard d none text h = let format = format_of_name (format_in d) in (
   Ranks (id_of d) format h.0,
-  subst (λ t. line t (Some (Ranks (id_of d) format h.0))) (sym (before-parts d text)) (inr (inr (inl (record {
-    front = head_text 76 (id_of d);
-    behind = format_in d ++ 32 ∷ text;
-    v = id_of d;
-    parts = refl;
-    of_first = head-spelled 76 (id_of d) refl (id-fits d);
-    of_next = record {
-      front = format_in d;
-      behind = 32 ∷ text;
-      v = format;
-      parts = refl;
-      of_first = (whole-board d none).named;
-      of_next = record {
-        front = codes " ";
-        behind = text;
-        v = tt;
-        parts = refl;
-        of_first = one-byte 32 refl;
-        of_next = changed board (λ b. Some (Ranks (id_of d) format b)) text h.0 h.1;
-      };
-    };
-  })))),
+  subst (λ t. line t (Some (Ranks (id_of d) format h.0))) (sym (before-parts d text))
+      (inr (inr (inl (then-spelled (head_text 76 (id_of d)) (format_in d ++ 32 ∷ text)
+      (id_of d) refl (head-spelled 76 (id_of d) refl (id-fits d))
+      (then-spelled (format_in d) (32 ∷ text) format refl ((whole-board d none).named)
+      (then-spelled (codes " ") text tt refl (one-byte 32 refl)
+      (changed board (λ b. Some (Ranks (id_of d) format b)) text h.0 h.1))))))),
 )
 
 line-parts : (kind : ItemKind) (d : Data) → line_of kind d ≡ before_text kind d ++ (item_text kind d ++ codes "\n")
@@ -347,12 +326,10 @@ module _ (kind : ItemKind) (d : Data) (none : fault_of kind d ≡ None) (at : �
       let l = spelled-line kind d none (front ++ bad.more) bad.viable in
       let whole =
       file-of_lines (before_text kind d ++ (front ++ bad.more)) (Some l.0 ∷ [])
-      (front-lines (before_text kind d ++ (front ++ bad.more)) [] (Some l.0) l.1) in record {
-        more = bad.more;
-        v = record { lines = Some l.0 ∷ []; script = None };
-        whole = subst (λ t. set_file t (record { lines = Some l.0 ∷ []; script = None }))
-            (sym (append_assoc (before_text kind d) front bad.more)) whole;
-      }
+      (front-lines (before_text kind d ++ (front ++ bad.more)) [] (Some l.0) l.1) in
+      viable-by bad.more (record { lines = Some l.0 ∷ []; script = None })
+      (subst (λ t. set_file t (record { lines = Some l.0 ∷ []; script = None }))
+      (sym (append_assoc (before_text kind d) front bad.more)) whole)
 
   longest-line : (k : ℕ) → at < k → k ≤ length (item_text kind d) + 1 → (more : List ℕ)
       → Heads kind (take k (item_text kind d ++ codes "\n") ++ more) → ⊥

@@ -23,6 +23,7 @@ use Rattle.ra_patch.specs.Faults.{achievement_breaks, achievement_faults, board_
 use Rattle.ra_patch.specs.Faults.{ends_line, text_or_empty, unless}
 use Rattle.ra_patch.specs.Fields.{small}
 use Rattle.ra_patch.specs.Leaving.{IsItemPlace, cause_of, fault_of, id_of, item_faults, item_text, line_of}
+use Rattle.ra_text.proofs.Spelled.{then-spelled, none-spelled, one-spelled}
 
 -- ---- ids
 
@@ -101,21 +102,9 @@ pub word-named : (text : List ℕ) → not (length text == 0) ≡ true → ends_
 word-named [] some word = absurd (cc some)
 word-named (c ∷ others) some word =
     let all = name-bytes (c ∷ others) word in
-    let p = both-if (not (is_in (only (codes " \n")) c)) _ all in record {
-      front = c ∷ [];
-      behind = others;
-      v = c;
-      parts = refl;
-      of_first = record { symbol = c; alone = refl; listed = in-name c p.0 };
-      of_next = record {
-        front = others;
-        behind = [];
-        v = others;
-        parts = sym (append-nil others);
-        of_first = run-spelled others p.1;
-        of_next = record { empty = refl; is = refl };
-      };
-    } where
+    let p = both-if (not (is_in (only (codes " \n")) c)) _ all in
+    then-spelled (c ∷ []) others c refl (one-spelled c (in-name c p.0)) (then-spelled others []
+    others (sym (append-nil others)) (run-spelled others p.1) none-spelled) where
       both-if : (a b : Bool) → (if a then b else false) ≡ true → (a ≡ true) × (b ≡ true)
       both-if true b e = (refl, e)
       both-if false b e = absurd (cc e)
@@ -158,14 +147,9 @@ achievement-spelled : (d : Data) (t : TriggerContents) → trigger (item_text Ac
     → ended_line (line_of Achievement d) (Some (Unlocks (id_of d) t))
 achievement-spelled d t h =
     with-end (head_text 65 (id_of d) ++ item_text Achievement d) (Some (Unlocks (id_of d) t))
-    (inr (inl (record {
-      front = head_text 65 (id_of d);
-      behind = item_text Achievement d;
-      v = id_of d;
-      parts = refl;
-      of_first = head-spelled 65 (id_of d) refl (id-fits d);
-      of_next = changed trigger (λ t. Some (Unlocks (id_of d) t)) (item_text Achievement d) t h;
-    })))
+    (inr (inl (then-spelled (head_text 65 (id_of d)) (item_text Achievement d) (id_of d) refl
+    (head-spelled 65 (id_of d) refl (id-fits d))
+    (changed trigger (λ t. Some (Unlocks (id_of d) t)) (item_text Achievement d) t h))))
 
 -- the line of a leaderboard as its head, its format and its board
 pub board-parts : (d : Data)
@@ -182,28 +166,11 @@ board-spelled d b whole h =
     let text = item_text Leaderboard d in
     subst (λ t. ended_line t (Some (Ranks (id_of d) format b))) (sym (board-parts d))
     (with-end (head_text 76 (id_of d) ++ (format_in d ++ 32 ∷ text)) (Some (Ranks (id_of d) format b))
-    (inr (inr (inl (record {
-      front = head_text 76 (id_of d);
-      behind = format_in d ++ 32 ∷ text;
-      v = id_of d;
-      parts = refl;
-      of_first = head-spelled 76 (id_of d) refl (id-fits d);
-      of_next = record {
-        front = format_in d;
-        behind = 32 ∷ text;
-        v = format;
-        parts = refl;
-        of_first = whole.named;
-        of_next = record {
-          front = codes " ";
-          behind = text;
-          v = tt;
-          parts = refl;
-          of_first = one-byte 32 refl;
-          of_next = changed board (λ b. Some (Ranks (id_of d) format b)) text b h;
-        };
-      };
-    })))))
+    (inr (inr (inl (then-spelled (head_text 76 (id_of d)) (format_in d ++ 32 ∷ text) (id_of d) refl
+    (head-spelled 76 (id_of d) refl (id-fits d))
+    (then-spelled (format_in d) (32 ∷ text) format refl whole.named (then-spelled (codes " ") text
+    tt refl (one-byte 32 refl)
+    (changed board (λ b. Some (Ranks (id_of d) format b)) text b h))))))))
 
 -- an item of this kind with this id
 abbrev pub IsOf : ItemKind → ℕ → ItemContents → Type 0

@@ -248,7 +248,12 @@ module _ (file : List ℕ) (read : ReadFile) (h : IsReadFile file read) (digest 
   read-set keeps names = record {
     size = h.distinct.has.size;
     spelled =
-        record { contents = h.contents; spelled = h.distinct.has.spelled; items = h.items; script = script-made h.contents.script read.script h.script };
+        record {
+          contents = h.contents;
+          spelled = h.distinct.has.spelled;
+          items = h.items;
+          script = script-made h.contents.script read.script h.script;
+        };
     ids = subst (IsDistinct repeats) (sym h.items) h.distinct.ids;
     limits = keeps-within (set_of read digest item_names script_name (script_read read.script)) h.contents.script
         (script-made h.contents.script read.script h.script) keeps;
@@ -274,7 +279,14 @@ module _ (file : List ℕ) (read : ReadFile) (h : IsReadFile file read) where
         let all : sum_by item_conditions (map item_contents seen)
         ≡ sum_by item_conditions (items_of h.contents.lines) = ap (λ xs. sum_by item_conditions
         (map item_contents xs)) items ∙ ap (sum_by item_conditions) h.items in
-        omega (arith, few, h.distinct.has.size, all, ap read_conditions script, read-conditions h.contents.script read.script h.script)
+        omega (
+          arith,
+          few,
+          h.distinct.has.size,
+          all,
+          ap read_conditions script,
+          read-conditions h.contents.script read.script h.script,
+        )
 
     -- and are those of the file
     seen-read : IsReadOf h.contents.script found

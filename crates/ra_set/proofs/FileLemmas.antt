@@ -13,6 +13,7 @@ use Rattle.ra_text.specs.Place.{OneSpelling}
 use Rattle.ra_text.specs.Reading.{Outcome, Reads, rest_of}
 use Rattle.ra_text.proofs.Places.{whole-spelled}
 use Rattle.ra_text.proofs.Steps.{same-ok, viable-whole}
+use Rattle.ra_text.proofs.Spelled.{viable-by}
 
 -- ---- one contents
 
@@ -113,7 +114,10 @@ lines-before file (Ok ((ended, Letter), byte ∷ behind)) r lines rest e = absur
 lines-before file (Ok ((ended, Opens text), behind)) r lines rest e =
     let same : ended ≡ lines = ap (λ p. p.0.0) (answer ((ended, true), text) ((lines, true), rest) e) in
     let left : text ≡ rest = ap (λ p. p.1) (answer ((ended, true), text) ((lines, true), rest) e) in
-    record { spelled = inl (subst (λ ls. Front ls (Opens rest) file) same (subst (λ t. Front ended (Opens t) file) left (opens-all file ended text behind r))) }
+    record {
+      spelled = inl (subst (λ ls. Front ls (Opens rest) file) same
+          (subst (λ t. Front ended (Opens t) file) left (opens-all file ended text behind r)));
+    }
 lines-before file (Err behind) r lines rest e = absurd (cc e)
 
 -- ---- where lines are bad
@@ -149,9 +153,7 @@ fronts-along (x ∷ a) b (y ∷ c) d e =
 module _ (sample : List ℕ) (parts : ScriptParts) (spelled : script_parts sample parts) where
   pub head-viable : (u more text : List ℕ) (ended : List Line)
       → (h : HeadBefore (u ++ more) text ended) → (w : List ℕ) → h.0 ≡ u ++ w → Viable set_file u
-  head-viable u more text ended h w is = record {
-    more = w ++ sample;
-    v = record { lines = ended; script = Some parts };
-    whole = file-of_script (u ++ (w ++ sample)) sample ended parts
-        (h.0, sym (append_assoc u w sample) ∙ ap (λ x. x ++ sample) (sym is), h.2) spelled;
-  }
+  head-viable u more text ended h w is = viable-by (w ++ sample)
+      (record { lines = ended; script = Some parts }) (file-of_script (u ++ (w ++ sample)) sample
+      ended parts
+      (h.0, sym (append_assoc u w sample) ∙ ap (λ x. x ++ sample) (sym is), h.2) spelled)

@@ -14,6 +14,7 @@ use Rattle.ra_text.specs.Table.{is_in, only}
 use Rattle.ra_text.proofs.Begins.{Firsts, firsts-or, firsts-wider, firsts-begins}
 use Rattle.ra_text.proofs.Steps.{BeginsAs, reads-more, reads-none, reads-spell, reads-step, same-ok, viable-whole}
 use Rattle.ra_text.proofs.Tables.{In, in_within}
+use Rattle.ra_text.proofs.Spelled.{then-spelled, none-spelled, viable-by}
 
 -- ---- the front of a file, as rows
 
@@ -62,11 +63,11 @@ Changed {A} {V} {W} form change text w = (v : V) × form text v × (w ≡ change
 viable-changed : {A V W : Type 0} (form : Form A V) (change : V → W) (text : List A)
     → Viable form text → Viable (Changed form change) text
 viable-changed form change text viable =
-    record { more = viable.more; v = change viable.v; whole = (viable.v, viable.whole, refl) }
+    viable-by viable.more (change viable.v) (viable.v, viable.whole, refl)
 
 unchanged : {A V W : Type 0} (form : Form A V) (change : V → W) (text : List A)
     → Viable (Changed form change) text → Viable form text
-unchanged form change text viable = record { more = viable.more; v = viable.whole.0; whole = viable.whole.1 }
+unchanged form change text viable = viable-by viable.more viable.whole.0 viable.whole.1
 
 reads-changed : {A V W : Type 0} (form : Form A V) (change : V → W) (text : List A)
     (outcome : Outcome A V) → Reads form text outcome
@@ -123,7 +124,7 @@ feed-byte byte rest Letter h = absurd h
 feed-byte byte rest (Opens behind) h = cc h
 
 feeds : Viable Feed []
-feeds = record { more = codes "\n"; v = Opens []; whole = refl }
+feeds = viable-by (codes "\n") (Opens []) refl
 
 reads-feed : (text : List ℕ) → Reads Feed text (feed_at text)
 reads-feed [] = reads-none Feed [] feeds (λ byte rest e viable. absurd (cc e)) feed-empty
@@ -247,7 +248,14 @@ row-front t v h = elim h.of_next [
       (sym (h.parts ∙ ap (λ x. h.front ++ x) nothing ∙ append-nil h.front)) (sym is)
       (row-line h.front h.v.0 (subst (λ b. row h.front (h.v.0, b)) wants h.of_first))
   | goes_on rest is others of_others same ↦ subst (λ w. file_front t w) (sym same)
-      (record { wants = h.v.1; front = h.front; behind = rest; parts = h.parts ∙ ap (λ x. h.front ++ x) is; of_row = h.of_first; of_others = of_others })
+      (record {
+        wants = h.v.1;
+        front = h.front;
+        behind = rest;
+        parts = h.parts ∙ ap (λ x. h.front ++ x) is;
+        of_row = h.of_first;
+        of_others = of_others;
+      })
 ]
 
 -- no text that begins as this one begins with the letter "P"
@@ -257,22 +265,22 @@ no-letter text t behind other alike is = let same = alike 80 behind is in other 
 front-row : (text : List ℕ) → ((s : List ℕ) → text ≡ 80 ∷ s → ⊥)
     → (t : List ℕ) (v : List Line × Tail) → BeginsAs text t → file_front t v → Then row Behind t v
 front-row text other t ([], Ends l) alike h =
-    record { front = t; behind = []; v = (l, false); parts = sym (append-nil t); of_first = line-row t l h; of_next = ends refl refl refl }
+    then-spelled t [] (l, false) (sym (append-nil t)) (line-row t l h) (ends refl refl refl)
 front-row text other t ([], Letter) alike h = absurd (no-letter text t [] other alike h)
 front-row text other t ([], Opens behind) alike (inl h) = absurd (no-letter text t (10 ∷ behind) other alike h)
 front-row text other t ([], Opens behind) alike (inr h) = absurd (no-letter text t (13 ∷ 10 ∷ behind) other alike h)
-front-row text other t (l ∷ ended, tail) alike h =
-    record { front = h.front; behind = 10 ∷ h.behind; v = (l, h.wants); parts = h.parts; of_first = h.of_row; of_next = goes_on h.behind refl (ended, tail) h.of_others refl }
+front-row text other t (l ∷ ended, tail) alike h = then-spelled h.front (10 ∷ h.behind)
+    (l, h.wants) h.parts h.of_row (goes_on h.behind refl (ended, tail) h.of_others refl)
 
 -- an empty line
 pub empty-line : line [] None
-empty-line = inr (inr (inr (record { empty = refl; is = refl })))
+empty-line = inr (inr (inr none-spelled))
 
 -- a row behind which no LF stands
 reads-last : (l : Line) (wants : Bool) (text : List ℕ) → ((s : List ℕ) → text ≡ 10 ∷ s → ⊥)
     → Reads (Behind (l, wants)) text (last_at l wants text)
 reads-last l true text other = reads-none (Behind (l, true)) text
-    (record { more = codes "\n"; v = (l ∷ [], Ends None); whole = goes_on [] refl ([], Ends None) empty-line refl })
+    (viable-by (codes "\n") (l ∷ [], Ends None) (goes_on [] refl ([], Ends None) empty-line refl))
     (λ symbol rest is viable. elim viable.whole [
       | ends nothing wants same ↦ absurd (cc nothing)
       | goes_on more begun others of_others same ↦ let byte : symbol ≡ 10 = cc begun in

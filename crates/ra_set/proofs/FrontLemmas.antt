@@ -10,6 +10,7 @@ use Rattle.ra_set.proofs.FileReaders.{Front, TailOf, file_front, reads-front}
 use Rattle.ra_set.proofs.RowLines.{ended-row, row-ended, one-is, end-text, lf, crlf}
 use Rattle.ra_text.specs.Place.{OneSpelling}
 use Rattle.ra_text.proofs.Places.{spelled-once}
+use Rattle.ra_text.proofs.Spelled.{then-spelled, none-spelled, one-spelled}
 
 -- ---- lines with their ends, and how they end
 
@@ -44,7 +45,13 @@ front-ended tail (l ∷ ended) text h =
       parts = h.parts ∙ sym (append_assoc h.front (codes "\n") h.behind) ∙ ap (λ x. (h.front ++
           codes "\n") ++ x) p.parts ∙ sym (append_assoc (h.front ++ codes "\n") p.front p.behind);
       of_ended =
-          record { front = h.front ++ codes "\n"; behind = p.front; parts = refl; of_first = row-ended h.front l h.wants h.of_row; of_next = p.of_ended };
+          record {
+            front = h.front ++ codes "\n";
+            behind = p.front;
+            parts = refl;
+            of_first = row-ended h.front l h.wants h.of_row;
+            of_next = p.of_ended;
+          };
       of_tail = p.of_tail;
     }
 
@@ -55,33 +62,25 @@ pub lines-front : (text : List ℕ) (lines : List Line) → set_lines text lines
 lines-front text lines h =
     let last = h.of_next in
     let parts : h.front ++ last.front ≡ text = sym (h.parts ∙ ap (λ x. h.front ++ x) (last.parts
-    ∙ ap (λ x. last.front ++ x) last.of_next.empty ∙ append-nil last.front)) in
-    (h.v, last.v, subst (Front h.v (Ends last.v)) parts (ended-front (Ends last.v) h.v h.front h.of_first last.front last.of_first), last.of_next.is)
+    ∙ ap (λ x. last.front ++ x) last.of_next.empty ∙ append-nil last.front)) in (
+      h.v,
+      last.v,
+      subst (Front h.v (Ends last.v)) parts (ended-front (Ends last.v) h.v h.front h.of_first last.front last.of_first),
+      last.of_next.is,
+    )
 
 pub front-lines : (text : List ℕ) (ended : List Line) (last : Line) → Front ended (Ends last) text
     → set_lines text (ended ++ last ∷ [])
-front-lines text ended last h = let p = front-ended (Ends last) ended text h in record {
-  front = p.front;
-  behind = p.behind;
-  v = ended;
-  parts = p.parts;
-  of_first = p.of_ended;
-  of_next =
-      record { front = p.behind; behind = []; v = last; parts = sym (append-nil p.behind); of_first = p.of_tail; of_next = record { empty = refl; is = refl } };
-}
+front-lines text ended last h = let p = front-ended (Ends last) ended text h in
+    then-spelled p.front p.behind ended p.parts p.of_ended
+    (then-spelled p.behind [] last (sym (append-nil p.behind)) p.of_tail none-spelled)
 
 -- ---- files with a line "P"
 
 pub front-letter : (text : List ℕ) (ended : List Line) → Front ended Letter text → last_head text ended
-front-letter text ended h = let p = front-ended Letter ended text h in record {
-  front = p.front;
-  behind = p.behind;
-  v = ended;
-  parts = p.parts;
-  of_first = p.of_ended;
-  of_next = record
-      { front = p.behind; behind = []; v = tt; parts = sym (append-nil p.behind); of_first = record { symbol = 80; alone = p.of_tail; listed = refl }; of_next = record { empty = refl; is = refl } };
-}
+front-letter text ended h = let p = front-ended Letter ended text h in
+    then-spelled p.front p.behind ended p.parts p.of_ended (then-spelled p.behind [] tt (sym
+    (append-nil p.behind)) (record { symbol = 80; alone = p.of_tail; listed = refl }) none-spelled)
 
 -- lines with their ends before the letter "P"
 record BeforeLetter (text : List ℕ) (ended : List Line) : Type 0 where
@@ -123,23 +122,9 @@ head-front text behind ended h =
 -- a line "P" with its end
 with-letter : (before e : List ℕ) (ended : List Line) → many ended_line before ended → line_end e tt
     → script_head ((before ++ codes "P") ++ e) ended
-with-letter before e ended h end = record {
-  front = before ++ codes "P";
-  behind = e;
-  v = ended;
-  parts = refl;
-  of_first = record {
-    front = before;
-    behind = codes "P";
-    v = ended;
-    parts = refl;
-    of_first = h;
-    of_next =
-        record { front = codes "P"; behind = []; v = tt; parts = refl; of_first = record { symbol = 80; alone = refl; listed = refl }; of_next = record { empty = refl; is = refl } };
-  };
-  of_next =
-      record { front = e; behind = []; v = tt; parts = sym (append-nil e); of_first = end; of_next = record { empty = refl; is = refl } };
-}
+with-letter before e ended h end = then-spelled (before ++ codes "P") e ended refl
+    (then-spelled before (codes "P") ended refl h (then-spelled (codes "P") [] tt refl (one-spelled
+    80 refl) none-spelled)) (then-spelled e [] tt (sym (append-nil e)) end none-spelled)
 
 -- the letter of a last line, with an end
 pub letter-ended : (text : List ℕ) (ended : List Line) → Front ended Letter text
@@ -182,7 +167,11 @@ pub script-front : (file front text : List ℕ) → (h : HasScript file front te
 script-front file front text h = elim h.opens [
   | inl head ↦ inl (subst (Front h.lines (Opens text)) (sym h.parts) (head-front front text h.lines head))
   | inr last ↦
-      inr (last.0, subst (Front h.lines Letter) (sym (h.parts ∙ ap (λ x. front ++ x) last.0 ∙ append-nil front)) (letter-front front h.lines last.1))
+      inr (
+        last.0,
+        subst (Front h.lines Letter) (sym (h.parts ∙ ap (λ x. front ++ x) last.0
+            ∙ append-nil front)) (letter-front front h.lines last.1),
+      )
 ]
 
 -- how the lines of a file end that is a set file
@@ -207,7 +196,12 @@ front-of_file file contents (inl h) =
       ended = h.v;
       tail = Opens h.behind;
       spelled = subst (Front h.v (Opens h.behind)) (sym h.parts) (head-front h.front h.behind h.v h.of_first);
-      tells = (ap (λ c. c.lines) s.of_next.is, s.v, subst (λ t. script_parts t s.v) text s.of_first, ap (λ c. c.script) s.of_next.is);
+      tells = (
+        ap (λ c. c.lines) s.of_next.is,
+        s.v,
+        subst (λ t. script_parts t s.v) text s.of_first,
+        ap (λ c. c.script) s.of_next.is,
+      );
     }
 front-of_file file contents (inr h) =
     let text : h.front ≡ file = sym (h.parts ∙ ap (λ x. h.front ++ x) h.of_next.empty ∙ append-nil h.front) in
@@ -221,19 +215,11 @@ front-of_file file contents (inr h) =
 -- a file without a script
 pub file-of_lines : (file : List ℕ) (lines : List Line) → set_lines file lines
     → set_file file (record { lines = lines; script = None })
-file-of_lines file lines h = inr (record
-    { front = file; behind = []; v = lines; parts = sym (append-nil file); of_first = h; of_next = record { empty = refl; is = refl } })
+file-of_lines file lines h = inr (then-spelled file [] lines (sym (append-nil file)) h none-spelled)
 
 -- a file with a script
 pub file-of_script : (file text : List ℕ) (ended : List Line) (parts : ScriptParts)
     → HeadBefore file text ended → script_parts text parts
     → set_file file (record { lines = ended; script = Some parts })
-file-of_script file text ended parts h spelled = inl (record {
-  front = h.0;
-  behind = text;
-  v = ended;
-  parts = h.1;
-  of_first = h.2;
-  of_next =
-      record { front = text; behind = []; v = parts; parts = sym (append-nil text); of_first = spelled; of_next = record { empty = refl; is = refl } };
-})
+file-of_script file text ended parts h spelled = inl (then-spelled h.0 text ended h.1 h.2
+    (then-spelled text [] parts (sym (append-nil text)) spelled none-spelled))

@@ -16,6 +16,7 @@ use Rattle.ra_text.proofs.Chains.{reader-chain}
 use Rattle.ra_text.proofs.Either.{reader-map}
 use Rattle.ra_text.proofs.Readers.{Reader, reader-spell, reader-one, reader-then, reader-same, reader-at}
 use Rattle.ra_text.proofs.Tables.{In, keys_of, listed_in, value-passes, passes}
+use Rattle.ra_text.proofs.Spelled.{then-spelled, none-spelled, one-spelled, viable-by, link-spelled}
 
 -- ---- the digits behind the first, as a chain whose state is the number so far
 
@@ -110,16 +111,8 @@ digits-numbers s (c ∷ t) n h fits zero =
     let more = digits-grow (s * 10 + h.0) t n h.2 in
     let next = digits-numbers (s * 10 + h.0) t n h.2 fits (λ p. absurd (omega (arith, some))) in (
       (s * 10 + h.0) ∷ next.0,
-      record {
-        symbol = c;
-        tag = s * 10 + h.0;
-        front = [];
-        behind = t;
-        parts = refl;
-        separated = digit-with s c h.0 h.1 (is-not-past s h.0 (omega (arith, some)) (omega arith));
-        of_item = record { empty = refl; is = refl };
-        of_others = next.1;
-      },
+      link-spelled c (s * 10 + h.0) [] t refl (digit-with s c h.0 h.1
+          (is-not-past s h.0 (omega (arith, some)) (omega arith))) none-spelled next.1,
       next.2,
     )
 
@@ -167,14 +160,9 @@ id-exact t n h =
     let text : t ≡ h.of_first.symbol ∷ behind.front =
     h.parts ∙ ap (λ x. x ++ h.behind) h.of_first.alone ∙ ap (λ x. h.of_first.symbol ∷ x) rest in
     record {
-      number = record {
-        front = h.of_first.symbol ∷ [];
-        behind = behind.front;
-        v = h.v;
-        parts = text;
-        of_first = record { symbol = h.of_first.symbol; alone = refl; listed = h.of_first.listed };
-        of_next = subst (λ m. Digits (lookup digits) 10 h.v behind.front m) (sym behind.of_next.is) all.0;
-      };
+      number = then-spelled (h.of_first.symbol ∷ []) behind.front h.v text
+          (one-spelled h.of_first.symbol h.of_first.listed)
+          (subst (λ m. Digits (lookup digits) 10 h.v behind.front m) (sym behind.of_next.is) all.0);
       exact = λ longer. subst (λ x. begins (is_in (only (codes "0"))) x ≡ false) (sym text)
           (not-zero h.of_first.symbol h.v h.of_first.listed (λ zero. let none = all.2 zero in
           omega (arith, ap length text, ap length none)));
@@ -194,15 +182,9 @@ exact-id t n h =
     let all = digits-numbers number.v number.behind n number.of_next h.fits
     (λ zero. alone t number.of_first.symbol number.behind text h.exact
     (digit-zero number.of_first.symbol number.v number.of_first.listed zero)) in
-    record {
-      front = number.of_first.symbol ∷ [];
-      behind = number.behind;
-      v = number.v;
-      parts = text;
-      of_first = record { symbol = number.of_first.symbol; alone = refl; listed = number.of_first.listed };
-      of_next =
-          record { front = number.behind; behind = []; v = all.0; parts = sym (append-nil number.behind); of_first = all.1; of_next = record { empty = refl; is = sym all.2 } };
-    } where
+    then-spelled (number.of_first.symbol ∷ []) number.behind number.v text
+    (one-spelled number.of_first.symbol number.of_first.listed) (then-spelled number.behind [] all.0
+    (sym (append-nil number.behind)) all.1 (record { empty = refl; is = sym all.2 })) where
       alone : (t : List ℕ) (c : ℕ) (s : List ℕ) → t ≡ c ∷ s → (1 < length t → begins
           (is_in (only (codes "0"))) t ≡ false) → is_in (only (codes "0")) c ≡ true → s ≡ []
       alone t c [] text exact zero = refl
@@ -242,7 +224,7 @@ reader-behind_first d = reader-at (behind_first d) (λ text. chain_at with_digit
     (In (keys_of digits)) (λ c. ⊥)
     (λ s n. reader-spell n (λ c. ⊥)) (λ s c h on. on) (λ c on. absurd on) (λ s c h. let w =
     with-digit s c h.0 h.1 in
-    listed_in digits c (w.0, w.1)) (λ s. record { more = []; v = []; whole = (refl, refl) }) d))
+    listed_in digits c (w.0, w.1)) (λ s. viable-by [] [] (refl, refl)) d))
 
 -- an id, before whatever is no digit
 pub reader-id : Reader ExactId id_at (In (keys_of digits))

@@ -198,7 +198,12 @@ passes-told items script (Limit Conditions found) passes =
 passes-told items script (Limit Macros found) passes =
     rw (le-leb (length items) 16384 passes.0, le-leb (all_conditions items script) 65536 passes.1, passes.2) refl
 passes-told items script (Limit Lookup found) passes =
-    rw (le-leb (length items) 16384 passes.0, le-leb (all_conditions items script) 65536 passes.1, passes.2, passes.3) refl
+    rw (
+      le-leb (length items) 16384 passes.0,
+      le-leb (all_conditions items script) 65536 passes.1,
+      passes.2,
+      passes.3,
+    ) refl
 passes-told items script (Limit Bytes found) passes = absurd passes
 passes-told items script (Syntax at) passes = absurd passes
 passes-told items script (DuplicateId id line) passes = absurd passes

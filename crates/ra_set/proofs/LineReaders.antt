@@ -28,6 +28,7 @@ use Rattle.ra_text.proofs.Readers.{Reader, reader-spell, reader-one, reader-then
 use Rattle.ra_text.proofs.Steps.{viable-front, viable-whole}
 use Rattle.ra_text.proofs.Tables.{In, keys_of, listed_in, each-in, in_within, in_apart, is_in-in, not_in-in}
 use Rattle.ra_text.proofs.Tables.{begins-byte}
+use Rattle.ra_text.proofs.Spelled.{then-spelled, none-spelled, one-spelled, viable-by}
 
 -- no byte but an LF
 abbrev pub NotEnd : ℕ → Type 0
@@ -144,58 +145,34 @@ reader-leaderboard = reader-then (head 76) (λ id. Then format_name (behind_form
 viable-behind : {A V W : Type 0} (a : Form A V) (b : V → Form A W) (front : List A) (v : V)
     → a front v → Viable (b v) [] → Viable (Then a b) front
 viable-behind a b front v h viable =
-    record { more = viable.more; v = viable.v; whole = record { front = front; behind = viable.more; v = v; parts = refl; of_first = h; of_next = viable.whole } }
+    viable-by viable.more viable.v (then-spelled front viable.more v refl h viable.whole)
 
 -- what begins some text of a form, whatever is made of its value
 viable-map : {A V W : Type 0} (a : Form A V) (f : V → W) (front : List A) → Viable a front
     → Viable (Then a (λ v. Spell (f v))) front
-viable-map a f front viable = record {
-  more = viable.more;
-  v = f viable.v;
-  whole = record
-      { front = front ++ viable.more; behind = []; v = viable.v; parts = sym (append-nil (front ++ viable.more)); of_first = viable.whole; of_next = record { empty = refl; is = refl } };
-}
+viable-map a f front viable = viable-by viable.more (f viable.v) (then-spelled (front
+    ++ viable.more) [] viable.v (sym (append-nil (front ++ viable.more))) viable.whole none-spelled)
 
 -- a letter before the id 0
 head-spelled : (letter : ℕ) → only (letter ∷ []) letter ≡ Some tt → head letter (letter ∷ codes " 0 ") 0
-head-spelled letter listed = record {
-  front = letter ∷ [];
-  behind = codes " 0 ";
-  v = tt;
-  parts = refl;
-  of_first = record { symbol = letter; alone = refl; listed = listed };
-  of_next = record {
-    front = codes " ";
-    behind = codes "0 ";
-    v = tt;
-    parts = refl;
-    of_first = one-space;
-    of_next = record {
-      front = codes "0";
-      behind = codes " ";
-      v = 0;
-      parts = refl;
-      of_first = zero-id;
-      of_next =
-          record { front = codes " "; behind = []; v = tt; parts = refl; of_first = one-space; of_next = record { empty = refl; is = refl } };
-    };
-  };
-} where
-  one-space : One (only (codes " ")) (codes " ") tt
-  one-space = record { symbol = 32; alone = refl; listed = refl }
+head-spelled letter listed = then-spelled (letter ∷ []) (codes " 0 ") tt refl
+    (one-spelled letter listed) (then-spelled (codes " ") (codes "0 ") tt refl one-space
+    (then-spelled (codes "0") (codes " ") 0 refl zero-id
+    (then-spelled (codes " ") [] tt refl one-space none-spelled))) where
+      one-space : One (only (codes " ")) (codes " ") tt
+      one-space = one-spelled 32 refl
 
-  zero-id : ExactId (codes "0") 0
-  zero-id = record {
-    number = record
-        { front = codes "0"; behind = []; v = 0; parts = refl; of_first = record { symbol = 48; alone = refl; listed = refl }; of_next = refl };
-    exact = λ longer. absurd (omega arith);
-    fits = lit< tt;
-  }
+      zero-id : ExactId (codes "0") 0
+      zero-id = record {
+        number = then-spelled (codes "0") [] 0 refl (one-spelled 48 refl) refl;
+        exact = λ longer. absurd (omega arith);
+        fits = lit< tt;
+      }
 
 -- an empty text begins some text of a form that is read
 pub viable-nothing : {A V : Type 0} {form : Form A V} {outcome : Outcome A V} → Reads form [] outcome → Viable form []
 viable-nothing {A} {V} {form} {outcome} r =
-    record { more = r.front ++ r.viable.more; v = r.viable.v; whole = r.viable.whole }
+    viable-by (r.front ++ r.viable.more) r.viable.v r.viable.whole
 
 opens-achievement : (c : ℕ) → is_in (only (codes "A")) c ≡ true → Viable achievement (c ∷ [])
 opens-achievement c is = subst (λ x. Viable achievement (x ∷ [])) (sym (only-byte 65 c is))
@@ -213,19 +190,12 @@ opens-leaderboard c is = subst (λ x. Viable leaderboard (x ∷ [])) (sym (only-
     (viable-front [] (codes " ")
     (viable-behind (One (only (codes " "))) (λ space. Then board (λ b. Spell (Some
     (Ranks 0 (format_of_name (codes "A")) b)))) (codes " ") tt
-    (record { symbol = 32; alone = refl; listed = refl })
+    (one-spelled 32 refl)
     (viable-map board (λ b. Some (Ranks 0 (format_of_name (codes "A")) b)) []
     (viable-nothing (reads-board []))))))))) where
       named : format_name (codes "A") (format_of_name (codes "A"))
-      named = record {
-        front = codes "A";
-        behind = [];
-        v = 65;
-        parts = refl;
-        of_first = record { symbol = 65; alone = refl; listed = refl };
-        of_next =
-            record { front = []; behind = []; v = []; parts = refl; of_first = (refl, refl); of_next = record { empty = refl; is = refl } };
-      }
+      named = then-spelled (codes "A") [] 65 refl (one-spelled 65 refl)
+          (then-spelled [] [] [] refl (refl, refl) none-spelled)
 
 -- what goes on with a line that is no comment
 abbrev pub item_rest : List ℕ
@@ -350,22 +320,9 @@ firsts-item_row = firsts-then item_line (λ l. Then (optional (lookup returns) f
 
 opens-comment : (c : ℕ) → is_in (only (codes "#")) c ≡ true → Viable comment_row (c ∷ [])
 opens-comment c is = subst (λ x. Viable comment_row (x ∷ [])) (sym (only-byte 35 c is))
-    (viable-whole (codes "#") (None, false) (record {
-      front = codes "#";
-      behind = [];
-      v = None;
-      parts = refl;
-      of_first = record {
-        front = codes "#";
-        behind = [];
-        v = tt;
-        parts = refl;
-        of_first = record { symbol = 35; alone = refl; listed = refl };
-        of_next =
-            record { front = []; behind = []; v = []; parts = refl; of_first = (refl, refl); of_next = record { empty = refl; is = refl } };
-      };
-      of_next = record { empty = refl; is = refl };
-    }))
+    (viable-whole (codes "#") (None, false) (then-spelled (codes "#") [] None refl
+    (then-spelled (codes "#") [] tt refl (one-spelled 35 refl)
+    (then-spelled [] [] [] refl (refl, refl) none-spelled)) none-spelled))
 
 pub reader-row : Reader row row_at NotEnd
 unfolding row_at
@@ -378,20 +335,11 @@ reader-row = reader-or_else comment_row item_row comment_row_at item_row_at
 
 -- a CR at the end of a comment is one of its bytes
 pub comment-returned : (t : List ℕ) (l : Line) → comment t l → comment (t ++ codes "\r") l
-comment-returned t l h = let behind = h.of_next in record {
-  front = h.front;
-  behind = h.behind ++ codes "\r";
-  v = h.v;
-  parts = ap (λ x. x ++ codes "\r") h.parts ∙ append_assoc h.front h.behind (codes "\r");
-  of_first = h.of_first;
-  of_next = record {
-    front = behind.front ++ codes "\r";
-    behind = [];
-    v = behind.v ++ 13 ∷ [];
-    parts = ap (λ x. x ++ codes "\r") (behind.parts ∙ ap (λ x. behind.front ++ x)
-        behind.of_next.empty ∙ append-nil behind.front)
-        ∙ sym (append-nil (behind.front ++ codes "\r"));
-    of_first = run-more in_line 13 13 refl behind.front behind.v behind.of_first;
-    of_next = record { empty = refl; is = behind.of_next.is };
-  };
-}
+comment-returned t l h = let behind = h.of_next in
+    then-spelled h.front (h.behind ++ codes "\r") h.v (ap (λ x. x ++ codes "\r") h.parts
+    ∙ append_assoc h.front h.behind (codes "\r")) h.of_first
+    (then-spelled (behind.front ++ codes "\r") [] (behind.v ++ 13 ∷ [])
+    (ap (λ x. x ++ codes "\r") (behind.parts ∙ ap (λ x. behind.front ++ x) behind.of_next.empty
+    ∙ append-nil behind.front) ∙ sym (append-nil (behind.front ++ codes "\r")))
+    (run-more in_line 13 13 refl behind.front behind.v behind.of_first)
+    (record { empty = refl; is = behind.of_next.is }))

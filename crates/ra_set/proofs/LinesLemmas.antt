@@ -180,8 +180,11 @@ module _ (old kept : KeptLines) (before behind text : List ℕ) (line : Option I
   pub lines-end : (new : List ℕ) → end_at wants behind ≡ Ok (tt, new) → ((lines : List Line)
       → Keeps old lines → Keeps kept (lines ++ option_map item_contents line ∷ []))
       → (lines : List Line) × (lines_in (front_at text) ≡ Ok ((lines, false), new)) × Keeps kept lines
-  lines-end new end keeps =
-      (l.so_far ++ option_map item_contents line ∷ [], ap lines_in front-ends ∙ last-told l.so_far (option_map item_contents line) wants behind new end, keeps l.so_far l.keeps)
+  lines-end new end keeps = (
+    l.so_far ++ option_map item_contents line ∷ [],
+    ap lines_in front-ends ∙ last-told l.so_far (option_map item_contents line) wants behind new end,
+    keeps l.so_far l.keeps,
+  )
 
   -- or does not end
   pub lines-stop : (new : List ℕ) → end_at wants behind ≡ Err new → lines_in (front_at text) ≡ Err new

@@ -23,6 +23,7 @@ use Rattle.ra_text.specs.Place.{IsBadPlace}
 use Rattle.ra_text.specs.Reading.{rest_of}
 use Rattle.ra_text.proofs.Places.{read-place}
 use Rattle.ra_text.proofs.Steps.{reads-shorter, viable-same}
+use Rattle.ra_text.proofs.Spelled.{viable-by}
 
 -- ---- fronts of set files
 
@@ -35,22 +36,28 @@ lines-viable : (file u rest : List ℕ) → file ≡ u ++ rest → ((front text 
     → HasScript file front text → ⊥) → Viable file_front u → Viable set_file u
 lines-viable file u rest begun none viable = cases viable.v.0 viable.v.1 viable.whole where
   cases : (ended : List Line) (tail : Tail) → Front ended tail (u ++ viable.more) → Viable set_file u
-  cases ended (Ends last) h = record
-      { more = viable.more; v = record { lines = ended ++ last ∷ []; script = None }; whole = file-of_lines (u ++ viable.more) (ended ++ last ∷ []) (front-lines (u ++ viable.more) ended last h) }
-  cases ended Letter h = record {
-    more = viable.more ++ (codes "\n" ++ some-script.text);
-    v = record { lines = ended; script = Some some-script.whole.parts };
-    whole = file-of_script (u ++ (viable.more ++ (codes "\n" ++ some-script.text))) some-script.text
-        ended some-script.whole.parts
-        ((u ++ viable.more) ++ codes "\n", sym (append_assoc u viable.more (codes "\n" ++ some-script.text)) ∙ sym (append_assoc (u ++ viable.more) (codes "\n") some-script.text), letter-ended (u ++ viable.more) ended h)
-        some-script.whole.spelled;
-  }
+  cases ended (Ends last) h = viable-by viable.more
+      (record { lines = ended ++ last ∷ []; script = None }) (file-of_lines (u ++ viable.more)
+      (ended ++ last ∷ []) (front-lines (u ++ viable.more) ended last h))
+  cases ended Letter h = viable-by (viable.more ++ (codes "\n" ++ some-script.text))
+      (record { lines = ended; script = Some some-script.whole.parts })
+      (file-of_script (u ++ (viable.more ++ (codes "\n" ++ some-script.text))) some-script.text
+      ended some-script.whole.parts (
+        (u ++ viable.more) ++ codes "\n",
+        sym (append_assoc u viable.more (codes "\n" ++ some-script.text))
+            ∙ sym (append_assoc (u ++ viable.more) (codes "\n") some-script.text),
+        letter-ended (u ++ viable.more) ended h,
+      ) some-script.whole.spelled)
   cases ended (Opens text) h = let b = front-head (u ++ viable.more) text ended h in
       elim (fronts-along u viable.more b.0 text b.1) [
         | inl w ↦ head-viable some-script.text some-script.whole.parts some-script.whole.spelled u
             viable.more text ended b w.0 w.1
         | inr w ↦ absurd (none b.0 (w.0 ++ rest)
-            (record { parts = begun ∙ ap (λ x. x ++ rest) w.1 ∙ append_assoc b.0 w.0 rest; lines = ended; opens = inl b.2 }))
+            (record {
+              parts = begun ∙ ap (λ x. x ++ rest) w.1 ∙ append_assoc b.0 w.0 rest;
+              lines = ended;
+              opens = inl b.2;
+            }))
       ]
 
 file-viable : (u : List ℕ) → Viable set_file u → Viable file_front u
@@ -131,7 +138,13 @@ take-along (x ∷ xs) (suc n) (suc m) le = let w = take-along xs n m (omega arit
 
 front-before : (lines : List (List ℕ)) (n m : ℕ) → n ≤ m → IsFront (take m lines) → IsFront (take n lines)
 front-before lines n m le h = let w = take-along lines n m le in
-    record { text = h.text; v = h.v; whole = h.whole; more = w.0 ++ h.more; begins = h.begins ∙ ap (λ t. t ++ h.more) w.1 ∙ append_assoc (take n lines) w.0 h.more }
+    record {
+      text = h.text;
+      v = h.v;
+      whole = h.whole;
+      more = w.0 ++ h.more;
+      begins = h.begins ∙ ap (λ t. t ++ h.more) w.1 ∙ append_assoc (take n lines) w.0 h.more;
+    }
 
 -- no line before the first bad one is bad
 not-before : (text : List ℕ) (n m : ℕ) → (a : IsFirstBad text n) (b : IsFirstBad text m) → a.index < b.index → ⊥
@@ -180,7 +193,14 @@ one-file_place file n m a b = elim a.place [
     | inl y ↦
         let same = script-once file x.front x.text y.front y.text x.begun y.begun in
         let fronts : length x.front ≡ length y.front =
-        omega (arith, ap length x.begun.parts, ap length y.begun.parts, length-append x.front x.text, length-append y.front y.text, ap length same) in
+        omega (
+          arith,
+          ap length x.begun.parts,
+          ap length y.begun.parts,
+          length-append x.front x.text,
+          length-append y.front y.text,
+          ap length same,
+        ) in
         let places : x.place ≡ y.place = one-first_bad y.text x.place y.place
         (subst (λ t. IsFirstBad t x.place) same x.first_bad) y.first_bad in
         omega (arith, x.is, y.is)

@@ -31,7 +31,14 @@ cut-at file text lines b = elim b.spelled [
   | inl f ↦ let h = front-head file text lines f in
       record { front = h.0; begun = record { parts = h.1; lines = lines; opens = inl h.2 } }
   | inr f ↦
-      record { front = file; begun = record { parts = sym (append-nil file) ∙ ap (λ t. file ++ t) (sym f.0); lines = lines; opens = inr (f.0, front-letter file lines f.1) } }
+      record {
+        front = file;
+        begun = record {
+          parts = sym (append-nil file) ∙ ap (λ t. file ++ t) (sym f.0);
+          lines = lines;
+          opens = inr (f.0, front-letter file lines f.1);
+        };
+      }
 ]
 
 -- the lines that were taken of a file, and what is left: its script, where it has one
@@ -53,8 +60,10 @@ module _ (file start : List ℕ) (starts : start ≡ drop 0 file) where
   pub took-lines : (has_script : Bool) (rest : List ℕ) (lines : List Line) → lines_in
       (front_at start) ≡ Ok ((lines, has_script), rest) → TookLines has_script file rest lines
   took-lines true rest lines e = lines-before file (front_at file) (reads-front file) lines rest (sym from-start ∙ e)
-  took-lines false rest lines e =
-      (lines-all file (front_at file) (reads-front file) lines rest (sym from-start ∙ e), nothing-left (front_at file) lines rest (sym from-start ∙ e))
+  took-lines false rest lines e = (
+    lines-all file (front_at file) (reads-front file) lines rest (sym from-start ∙ e),
+    nothing-left (front_at file) lines rest (sym from-start ∙ e),
+  )
 
   -- lines that stop are a refusal at their place
   pub stops-fit : (rest : List ℕ) → lines_in (front_at start) ≡ Err rest → length rest ≤ length file
@@ -78,13 +87,23 @@ contains : (has_script : Bool) (file rest : List ℕ) (lines : List Line) (read 
     → Contains file lines read
 contains true file rest lines (Some read) h r = elim h.spelled [
   | inl f ↦
-      record { contents = record { lines = lines; script = Some r.parts }; spelled = file-of_script file rest lines r.parts (front-head file rest lines f) r.spelled; same = refl; script = r.is }
+      record {
+        contents = record { lines = lines; script = Some r.parts };
+        spelled = file-of_script file rest lines r.parts (front-head file rest lines f) r.spelled;
+        same = refl;
+        script = r.is;
+      }
   | inr f ↦ absurd (no-empty_script r.parts (subst (λ t. script_parts t r.parts) f.0 r.spelled))
 ]
 contains true file rest lines None h r = absurd r
 contains false file rest lines (Some read) h r = absurd r
 contains false file rest lines None h r =
-    record { contents = record { lines = lines; script = None }; spelled = file-of_lines file lines h.0; same = refl; script = tt }
+    record {
+      contents = record { lines = lines; script = None };
+      spelled = file-of_lines file lines h.0;
+      same = refl;
+      script = tt;
+    }
 
 module _ (file rest : List ℕ) (size : length file ≤ 4194304) (has_script : Bool) (lines : List Line)
     (took : TookLines has_script file rest lines) where
@@ -95,7 +114,10 @@ module _ (file rest : List ℕ) (size : length file ≤ 4194304) (has_script : B
   file-read read r kept = let c = contains has_script file rest lines read.script took r in record {
     contents = c.contents;
     distinct =
-        record { has = record { size = size; spelled = c.spelled }; ids = subst (λ ls. IsDistinct repeats (items_of ls)) (sym c.same) kept.1 };
+        record {
+          has = record { size = size; spelled = c.spelled };
+          ids = subst (λ ls. IsDistinct repeats (items_of ls)) (sym c.same) kept.1;
+        };
     items = kept.0 ∙ ap items_of (sym c.same);
     script = c.script;
   }

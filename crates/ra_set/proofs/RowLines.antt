@@ -6,34 +6,20 @@ use Rattle.ra_set.proofs.LineReaders.{row, item_line, returns, comment-returned}
 use Rattle.ra_text.specs.Form.{One}
 use Rattle.ra_text.specs.Table.{lookup, only, marks}
 use Rattle.ra_text.proofs.Tables.{listed_in, each-in, each-listed}
+use Rattle.ra_text.proofs.Spelled.{then-spelled, none-spelled, one-spelled}
 
 -- a comment is a row that wants no LF
 comment-row : (t : List ℕ) (l : Line) → comment t l → row t (l, false)
-comment-row t l h = inl (record
-    { front = t; behind = []; v = l; parts = sym (append-nil t); of_first = h; of_next = record { empty = refl; is = refl } })
+comment-row t l h = inl (then-spelled t [] l (sym (append-nil t)) h none-spelled)
 
 -- a line that is no comment, without a CR and with one
 item-row : (t : List ℕ) (l : Line) → item_line t l → row t (l, false)
-item-row t l h = inr (record {
-  front = t;
-  behind = [];
-  v = l;
-  parts = sym (append-nil t);
-  of_first = h;
-  of_next =
-      record { front = []; behind = []; v = false; parts = refl; of_first = inr (record { empty = refl; is = refl }); of_next = record { empty = refl; is = refl } };
-})
+item-row t l h = inr (then-spelled t [] l (sym (append-nil t)) h
+    (then-spelled [] [] false refl (inr none-spelled) none-spelled))
 
 item-returned : (t : List ℕ) (l : Line) → item_line t l → row (t ++ codes "\r") (l, true)
-item-returned t l h = inr (record {
-  front = t;
-  behind = codes "\r";
-  v = l;
-  parts = refl;
-  of_first = h;
-  of_next =
-      record { front = codes "\r"; behind = []; v = true; parts = refl; of_first = inl (record { symbol = 13; alone = refl; listed = refl }); of_next = record { empty = refl; is = refl } };
-})
+item-returned t l h = inr (then-spelled t (codes "\r") l refl h
+    (then-spelled (codes "\r") [] true refl (inl (one-spelled 13 refl)) none-spelled))
 
 -- a line is a row that wants no LF
 pub line-row : (t : List ℕ) (l : Line) → line t l → row t (l, false)
@@ -54,12 +40,11 @@ end-text e v h = elim h.of_first [
 ]
 
 pub lf : line_end (codes "\n") tt
-lf = record
-    { front = []; behind = codes "\n"; v = tt; parts = refl; of_first = inr (record { empty = refl; is = refl }); of_next = record { symbol = 10; alone = refl; listed = refl } }
+lf = then-spelled [] (codes "\n") tt refl (inr none-spelled) (one-spelled 10 refl)
 
 pub crlf : line_end (codes "\r\n") tt
-crlf = record
-    { front = codes "\r"; behind = codes "\n"; v = tt; parts = refl; of_first = inl (record { symbol = 13; alone = refl; listed = refl }); of_next = record { symbol = 10; alone = refl; listed = refl } }
+crlf = then-spelled (codes "\r") (codes "\n") tt refl (inl (one-spelled 13 refl))
+    (one-spelled 10 refl)
 
 -- a row before an LF
 abbrev RowAndEnd : List ℕ → Line → Type 0
@@ -67,8 +52,12 @@ RowAndEnd t l = (wants : Bool) × (r : List ℕ) × row r (l, wants) × (t ≡ r
 
 ended-by : (t e : List ℕ) (l : Line) → line t l → (e ≡ codes "\n") ⊎ (e ≡ codes "\r\n") → RowAndEnd (t ++ e) l
 ended-by t e l h (inl is) = (false, t, line-row t l h, ap (λ x. t ++ x) is)
-ended-by t e l (inl h) (inr is) =
-    (false, t ++ codes "\r", comment-row (t ++ codes "\r") l (comment-returned t l h), ap (λ x. t ++ x) is ∙ sym (append_assoc t (codes "\r") (codes "\n")))
+ended-by t e l (inl h) (inr is) = (
+  false,
+  t ++ codes "\r",
+  comment-row (t ++ codes "\r") l (comment-returned t l h),
+  ap (λ x. t ++ x) is ∙ sym (append_assoc t (codes "\r") (codes "\n")),
+)
 ended-by t e l (inr h) (inr is) =
     (true, t ++ codes "\r", item-returned t l h, ap (λ x. t ++ x) is ∙ sym (append_assoc t (codes "\r") (codes "\n")))
 
@@ -82,15 +71,8 @@ ended-row t l h =
     (end-text h.of_next.front h.of_next.v h.of_next.of_first))
 
 with-end : (t e : List ℕ) (l : Line) → line t l → line_end e tt → ended_line (t ++ e) l
-with-end t e l h end = record {
-  front = t;
-  behind = e;
-  v = l;
-  parts = refl;
-  of_first = h;
-  of_next =
-      record { front = e; behind = []; v = tt; parts = sym (append-nil e); of_first = end; of_next = record { empty = refl; is = refl } };
-}
+with-end t e l h end =
+    then-spelled t e l refl h (then-spelled e [] tt (sym (append-nil e)) end none-spelled)
 
 -- a CR wants an LF
 returned-wants : (t : List ℕ) (wants : Bool) → One (lookup returns) t wants → (t ≡ codes "\r") × (wants ≡ true)
@@ -116,7 +98,11 @@ cut t l wants (inr h) =
       | inl one ↦ let r = returned-wants h.of_next.front h.of_next.v one in inr
           (h.front, here, ap (λ p. p.1) same ∙ r.1, h.parts ∙ ap (λ x. h.front ++ x) (behind ∙ r.0))
       | inr none ↦
-          inl (subst (λ x. line x l) (sym (h.parts ∙ ap (λ x. h.front ++ x) (behind ∙ none.empty) ∙ append-nil h.front)) here, ap (λ p. p.1) same ∙ none.is)
+          inl (
+            subst (λ x. line x l) (sym (h.parts ∙ ap (λ x. h.front ++ x) (behind ∙ none.empty)
+                ∙ append-nil h.front)) here,
+            ap (λ p. p.1) same ∙ none.is,
+          )
     ]
 
 -- a row that wants no LF is a line

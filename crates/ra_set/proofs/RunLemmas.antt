@@ -13,6 +13,7 @@ use Rattle.ra_text.proofs.Chains.{reader-chain}
 use Rattle.ra_text.proofs.Loops.{Looping, loop-next, loop-ends}
 use Rattle.ra_text.proofs.Readers.{Reader, reader-spell}
 use Rattle.ra_text.proofs.Steps.{same-ok}
+use Rattle.ra_text.proofs.Spelled.{none-spelled, viable-by, link-spelled}
 
 module _ {A V : Type 0} (table : A → Option V) where
   -- as many symbols as stand there
@@ -20,31 +21,16 @@ module _ {A V : Type 0} (table : A → Option V) where
   reader-run = reader-chain {S = Unit {0}} (λ s. table) (λ s v. Spell v) (λ s v rest. Ok (v, rest))
       (λ s v. s) (λ s. true) (IsListed table) (λ c. ⊥)
       (λ s v. reader-spell v (λ c. ⊥)) (λ s c h on. on) (λ c on. absurd on) (λ s c h. h)
-      (λ s. record { more = []; v = []; whole = (refl, refl) }) tt
+      (λ s. viable-by [] [] (refl, refl)) tt
 
   -- one symbol more
   pub run-more : (c : A) (v : V) → table c ≡ Some v → (t : List A) (vs : List V) → run_of table t vs
       → run_of table (t ++ c ∷ []) (vs ++ v ∷ [])
-  run-more c v listed t [] h = record {
-    symbol = c;
-    tag = v;
-    front = [];
-    behind = [];
-    parts = ap (λ x. x ++ c ∷ []) h.0;
-    separated = listed;
-    of_item = record { empty = refl; is = refl };
-    of_others = (refl, refl);
-  }
-  run-more c v listed t (w ∷ vs) h = record {
-    symbol = h.symbol;
-    tag = h.tag;
-    front = h.front;
-    behind = h.behind ++ c ∷ [];
-    parts = ap (λ x. x ++ c ∷ []) h.parts ∙ ap (λ x. h.symbol ∷ x) (append_assoc h.front h.behind (c ∷ []));
-    separated = h.separated;
-    of_item = h.of_item;
-    of_others = run-more c v listed h.behind vs h.of_others;
-  }
+  run-more c v listed t [] h =
+      link-spelled c v [] [] (ap (λ x. x ++ c ∷ []) h.0) listed none-spelled (refl, refl)
+  run-more c v listed t (w ∷ vs) h = link-spelled h.symbol h.tag h.front (h.behind ++ c ∷ [])
+      (ap (λ x. x ++ c ∷ []) h.parts ∙ ap (λ x. h.symbol ∷ x) (append_assoc h.front h.behind
+      (c ∷ []))) h.separated h.of_item (run-more c v listed h.behind vs h.of_others)
 
   -- the symbols so far, and what is left, of a text
   abbrev pub RunSoFar : List V → List A → List A → Type 0

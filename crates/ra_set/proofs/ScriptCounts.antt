@@ -67,9 +67,19 @@ before-sum text (Shows name value ∷ found) =
 joined-sum : (found : List PieceContents) → sum_by piece_conditions (joined_texts found) ≡ sum_by piece_conditions found
 joined-sum [] = refl
 joined-sum (Bytes text ∷ found) =
-    omega (arith, before-sum text (joined_texts found), joined-sum found, sum_by-cons piece_conditions (Bytes text) found)
+    omega (
+      arith,
+      before-sum text (joined_texts found),
+      joined-sum found,
+      sum_by-cons piece_conditions (Bytes text) found,
+    )
 joined-sum (Shows name value ∷ found) =
-    omega (arith, joined-sum found, sum_by-cons piece_conditions (Shows name value) found, sum_by-cons piece_conditions (Shows name value) (joined_texts found))
+    omega (
+      arith,
+      joined-sum found,
+      sum_by-cons piece_conditions (Shows name value) found,
+      sum_by-cons piece_conditions (Shows name value) (joined_texts found),
+    )
 
 -- the lone backslash at the end, if there is one, has no conditions
 last-sum : (t : List ℕ) (last : List PieceContents) → optional (lookup
@@ -107,18 +117,43 @@ test-count : (t : List ℕ) (v : TriggerContents) → test t v → optional_trig
 test-count t v h =
     let found = h.of_next in
     let count = trigger-count found.front found.v found.of_first in
-    omega (arith, count, ap (λ w. optional_trigger (Some w)) found.of_next.of_next.is, ap length h.parts, length-append h.front h.behind, ap length found.parts, length-append found.front found.behind)
+    omega (
+      arith,
+      count,
+      ap (λ w. optional_trigger (Some w)) found.of_next.of_next.is,
+      ap length h.parts,
+      length-append h.front h.behind,
+      ap length found.parts,
+      length-append found.front found.behind,
+    )
 
 tested-count : (t : List ℕ) (v : LineContents) → tested_line t v → line_conditions v ≤ length t
 tested-count t v h =
     let found = test-count h.front h.v h.of_first in
     let shown = pieces-count h.of_next.front h.of_next.v h.of_next.of_first in
-    omega (arith, found, shown, pieces_sum h.of_next.v, ap line_conditions h.of_next.of_next.is, ap length h.parts, length-append h.front h.behind, ap length h.of_next.parts, length-append h.of_next.front h.of_next.behind)
+    omega (
+      arith,
+      found,
+      shown,
+      pieces_sum h.of_next.v,
+      ap line_conditions h.of_next.of_next.is,
+      ap length h.parts,
+      length-append h.front h.behind,
+      ap length h.of_next.parts,
+      length-append h.of_next.front h.of_next.behind,
+    )
 
 untested-count : (t : List ℕ) (v : LineContents) → untested_line t v → line_conditions v ≤ length t
 untested-count t v h =
     let shown = pieces-count h.front h.v h.of_first in
-    omega (arith, shown, pieces_sum h.v, ap line_conditions h.of_next.is, ap length h.parts, length-append h.front h.behind)
+    omega (
+      arith,
+      shown,
+      pieces_sum h.v,
+      ap line_conditions h.of_next.is,
+      ap length h.parts,
+      length-append h.front h.behind,
+    )
 
 -- ---- the script
 
@@ -162,7 +197,15 @@ lines-count : (t : List (List ℕ)) (parts : ScriptParts) → script_lines t par
 lines-count t parts h =
     let shown = h.of_next in
     let count = display-count shown.front shown.v shown.of_first in
-    omega (arith, count, ap (λ p. sum_by line_conditions p.lines) shown.of_next.of_next.is, ap bytes_in h.parts, bytes-join h.front h.behind, ap bytes_in shown.parts, bytes-join shown.front shown.behind)
+    omega (
+      arith,
+      count,
+      ap (λ p. sum_by line_conditions p.lines) shown.of_next.of_next.is,
+      ap bytes_in h.parts,
+      bytes-join h.front h.behind,
+      ap bytes_in shown.parts,
+      bytes-join shown.front shown.behind,
+    )
 
 -- the conditions of a script are no more than the bytes of its text
 pub script-count : (text : List ℕ) (parts : ScriptParts) → script_parts text parts

@@ -41,7 +41,15 @@ display-some t lines h =
     ap length tested.of_next.of_next.is ∙ length-append tested.v (tested.of_next.v ∷ []) in
     let bytes : bytes_in t ≡ bytes_in h.front
     + (bytes_in tested.front + (bytes_in tested.of_next.front + bytes_in tested.of_next.behind)) =
-    omega (arith, ap bytes_in h.parts, bytes-join h.front h.behind, ap bytes_in tested.parts, bytes-join tested.front tested.behind, ap bytes_in tested.of_next.parts, bytes-join tested.of_next.front tested.of_next.behind) in
+    omega (
+      arith,
+      ap bytes_in h.parts,
+      bytes-join h.front h.behind,
+      ap bytes_in tested.parts,
+      bytes-join tested.front tested.behind,
+      ap bytes_in tested.of_next.parts,
+      bytes-join tested.of_next.front tested.of_next.behind,
+    ) in
     (omega (arith, head, others, last, count, bytes), omega (arith, head, bytes))
 
 parts-some : (t : List (List ℕ)) (parts : ScriptParts) → script_lines t parts
@@ -51,7 +59,13 @@ parts-some t parts h =
     let some = display-some shown.front shown.v shown.of_first in
     let lines : length parts.lines ≡ length shown.v = ap (λ p. length p.lines) shown.of_next.of_next.is in
     let bytes : bytes_in t ≡ bytes_in h.front + (bytes_in shown.front + bytes_in shown.behind) =
-    omega (arith, ap bytes_in h.parts, bytes-join h.front h.behind, ap bytes_in shown.parts, bytes-join shown.front shown.behind) in
+    omega (
+      arith,
+      ap bytes_in h.parts,
+      bytes-join h.front h.behind,
+      ap bytes_in shown.parts,
+      bytes-join shown.front shown.behind,
+    ) in
     (omega (arith, some.0, lines, bytes), omega (arith, some.1, bytes))
 
 -- a script has no more lines than its text has bytes

@@ -34,6 +34,7 @@ use Rattle.ra_text.specs.Table.{lookup, is_in, only}
 use Rattle.ra_text.proofs.Items.{changed, one-byte}
 use Rattle.ra_text.proofs.Numerals.{numeral-spelled}
 use Rattle.ra_text.proofs.Tables.{all_pass}
+use Rattle.ra_text.proofs.Spelled.{then-spelled, none-spelled, one-spelled, link-spelled}
 
 -- ---- ids
 
@@ -53,7 +54,11 @@ exact-decimal (suc n) small longer = not-zero (decimal (suc n)) (first_decimal (
 pub id-spelled : (n : ℕ) → n < 2 ^ 32 → ExactId (decimal n) n
 id-spelled n small =
     let d = decimal_is_IsNumeral n (omega arith) in
-    record { number = subst (λ m. numeral (lookup digits) 10 (decimal n) m) d.1 (numeral-spelled Ten (decimal n) d.0); exact = exact-decimal n small; fits = small }
+    record {
+      number = subst (λ m. numeral (lookup digits) 10 (decimal n) m) d.1 (numeral-spelled Ten (decimal n) d.0);
+      exact = exact-decimal n small;
+      fits = small;
+    }
 
 -- a letter, a space, an id and a space
 abbrev pub head_text : ℕ → ℕ → List ℕ
@@ -62,29 +67,11 @@ head_text letter id = letter ∷ (32 ∷ (decimal id ++ codes " "))
 -- a letter and the decimal digits of an id spell the head of a line
 pub head-spelled : (letter id : ℕ) → only (letter ∷ []) letter ≡ Some tt → id < 2 ^ 32
     → head letter (head_text letter id) id
-head-spelled letter id listed small = record {
-  front = letter ∷ [];
-  behind = 32 ∷ (decimal id ++ codes " ");
-  v = tt;
-  parts = refl;
-  of_first = one-byte letter listed;
-  of_next = record {
-    front = codes " ";
-    behind = decimal id ++ codes " ";
-    v = tt;
-    parts = refl;
-    of_first = one-byte 32 refl;
-    of_next = record {
-      front = decimal id;
-      behind = codes " ";
-      v = id;
-      parts = refl;
-      of_first = id-spelled id small;
-      of_next =
-          record { front = codes " "; behind = []; v = tt; parts = refl; of_first = one-byte 32 refl; of_next = record { empty = refl; is = refl } };
-    };
-  };
-}
+head-spelled letter id listed small = then-spelled (letter ∷ [])
+    (32 ∷ (decimal id ++ codes " ")) tt refl (one-byte letter listed)
+    (then-spelled (codes " ") (decimal id ++ codes " ") tt refl (one-byte 32 refl)
+    (then-spelled (decimal id) (codes " ") id refl (id-spelled id small)
+    (then-spelled (codes " ") [] tt refl (one-byte 32 refl) none-spelled)))
 
 -- ---- names of formats
 
@@ -106,7 +93,7 @@ run-spelled [] all = (refl, refl)
 run-spelled (c ∷ bytes) all =
     let e = both-true (not (is_in (only (codes " \n")) c))
     (all_pass (λ c. not (is_in (only (codes " \n")) c)) bytes) all in
-    record { symbol = c; tag = c; front = []; behind = bytes; parts = refl; separated = in-name c e.0; of_item = record { empty = refl; is = refl }; of_others = run-spelled bytes e.1 }
+    link-spelled c c [] bytes refl (in-name c e.0) none-spelled (run-spelled bytes e.1)
 
 -- a name that spells a format
 abbrev pub NameOf : Format → Type 0
@@ -118,15 +105,8 @@ pub named : (c : ℕ) (others : List ℕ) (format : Format) → in_name c ≡ So
     ≡ format_of_name (c ∷ others) → NameOf format
 named c others format first all is = (
   c ∷ others,
-  record {
-    front = c ∷ [];
-    behind = others;
-    v = c;
-    parts = refl;
-    of_first = record { symbol = c; alone = refl; listed = first };
-    of_next =
-        record { front = others; behind = []; v = others; parts = sym (append-nil others); of_first = run-spelled others all; of_next = record { empty = refl; is = is } };
-  },
+  then-spelled (c ∷ []) others c refl (one-spelled c first) (then-spelled others [] others
+      (sym (append-nil others)) (run-spelled others all) (record { empty = refl; is = is })),
 )
 
 -- each format that a name has has a name
@@ -166,47 +146,21 @@ name-of (Float n) h = float n h.0 h.1 where
 pub item-line : (x : ItemContents) → IsItem x → HasSmallId x → (text : List ℕ) × line text (Some x)
 item-line (Unlocks id t) h small = (
   head_text 65 id ++ trigger_text t,
-  inr (inl (record
-      { front = head_text 65 id; behind = trigger_text t; v = id; parts = refl; of_first = head-spelled 65 id refl small; of_next = changed trigger (λ t. Some (Unlocks id t)) (trigger_text t) t (trigger-spelled t h) })),
+  inr (inl (then-spelled (head_text 65 id) (trigger_text t) id refl (head-spelled 65 id refl small)
+      (changed trigger (λ t. Some (Unlocks id t)) (trigger_text t) t (trigger-spelled t h)))),
 )
 item-line (Ranks id format b) h small = let name = name-of format h.1 in (
   head_text 76 id ++ (name.0 ++ 32 ∷ board_text b),
-  inr (inr (inl (record {
-    front = head_text 76 id;
-    behind = name.0 ++ 32 ∷ board_text b;
-    v = id;
-    parts = refl;
-    of_first = head-spelled 76 id refl small;
-    of_next = record {
-      front = name.0;
-      behind = 32 ∷ board_text b;
-      v = format;
-      parts = refl;
-      of_first = name.1;
-      of_next =
-          record { front = codes " "; behind = board_text b; v = tt; parts = refl; of_first = one-byte 32 refl; of_next = changed board (λ b. Some (Ranks id format b)) (board_text b) b (board-spelled b h.0) };
-    };
-  }))),
+  inr (inr (inl (then-spelled (head_text 76 id) (name.0 ++ 32 ∷ board_text b) id refl
+      (head-spelled 76 id refl small) (then-spelled name.0 (32 ∷ board_text b) format refl name.1
+      (then-spelled (codes " ") (board_text b) tt refl (one-byte 32 refl)
+      (changed board (λ b. Some (Ranks id format b)) (board_text b) b (board-spelled b h.0))))))),
 )
 
 -- a line with its end
 pub with-end : (t : List ℕ) (l : Line) → line t l → ended_line (t ++ codes "\n") l
-with-end t l h = record {
-  front = t;
-  behind = codes "\n";
-  v = l;
-  parts = refl;
-  of_first = h;
-  of_next = record {
-    front = codes "\n";
-    behind = [];
-    v = tt;
-    parts = refl;
-    of_first =
-        record { front = []; behind = codes "\n"; v = tt; parts = refl; of_first = inr (record { empty = refl; is = refl }); of_next = one-byte 10 refl };
-    of_next = record { empty = refl; is = refl };
-  };
-}
+with-end t l h = then-spelled t (codes "\n") l refl h (then-spelled (codes "\n") [] tt refl
+    (then-spelled [] (codes "\n") tt refl (inr none-spelled) (one-byte 10 refl)) none-spelled)
 
 -- lines for items, each with its end
 item-lines : (items : List ItemContents) → AllByRecursion IsItem items
@@ -214,8 +168,16 @@ item-lines : (items : List ItemContents) → AllByRecursion IsItem items
 item-lines [] each small = ([], refl)
 item-lines (x ∷ items) each small =
     let first = item-line x each.0 small.0 in
-    let others = item-lines items each.1 small.1 in
-    ((first.0 ++ codes "\n") ++ others.0, record { front = first.0 ++ codes "\n"; behind = others.0; parts = refl; of_first = with-end first.0 (Some x) first.1; of_next = others.1 })
+    let others = item-lines items each.1 small.1 in (
+      (first.0 ++ codes "\n") ++ others.0,
+      record {
+        front = first.0 ++ codes "\n";
+        behind = others.0;
+        parts = refl;
+        of_first = with-end first.0 (Some x) first.1;
+        of_next = others.1;
+      },
+    )
 
 all-items : (items : List ItemContents) → items_of (map Some items ++ None ∷ []) ≡ items
 all-items [] = refl
@@ -230,15 +192,9 @@ set-spelled set script h small =
       lines.0,
       record {
         contents = record { lines = map Some set.items ++ None ∷ []; script = None };
-        spelled = file-of_lines lines.0 (map Some set.items ++ None ∷ []) (record {
-          front = lines.0;
-          behind = [];
-          v = map Some set.items;
-          parts = sym (append-nil lines.0);
-          of_first = lines.1;
-          of_next =
-              record { front = []; behind = []; v = None; parts = refl; of_first = empty-line; of_next = record { empty = refl; is = refl } };
-        });
+        spelled = file-of_lines lines.0 (map Some set.items ++ None ∷ [])
+            (then-spelled lines.0 [] (map Some set.items) (sym (append-nil lines.0)) lines.1
+            (then-spelled [] [] None refl empty-line none-spelled));
         items = sym (all-items set.items);
         script = script;
       },
@@ -280,7 +236,10 @@ pub spelled-set : (set : SetContents) → set.script ≡ None → (file : List �
 spelled-set set script h =
     let f = h.1 in
     let l = lines-of_file h.0 f.contents f.spelled in (
-      record { items = subst (All IsItem) (sym f.items) (contents-items h.0 f.contents f.spelled); script = subst OptionalScript (sym script) tt },
+      record {
+        items = subst (All IsItem) (sym f.items) (contents-items h.0 f.contents f.spelled);
+        script = subst OptionalScript (sym script) tt;
+      },
       subst (All HasSmallId) (sym f.items) (All-from_recursion HasSmallId
           (items_of f.contents.lines) (subst EachSmall (sym l.items)
           (ended-small l.ended l.front l.of_ended l.behind l.last l.of_last))),

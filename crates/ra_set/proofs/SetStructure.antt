@@ -1,41 +1,17 @@
 -- The items that lines spell have their structure.
-use Rattle.std.proofs.Common.{ℕ, if◌then◌else◌, Bool, true, false, List, [], ◌∷◌, ◌++◌, Some, option_to_list, sym}
-use Rattle.std.proofs.Common.{subst, lit≤, inl, inr}
-use Rattle.std.specs.Prelude.{All, bytes_eq}
+use Rattle.std.proofs.Common.{ℕ, List, [], ◌∷◌, ◌++◌, option_to_list, sym, subst, inl, inr}
+use Rattle.std.specs.Prelude.{All}
 use Rattle.std.specs.List.{AllByRecursion}
 use Rattle.std.proofs.lemmas.List.Elements.{All-from_recursion}
 use Rattle.ra_condition.proofs.Structure.{trigger-structure}
 use Rattle.ra_leaderboard.proofs.BoardStructure.{board-structure}
-use Rattle.ra_value_format.specs.declared.format.Format.{Format}
-use Rattle.ra_value_format.specs.Formats.{HasDigits, format_names, entry_of, named_format, format_of_name}
+use Rattle.ra_value_format.specs.Formats.{HasDigits}
+use Rattle.ra_value_format.proofs.FormatDigits.{format-digits}
 use Rattle.ra_set.specs.Contents.{ItemContents}
 use Rattle.ra_set.specs.Grammar.{Line, line, ended_line, FileContents, set_file, items_of}
 use Rattle.ra_set.specs.Runs.{many}
 use Rattle.ra_set.specs.Spelled.{IsItem}
 use Rattle.ra_set.proofs.ContentsLemmas.{lines-of_file}
-
--- ---- formats of names
-
--- each format of a table has digits that a name can give
-abbrev EachFormat : List (List ℕ × Format) → Type 0
-EachFormat [] = Unit {0}
-EachFormat (entry ∷ entries) = HasDigits entry.1 × EachFormat entries
-
-entry-digits : (name : List ℕ) (entries : List (List ℕ × Format)) → EachFormat entries
-    → HasDigits (named_format (entry_of name entries))
-entry-digits name [] each = tt
-entry-digits name (entry ∷ entries) each = cases (bytes_eq entry.0 name) (entry-digits name entries each.1) where
-  cases : (same : Bool) → HasDigits (named_format (entry_of name entries))
-      → HasDigits (named_format (if same then Some entry.1 else entry_of name entries))
-  cases true next = each.0
-  cases false next = next
-
-each-format : EachFormat format_names
-each-format =
-    (tt, (tt, (tt, (tt, (tt, (tt, (tt, (tt, (tt, (tt, (tt, (tt, (tt, (tt, ((lit≤ tt, lit≤ tt), ((lit≤ tt, lit≤ tt), ((lit≤ tt, lit≤ tt), ((lit≤ tt, lit≤ tt), ((lit≤ tt, lit≤ tt), ((lit≤ tt, lit≤ tt), ((lit≤ tt, lit≤ tt), ((lit≤ tt, lit≤ tt), ((lit≤ tt, lit≤ tt), tt)))))))))))))))))))))))
-
-pub format-digits : (name : List ℕ) → HasDigits (format_of_name name)
-format-digits name = entry-digits name format_names each-format
 
 -- ---- lines
 
@@ -49,8 +25,13 @@ line-items t l (inr (inl h)) = subst (λ x. EachItem (option_to_list x)) (sym h.
     (trigger-structure h.of_next.front h.of_next.v h.of_next.of_first, tt)
 line-items t l (inr (inr (inl h))) = let b = h.of_next.of_next.of_next in
     let name = h.of_next.of_first in
-    subst (λ x. EachItem (option_to_list x)) (sym b.of_next.is)
-    ((board-structure b.front b.v b.of_first, subst HasDigits (sym name.of_next.of_next.is) (format-digits (name.v ∷ name.of_next.v))), tt)
+    subst (λ x. EachItem (option_to_list x)) (sym b.of_next.is) (
+      (
+        board-structure b.front b.v b.of_first,
+        subst HasDigits (sym name.of_next.of_next.is) (format-digits (name.v ∷ name.of_next.v)),
+      ),
+      tt,
+    )
 line-items t l (inr (inr (inr h))) = subst (λ x. EachItem (option_to_list x)) (sym h.is) tt
 
 both-items : (xs ys : List ItemContents) → EachItem xs → EachItem ys → EachItem (xs ++ ys)

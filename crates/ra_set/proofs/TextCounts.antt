@@ -59,7 +59,14 @@ module _ {T V : Type 0} (separator : ℕ → Option T) (item : Form ℕ V) where
       let first = some-byte item u begins h.front h.v h.of_first in
       let others = chain-length {S = Unit {0}} (λ s. separator) (λ s tag. item) (λ s v. s)
       (λ s. true) tt h.of_next.front h.of_next.v h.of_next.of_first in
-      omega (arith, ap length h.parts, length-append h.front h.behind, ap length h.of_next.parts, length-append h.of_next.front h.of_next.behind, ap length h.of_next.of_next.is)
+      omega (
+        arith,
+        ap length h.parts,
+        length-append h.front h.behind,
+        ap length h.of_next.parts,
+        length-append h.of_next.front h.of_next.behind,
+        ap length h.of_next.of_next.is,
+      )
 
   joined-sum : (size : V → ℕ) → ((t : List ℕ) (v : V) → item t v → size v ≤ length t)
       → (t : List ℕ) (vs : List V) → joined separator item t vs → sum_by size vs ≤ length t
@@ -67,7 +74,15 @@ module _ {T V : Type 0} (separator : ℕ → Option T) (item : Form ℕ V) where
       let first = small h.front h.v h.of_first in
       let others = chain-sum {S = Unit {0}} (λ s. separator) (λ s tag. item) (λ s v. s)
       (λ s. true) size (λ s tag. small) tt h.of_next.front h.of_next.v h.of_next.of_first in
-      omega (arith, ap length h.parts, length-append h.front h.behind, ap length h.of_next.parts, length-append h.of_next.front h.of_next.behind, ap (sum_by size) h.of_next.of_next.is, sum_by-cons size h.v h.of_next.v)
+      omega (
+        arith,
+        ap length h.parts,
+        length-append h.front h.behind,
+        ap length h.of_next.parts,
+        length-append h.of_next.front h.of_next.behind,
+        ap (sum_by size) h.of_next.of_next.is,
+        sum_by-cons size h.v h.of_next.v,
+      )
 
 -- ---- triggers and values
 
@@ -90,7 +105,14 @@ conditions-count t cs h =
     let others = chain-length (λ so_far. only (codes "_")) (λ so_far tag. condition InValue)
     measured_by (λ so_far. so_far)
     (is_measured h.v.flag) h.of_next.front h.of_next.v h.of_next.of_first in
-    omega (arith, ap length h.parts, length-append h.front h.behind, ap length h.of_next.parts, length-append h.of_next.front h.of_next.behind, ap length h.of_next.of_next.is)
+    omega (
+      arith,
+      ap length h.parts,
+      length-append h.front h.behind,
+      ap length h.of_next.parts,
+      length-append h.of_next.front h.of_next.behind,
+      ap length h.of_next.of_next.is,
+    )
 
 part-count : (t : List ℕ) (p : PartContents) → part t p → part_conditions p ≤ length t
 part-count t p (inl h) = let all = conditions-count h.front h.v h.of_first in omega
@@ -127,7 +149,13 @@ held-count Progress t f h = let c = value-count h.front h.v h.of_first in omega
 field-count : (t : List ℕ) (f : FieldContents) → field t f → field_conditions f ≤ length t
 field-count t f h =
     let c = held-count h.v h.of_next.behind f h.of_next.of_next in
-    omega (arith, ap length h.parts, length-append h.front h.behind, ap length h.of_next.parts, length-append h.of_next.front h.of_next.behind)
+    omega (
+      arith,
+      ap length h.parts,
+      length-append h.front h.behind,
+      ap length h.of_next.parts,
+      length-append h.of_next.front h.of_next.behind,
+    )
 
 next-count : (t : List ℕ) (f : FieldContents) → next_field t f → field_conditions f ≤ length t
 next-count t f h = let c = field-count h.behind f h.of_next in
@@ -140,15 +168,40 @@ by-tags : (fs : List FieldContents) → sum_by field_conditions fs
     + sum_by value_conditions (filter_map value_in fs) + sum_by value_conditions (filter_map progress_in fs)
 by-tags [] = refl
 by-tags (OfStart t ∷ fs) =
-    omega (arith, sum_by-cons field_conditions (OfStart t) fs, sum_by-cons trigger_hits t (filter_map start_in fs), by-tags fs)
+    omega (
+      arith,
+      sum_by-cons field_conditions (OfStart t) fs,
+      sum_by-cons trigger_hits t (filter_map start_in fs),
+      by-tags fs,
+    )
 by-tags (OfCancel t ∷ fs) =
-    omega (arith, sum_by-cons field_conditions (OfCancel t) fs, sum_by-cons trigger_hits t (filter_map cancel_in fs), by-tags fs)
+    omega (
+      arith,
+      sum_by-cons field_conditions (OfCancel t) fs,
+      sum_by-cons trigger_hits t (filter_map cancel_in fs),
+      by-tags fs,
+    )
 by-tags (OfSubmit t ∷ fs) =
-    omega (arith, sum_by-cons field_conditions (OfSubmit t) fs, sum_by-cons trigger_hits t (filter_map submit_in fs), by-tags fs)
+    omega (
+      arith,
+      sum_by-cons field_conditions (OfSubmit t) fs,
+      sum_by-cons trigger_hits t (filter_map submit_in fs),
+      by-tags fs,
+    )
 by-tags (OfValue v ∷ fs) =
-    omega (arith, sum_by-cons field_conditions (OfValue v) fs, sum_by-cons value_conditions v (filter_map value_in fs), by-tags fs)
+    omega (
+      arith,
+      sum_by-cons field_conditions (OfValue v) fs,
+      sum_by-cons value_conditions v (filter_map value_in fs),
+      by-tags fs,
+    )
 by-tags (OfProgress v ∷ fs) =
-    omega (arith, sum_by-cons field_conditions (OfProgress v) fs, sum_by-cons value_conditions v (filter_map progress_in fs), by-tags fs)
+    omega (
+      arith,
+      sum_by-cons field_conditions (OfProgress v) fs,
+      sum_by-cons value_conditions v (filter_map progress_in fs),
+      by-tags fs,
+    )
 
 optional-sum : (o : Option (List PartContents)) → sum_by value_conditions (at_most_one o) ≡ optional_value o
 optional-sum None = refl
@@ -199,7 +252,15 @@ line-count : (t : List ℕ) (l : Line) → line t l → line_count l ≤ length 
 line-count t l (inl h) = omega (arith, ap line_count h.of_next.of_next.is)
 line-count t l (inr (inl h)) =
     let c = trigger-count h.of_next.front h.of_next.v h.of_next.of_first in
-    omega (arith, ap line_count h.of_next.of_next.is, sum_by-cons item_conditions (Unlocks h.v h.of_next.v) [], ap length h.parts, length-append h.front h.behind, ap length h.of_next.parts, length-append h.of_next.front h.of_next.behind)
+    omega (
+      arith,
+      ap line_count h.of_next.of_next.is,
+      sum_by-cons item_conditions (Unlocks h.v h.of_next.v) [],
+      ap length h.parts,
+      length-append h.front h.behind,
+      ap length h.of_next.parts,
+      length-append h.of_next.front h.of_next.behind,
+    )
 line-count t l (inr (inr (inl h))) =
     let b = h.of_next.of_next.of_next in
     let c = board-count b.front b.v b.of_first in
@@ -230,4 +291,12 @@ ended-count [] t none u last h = let c = line-count u last h in omega (arith, li
 ended-count (l ∷ ended) t h u last hl =
     let c = line-count h.of_first.front h.of_first.v h.of_first.of_first in
     let more = ended-count ended h.behind h.of_next u last hl in
-    omega (arith, lines-sum l (ended ++ last ∷ []), ap line_count h.of_first.of_next.of_next.is, ap length h.parts, length-append h.front h.behind, ap length h.of_first.parts, length-append h.of_first.front h.of_first.behind)
+    omega (
+      arith,
+      lines-sum l (ended ++ last ∷ []),
+      ap line_count h.of_first.of_next.of_next.is,
+      ap length h.parts,
+      length-append h.front h.behind,
+      ap length h.of_first.parts,
+      length-append h.of_first.front h.of_first.behind,
+    )

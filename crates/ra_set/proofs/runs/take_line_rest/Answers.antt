@@ -9,8 +9,11 @@ pub bytes-init : goal.bytes-init
 bytes-init c = ([], run-starts (any_but (codes "\n")) c.args.cursor.now.rest.now)
 
 pub bytes-preserved : goal.bytes-preserved
-bytes-preserved c = let p = c.bytes-test.ensures.passed refl in let i = c.bytes.invariant in
-    (i.0 ++ p.v ∷ [], run-next (any_but (codes "\n")) i.0 p.byte p.v _ c.args.cursor.now.rest.now p.listed (subst (λ t. RunSoFar (any_but (codes "\n")) i.0 t c.args.cursor.now.rest.now) p.is i.1))
+bytes-preserved c = let p = c.bytes-test.ensures.passed refl in let i = c.bytes.invariant in (
+  i.0 ++ p.v ∷ [],
+  run-next (any_but (codes "\n")) i.0 p.byte p.v _ c.args.cursor.now.rest.now p.listed
+      (subst (λ t. RunSoFar (any_but (codes "\n")) i.0 t c.args.cursor.now.rest.now) p.is i.1),
+)
 
 pub returns : goal.returns
 returns c = let i = c.bytes.invariant in
