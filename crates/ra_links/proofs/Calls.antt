@@ -178,7 +178,12 @@ module _ (firsts holders befores afters : List ℕ) (shape : IsLinked firsts hol
         let there : In (slice_index befores node)
         (row_at (rows_of firsts afters) (slice_index holders node)) =
         before_in firsts holders befores afters shape node below apart (λ z. some (e ∙ z)) in
-        omega (arith, e, row_below_at firsts holders befores afters shape (slice_index holders node) (slice_index befores node) (shape.listed node below apart) there)
+        omega (
+          arith,
+          e,
+          row_below_at firsts holders befores afters shape (slice_index holders node)
+              (slice_index befores node) (shape.listed node below apart) there,
+        )
 
     pub after_below : (node list after : ℕ) → node < now.nodes → list ≡ get_or holders node list
         → list ≢ none → after ≡ get_or afters node after → after ≢ none → after < length afters
@@ -190,7 +195,12 @@ module _ (firsts holders befores afters : List ℕ) (shape : IsLinked firsts hol
         let there : In (slice_index afters node) (row_at (rows_of firsts afters)
         (slice_index holders node)) =
         after_in firsts holders befores afters shape node below apart (λ z. some (e ∙ z)) in
-        omega (arith, e, row_below_at firsts holders befores afters shape (slice_index holders node) (slice_index afters node) (shape.listed node below apart) there)
+        omega (
+          arith,
+          e,
+          row_below_at firsts holders befores afters shape (slice_index holders node)
+              (slice_index afters node) (shape.listed node below apart) there,
+        )
 
     pub list_below : (node list : ℕ) → node < now.nodes → list ≡ get_or holders node list → list
         ≢ none → list < length firsts

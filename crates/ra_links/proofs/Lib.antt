@@ -10,3 +10,4 @@ pub mod Entries
 pub mod Cuts
 pub mod Filling
 pub mod Listed
+pub mod Moved

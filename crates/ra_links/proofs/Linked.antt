@@ -76,8 +76,13 @@ pub row_same : (f g : Nodes) (list before node : ℕ) (row : List ℕ) → lengt
     → IsRow g list before node row
 row_same f g list before node [] long same linked = linked
 row_same f g list before node (y ∷ ys) long same linked =
-    let here : SameNode f g y = same y (inl refl) in
-    (linked.0, omega (arith, linked.1), here.holder ∙ linked.2, here.before ∙ linked.3, rw here.after (row_same f g list y (slice_index f.afters y) ys long (λ x h. same x (inr h)) linked.4))
+    let here : SameNode f g y = same y (inl refl) in (
+      linked.0,
+      omega (arith, linked.1),
+      here.holder ∙ linked.2,
+      here.before ∙ linked.3,
+      rw here.after (row_same f g list y (slice_index f.afters y) ys long (λ x h. same x (inr h)) linked.4),
+    )
 
 -- what a node that is linked in front of a row has changed
 pub record LinksFront (f g : Nodes) (list node first : ℕ) : Type 0 where
@@ -108,8 +113,13 @@ row_linked f g list node first (y ∷ ys) front linked once out =
     subst (λ n. slice_index g.afters n ≡ slice_index f.afters n) is (front.first_after apart) in
     let rest : IsRow g list y (slice_index f.afters y) ys =
     row_same f g list y (slice_index f.afters y) ys front.long (λ x h. front.others x (λ e. out
-    (inr (subst (λ n. In n ys) e h))) (λ e. once.0 (subst (λ n. In n ys) (e ∙ is) h))) linked.4 in
-    (refl, omega (arith, front.in_range, front.long), front.holder, front.before, (front.after ∙ is, omega (arith, linked.1, front.long), holder, before, rw after rest))
+    (inr (subst (λ n. In n ys) e h))) (λ e. once.0 (subst (λ n. In n ys) (e ∙ is) h))) linked.4 in (
+      refl,
+      omega (arith, front.in_range, front.long),
+      front.holder,
+      front.before,
+      (front.after ∙ is, omega (arith, linked.1, front.long), holder, before, rw after rest),
+    )
 
 -- a row from none is what following its nodes gives
 pub row_is_followed : (f : Nodes) (list first : ℕ) (row : List ℕ) → length f.afters ≤ 2 ^ 31
@@ -159,8 +169,13 @@ row_rest f g list node before after (y ∷ ys) taken linked once no_node no_befo
       holder = taken.holders x (λ e. no_node (inr (subst (λ n. In n ys) e h)));
       before = taken.befores x (λ e. once.0 (subst (λ n. In n ys) (e ∙ is) h));
       after = taken.afters x (λ e. no_before (inr (subst (λ n. In n ys) e h)));
-    }) linked.4 in
-    (is, omega (arith, linked.1, taken.long), taken.holders y apart ∙ linked.2, subst (λ n. slice_index g.befores n ≡ before) is (taken.back below), rw (taken.afters y alone) rest)
+    }) linked.4 in (
+      is,
+      omega (arith, linked.1, taken.long),
+      taken.holders y apart ∙ linked.2,
+      subst (λ n. slice_index g.befores n ≡ before) is (taken.back below),
+      rw (taken.afters y alone) rest,
+    )
 
 -- where the one after y is the node, taking the node out links y to the one after that; else y stays
 row_forth : (f g : Nodes) (list node y : ℕ) (ys : List ℕ) → Unlinks f g node (slice_index f.befores
@@ -214,7 +229,12 @@ row_unlinked f g list before first node (y ∷ ys) few taken linked once out h =
       let forth : slice_index g.afters y ≡ (if slice_index f.afters y == node
       then slice_index f.afters node else slice_index f.afters y) =
       row_forth f g list node y ys taken linked.1 linked.4 once.0 there in
-      let row : IsRow g list before first (y ∷ without node ys) =
-      (linked.0, omega (arith, linked.1, taken.long), taken.holders y n.1 ∙ linked.2, taken.befores y behind ∙ linked.3, subst (λ m. IsRow g list y m (without node ys)) (sym forth) rest) in
+      let row : IsRow g list before first (y ∷ without node ys) = (
+        linked.0,
+        omega (arith, linked.1, taken.long),
+        taken.holders y n.1 ∙ linked.2,
+        taken.befores y behind ∙ linked.3,
+        subst (λ m. IsRow g list y m (without node ys)) (sym forth) rest,
+      ) in
       rw (first_too, n.0) row
 ]

@@ -75,7 +75,12 @@ module _ (firsts holders befores afters : List ℕ) (shape : IsLinked firsts hol
               (row_at rows list) in_front (row_linked_at firsts holders befores afters shape list
               in_lists) (row_once_at firsts holders befores afters shape list in_lists)
               (lacks_node list in_lists) in
-              rw (e.1, get_or-set_same firsts list node 0 in_lists, get_or-set_same rows list (node ∷ row_at rows list) [] (omega (arith, in_lists, rows_long firsts holders befores afters))) here
+              rw (
+                e.1,
+                get_or-set_same firsts list node 0 in_lists,
+                get_or-set_same rows list (node ∷ row_at rows list) []
+                    (omega (arith, in_lists, rows_long firsts holders befores afters)),
+              ) here
           | inr n ↦
               let row : List ℕ = row_at rows l in
               let there : IsRow (fields firsts holders befores afters) l none (slice_index firsts l)
@@ -92,7 +97,11 @@ module _ (firsts holders befores afters : List ℕ) (shape : IsLinked firsts hol
                     first (row_at rows list)
                     (row_linked_at firsts holders befores afters shape list in_lists) z.1))
               ]) in
-              rw (get_or-set_other firsts list l node 0 n.1, get_or-set_other rows list l (node ∷ row_at rows list) [] n.1) (row_same (fields firsts holders befores afters) after_link l none (slice_index firsts l) row (length-set afters node first) same there)
+              rw (
+                get_or-set_other firsts list l node 0 n.1,
+                get_or-set_other rows list l (node ∷ row_at rows list) [] n.1,
+              ) (row_same (fields firsts holders befores afters) after_link l none
+              (slice_index firsts l) row (length-set afters node first) same there)
         ]
 
     held_after : (x : ℕ) → x < length (set afters node first) → slice_index (set holders node list)

@@ -1,3 +1,4 @@
 pub mod Fields
 pub mod FlatRows
+pub mod LateRows
 pub mod Rows

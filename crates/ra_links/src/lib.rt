@@ -6,8 +6,10 @@
 
 mod entry;
 mod flat_rows;
+mod late_rows;
 mod links;
 
 pub use entry::Entry;
 pub use flat_rows::FlatRows;
+pub use late_rows::LateRows;
 pub use links::Links;
