@@ -15,9 +15,10 @@ use Rattle.ra_memref.specs.Numbers.{NumbersSeen}
 use Rattle.ra_memref.specs.Layout.{IsLaid}
 use Rattle.ra_memref.specs.Flags.{SetsAll}
 use Rattle.ra_memref.specs.Pass.{value_at, IsSizedFor}
-use Rattle.ra_memref.specs.Due.{earlier_by, IsQuiet, IsUnmarked, AreIdle, Names, AreDependents}
+use Rattle.ra_memref.specs.Due.{earlier_by, kept_by, IsQuiet, IsUnmarked, AreIdle, Names, AreDependents}
 use Rattle.ra_memref.proofs.Passed.{TakesNode}
-use Rattle.ra_memref.proofs.QuietLemmas.{Unseen, quiet_other, quiet_here, settled_other, unmarked_other, unmarked_here}
+use Rattle.ra_memref.proofs.QuietLemmas.{Unseen, quiet_other, quiet_here, kept_here, settled_other, unmarked_other}
+use Rattle.ra_memref.proofs.QuietLemmas.{unmarked_here}
 
 -- numbers that do not differ are one
 pub same_number : (a b : ℕ) → not (a == b) ≡ false → a ≡ b
@@ -66,11 +67,12 @@ abbrev IsIdleAt : List Node → NumbersSeen → List ℕ → ℕ → Type 0
 IsIdleAt nodes numbers slots n = IsQuiet (node_at nodes n) numbers slots n
     × IsUnmarked (node_at nodes n) numbers (get_or slots n 0)
 
--- so it is with each of the first so many nodes that is not due and has the number of the frame before
+-- so it is with each of the first so many nodes that is not due and whose kept number is the one of the frame before
 abbrev pub AreSettledTo : List Node → List Bool → NumbersSeen → List ℕ → ℕ → Type 0
 AreSettledTo nodes due numbers slots to =
     (n : ℕ) → n < to → get_or due n true ≡ false
-    → earlier_by (node_at nodes n) numbers slots n ≡ value_at numbers n → IsIdleAt nodes numbers slots n
+    → earlier_by (node_at nodes n) numbers slots n ≡ kept_by (node_at nodes n) numbers slots n
+    → IsIdleAt nodes numbers slots n
 
 pub settled_to : (nodes : List Node) (due : List Bool) (numbers : NumbersSeen) (slots : List ℕ)
     → AreIdle nodes due numbers slots → (to : ℕ) → to ≤ length nodes → AreSettledTo nodes due numbers slots to
@@ -105,7 +107,8 @@ module _ (nodes : List Node) (pool : IsPool nodes) (slots : List ℕ) (laid : Is
   settled_next due before = λ j less still settled.
       let in_j : j < length nodes = omega (arith, less, within) in
       idle_at j in_j (λ i named same. absurd (omega (arith, named_before nodes pool j in_j i named, same, less)))
-      (λ same. subst (λ n. earlier_by (node_at nodes n) new slots n ≡ value_at new n) same settled)
+      (λ same. subst (λ n. earlier_by (node_at nodes n) new slots n ≡ kept_by (node_at nodes n) new slots n) same
+      settled ∙ kept_here nodes pool slots laid image k within old new sized takes)
       (λ apart. before j (omega (arith, less, apart)) still
       (settled_other nodes pool slots laid image k within old new sized takes j in_j apart settled))
 

@@ -66,7 +66,12 @@ module _ (spelled : List Spelled) where
   -- the cells of fewer nodes stand at the front of those of more
   pub cells_grow : (m n : ℕ) → m ≤ n → length (cells_before spelled m) ≤ length (cells_before spelled n)
   cells_grow m n less =
-      omega (arith, ap length (ap (flat_map cell_in) (take_front spelled m n less) ∙ flat_map-append cell_in (take m spelled) (drop m (take n spelled))), length-append (cells_before spelled m) (flat_map cell_in (drop m (take n spelled))))
+      omega (
+        arith,
+        ap length (ap (flat_map cell_in) (take_front spelled m n less)
+            ∙ flat_map-append cell_in (take m spelled) (drop m (take n spelled))),
+        length-append (cells_before spelled m) (flat_map cell_in (drop m (take n spelled))),
+      )
 
   -- the tracked masks of fewer nodes stand at the front of those of more
   pub tracked_grow : (m n : ℕ) → m ≤ n → length (tracked_before spelled m) ≤ length (tracked_before spelled n)
@@ -74,7 +79,11 @@ module _ (spelled : List Spelled) where
       let whole : raw_before n ≡ raw_before m ++ flat_map tracked_at (drop m (take n spelled)) =
       ap (flat_map tracked_at) (take_front spelled m n less)
       ∙ flat_map-append tracked_at (take m spelled) (drop m (take n spelled)) in
-      omega (arith, (firsts-append same_tracked (raw_before m) (flat_map tracked_at (drop m (take n spelled)))).0, ap (λ xs. length (firsts same_tracked xs)) whole)
+      omega (
+        arith,
+        (firsts-append same_tracked (raw_before m) (flat_map tracked_at (drop m (take n spelled)))).0,
+        ap (λ xs. length (firsts same_tracked xs)) whole,
+      )
 
   pub tracked_front : (m n : ℕ) → m ≤ n → (i : ℕ) (d : Tracked) → i < length (tracked_before spelled
       m) → get_or (tracked_before spelled n) i d ≡ get_or (tracked_before spelled m) i d

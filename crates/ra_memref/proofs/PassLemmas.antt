@@ -60,8 +60,13 @@ module _ (nodes : List Node) (pool : IsPool nodes) (slots : List ℕ) (laid : Is
       let there = is_cell_there width (spelled_at spelled c) (cell_at_cell nodes pool width c within is) in
       let one = cells_one spelled c (cell_there (spelled_at spelled c)) (inside c within) there in
       let below : (k : ℕ) → c < k → get_or slots c 0 < length (cells_before spelled k) =
-      λ k less. omega
-      (arith, here, ap length one, length-append (cells_before spelled c) (cell_there (spelled_at spelled c) ∷ []), cells_grow spelled (suc c) k (omega arith)) in
+      λ k less. omega (
+        arith,
+        here,
+        ap length one,
+        length-append (cells_before spelled c) (cell_there (spelled_at spelled c) ∷ []),
+        cells_grow spelled (suc c) k (omega arith),
+      ) in
       record {
         here = here;
         stands = ap (λ i. get_or (cells_of nodes) i no_cell) here
@@ -114,7 +119,12 @@ module _ (nodes : List Node) (pool : IsPool nodes) (slots : List ℕ) (laid : Is
         let slot = cell_slot width k within (subst (IsCellOf width) (sym same) refl) in
         let one = cells_one spelled k _ (inside k within) is in (
           slot.here,
-          omega (arith, ap length one, length-append (cells_before spelled k) (record { pointer = tree_in (spelled_at spelled pointer); address = offset; width = width } ∷ [])),
+          omega (
+            arith,
+            ap length one,
+            length-append (cells_before spelled k)
+                (record { pointer = tree_in (spelled_at spelled pointer); address = offset; width = width } ∷ []),
+          ),
           slot.stands ∙ ap cell_there is,
         )
 
@@ -138,16 +148,27 @@ module _ (nodes : List Node) (pool : IsPool nodes) (slots : List ℕ) (laid : Is
           (omega (arith, sized.values, below), omega (arith, sized.cells, slot.within), may.2)
       within_by (View Prior size c) same below may has =
           let slot = cell_slot (width_of size) c may.0 may.1 in
-          let prior = prior_slot (tracked_there spelled size c) k (get_or slots k 0) within has in
-          (omega (arith, sized.values, below), omega (arith, sized.cells, slot.within), omega (arith, sized.priors, prior.within))
-      within_by (View Mem size c) same below may has =
-          (omega (arith, sized.values, below), omega (arith, sized.cells, (cell_slot (width_of size) c may.0 may.1).within))
-      within_by (View Delta size c) same below may has =
-          (omega (arith, sized.values, below), omega (arith, sized.cells, (cell_slot (width_of size) c may.0 may.1).within))
-      within_by (View Bcd size c) same below may has =
-          (omega (arith, sized.values, below), omega (arith, sized.cells, (cell_slot (width_of size) c may.0 may.1).within))
-      within_by (View Inverted size c) same below may has =
-          (omega (arith, sized.values, below), omega (arith, sized.cells, (cell_slot (width_of size) c may.0 may.1).within))
+          let prior = prior_slot (tracked_there spelled size c) k (get_or slots k 0) within has in (
+            omega (arith, sized.values, below),
+            omega (arith, sized.cells, slot.within),
+            omega (arith, sized.priors, prior.within),
+          )
+      within_by (View Mem size c) same below may has = (
+        omega (arith, sized.values, below),
+        omega (arith, sized.cells, (cell_slot (width_of size) c may.0 may.1).within),
+      )
+      within_by (View Delta size c) same below may has = (
+        omega (arith, sized.values, below),
+        omega (arith, sized.cells, (cell_slot (width_of size) c may.0 may.1).within),
+      )
+      within_by (View Bcd size c) same below may has = (
+        omega (arith, sized.values, below),
+        omega (arith, sized.cells, (cell_slot (width_of size) c may.0 may.1).within),
+      )
+      within_by (View Inverted size c) same below may has = (
+        omega (arith, sized.values, below),
+        omega (arith, sized.cells, (cell_slot (width_of size) c may.0 may.1).within),
+      )
       within_by (Arith op left right) same below may has =
           (omega (arith, sized.values, below.0), omega (arith, sized.values, below.1), may.4)
 

@@ -21,7 +21,7 @@ use Rattle.ra_memref.specs.Layout.{HasSlot, IsLaid, tracked_there}
 use Rattle.ra_memref.specs.Pass.{prior_after, place_in, number_in, prior_in, value_at, value_after, cells_after}
 use Rattle.ra_memref.specs.Pass.{earlier_after, places_after, marked_after, priors_after, reads_at, IsAgreedAt}
 use Rattle.ra_memref.specs.Pass.{IsSizedFor}
-use Rattle.ra_memref.specs.Due.{earlier_by, IsQuiet, IsUnmarked, Names}
+use Rattle.ra_memref.specs.Due.{earlier_by, kept_by, IsQuiet, IsUnmarked, Names}
 use Rattle.ra_memref.proofs.LaidLemmas.{cells_grow, is_cell_there}
 use Rattle.ra_memref.proofs.Passed.{cell_count, TakesNode}
 use Rattle.ra_memref.proofs.PriorLemmas.{prior_after-again}
@@ -292,10 +292,18 @@ module _ (nodes : List Node) (pool : IsPool nodes) (slots : List ℕ) (laid : Is
       earlier_other_by (View kind size c) is = value_other j apart
       earlier_other_by (Arith op left right) is = value_other j apart
 
-      -- another node has the number of the frame before where it had it
-      pub settled_other : earlier_by (node_at nodes j) new slots j ≡ value_at new j
-          → earlier_by (node_at nodes j) old slots j ≡ value_at old j
-      settled_other settled = sym (earlier_other_by (node_at nodes j) refl) ∙ settled ∙ value_other j apart
+      kept_other_by : (node : Node) → node_at nodes j ≡ node → kept_by node new slots j ≡ kept_by node old slots j
+      kept_other_by (Const n) is = value_other j apart
+      kept_other_by (CellNode pointer offset width) is =
+          (same_rows j in_j width (subst (IsCellOf width) (sym is) refl) apart).cells
+      kept_other_by (View kind size c) is = value_other j apart
+      kept_other_by (Arith op left right) is = value_other j apart
+
+      -- the kept number of another node is the one of the frame before where it was
+      pub settled_other : earlier_by (node_at nodes j) new slots j ≡ kept_by (node_at nodes j) new slots j
+          → earlier_by (node_at nodes j) old slots j ≡ kept_by (node_at nodes j) old slots j
+      settled_other settled = sym (earlier_other_by (node_at nodes j) refl) ∙ settled
+          ∙ kept_other_by (node_at nodes j) refl
 
       same_prior : (size : Size) (c : ℕ) → node_at nodes j ≡ View Prior size c
           → IsQuiet (View Prior size c) old slots j
@@ -420,6 +428,21 @@ module _ (nodes : List Node) (pool : IsPool nodes) (slots : List ℕ) (laid : Is
         )
     here_by (Arith op left right) is takes value below again =
         value ∙ ap₂ (computed op) (sym (value_below left below.0)) (sym (value_below right below.1))
+
+    kept_here_by : (node : Node) → node_at nodes k ≡ node → TakesNode node slots image k old new
+        → get_or new.values k 0 ≡ value_after node old image slots k → kept_by node new slots k ≡ value_at new k
+    kept_here_by (Const n) is takes value = refl
+    kept_here_by (CellNode pointer offset width) is takes value =
+        let there : get_or slots k 0 < length old.cells = (node_within nodes pool slots laid k within old sized
+        (CellNode pointer offset width) (sym is)).1 in
+        ap (λ xs. get_or xs (get_or slots k 0) 0) takes.cells
+        ∙ get_or-set_same old.cells (get_or slots k 0) (number_in old image pointer offset width) 0 there ∙ sym value
+    kept_here_by (View kind size c) is takes value = refl
+    kept_here_by (Arith op left right) is takes value = refl
+
+    -- the kept number of a node that was taken is its number
+    pub kept_here : kept_by (node_at nodes k) new slots k ≡ value_at new k
+    kept_here = kept_here_by (node_at nodes k) refl takes value_here
 
     -- a node that was taken is quiet, unless it is a cell with another number than at the frame before
     pub quiet_here : earlier_by (node_at nodes k) new slots k ≡ value_at new k → IsQuiet (node_at nodes k) new slots k

@@ -157,12 +157,21 @@ module _ (nodes : List Node) (pool : IsPool nodes) (slots : List ℕ) (laid : Is
       × (cell_count nodes k < length (cells_of nodes))
   width_there pointer offset width same =
       let facts = cell_node_slot nodes pool slots laid k within pointer offset width same in
-      let below : cell_count nodes k < length (cells_of nodes) = below_all (facts.1) in
-      (ap (λ ws. get_or ws (cell_count nodes k) 0) sized.widths ∙ get_or-map (λ c. c.width) (cells_of nodes) (cell_count nodes k) no_cell 0 below ∙ ap (λ i. (get_or (cells_of nodes) i no_cell).width) (sym facts.0) ∙ ap (λ c. c.width) facts.2, below)
+      let below : cell_count nodes k < length (cells_of nodes) = below_all (facts.1) in (
+        ap (λ ws. get_or ws (cell_count nodes k) 0) sized.widths
+            ∙ get_or-map (λ c. c.width) (cells_of nodes) (cell_count nodes k) no_cell 0 below ∙ ap
+            (λ i. (get_or (cells_of nodes) i no_cell).width) (sym facts.0) ∙ ap (λ c. c.width) facts.2,
+        below,
+      )
     where
       below_all : cell_count nodes (suc k) ≡ suc (cell_count nodes k) → cell_count nodes k < length (cells_of nodes)
       below_all one =
-          omega (arith, one, cells_grow (spelled_by nodes) (suc k) (length nodes) (omega (arith, within)), ap length (cells_all nodes))
+          omega (
+            arith,
+            one,
+            cells_grow (spelled_by nodes) (suc k) (length nodes) (omega (arith, within)),
+            ap length (cells_all nodes),
+          )
 
   agreed_by : (node : Node) → node_at nodes k ≡ node → IsAgreed old image → IsAgreedAt node now image (get_or slots k 0)
   agreed_by (Const n) same agrees = tt
