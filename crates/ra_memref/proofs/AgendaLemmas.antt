@@ -18,9 +18,10 @@ use Rattle.ra_indirect.proofs.Spelling.{spelled_of, length-spelled_by}
 use Rattle.ra_indirect.proofs.SpelledLemmas.{NamesBelow, may_follow, names_below}
 use Rattle.ra_memref.specs.Numbers.{NumbersSeen}
 use Rattle.ra_memref.specs.Layout.{HasSlot, IsLaid, cells_before}
-use Rattle.ra_memref.specs.Pass.{IsSizedFor, earlier_at, value_at}
+use Rattle.ra_memref.specs.Pass.{IsSizedFor, earlier_at}
 use Rattle.ra_memref.specs.Flags.{NoneSet}
-use Rattle.ra_memref.specs.Due.{earlier_by, IsQuiet, IsUnmarked, AreQuiet, AreIdle, Names, AreDependents, entries_of}
+use Rattle.ra_memref.specs.Due.{earlier_by, kept_by, IsQuiet, IsUnmarked, AreQuiet, AreIdle, Names, AreDependents}
+use Rattle.ra_memref.specs.Due.{entries_of}
 use Rattle.ra_memref.specs.Due.{HasCellNode, AreCellNodes, IsGathered}
 use Rattle.ra_memref.proofs.CellsAlong.{cell_with, along_cell, along_same}
 use Rattle.ra_memref.proofs.LaidLemmas.{cells_one, cells_grow, cells_all}
@@ -327,25 +328,26 @@ module _ (nodes : List Node) (pool : IsPool nodes) (slots : List ℕ) (laid : Is
   }
 
   settled_by : ((cell : ℕ) → cell < length cell_nodes → get_or due' (get_or cell_nodes cell 0) true ≡ false
-      → earlier_at numbers cell ≡ value_at numbers (get_or cell_nodes cell 0)) → (j : ℕ) → j < length nodes
+      → earlier_at numbers cell ≡ get_or numbers.cells cell 0) → (j : ℕ) → j < length nodes
       → get_or due' j true ≡ false → (node : Node) → node_at nodes j ≡ node
       → HasCellNode node cell_nodes (length (cells_before (spelled_by nodes) j)) j
-      → HasSlot (spelled_by nodes) j node (get_or slots j 0) → earlier_by node numbers slots j ≡ value_at numbers j
+      → HasSlot (spelled_by nodes) j node (get_or slots j 0)
+      → earlier_by node numbers slots j ≡ kept_by node numbers slots j
   settled_by noted j within still (Const n) same has slot = refl
   settled_by noted j within still (View kind size c) same has slot = refl
   settled_by noted j within still (Arith op left right) same has slot = refl
   settled_by noted j within still (CellNode pointer offset width) same has slot =
       let node = ap (λ i. get_or cell_nodes i 0) slot ∙ has in
       noted (get_or slots j 0) (slot_inside j within pointer offset width same)
-      (ap (λ i. get_or due' i true) node ∙ still) ∙ ap (value_at numbers) node
+      (ap (λ i. get_or due' i true) node ∙ still)
 
   -- once the cells are due that have another number than at the frame before, each node that is not due is idle
   pub settled_idle : ((n : ℕ) → n < length nodes → get_or due n true ≡ false
-      → earlier_by (node_at nodes n) numbers slots n ≡ value_at numbers n
+      → earlier_by (node_at nodes n) numbers slots n ≡ kept_by (node_at nodes n) numbers slots n
       → IsQuiet (node_at nodes n) numbers slots n × IsUnmarked (node_at nodes n) numbers (get_or slots n 0))
       → ((n : ℕ) → get_or due' n true ≡ false → get_or due n true ≡ false)
       → ((cell : ℕ) → cell < length cell_nodes → get_or due' (get_or cell_nodes cell 0) true ≡ false
-      → earlier_at numbers cell ≡ value_at numbers (get_or cell_nodes cell 0)) → AreIdle nodes due' numbers slots
+      → earlier_at numbers cell ≡ get_or numbers.cells cell 0) → AreIdle nodes due' numbers slots
   settled_idle settled kept noted = record {
     quiet = λ n within still. (one n within still).0;
     unmarked = λ n within still. (one n within still).1;
@@ -361,4 +363,4 @@ pub record AreCellsNoted (cell_nodes : List ℕ) (numbers : NumbersSeen) (old ne
   pub long : length new ≡ length old
   pub kept : (n : ℕ) → get_or new n true ≡ false → get_or old n true ≡ false
   pub noted : (cell : ℕ) → cell < count → get_or new (get_or cell_nodes cell 0) true ≡ false
-      → earlier_at numbers cell ≡ value_at numbers (get_or cell_nodes cell 0)
+      → earlier_at numbers cell ≡ get_or numbers.cells cell 0

@@ -4,7 +4,7 @@ use Rattle.std.proofs.Common.{sym, ◌∙◌, ap, arith, subst, length-set, slic
 use Rattle.std.proofs.lemmas.List.{get_or-set_same, get_or-set_other, length-replicate, get_or_default}
 use Rattle.std.proofs.lemmas.Bool.{cases_eq}
 use Rattle.ra_links.specs.Rows.{Rows, holder_of}
-use Rattle.ra_memref.specs.Watches.{StandsAt, IsIndexed, pages_of}
+use Rattle.ra_memref.specs.Watches.{StandsAt, IsIndexed, AreWatched, pages_of}
 
 -- what putting one cell on the lists of its pages leaves
 pub record PutsCell (old new : Rows) (size cell place width : ℕ) : Type 0 where
@@ -47,6 +47,24 @@ indexed_moved size widths places marks marks' pages pages' cell place is below l
         get_or-set_other places cell k place 0 apart in
         rw here (stands_other pages pages' size cell place (slice_index widths cell) puts k
         (get_or places k 0) (get_or widths k 0) apart (is.stands k within))
+
+-- other marks, as many, leave what watches
+pub rewatched : {size : ℕ} {widths places : List ℕ} {old new : List Bool} {pages : Rows} {order : List ℕ}
+    → length new ≡ length old → AreWatched size widths places old pages order
+    → AreWatched size widths places new pages order
+rewatched long is = record {
+  indexed = record {
+    small = is.indexed.small;
+    few = is.indexed.few;
+    widths_too = is.indexed.widths_too;
+    marks_too = long ∙ is.indexed.marks_too;
+    wide = is.indexed.wide;
+    lists = is.indexed.lists;
+    nodes = is.indexed.nodes;
+    stands = is.indexed.stands;
+  };
+  ordered = is.ordered;
+}
 
 -- the first n cells stand on the lists, and no other does
 pub record AreStanding (size : ℕ) (widths places : List ℕ) (pages : Rows) (n : ℕ) : Type 0 where

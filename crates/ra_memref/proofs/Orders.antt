@@ -2,12 +2,12 @@
 use Rattle.std.proofs.Common.{◌≡◌, ℕ, zero, suc, ◌+◌, ◌++◌, ◌<◌, ◌≤◌, ◌==◌, inl, inr, Bool, true, false, not, ◌||◌}
 use Rattle.std.proofs.Common.{if◌then◌else◌, cond, List, [], ◌∷◌, length, take, get_or, refl, ap, sym, ◌∙◌, arith}
 use Rattle.std.specs.List.{range_with_len, count_by, sum_by}
-use Rattle.std.proofs.lemmas.List.Sorted.{sum_by-IsPermutation, All-permutation}
+use Rattle.std.proofs.lemmas.List.Sorted.{sum_by-IsPermutation, All-permutation, length_permutation}
 use Rattle.std.proofs.lemmas.List.Sums.{sum_by_more, sum_by_more_le, sum_by-cons}
 use Rattle.std.proofs.lemmas.List.FromFn.{length-range_with_len, get_or-range_with_len}
 use Rattle.std.proofs.lemmas.Bool.{eq-eqb, ne_eqb, cases_eq}
 use Rattle.std.proofs.lemmas.List.{take_all}
-use Rattle.ra_memref.specs.Watches.{IsOrder, one_unmarked}
+use Rattle.ra_memref.specs.Watches.{IsOrder, order_by, one_unmarked}
 
 -- 1 for one number, and 0 for each other
 abbrev pub one_for : ℕ → ℕ → ℕ
@@ -77,6 +77,26 @@ module _ (n : ℕ) (order : List ℕ) (is : IsOrder n order) where
       ∙ ap (λ m. sum_by (one_unmarked marks) (range_with_len 0 m)) (sym long)
       ∙ unmarked_in marks 0 (one_unmarked marks) (λ i.
       (let same : 0 + i ≡ i = omega arith in ap (one_unmarked marks) same))
+
+  -- there are as many turns as cells
+  pub order_long : length order ≡ n
+  order_long = length_permutation (range_with_len 0 n) order is ∙ length-range_with_len 0 n
+
+-- a row that there is stands for itself
+pub row_order : (n : ℕ) (order : List ℕ) → 0 < length order → IsOrder n (order_by n order) → IsOrder n order
+row_order n [] some is = absurd (omega (arith, some))
+row_order n (c ∷ order) some is = is
+
+pub row_turn : (n : ℕ) (order : List ℕ) (turn : ℕ) → turn < length order
+    → get_or order turn 0 ≡ get_or (order_by n order) turn 0
+row_turn n [] turn below = absurd (omega (arith, below))
+row_turn n (c ∷ order) turn below = refl
+
+-- without a row each cell has its own turn
+pub own_turn : (n : ℕ) (order : List ℕ) (turn : ℕ) → order ≡ [] → turn < n → turn ≡ get_or (order_by n order) turn 0
+own_turn n order turn none below =
+    let same : 0 + turn ≡ turn = omega arith in
+    sym (ap (λ o. get_or (order_by n o) turn 0) none ∙ get_or-range_with_len 0 n turn 0 below ∙ same)
 
 -- the marks of the cells of a part of an order are set where a test says so too, and the others are what they were
 pub record AreVisited (old now : List Bool) (test : ℕ → Bool) (done : List ℕ) : Type 0 where

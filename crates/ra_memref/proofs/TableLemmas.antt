@@ -179,7 +179,14 @@ few_cells nodes = omega (arith, few_in (spelled_by nodes), length-spelled_by nod
 pub made_sized : (nodes : List Node) (size masks : ℕ) (places widths : List ℕ)
     (watches : WatchesSeen) (numbers : NumbersSeen) → places ≡ map (λ c. c.address) (cells_of nodes)
     → widths ≡ map (λ c. c.width) (cells_of nodes) → masks ≡ length (tracked_of nodes) → watches
-    ≡ record { size = size; widths = widths; places = places; marked = replicate (length places) true } → numbers.cells ≡ replicate (length watches.places) 0 → numbers.earlier ≡ replicate (length watches.places) 0 → numbers.watches ≡ watches → numbers.priors ≡ replicate masks 0 → numbers.values ≡ replicate (length nodes) 0 → IsSizedFor nodes numbers
+    ≡ record {
+      size = size;
+      widths = widths;
+      places = places;
+      marked = replicate (length places) true;
+    } → numbers.cells ≡ replicate (length watches.places) 0 → numbers.earlier
+    ≡ replicate (length watches.places) 0 → numbers.watches ≡ watches → numbers.priors
+    ≡ replicate masks 0 → numbers.values ≡ replicate (length nodes) 0 → IsSizedFor nodes numbers
 made_sized nodes size masks places widths watches numbers places_are widths_are masks_are
     watches_are cells earlier same priors values =
     let count : length watches.places ≡ length (cells_of nodes) = ap (λ (w : WatchesSeen). length
@@ -199,7 +206,13 @@ made_sized nodes size masks places widths watches numbers places_are widths_are 
 pub made_fresh : (nodes : List Node) (size masks : ℕ) (places widths : List ℕ)
     (watches : WatchesSeen) (t : Inside) → t.nodes.items ≡ nodes → t.sampled ≡ false → places
     ≡ map (λ c. c.address) (cells_of nodes) → masks ≡ length (tracked_of nodes) → watches
-    ≡ record { size = size; widths = widths; places = places; marked = replicate (length places) true } → t.numbers.cells ≡ replicate (length watches.places) 0 → t.numbers.watches ≡ watches → t.numbers.priors ≡ replicate masks 0 → IsFresh nodes size (table_seen t)
+    ≡ record {
+      size = size;
+      widths = widths;
+      places = places;
+      marked = replicate (length places) true;
+    } → t.numbers.cells ≡ replicate (length watches.places) 0 → t.numbers.watches ≡ watches
+    → t.numbers.priors ≡ replicate masks 0 → IsFresh nodes size (table_seen t)
 made_fresh nodes size masks places widths watches t nodes_are sampled places_are masks_are
     watches_are cells same priors =
     let count : length places ≡ length (cells_of nodes) =

@@ -1,6 +1,6 @@
 -- A write is told page by page.
-use Rattle.std.proofs.Common.{◌≡◌, ℕ, zero, suc, ◌+◌, ◌-◌, ◌*◌, ◌/◌, ◌<◌, ◌≤◌, inl, inr, Bool, true, false, ◌||◌, List}
-use Rattle.std.proofs.Common.{[], ◌∷◌, length, get_or, refl, sym, ◌∙◌, ap, arith, subst, slice_index}
+use Rattle.std.proofs.Common.{◌≡◌, ℕ, ◌+◌, ◌-◌, ◌*◌, ◌/◌, ◌<◌, ◌≤◌, inl, inr, Bool, true, false, ◌||◌, List}
+use Rattle.std.proofs.Common.{length, get_or, refl, sym, ◌∙◌, ap, arith, subst, slice_index}
 use Rattle.ra_memory.specs.Image.{IsReadWidth}
 use Rattle.ra_links.specs.Rows.{holder_of}
 use Rattle.ra_memref.specs.declared.watches.Watches.TheInside.{Inside}
@@ -8,27 +8,9 @@ use Rattle.ra_memref.specs.Marks.{is_watched}
 use Rattle.ra_memref.specs.Marking.{is_at, is_between}
 use Rattle.ra_memref.specs.Watches.{WatchesSeen, IsIndexed, MarksWatchers, StandsAt, marked_by, first_page, second_page}
 use Rattle.ra_memref.specs.Watches.{watches_between}
-use Rattle.std.proofs.lemmas.List.{length-replicate}
 use Rattle.ra_memref.specs.contracts.watches.Watches.{the_view}
+use Rattle.ra_memref.proofs.MarkLemmas.{length-marked_by, marked_too}
 use Rattle.ra_memref.proofs.Pages.{between_more, watched_is, watched_none}
-
--- as many cells are marked or not, with the flag or without
-pub length-marked_by : (all : Bool) (marks : List Bool) → length (marked_by all marks) ≡ length marks
-length-marked_by true marks = length-replicate (length marks) true
-length-marked_by false marks = refl
-
--- where the flag stands each cell is marked
-pub get_or-marked_by : (marks : List Bool) (k : ℕ) → get_or (marked_by true marks) k true ≡ true
-get_or-marked_by [] k = refl
-get_or-marked_by (m ∷ marks) zero = refl
-get_or-marked_by (m ∷ marks) (suc k) = get_or-marked_by marks k
-
--- a mark more is a mark more under the flag too
-told_by_flag : (all : Bool) (old now : List Bool) (k : ℕ) (watched : Bool)
-    → get_or now k true ≡ (get_or old k true || watched)
-    → get_or (marked_by all now) k true ≡ (get_or (marked_by all old) k true || watched)
-told_by_flag true old now k watched is = get_or-marked_by now k ∙ ap (λ b. b || watched) (sym (get_or-marked_by old k))
-told_by_flag false old now k watched is = is
 
 -- the watches with other marks
 abbrev pub with_marks : Inside → List Bool → Inside
@@ -129,20 +111,21 @@ pub told_all : (old now : Inside) (seen : WatchesSeen) (at count : ℕ) → the_
     → IsTelling old now (at / 16) ((at + count - 1) / 16 + 1) → MarksWatchers seen (the_view now) at count
 told_all old now seen at count view_is is some telling =
     subst (λ w. MarksWatchers w (the_view now) at count) view_is (record {
-      rest = ap the_view telling.same ∙ ap (λ b. record (the_view old) { marked = marked_by b now.marks }) (sym flag);
-      long = length-marked_by now.all now.marks ∙ telling.long ∙ sym (length-marked_by old.all old.marks);
+      rest = ap the_view telling.same ∙ ap (λ n. record (the_view old) { marked = marked_by n now.marks }) (sym from);
+      long = length-marked_by now.marked_from now.marks ∙ telling.long
+          ∙ sym (length-marked_by old.marked_from old.marks);
       marked = λ k below.
           let wide = at_most_four (slice_index old.widths.items k) (is.wide k below) in
           let watched = telling.marked k below ∙ ap (λ b. get_or old.marks k true || b)
           (sym (watched_is old.size (slice_index old.places.items k)
           (slice_index old.widths.items k) at count some wide.1 wide.0)) in
-          ap (λ b. get_or (marked_by b now.marks) k true) flag
-          ∙ told_by_flag old.all old.marks now.marks k (is_watched old.size
+          ap (λ n. get_or (marked_by n now.marks) k true) from
+          ∙ marked_too old.marked_from old.marks now.marks k (is_watched old.size
           (slice_index old.places.items k) (slice_index old.widths.items k) at count) watched;
     })
   where
-    flag : now.all ≡ old.all
-    flag = ap (λ t. t.all) telling.same
+    from : now.marked_from ≡ old.marked_from
+    from = ap (λ t. t.marked_from) telling.same
 
 or_false : (b : Bool) → b ≡ (b || false)
 or_false true = refl

@@ -18,6 +18,11 @@ abbrev pub earlier_by : Node → NumbersSeen → List ℕ → ℕ → ℕ
 earlier_by (CellNode pointer offset width) numbers slots number = earlier_at numbers (slice_index slots number)
 earlier_by _ numbers slots number = value_at numbers number
 
+-- the kept number of a cell; of another node its own
+abbrev pub kept_by : Node → NumbersSeen → List ℕ → ℕ → ℕ
+kept_by (CellNode pointer offset width) numbers slots number = slice_index numbers.cells (slice_index slots number)
+kept_by _ numbers slots number = value_at numbers number
+
 -- by its kept numbers alone, a node would take the number that it has, and leave its prior
 abbrev pub IsQuiet : Node → NumbersSeen → List ℕ → ℕ → Type 0
 IsQuiet (Const n) numbers slots number = value_at numbers number ≡ n

@@ -26,6 +26,13 @@ pub record AreInBlocks (flags blocks : List Bool) : Type 0 where
   pub tight : length blocks ≤ length flags / 64 + 1
   pub blocked : AreBlocked flags blocks
 
+-- the flags from a place on and before another are set, and the others are what they were
+pub record SetsBetween (from to : ℕ) (old new : List Bool) : Type 0 where
+  pub long : length new ≡ length old
+  pub set_there : (k : ℕ) → from ≤ k → k < to → slice_index_or new k true ≡ true
+  pub before : (k : ℕ) → k < from → slice_index_or new k true ≡ slice_index_or old k true
+  pub after : (k : ℕ) → to ≤ k → slice_index_or new k true ≡ slice_index_or old k true
+
 -- some flags are set: each of these places has its flag, what is still not set was not, and what became set is one of
 -- them
 pub record SetsAll (places : List ℕ) (old new : List Bool) : Type 0 where

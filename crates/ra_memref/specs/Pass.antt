@@ -91,8 +91,10 @@ abbrev pub after_node : Node → NumbersSeen → (image slots : List ℕ) → �
 after_node node numbers image slots number = record {
   cells = cells_after node numbers image (slice_index slots number);
   earlier = earlier_after node numbers (slice_index slots number);
-  watches = record numbers.watches
-      { places = places_after node numbers (slice_index slots number); marked = marked_after node numbers (slice_index slots number) };
+  watches = record numbers.watches {
+    places = places_after node numbers (slice_index slots number);
+    marked = marked_after node numbers (slice_index slots number);
+  };
   priors = priors_after node numbers slots number;
   values = slice_set numbers.values number (value_after node numbers image slots number);
 }

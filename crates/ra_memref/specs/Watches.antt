@@ -1,7 +1,7 @@
 -- Which cells watch which pages, by lists of nodes: docs/INTERNALS.md, "Marked and moved cells".
-use Rattle.std.specs.Prelude.{◌≡◌, ℕ, ◌+◌, ◌-◌, ◌*◌, ◌/◌, ◌<◌, ◌≤◌, ◌^◌, ◌==◌, Bool, not, ◌&&◌, ◌||◌, if◌then◌else◌}
-use Rattle.std.specs.Prelude.{nat_lt, Option, None, Some, List, length, replicate, true, false, slice_index}
-use Rattle.std.specs.Prelude.{slice_index_or}
+use Rattle.std.specs.Prelude.{◌≡◌, ℕ, zero, suc, ◌+◌, ◌-◌, ◌*◌, ◌/◌, ◌<◌, ◌≤◌, ◌^◌, ◌==◌, Bool, not, ◌&&◌, ◌||◌}
+use Rattle.std.specs.Prelude.{if◌then◌else◌, nat_lt, Option, None, Some, List, length, replicate, true, slice_index}
+use Rattle.std.specs.Prelude.{slice_index_or, [], ◌∷◌}
 use Rattle.std.specs.List.{range_with_len}
 use Rattle.std.specs.List.Sorted.{IsPermutation}
 use Rattle.ra_memory.specs.Image.{IsReadWidth}
@@ -16,10 +16,11 @@ pub record WatchesSeen : Type 0 where
   pub places : List ℕ
   pub marked : List Bool
 
--- which cells are marked: all where the flag stands, and else each by its own mark
-abbrev pub marked_by : Bool → List Bool → List Bool
-marked_by true marks = replicate (length marks) true
-marked_by false marks = marks
+-- which cells are marked: each from one on, and each before it by its own mark
+abbrev pub marked_by : ℕ → List Bool → List Bool
+marked_by zero marks = replicate (length marks) true
+marked_by (suc from) [] = []
+marked_by (suc from) (mark ∷ marks) = mark ∷ marked_by from marks
 
 -- how many pages an image has
 abbrev pub pages_of : ℕ → ℕ
@@ -60,6 +61,11 @@ pub record IsIndexed (size : ℕ) (widths places : List ℕ) (marks : List Bool)
 abbrev pub IsOrder : ℕ → List ℕ → Type 0
 IsOrder count order = IsPermutation (range_with_len 0 count) order
 
+-- the order that a row stands for: its own, and that of the cells where it has none
+abbrev pub order_by : ℕ → List ℕ → List ℕ
+order_by count [] = range_with_len 0 count
+order_by count (cell ∷ cells) = cell ∷ cells
+
 -- 1 for a cell that is not marked, and 0 for a marked one
 abbrev pub one_unmarked : List Bool → ℕ → ℕ
 one_unmarked marks cell = if slice_index_or marks cell true then 0 else 1
@@ -68,7 +74,7 @@ one_unmarked marks cell = if slice_index_or marks cell true then 0 else 1
 pub record AreWatched (size : ℕ) (widths places : List ℕ) (marks : List Bool) (pages : Rows)
     (order : List ℕ) : Type 0 where
   pub indexed : IsIndexed size widths places marks pages
-  pub ordered : IsOrder (length places) order
+  pub ordered : IsOrder (length places) (order_by (length places) order)
 
 -- a write is told: the cells that watch one of its pages are marked, and nothing else changes
 pub record MarksWatchers (old new : WatchesSeen) (at count : ℕ) : Type 0 where

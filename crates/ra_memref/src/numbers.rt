@@ -1,6 +1,6 @@
 ghost use Rattle.std.specs.Prelude.{◌≡◌, ◌+◌, ◌*◌, ◌<◌, ◌≤◌, ◌^◌, ◌==◌, ◌||◌, not, ℕ, true, false, length, replicate, slice_index, slice_index_or, slice_set, IfOk, IfSome, None, count_by};
 ghost use Rattle.ra_memory.specs.Image.{raw, IsReadWidth};
-ghost use Rattle.ra_operand.specs.Views.{mask_of};
+ghost use Rattle.ra_operand.specs.Views.{mask_of, view_of};
 ghost use Rattle.ra_indirect.specs.declared.node.Node.TheVariants.{View};
 ghost use Rattle.ra_indirect.specs.Pools.{node_at};
 ghost use Rattle.ra_memref.specs.Marks.{read_of, reads_of};
@@ -19,7 +19,7 @@ use crate::node_plan::NodePlan;
 use crate::watches::Watches;
 use ra_indirect::Node;
 use ra_memory::Image;
-use ra_operand::{Kind, compute, mask, transform, view};
+use ra_operand::{Kind, Size, compute, mask, transform, view};
 use ra_text::{OutOfMemory, read_words};
 use std::alloc::Global;
 use std::marker::Model;
@@ -241,9 +241,8 @@ impl Numbers {
             left -= usize::from(changed);
         }
         for number in at..nodes.len() {
-            let before = self.value(number);
-            self.take_node::<I, true>(image, nodes[number], slots, number);
-            changes.note(number as u32, before != self.value(number));
+            let changed = self.take_node::<I, true>(image, nodes[number], slots, number);
+            changes.note(number as u32, changed);
         }
         true
     }
@@ -252,7 +251,6 @@ impl Numbers {
     /// half of all, which it tells.
     pub fn note_cells(&self, due: &mut Flags, cell_nodes: &[u32]) -> bool
         requires cells { length cell_nodes.now ≡ length self.now.cells }
-        requires values { length self.now.values ≡ length due.old }
         requires few { length due.old < 2 ^ 30 }
         requires within { (k : ℕ) → k < length cell_nodes.now → slice_index cell_nodes.now k < length due.old }
 
@@ -260,17 +258,17 @@ impl Numbers {
         ensures kept { (n : ℕ) → slice_index_or due.new n true ≡ false → slice_index_or due.old n true ≡ false }
         ensures noted { result ≡ false → (cell : ℕ) → cell < length cell_nodes.now
             → slice_index_or due.new (slice_index cell_nodes.now cell) true ≡ false
-            → earlier_at self.now cell ≡ value_at self.now (slice_index cell_nodes.now cell) }
+            → earlier_at self.now cell ≡ slice_index self.now.cells cell }
     {
         let mut room = cell_nodes.len() / SHARE;
+        let (cells, earlier) = (&self.cells, &self.earlier);
         for cell in 0..cell_nodes.len() {
-            let node = cell_nodes[cell] as usize;
-            if self.earlier[cell] != self.values[node] {
+            if earlier[cell] != cells[cell] {
                 if room == 0 {
                     return true;
                 }
                 room -= 1;
-                due.put(node, true);
+                due.put(cell_nodes[cell] as usize, true);
             }
         }
         false
@@ -338,11 +336,9 @@ impl Numbers {
         ensures counter { I.counter image.new ≡ I.counter image.old }
         ensures reads { I.reads image.new ≡ I.reads image.old + reads_at node self.old (slice_index slots.now number) }
     {
-        let value = self.values[number];
         let earlier = self.earlier_by(node, slots, number);
-        self.take_node::<I, false>(image, node, slots, number);
+        let changed = self.take_node::<I, false>(image, node, slots, number);
         let earlier_now = self.earlier_by(node, slots, number);
-        let changed = value != self.values[number];
         Outcome {
             changed,
             seen: changed || earlier != earlier_now,
@@ -363,27 +359,29 @@ impl Numbers {
         }
     }
 
-    // Takes up one node of the pass. `ALL` tells the two passes apart, so that each has a function of its own, which the
-    // compiler puts in place.
+    // Takes up one node of the pass, and tells whether its number changed. `ALL` tells the two passes apart, so that
+    // each has a function of its own, which the compiler puts in place.
     fn take_node<I: Image, const ALL: bool>(
         &mut self,
         image: &mut I,
         node: Node,
         slots: &[u32],
         number: usize,
-    )
+    ) -> bool
         requires within { IsWithin node self.old slots.now number }
         requires here { number < length self.old.values }
         requires slots { length slots.now ≡ length self.old.values }
         requires agreed { IsAgreedAt node self.old (I.bytes image.old) (slice_index slots.now number) }
 
         ensures taken { self.new ≡ after_node node self.old (I.bytes image.old) slots.now number }
+        ensures changed { result ≡ not (value_at self.old number == value_at self.new number) }
 
         ensures bytes { I.bytes image.new ≡ I.bytes image.old }
         ensures counter { I.counter image.new ≡ I.counter image.old }
         ensures reads { I.reads image.new ≡ I.reads image.old + reads_at node self.old (slice_index slots.now number) }
     {
-        self.values[number] = match node {
+        let before = self.values[number];
+        let now = match node {
             Node::Const(n) => n,
             Node::Cell {
                 pointer,
@@ -395,13 +393,24 @@ impl Numbers {
             }
             Node::View { kind, size, cell } => {
                 let cell = cell as usize;
-                let looked = self.looked_at::<ALL>(CellView { kind, size, cell }, slots, number);
-                transform(kind, size, view(size, looked))
+                match kind {
+                    Kind::Mem => view_in_place(size, self.values[cell]),
+                    Kind::Delta | Kind::Prior | Kind::Bcd | Kind::Inverted => {
+                        let looked = self.looked_at::<ALL>(
+                            CellView { kind, size, cell },
+                            slots,
+                            number,
+                        );
+                        transform(kind, size, view(size, looked))
+                    }
+                }
             }
             Node::Arith { op, left, right } => {
                 compute(op, self.values[left as usize], self.values[right as usize])
             }
         };
+        self.values[number] = now;
+        before != now
     }
 
     // Reads the cell of a slot at its place of this frame where it is marked or moved, and keeps the
@@ -432,14 +441,18 @@ impl Numbers {
         ensures reads { I.reads image.new ≡ I.reads image.old
             + read_of (slice_index_or self.old.watches.marked slot true) (slice_index self.old.watches.places slot) place }
     {
-        self.earlier[slot] = self.cells[slot];
-        if self.watches.is_due(slot, place) {
-            self.watches.settle::<ALL>(slot, place);
-            let number = image.read(place, width);
-            self.cells[slot] = number;
-            return number;
+        let before = self.cells[slot];
+        self.earlier[slot] = before;
+        if !self.watches.settle::<ALL>(slot, place) {
+            return before;
         }
-        self.cells[slot]
+        let number = if width == 1 {
+            image.read(place, 1)
+        } else {
+            image.read(place, width)
+        };
+        self.cells[slot] = number;
+        number
     }
 
     // The number that a view of the cell looks at, which moves the prior where it is one.
@@ -454,10 +467,10 @@ impl Numbers {
             ≡ record self.old { priors = priors_after (View seen.kind seen.size seen.cell) self.old slots.now number } }
     {
         let CellView { kind, size, cell } = seen;
-        let cell_slot = slots[cell] as usize;
         match kind {
-            Kind::Delta => self.earlier[cell_slot],
+            Kind::Delta => self.earlier[slots[cell] as usize],
             Kind::Prior => {
+                let cell_slot = slots[cell] as usize;
                 let slot = slots[number] as usize;
                 let prior = moved_prior(
                     self.priors[slot],
@@ -470,6 +483,17 @@ impl Numbers {
             }
             Kind::Mem | Kind::Bcd | Kind::Inverted => self.values[cell],
         }
+    }
+}
+
+// The view of a number, of which that of a whole byte is in place.
+#[inline(always)]
+fn view_in_place(size: Size, number: u32) -> u32
+    ensures { result ≡ view_of size number }
+{
+    match size {
+        Size::Byte => number & 0xFF,
+        _ => view(size, number),
     }
 }
 

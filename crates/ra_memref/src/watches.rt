@@ -1,8 +1,8 @@
-ghost use Rattle.std.specs.Prelude.{◌≡◌, ◌≢◌, ◌+◌, ◌-◌, ◌*◌, ◌<◌, ◌≤◌, ◌^◌, ◌==◌, ◌||◌, not, ℕ, true, false, length, replicate, slice_index, slice_index_or, slice_set, IfOk, IfSome, None, count_by};
-ghost use Rattle.ra_memref.specs.Flags.{NoneSet, IsFirstSet};
+ghost use Rattle.std.specs.Prelude.{◌≡◌, ◌≢◌, ◌+◌, ◌-◌, ◌*◌, ◌<◌, ◌≤◌, ◌^◌, ◌==◌, ◌||◌, not, ℕ, [], true, false, length, replicate, slice_index, slice_index_or, slice_set, IfOk, IfSome, None, count_by};
+ghost use Rattle.ra_memref.specs.Flags.{NoneSet, IsFirstSet, SetsBetween};
 ghost use Rattle.ra_memory.specs.Image.{IsReadWidth};
 ghost use Rattle.ra_links.specs.Rows.{holder_of, row_at};
-ghost use Rattle.ra_memref.specs.Watches.{IsOrder, one_unmarked, StandsAt, MarksWatchers, MarksOthers, marked_by, pages_of, first_page, second_page, watches_between};
+ghost use Rattle.ra_memref.specs.Watches.{IsOrder, order_by, one_unmarked, StandsAt, MarksWatchers, MarksOthers, marked_by, pages_of, first_page, second_page, watches_between};
 ghost use Rattle.ra_memref.specs.Marks.{page_of};
 ghost use Rattle.ra_memref.specs.Marking as spec;
 ghost use Rattle.ra_memref.specs.Marking.{is_at, is_other};
@@ -23,10 +23,11 @@ const PAGE: u32 = 16;
 /// docs/INTERNALS.md, "Marked and moved cells".
 ///
 /// A cell has two nodes: one for the page of its first byte, one for that of its last. The lists are those
-/// of an image of `listed` bytes: of the whole one, or of none. Where the flag `all` stands each cell is
-/// marked, and else each by its own mark. A look goes through the cells in an order in which each stands
-/// once: where there are lists in theirs, else by their first places, so that neighbours are read one after
-/// another. How many cells a look marked is counted, and seen by none. Only `new` takes memory.
+/// of an image of `listed` bytes: of the whole one, or of none. Each cell from `marked_from` on is marked,
+/// and each before it by its own mark. A look goes through the cells in an order in which each stands
+/// once: where there are lists in theirs, which takes no row, else by their first places, so that neighbours
+/// are read one after another. How many cells a look marked is counted, and seen by none. Only `new` takes
+/// memory.
 #[derive(Drop)]
 pub struct Watches {
     size: u32,
@@ -34,7 +35,7 @@ pub struct Watches {
     widths: Vec<u8>,
     places: Vec<u32>,
     marks: Flags,
-    all: bool,
+    marked_from: usize,
     pages: Links,
     order: Vec<u32>,
     seen: usize,
@@ -45,7 +46,7 @@ impl Model for Watches {
 
     ghost Value = { WatchesSeen };
 
-    ghost view = { λ w. record { size = w.size; widths = w.widths.items; places = w.places.items; marked = marked_by w.all w.marks } };
+    ghost view = { λ w. record { size = w.size; widths = w.widths.items; places = w.places.items; marked = marked_by w.marked_from w.marks } };
 
     ghost invariant = { λ w. AreWatched w.listed w.widths.items w.places.items w.marks w.pages w.order.items };
 }
@@ -80,7 +81,7 @@ impl Watches {
             widths,
             places,
             marks,
-            all: true,
+            marked_from: 0,
             pages,
             order,
             seen: 0,
@@ -94,57 +95,41 @@ impl Watches {
         self.places.len()
     }
 
-    /// A cell is marked.
-    pub fn is_marked(&self, cell: usize) -> bool
-        requires { cell < length self.now.places }
-        ensures { result ≡ slice_index_or self.now.marked cell true }
-    {
-        self.all || self.marks.is_set(cell)
-    }
-
     /// The first marked cell from one on. None exactly where none is.
     pub fn next_marked(&mut self, from: usize) -> Option<usize>
         ensures first { IfSome result (λ n. IsFirstSet self.old.marked from n) }
         ensures none { result ≡ None → NoneSet self.old.marked from (length self.old.marked) }
         ensures same { self.new ≡ self.old }
     {
-        if self.all {
-            self.marks.fill();
-            self.all = false;
-        }
+        self.marked_from = own_marks(&mut self.marks, self.marked_from, self.places.len());
         self.marks.next_from(from)
     }
 
-    /// A cell is marked, or its place is another one.
-    pub fn is_due(&self, cell: usize, place: u32) -> bool
-        requires { cell < length self.now.places }
-        ensures { result ≡ (slice_index_or self.now.marked cell true || not (slice_index self.now.places cell == place)) }
-    {
-        self.is_marked(cell) || self.places[cell] != place
-    }
-
-    /// Unmarks a cell, and moves it to a place, in either of two passes.
-    pub fn settle<const ALL: bool>(&mut self, cell: usize, place: u32)
+    /// Unmarks a cell and moves it to a place, in either of two passes, and tells whether it was marked or
+    /// lay at another place.
+    pub fn settle<const ALL: bool>(&mut self, cell: usize, place: u32) -> bool
         requires { cell < length self.old.places }
-        ensures { self.new ≡ record self.old {
+        ensures due { result ≡ (slice_index_or self.old.marked cell true || not (slice_index self.old.places cell == place)) }
+        ensures settled { self.new ≡ record self.old {
           places = slice_set self.old.places cell place;
           marked = slice_set self.old.marked cell false;
         } }
     {
-        unmark(self.all, &mut self.marks, cell);
-        self.all = false;
-        if self.places[cell] != place {
-            let width = self.widths[cell];
-            stand(&mut self.pages, self.listed, cell as u32, place, width);
-            self.places[cell] = place;
+        if self.places[cell] == place {
+            return unmark(&mut self.marks, &mut self.marked_from, cell);
         }
+        let width = self.widths[cell];
+        stand(&mut self.pages, self.listed, cell as u32, place, width);
+        self.places[cell] = place;
+        unmark(&mut self.marks, &mut self.marked_from, cell);
+        true
     }
 
     /// Marks all cells, in constant time.
     pub fn mark_all(&mut self)
         ensures { self.new ≡ record self.old { marked = replicate (length self.old.places) true } }
     {
-        self.all = true;
+        self.marked_from = 0;
     }
 
     /// Marks the cells that watch a page of one of `count` bytes from the address `at` on: by the lists of
@@ -182,19 +167,15 @@ impl Watches {
         ensures bytes { I.bytes image.new ≡ I.bytes image.old }
         ensures counter { I.counter image.new ≡ I.counter image.old }
     {
-        if self.all {
+        if self.marked_from == 0 {
             return;
         }
+        self.marked_from = own_marks(&mut self.marks, self.marked_from, self.places.len());
         let cells = CellPlaces {
             places: &self.places,
             widths: &self.widths,
         };
-        let anew = match self.marks.next_from(0) {
-            Some(_) => {
-                mark_others::<I, true>(image, &mut self.marks, &self.order, &cells, numbers)
-            }
-            None => mark_others::<I, false>(image, &mut self.marks, &self.order, &cells, numbers),
-        };
+        let anew = mark_anew(image, &mut self.marks, &self.order, &cells, numbers);
         self.seen = self.seen.saturating_add(anew);
     }
 
@@ -211,15 +192,62 @@ impl Watches {
     }
 }
 
-// Unmarks one cell, and leaves the others their own marks where a flag marked all.
-fn unmark(all: bool, marks: &mut Flags, cell: usize)
-    requires { cell < length marks.old }
-    ensures { marks.new ≡ slice_set (marked_by all marks.old) cell false }
+// Unmarks a cell, and tells whether it was marked. A pass in order takes the first of those that are marked
+// together, which leaves them; what is passed over by another one gets its own mark.
+#[inline(always)]
+fn unmark(marks: &mut Flags, marked_from: &mut usize, cell: usize) -> bool
+    requires cell { cell < length marks.old }
+    requires few { length marks.old < 2 ^ 30 }
+    ensures was { result ≡ slice_index_or (marked_by marked_from.old marks.old) cell true }
+    ensures long { length marks.new ≡ length marks.old }
+    ensures unmarked { marked_by marked_from.new marks.new ≡ slice_set (marked_by marked_from.old marks.old) cell false }
 {
-    if all {
-        marks.fill();
+    if cell < *marked_from {
+        return take_back(marks, cell);
     }
-    marks.put(cell, false);
+    set_between(marks, *marked_from, cell);
+    *marked_from = cell + 1;
+    take_back(marks, cell);
+    true
+}
+
+// Takes the own mark of a cell back, and tells whether it was set.
+#[inline(always)]
+fn take_back(marks: &mut Flags, cell: usize) -> bool
+    requires { cell < length marks.old }
+    ensures was { result ≡ slice_index_or marks.old cell true }
+    ensures unset { marks.new ≡ slice_set marks.old cell false }
+{
+    let own = marks.is_set(cell);
+    if own {
+        marks.put(cell, false);
+    }
+    own
+}
+
+// Gives each of the cells, which are this many, its own mark, and tells from where on they are marked together.
+fn own_marks(marks: &mut Flags, marked_from: usize, count: usize) -> usize
+    requires { count ≡ length marks.old }
+    ensures own { marks.new ≡ marked_by marked_from marks.old }
+    ensures long { length marks.new ≡ length marks.old }
+    ensures past { count ≤ result }
+{
+    if count <= marked_from {
+        return marked_from;
+    }
+    set_between(marks, marked_from, count);
+    count
+}
+
+// Sets the flags from a place on and before another.
+fn set_between(marks: &mut Flags, from: usize, to: usize)
+    requires order { from ≤ to }
+    requires within { to ≤ length marks.old }
+    ensures { SetsBetween from to marks.old marks.new }
+{
+    for place in from..to {
+        marks.put(place, true);
+    }
 }
 
 // Marks what stands on a list by one of its two nodes.
@@ -283,18 +311,19 @@ fn is_between(first: u32, end: u32, page: Option<u32>) -> bool
     }
 }
 
-// Each cell once: in their order, or by their places.
+// Each cell once: by their places, or with no row in their own order.
 fn order_of(alloc: Global, places: &[u32], by_place: bool) -> Result<Vec<u32>, OutOfMemory>
     requires few { length places.now < 2 ^ 30 }
-    ensures { IfOk result (λ order. IsOrder (length places.now) order.items) }
+    ensures { IfOk result (λ order. IsOrder (length places.now) (order_by (length places.now) order.items)) }
 {
+    if !by_place {
+        return Ok(Vec::new(alloc));
+    }
     let mut order = Vec::with_capacity(alloc, places.len())?;
     for cell in 0..places.len() {
         order.push(cell as u32)?;
     }
-    if by_place {
-        order.sort_unstable_by_key(|cell| place_of(places, *cell));
-    }
+    order.sort_unstable_by_key(|cell| place_of(places, *cell));
     Ok(order)
 }
 
@@ -307,8 +336,9 @@ fn place_of(places: &[u32], cell: u32) -> u32 {
 }
 
 // Marks what is not marked and has another number in the image than this one, cell by cell in this order,
-// and counts it: where some are marked, or where none is. No clause speaks of the count.
-fn mark_others<I: Image, const SOME: bool>(
+// and counts it: where some are marked, or where none is, and by a row, or without one. No clause speaks of
+// the count.
+fn mark_others<I: Image, const SOME: bool, const ROW: bool>(
     image: &mut I,
     marks: &mut Flags,
     order: &[u32],
@@ -316,7 +346,9 @@ fn mark_others<I: Image, const SOME: bool>(
     numbers: &[u32],
 ) -> usize
     requires some { SOME ≡ false → NoneSet marks.old 0 (length marks.old) }
-    requires order { IsOrder (length marks.old) order.now }
+    requires row { ROW ≡ false → order.now ≡ [] }
+    requires row_too { ROW ≡ true → 0 < length order.now }
+    requires order { IsOrder (length cells.now.places.now) (order_by (length cells.now.places.now) order.now) }
     requires places { length cells.now.places.now ≡ length marks.old }
     requires widths { length cells.now.widths.now ≡ length marks.old }
     requires numbers { length numbers.now ≡ length marks.old }
@@ -331,8 +363,9 @@ fn mark_others<I: Image, const SOME: bool>(
 {
     let (places, widths) = (cells.places, cells.widths);
     let mut anew: usize = 0;
-    for next in order {
-        let cell = *next as usize;
+    let count = places.len();
+    for turn in 0..count {
+        let cell = cell_at::<ROW>(order, turn, count);
         let kept = KeptCell {
             place: places[cell],
             width: widths[cell],
@@ -343,6 +376,58 @@ fn mark_others<I: Image, const SOME: bool>(
         }
     }
     anew
+}
+
+// The same, where it is not known whether some are marked.
+fn mark_anew<I: Image>(
+    image: &mut I,
+    marks: &mut Flags,
+    order: &[u32],
+    cells: &CellPlaces<'_>,
+    numbers: &[u32],
+) -> usize
+    requires order { IsOrder (length cells.now.places.now) (order_by (length cells.now.places.now) order.now) }
+    requires places { length cells.now.places.now ≡ length marks.old }
+    requires widths { length cells.now.widths.now ≡ length marks.old }
+    requires numbers { length numbers.now ≡ length marks.old }
+    requires wide { (k : ℕ) → k < length marks.old → IsReadWidth (slice_index cells.now.widths.now k) }
+    ensures long { length marks.new ≡ length marks.old }
+    ensures marked { (k : ℕ) → k < length marks.old → slice_index_or marks.new k true
+        ≡ (slice_index_or marks.old k true || is_other (I.bytes image.old) (slice_index cells.now.widths.now k)
+        (slice_index cells.now.places.now k) (slice_index numbers.now k)) }
+    ensures reads { I.reads image.new ≡ I.reads image.old + count_by not marks.old }
+    ensures bytes { I.bytes image.new ≡ I.bytes image.old }
+    ensures counter { I.counter image.new ≡ I.counter image.old }
+{
+    match marks.next_from(0) {
+        Some(_) => {
+            if order.is_empty() {
+                mark_others::<I, true, false>(image, marks, order, cells, numbers)
+            } else {
+                mark_others::<I, true, true>(image, marks, order, cells, numbers)
+            }
+        }
+        None => {
+            if order.is_empty() {
+                mark_others::<I, false, false>(image, marks, order, cells, numbers)
+            } else {
+                mark_others::<I, false, true>(image, marks, order, cells, numbers)
+            }
+        }
+    }
+}
+
+// The cell whose turn it is, by a row or without one.
+#[inline(always)]
+fn cell_at<const ROW: bool>(order: &[u32], turn: usize, count: usize) -> usize
+    requires row { ROW ≡ false → order.now ≡ [] }
+    requires within { ROW ≡ true → turn < length order.now }
+    requires order { IsOrder count (order_by count order.now) }
+    requires turn { turn < count }
+    ensures cell { result ≡ slice_index (order_by count order.now) turn }
+    ensures within { result < count }
+{
+    if ROW { order[turn] as usize } else { turn }
 }
 
 // Marks a cell where it is not marked, which is asked where it may be, and has another number in the image

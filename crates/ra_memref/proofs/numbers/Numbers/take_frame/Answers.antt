@@ -1,4 +1,4 @@
-use Rattle.std.proofs.Common.{not, ◌==◌, ap, ap₂, ◌∙◌, refl, arith, length}
+use Rattle.std.proofs.Common.{ap, ◌∙◌, refl, arith, length}
 use Rattle.ra_memref.proofs.UnderWay.{under_way, way_first, way_end, within_way, agreed_way, settled_way, way_on}
 use Rattle.ra_memref.proofs.UnderWay.{way_taken, way_noted, way_counted}
 use Rattle.ra_memref.proofs.DueLemmas.{settled_to}
@@ -69,19 +69,19 @@ loop-number-init g c =
           }
     ]
 
-pub take_node-requires-clause-within : goal.take_node-requires-clause-within
-take_node-requires-clause-within g c = within_way c.loop-number.invariant.way c.loop-number-test.true
+pub take_node-changed-requires-clause-within : goal.take_node-changed-requires-clause-within
+take_node-changed-requires-clause-within g c = within_way c.loop-number.invariant.way c.loop-number-test.true
 
-pub take_node-requires-clause-agreed : goal.take_node-requires-clause-agreed
-take_node-requires-clause-agreed g c = agreed_way c.loop-number.invariant.way c.loop-number-test.true
+pub take_node-changed-requires-clause-agreed : goal.take_node-changed-requires-clause-agreed
+take_node-changed-requires-clause-agreed g c = agreed_way c.loop-number.invariant.way c.loop-number-test.true
 
 pub loop-number-preserved : goal.loop-number-preserved
 loop-number-preserved g c =
     let done = c.loop-number.invariant in
-    let e = c.take_node.ensures in
+    let e = c.take_node-changed.ensures in
     record {
       way = rw c.note-in-loop-number.ensures (way_on done.way c.loop-number-test.true e.taken e.bytes e.counter e.reads
-          (ap₂ (λ x y. not (x == y)) c.value-before.ensures c.value.ensures));
+          e.changed);
       settled = settled_way done.way c.loop-number-test.true e.taken _ done.settled;
       dues = done.dues;
     }

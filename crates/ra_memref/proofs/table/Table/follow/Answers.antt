@@ -9,7 +9,14 @@ returns-clause-taken g c =
     let taken : Samples c.look.new.self c.sample.new.self image = subst (λ bytes. Samples
     c.look.new.self c.sample.new.self bytes) c.look.ensures.bytes c.sample.ensures.taken in
     let s = subst (λ t. Samples t c.sample.new.self image) c.look.ensures.looked.rest taken in
-    record { pool = s.pool; kept = s.kept; values = s.values; is_sampled = s.is_sampled; places = s.places; agrees = s.agrees }
+    record {
+      pool = s.pool;
+      kept = s.kept;
+      values = s.values;
+      is_sampled = s.is_sampled;
+      places = s.places;
+      agrees = s.agrees;
+    }
 
 pub returns-clause-changed : goal.returns-clause-changed
 returns-clause-changed g c =

@@ -1,6 +1,6 @@
 use Rattle.std.proofs.Common.{subst, ◌≡◌, ◌∙◌, ◌*◌, [], ap, length, replicate, true, arith}
 use Rattle.std.proofs.lemmas.List.{length-replicate}
-use Rattle.ra_memref.specs.Watches.{IsOrder, pages_of}
+use Rattle.ra_memref.specs.Watches.{IsOrder, order_by, pages_of}
 use Rattle.ra_memref.proofs.Indexed.{standing_more, standing_none, puts_of, read_at}
 use Rattle.ra_memref.proofs.watches.Watches.new.Goals as goal
 
@@ -37,5 +37,6 @@ invariant_of-result c =
         nodes = standing.nodes;
         stands = λ k below. standing.stands k (omega (arith, below, end));
       };
-      ordered = subst (λ xs. IsOrder (length xs) c.in_ok-order.order.items) c.deref.ensures.value c.in_ok-order.ensures;
+      ordered = subst (λ xs. IsOrder (length xs) (order_by (length xs) c.in_ok-order.order.items))
+          c.deref.ensures.value c.in_ok-order.ensures;
     }

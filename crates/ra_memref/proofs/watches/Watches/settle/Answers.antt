@@ -1,26 +1,28 @@
-use Rattle.std.proofs.Common.{false, subst, sym, ◌≡◌, ◌∙◌, ◌<◌, length, arith, refl, ap}
+use Rattle.std.proofs.Common.{subst, sym, ◌<◌, length, arith, refl, ap}
 use Rattle.std.proofs.lemmas.List.{length-set}
-use Rattle.ra_memref.proofs.Telling.{length-marked_by}
-use Rattle.ra_memref.specs.Watches.{WatchesSeen, IsOrder, marked_by}
-use Rattle.ra_memref.proofs.Indexed.{indexed_moved, puts_of, read_at}
+use Rattle.ra_memref.specs.Watches.{WatchesSeen, IsOrder, order_by}
+use Rattle.ra_memref.proofs.Indexed.{indexed_moved, puts_of, read_at, rewatched}
 use Rattle.ra_memref.proofs.watches.Watches.settle.Goals as goal
 
+pub unmark-requires-clause-few : goal.unmark-requires-clause-few
+unmark-requires-clause-few g c = omega (arith, c.self.invariant.indexed.few, c.self.invariant.indexed.marks_too)
+
 pub invariant_of-self : goal.invariant_of-self
-invariant_of-self g c =
+invariant_of-self g c = rewatched c.unmark.ensures.long c.self.invariant
+
+pub invariant_of-self-2 : goal.invariant_of-self-2
+invariant_of-self-2 g c =
     let below : c.args.cell < length c.self.inside.places.items =
     omega (arith, c.requires, ap (λ (w : WatchesSeen). length w.places) c.self.view_is) in
-    let long : length c.unmark.new.marks ≡ length c.self.inside.marks =
-    ap length c.unmark.ensures ∙ length-set (marked_by c.self.inside.all c.self.inside.marks)
-    c.args.cell false ∙ length-marked_by c.self.inside.all c.self.inside.marks in
     record {
       indexed = indexed_moved c.self.inside.listed c.self.inside.widths.items
           c.self.inside.places.items c.self.inside.marks _ c.self.inside.pages c.stand.new.pages
-          c.args.cell c.args.place c.self.invariant.indexed below long
+          c.args.cell c.args.place c.self.invariant.indexed below c.unmark-2.ensures.long
           (puts_of c.self.inside.pages c.stand.new.pages c.self.inside.listed c.args.cell _ _ _ _
           refl (read_at c.self.inside.widths.items c.args.cell _
           (omega (arith, below, c.self.invariant.indexed.widths_too)) c.index-width.ensures)
           c.stand.ensures.stands c.stand.ensures.others c.stand.ensures.lists
           c.stand.ensures.nodes);
-      ordered = subst (λ n. IsOrder n c.self.inside.order.items) (sym (length-set
+      ordered = subst (λ n. IsOrder n (order_by n c.self.inside.order.items)) (sym (length-set
           c.self.inside.places.items c.args.cell c.args.place)) c.self.invariant.ordered;
     }
