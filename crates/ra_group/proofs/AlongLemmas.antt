@@ -52,7 +52,12 @@ length-flat_map f size long (x ∷ xs) =
 -- the pass order has each condition once
 pub length-pass_order : (cs : List Condition) → length (pass_order cs) ≡ length cs
 length-pass_order cs =
-    omega (arith, length-append (filter (in_pause_chain cs) (places cs)) (filter (λ j. not (in_pause_chain cs j)) (places cs)), length-filter_both (in_pause_chain cs) (λ j. not (in_pause_chain cs j)) (λ j. refl) (places cs), length-range_with_len 0 (length cs))
+    omega (
+      arith,
+      length-append (filter (in_pause_chain cs) (places cs)) (filter (λ j. not (in_pause_chain cs j)) (places cs)),
+      length-filter_both (in_pause_chain cs) (λ j. not (in_pause_chain cs j)) (λ j. refl) (places cs),
+      length-range_with_len 0 (length cs),
+    )
 
 module _ (groups : List (List Condition)) (reads : Reads) (read : ReadsGroups groups reads) where
   length-orders : length reads.orders.now ≡ sum_by length groups

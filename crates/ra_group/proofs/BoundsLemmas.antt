@@ -58,8 +58,11 @@ small-prev_of f small (suc m) =
     let c = condition_at f.conditions m in
     let own = add_by-within (prev_of f m) (m * 2 ^ 32) before in
     small_either (suc m * 2 ^ 32) (hands_on c.flag) (combines c.flag) (prev_of f m) (settled_after f (prev_of f m) m)
-    (small_wider (m * 2 ^ 32) (suc m * 2 ^ 32) (prev_of f m) (omega arith) before)
-    (wider (m * 2 ^ 32 + 2 ^ 32) (suc m * 2 ^ 32) (add_by (prev_of f m)) (omega arith) own, hits_after-small (reset_by (prev_of f m)) (met (prev_of f m) (slice_index_or f.truths m false)) c.target (slice_index f.hits m) (small m))
+    (small_wider (m * 2 ^ 32) (suc m * 2 ^ 32) (prev_of f m) (omega arith) before) (
+      wider (m * 2 ^ 32 + 2 ^ 32) (suc m * 2 ^ 32) (add_by (prev_of f m)) (omega arith) own,
+      hits_after-small (reset_by (prev_of f m)) (met (prev_of f m)
+          (slice_index_or f.truths m false)) c.target (slice_index f.hits m) (small m),
+    )
 
 -- what settling a condition asks of what is seen before it
 pub AddWithin-prev_of : (f : Frame) → ((k : ℕ) → slice_index f.hits k < 2 ^ 32) → (m : ℕ)

@@ -63,8 +63,11 @@ module _ (class : Flag → Bool) (f : Frame) where
 
   pub all_valid-EachValid : (all_valid class f (places f.conditions) ≡ true) ↔ EachValid class f
   all_valid-EachValid = (
-    λ h. record
-        { at = λ j l e. by_class (class (flag_at f.conditions j)) (settled_at f j).valid e (all_from (λ k. not (class (flag_at f.conditions k)) || (settled_at f k).valid) 0 (length f.conditions) h j (omega arith) (omega arith)) },
+    λ h. record {
+      at = λ j l e. by_class (class (flag_at f.conditions j)) (settled_at f j).valid e
+          (all_from (λ k. not (class (flag_at f.conditions k)) || (settled_at f k).valid) 0
+          (length f.conditions) h j (omega arith) (omega arith));
+    },
     λ s. all_to (λ k. not (class (flag_at f.conditions k)) || (settled_at f k).valid) 0
         (length f.conditions) (λ j g l. by_valid (class (flag_at f.conditions j)) refl
         (settled_at f j).valid refl (s.at j (omega arith))),
@@ -161,9 +164,23 @@ module _ (form : Form) (f : Frame) where
           ] in
           elim (cases_lt (number_at form f a) k) [
             | inl less ↦
-                record { place = rest.place; from = omega (arith, rest.from); below = omega (arith, rest.below); measured = rest.measured; number = omega (arith, most, rest.number); above = above }
+                record {
+                  place = rest.place;
+                  from = omega (arith, rest.from);
+                  below = omega (arith, rest.below);
+                  measured = rest.measured;
+                  number = omega (arith, most, rest.number);
+                  above = above;
+                }
             | inr more ↦
-                record { place = a; from = omega arith; below = omega arith; measured = e; number = omega (arith, most); above = above }
+                record {
+                  place = a;
+                  from = omega arith;
+                  below = omega arith;
+                  measured = e;
+                  number = omega (arith, most);
+                  above = above;
+                }
           ]
 
   greatest_unmeasured : (a n : ℕ) → ((j : ℕ) → a ≤ j → j < a + n
@@ -220,7 +237,13 @@ module _ (form : Form) (f : Frame) where
           let all = (all_valid-EachValid is_measured_if f).1 counts in
           let on = greatest_some 0 (length f.conditions) n
           (sym (ap (λ b. option_if b (greatest form f (places f.conditions))) all) ∙ h) in
-          record { place = on.place; within = omega (arith, on.below); measured = on.measured; number = on.number; above = λ j l q. on.above j (omega arith) (omega arith) q }
+          record {
+            place = on.place;
+            within = omega (arith, on.below);
+            measured = on.measured;
+            number = on.number;
+            above = λ j l q. on.above j (omega arith) (omega arith) q;
+          }
 
   pub measured_zero : (n : ℕ) → (outcome_of form f).measured ≡ Some n → ¬ (EachValid is_measured_if f) → n ≡ 0
   measured_zero n h some = by_pause (outcome_of form f).paused (all_valid is_measured_if f
@@ -251,8 +274,11 @@ module _ (form : Form) (f : Frame) where
   holds_is class = (
     λ h. let parts = and_parts (not (outcome_of form f).paused && not (outcome_of form f).reset)
         (all_valid class f (places f.conditions)) h in
-        let open_parts = and_parts (not (outcome_of form f).paused) (not (outcome_of form f).reset) parts.0 in
-        (not-true (outcome_of form f).paused open_parts.0, not-true (outcome_of form f).reset open_parts.1, (all_valid-EachValid class f).0 parts.1),
+        let open_parts = and_parts (not (outcome_of form f).paused) (not (outcome_of form f).reset) parts.0 in (
+          not-true (outcome_of form f).paused open_parts.0,
+          not-true (outcome_of form f).reset open_parts.1,
+          (all_valid-EachValid class f).0 parts.1,
+        ),
     λ p. and_from (not (outcome_of form f).paused && not (outcome_of form f).reset)
         (all_valid class f (places f.conditions))
         (and_from (not (outcome_of form f).paused) (not (outcome_of form f).reset) (not_from_false

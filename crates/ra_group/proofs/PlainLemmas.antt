@@ -1,5 +1,5 @@
 -- A plain condition without a target, with nothing before it in its chain.
-use Rattle.std.proofs.Common.{◌≡◌, ℕ, Bool, ◌&&◌, Option, sym, ap, ◌∙◌, refl, subst}
+use Rattle.std.proofs.Common.{◌≡◌, ℕ, Bool, ◌&&◌, Option, None, sym, ap, ◌∙◌, refl, subst}
 use Rattle.std.proofs.Math.Bool.{or-false, and-true}
 use Rattle.std.specs.Prelude.{if◌then◌else◌, false}
 use Rattle.ra_condition.specs.declared.flag.Flag.{Flag}
@@ -10,7 +10,7 @@ use Rattle.ra_group.specs.declared.form.Form.{Form}
 use Rattle.ra_group.specs.declared.settled.Settled.{Settled}
 use Rattle.ra_group.specs.declared.tally.Tally.{Tally}
 use Rattle.ra_group.specs.Equations.{hits_after, met, reset_by, seen_after, settled, valid_alone, valid_by}
-use Rattle.ra_group.specs.Tallies.{StandsPlain, noted}
+use Rattle.ra_group.specs.Tallies.{IsPlain, noted}
 use Rattle.ra_group.proofs.Carried.{seen_after_last}
 use Rattle.ra_group.proofs.TallyLemmas.{larger_none, same_tally}
 
@@ -18,29 +18,30 @@ use Rattle.ra_group.proofs.TallyLemmas.{larger_none, same_tally}
 abbrev pub wanting : Tally → Bool → Tally
 wanting t truth = record t { valid = t.valid && truth; primed = t.primed && truth }
 
-module _ (c : Condition) (t : Bool) (h : ℕ) (before : Option Settled) (stands : StandsPlain c before) where
+module _ (c : Condition) (t : Bool) (h : ℕ) (before : Option Settled) (is : IsPlain c)
+    (first : before ≡ None) where
   -- it leaves nothing for the next one to see
   pub plain_carries : before ≡ seen_after c (settled c t h before) before
-  plain_carries = stands.alone ∙ sym (seen_after_last c (settled c t h before) before (ap combines stands.plain))
+  plain_carries = first ∙ sym (seen_after_last c (settled c t h before) before (ap combines is.plain))
 
   hit_alone : (settled c t h before).hit ≡ hits_after false t 0 h
   hit_alone =
-      ap (λ (b : Option Settled). hits_after (reset_by b) (met b t) c.target h) stands.alone
-      ∙ ap (λ (n : ℕ). hits_after false t n h) stands.free
+      ap (λ (b : Option Settled). hits_after (reset_by b) (met b t) c.target h) first
+      ∙ ap (λ (n : ℕ). hits_after false t n h) is.free
 
   -- it has one hit more where it holds
   pub plain_hits : hits_after false t 0 h ≡ (if hands_on c.flag then h else (settled c t h before).hit)
-  plain_hits = sym (ap (λ (f : Flag). if hands_on f then h else (settled c t h before).hit) stands.plain ∙ hit_alone)
+  plain_hits = sym (ap (λ (f : Flag). if hands_on f then h else (settled c t h before).hit) is.plain ∙ hit_alone)
 
   -- it is valid where it holds
   pub plain_valid : (settled c t h before).valid ≡ t
   plain_valid =
       let here = settled c t h before in
       let alone = valid_alone (reset_by before) (met before t) c.target here.hit in
-      ap (λ (f : Flag). valid_by f c.target here.total alone) stands.plain
-      ∙ ap (λ (n : ℕ). valid_by Plain n here.total alone) stands.free
-      ∙ ap (λ (b : Option Settled). valid_alone (reset_by b) (met b t) c.target here.hit) stands.alone
-      ∙ ap (λ (n : ℕ). valid_alone false t n here.hit) stands.free
+      ap (λ (f : Flag). valid_by f c.target here.total alone) is.plain
+      ∙ ap (λ (n : ℕ). valid_by Plain n here.total alone) is.free
+      ∙ ap (λ (b : Option Settled). valid_alone (reset_by b) (met b t) c.target here.hit) first
+      ∙ ap (λ (n : ℕ). valid_alone false t n here.hit) is.free
 
 noted_flag : (form : Form) (c : Condition) (here : Settled) (left : ℕ) (t : Tally)
     → noted form (record c { flag = Plain }) here left t ≡ wanting t here.valid

@@ -77,7 +77,15 @@ greatest_push form f js j = greatest-append form f js (j ∷ [])
 
 abbrev tally : (paused reset valid primed counting : Bool) → Option ℕ → Bool → Tally
 tally paused reset valid primed counting greatest from_hits =
-    record { paused = paused; reset = reset; valid = valid; primed = primed; counting = counting; greatest = greatest; from_hits = from_hits }
+    record {
+      paused = paused;
+      reset = reset;
+      valid = valid;
+      primed = primed;
+      counting = counting;
+      greatest = greatest;
+      from_hits = from_hits;
+    }
 
 pub same_tally : {a b c d e h a' b' c' d' e' h' : Bool} {g g' : Option ℕ} → a ≡ a' → b ≡ b' → c ≡ c'
     → d ≡ d' → e ≡ e' → g ≡ g' → h ≡ h' → tally a b c d e g h ≡ tally a' b' c' d' e' g' h'
@@ -132,7 +140,15 @@ tally_of-parts form f q js =
     && from_total form (condition_at f.conditions i)) q js)
 
 same_left : (t : Tally)
-    → record { paused = t.paused || false; reset = t.reset || false; valid = t.valid && true; primed = t.primed && true; counting = t.counting && true; greatest = larger t.greatest None; from_hits = t.from_hits || false } ≡ t
+    → record {
+      paused = t.paused || false;
+      reset = t.reset || false;
+      valid = t.valid && true;
+      primed = t.primed && true;
+      counting = t.counting && true;
+      greatest = larger t.greatest None;
+      from_hits = t.from_hits || false;
+    } ≡ t
 same_left t =
     same_tally (or-false t.paused) (or-false t.reset) (and-true t.valid) (and-true t.primed) (and-true t.counting)
     (larger_none t.greatest) (or-false t.from_hits)

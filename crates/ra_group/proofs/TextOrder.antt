@@ -1,23 +1,28 @@
 -- A group without pause chains: its pass order is that of its text, and it is not paused.
-use Rattle.std.proofs.Common.{◌≡◌, ℕ, ◌<◌, ◌≤◌, ◌-◌, ◌^◌, Bool, true, false, not, ◌&&◌, cond, leb, Option, List, []}
-use Rattle.std.proofs.Common.{◌∷◌, ◌++◌, length, get_or, take, refl, sym, ap, ◌∙◌, inl, inr, arith}
+use Rattle.std.proofs.Common.{◌≡◌, ℕ, ◌<◌, ◌≤◌, ◌+◌, ◌-◌, ◌^◌, Bool, true, false, not, ◌&&◌, cond, leb, Option, None}
+use Rattle.std.proofs.Common.{List, [], ◌∷◌, ◌++◌, length, get_or, set, take, slice_index, slice_index_or, refl, sym}
+use Rattle.std.proofs.Common.{ap, ◌∙◌, subst, inl, inr, arith}
 use Rattle.std.specs.List.{filter}
 use Rattle.std.proofs.lemmas.Bool.{cases_lt}
+use Rattle.std.proofs.lemmas.List.{take_all}
 use Rattle.std.proofs.lemmas.List.FromFn.{get_or-range_with_len}
 use Rattle.ra_condition.specs.declared.condition.Condition.{Condition}
-use Rattle.ra_condition.specs.Flags.{is_pause}
+use Rattle.ra_condition.specs.Flags.{hands_on, is_pause}
+use Rattle.ra_condition.specs.Contents.{condition_at, flag_at}
 use Rattle.ra_condition.specs.Chains.{in_pause_chain, places, pass_order}
 use Rattle.ra_condition.proofs.OrderLemmas.{pausing}
 use Rattle.ra_group.specs.declared.form.Form.{Form}
 use Rattle.ra_group.specs.declared.settled.Settled.{Settled}
 use Rattle.ra_group.specs.declared.tally.Tally.{Tally}
 use Rattle.ra_group.specs.Along.{pause_count}
-use Rattle.ra_group.specs.Equations.{Frame}
+use Rattle.ra_group.specs.Equations.{Frame, hits_after, settled}
 use Rattle.ra_group.specs.Outcome.{some_valid}
+use Rattle.ra_group.specs.Tallies.{IsPlain, no_tally}
 use Rattle.ra_group.proofs.AlongLemmas.{length-pass_order}
 use Rattle.ra_group.proofs.PassLemmas.{HasPassed}
+use Rattle.ra_group.proofs.PlainLemmas.{noted_plain, plain_carries, plain_hits, plain_valid, wanting}
 use Rattle.ra_group.proofs.Turns.{paused-places}
-use Rattle.ra_group.proofs.TurnLemmas.{each_turn}
+use Rattle.ra_group.proofs.TurnLemmas.{IsVisited, each_turn, turn_handed, turn_visited}
 
 none_of_length : (xs : List ℕ) → length xs ≡ 0 → xs ≡ []
 none_of_length [] e = refl
@@ -63,6 +68,58 @@ open_in_text form f k before tally hits e l p =
           ∙ sym (paused-places f) ∙ none in
           sym (ap (λ b. b && leb (length (pausing f.conditions)) k) paused)
     ]
+
+-- the pass has come one place further
+pub visited_in_text : (form : Form) (f : Frame) (k : ℕ) (before before' : Option Settled)
+    (tally tally' : Tally) (hits hits' : List ℕ) → pause_count f.conditions ≡ 0 → k < length f.conditions
+    → length hits ≡ length f.conditions → IsVisited form f k false before before' tally tally' hits hits'
+    → HasPassed form f (take k (pass_order f.conditions)) before tally hits
+    → HasPassed form f (take (k + 1) (pass_order f.conditions)) before' tally' hits'
+visited_in_text form f k before before' tally tally' hits hits' e l long v p =
+    let within : k < length (pass_order f.conditions) = omega (arith, length-pass_order f.conditions) in
+    turn_visited form f (pass_order f.conditions) k refl within false before before' tally tally' hits
+    hits' long (open_in_text form f k before tally hits e l p)
+    (subst (λ (i : ℕ). IsVisited form f i false before before' tally tally' hits hits')
+    (sym (turn_in_text f.conditions k e l)) v) p
+
+-- and a plain condition with plain ones alone before it was wanted and counted
+pub plain_in_text : (form : Form) (f : Frame) (k : ℕ) (held : Bool) (hits : List ℕ)
+    → pause_count f.conditions ≡ 0 → k < length f.conditions → length hits ≡ length f.conditions
+    → IsPlain (condition_at f.conditions k)
+    → HasPassed form f (take k (pass_order f.conditions)) None (wanting no_tally held) hits
+    → HasPassed form f (take (k + 1) (pass_order f.conditions)) None
+    (wanting no_tally (held && slice_index_or f.truths k false))
+    (set hits k (hits_after false (slice_index_or f.truths k false) 0 (slice_index hits k)))
+plain_in_text form f k held hits e l long is p =
+    let c = condition_at f.conditions k in
+    let t = slice_index_or f.truths k false in
+    let h = slice_index hits k in
+    let valid = plain_valid c t h None is refl in
+    visited_in_text form f k None None (wanting no_tally held) (wanting no_tally (held && t)) hits
+    (set hits k (hits_after false t 0 h)) e l long (record {
+      carries = plain_carries c t h None is refl;
+      tallies = sym (noted_plain form c (settled c t h None) (slice_index f.lefts k) (wanting no_tally held)
+          is.plain ∙ ap (wanting (wanting no_tally held)) valid);
+      writes = ap (set hits k) (plain_hits c t h None is refl);
+    }) p
+
+-- one that only hands a value on changes nothing
+pub handed_in_text : (form : Form) (f : Frame) (k : ℕ) (held : Bool) (hits : List ℕ)
+    → pause_count f.conditions ≡ 0 → k < length f.conditions → hands_on (flag_at f.conditions k) ≡ true
+    → HasPassed form f (take k (pass_order f.conditions)) None (wanting no_tally held) hits
+    → HasPassed form f (take (k + 1) (pass_order f.conditions)) None (wanting no_tally held) hits
+handed_in_text form f k held hits e l handed p =
+    let within : k < length (pass_order f.conditions) = omega (arith, length-pass_order f.conditions) in
+    turn_handed form f (pass_order f.conditions) k refl within None (wanting no_tally held) hits
+    (ap (λ i. hands_on (flag_at f.conditions i)) (turn_in_text f.conditions k e l) ∙ handed) p
+
+-- at the end of the text it is over
+pub all_in_text : (form : Form) (f : Frame) (k : ℕ) (before : Option Settled) (tally : Tally) (hits : List ℕ)
+    → length f.conditions ≤ k → HasPassed form f (take k (pass_order f.conditions)) before tally hits
+    → HasPassed form f (pass_order f.conditions) before tally hits
+all_in_text form f k before tally hits l p =
+    subst (λ (js : List ℕ). HasPassed form f js before tally hits)
+    (take_all k (pass_order f.conditions) (omega (arith, length-pass_order f.conditions))) p
 
 -- it has no more places than are written in an order of words
 pub few_in_text : (cs : List Condition) (order : List ℕ) → order ≡ pass_order cs → pause_count cs

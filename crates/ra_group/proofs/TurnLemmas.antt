@@ -44,7 +44,11 @@ module _ (form : Form) (f : Frame) (order : List ℕ) (k : ℕ) (passes : order
             let t = turn_early f k (get_or order k 0) early at_order in
             inl (early, subst (λ (js : List ℕ). Turn f js (get_or order k 0)) front t.0, t.1)
         | inr late ↦
-            inr (late, subst (λ (js : List ℕ). LateTurn f js (get_or order k 0)) front (turn_late f k (get_or order k 0) late in_order at_order))
+            inr (
+              late,
+              subst (λ (js : List ℕ). LateTurn f js (get_or order k 0)) front
+                  (turn_late f k (get_or order k 0) late in_order at_order),
+            )
       ]
 
   pub any_turn : Turn f (take k order) (get_or order k 0)

@@ -83,7 +83,14 @@ settled c t h prev =
     let reset = reset_by prev in
     let hit = hits_after reset m c.target h in
     let total = clamped (pos hit +ℤ add_by prev) in
-    record { flag = c.flag; reset = reset; hit = hit; add = add_by prev; total = total; valid = valid_by c.flag c.target total (valid_alone reset m c.target hit) }
+    record {
+      flag = c.flag;
+      reset = reset;
+      hit = hit;
+      add = add_by prev;
+      total = total;
+      valid = valid_by c.flag c.target total (valid_alone reset m c.target hit);
+    }
 
 -- what the next condition sees before it: this one, or what this one sees where it hands a value on, or nothing after a
 -- chain

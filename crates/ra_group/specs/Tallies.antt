@@ -13,7 +13,15 @@ use Rattle.ra_group.specs.Outcome.{from_total, number_of, larger, option_if}
 -- what is noted before the first condition
 abbrev pub no_tally : Tally
 no_tally =
-    record { paused = false; reset = false; valid = true; primed = true; counting = true; greatest = None; from_hits = false }
+    record {
+      paused = false;
+      reset = false;
+      valid = true;
+      primed = true;
+      counting = true;
+      greatest = None;
+      from_hits = false;
+    }
 
 -- the number that a condition offers, if it is measured
 abbrev pub offered : Form → Condition → Settled → ℕ → Option ℕ
@@ -42,8 +50,7 @@ outcome_by tally = record {
   from_hits = tally.from_hits;
 }
 
--- a plain condition without a target, with nothing before it in its chain
-pub record StandsPlain (c : Condition) (before : Option Settled) : Type 0 where
+-- a plain condition without a target
+pub record IsPlain (c : Condition) : Type 0 where
   pub plain : c.flag ≡ Plain
   pub free : c.target ≡ 0
-  pub alone : before ≡ None

@@ -12,6 +12,7 @@ use ra_condition::Group;
 
 /// Steps a group by a frame as `step` does, where the hits and what is read run over the conditions
 /// of several groups: docs/DEFINITIONS.md, "Group outcome". The hits of the other groups stay.
+#[inline(always)]
 pub fn step_at(
     group: &Group,
     form: Form,

@@ -1,6 +1,6 @@
 //! The equations of a condition, one function each: docs/DEFINITIONS.md, "Equations of a condition".
 
-ghost use Rattle.std.specs.Prelude.{◌≡◌, ◌^◌, ℤ, pos, ◌+ℤ◌, ◌≤ℤ◌};
+ghost use Rattle.std.specs.Prelude.{◌≡◌, ◌^◌, false, ℤ, pos, ◌+ℤ◌, ◌≤ℤ◌};
 ghost use Rattle.ra_group.specs.Equations.{met, reset_by, hits_after, valid_alone, add_by, clamped, valid_by};
 ghost use Rattle.ra_group.specs.Bounds.{AddWithin};
 
@@ -46,6 +46,13 @@ pub fn hits_after(reset: bool, is_met: bool, target: u32, hits: u32) -> u32
     } else {
         hits
     }
+}
+
+/// The hits after the frame of a condition without a target that nothing resets.
+pub fn more_hits(is_met: bool, hits: u32) -> u32
+    ensures { result ≡ hits_after false is_met 0 hits }
+{
+    hits.saturating_add(u32::from(is_met))
 }
 
 /// Whether the condition is valid by itself.

@@ -8,10 +8,12 @@ ghost use Rattle.ra_group.specs.Equations.{frame_of};
 ghost use Rattle.ra_group.specs.Outcome.{outcome_of, next_hits};
 ghost use Rattle.ra_group.specs.OutcomeLaws.{NoneMeasured};
 
+use crate::equations::more_hits;
 use crate::form::Form;
 use crate::outcome::Outcome;
 use crate::reads::Reads;
-use crate::visit::Pass;
+use crate::tally::Tally;
+use crate::visit::{Pass, is_plain};
 use ra_condition::{Condition, Group};
 
 /// Steps a group by a frame: docs/DEFINITIONS.md, "Group outcome".
@@ -19,6 +21,7 @@ use ra_condition::{Condition, Group};
 /// `order` is the pass order of the group, as places in its text, of which the first `pauses` stand
 /// in pause chains. `truths`, `lefts` and `hits` have an entry for each condition in text order: its
 /// comparison, its left value, and its hits, which are then the next ones.
+#[inline(always)]
 pub fn step(
     group: &Group,
     form: Form,
@@ -56,6 +59,9 @@ pub fn step(
 }
 
 // Steps a group without pause chains: its pass order is that of the text, and nothing pauses it.
+// No pass is made before the first condition that has a target, or is neither a plain one nor one that
+// only hands a value on; most groups have no such condition.
+#[inline(always)]
 fn in_text_order(
     conditions: &[Condition],
     form: Form,
@@ -72,15 +78,39 @@ fn in_text_order(
     ensures outcome { result ≡ outcome_of form (frame_of conditions.now truths.now lefts.now hits.old) }
     ensures next { hits.new ≡ next_hits (frame_of conditions.now truths.now lefts.now hits.old) }
 {
-    let mut pass = Pass::new(form);
-    for (place, condition) in conditions.iter().enumerate() {
-        let next = pass.visit(condition, truths[place], lefts[place], hits[place]);
-        hits[place] = next;
+    let count = conditions.len();
+    let mut held = true;
+    let mut place = 0;
+    while place < count {
+        let condition = &conditions[place];
+        if is_plain(condition) {
+            let truth = truths[place];
+            hits[place] = more_hits(truth, hits[place]);
+            held &= truth;
+        } else if !condition.flag.hands_on() {
+            break;
+        }
+        place += 1;
+    }
+    let mut tally = Tally::new();
+    tally.want(held);
+    if place == count {
+        return tally.outcome();
+    }
+    let mut pass = Pass {
+        form,
+        before: None,
+        tally,
+    };
+    for turn in place..count {
+        let next = pass.visit(&conditions[turn], truths[turn], lefts[turn], hits[turn]);
+        hits[turn] = next;
     }
     pass.tally.outcome()
 }
 
 // Steps a group in its pass order, the pause chains first.
+#[inline(never)]
 fn in_pass_order(
     conditions: &[Condition],
     form: Form,

@@ -2,9 +2,9 @@ ghost use Rattle.std.specs.Prelude.{◌≡◌, ◌^◌, if◌then◌else◌, tru
 ghost use Rattle.ra_condition.specs.Flags.{hands_on};
 ghost use Rattle.ra_group.specs.Bounds.{AddWithin};
 ghost use Rattle.ra_group.specs.Equations.{settled, seen_after};
-ghost use Rattle.ra_group.specs.Tallies.{StandsPlain, noted, no_tally};
+ghost use Rattle.ra_group.specs.Tallies.{IsPlain, noted, no_tally};
 
-use crate::equations::hits_after;
+use crate::equations::more_hits;
 use crate::form::Form;
 use crate::settled::Settled;
 use crate::tally::Tally;
@@ -47,23 +47,19 @@ impl Pass {
             else (settled condition.now truth hits self.old.before).hit) }
         ensures form { self.new.form ≡ self.old.form }
     {
-        if self.is_plain(condition) {
+        if self.before.is_none() && is_plain(condition) {
             self.tally.want(truth);
-            hits_after(false, truth, 0, hits)
+            more_hits(truth, hits)
+        } else if condition.flag.hands_on() {
+            hits
         } else {
             self.visit_any(condition, truth, left, hits)
         }
     }
 
-    // Whether a condition is a plain one without a target, and alone.
-    fn is_plain(&self, condition: &Condition) -> bool
-        ensures { result ≡ true → StandsPlain condition.now self.now.before }
-    {
-        matches!(condition.flag, Flag::Plain) && condition.target == 0 && self.before.is_none()
-    }
-
     /// Visits one condition more, and gives its hits after the frame. Those of a condition that only
     /// hands a value on stay.
+    #[inline(never)]
     pub fn visit_any(&mut self, condition: &Condition, truth: bool, left: u32, hits: u32) -> u32
         requires { AddWithin (2 ^ 65) self.old.before }
         ensures carries { self.new.before ≡ seen_after condition.now
@@ -86,4 +82,11 @@ impl Pass {
         }
         settled.hit
     }
+}
+
+/// Whether a condition is a plain one without a target.
+pub fn is_plain(condition: &Condition) -> bool
+    ensures { result ≡ true → IsPlain condition.now }
+{
+    matches!(condition.flag, Flag::Plain) & (condition.target == 0)
 }

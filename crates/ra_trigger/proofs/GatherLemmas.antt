@@ -21,7 +21,16 @@ greatest_push (p ∷ os) o = ap (larger p.measured) (greatest_push os o)
 abbrev gathering : Outcome → (reset from_hits : Bool) → Option ℕ
     → (alts some_valid some_primed all_paused : Bool) → Gathered
 gathering core reset from_hits measured alts some_valid some_primed all_paused =
-    record { core = core; reset = reset; from_hits = from_hits; measured = measured; alts = alts; some_valid = some_valid; some_primed = some_primed; all_paused = all_paused }
+    record {
+      core = core;
+      reset = reset;
+      from_hits = from_hits;
+      measured = measured;
+      alts = alts;
+      some_valid = some_valid;
+      some_primed = some_primed;
+      all_paused = all_paused;
+    }
 
 same_gathering : {core : Outcome} {a b d e g h a' b' d' e' g' h' : Bool} {m m' : Option ℕ} → a ≡ a'
     → b ≡ b' → m ≡ m' → d ≡ d' → e ≡ e' → g ≡ g' → h ≡ h' → gathering core a b m d e g h

@@ -54,7 +54,14 @@ pub record HasStepped (truths : List Bool) (lefts hits : List ℕ) (core : List 
 
 abbrev verdict : (reset valid paused primed from_hits : Bool) → Option ℕ → Verdict
 verdict reset valid paused primed from_hits measured =
-    record { reset = reset; valid = valid; paused = paused; primed = primed; from_hits = from_hits; measured = measured }
+    record {
+      reset = reset;
+      valid = valid;
+      paused = paused;
+      primed = primed;
+      from_hits = from_hits;
+      measured = measured;
+    }
 
 same_verdict : {reset valid valid' paused paused' primed primed' from_hits : Bool}
     {measured : Option ℕ} → valid ≡ valid' → paused ≡ paused' → primed ≡ primed' → verdict reset

@@ -53,4 +53,11 @@ verdict_by triggers g = record {
 -- the verdict of what the groups say together, without their hits
 abbrev pub verdict_of : Together → Verdict
 verdict_of now =
-    record { reset = now.reset; valid = now.valid; paused = now.paused; primed = now.primed; from_hits = now.from_hits; measured = now.measured }
+    record {
+      reset = now.reset;
+      valid = now.valid;
+      paused = now.paused;
+      primed = now.primed;
+      from_hits = now.from_hits;
+      measured = now.measured;
+    }

@@ -23,4 +23,8 @@ pauses_of t = map pause_count (groups_of t)
 -- what a frame tells: the states before and after, and the measured number where it changed
 abbrev pub change_between : TriggerKept → TriggerKept → Change
 change_between old new =
-    record { before = old.state; after = new.state; measured = if new.measured == old.measured then None else Some new.measured }
+    record {
+      before = old.state;
+      after = new.state;
+      measured = if new.measured == old.measured then None else Some new.measured;
+    }

@@ -83,6 +83,7 @@ impl Gathered {
 }
 
 // Whether some condition of the trigger is a Trigger.
+#[inline(never)]
 fn has_trigger(text: &TriggerText) -> bool
     ensures { result ≡ has_trigger (groups_of (trigger_contents text.now)) }
 {

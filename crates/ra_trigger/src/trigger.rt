@@ -55,6 +55,7 @@ impl Trigger {
     /// groups, `orders` is the pass order of each group, one after the other, and `pauses` has for
     /// each group how many of its conditions stand in pause chains. A triggered achievement is left
     /// as it is.
+    #[inline(always)]
     pub fn step(
         &mut self,
         text: &TriggerText,

@@ -28,7 +28,12 @@ loop-place-preserved c =
     let next : c.carried-before.result ≡ prev_of f (suc place) =
     c.carried-before.ensures ∙ (λ i. seen_after own (here i) (carries i)) in
     let told : Standing =
-    record { met = c.is_met.result; reset = c.of-here.result.reset; total = c.of-here.result.total; valid = c.of-here.result.valid } in
+    record {
+      met = c.is_met.result;
+      reset = c.of-here.result.reset;
+      total = c.of-here.result.total;
+      valid = c.of-here.result.valid;
+    } in
     record {
       carries = next ∙ ap (prev_of f) (sym (add-one place));
       done = below_more _ _
