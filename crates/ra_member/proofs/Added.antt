@@ -30,7 +30,11 @@ use Rattle.ra_member.proofs.SideBySide.{beside_more, beside_weaker}
 module _ (old new : List Node) (front : IsFront old new) where
   laid_more : (groups : List (List Condition)) (laid : Laid) → IsLaid old groups laid → IsLaid new groups laid
   laid_more groups laid is =
-      record { plan = plan_more old new groups laid.plan front is.plan; ops = is.ops; truths = is.truths; lefts = is.lefts }
+      record {
+        plan = plan_more old new groups laid.plan front is.plan;
+        ops = is.ops;
+        room = is.room;
+      }
 
   pub trigger_more : (t : TriggerContents) (run : TriggerRun) → IsTriggerRun old t run → IsTriggerRun new t run
   trigger_more t run is = record { laid = laid_more (groups_of t) run.laid is.laid; hits = is.hits }
@@ -59,8 +63,10 @@ member_begins nodes member pool tests values = record {
     tests = subst (AreBeside (IsTriggerRun nodes) []) (sym tests) tt;
     values = subst (AreBeside (IsValueRun nodes) []) (sym values) tt;
   };
-  plain = (λ i. record
-      { tests = map (λ (t : TriggerRun). t.trigger.hits) (tests i); values = map (λ (v : ValueRun). v.value) (values i) });
+  plain = (λ i. record {
+    tests = map (λ (t : TriggerRun). t.trigger.hits) (tests i);
+    values = map (λ (v : ValueRun). v.value) (values i);
+  });
 }
 
 module _ (first old new : List Node) (before after : Member) where

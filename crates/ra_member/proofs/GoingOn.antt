@@ -5,8 +5,7 @@ use Rattle.ra_indirect.specs.Trees.{Tree}
 use Rattle.ra_memref.specs.Values.{Start, value_of, start_after}
 use Rattle.ra_memref.proofs.Cuts.{value_cut}
 use Rattle.ra_member.specs.Folds.{after}
-use Rattle.ra_member.specs.Members.{MemberContents, MemberKept, member_next, trees_in_member}
-use Rattle.ra_member.proofs.Agreeing.{Agree, member_agrees}
+use Rattle.ra_member.proofs.Agreeing.{Agree}
 use Rattle.ra_member.proofs.Folds.{after_agrees, after_cut}
 use Rattle.ra_member.proofs.Listed.{In}
 

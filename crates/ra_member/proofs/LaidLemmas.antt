@@ -20,15 +20,15 @@ use Rattle.ra_indirect.specs.declared.node.Node.TheVariants.{Const, Cell as Cell
 use Rattle.ra_indirect.specs.Trees.{Tree, constant}
 use Rattle.ra_indirect.specs.Pools.{Spelled, IsTree, spelled_at, spelled_with, spelled_by, Spells, IsValued, node_at}
 use Rattle.ra_indirect.proofs.Spelling.{spelled_by-here, length-spelled_by}
-use Rattle.ra_chain.specs.declared.plan.GroupPlan.{GroupPlan}
 use Rattle.ra_chain.specs.Elaboration.{left_of, right_of, lefts_of, rights_of, terms_tree}
 use Rattle.ra_memref.specs.Values.{Start, value_of}
 use Rattle.ra_memref.specs.Table.{spelled_value}
+use Rattle.ra_member.specs.declared.laid.Few.{Few}
 use Rattle.ra_member.specs.declared.laid.Laid.{Laid}
 use Rattle.ra_member.specs.Frames.{truth_at, lefts_at, truths_at, sum_at}
 use Rattle.ra_member.specs.Plans.{AreSpelled, AreSums, IsPlan}
 use Rattle.ra_member.specs.Readings.{ops_in, ops_of, numbers_at, truths_by, AreValued, sum_by_node, AreValuedSums}
-use Rattle.ra_member.specs.Runs.{IsLaid, MayFill, IsFilled}
+use Rattle.ra_member.specs.Runs.{IsLaid, MayFill, IsFilled, lefts_in, truths_in}
 
 -- a node that spells a tree has a value
 gives_value : (s : List Spelled) (node : Node) (tree : Tree) → spelled_with s node ≡ IsTree tree → IsValued node
@@ -122,15 +122,7 @@ module _ (nodes : List Node) (groups : List (List Condition)) where
             (flat_map lefts_of groups) is.plan.lefts ∙ length_lefts groups ∙ sym ops;
         right_nodes = length_spelled nodes laid.plan.rights.items
             (flat_map rights_of groups) is.plan.rights ∙ length_rights groups ∙ sym ops;
-        truths = is.truths;
-        left_values = is.lefts;
       }
-
-  pub length_laid : (laid : Laid) → IsLaid nodes groups laid → (length laid.truths.items
-      ≡ sum_by length groups) × (length laid.lefts.items ≡ sum_by length groups)
-  length_laid laid is =
-      let ops : length laid.ops.items ≡ sum_by length groups = ap length is.ops ∙ length_ops groups in
-      (is.truths ∙ ops, is.lefts ∙ ops)
 
 -- the truths of groups laid in a row
 truths_row : (ops : List Op) (xs ys : List ℕ) (ops' : List Op) (xs' ys' : List ℕ) → length xs
@@ -240,37 +232,38 @@ module _ (nodes : List Node) (values : List ℕ) (start : Start) (h : History) (
         (read_all old.plan.rights.items (flat_map rights_of groups) is.plan.rights i))
         ∙ truths_all groups
 
-  module _ (groups : List (List Condition)) (old new : Laid) (is : IsLaid nodes groups old)
-      (filled : IsFilled values old new) where
-    pub lefts_read : new.lefts.items ≡ lefts_at start h groups
+  module _ (groups : List (List Condition)) (old new : Laid) (few : Few) (is : IsLaid nodes groups old)
+      (filled : IsFilled values old new few) where
+    pub lefts_read : lefts_in new few ≡ lefts_at start h groups
     lefts_read = filled.lefts ∙ laid_lefts groups old is
 
-    pub truths_read : new.truths.items ≡ truths_at start h groups
+    pub truths_read : truths_in new few ≡ truths_at start h groups
     truths_read = filled.truths ∙ laid_truths groups old is
 
-length_numbers : (values ns : List ℕ) → length (numbers_at values ns) ≡ length ns
-length_numbers values ns = length-map ns (λ n. slice_index values n)
-
-length_truths : (ops : List Op) (xs ys : List ℕ) → length xs ≡ length ops → length ys ≡ length ops
+pub length_truths : (ops : List Op) (xs ys : List ℕ) → length xs ≡ length ops → length ys ≡ length ops
     → length (truths_by ops xs ys) ≡ length ops
 length_truths [] xs ys long long_too = refl
 length_truths (op ∷ ops) [] ys long long_too = absurd (omega arith)
 length_truths (op ∷ ops) (x ∷ xs) [] long long_too = absurd (omega arith)
 length_truths (op ∷ ops) (x ∷ xs) (y ∷ ys) long long_too = ap suc (length_truths ops xs ys (omega arith) (omega arith))
 
-pub laid_again : (nodes : List Node) (values : List ℕ) (groups : List (List Condition))
-    (old new : Laid) → IsLaid nodes groups old → IsFilled values old new → IsLaid nodes groups new
-laid_again nodes values groups old new is filled =
-    let may : MayFill nodes old = laid_fills nodes groups old is in
-    let count : length new.ops.items ≡ length old.ops.items = ap (λ o. length o.items) filled.ops in
-    let xs : length (numbers_at values old.plan.lefts.items) ≡ length old.ops.items =
-    length_numbers values old.plan.lefts.items ∙ may.left_nodes in
-    let ys : length (numbers_at values old.plan.rights.items) ≡ length old.ops.items =
-    length_numbers values old.plan.rights.items ∙ may.right_nodes in
-    record {
-      plan = subst (IsPlan nodes groups) (sym filled.plan) is.plan;
-      ops = ap (λ o. o.items) filled.ops ∙ is.ops;
-      truths = ap length filled.truths ∙ length_truths old.ops.items (numbers_at values
-          old.plan.lefts.items) (numbers_at values old.plan.rights.items) xs ys ∙ sym count;
-      lefts = ap length filled.lefts ∙ xs ∙ sym count;
-    }
+module _ (nodes : List Node) (values : List ℕ) (groups : List (List Condition)) (old new : Laid) (few : Few)
+    (is : IsLaid nodes groups old) (filled : IsFilled values old new few) where
+  -- what was taken up has an entry for each condition
+  pub length_read : (length (truths_in new few) ≡ sum_by length groups)
+      × (length (lefts_in new few) ≡ sum_by length groups)
+  length_read =
+      let may : MayFill nodes old = laid_fills nodes groups old is in
+      let ops : length old.ops.items ≡ sum_by length groups = ap length is.ops ∙ length_ops groups in
+      let xs : length (numbers_at values old.plan.lefts.items) ≡ length old.ops.items =
+      length-map old.plan.lefts.items (slice_index values) ∙ may.left_nodes in
+      let ys : length (numbers_at values old.plan.rights.items) ≡ length old.ops.items =
+      length-map old.plan.rights.items (slice_index values) ∙ may.right_nodes in
+      (ap length filled.truths ∙ length_truths old.ops.items _ _ xs ys ∙ ops, ap length filled.lefts ∙ xs ∙ ops)
+
+  pub laid_again : IsLaid nodes groups new
+  laid_again = record {
+    plan = subst (IsPlan nodes groups) (sym filled.plan) is.plan;
+    ops = ap (λ o. o.items) filled.ops ∙ is.ops;
+    room = filled.room;
+  }

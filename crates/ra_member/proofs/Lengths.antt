@@ -30,7 +30,12 @@ module _ {X : Type 0} (numbers : X → List ℕ) (xs : List X) (k : ℕ) (x : X)
       let whole : flat_map numbers xs ≡ flat_map numbers (take (k + 1) xs)
       ++ flat_map numbers (drop (k + 1) xs) = ap (flat_map numbers) (sym (take-append-drop
       (k + 1) xs)) ∙ flat_map-append numbers (take (k + 1) xs) (drop (k + 1) xs) in
-      omega (arith, ap length whole, length-append (flat_map numbers (take (k + 1) xs)) (flat_map numbers (drop (k + 1) xs)), row_next)
+      omega (
+        arith,
+        ap length whole,
+        length-append (flat_map numbers (take (k + 1) xs)) (flat_map numbers (drop (k + 1) xs)),
+        row_next,
+      )
 
 -- the hits that tests keep, in a row
 abbrev pub hits_of_tests : List TriggerRun → List ℕ

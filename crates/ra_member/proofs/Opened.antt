@@ -53,8 +53,10 @@ length_rows (row ∷ rows) =
 -- a member keeps as many hits and numbers as its texts say
 pub saved_long : (m : MemberContents) (kept : MemberKept) → HasShape m kept
     → (length (saved_hits kept) ≡ member_hits m) × (length (saved_numbers kept) ≡ member_numbers m)
-saved_long m kept shape =
-    (length_rows (hit_rows kept) ∙ ap sum (hits_long m kept shape), length_rows (number_rows kept) ∙ ap sum shape.numbers)
+saved_long m kept shape = (
+  length_rows (hit_rows kept) ∙ ap sum (hits_long m kept shape),
+  length_rows (number_rows kept) ∙ ap sum shape.numbers,
+)
 
 hits_of_all : (members : List MemberContents) (kept : List MemberKept) → HaveShapes members kept
     → map length (map saved_hits kept) ≡ map member_hits members
@@ -85,8 +87,10 @@ each_again (m ∷ members) (k ∷ kept) shapes =
 pub members_long : (members : List MemberContents) (kept : List MemberKept)
     → HaveShapes members kept → (length (concat (map saved_hits kept)) ≡ sum (map member_hits
     members)) × (length (concat (map saved_numbers kept)) ≡ sum (map member_numbers members))
-members_long members kept shapes =
-    (length_rows (map saved_hits kept) ∙ ap sum (hits_of_all members kept shapes), length_rows (map saved_numbers kept) ∙ ap sum (numbers_of_all members kept shapes))
+members_long members kept shapes = (
+  length_rows (map saved_hits kept) ∙ ap sum (hits_of_all members kept shapes),
+  length_rows (map saved_numbers kept) ∙ ap sum (numbers_of_all members kept shapes),
+)
 
 -- members one behind the other, from the row of all hits and that of all numbers
 pub members_again : (members : List MemberContents) (kept : List MemberKept)

@@ -70,8 +70,12 @@ spelled_from : (nodes : List Node) (tree : ℕ → Tree) (ns : List ℕ) (from :
     → AreSpelled nodes ns (map tree (range_with_len from (length ns)))
 spelled_from nodes tree [] from each = tt
 spelled_from nodes tree (n ∷ ns) from each =
-    let here : from + 0 ≡ from = omega arith in
-    (subst (λ k. Spells nodes n (tree k)) here (each 0 (omega arith)), spelled_from nodes tree ns (from + 1) (λ j below. let later : from + suc j ≡ from + 1 + j = omega arith in subst (λ k. Spells nodes (get_or ns j 0) (tree k)) later (each (suc j) (omega arith))))
+    let here : from + 0 ≡ from = omega arith in (
+      subst (λ k. Spells nodes n (tree k)) here (each 0 (omega arith)),
+      spelled_from nodes tree ns (from + 1) (λ j below. let later : from + suc j ≡ from + 1 + j =
+          omega arith in
+          subst (λ k. Spells nodes (get_or ns j 0) (tree k)) later (each (suc j) (omega arith))),
+    )
 
 spelled_each : (nodes : List Node) (ns : List ℕ) (count : ℕ) (tree : ℕ → Tree)
     → SpellsEach nodes ns count tree → AreSpelled nodes ns (map tree (range_with_len 0 count))

@@ -1,6 +1,6 @@
 -- Elements whose numbers are put back one behind the other keep the words of one row.
 use Rattle.std.proofs.Common.{◌≡◌, ℕ, suc, ◌+◌, ◌*◌, ◌<◌, ◌≤◌, List, [], ◌∷◌, ◌++◌, length, map, take, drop, get_or}
-use Rattle.std.proofs.Common.{set, refl, sym, ◌∙◌, ap, ap₂, arith, add-one, length-append, take-append-drop}
+use Rattle.std.proofs.Common.{set, sym, ◌∙◌, ap, ap₂, arith, add-one, length-append, take-append-drop}
 use Rattle.std.specs.List.{flat_map}
 use Rattle.std.proofs.Math.Seq.{drop-cons}
 use Rattle.std.proofs.lemmas.List.{map-append, take_more, take_more_set, take_all, get_or-drop, get_or_default}
@@ -66,7 +66,12 @@ module _ {A : Type 0} (k : ℕ) (olds runs : List A) (d : A) (within : k < lengt
         let whole : flat_map numbers olds ≡ flat_map numbers (take (k + 1) olds)
         ++ flat_map numbers (drop (k + 1) olds) = ap (flat_map numbers) (sym (take-append-drop
         (k + 1) olds)) ∙ flat_map-append numbers (take (k + 1) olds) (drop (k + 1) olds) in
-        omega (arith, ap length whole, length-append (flat_map numbers (take (k + 1) olds)) (flat_map numbers (drop (k + 1) olds)), length_next)
+        omega (
+          arith,
+          ap length whole,
+          length-append (flat_map numbers (take (k + 1) olds)) (flat_map numbers (drop (k + 1) olds)),
+          length_next,
+        )
 
     module _ (bytes : List ℕ) (from at : ℕ) (back : IsRowBack numbers bytes from at k olds runs) where
       pub within_bytes : (most : ℕ) → from + 4 * length (flat_map numbers olds) ≤ most

@@ -16,18 +16,15 @@ use Rattle.ra_group.specs.Outcome.{next_hit, next_hits}
 use Rattle.ra_memref.specs.Values.{Start}
 use Rattle.ra_trigger.specs.Steps.{frames_along, together, cleared, hits_after_truth}
 use Rattle.ra_value.specs.Steps.{ValueKept, PartStep, part_step, part_steps, number_after, step as value_step}
-use Rattle.ra_value.specs.Kept.{cleared as zeroed}
 use Rattle.ra_member.specs.declared.member.Member.{Member}
 use Rattle.ra_member.specs.declared.trigger_run.TriggerRun.{TriggerRun}
 use Rattle.ra_member.specs.declared.value_run.ValueRun.{ValueRun}
 use Rattle.ra_member.specs.Beside.{AreBeside}
-use Rattle.ra_member.specs.Folds.{after}
 use Rattle.ra_member.specs.Frames.{truths_at, lefts_at, sum_at, value_next}
 use Rattle.ra_member.specs.Members.{MemberContents, MemberKept, HasShape, HaveShapes, no_hits, no_values, no_member}
 use Rattle.ra_member.specs.Members.{tests_next, values_next, member_next, members_next}
 use Rattle.ra_member.specs.MemberRuns.{IsMember, kept_by}
 use Rattle.ra_member.specs.Runs.{IsTriggerRun, IsValueRun}
-use Rattle.ra_member.proofs.Folds.{after_keeps}
 
 length_next : (f : Frame) → length (next_hits f) ≡ length f.conditions
 length_next f = length-map (places f.conditions) (next_hit f) ∙ length-range_with_len 0 (length f.conditions)
@@ -40,7 +37,10 @@ length_frames (cs ∷ groups) truths lefts hits =
     let rest : List Frame = frames_along groups (drop (length cs) truths) (drop (length cs) lefts)
     (drop (length cs) hits) in
     length-append (next_hits f) (flat_map next_hits rest)
-    ∙ rw (length_next f, length_frames groups (drop (length cs) truths) (drop (length cs) lefts) (drop (length cs) hits)) (sym (sum_by-cons length cs groups))
+    ∙ rw (
+      length_next f,
+      length_frames groups (drop (length cs) truths) (drop (length cs) lefts) (drop (length cs) hits),
+    ) (sym (sum_by-cons length cs groups))
 
 pub length_truth : (t : TriggerContents) (truths : List Bool) (lefts hits : List ℕ)
     → length (hits_after_truth t truths lefts hits) ≡ trigger_hits t
@@ -74,7 +74,11 @@ length_hits (part ∷ parts) truths lefts hits sums numbers =
     let rest : List PartStep = part_steps parts (drop (length cs) truths) (drop (length cs) lefts)
     (drop (length cs) hits) (drop 1 sums) (drop 1 numbers) in
     length-append first.hits (flat_map (λ (p : PartStep). p.hits) rest)
-    ∙ rw (length_part part f (slice_index sums 0) (slice_index numbers 0) refl, length_hits parts (drop (length cs) truths) (drop (length cs) lefts) (drop (length cs) hits) (drop 1 sums) (drop 1 numbers)) (sym (sum_by-cons (λ p. length (counted_in p)) part parts))
+    ∙ rw (
+      length_part part f (slice_index sums 0) (slice_index numbers 0) refl,
+      length_hits parts (drop (length cs) truths) (drop (length cs) lefts) (drop (length cs) hits)
+          (drop 1 sums) (drop 1 numbers),
+    ) (sym (sum_by-cons (λ p. length (counted_in p)) part parts))
 
 length_steps : (parts : List PartContents) (truths : List Bool) (lefts hits sums numbers : List ℕ)
     → length (part_steps parts truths lefts hits sums numbers) ≡ length parts
@@ -162,7 +166,10 @@ pub no_values_long : (values : List (List PartContents)) → AreValuesLong value
 no_values_long [] = record { hits = refl; numbers = refl }
 no_values_long (v ∷ values) =
     let rest = no_values_long values in
-    record { hits = ap₂ (λ n ns. n ∷ ns) (length-replicate (value_hits v) 0) rest.hits; numbers = ap₂ (λ n ns. n ∷ ns) (length-replicate (length v) 0) rest.numbers }
+    record {
+      hits = ap₂ (λ n ns. n ∷ ns) (length-replicate (value_hits v) 0) rest.hits;
+      numbers = ap₂ (λ n ns. n ∷ ns) (length-replicate (length v) 0) rest.numbers;
+    }
 
 no_tests_long : (tests : List TriggerContents) → AreTestsLong tests (map no_hits tests)
 no_tests_long [] = refl
@@ -207,7 +214,10 @@ module _ (nodes : List Node) where
   runs_values (v ∷ values) [] are = absurd are
   runs_values (v ∷ values) (run ∷ runs) are =
       let rest = runs_values values runs are.1 in
-      record { hits = ap₂ (λ n ns. n ∷ ns) are.0.hits rest.hits; numbers = ap₂ (λ n ns. n ∷ ns) are.0.numbers rest.numbers }
+      record {
+        hits = ap₂ (λ n ns. n ∷ ns) are.0.hits rest.hits;
+        numbers = ap₂ (λ n ns. n ∷ ns) are.0.numbers rest.numbers;
+      }
 
   pub member_shape : (m : MemberContents) (member : Member) → IsMember nodes m member → HasShape m (kept_by member)
   member_shape m member is =

@@ -133,7 +133,13 @@ module _ {X Y : Type 0} (has : X → Y → Type 0) where
       -- as many are kept as are done
       pub walk_many : length (map kept (take place olds)) ≡ length done
       walk_many =
-          omega (arith, length-map (take place olds) kept, length-take-le place olds (omega (arith, walk.within, walk.as_many)), length-take-le place ys walk.within, beside_length has done (take place ys) walk.ran)
+          omega (
+            arith,
+            length-map (take place olds) kept,
+            length-take-le place olds (omega (arith, walk.within, walk.as_many)),
+            length-take-le place ys walk.within,
+            beside_length has done (take place ys) walk.ran,
+          )
 
       pub walk_kept : map kept (take (place + 1) olds) ≡ map kept (take place olds) ++ kept (get_or ys place d) ∷ []
       walk_kept = ap (map kept) walk_olds ∙ map-append kept (take place olds) (get_or ys place d ∷ [])

@@ -1,5 +1,6 @@
 -- Triggers and values with their plans, and what a frame of a table does to them: docs/DEFINITIONS.md, "Members".
-use Rattle.std.specs.Prelude.{◌≡◌, ℕ, Bool, List, length, map}
+use Rattle.std.specs.Prelude.{◌≡◌, ◌≤◌, ℕ, Bool, Option, None, Some, List, Box, length, map, take}
+use Rattle.std.specs.Global.{Global}
 use Rattle.ra_condition.specs.declared.condition.Condition.{Condition}
 use Rattle.ra_condition.specs.Contents.{TriggerContents, groups_of, trigger_hits, PartContents, counted_in, value_hits}
 use Rattle.ra_memory.specs.Image.{History}
@@ -13,6 +14,8 @@ use Rattle.ra_trigger.specs.declared.change.Change.{Change}
 use Rattle.ra_trigger.specs.Kept.{no_trigger, change_between}
 use Rattle.ra_value.specs.Steps.{no_value}
 use Rattle.ra_member.specs.declared.laid.Laid.{Laid}
+use Rattle.ra_member.specs.declared.laid.Few.{Few}
+use Rattle.ra_member.specs.declared.laid.Many.{Many}
 use Rattle.ra_member.specs.declared.trigger_run.TriggerRun.{TriggerRun}
 use Rattle.ra_member.specs.declared.value_run.ValueRun.{ValueRun}
 use Rattle.ra_member.specs.Frames.{achievement_next, test_next, test_holds, value_next}
@@ -23,28 +26,50 @@ use Rattle.ra_member.specs.Readings.{ops_of, numbers_at, truths_by, AreValued, s
 abbrev pub HasValues : TableSeen → Start → History → Type 0
 HasValues table start history = table.values ≡ map (spelled_value start history) (spelled_by table.nodes)
 
--- the plan of some groups with room for their truths and left values
+-- room for what this many conditions read: none where they are few, else an entry for each
+abbrev pub HasRoom : ℕ → Option (Box Many Global) → Type 0
+HasRoom count None = count ≤ 32
+HasRoom count (Some room) =
+    (length room.value.truths.items ≡ count) × (length room.value.lefts.items ≡ count)
+
+-- the truths of this many conditions: those of the room where there is one
+abbrev pub truths_of : ℕ → Option (Box Many Global) → Few → List Bool
+truths_of count None few = take count few.truths
+truths_of count (Some room) few = room.value.truths.items
+
+-- the left values of this many conditions
+abbrev pub lefts_of : ℕ → Option (Box Many Global) → Few → List ℕ
+lefts_of count None few = take count few.lefts
+lefts_of count (Some room) few = room.value.lefts.items
+
+-- the truths of the conditions of a plan
+abbrev pub truths_in : Laid → Few → List Bool
+truths_in laid few = truths_of (length laid.ops.items) laid.room few
+
+-- the left values of the conditions of a plan
+abbrev pub lefts_in : Laid → Few → List ℕ
+lefts_in laid few = lefts_of (length laid.ops.items) laid.room few
+
+-- the plan of some groups with room for what their conditions read
 pub record IsLaid (nodes : List Node) (groups : List (List Condition)) (laid : Laid) : Type 0 where
   pub plan : IsPlan nodes groups laid.plan
   pub ops : laid.ops.items ≡ ops_of groups
-  pub truths : length laid.truths.items ≡ length laid.ops.items
-  pub lefts : length laid.lefts.items ≡ length laid.ops.items
+  pub room : HasRoom (length laid.ops.items) laid.room
 
--- the nodes have values, and there is room for all of them
+-- the nodes have values, and there is one on each side of each operator
 pub record MayFill (nodes : List Node) (laid : Laid) : Type 0 where
   pub lefts : AreValued nodes laid.plan.lefts.items
   pub rights : AreValued nodes laid.plan.rights.items
   pub left_nodes : length laid.plan.lefts.items ≡ length laid.ops.items
   pub right_nodes : length laid.plan.rights.items ≡ length laid.ops.items
-  pub truths : length laid.truths.items ≡ length laid.ops.items
-  pub left_values : length laid.lefts.items ≡ length laid.ops.items
 
 -- truths and left values are those of the nodes; the plan stays
-pub record IsFilled (values : List ℕ) (old new : Laid) : Type 0 where
+pub record IsFilled (values : List ℕ) (old new : Laid) (few : Few) : Type 0 where
   pub plan : new.plan ≡ old.plan
   pub ops : new.ops ≡ old.ops
-  pub lefts : new.lefts.items ≡ numbers_at values old.plan.lefts.items
-  pub truths : new.truths.items ≡ truths_by old.ops.items (numbers_at values old.plan.lefts.items)
+  pub room : HasRoom (length new.ops.items) new.room
+  pub lefts : lefts_in new few ≡ numbers_at values old.plan.lefts.items
+  pub truths : truths_in new few ≡ truths_by old.ops.items (numbers_at values old.plan.lefts.items)
       (numbers_at values old.plan.rights.items)
 
 -- a trigger with its plan
@@ -87,8 +112,8 @@ pub record IsNewValue (old new : List Node) (parts : List PartContents) (run : V
   pub plain : run.value ≡ no_value parts
 
 -- what its conditions and its legacy parts read is taken up; all else stays
-pub record IsRead (values : List ℕ) (old new : ValueRun) : Type 0 where
-  pub laid : IsFilled values old.laid new.laid
+pub record IsRead (values : List ℕ) (old new : ValueRun) (few : Few) : Type 0 where
+  pub laid : IsFilled values old.laid new.laid few
   pub nodes : new.nodes ≡ old.nodes
   pub sums : new.sums.items ≡ map (sum_by_node values) old.nodes.items
   pub value : new.value ≡ old.value

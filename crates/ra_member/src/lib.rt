@@ -16,7 +16,7 @@ mod shape;
 mod trigger_run;
 mod value_run;
 
-pub use laid::Laid;
+pub use laid::{Laid, Many};
 pub use member::Member;
 pub use places::Places;
 pub use saved::put_numbers;

@@ -16,6 +16,7 @@ pub(crate) struct Sides<'a> {
 }
 
 // Reads the number of each left node, and compares it with that of the right node beside it.
+#[inline]
 pub(crate) fn read_conditions(
     table: &Table,
     sides: &Sides<'_>,
@@ -41,8 +42,9 @@ pub(crate) fn read_conditions(
     } = *sides;
     for place in 0..least(ops, left_nodes, right_nodes, lefts, truths) {
         let left = table.value(left_nodes[place]);
+        let right = table.value(right_nodes[place]);
         lefts[place] = left;
-        truths[place] = holds(ops[place], left, table.value(right_nodes[place]));
+        truths[place] = holds(ops[place], left, right);
     }
 }
 
@@ -70,6 +72,10 @@ fn least(
 fn holds(op: Op, x: u32, y: u32) -> bool
     ensures { result ≡ compared op x y }
 {
+    // Most conditions compare by `=`.
+    if matches!(op, Op::Eq) {
+        return x == y;
+    }
     match op {
         Op::Mul | Op::Div | Op::And | Op::Xor | Op::Rem | Op::Add | Op::Sub => false,
         _ => compare(op, x, y),

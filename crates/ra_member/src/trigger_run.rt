@@ -3,7 +3,7 @@ ghost use Rattle.ra_condition.specs.Contents.{trigger_contents, trigger_hits};
 ghost use Rattle.ra_condition.specs.Spelled.{IsTrigger};
 ghost use Rattle.ra_member.specs.Runs.{IsTriggerRun, IsNewTrigger, StepsTest, StepsAchievement};
 
-use crate::laid::{Laid, trigger_ops};
+use crate::laid::{Few, Laid, trigger_ops};
 use crate::planning::trigger_plan;
 use ra_condition::TriggerText;
 use ra_indirect::Pool;
@@ -41,14 +41,21 @@ impl TriggerRun {
         ensures run { IsTriggerRun table.now.nodes (trigger_contents text.now) self.new }
         ensures steps { StepsTest table.now (trigger_contents text.now) self.old self.new result }
     {
-        self.laid.fill(table);
-        self.trigger.truth(
-            text,
-            &self.laid.plan.order,
-            &self.laid.plan.pauses,
-            &self.laid.truths,
-            &self.laid.lefts,
-        )
+        let mut few = Few::new();
+        self.truth_in(text, table, &mut few)
+    }
+
+    // Does so, with room for what few conditions read.
+    #[inline]
+    fn truth_in(&mut self, text: &TriggerText, table: &Table, few: &mut Few) -> bool
+        requires run { IsTriggerRun table.now.nodes (trigger_contents text.now) self.old }
+        requires sampled { table.now.sampled ≡ true }
+        ensures run { IsTriggerRun table.now.nodes (trigger_contents text.now) self.new }
+        ensures steps { StepsTest table.now (trigger_contents text.now) self.old self.new result }
+    {
+        self.laid.fill(table, few);
+        let reads = self.laid.reads(few);
+        self.trigger.truth(text, reads.orders, reads.pauses, reads.truths, reads.lefts)
     }
 
     /// Steps an achievement by the frame of the table's last sample, and tells what changed:
@@ -67,13 +74,20 @@ impl TriggerRun {
                 measured: None,
             };
         }
-        self.laid.fill(table);
-        self.trigger.step(
-            text,
-            &self.laid.plan.order,
-            &self.laid.plan.pauses,
-            &self.laid.truths,
-            &self.laid.lefts,
-        )
+        let mut few = Few::new();
+        self.step_in(text, table, &mut few)
+    }
+
+    // Does so, with room for what few conditions read.
+    #[inline]
+    fn step_in(&mut self, text: &TriggerText, table: &Table, few: &mut Few) -> Change
+        requires run { IsTriggerRun table.now.nodes (trigger_contents text.now) self.old }
+        requires sampled { table.now.sampled ≡ true }
+        ensures run { IsTriggerRun table.now.nodes (trigger_contents text.now) self.new }
+        ensures steps { StepsAchievement table.now (trigger_contents text.now) self.old self.new result }
+    {
+        self.laid.fill(table, few);
+        let reads = self.laid.reads(few);
+        self.trigger.step(text, reads.orders, reads.pauses, reads.truths, reads.lefts)
     }
 }

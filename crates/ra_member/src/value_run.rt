@@ -3,9 +3,9 @@ ghost use Rattle.ra_condition.specs.Contents.{value_contents};
 ghost use Rattle.ra_condition.specs.Spelled.{IsValue};
 ghost use Rattle.ra_set.specs.Limits.{value_conditions};
 ghost use Rattle.ra_member.specs.Readings.{AreValuedSums};
-ghost use Rattle.ra_member.specs.Runs.{IsValueRun, IsNewValue, StepsValue, MayFill, IsRead};
+ghost use Rattle.ra_member.specs.Runs.{HasRoom, IsValueRun, IsNewValue, StepsValue, MayFill, IsRead};
 
-use crate::laid::{Laid, value_ops};
+use crate::laid::{Few, Laid, value_ops};
 use crate::planning::value_plan;
 use crate::reading::read_sums;
 use ra_condition::ValueText;
@@ -46,14 +46,15 @@ impl ValueRun {
     }
 
     // Takes up the values of a table.
-    fn read(&mut self, table: &Table)
-        requires room { MayFill table.now.nodes self.old.laid }
-        requires valued { AreValuedSums table.now.nodes self.old.nodes.items }
+    fn read(&mut self, table: &Table, few: &mut Few)
+        requires valued { MayFill table.now.nodes self.old.laid }
+        requires room { HasRoom (length self.old.laid.ops.items) self.old.laid.room }
+        requires valued_sums { AreValuedSums table.now.nodes self.old.nodes.items }
         requires sums { length self.old.sums.items ≡ length self.old.nodes.items }
         requires sampled { table.now.sampled ≡ true }
-        ensures { IsRead table.now.values self.old self.new }
+        ensures { IsRead table.now.values self.old self.new few.new }
     {
-        self.laid.fill(table);
+        self.laid.fill(table, few);
         read_sums(table, &self.nodes, &mut self.sums);
     }
 
@@ -64,13 +65,25 @@ impl ValueRun {
         ensures run { IsValueRun table.now.nodes (value_contents text.now) self.new }
         ensures steps { StepsValue table.now (value_contents text.now) self.old self.new }
     {
-        self.read(table);
+        let mut few = Few::new();
+        self.step_in(text, table, &mut few);
+    }
+
+    // Does so, with room for what few conditions read.
+    fn step_in(&mut self, text: &ValueText, table: &Table, few: &mut Few)
+        requires run { IsValueRun table.now.nodes (value_contents text.now) self.old }
+        requires sampled { table.now.sampled ≡ true }
+        ensures run { IsValueRun table.now.nodes (value_contents text.now) self.new }
+        ensures steps { StepsValue table.now (value_contents text.now) self.old self.new }
+    {
+        self.read(table, few);
+        let reads = self.laid.reads(few);
         let _greatest = self.value.step(
             text,
-            &self.laid.plan.order,
-            &self.laid.plan.pauses,
-            &self.laid.truths,
-            &self.laid.lefts,
+            reads.orders,
+            reads.pauses,
+            reads.truths,
+            reads.lefts,
             &self.sums,
         );
     }

@@ -9,7 +9,12 @@ returns-clause-plan c =
     let old = c.args.plan.now in
     plan_added c.args.pool.now c.elaborate.new.pool e.grows.front
     (group_contents c.args.group.now) old c.in_ok-added.added
-    (record { order = c.extend_from_slice.new.self; pauses = c.extend_from_slice-2.new.self; lefts = c.extend_from_slice-3.new.self; rights = c.extend_from_slice-4.new.self })
+    (record {
+      order = c.extend_from_slice.new.self;
+      pauses = c.extend_from_slice-2.new.self;
+      lefts = c.extend_from_slice-3.new.self;
+      rights = c.extend_from_slice-4.new.self;
+    })
     e.order e.pauses e.lefts e.rights
     (c.in_ok-extend_from_slice.ensures.items ∙ ap (λ xs. old.order.items ++ xs) c.deref.ensures.value)
     (c.in_ok-extend_from_slice-2.ensures.items ∙ ap (λ xs. old.pauses.items ++ xs) c.deref-2.ensures.value)

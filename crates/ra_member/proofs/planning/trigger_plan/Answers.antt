@@ -43,7 +43,14 @@ put_group-requires-clause-room c =
     let alt = c.alt-item.result in
     let within : k < length alts = omega (arith, c.deref-alt-items.ensures.len) in
     let is : alt ≡ get_or alts k alt = c.alt-item.is ∙ ap (λ xs. get_or xs k alt) c.deref-alt-items.ensures.value in
-    omega (arith, weight_at group_contents alts k alt within is length, c.loop-alt.invariant.grows.few, c.requires.room, sum_by-cons length core (map group_contents (take k alts)), sum_by-cons length core (map group_contents alts))
+    omega (
+      arith,
+      weight_at group_contents alts k alt within is length,
+      c.loop-alt.invariant.grows.few,
+      c.requires.room,
+      sum_by-cons length core (map group_contents (take k alts)),
+      sum_by-cons length core (map group_contents alts),
+    )
 
 pub loop-alt-preserved : goal.loop-alt-preserved
 loop-alt-preserved c =

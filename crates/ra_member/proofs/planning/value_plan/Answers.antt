@@ -28,7 +28,12 @@ put_part-requires-clause-room c =
     let within : k < length parts = omega (arith, c.deref-part-items.ensures.len) in
     let is : part ≡ get_or parts k part =
     c.part-item.is ∙ ap (λ xs. get_or xs k part) c.deref-part-items.ensures.value in
-    omega (arith, weight_at part_contents parts k part within is part_conditions, c.loop-part.invariant.grows.few, c.requires.room)
+    omega (
+      arith,
+      weight_at part_contents parts k part within is part_conditions,
+      c.loop-part.invariant.grows.few,
+      c.requires.room,
+    )
 
 pub loop-part-preserved : goal.loop-part-preserved
 loop-part-preserved c =

@@ -8,15 +8,32 @@ use Rattle.ra_member.proofs.member.Member.put_back.Goals as goal
 
 pub put_back_tests-hits-requires : goal.put_back_tests-hits-requires
 put_back_tests-hits-requires c =
-    omega (arith, c.requires.hits, length_hits c.args.self.now, ap (λ ts. length (hits_of_tests ts)) c.deref_mut.ensures.value)
+    omega (
+      arith,
+      c.requires.hits,
+      length_hits c.args.self.now,
+      ap (λ ts. length (hits_of_tests ts)) c.deref_mut.ensures.value,
+    )
 
 pub put_back_values-requires-clause-hits : goal.put_back_values-requires-clause-hits
 put_back_values-requires-clause-hits c =
-    omega (arith, c.requires.hits, length_hits c.args.self.now, c.put_back_tests-hits.ensures.place, ap (λ ts. length (hits_of_tests ts)) c.deref_mut.ensures.value, ap (λ vs. length (hits_of_values vs)) c.deref_mut-2.ensures.value)
+    omega (
+      arith,
+      c.requires.hits,
+      length_hits c.args.self.now,
+      c.put_back_tests-hits.ensures.place,
+      ap (λ ts. length (hits_of_tests ts)) c.deref_mut.ensures.value,
+      ap (λ vs. length (hits_of_values vs)) c.deref_mut-2.ensures.value,
+    )
 
 pub put_back_values-requires-clause-numbers : goal.put_back_values-requires-clause-numbers
 put_back_values-requires-clause-numbers c =
-    omega (arith, c.requires.numbers, length_numbers c.args.self.now, ap (λ vs. length (numbers_of_values vs)) c.deref_mut-2.ensures.value)
+    omega (
+      arith,
+      c.requires.numbers,
+      length_numbers c.args.self.now,
+      ap (λ vs. length (numbers_of_values vs)) c.deref_mut-2.ensures.value,
+    )
 
 pub returns-clause-hits : goal.returns-clause-hits
 returns-clause-hits c =
@@ -47,8 +64,20 @@ returns-clause-numbers c =
 
 pub returns-clause-next_hits : goal.returns-clause-next_hits
 returns-clause-next_hits c =
-    omega (arith, length_hits c.args.self.now, c.put_back_tests-hits.ensures.place, c.put_back_values.ensures.next_hits, ap (λ ts. length (hits_of_tests ts)) c.deref_mut.ensures.value, ap (λ vs. length (hits_of_values vs)) c.deref_mut-2.ensures.value)
+    omega (
+      arith,
+      length_hits c.args.self.now,
+      c.put_back_tests-hits.ensures.place,
+      c.put_back_values.ensures.next_hits,
+      ap (λ ts. length (hits_of_tests ts)) c.deref_mut.ensures.value,
+      ap (λ vs. length (hits_of_values vs)) c.deref_mut-2.ensures.value,
+    )
 
 pub returns-clause-next_numbers : goal.returns-clause-next_numbers
 returns-clause-next_numbers c =
-    omega (arith, length_numbers c.args.self.now, c.put_back_values.ensures.next_numbers, ap (λ vs. length (numbers_of_values vs)) c.deref_mut-2.ensures.value)
+    omega (
+      arith,
+      length_numbers c.args.self.now,
+      c.put_back_values.ensures.next_numbers,
+      ap (λ vs. length (numbers_of_values vs)) c.deref_mut-2.ensures.value,
+    )
