@@ -1,5 +1,6 @@
 ghost use Rattle.std.specs.Prelude.{◌≡◌, ◌++◌, ◌<◌, true, [], ◌∷◌, length, replicate, slice_index_or, IfOk, OnOk, OnErr};
-ghost use Rattle.ra_schedule.specs.Readers.{IsLast, Notes};
+ghost use Rattle.ra_links.specs.FlatRows.{AreOnRows, rows_by};
+ghost use Rattle.ra_schedule.specs.Readers.{AreWithin, IsLast, Notes};
 
 use ra_links::Entry;
 use ra_text::OutOfMemory;
@@ -86,5 +87,20 @@ impl NotedReaders {
     {
         self.lasts.push(0)?;
         Ok(())
+    }
+
+    // What was noted, and how many readers there are. What only noting needs is dropped.
+    pub(crate) fn into_entries(self) -> (Vec<Entry>, usize)
+        ensures on { AreOnRows (length self.rows) result.0.items }
+        ensures rows { rows_by (length self.rows) result.0.items ≡ self.rows }
+        ensures due { replicate result.1 true ≡ self.due }
+        ensures within { AreWithin self }
+    {
+        let NotedReaders {
+            entries,
+            readers,
+            ..
+        } = self;
+        (entries, readers)
     }
 }

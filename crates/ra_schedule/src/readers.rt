@@ -3,7 +3,7 @@ ghost use Rattle.ra_memref.specs.Flags.{NoneSet, IsFirstSet};
 ghost use Rattle.ra_schedule.specs.Readers.{Wakes, all_woken};
 
 use crate::noted_readers::NotedReaders;
-use ra_links::FlatRows;
+use ra_links::LateRows;
 use ra_memref::{Flags, set_all};
 use ra_text::OutOfMemory;
 use std::alloc::Global;
@@ -14,7 +14,7 @@ use std::marker::Model;
 /// Nodes and readers go by their numbers, from 0 on. Only `new` takes memory.
 #[derive(Drop)]
 pub struct Readers {
-    rows: FlatRows,
+    rows: LateRows,
     due: Flags,
 }
 
@@ -30,14 +30,16 @@ impl Model for Readers {
 
 impl Readers {
     /// Those that were noted, which are all due. Memory is the only refusal.
-    pub fn new(alloc: Global, noted: &NotedReaders) -> Result<Readers, OutOfMemory>
-        ensures { IfOk result (λ r. r ≡ all_woken noted.now) }
+    pub fn new(alloc: Global, noted: NotedReaders) -> Result<Readers, OutOfMemory>
+        ensures { IfOk result (λ r. r ≡ all_woken noted) }
     {
-        let Ok(nodes) = u32::try_from(noted.nodes()) else {
+        let nodes = noted.nodes();
+        let (entries, readers) = noted.into_entries();
+        let Ok(nodes) = u32::try_from(nodes) else {
             return Err(OutOfMemory);
         };
-        let rows = FlatRows::new(alloc, nodes, &noted.entries)?;
-        let due = Flags::new(alloc, noted.readers)?;
+        let rows = LateRows::new(alloc, nodes, entries)?;
+        let due = Flags::new(alloc, readers)?;
         Ok(Readers { rows, due })
     }
 

@@ -52,7 +52,7 @@ impl Schedule {
             readers,
             ..
         } = signals;
-        let readers = Readers::new(alloc, &readers)?;
+        let readers = Readers::new(alloc, readers)?;
         let truths = Truths::of(alloc, comparisons, nodes)?;
         let since = vec![in alloc; None; places]?;
         Ok(Schedule {

@@ -5,25 +5,29 @@ use ra_text::OutOfMemory;
 use std::alloc::Global;
 use std::marker::Model;
 
-/// A row of truths, and the places of those that flipped, in a row with room for all.
+/// A row of truths, and the places of those that flipped, in a row with room for all. Room that was never used takes no
+/// memory of the machine.
 ///
 /// Only `new` takes memory.
 #[derive(Drop)]
 pub struct Kept {
     truths: Vec<bool>,
     places: Vec<u32>,
-    count: usize,
 }
 
 impl Model for Kept {
-    ghost use Rattle.std.specs.Prelude.{◌≡◌, ◌≤◌, length, take};
+    ghost use Rattle.std.specs.Prelude.{◌≤◌, length};
+    ghost use Rattle.std.specs.Vec.{vec_capacity};
     ghost use Rattle.ra_truths.specs.Kept.{KeptSeen};
 
     ghost Value = { KeptSeen };
 
-    ghost view = { λ k. record { truths = k.truths.items; flipped = take k.count k.places.items } };
+    ghost view = { λ k. record { truths = k.truths.items; flipped = k.places.items } };
 
-    ghost invariant = { λ k. (k.count ≤ length k.places.items) × (length k.places.items ≡ length k.truths.items) };
+    ghost invariant = { λ k. record {
+      few : length k.places.items ≤ length k.truths.items;
+      room : length k.truths.items ≤ vec_capacity k.places;
+    } };
 }
 
 impl Kept {
@@ -32,22 +36,19 @@ impl Kept {
         ensures { IfOk result (λ kept. kept ≡ record { truths = replicate count false; flipped = [] }) }
     {
         let truths = vec![in alloc; false; count]?;
-        let places = vec![in alloc; 0; count]?;
-        Ok(Kept {
-            truths,
-            places,
-            count: 0,
-        })
+        let places = Vec::with_capacity(alloc, count)?;
+        Ok(Kept { truths, places })
     }
 
     /// Takes all places off the list.
     pub fn clear(&mut self)
         ensures { self.new ≡ record self.old { flipped = [] } }
     {
-        self.count = 0;
+        self.places.clear();
     }
 
     /// Sets a truth, and lists its place where it is another than before.
+    #[inline(always)]
     pub fn put(&mut self, place: u32, truth: bool)
         requires place { place < length self.old.truths }
         requires room { slice_index_or self.old.truths place false ≢ truth
@@ -56,9 +57,15 @@ impl Kept {
     {
         if self.truths[place as usize] != truth {
             self.truths[place as usize] = truth;
-            self.places[self.count] = place;
-            self.count += 1;
+            let _ = self.places.push(place);
         }
+    }
+
+    /// The truths.
+    pub fn truths(&self) -> &[bool]
+        ensures { result.now ≡ self.now.truths }
+    {
+        &self.truths
     }
 
     /// The truth of a place.
@@ -74,6 +81,6 @@ impl Kept {
         ensures places { result.now ≡ self.now.flipped }
         ensures few { length result.now ≤ length self.now.truths }
     {
-        &self.places[..self.count]
+        &self.places
     }
 }

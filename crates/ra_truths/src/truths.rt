@@ -1,4 +1,5 @@
-ghost use Rattle.std.specs.Prelude.{◌≡◌, ◌≢◌, ◌<◌, ◌≤◌, ◌^◌, ◌+◌, [], true, false, length, replicate, slice_index, slice_index_or, IfOk};
+ghost use Rattle.std.specs.Prelude.{◌≡◌, ◌≢◌, ℕ, ◌<◌, ◌≤◌, ◌^◌, ◌+◌, [], true, false, length, replicate, slice_index, slice_index_or, IfOk};
+ghost use Rattle.ra_operand.specs.Operators.{compared, is_arithmetic};
 ghost use Rattle.ra_truths.specs.Comparisons.{AreOver, AreWithin, IsOver, comparison_at, holds_by, truths_by};
 ghost use Rattle.ra_truths.specs.Kept.{put_in};
 ghost use Rattle.ra_truths.specs.Settling.{Settles};
@@ -11,7 +12,7 @@ use crate::kept::Kept;
 use crate::uses::uses_of;
 use ra_links::FlatRows;
 use ra_memref::Table;
-use ra_operand::compare;
+use ra_operand::{Op, compare};
 use ra_text::OutOfMemory;
 use std::alloc::Global;
 use std::marker::Model;
@@ -44,22 +45,6 @@ impl Model for Truths {
 }
 
 impl Truths {
-    /// Truths of comparisons over this many nodes. No frame was taken. Memory is the only refusal.
-    pub fn new(alloc: Global, comparisons: &Comparisons, nodes: u32) -> Result<Truths, OutOfMemory>
-        requires nodes { nodes ≤ 2 ^ 31 }
-        requires within { AreWithin nodes comparisons.now }
-        ensures { IfOk result (λ truths. truths ≡ record {
-          comparisons = comparisons.now;
-          nodes = nodes;
-          truths = replicate (length comparisons.now) false;
-          flipped = [];
-          known = false;
-        }) }
-    {
-        let comparisons = listed(alloc, comparisons)?;
-        Truths::of_list(alloc, comparisons, nodes)
-    }
-
     /// Truths of comparisons that are given up, over this many nodes. No frame was taken. Memory is the only refusal.
     pub fn of(alloc: Global, comparisons: Comparisons, nodes: u32) -> Result<Truths, OutOfMemory>
         requires nodes { nodes ≤ 2 ^ 31 }
@@ -165,18 +150,6 @@ impl Truths {
     }
 }
 
-// The comparisons in the order of their numbers.
-fn listed(alloc: Global, comparisons: &Comparisons) -> Result<Vec<Comparison>, OutOfMemory>
-    ensures comparisons { IfOk result (λ list. list.items ≡ comparisons.now) }
-    ensures most { length comparisons.now ≤ 2 ^ 30 }
-{
-    let mut list = Vec::with_capacity(alloc, comparisons.len() as usize)?;
-    for number in 0..comparisons.len() {
-        list.push(comparisons.comparison(number))?;
-    }
-    Ok(list)
-}
-
 // Computes the truths of all comparisons.
 fn settle_all(kept: &mut Kept, comparisons: &[Comparison], table: &Table)
     requires few { length comparisons.now ≤ 2 ^ 30 }
@@ -187,10 +160,32 @@ fn settle_all(kept: &mut Kept, comparisons: &[Comparison], table: &Table)
     ensures settled { kept.new.truths ≡ truths_by table.now.values comparisons.now }
     ensures settles { Settles (truths_by table.now.values comparisons.now) kept.old kept.new }
 {
-    for number in 0..comparisons.len() {
-        let truth = holds(comparisons, table, number);
-        kept.put(number as u32, truth);
+    let mut at = next_flip(kept.truths(), comparisons, table, 0);
+    while at < comparisons.len() {
+        settle(kept, comparisons, table, at as u32);
+        at = next_flip(kept.truths(), comparisons, table, at + 1);
     }
+}
+
+// The place of the first comparison from one on that has another truth than was kept, or how many there are. It only
+// reads, so that the compiler holds what it reads from in registers.
+#[inline(never)]
+fn next_flip(truths: &[bool], comparisons: &[Comparison], table: &Table, from: usize) -> usize
+    requires over { AreOver table.now.nodes comparisons.now }
+    requires sampled { table.now.sampled ≡ true }
+    requires long { length truths.now ≡ length comparisons.now }
+    requires from { from ≤ length comparisons.now }
+    ensures after { from ≤ result }
+    ensures most { result ≤ length comparisons.now }
+    ensures same { (k : ℕ) → from ≤ k → k < result
+        → slice_index_or truths.now k false ≡ slice_index_or (truths_by table.now.values comparisons.now) k false }
+{
+    for number in from..comparisons.len() {
+        if holds(comparisons, table, number) != truths[number] {
+            return number;
+        }
+    }
+    comparisons.len()
 }
 
 // Computes the truths of the comparisons that have a node which changed.
@@ -211,8 +206,9 @@ fn settle_changed(kept: &mut Kept, comparisons: &[Comparison], rows: &FlatRows, 
     }
 }
 
-// Computes the truth of a comparison, which is listed where it flipped.
-// It has one caller alone, so that the compiler puts it in line there: a frame computes here what it computes anew.
+// Computes the truth of a comparison, which is listed where it flipped. It is put in line in both loops: a frame computes
+// here what it computes anew.
+#[inline(always)]
 fn settle(kept: &mut Kept, comparisons: &[Comparison], table: &Table, number: u32)
     requires number { number < length comparisons.now }
     requires over { IsOver table.now.nodes (comparison_at comparisons.now number) }
@@ -237,5 +233,18 @@ fn holds(comparisons: &[Comparison], table: &Table, number: usize) -> bool
     let comparison = comparisons[number];
     let left = table.value(comparison.left);
     let right = table.value(comparison.right);
-    compare(comparison.op, left, right)
+    match comparison.op {
+        Op::Eq => left == right,
+        op => holds_otherwise(op, left, right),
+    }
+}
+
+// Whether two numbers compare so by another operator than `=`, which is the usual one. It is not put in line, so that
+// `=` is told by one test and not by a table of all operators.
+#[inline(never)]
+fn holds_otherwise(op: Op, left: u32, right: u32) -> bool
+    requires { is_arithmetic op ≡ false }
+    ensures { result ≡ compared op left right }
+{
+    compare(op, left, right)
 }

@@ -311,7 +311,13 @@ concat_long (c ∷ counts) [] long = absurd (none (length c) (map length counts)
 concat_long (c ∷ counts) (row ∷ rows) long =
     let first = heads (length c) (length row) (map length counts) (map length rows) long in
     let others = concat_long counts rows (tails (length c) (length row) (map length counts) (map length rows) long) in
-    omega (arith, first, others, length-append c (flat_map (λ (bits : List Bool). bits) counts), length-append row (concat rows))
+    omega (
+      arith,
+      first,
+      others,
+      length-append c (flat_map (λ (bits : List Bool). bits) counts),
+      length-append row (concat rows),
+    )
 
 -- there is a bit for each hit in the row of a progress file
 pub bits_many : (counts : MemberCounted) (kept : MemberKept) → CountsFit counts kept

@@ -50,7 +50,14 @@ pub length_given : (form : Form) (groups : List (List Condition)) → length (gi
     ≡ length (ops_of groups)
 length_given form [] = refl
 length_given form (cs ∷ groups) =
-    omega (arith, length_given form groups, length-append (given_in form cs) (given_by form groups), length-map cs (gives_left form), length-append (ops_in cs) (ops_of groups), length-map cs (λ (c : Condition). c.op))
+    omega (
+      arith,
+      length_given form groups,
+      length-append (given_in form cs) (given_by form groups),
+      length-map cs (gives_left form),
+      length-append (ops_in cs) (ops_of groups),
+      length-map cs (λ (c : Condition). c.op),
+    )
 
 module _ (values values' : List ℕ) where
   truths_same : (row : List Op) (ls rs : List ℕ)

@@ -42,13 +42,21 @@ module _ (one two three : Instant) where
   values_through : (values : List (List PartContents)) → ValuesSeeSame one two values
       → ValuesSeeSame two three values → ValuesSeeSame one three values
   values_through [] first second = tt
-  values_through (parts ∷ values) first second =
-      (record { conditions = through InValue _ first.0.conditions second.0.conditions; sums = second.0.sums ∙ first.0.sums }, values_through values first.1 second.1)
+  values_through (parts ∷ values) first second = (
+    record {
+      conditions = through InValue _ first.0.conditions second.0.conditions;
+      sums = second.0.sums ∙ first.0.sums;
+    },
+    values_through values first.1 second.1,
+  )
 
   pub member_through : (m : MemberContents) → MemberSeesSame one two m → MemberSeesSame two three m
       → MemberSeesSame one three m
   member_through m first second =
-      record { tests = tests_through m.tests first.tests second.tests; values = values_through m.values first.values second.values }
+      record {
+        tests = tests_through m.tests first.tests second.tests;
+        values = values_through m.values first.values second.values;
+      }
 
 -- a node that is not listed among those with another value has the same one
 same_unless_listed : (values later : List ℕ) (n : ℕ) → ((slice_index values n ≡ slice_index later n
@@ -161,7 +169,10 @@ pub told_by_rows : (Sees : Instant → Instant → Type 0) (nodes : List Node)
     → IsTold Sees nodes other.truths.comparisons other.readers k
 told_by_rows Sees nodes one other k rows comparisons told =
     told_still Sees nodes one.truths.comparisons other.truths.comparisons one.readers other.readers k
-    (record { long = omega (arith, ap length comparisons); same = λ j within. ap (λ cs. comparison_at cs j) comparisons })
+    (record {
+      long = omega (arith, ap length comparisons);
+      same = λ j within. ap (λ cs. comparison_at cs j) comparisons;
+    })
     (λ s r reads. subst (λ (rs : List (List ℕ)). IsListed r (slice_index_or rs s [])) (sym rows) reads) told
 
 -- who is due and is made due is as before
