@@ -87,7 +87,12 @@ sum_more : (f : MemberContents → ℕ) (lines : List LineContents) (line : Line
 sum_more f [] line = omega (arith, sum_by-cons (λ (n : ℕ). n) (f (line_member line)) [])
 sum_more f (first ∷ lines) line =
     let own = λ (n : ℕ). n in
-    omega (arith, sum_more f lines line, sum_by-cons own (f (line_member first)) (map f (map line_member (lines ++ line ∷ []))), sum_by-cons own (f (line_member first)) (map f (map line_member lines)))
+    omega (
+      arith,
+      sum_more f lines line,
+      sum_by-cons own (f (line_member first)) (map f (map line_member (lines ++ line ∷ []))),
+      sum_by-cons own (f (line_member first)) (map f (map line_member lines)),
+    )
 
 pub counts_more : (a b c : List Node) (lines : List LineContents) (line : LineContents)
     (hits numbers : ℕ) (kept : Places) → CountsLines a b lines hits numbers → CountsLine b c line

@@ -101,5 +101,8 @@ display_put run rests one two three four at hits numbers next fit small shown fi
     words_both one two three at hits numbers (run.shown ∷ []) kept.hits
     (one_word one two at hits run.shown small shown) first in
     let back : PutsWords three four numbers next kept.numbers = subst (λ rows. PutsWords three four
-    numbers next (concat rows)) (sym (numbers_seen run.lines.items rests fit)) last in
-    (puts_both one three four at numbers next (words (run.shown ∷ kept.hits)) (words kept.numbers) front.puts back.puts, record { hits = front.fit.1; numbers = back.fit })
+    numbers next (concat rows)) (sym (numbers_seen run.lines.items rests fit)) last in (
+      puts_both one three four at numbers next (words (run.shown ∷ kept.hits))
+          (words kept.numbers) front.puts back.puts,
+      record { hits = front.fit.1; numbers = back.fit },
+    )

@@ -214,10 +214,18 @@ module _ (table : TableSeen) (frame : IsSomeFrame table) (lines : List LineConte
 
         done : (line : LineContents) (d : Member) (c : MemberCounts)
             → LineTook table lines line olds before d c place
-            (record { spot = spots news after d c place; since = if steps.rests then Some (next_count before.schedule.clock) else None; due = not steps.rests })
+            (record {
+              spot = spots news after d c place;
+              since = if steps.rests then Some (next_count before.schedule.clock) else None;
+              due = not steps.rests;
+            })
         done line d c =
             subst (λ (s : LineSpot). LineTook table lines line olds before d c place
-            (record { spot = s; since = if steps.rests then Some (next_count before.schedule.clock) else None; due = not steps.rests })) (new_spot d c)
+            (record {
+              spot = s;
+              since = if steps.rests then Some (next_count before.schedule.clock) else None;
+              due = not steps.rests;
+            })) (new_spot d c)
             (line_done table frame (get_or lines place line) (next_count before.schedule.clock)
             (seen_line (get_or olds place d) (get_or before.each.items place c)
             (owed_at before.schedule place))
@@ -252,8 +260,12 @@ module _ (table : TableSeen) (frame : IsSomeFrame table) (lines : List LineConte
           LineSpot MemberKept spot_seen (λ k. SpotSteps table (get_or lines k line))
           (λ k. SpotOn table (get_or lines k line)) (spots olds before m c)
           _ were.at_rest
-          (λ k within was quiet n.
-          (skipped table values (get_or lines k line) (get_or before.each.items k c) (get_or olds k m) _ (was line c m) before.schedule.truths.comparisons before.schedule.readers k (were.told_of k within line) quiet n, were.room k within line c))
+          (λ k within was quiet n. (
+            skipped table values (get_or lines k line) (get_or before.each.items k c)
+                (get_or olds k m) _ (was line c m) before.schedule.truths.comparisons
+                before.schedule.readers k (were.told_of k within line) quiet n,
+            were.room k within line c,
+          ))
           (λ k within was quiet. still_on table values (get_or lines k line)
           (get_or before.each.items k c) (get_or olds k m) _ (was line c m)
           before.schedule.truths.comparisons before.schedule.readers k
@@ -268,7 +280,12 @@ module _ (table : TableSeen) (frame : IsSomeFrame table) (lines : List LineConte
 
       abbrev pub lines_after : LineRests
       lines_after =
-          record { each = rests.each; schedule = record rests.schedule { clock = next_count rests.schedule.clock }; holds = rests.holds; room = rests.room }
+          record {
+            each = rests.each;
+            schedule = record rests.schedule { clock = next_count rests.schedule.clock };
+            holds = rests.holds;
+            room = rests.room;
+          }
 
       next_is : next_count before.schedule.clock ≡ next_count rests.schedule.clock
       next_is = sym (ap next_count (far.along.clock ∙ begun.clock))

@@ -39,7 +39,12 @@ macro_conditions [] = refl
 macro_conditions (Bytes text ∷ pieces) =
     omega (arith, macro_conditions pieces, sum_by-cons (λ p. optional_value (value_in p)) (Bytes text) pieces)
 macro_conditions (Shows name parts ∷ pieces) =
-    omega (arith, macro_conditions pieces, sum_by-cons value_conditions parts (filter_map value_in pieces), sum_by-cons (λ p. optional_value (value_in p)) (Shows name parts) pieces)
+    omega (
+      arith,
+      macro_conditions pieces,
+      sum_by-cons value_conditions parts (filter_map value_in pieces),
+      sum_by-cons (λ p. optional_value (value_in p)) (Shows name parts) pieces,
+    )
 
 -- a line of a test and of values
 pub line_made : (a b : List Node) (line : LineContents) (run : Member)

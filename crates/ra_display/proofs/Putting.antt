@@ -159,7 +159,14 @@ pub room_row : (old mid : List ℕ) (at behind : ℕ) (seen plain : List (List �
     → PutsWords old mid at behind (concat (take k seen))
     → behind + 4 * length (get_or plain k d) ≤ length mid
 room_row old mid at behind seen plain k d same within room first =
-    omega (arith, first.puts.next_is, first.puts.long, length_words (concat (take k seen)), front_room seen plain k d same within, room)
+    omega (
+      arith,
+      first.puts.next_is,
+      first.puts.long,
+      length_words (concat (take k seen)),
+      front_room seen plain k d same within,
+      room,
+    )
 
 -- rows that are read from what stands in a list, as they are seen
 module _ {Y : Type 0} (g : Y → List ℕ) (runs : List Y) (seen : List (List ℕ))

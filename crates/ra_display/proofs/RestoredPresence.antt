@@ -42,8 +42,11 @@ display_back bytes at hits numbers old new shown within stay all_hits all_number
     record {
       kept =
           (λ i. record { shown = shown i; hits = hit_words i; numbers = number_words i })
-          ∙ (λ i. record
-          { shown = word_at bytes at; hits = words_at bytes (is i) (presence_run_shape old).hits; numbers = words_at bytes (is_too i) (presence_run_shape old).parts });
+          ∙ (λ i. record {
+            shown = word_at bytes at;
+            hits = words_at bytes (is i) (presence_run_shape old).hits;
+            numbers = words_at bytes (is_too i) (presence_run_shape old).parts;
+          });
       run = display_stays old new stay (omega (arith, shown, within));
     }
 

@@ -53,8 +53,11 @@ module _ (nodes : List Node) where
   seen_shapes owed [] (run ∷ runs) counts are many rooms = absurd are
   seen_shapes owed (line ∷ lines) [] counts are many rooms = absurd are
   seen_shapes owed (line ∷ lines) (run ∷ runs) [] are many rooms = absurd (omega (arith, many))
-  seen_shapes owed (line ∷ lines) (run ∷ runs) (c ∷ counts) are many rooms =
-      (seen_shape nodes line run c (owed 0) are.0 (rooms 0 (omega arith) line c), seen_shapes (λ k. owed (suc k)) lines runs counts are.1 (omega (arith, many)) (λ k within. rooms (suc k) (omega (arith, within))))
+  seen_shapes owed (line ∷ lines) (run ∷ runs) (c ∷ counts) are many rooms = (
+    seen_shape nodes line run c (owed 0) are.0 (rooms 0 (omega arith) line c),
+    seen_shapes (λ k. owed (suc k)) lines runs counts are.1 (omega (arith, many))
+        (λ k within. rooms (suc k) (omega (arith, within))),
+  )
 
   -- and beside each line there is room for what it keeps
   fitting : (lines : List LineContents) (runs : List Member) (counts : List MemberCounts)
@@ -169,5 +172,7 @@ rests_forgotten nodes values later None (Some before) run old new was is are gon
 rests_forgotten nodes values later (Some script) None run old new was is are gone = absurd was
 rests_forgotten nodes values later (Some script) (Some before) None old new was is are gone = absurd is
 rests_forgotten nodes values later (Some script) (Some before) (Some run) old new was is are gone =
-    let same = gone.kept run.lines.items (length_runs nodes script.lines run.lines.items is.lines ∙ sym are.many) in
-    (gone.each nodes values later script.lines before.lines.items run.lines.items are, (λ i. Some (kept_display (record { shown = run.shown; lines = same i }))))
+    let same = gone.kept run.lines.items (length_runs nodes script.lines run.lines.items is.lines ∙ sym are.many) in (
+      gone.each nodes values later script.lines before.lines.items run.lines.items are,
+      (λ i. Some (kept_display (record { shown = run.shown; lines = same i }))),
+    )

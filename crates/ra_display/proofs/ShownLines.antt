@@ -97,7 +97,11 @@ first_shown lines truths display untested =
     let within : AreBeside (λ (line : LineContents) truth. line.test ≡ None → truth ≡ true)
     (display.front ++ display.last ∷ []) truths = subst (λ ls. AreBeside (λ (line : LineContents)
     truth. line.test ≡ None → truth ≡ true) ls truths) display.parts untested in
-    omega (arith, ap length display.parts, first_within display.front display.last truths display.untested.untested within)
+    omega (
+      arith,
+      ap length display.parts,
+      first_within display.front display.last truths display.untested.untested within,
+    )
 
 -- the first flag that is set is the first that is true
 pub first_set : (truths : List Bool) (n : ℕ) → IsFirstSet truths 0 n → n ≡ first_true truths
@@ -135,8 +139,10 @@ lines_next table start image has (line ∷ lines) [] news holds are = absurd are
 lines_next table start image has (line ∷ lines) (old ∷ olds) [] holds are = absurd are
 lines_next table start image has (line ∷ lines) (old ∷ olds) (new ∷ news) [] are = absurd are
 lines_next table start image has (line ∷ lines) (old ∷ olds) (new ∷ news) (h ∷ holds) are =
-    let rest = lines_next table start image has lines olds news holds are.1 in
-    (ap₂ (λ x xs. x ∷ xs) (are.0.kept start image has) rest.0, ap₂ (λ x xs. x ∷ xs) (are.0.truth start image has) rest.1)
+    let rest = lines_next table start image has lines olds news holds are.1 in (
+      ap₂ (λ x xs. x ∷ xs) (are.0.kept start image has) rest.0,
+      ap₂ (λ x xs. x ∷ xs) (are.0.truth start image has) rest.1,
+    )
 
 -- a line without a test holds at each frame
 pub untested_hold : (table : TableSeen) (start : Start) (image : List ℕ)
@@ -150,5 +156,8 @@ untested_hold table start image has [] [] [] (h ∷ holds) are = absurd are
 untested_hold table start image has (line ∷ lines) [] news holds are = absurd are
 untested_hold table start image has (line ∷ lines) (old ∷ olds) [] holds are = absurd are
 untested_hold table start image has (line ∷ lines) (old ∷ olds) (new ∷ news) [] are = absurd are
-untested_hold table start image has (line ∷ lines) (old ∷ olds) (new ∷ news) (h ∷ holds) are =
-    (λ none. are.0.truth start image has ∙ ap (λ t. line_holds (tests_hold start (tests_in t) (image ∷ []) old.tests)) none, untested_hold table start image has lines olds news holds are.1)
+untested_hold table start image has (line ∷ lines) (old ∷ olds) (new ∷ news) (h ∷ holds) are = (
+  λ none. are.0.truth start image has
+      ∙ ap (λ t. line_holds (tests_hold start (tests_in t) (image ∷ []) old.tests)) none,
+  untested_hold table start image has lines olds news holds are.1,
+)

@@ -430,8 +430,10 @@ module _ (table : TableSeen) (id : ℕ) (format : Format) (b : BoardContents) (m
         ap (λ k. board_after start' b k h') (board_again b owes fits_owes)
         ∙ (λ i. record {
           state = state_later i;
-          member = record
-              { tests = tests_later i; values = running_values start' m.values h' now.state (state_later i) owes.member.values };
+          member = record {
+            tests = tests_later i;
+            values = running_values start' m.values h' now.state (state_later i) owes.member.values;
+          };
         })
         ∙ (λ i. record
         { state = now.state; member = record { tests = owes_more.member.tests; values = values_later i } })
@@ -475,16 +477,20 @@ pub item_rests : (table : TableSeen) (item : ItemContents) (c : ItemCounts) (mid
     → (start : Start) (image : List ℕ) → AreValuesAt table.nodes table.values (first_frame start image)
     → (owed_run 0 c new ≡ kept_run new) × GoesOn table.nodes table.values item c new
 item_rests table (Unlocks id t) (counts.Achievement c) (Achievement mid)
-    (Achievement new) is is_new steps rested start image has =
-    (achievement_starts table id t mid new c is.hits steps rested start image has, achievement_rests_on table id t mid new c is.hits steps rested start image has)
+    (Achievement new) is is_new steps rested start image has = (
+      achievement_starts table id t mid new c is.hits steps rested start image has,
+      achievement_rests_on table id t mid new c is.hits steps rested start image has,
+    )
 item_rests table (Unlocks id t) (counts.Leaderboard c) mid new is is_new steps rested start image has = absurd rested
 item_rests table (Unlocks id t) (counts.Achievement c)
     (Leaderboard mid) new is is_new steps rested start image has = absurd is
 item_rests table (Unlocks id t) (counts.Achievement c) (Achievement mid)
     (Leaderboard new) is is_new steps rested start image has = absurd is_new
 item_rests table (Ranks id format b) (counts.Leaderboard c) (Leaderboard mid)
-    (Leaderboard new) is is_new steps rested start image has =
-    (board_starts table id format b mid new c is is_new steps rested start image has, board_rests_on table id format b mid new c is is_new steps rested start image has)
+    (Leaderboard new) is is_new steps rested start image has = (
+      board_starts table id format b mid new c is is_new steps rested start image has,
+      board_rests_on table id format b mid new c is is_new steps rested start image has,
+    )
 item_rests table (Ranks id format b)
     (counts.Achievement c) mid new is is_new steps rested start image has = absurd rested
 item_rests table (Ranks id format b) (counts.Leaderboard c)

@@ -79,7 +79,13 @@ blocks_long [] [] fit = refl
 blocks_long [] (item ∷ items) fit = absurd fit
 blocks_long (shape ∷ shapes) [] fit = absurd fit
 blocks_long (shape ∷ shapes) (item ∷ items) fit =
-    omega (arith, length_item shape item fit.0, blocks_long shapes items fit.1, length-append (item_bytes item) (concat (map item_bytes items)), sum_by-cons item_length shape shapes)
+    omega (
+      arith,
+      length_item shape item fit.0,
+      blocks_long shapes items fit.1,
+      length-append (item_bytes item) (concat (map item_bytes items)),
+      sum_by-cons item_length shape shapes,
+    )
 
 concat_more : (xs : List (List ℕ)) (x : List ℕ) → concat (xs ++ x ∷ []) ≡ concat xs ++ x
 concat_more [] x = append-nil x

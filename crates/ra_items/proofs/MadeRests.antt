@@ -71,7 +71,12 @@ all_made nodes values items runs signals rests are made is fit room none = recor
   few = omega (arith, none);
   told_of = λ k within item.
       told_by_rows (λ (now later : Instant). ItemSeesSame now later (get_or items k item)) nodes
-      (record { readers = signals.readers; truths = no_truths signals.nodes signals.comparisons; since = []; clock = 0 }) rests.schedule k
+      (record {
+        readers = signals.readers;
+        truths = no_truths signals.nodes signals.comparisons;
+        since = [];
+        clock = 0;
+      }) rests.schedule k
       (ap (λ (s : ScheduleSeen). s.readers.rows) is)
       (ap (λ (s : ScheduleSeen). s.truths.comparisons) is) (made.told k within item);
   rooms = λ k within item c. rooms_at k items rests.each.items item c within fit;

@@ -37,7 +37,11 @@ board_stays old new stays nodes (Ranks id format b) is = stays nodes (board_memb
 pub run_at_most : (n : ℕ) (b : ItemCounts) (run : ItemRun) → owed_run (min n 4294967295) b run ≡ owed_run n b run
 run_at_most n (counts.Achievement b) (Achievement run) =
     (λ i. kept_achievement run.earned
-    (record { state = run.run.trigger.state; measured = run.run.trigger.measured; hits = owed_by_at_most n b.counted.items run.run.trigger.hits i }))
+    (record {
+      state = run.run.trigger.state;
+      measured = run.run.trigger.measured;
+      hits = owed_by_at_most n b.counted.items run.run.trigger.hits i;
+    }))
 run_at_most n (counts.Leaderboard b) (Leaderboard run) =
     (λ i. kept_board (record { state = run.board; member = member_by_at_most n (counts_of b) (kept_by run.member) i }))
 run_at_most n (counts.Achievement b) (Leaderboard run) = refl

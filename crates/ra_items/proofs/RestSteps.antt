@@ -291,10 +291,18 @@ module _ (table : TableSeen) (frame : IsSomeFrame table) (items : List ItemConte
 
         done : (item : ItemContents) (r : ItemRun) (b : ItemCounts)
             → ItemTook table items item olds before r b place
-            (record { spot = spots news after r b place; since = if steps.rests then Some (next_count before.schedule.clock) else None; due = not steps.rests })
+            (record {
+              spot = spots news after r b place;
+              since = if steps.rests then Some (next_count before.schedule.clock) else None;
+              due = not steps.rests;
+            })
         done item r b =
             subst (λ (s : ItemSpot). ItemTook table items item olds before r b place
-            (record { spot = s; since = if steps.rests then Some (next_count before.schedule.clock) else None; due = not steps.rests })) (new_spot r b)
+            (record {
+              spot = s;
+              since = if steps.rests then Some (next_count before.schedule.clock) else None;
+              due = not steps.rests;
+            })) (new_spot r b)
             (item_done table frame (get_or items place item) (next_count before.schedule.clock)
             (seen_run (get_or olds place r) (get_or before.each.items place b)
             (owed_at before.schedule place))
@@ -361,8 +369,12 @@ module _ (table : TableSeen) (frame : IsSomeFrame table) (items : List ItemConte
           ItemSpot KeptItem spot_seen (λ k. SpotSteps table (get_or items k item))
           (λ k. SpotOn table (get_or items k item)) (spots olds before r b)
           _ were.at_rest
-          (λ k within was quiet n.
-          (skipped table values (get_or items k item) (get_or before.each.items k b) (get_or olds k r) (was item b r) before.schedule.truths.comparisons before.schedule.readers k (were.told_of k within item) quiet n, were.rooms k within item b))
+          (λ k within was quiet n. (
+            skipped table values (get_or items k item) (get_or before.each.items k b)
+                (get_or olds k r) (was item b r) before.schedule.truths.comparisons
+                before.schedule.readers k (were.told_of k within item) quiet n,
+            were.rooms k within item b,
+          ))
           (λ k within was quiet. still_on table values (get_or items k item) (get_or
           before.each.items k b) (get_or olds k r) (was item b r) before.schedule.truths.comparisons
           before.schedule.readers k (were.told_of k within item) quiet frame)
@@ -376,7 +388,13 @@ module _ (table : TableSeen) (frame : IsSomeFrame table) (items : List ItemConte
 
       abbrev pub items_after : Rests
       items_after =
-          record { each = rests.each; schedule = record rests.schedule { clock = next_count rests.schedule.clock }; stepped = rests.stepped; count = rests.count; rooms = rests.rooms }
+          record {
+            each = rests.each;
+            schedule = record rests.schedule { clock = next_count rests.schedule.clock };
+            stepped = rests.stepped;
+            count = rests.count;
+            rooms = rests.rooms;
+          }
 
       next_is : next_count before.schedule.clock ≡ next_count rests.schedule.clock
       next_is = sym (ap next_count (far.along.clock ∙ begun.clock))

@@ -57,7 +57,11 @@ pub achievement_back : (bytes : List ℕ) (at : ℕ) (old new : AchievementRun)
     (slice_index bytes at) ≡ true → new.run.laid ≡ old.run.laid → new.earned
     ≡ (earned_by old || is_earned (version_in bytes) (slice_index bytes at))
     → new.run.trigger
-    ≡ record { state = state_of (state_said (version_in bytes) (slice_index bytes at)); measured = word_at bytes (at + 1); hits = words_at bytes (at + 5) (length old.run.trigger.hits) }
+    ≡ record {
+      state = state_of (state_said (version_in bytes) (slice_index bytes at));
+      measured = word_at bytes (at + 1);
+      hits = words_at bytes (at + 5) (length old.run.trigger.hits);
+    }
     → PutsBackItem bytes (Some at) (Achievement old) (Achievement new)
 achievement_back bytes at old new good laid earned trigger =
     let many = length old.run.trigger.hits in

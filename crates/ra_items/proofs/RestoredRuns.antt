@@ -129,8 +129,10 @@ module _ (shape : ShapeContents) (bytes : List ℕ) (paired : IsPaired shape) (a
       let less : n < length (own_entries shape) = omega (arith, below, own_count shape paired) in
       let same = own_item shape paired n d below in
       at_place (λ place. HasItem bytes place item) (slice_index_or (own_places shape bytes) n None) (λ none. tt)
-      (λ at is.
-      ((within_file, block_fits n at less is (OfItem item) same), item_state item at (block_good n at less is (OfItem item) same)))
+      (λ at is. (
+        (within_file, block_fits n at less is (OfItem item) same),
+        item_state item at (block_good n at less is (OfItem item) same),
+      ))
 
   pub display_has : (p : PresenceShape) → shape.presence ≡ Some p → 0 < p.lines
       → HasDisplay bytes (slice_index_or (own_places shape bytes) (length shape.items) None) p
@@ -139,5 +141,8 @@ module _ (shape : ShapeContents) (bytes : List ℕ) (paired : IsPaired shape) (a
       let less : n < length (own_entries shape) = omega (arith, own_count shape paired, ap script_count some) in
       let same = own_script shape paired p some in
       at_place (λ place. HasDisplay bytes place p) (slice_index_or (own_places shape bytes) n None) (λ none. lines)
-      (λ at is.
-      ((within_file, block_fits n at less is (OfPresence p) same), ltb-true (word_at bytes at) p.lines (passes (nat_lt (word_at bytes at) p.lines) _ (block_good n at less is (OfPresence p) same))))
+      (λ at is. (
+        (within_file, block_fits n at less is (OfPresence p) same),
+        ltb-true (word_at bytes at) p.lines (passes (nat_lt (word_at bytes at) p.lines) _
+            (block_good n at less is (OfPresence p) same)),
+      ))

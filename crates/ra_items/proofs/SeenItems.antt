@@ -68,7 +68,11 @@ module _ (nodes : List Node) where
   seen_one (Unlocks id t) (Achievement run) b None is room =
       record { earned = run.earned; trigger = run.run.trigger; is = refl }
   seen_one (Unlocks id t) (Achievement run) (counts.Achievement b) (Some n) is room =
-      record { earned = run.earned; trigger = record run.run.trigger { hits = owed_by n b.counted.items run.run.trigger.hits }; is = refl }
+      record {
+        earned = run.earned;
+        trigger = record run.run.trigger { hits = owed_by n b.counted.items run.run.trigger.hits };
+        is = refl;
+      }
   seen_one (Unlocks id t) (Achievement run) (counts.Leaderboard b) (Some n) is room = absurd room
   seen_one (Unlocks id t) (Leaderboard run) b owed is room = absurd is
   seen_one (Ranks id format b) (Achievement run) room_of owed is room = absurd is
@@ -124,8 +128,11 @@ module _ (nodes : List Node) where
   all_seen_kept owed [] (run ∷ runs) befores are long each = absurd are
   all_seen_kept owed (item ∷ items) [] befores are long each = absurd are
   all_seen_kept owed (item ∷ items) (run ∷ runs) [] are long each = absurd (omega (arith, long))
-  all_seen_kept owed (item ∷ items) (run ∷ runs) (b ∷ befores) are long each =
-      (seen_one item run b (owed 0) are.0 (each 0 (omega arith) item b), all_seen_kept (λ k. owed (suc k)) items runs befores are.1 (omega (arith, long)) (λ k within. each (suc k) (omega (arith, within))))
+  all_seen_kept owed (item ∷ items) (run ∷ runs) (b ∷ befores) are long each = (
+    seen_one item run b (owed 0) are.0 (each 0 (omega arith) item b),
+    all_seen_kept (λ k. owed (suc k)) items runs befores are.1 (omega (arith, long))
+        (λ k within. each (suc k) (omega (arith, within))),
+  )
 
   pub all_earned_kept : (owed : ℕ → Option ℕ) (items : List ItemContents) (runs : List ItemRun)
       (befores : List ItemCounts) → AreItemRuns nodes items runs → length befores ≡ length items
@@ -167,8 +174,10 @@ fitting nodes [] [] (b ∷ befores) are long each = absurd (omega (arith, long))
 fitting nodes [] (run ∷ runs) befores are long each = absurd are
 fitting nodes (item ∷ items) [] befores are long each = absurd are
 fitting nodes (item ∷ items) (run ∷ runs) [] are long each = absurd (omega (arith, long))
-fitting nodes (item ∷ items) (run ∷ runs) (b ∷ befores) are long each =
-    (one_shape nodes item b run are.0 (each 0 (omega arith) item b), fitting nodes items runs befores are.1 (omega (arith, long)) (λ k within. each (suc k) (omega (arith, within))))
+fitting nodes (item ∷ items) (run ∷ runs) (b ∷ befores) are long each = (
+  one_shape nodes item b run are.0 (each 0 (omega arith) item b),
+  fitting nodes items runs befores are.1 (omega (arith, long)) (λ k within. each (suc k) (omega (arith, within))),
+)
 
 -- all of it, of the rests of a set
 module _ (nodes : List Node) (values : List ℕ) (items : List ItemContents) (runs : List ItemRun)

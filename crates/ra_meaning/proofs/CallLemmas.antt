@@ -24,12 +24,18 @@ module _ (set : SetContents) (size : ℕ) (is_shape : IsShape (shape_of set)) wh
       runtime.image ≡ size → AllByRecursion (MayCome set size) calls → AllSucceed runtime calls
   all_succeed runtime [] is long may = tt
   all_succeed runtime (Write at bytes ∷ calls) is long may =
-      let fits : at + length bytes ≤ length runtime.image = omega (arith, may.0) in
-      (fits, λ new left. all_succeed new calls (ap (λ (r : RuntimeSeen). r.set) left.rest ∙ is) (ap (λ (r : RuntimeSeen). length r.image) left.rest ∙ length-written runtime.image bytes at fits ∙ long) may.1)
+      let fits : at + length bytes ≤ length runtime.image = omega (arith, may.0) in (
+        fits,
+        λ new left. all_succeed new calls (ap (λ (r : RuntimeSeen). r.set) left.rest ∙ is)
+            (ap (λ (r : RuntimeSeen). length r.image) left.rest
+            ∙ length-written runtime.image bytes at fits ∙ long) may.1,
+      )
   all_succeed runtime (Frame ∷ calls) is long may =
       (tt, λ new left. all_succeed new calls (left.set ∙ is) (ap length left.image ∙ long) may.1)
-  all_succeed runtime (Restore bytes ∷ calls) is long may =
-      (subst (λ (s : SetContents). refusal (shape_of s) bytes ≡ None) (sym is) (saved_accepted bytes may.0), λ new left. all_succeed new calls (left.set ∙ is) (ap length left.image ∙ long) may.1)
+  all_succeed runtime (Restore bytes ∷ calls) is long may = (
+    subst (λ (s : SetContents). refusal (shape_of s) bytes ≡ None) (sym is) (saved_accepted bytes may.0),
+    λ new left. all_succeed new calls (left.set ∙ is) (ap length left.image ∙ long) may.1,
+  )
 
 pub calls_succeed : (set : SetContents) → IsShape (shape_of set) → CallsSucceed set
 calls_succeed set is_shape size runtime calls made may =

@@ -12,6 +12,7 @@ use Rattle.ra_set.specs.Names.{IsItemText}
 use Rattle.ra_set.proofs.FileLemmas.{file-once}
 use Rattle.ra_set.proofs.FrontLemmas.{file-of_lines}
 use Rattle.ra_set.proofs.RowLines.{one-is}
+use Rattle.ra_text.proofs.Spelled.{then-spelled, none-spelled}
 
 -- ---- one text, one item
 
@@ -21,15 +22,8 @@ line_of_item text item (inr board) = inr (inr (inl board))
 
 -- the text alone is a file
 alone : (text : List ℕ) (l : Line) → line text l → set_file text (record { lines = l ∷ []; script = None })
-alone text l spelled = file-of_lines text (l ∷ []) (record {
-  front = [];
-  behind = text;
-  v = [];
-  parts = refl;
-  of_first = refl;
-  of_next =
-      record { front = text; behind = []; v = l; parts = sym (append-nil text); of_first = spelled; of_next = record { empty = refl; is = refl } };
-})
+alone text l spelled = file-of_lines text (l ∷ []) (then-spelled [] text [] refl refl
+    (then-spelled text [] l (sym (append-nil text)) spelled none-spelled))
 
 pub one_item : (text : List ℕ) (x y : ItemContents) → IsItemText text x → IsItemText text y → x ≡ y
 one_item text x y p q =

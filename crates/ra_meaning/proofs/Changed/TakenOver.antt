@@ -71,7 +71,10 @@ module _ (set : SetContents) (kept : Opening) (shape : IsShape (shape_of set))
 
   same_item : (place other : ℕ) (trees : List Tree) → place ≡ other → TakenItem set set kept place other trees
   same_item place other trees same =
-      record { rest = same_taken trees; item = ap (λ q. slice_get q.items other) back.says_it ∙ ap (slice_get kept.items) (sym same) }
+      record {
+        rest = same_taken trees;
+        item = ap (λ q. slice_get q.items other) back.says_it ∙ ap (slice_get kept.items) (sym same);
+      }
 
   same_script : (trees : List Tree) → TakenScript set set kept trees
   same_script trees =

@@ -172,8 +172,10 @@ thing_back name =
 all_back : AllByRecursion (λ thing. thing_back (thing_name thing) ≡ thing)
     (things_in file set ++ things_in changed_file changed)
 unfolding md5 digest_bytes hash_after compress rounds block_words
-all_back =
-    (refl, (refl, (refl, (refl, (refl, (refl, (refl, (refl, (refl, (refl, (refl, (refl, (refl, (refl, (refl, tt)))))))))))))))
+all_back = (
+  refl,
+  (refl, (refl, (refl, (refl, (refl, (refl, (refl, (refl, (refl, (refl, (refl, (refl, (refl, (refl, tt)))))))))))))),
+)
 
 digests_apart : set.digest ≢ changed.digest
 unfolding md5 digest_bytes hash_after compress rounds block_words

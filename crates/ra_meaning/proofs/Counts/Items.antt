@@ -46,8 +46,18 @@ board_within id format b is =
     let s = trigger_hits b.submit in
     let v = value_hits b.value in
     let p = map value_hits (progress_in b.progress) in
-    let ps = map length (progress_in b.progress) in
-    (omega (arith, hits_within b.value, progress.0, sum_by-cons own a (c ∷ s ∷ v ∷ p), sum_by-cons own c (s ∷ v ∷ p), sum_by-cons own s (v ∷ p), sum_by-cons own v p), omega (arith, parts_within b.value is.value.each, progress.1, sum_by-cons own (length b.value) ps))
+    let ps = map length (progress_in b.progress) in (
+      omega (
+        arith,
+        hits_within b.value,
+        progress.0,
+        sum_by-cons own a (c ∷ s ∷ v ∷ p),
+        sum_by-cons own c (s ∷ v ∷ p),
+        sum_by-cons own s (v ∷ p),
+        sum_by-cons own v p,
+      ),
+      omega (arith, parts_within b.value is.value.each, progress.1, sum_by-cons own (length b.value) ps),
+    )
 
 -- lines keep at most a hit and a number for each of their conditions
 pub lines_within : (lines : List LineContents) → All IsShownLine lines
@@ -59,6 +69,18 @@ lines_within (line ∷ lines) each =
     let rest = lines_within lines (λ k d within. each (suc k) d (omega arith)) in
     let all = sum_by-cons line_conditions line lines in
     let own = λ (n : ℕ). n in (
-      omega (arith, one.0, rest.0, all, sum_by-cons own (member_hits (line_member line)) (map member_hits (map line_member lines))),
-      omega (arith, one.1, rest.1, all, sum_by-cons own (member_numbers (line_member line)) (map member_numbers (map line_member lines))),
+      omega (
+        arith,
+        one.0,
+        rest.0,
+        all,
+        sum_by-cons own (member_hits (line_member line)) (map member_hits (map line_member lines)),
+      ),
+      omega (
+        arith,
+        one.1,
+        rest.1,
+        all,
+        sum_by-cons own (member_numbers (line_member line)) (map member_numbers (map line_member lines)),
+      ),
     )

@@ -45,7 +45,14 @@ line_within : (line : LineContents) → member_hits (line_member line) ≤ line_
 line_within line =
     let hits = sum_by-append (λ (n : ℕ). n) (map trigger_hits (tests_in line.test))
     (map value_hits (values_in_line line)) in
-    omega (arith, hits, sum-map trigger_hits (tests_in line.test), sum-map value_hits (values_in_line line), test_within line.test, sum_by-le-sum_by value_hits value_conditions (values_in_line line) hits_within)
+    omega (
+      arith,
+      hits,
+      sum-map trigger_hits (tests_in line.test),
+      sum-map value_hits (values_in_line line),
+      test_within line.test,
+      sum_by-le-sum_by value_hits value_conditions (values_in_line line) hits_within,
+    )
 
 macros_within : (pieces : List PieceContents) → All IsPiece pieces → sum_by length
     (filter_map value_in pieces) ≤ sum_by value_conditions (filter_map value_in pieces)
@@ -53,7 +60,13 @@ macros_within [] each = omega arith
 macros_within (Bytes text ∷ pieces) each = macros_within pieces (λ k d within. each (suc k) d (omega arith))
 macros_within (Shows name parts ∷ pieces) each =
     let one : IsValue parts = each 0 (Shows name parts) (omega arith) in
-    omega (arith, parts_within parts one.each, macros_within pieces (λ k d within. each (suc k) d (omega arith)), sum_by-cons length parts (filter_map value_in pieces), sum_by-cons value_conditions parts (filter_map value_in pieces))
+    omega (
+      arith,
+      parts_within parts one.each,
+      macros_within pieces (λ k d within. each (suc k) d (omega arith)),
+      sum_by-cons length parts (filter_map value_in pieces),
+      sum_by-cons value_conditions parts (filter_map value_in pieces),
+    )
 
 pub line_few : (line : LineContents) → IsShownLine line → (member_hits (line_member line)
     ≤ line_conditions line) × (member_numbers (line_member line) ≤ line_conditions line)

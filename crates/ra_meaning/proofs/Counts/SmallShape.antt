@@ -41,7 +41,13 @@ items_short (name ∷ names) [] each = omega arith
 items_short (name ∷ names) (item ∷ items) each =
     let own : Own = record { name = name; shape = OfItem (item_shape item) } in
     let one : own_length own ≤ 5 + 8 * item_conditions item = item_short item (each 0 item (omega arith)) in
-    omega (arith, one, items_short names items (λ k d within. each (suc k) d (omega arith)), sum_by-cons own_length own (own_items names (map item_shape items)), sum_by-cons item_conditions item items)
+    omega (
+      arith,
+      one,
+      items_short names items (λ k d within. each (suc k) d (omega arith)),
+      sum_by-cons own_length own (own_items names (map item_shape items)),
+      sum_by-cons item_conditions item items,
+    )
 
 -- the block of a script takes four bytes, and at most eight more for each condition
 script_short : (name : Option Name) (script : Option ScriptContents) → OptionalScript script
@@ -61,7 +67,29 @@ small_shape set limits spelled cells tracked =
     let items : List Own = own_items set.item_names (map item_shape set.items) in
     let script : List Own = own_presence set.script_name (option_map presence_shape set.script) in
     let few : length (items ++ script) ≤ 16385 =
-    omega (arith, length-append items script, items_few set.item_names (map item_shape set.items), length-map set.items item_shape, script_few set.script_name (option_map presence_shape set.script), limits.items) in
+    omega (
+      arith,
+      length-append items script,
+      items_few set.item_names (map item_shape set.items),
+      length-map set.items item_shape,
+      script_few set.script_name (option_map presence_shape set.script),
+      limits.items,
+    ) in
     let short : sum_by own_length (items ++ script) ≤ 606212 =
-    omega (arith, sum_by-append own_length items script, items_short set.item_names set.items spelled.items, script_short set.script_name set.script spelled.script, limits.items, limits.conditions) in
-    omega (arith, few, short, cells, tracked, length-map (set_cells set) cell_name, length-map (set_tracked set) tracked_name)
+    omega (
+      arith,
+      sum_by-append own_length items script,
+      items_short set.item_names set.items spelled.items,
+      script_short set.script_name set.script spelled.script,
+      limits.items,
+      limits.conditions,
+    ) in
+    omega (
+      arith,
+      few,
+      short,
+      cells,
+      tracked,
+      length-map (set_cells set) cell_name,
+      length-map (set_tracked set) tracked_name,
+    )

@@ -166,7 +166,12 @@ module _ {X : Type 0} (f : Tree → List X) (counts : Counts f) where
     new_at_few values j =
         let left = new_of (condition_at cs j).left (pointer_of cs values j) in
         let right = new_of (condition_at cs j).right (pointer_of cs values j) in
-        omega (arith, length-append left right, new_few (condition_at cs j).left (pointer_of cs values j), new_few (condition_at cs j).right (pointer_of cs values j))
+        omega (
+          arith,
+          length-append left right,
+          new_few (condition_at cs j).left (pointer_of cs values j),
+          new_few (condition_at cs j).right (pointer_of cs values j),
+        )
 
     module _ (values : List Tree) (allowed : List X) (holds : (j : ℕ) → Holds allowed (tree_at values j)) where
       pointer_holds : (j : ℕ) → Holds allowed (pointer_of cs values j)
@@ -294,7 +299,11 @@ module _ {X : Type 0} (f : Tree → List X) (counts : Counts f) where
         let rest : Reached (values_along cs values (j ∷ js))
         (n + counted_first j + sum_by counted_first js) = along js
         (set values j (value_by_rules cs values j)) (n + counted_first j) (passed values n j r) in
-        record { allowed = rest.allowed; few = omega (arith, rest.few, sum_by-cons counted_first j js); holds = rest.holds }
+        record {
+          allowed = rest.allowed;
+          few = omega (arith, rest.few, sum_by-cons counted_first j js);
+          holds = rest.holds;
+        }
 
     reached : Reached (values_of cs) (sum_by counted_first (pass_order cs))
     reached =
@@ -372,8 +381,14 @@ module _ {X : Type 0} (f : Tree → List X) (counts : Counts f) where
         let all : Sides base.allowed (pass_order cs) = sides base.allowed base.holds (pass_order cs) in
         record {
           allowed = base.allowed ++ all.more;
-          few = omega
-              (arith, base.few, all.few, length-append base.allowed all.more, all_counted (pass_order cs), order_length cs);
+          few = omega (
+            arith,
+            base.few,
+            all.few,
+            length-append base.allowed all.more,
+            all_counted (pass_order cs),
+            order_length cs,
+          );
           within = all.within;
         }
 

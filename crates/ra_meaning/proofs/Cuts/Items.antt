@@ -37,8 +37,11 @@ board_agrees start start' h h' b agree kept =
     ≡ values_next start' m.values h' (if begins kept.state now then no_values m.values
     else kept.member.values) = λ now. values_agree start start' h h' m.values behind
     (if begins kept.state now then no_values m.values else kept.member.values) in
-    (λ i. record
-    { state = state i; member = record { tests = hits i; values = if is_running (state i) then values (state i) i else kept.member.values } })
+    (λ i. record {
+      state = state i;
+      member = record
+          { tests = hits i; values = if is_running (state i) then values (state i) i else kept.member.values };
+    })
 
 module _ (start opened : Start) (earlier : History) where
   pub goes_front : (xs ys : List Tree) → GoesOn start opened earlier (xs ++ ys) → GoesOn start opened earlier xs

@@ -66,8 +66,14 @@ module _ (start : Start) (b : BoardContents) where
       let new = state_after state (test_holds start b.start h s) (test_holds start b.cancel h c)
       (test_holds start b.submit h m) in
       let apart = values_apart start h (is_running new) (begins state new) b.value b.progress values many in
-      (λ i. record
-      { state = new; start = test_next start b.start h s; cancel = test_next start b.cancel h c; submit = test_next start b.submit h m; value = apart.0 i; progress = apart.1 i })
+      (λ i. record {
+        state = new;
+        start = test_next start b.start h s;
+        cancel = test_next start b.cancel h c;
+        submit = test_next start b.submit h m;
+        value = apart.0 i;
+        progress = apart.1 i;
+      })
   fields_step h state (s ∷ c ∷ m ∷ o ∷ tests) values three many = absurd (omega arith)
 
   pub by_fields : (opened : BoardKept) → IsByFields start b opened

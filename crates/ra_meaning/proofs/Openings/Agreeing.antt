@@ -46,16 +46,22 @@ module _ (start start' : Start) where
       → value_of start tree h ≡ value_of start' tree h
   value_agrees (constant n) agree h = refl
   value_agrees (join op left right) agree h =
-      let lefts : AgreesOn start start' left = record
-      { numbers = λ c there. agree.numbers c (In_front c (cells_in left) (cells_in right) there); priors = λ t there. agree.priors t (In_front t (tracked_in left) (tracked_in right) there) } in
-      let rights : AgreesOn start start' right = record
-      { numbers = λ c there. agree.numbers c (In_behind c (cells_in left) (cells_in right) there); priors = λ t there. agree.priors t (In_behind t (tracked_in left) (tracked_in right) there) } in
+      let lefts : AgreesOn start start' left = record {
+        numbers = λ c there. agree.numbers c (In_front c (cells_in left) (cells_in right) there);
+        priors = λ t there. agree.priors t (In_front t (tracked_in left) (tracked_in right) there);
+      } in
+      let rights : AgreesOn start start' right = record {
+        numbers = λ c there. agree.numbers c (In_behind c (cells_in left) (cells_in right) there);
+        priors = λ t there. agree.priors t (In_behind t (tracked_in left) (tracked_in right) there);
+      } in
       ap (λ n. computed op n (value_of start right h)) (value_agrees left lefts h)
       ∙ ap (λ n. computed op (value_of start' left h) n) (value_agrees right rights h)
   value_agrees (view kind size pointer address) agree h =
       let c : Cell = cell_of size pointer address in
-      let pointers : AgreesOn start start' pointer = record
-      { numbers = λ d there. agree.numbers d (In_front d (cells_in pointer) (c ∷ []) there); priors = λ t there. agree.priors t (In_front t (tracked_in pointer) (tracked_by kind size c) there) } in
+      let pointers : AgreesOn start start' pointer = record {
+        numbers = λ d there. agree.numbers d (In_front d (cells_in pointer) (c ∷ []) there);
+        priors = λ t there. agree.priors t (In_front t (tracked_in pointer) (tracked_by kind size c) there);
+      } in
       let moved = moved_agrees (start.number c) (start'.number c) address (width_of size)
       (value_of start pointer) (value_of start' pointer) (agree.numbers c
       (In_behind c (cells_in pointer) (c ∷ []) (inl refl))) (value_agrees pointer pointers) in

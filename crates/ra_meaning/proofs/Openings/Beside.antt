@@ -39,8 +39,10 @@ not_false false e = refl
 
 pub apart_firsts : {A : Type 0} (same : A → A → Bool) (xs : List A) → AreApart same (firsts same xs)
 apart_firsts same [] = tt
-apart_firsts same (x ∷ xs) =
-    (λ y h. not_false (same x y) (passes (λ z. not (same x z)) y (firsts same xs) h), apart_filter same (λ z. not (same x z)) (firsts same xs) (apart_firsts same xs))
+apart_firsts same (x ∷ xs) = (
+  λ y h. not_false (same x y) (passes (λ z. not (same x z)) y (firsts same xs) h),
+  apart_filter same (λ z. not (same x z)) (firsts same xs) (apart_firsts same xs),
+)
 
 pub numbers_beside : (cells : List Cell) (numbers : List ℕ) → AreApart same_cell cells
     → length numbers ≡ length cells → map (number_beside cells numbers) cells ≡ numbers

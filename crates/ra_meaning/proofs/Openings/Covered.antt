@@ -95,7 +95,8 @@ tracked_cell (join op left right) t h = elim (In_split t (tracked_in left) (trac
 ]
 tracked_cell (view kind size pointer address) t h =
     elim (In_split t (tracked_in pointer) (tracked_by kind size (cell_of size pointer address)) h) [
-      | inl front ↦ In_front t.cell (cells_in pointer) (cell_of size pointer address ∷ []) (tracked_cell pointer t front)
+      | inl front ↦ In_front t.cell (cells_in pointer) (cell_of size pointer address ∷ [])
+          (tracked_cell pointer t front)
       | inr behind ↦ In_behind t.cell (cells_in pointer) (cell_of size pointer address ∷ [])
           (inl (tracked_by_is kind size (cell_of size pointer address) t behind))
     ]

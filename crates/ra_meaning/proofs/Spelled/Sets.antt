@@ -41,7 +41,10 @@ spelled_progress (Some parts) is = (spelled_value parts is, tt)
 
 spelled_board : (b : BoardContents) → IsBoard b → FitsMember (board_member b)
 spelled_board b is = record {
-  tests = (spelled_trigger b.start is.start, (spelled_trigger b.cancel is.cancel, (spelled_trigger b.submit is.submit, tt)));
+  tests = (
+    spelled_trigger b.start is.start,
+    (spelled_trigger b.cancel is.cancel, (spelled_trigger b.submit is.submit, tt)),
+  );
   values = (spelled_value b.value is.value, spelled_progress b.progress is.progress);
 }
 

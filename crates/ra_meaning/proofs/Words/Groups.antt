@@ -117,8 +117,11 @@ frames_words : (groups : List (List Condition)) (truths : List Bool) (lefts hits
     → AllByRecursion AreFrameWords (frames_along groups truths lefts hits)
 frames_words [] truths lefts hits left_words words = tt
 frames_words (cs ∷ groups) truths lefts hits left_words words =
-    let n = length cs in
-    (record { hits = each_take IsWord n hits words; lefts = each_take IsWord n lefts left_words }, frames_words groups (drop n truths) (drop n lefts) (drop n hits) (each_drop IsWord n lefts left_words) (each_drop IsWord n hits words))
+    let n = length cs in (
+      record { hits = each_take IsWord n hits words; lefts = each_take IsWord n lefts left_words },
+      frames_words groups (drop n truths) (drop n lefts) (drop n hits)
+          (each_drop IsWord n lefts left_words) (each_drop IsWord n hits words),
+    )
 
 greatest_of_word : (frames : List Frame) → AllByRecursion AreFrameWords frames
     → HasNumber (greatest_of (map (outcome_of InTrigger) frames))
@@ -195,7 +198,10 @@ parts_words (part ∷ parts) truths lefts hits sums numbers left_words hit_words
     let n = length (counted_in part) in
     let f = frame_of (counted_in part) (take n truths) (take n lefts) (take n hits) in (
       part_words part f (slice_index sums 0) (slice_index numbers 0)
-          (record { hits = each_take IsWord n hits hit_words; lefts = each_take IsWord n lefts left_words }) (index_word sums sum_words 0) (index_word numbers words 0),
+          (record {
+            hits = each_take IsWord n hits hit_words;
+            lefts = each_take IsWord n lefts left_words;
+          }) (index_word sums sum_words 0) (index_word numbers words 0),
       parts_words parts (drop n truths) (drop n lefts) (drop n hits) (drop 1 sums) (drop 1 numbers)
           (each_drop IsWord n lefts left_words) (each_drop IsWord n hits hit_words)
           (each_drop IsWord 1 sums sum_words) (each_drop IsWord 1 numbers words),

@@ -134,8 +134,12 @@ module _ (start : Start) (start_words : AreStartWords start) where
   item_fits (Unlocks id t) fits (OfAchievement state measured hits earned) is h images =
       let opened = opened_achievement (OfAchievement state measured hits earned) in
       let words = achievement_words t fits opened (record { measured = is.2; hits = is.3.fit }) h images in
-      let last = (achievement_after start t opened h).state in
-      (state_within last, earned_where_triggered earned last, words.measured, record { as_many = length_achievement start t opened h is.3.as_many; fit = words.hits })
+      let last = (achievement_after start t opened h).state in (
+        state_within last,
+        earned_where_triggered earned last,
+        words.measured,
+        record { as_many = length_achievement start t opened h is.3.as_many; fit = words.hits },
+      )
   item_fits (Unlocks id t) fits (OfBoard state hits numbers) is h images = absurd is
   item_fits (Ranks id format b) fits (OfAchievement state measured hits earned) is h images = absurd is
   item_fits (Ranks id format b) fits (OfBoard state hits numbers) is h images =
@@ -145,8 +149,11 @@ module _ (start : Start) (start_words : AreStartWords start) where
       let words = saved_words after.member (board_words b fits opened
       (opened_words (board_member b) hits numbers is.1.fit is.2.fit) h images) in
       let long = saved_long (board_member b) after.member
-      (board_fits start b opened h (opened_fits b id format kept is)) in
-      (board_state_within after.state, record { as_many = long.0; fit = words.0 }, record { as_many = long.1; fit = words.1 })
+      (board_fits start b opened h (opened_fits b id format kept is)) in (
+        board_state_within after.state,
+        record { as_many = long.0; fit = words.0 },
+        record { as_many = long.1; fit = words.1 },
+      )
 
   pub items_fit : (items : List ItemContents) → AllByRecursion FitsItem items
       → (kept : List KeptItem) → ItemsFit (map item_shape items) kept → (h : History) → AreImages h

@@ -88,8 +88,10 @@ saved_words kept words =
 
 pub no_values_words : (values : List (List PartContents)) → AllByRecursion AreValueWords (no_values values)
 no_values_words values =
-    each_map AreValueWords no_value (λ parts. record
-    { hits = each_replicate IsWord (value_hits parts) 0 (lit< tt); numbers = each_replicate IsWord (length parts) 0 (lit< tt) }) values
+    each_map AreValueWords no_value (λ parts. record {
+      hits = each_replicate IsWord (value_hits parts) 0 (lit< tt);
+      numbers = each_replicate IsWord (length parts) 0 (lit< tt);
+    }) values
 
 counted_fits : (part : PartContents) → FitsPart part → FitsGroup (counted_in part)
 counted_fits (Legacy terms) fits = tt
@@ -121,8 +123,11 @@ module _ (start : Start) (opened_words : AreStartWords start) (h : History) (ima
       → AllByRecursion AreAllWords (tests_next start tests h hits)
   tests_words [] fits hits words = tt
   tests_words (t ∷ tests) fits [] words = tt
-  tests_words (t ∷ tests) fits (k ∷ hits) words =
-      (truth_words t (truths_at start h (groups_of t)) (lefts_at start h (groups_of t)) (lefts_words (groups_of t) fits.0) k words.0, tests_words tests fits.1 hits words.1)
+  tests_words (t ∷ tests) fits (k ∷ hits) words = (
+    truth_words t (truths_at start h (groups_of t)) (lefts_at start h (groups_of t))
+        (lefts_words (groups_of t) fits.0) k words.0,
+    tests_words tests fits.1 hits words.1,
+  )
 
   pub values_words : (values : List (List PartContents)) → AllByRecursion FitsValue values
       → (kept : List ValueKept) → AllByRecursion AreValueWords kept

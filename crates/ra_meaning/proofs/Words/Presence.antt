@@ -52,8 +52,10 @@ rows_words : (kept : List MemberKept) → AllByRecursion AreMemberWords kept
 rows_words [] words = (tt, tt)
 rows_words (k ∷ kept) words =
     let first = saved_words k words.0 in
-    let rest = rows_words kept words.1 in
-    (each_append IsWord (saved_hits k) (concat (map saved_hits kept)) first.0 rest.0, each_append IsWord (saved_numbers k) (concat (map saved_numbers kept)) first.1 rest.1)
+    let rest = rows_words kept words.1 in (
+      each_append IsWord (saved_hits k) (concat (map saved_hits kept)) first.0 rest.0,
+      each_append IsWord (saved_numbers k) (concat (map saved_numbers kept)) first.1 rest.1,
+    )
 
 module _ (start : Start) where
   -- the first line that holds is one of the script's
@@ -92,7 +94,10 @@ module _ (start : Start) (start_words : AreStartWords start) where
   next_words h images [] fits kept words = tt
   next_words h images (m ∷ members) fits [] words = tt
   next_words h images (m ∷ members) fits (k ∷ kept) words = (
-    record { tests = tests_words start start_words h images m.tests fits.0.tests k.tests words.0.tests; values = values_words start start_words h images m.values fits.0.values k.values words.0.values },
+    record {
+      tests = tests_words start start_words h images m.tests fits.0.tests k.tests words.0.tests;
+      values = values_words start start_words h images m.values fits.0.values k.values words.0.values;
+    },
     next_words h images members fits.1 kept words.1,
   )
 
@@ -118,5 +123,8 @@ module _ (start : Start) (start_words : AreStartWords start) where
       let long = members_long (script_members script) after.lines (display_fits start script opened h opened_fit) in
       let words = rows_words after.lines (display_words script (each_map_of FitsMember FitsLine
       line_member (λ line is. is) script.lines spelled.lines) opened (cut_words (script_members
-      script) kept.hits kept.numbers is.1.fit is.2.fit) h images) in
-      (shown_below start script opened opened_fit spelled.untested is.0 h, record { as_many = long.0; fit = words.0 }, record { as_many = long.1; fit = words.1 })
+      script) kept.hits kept.numbers is.1.fit is.2.fit) h images) in (
+        shown_below start script opened opened_fit spelled.untested is.0 h,
+        record { as_many = long.0; fit = words.0 },
+        record { as_many = long.1; fit = words.1 },
+      )

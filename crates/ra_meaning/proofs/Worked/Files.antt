@@ -65,7 +65,15 @@ three_hits_line = 121 ∷ 138 ∷ 85 ∷ 252 ∷ 89 ∷ 157 ∷ 157 ∷ 155 ∷ 
 
 abbrev three_hits_shape : ShapeContents
 three_hits_shape =
-    record { digest = three_hits_digest; cells = three_hits_cell ∷ []; priors = []; items = Achievement 1 ∷ []; item_names = three_hits_line ∷ []; presence = None; presence_name = None }
+    record {
+      digest = three_hits_digest;
+      cells = three_hits_cell ∷ [];
+      priors = [];
+      items = Achievement 1 ∷ [];
+      item_names = three_hits_line ∷ [];
+      presence = None;
+      presence_name = None;
+    }
 
 -- the file in version 1
 three_hits_old_file : List ℕ

@@ -30,7 +30,13 @@ byte address = Cell Mem Byte address
 -- a set of one achievement
 abbrev only : List Condition → List (List Condition) → SetContents
 only core alts =
-    record { items = Unlocks 1 (record { core = core; alts = alts }) ∷ []; script = None; digest = []; item_names = []; script_name = None }
+    record {
+      items = Unlocks 1 (record { core = core; alts = alts }) ∷ [];
+      script = None;
+      digest = [];
+      item_names = [];
+      script_name = None;
+    }
 
 -- what a set prints over records, from the plain opening
 abbrev prints : SetContents → ℕ → List Entry → List ℕ

@@ -94,8 +94,10 @@ stage_macro = record {
     rest = Some (codes "Castle");
   } ∷ [];
   formats = (codes "Pts", Score) ∷ [];
-  lines = record
-      { test = Some (trigger (one Plain (byte 0xfe) Eq (Const 0) 0 ∷ []) []); pieces = Bytes (codes "In the menu") ∷ [] }
+  lines = record {
+    test = Some (trigger (one Plain (byte 0xfe) Eq (Const 0) 0 ∷ []) []);
+    pieces = Bytes (codes "In the menu") ∷ [];
+  }
       ∷ record {
         test = None;
         pieces = Shows (codes "Stage") (Legacy (record { operand = byte 0x10; factor = None } ∷ []) ∷ [])
@@ -134,14 +136,19 @@ stages_second = Written 0x10 (2 ∷ []) ∷ Framed ∷ Written 0x10 (4 ∷ []) �
     ∷ Written 0x10 (5 ∷ []) ∷ Written 0x30 (0xe8 ∷ 3 ∷ []) ∷ Framed ∷ Shown ∷ Ended ∷ []
 
 stages_prints : prints stages 256 (stages_first ++ stages_second)
-    ≡ codes "presence 1 In the menu\nstart 1 9\ntrack 1 9 0:00.01\ntrack 2 9 0:00.03\nsubmit 3 9 3 0:00.05\nunlock 5 101\npresence 6 Castle with 001000 points\n"
+    ≡ codes "presence 1 In the menu\nstart 1 9\ntrack 1 9 0:00.01\ntrack 2 9 0:00.03\n"
+    ++ codes "submit 3 9 3 0:00.05\nunlock 5 101\npresence 6 Castle with 001000 points\n"
 unfolding digits stages_first stages_second
 stages_prints = refl
 
 -- cut after the third frame, and gone on from the opening there over the same image
 stages_go_on : prints stages 256 stages_first ++ concat (pieces_from stages (snapshot stages
-    (plain_opening stages) (behind_end [] 256 stages_first)) (record
-    { image = (moment_after (first_moment 256 []) stages_first).image; behind = []; slots = replicate 16 None }) (earned_end stages (plain_opening stages) [] (none_earned stages) 256 stages_first) stages_second) ≡ prints stages 256 (stages_first ++ stages_second)
+    (plain_opening stages) (behind_end [] 256 stages_first)) (record {
+      image = (moment_after (first_moment 256 []) stages_first).image;
+      behind = [];
+      slots = replicate 16 None;
+    }) (earned_end stages (plain_opening stages) [] (none_earned stages) 256 stages_first)
+    stages_second) ≡ prints stages 256 (stages_first ++ stages_second)
 unfolding digits stages_first stages_second
 stages_go_on = refl
 
@@ -150,7 +157,11 @@ abbrev shows : List PartContents → SetContents
 shows value = record {
   items = [];
   script = Some
-      (record { lookups = []; formats = []; lines = record { test = None; pieces = Shows (codes "Number") value ∷ [] } ∷ [] });
+      (record {
+        lookups = [];
+        formats = [];
+        lines = record { test = None; pieces = Shows (codes "Number") value ∷ [] } ∷ [];
+      });
   digest = [];
   item_names = [];
   script_name = None;
@@ -239,7 +250,13 @@ last_count = record {
 
 abbrev last_opening : Opening
 last_opening =
-    record { frames = 18446744073709551615; cells = 0 ∷ 0 ∷ []; priors = []; items = OfAchievement 1 0 (7 ∷ 0 ∷ 4294967295 ∷ []) false ∷ []; presence = None }
+    record {
+      frames = 18446744073709551615;
+      cells = 0 ∷ 0 ∷ [];
+      priors = [];
+      items = OfAchievement 1 0 (7 ∷ 0 ∷ 4294967295 ∷ []) false ∷ [];
+      presence = None;
+    }
 
 last_count_prints : text_of last_count last_opening [] (earned_in last_opening) 64
     (Written 0x10 (1 ∷ []) ∷ Framed ∷ Ended ∷ []) ≡ []
@@ -259,7 +276,23 @@ last_count_keeps = refl
 
 -- an unknown macro
 unknown_macro_prints : prints
-    (record { items = []; script = Some (record { lookups = []; formats = []; lines = record { test = None; pieces = Bytes (codes "@") ∷ Shows (codes "Foo") (Legacy (term (Const 5) None ∷ []) ∷ []) ∷ Bytes (codes "\\") ∷ [] } ∷ [] }); digest = []; item_names = []; script_name = None }) 64 (Framed ∷ Shown ∷ Ended ∷ []) ≡ codes "presence 1 @[Unknown macro]Foo\\\n"
+    (record {
+      items = [];
+      script = Some
+          (record {
+            lookups = [];
+            formats = [];
+            lines = record {
+              test = None;
+              pieces =
+                  Bytes (codes "@") ∷ Shows (codes "Foo") (Legacy (term (Const 5) None ∷ []) ∷ [])
+                  ∷ Bytes (codes "\\") ∷ [];
+            } ∷ [];
+          });
+      digest = [];
+      item_names = [];
+      script_name = None;
+    }) 64 (Framed ∷ Shown ∷ Ended ∷ []) ≡ codes "presence 1 @[Unknown macro]Foo\\\n"
 unfolding digits
 unknown_macro_prints = refl
 

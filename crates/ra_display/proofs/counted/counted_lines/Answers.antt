@@ -16,19 +16,44 @@ counted_line-requires-clause-spelled c =
 
 pub counted_line-requires-clause-room : goal.counted_line-requires-clause-room
 counted_line-requires-clause-room c =
-    omega (arith, weight_at line_contents c.args.lines.now c.loop-line.line-index c.line-item.result c.loop-line-test.true c.line-item.is line_conditions, c.loop-line.invariant.grows.few, c.requires.room)
+    omega (
+      arith,
+      weight_at line_contents c.args.lines.now c.loop-line.line-index c.line-item.result
+          c.loop-line-test.true c.line-item.is line_conditions,
+      c.loop-line.invariant.grows.few,
+      c.requires.room,
+    )
 
 pub counted_line-requires-clause-few : goal.counted_line-requires-clause-few
 counted_line-requires-clause-few c =
-    omega (arith, weight_at line_contents c.args.lines.now c.loop-line.line-index c.line-item.result c.loop-line-test.true c.line-item.is line_conditions, c.requires.few)
+    omega (
+      arith,
+      weight_at line_contents c.args.lines.now c.loop-line.line-index c.line-item.result
+          c.loop-line-test.true c.line-item.is line_conditions,
+      c.requires.few,
+    )
 
 pub overflow_add-hits : goal.overflow_add-hits
 overflow_add-hits c =
-    omega (arith, weight_at line_contents c.args.lines.now c.loop-line.line-index c.line-item.result c.loop-line-test.true c.line-item.is line_conditions, c.loop-line.invariant.few_hits, c.in_ok-kept.ensures.few_hits, c.requires.few)
+    omega (
+      arith,
+      weight_at line_contents c.args.lines.now c.loop-line.line-index c.line-item.result
+          c.loop-line-test.true c.line-item.is line_conditions,
+      c.loop-line.invariant.few_hits,
+      c.in_ok-kept.ensures.few_hits,
+      c.requires.few,
+    )
 
 pub overflow_add-numbers : goal.overflow_add-numbers
 overflow_add-numbers c =
-    omega (arith, weight_at line_contents c.args.lines.now c.loop-line.line-index c.line-item.result c.loop-line-test.true c.line-item.is line_conditions, c.loop-line.invariant.few_numbers, c.in_ok-kept.ensures.few_numbers, c.requires.few)
+    omega (
+      arith,
+      weight_at line_contents c.args.lines.now c.loop-line.line-index c.line-item.result
+          c.loop-line-test.true c.line-item.is line_conditions,
+      c.loop-line.invariant.few_numbers,
+      c.in_ok-kept.ensures.few_numbers,
+      c.requires.few,
+    )
 
 pub loop-line-preserved : goal.loop-line-preserved
 loop-line-preserved c =

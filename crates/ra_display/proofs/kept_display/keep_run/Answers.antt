@@ -24,8 +24,16 @@ keep_numbers-requires c =
     let many : length (concat (map saved_hits (seen_lines lines rests)))
     ≡ length (concat (map saved_hits (map kept_by lines))) = concat_long (map saved_hits (seen_lines
     lines rests)) (map saved_hits (map kept_by lines)) (hits_seen lines rests c.requires.fit) in
-    rw c.deref-2.ensures.value (omega
-    (arith, c.requires.room, c.put_word-next.ensures.next_is, c.put_word-next.ensures.long, hits.puts.next_is, hits.puts.long, length_words (concat (map saved_hits (seen_lines lines rests))), many))
+    rw c.deref-2.ensures.value (omega (
+      arith,
+      c.requires.room,
+      c.put_word-next.ensures.next_is,
+      c.put_word-next.ensures.long,
+      hits.puts.next_is,
+      hits.puts.long,
+      length_words (concat (map saved_hits (seen_lines lines rests))),
+      many,
+    ))
 
 pub returns-clause-puts : goal.returns-clause-puts
 returns-clause-puts c =

@@ -17,7 +17,14 @@ use Rattle.ra_display.proofs.line_reads.note_macros.Goals.{in-Macro+in_ok-note_v
 
 pub index-requires : goal.index-requires
 index-requires c =
-    omega (arith, (macro_run c.args.table.now.nodes c.args.pieces.now c.loop-piece.piece-index c.loop-piece.place c.piece-item.result c.in-Macro.name c.in-Macro.value c.args.run.now.values.items c.loop-piece-test.true c.piece-item.is c.in-Macro.is c.loop-piece.invariant.place c.requires.values).0, c.args.run.now.values.ok)
+    omega (
+      arith,
+      (macro_run c.args.table.now.nodes c.args.pieces.now c.loop-piece.piece-index
+          c.loop-piece.place c.piece-item.result c.in-Macro.name c.in-Macro.value
+          c.args.run.now.values.items c.loop-piece-test.true c.piece-item.is c.in-Macro.is
+          c.loop-piece.invariant.place c.requires.values).0,
+      c.args.run.now.values.ok,
+    )
 
 pub note_value-requires-clause-run : goal.note_value-requires-clause-run
 note_value-requires-clause-run c =
@@ -31,7 +38,13 @@ note_value-requires-clause-run c =
 
 pub overflow_add-place : goal.overflow_add-place
 overflow_add-place c =
-    omega (arith, (macro_run c.args.table.now.nodes c.args.pieces.now c.loop-piece.piece-index c.loop-piece.place c.piece-item.result c.in-Macro.name c.in-Macro.value c.args.run.now.values.items c.loop-piece-test.true c.piece-item.is c.in-Macro.is c.loop-piece.invariant.place c.requires.values).0)
+    omega (
+      arith,
+      (macro_run c.args.table.now.nodes c.args.pieces.now c.loop-piece.piece-index
+          c.loop-piece.place c.piece-item.result c.in-Macro.name c.in-Macro.value
+          c.args.run.now.values.items c.loop-piece-test.true c.piece-item.is c.in-Macro.is
+          c.loop-piece.invariant.place c.requires.values).0,
+    )
 
 pub loop-piece-preserved : goal.loop-piece-preserved
 loop-piece-preserved c =

@@ -24,7 +24,12 @@ loop-place-init c =
 
 pub bounds-runs-place : goal.bounds-runs-place
 bounds-runs-place c =
-    omega (arith, c.loop-place-test.true, length_runs c.args.table.now.nodes (map line_contents c.args.lines.now) c.args.runs.now c.requires.runs, length-map c.args.lines.now line_contents)
+    omega (
+      arith,
+      c.loop-place-test.true,
+      length_runs c.args.table.now.nodes (map line_contents c.args.lines.now) c.args.runs.now c.requires.runs,
+      length-map c.args.lines.now line_contents,
+    )
 
 pub overflow_cast-place : goal.overflow_cast-place
 overflow_cast-place c = omega (arith, c.loop-place-test.true, c.requires.few)

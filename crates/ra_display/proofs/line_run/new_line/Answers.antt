@@ -32,7 +32,15 @@ put_piece-requires-clause-room c =
     let within : k < length pieces = omega (arith, c.deref-piece-items.ensures.len) in
     let is : piece ≡ get_or pieces k piece =
     c.piece-item.is ∙ ap (λ xs. get_or xs k piece) c.deref-piece-items.ensures.value in
-    omega (arith, weight_at piece_contents pieces k piece within is (λ p. optional_value (value_in p)), c.loop-piece.invariant.grows.few, c.requires.room, macro_conditions (map piece_contents (take k pieces)), macro_conditions (map piece_contents pieces), test_conditions (line_contents c.args.line.now).test)
+    omega (
+      arith,
+      weight_at piece_contents pieces k piece within is (λ p. optional_value (value_in p)),
+      c.loop-piece.invariant.grows.few,
+      c.requires.room,
+      macro_conditions (map piece_contents (take k pieces)),
+      macro_conditions (map piece_contents pieces),
+      test_conditions (line_contents c.args.line.now).test,
+    )
 
 pub loop-piece-preserved : goal.loop-piece-preserved
 loop-piece-preserved c =

@@ -9,4 +9,7 @@ use Rattle.ra_display.proofs.line_run.new_line.Given as goal
 abbrev pub invariant-loop-piece : goal.invariant-loop-piece
 invariant-loop-piece l =
     IsNewMember l.fn.pool l.pool
-    (record { tests = tests_in (option_map trigger_contents l.fn.line.test); values = filter_map value_in (map piece_contents (take l.piece-index l.fn.line.pieces.items)) }) l.member
+    (record {
+      tests = tests_in (option_map trigger_contents l.fn.line.test);
+      values = filter_map value_in (map piece_contents (take l.piece-index l.fn.line.pieces.items));
+    }) l.member

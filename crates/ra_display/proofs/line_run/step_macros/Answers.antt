@@ -14,7 +14,13 @@ step_value-requires-clause-value c =
 
 pub overflow_add-place : goal.overflow_add-place
 overflow_add-place c =
-    omega (arith, (macro_here c.args.table.now c.args.pieces.now c.args.member.now c.loop-piece.piece-index c.piece-item.result c.loop-piece-test.true c.piece-item.is c.loop-piece.member c.loop-piece.place c.loop-piece.invariant c.in-Macro.name c.in-Macro.value c.in-Macro.is).within)
+    omega (
+      arith,
+      (macro_here c.args.table.now c.args.pieces.now c.args.member.now c.loop-piece.piece-index
+          c.piece-item.result c.loop-piece-test.true c.piece-item.is c.loop-piece.member
+          c.loop-piece.place c.loop-piece.invariant c.in-Macro.name c.in-Macro.value
+          c.in-Macro.is).within,
+    )
 
 pub loop-piece-preserved : goal.loop-piece-preserved
 loop-piece-preserved c =

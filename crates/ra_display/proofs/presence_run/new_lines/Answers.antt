@@ -13,7 +13,13 @@ new_line-requires-clause-spelled c =
 
 pub new_line-requires-clause-room : goal.new_line-requires-clause-room
 new_line-requires-clause-room c =
-    omega (arith, weight_at line_contents c.args.lines.now c.loop-line.line-index c.line-item.result c.loop-line-test.true c.line-item.is line_conditions, c.loop-line.invariant.grows.few, c.requires.room)
+    omega (
+      arith,
+      weight_at line_contents c.args.lines.now c.loop-line.line-index c.line-item.result
+          c.loop-line-test.true c.line-item.is line_conditions,
+      c.loop-line.invariant.grows.few,
+      c.requires.room,
+    )
 
 pub loop-line-preserved : goal.loop-line-preserved
 loop-line-preserved c =

@@ -22,7 +22,12 @@ overflow_cast-run c =
     rw (c.deref.ensures.value, c.deref_mut.ensures.value) at c.step.ensures.stepped in
     let untested = untested_hold c.args.table.now c.requires.frame.start c.requires.frame.image
     c.requires.frame.has lines _ _ now.holds seen in
-    omega (arith, c.requires.spelled.1, c.first-first.ensures.first, first_shown lines now.holds c.requires.spelled.0.lines untested)
+    omega (
+      arith,
+      c.requires.spelled.1,
+      c.first-first.ensures.first,
+      first_shown lines now.holds c.requires.spelled.0.lines untested,
+    )
 
 pub returns : goal.returns
 returns c =
@@ -48,8 +53,11 @@ returns c =
     (sym c.first-first.ensures.same) (record {
       run = record {
         lines = subst (λ (rs : List Member). AreLineRuns table.nodes script.lines rs) (sym same) runs;
-        shown = omega
-            (arith, c.first-first.ensures.first, first_shown script.lines now.holds c.requires.spelled.0.lines untested);
+        shown = omega (
+          arith,
+          c.first-first.ensures.first,
+          first_shown script.lines now.holds c.requires.spelled.0.lines untested,
+        );
       };
       rests = subst (λ (rs : List Member). AreLineRests table.nodes table.values script.lines rs now) (sym same) after;
       steps = presence_stepped table c.requires.rests.values script old new rests now c.requires.run

@@ -41,7 +41,11 @@ loop-place-preserved c =
     let kept = seen_lines lines rests in
     let one = seen_line line b c.owed-owed.result in
     let within : k < length kept =
-    omega (arith, below, seen_many Member MemberCounts MemberKept seen_line (owed_at rests.schedule) lines rests.each.items many) in
+    omega (
+      arith,
+      below,
+      seen_many Member MemberCounts MemberKept seen_line (owed_at rests.schedule) lines rests.each.items many,
+    ) in
     let there : get_or kept k one ≡ one =
     seen_at Member MemberCounts MemberKept seen_line
     (owed_at rests.schedule) k lines rests.each.items line b one below many

@@ -8,25 +8,47 @@ pub kept_by_lines-kept-requires-clause-hits : goal.kept_by_lines-kept-requires-c
 kept_by_lines-kept-requires-clause-hits c =
     let run = c.in-Some.run' in
     let small : IsSmallPresence (optional_run_shape (Some run)) = rw c.in-Some.is at c.requires in
-    omega (arith, small.1, ap length (lines_hits run.lines.items), ap (λ runs. length (hits_of_lines runs)) c.deref.ensures.value)
+    omega (
+      arith,
+      small.1,
+      ap length (lines_hits run.lines.items),
+      ap (λ runs. length (hits_of_lines runs)) c.deref.ensures.value,
+    )
 
 pub kept_by_lines-kept-requires-clause-numbers : goal.kept_by_lines-kept-requires-clause-numbers
 kept_by_lines-kept-requires-clause-numbers c =
     let run = c.in-Some.run' in
     let small : IsSmallPresence (optional_run_shape (Some run)) = rw c.in-Some.is at c.requires in
-    omega (arith, small.2, ap length (lines_numbers run.lines.items), ap (λ runs. length (numbers_of_lines runs)) c.deref.ensures.value)
+    omega (
+      arith,
+      small.2,
+      ap length (lines_numbers run.lines.items),
+      ap (λ runs. length (numbers_of_lines runs)) c.deref.ensures.value,
+    )
 
 pub overflow_cast-result-in-Some : goal.overflow_cast-result-in-Some
 overflow_cast-result-in-Some c =
     let run = c.in-Some.run' in
     let small : IsSmallPresence (optional_run_shape (Some run)) = rw c.in-Some.is at c.requires in
-    omega (arith, small.1, c.kept_by_lines-kept.ensures.hits, ap length (lines_hits run.lines.items), ap (λ runs. length (hits_of_lines runs)) c.deref.ensures.value)
+    omega (
+      arith,
+      small.1,
+      c.kept_by_lines-kept.ensures.hits,
+      ap length (lines_hits run.lines.items),
+      ap (λ runs. length (hits_of_lines runs)) c.deref.ensures.value,
+    )
 
 pub overflow_cast-result-in-Some-2 : goal.overflow_cast-result-in-Some-2
 overflow_cast-result-in-Some-2 c =
     let run = c.in-Some.run' in
     let small : IsSmallPresence (optional_run_shape (Some run)) = rw c.in-Some.is at c.requires in
-    omega (arith, small.2, c.kept_by_lines-kept.ensures.numbers, ap length (lines_numbers run.lines.items), ap (λ runs. length (numbers_of_lines runs)) c.deref.ensures.value)
+    omega (
+      arith,
+      small.2,
+      c.kept_by_lines-kept.ensures.numbers,
+      ap length (lines_numbers run.lines.items),
+      ap (λ runs. length (numbers_of_lines runs)) c.deref.ensures.value,
+    )
 
 pub returns-in-Some : goal.returns-in-Some
 returns-in-Some c =

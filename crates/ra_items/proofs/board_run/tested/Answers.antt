@@ -16,7 +16,11 @@ add_test-requires-3-clause-room c =
     let pool = c.args.pool.now in
     let begun = member_begins pool c.new-member.result c.len.ensures.pool c.new-member.ensures.tests
     c.new-member.ensures.values in
-    omega (arith, c.requires.room, (c.in_ok-add_test-2.ensures pool (b.start ∷ []) (c.in_ok-add_test.ensures pool [] begun)).grows.few)
+    omega (
+      arith,
+      c.requires.room,
+      (c.in_ok-add_test-2.ensures pool (b.start ∷ []) (c.in_ok-add_test.ensures pool [] begun)).grows.few,
+    )
 
 pub returns : goal.returns
 returns c =

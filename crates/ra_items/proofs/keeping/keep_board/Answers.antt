@@ -13,7 +13,16 @@ put_member_numbers-requires c =
     let many = hits_long run.member b c.args.owed c.requires.fits in
     let state = c.put_byte-next.ensures in
     let put = c.put_member_hits-next.ensures.puts in
-    omega (arith, c.requires.room, state.next_is, state.long, put.next_is, put.long, length_words (saved_hits (seen_line run.member b c.args.owed)), many)
+    omega (
+      arith,
+      c.requires.room,
+      state.next_is,
+      state.long,
+      put.next_is,
+      put.long,
+      length_words (saved_hits (seen_line run.member b c.args.owed)),
+      many,
+    )
 
 pub returns-clause-fits : goal.returns-clause-fits
 returns-clause-fits c =

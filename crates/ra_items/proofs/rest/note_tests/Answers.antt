@@ -33,5 +33,7 @@ returns-clause-told c = λ values values' now later at at' agree.
     let cancel = told_still (λ (now later : Instant). SeeSame InTrigger now later
     (groups_of (trigger_contents text.cancel))) nodes two.comparisons three.comparisons two.readers
     three.readers reader
-    third.keeps.front third.keeps.kept second.told in
-    (start values values' now later at at' agree, (cancel values values' now later at at' agree, (third.told values values' now later at at' agree, tt)))
+    third.keeps.front third.keeps.kept second.told in (
+      start values values' now later at at' agree,
+      (cancel values values' now later at at' agree, (third.told values values' now later at at' agree, tt)),
+    )

@@ -15,8 +15,10 @@ returns-in-Some c =
     let block = c.achievement_block-block in
     let said = block.ensures in
     let old = c.args.run.now in
-    let new : AchievementRun = record old
-    { run = record { laid = old.run.laid; trigger = c.put_back.new.self }; earned = c.is_earned-earned.result || block.result.earned } in
+    let new : AchievementRun = record old {
+      run = record { laid = old.run.laid; trigger = c.put_back.new.self };
+      earned = c.is_earned-earned.result || block.result.earned;
+    } in
     let has : HasItem bytes (Some at) (run_shape (Achievement old)) = subst (λ (place : Option ℕ).
     HasItem bytes place (run_shape (Achievement old))) c.in-Some.is c.requires in
     let count = length c.hits.result.now in

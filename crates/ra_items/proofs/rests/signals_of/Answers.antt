@@ -23,7 +23,12 @@ loop-place-init c =
 
 pub bounds-runs-place : goal.bounds-runs-place
 bounds-runs-place c =
-    omega (arith, c.loop-place-test.true, length_runs c.args.table.now.nodes (map item_contents c.args.items.now) c.args.runs.now c.requires.runs, length-map c.args.items.now item_contents)
+    omega (
+      arith,
+      c.loop-place-test.true,
+      length_runs c.args.table.now.nodes (map item_contents c.args.items.now) c.args.runs.now c.requires.runs,
+      length-map c.args.items.now item_contents,
+    )
 
 pub overflow_cast-place : goal.overflow_cast-place
 overflow_cast-place c = omega (arith, c.loop-place-test.true, c.requires.few)

@@ -13,7 +13,13 @@ new-requires-clause-spelled c =
 
 pub new-requires-clause-room : goal.new-requires-clause-room
 new-requires-clause-room c =
-    omega (arith, weight_at item_contents c.args.items.now c.loop-item.item-index c.item-item.result c.loop-item-test.true c.item-item.is item_conditions, c.loop-item.invariant.grows.few, c.requires.room)
+    omega (
+      arith,
+      weight_at item_contents c.args.items.now c.loop-item.item-index c.item-item.result
+          c.loop-item-test.true c.item-item.is item_conditions,
+      c.loop-item.invariant.grows.few,
+      c.requires.room,
+    )
 
 pub loop-item-preserved : goal.loop-item-preserved
 loop-item-preserved c =

@@ -50,7 +50,12 @@ kept_is c =
     ∙ ap (λ xs. xs ++ saved_hits other) c.new-hits.ensures.items in
     let paid_hits = c.pay-in-Leaderboard-Leaderboard.new.hits in
     let long : length paid_hits ≡ c.save.new.hits.len =
-    omega (arith, c.pay-in-Leaderboard-Leaderboard.auto.hits, c.deref_mut-in-Leaderboard-Leaderboard.ensures.len, c.save.new.hits.ok) in
+    omega (
+      arith,
+      c.pay-in-Leaderboard-Leaderboard.auto.hits,
+      c.deref_mut-in-Leaderboard-Leaderboard.ensures.len,
+      c.save.new.hits.ok,
+    ) in
     let now : c.deref-in-Leaderboard-Leaderboard-2.result.now ≡ paid_hits =
     c.deref-in-Leaderboard-Leaderboard-2.ensures.value
     ∙ take-append-le c.save.new.hits.len paid_hits (drop (length paid_hits) c.save.new.hits.items)

@@ -34,7 +34,11 @@ pub put_run-requires-clause-short : goal.put_run-requires-clause-short
 put_run-requires-clause-short c =
     let runs = c.args.runs.now in
     let below : c.loop-k.k < length runs = omega (arith, c.loop-k-test.true) in
-    omega (arith, c.requires.short, weight_at run_shape runs c.loop-k.k c.index-runs-k.result below c.index-runs-k.is item_length)
+    omega (
+      arith,
+      c.requires.short,
+      weight_at run_shape runs c.loop-k.k c.index-runs-k.result below c.index-runs-k.is item_length,
+    )
 
 pub loop-k-preserved : goal.loop-k-preserved
 loop-k-preserved c =

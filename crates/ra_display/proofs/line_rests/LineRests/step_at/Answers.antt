@@ -16,7 +16,12 @@ use Rattle.ra_display.proofs.line_rests.LineRests.step_at.Goals as goal
 
 pub bounds-runs-place : goal.bounds-runs-place
 bounds-runs-place c =
-    omega (arith, c.requires.here, length_runs c.args.table.now.nodes (map line_contents c.args.lines.now) c.args.runs.now c.requires.runs, length-map c.args.lines.now line_contents)
+    omega (
+      arith,
+      c.requires.here,
+      length_runs c.args.table.now.nodes (map line_contents c.args.lines.now) c.args.runs.now c.requires.runs,
+      length-map c.args.lines.now line_contents,
+    )
 
 pub pay_owed-requires : goal.pay_owed-requires
 pay_owed-requires c =

@@ -30,7 +30,12 @@ follow-requires-clause-run c =
 pub returns-clause-steps : goal.returns-clause-steps
 returns-clause-steps c =
     let new : BoardRun =
-    record { member = c.follow.new.member; board = c.step-self.new.self; change = c.step-self.result; tracked_before = to_z w32 (of_z w32 c.tracked-self.result) } in
+    record {
+      member = c.follow.new.member;
+      board = c.step-self.new.self;
+      change = c.step-self.result;
+      tracked_before = to_z w32 (of_z w32 c.tracked-self.result);
+    } in
     board_stepped c.args.table.now (board_contents c.args.text.now) c.args.self.now c.requires.run
     c.step_test-start.new.self c.step_test-start.result c.step_test-start.ensures
     c.step_test-cancel.new.self c.step_test-cancel.result c.step_test-cancel.ensures

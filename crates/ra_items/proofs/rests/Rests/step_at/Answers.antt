@@ -12,7 +12,12 @@ use Rattle.ra_items.proofs.rests.Rests.step_at.Goals as goal
 
 pub bounds-runs-place : goal.bounds-runs-place
 bounds-runs-place c =
-    omega (arith, c.requires.here, length_runs c.args.table.now.nodes (map item_contents c.args.items.now) c.args.runs.now c.requires.runs, length-map c.args.items.now item_contents)
+    omega (
+      arith,
+      c.requires.here,
+      length_runs c.args.table.now.nodes (map item_contents c.args.items.now) c.args.runs.now c.requires.runs,
+      length-map c.args.items.now item_contents,
+    )
 
 pub pay_owed-requires : goal.pay_owed-requires
 pay_owed-requires c =
@@ -61,7 +66,12 @@ returns c =
     let stepped = c.step_rest-rests in
     let had = c.index_mut-counts.result.now in
     let within_runs : place < length runs =
-    omega (arith, c.requires.here, length_runs table.nodes contents runs c.requires.runs, length-map items item_contents) in
+    omega (
+      arith,
+      c.requires.here,
+      length_runs table.nodes contents runs c.requires.runs,
+      length-map items item_contents,
+    ) in
     let within_each : place < length c.args.self.now.each.items =
     omega (arith, c.requires.here, c.requires.place.many, length-map items item_contents) in
     stepped_at table items place runs _ c.args.self.now _ item was stepped.new.run had
