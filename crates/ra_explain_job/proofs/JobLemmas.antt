@@ -158,17 +158,32 @@ trace_read s id t bytes e says = by_reason (decided_in t bytes).reason e refl sa
         → ReasonSays id t (ending_of (trace_in bytes).stop) (decided_in t bytes).records reason e
         → IsReadBehind e 0
     by_reason reason e is (at_unlock image earlier x x_is) =
-        record { there = omega arith; before_end = λ done. omega (arith, length-append (replicate (decided_in t bytes).records []) (explanation_text id t x ∷ [])) }
+        record {
+          there = omega arith;
+          before_end = λ done. omega
+              (arith, length-append (replicate (decided_in t bytes).records []) (explanation_text id t x ∷ []));
+        }
     by_reason reason e is (at_rows found) = record { there = omega arith; before_end = λ done. absurd (cc) }
     by_reason reason e is at_end =
-        record { there = omega arith; before_end = λ done. omega (arith, length-append (replicate (decided_in t bytes).records []) (no_unlock_text id ∷ [])) }
+        record {
+          there = omega arith;
+          before_end = λ done. omega
+              (arith, length-append (replicate (decided_in t bytes).records []) (no_unlock_text id ∷ []));
+        }
     by_reason reason e is at_stop = record {
       there = omega arith;
       before_end = λ done.
           let m = first_moment (trace_in bytes).size [] in
           let some = (played_read s (plain_opening s) [] (none_earned s) bytes).before_end done in
           let all = all_before t m 0 (trace_in bytes).entries is in
-          omega (arith, some, all, many_pieces s m (none_earned s) (trace_in bytes).entries, length-append (replicate {A = List ℕ} (decided_in t bytes).records []) [], length-replicate {A = List ℕ} (decided_in t bytes).records []);
+          omega (
+            arith,
+            some,
+            all,
+            many_pieces s m (none_earned s) (trace_in bytes).entries,
+            length-append (replicate {A = List ℕ} (decided_in t bytes).records []) [],
+            length-replicate {A = List ℕ} (decided_in t bytes).records [],
+          );
     }
 
 -- ---- a text that is all that is printed
@@ -324,8 +339,11 @@ module _ (set trace : List ℕ) (id : ℕ) (old new : Outside) where
           new.text ≡ old.text → (e.ending ≡ ending) × (new.text ≡ grown old.text (concat e.pieces))
       stopped_prints bytes e ending says at same =
           let stop = ending_of (trace_in bytes).stop in
-          let is = stop_says id t stop (decided_in t bytes).records (decided_in t bytes).reason e says at.0 in
-          (ap (λ (k : Expected). k.ending) is ∙ at.1, nothing_printed (decided_in t bytes).records stop same ∙ ap (λ (k : Expected). grown old.text (concat k.pieces)) (sym is))
+          let is = stop_says id t stop (decided_in t bytes).records (decided_in t bytes).reason e says at.0 in (
+            ap (λ (k : Expected). k.ending) is ∙ at.1,
+            nothing_printed (decided_in t bytes).records stop same
+                ∙ ap (λ (k : Expected). grown old.text (concat k.pieces)) (sym is),
+          )
 
       failed_prints : (e : Expected) (failed : WatchFailed) → SaysOver e
           → ((bytes : List ℕ) → old.content trace ≡ Some bytes
@@ -336,12 +354,18 @@ module _ (set trace : List ℕ) (id : ℕ) (old new : Outside) where
       failed_prints e (watch.Rows found) over why rose same =
           let is = rows_say id t (ending_of (trace_in over.bytes).stop)
           (decided_in t over.bytes).records (decided_in t over.bytes).reason e found over.says
-          (why over.bytes over.told) in
-          (ap (λ (k : Expected). k.ending) is, nothing_printed (decided_in t over.bytes).records (ManyRows found) same ∙ ap (λ (k : Expected). grown old.text (concat k.pieces)) (sym is))
+          (why over.bytes over.told) in (
+            ap (λ (k : Expected). k.ending) is,
+            nothing_printed (decided_in t over.bytes).records (ManyRows found) same
+                ∙ ap (λ (k : Expected). grown old.text (concat k.pieces)) (sym is),
+          )
       failed_prints e (watch.Trace errors.Read) over why rose same = (
         subst (λ names. ReadsRose names old new) (sym (trace_decides over.bytes e over.says))
             (any_later _ set (trace ∷ []) (any_first _ trace [] (rose refl))),
-        inr (any_first _ trace [] (rose refl), (0, trace_read c id t over.bytes e over.says, same ∙ sym (grown-nil old.text))),
+        inr (
+          any_first _ trace [] (rose refl),
+          (0, trace_read c id t over.bytes e over.says, same ∙ sym (grown-nil old.text)),
+        ),
       )
       failed_prints e (watch.Trace (errors.Refused at w)) over why rose same =
           stopped_prints over.bytes e (BadTrace at w) over.says (why over.bytes over.told) same

@@ -67,8 +67,10 @@ module _ (bytes : List ℕ) (m : Moment) (left : Pieces) (reader : ReaderSeen)
         → IsReason reason (stop_of bytes left) (watch.Trace (errors.Refused at EmptySlot))
     next_empty at place empty =
         let full = nat_le trace_limit (length bytes) in
-        let end = left_empty bytes m reader left is entry stands_there empty in
-        (ap (λ (p : Pieces). reason_at old m p.entries) end, ap (stop_of bytes) end ∙ ap (λ n. ending_of (stop_within full (RefusedAt n EmptySlot))) (sym place))
+        let end = left_empty bytes m reader left is entry stands_there empty in (
+          ap (λ (p : Pieces). reason_at old m p.entries) end,
+          ap (stop_of bytes) end ∙ ap (λ n. ending_of (stop_within full (RefusedAt n EmptySlot))) (sym place),
+        )
 
     framed_filled : entry ≡ Framed → IsEmptySlot entry m → ⊥
     framed_filled framed empty = subst (λ (e : Entry). IsEmptySlot e m) framed empty
@@ -94,7 +96,12 @@ module _ (bytes : List ℕ) (m : Moment) (left : Pieces) (reader : ReaderSeen)
       next_taken Unlock now unlocks =
           let (rest, first, is_rest) = left_behind bytes m reader left is entry stands_there
           (framed_filled unlocks.framed) new (framed_other unlocks.framed) behind holds in
-          record { image = m.image; earlier = m.behind; stands = unlocks.stands; is = ap (λ (p : Pieces). reason_at old m p.entries) first ∙ unlocks.decides rest.entries }
+          record {
+            image = m.image;
+            earlier = m.behind;
+            stands = unlocks.stands;
+            is = ap (λ (p : Pieces). reason_at old m p.entries) first ∙ unlocks.decides rest.entries;
+          }
       next_taken End now end =
           ap (λ (p : Pieces). reason_at old m p.entries) (left_ends bytes m reader left is entry
           stands_there (λ empty. subst (λ (e : Entry). IsEmptySlot e m) end empty) end)

@@ -58,7 +58,10 @@ answers_no_job words old new status none finishes =
       is = last.1;
       cause = last.2;
       printed =
-          record { no_job = λ is. (ends.more, ends.grew, ends.ends); job = λ job e is says. absurd (some_job job (sym none ∙ is)) };
+          record {
+            no_job = λ is. (ends.more, ends.grew, ends.ends);
+            job = λ job e is says. absurd (some_job job (sym none ∙ is));
+          };
     }
 
 -- the answer where there was no memory to read the words
@@ -72,8 +75,12 @@ answers_no_memory words old new status one same =
       cause = tt;
       printed = record {
         no_job = λ is. ([], grew, no_memory NoJob (last_line NoJob) as_expected (last_line NoJob, refl));
-        job = λ job e is says.
-            ([], grew, no_memory e.ending (concat e.pieces ++ last_line e.ending) as_expected (concat e.pieces ++ last_line e.ending, refl));
+        job = λ job e is says. (
+          [],
+          grew,
+          no_memory e.ending (concat e.pieces ++ last_line e.ending) as_expected
+              (concat e.pieces ++ last_line e.ending, refl),
+        );
       };
     })
 
@@ -93,8 +100,14 @@ module _ (words : List (List ℕ)) (old mid : Outside) (text : Option (List ℕ)
     is_job = is_job;
     said = λ told.
         let (e, says) = ran.said is told in
-        let (ends, so_far) = prints e says in
-        (e, says, ends, line ∙ ap (λ o. grown o (last_line ending)) so_far ∙ grown-grown old.text (concat e.pieces) (last_line ending) ∙ ap (λ g. grown old.text (concat e.pieces ++ last_line g)) (sym ends));
+        let (ends, so_far) = prints e says in (
+          e,
+          says,
+          ends,
+          line ∙ ap (λ o. grown o (last_line ending)) so_far
+              ∙ grown-grown old.text (concat e.pieces) (last_line ending)
+              ∙ ap (λ g. grown old.text (concat e.pieces ++ last_line g)) (sym ends),
+        );
   }
 
   own_cause : (ending : Ending) → Ran job old mid ending → text ≡ grown mid.text (last_line ending)

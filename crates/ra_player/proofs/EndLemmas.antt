@@ -71,8 +71,10 @@ module _ (e : Expected) (reads trace puts sink : Type 0) (old mid new : Option (
 
   front_of_all : (part : GrewByPart old mid (concat e.pieces))
       → IsFront part.front (concat e.pieces ++ last_line e.ending)
-  front_of_all part =
-      (part.rest ++ last_line e.ending, sym (append_assoc part.front part.rest (last_line e.ending)) ∙ ap (λ x. x ++ last_line e.ending) part.whole)
+  front_of_all part = (
+    part.rest ++ last_line e.ending,
+    sym (append_assoc part.front part.rest (last_line e.ending)) ∙ ap (λ x. x ++ last_line e.ending) part.whole,
+  )
 
   -- a text that was cut short before its last line
   cut_short : GrewByPart old mid (concat e.pieces) → new ≡ mid

@@ -96,8 +96,10 @@ module _ (job : Job) (text : SetContents → List ℕ) (set : List ℕ)
       (old.read_faults set) (new.read_faults set)) failed → SetSays text old.content set e
       → new.text ≡ old.text → PrintsSoFar job old new (ending_of_set failed) e
   no_set_prints e set_failed.Memory lacks says same = part_none old.text new.text (concat e.pieces) same
-  no_set_prints e set_failed.Read lacks says same =
-      (subst (λ names. ReadsRose names old new) (sym (tells_set.decides e.ending)) (rose_here lacks), inl (set_told text old.content set e says, same))
+  no_set_prints e set_failed.Read lacks says same = (
+    subst (λ names. ReadsRose names old new) (sym (tells_set.decides e.ending)) (rose_here lacks),
+    inl (set_told text old.content set e says, same),
+  )
   no_set_prints e (set_failed.Refused why) lacks (refuses_set file found told refuses) same =
       (ap BadSet (one-refusal (take 4194305 file) found why refuses (lacks file told)), same ∙ sym (grown-nil old.text))
   no_set_prints e (set_failed.Refused why) lacks (tells file c told is) same =
@@ -145,5 +147,7 @@ module _ (job : Job) (text : SetContents → List ℕ) (set : List ℕ)
       → Ran job old new ending
   told_set c ending taken before = ran_line job old new (prints_line (text c)) refl ending
       (λ e says. set_says c taken e (tells_set.says old.content e says)) (λ told.
-      let file = file_of old.content set (subst (AreTold old.content) (tells_set.decides ending) told).0 in
-      (prints_line (text c), tells_set.said old.content (prints_line (text c)) (tells file.0 c file.1 (taken.is_set file.0 file.1)))) before
+      let file = file_of old.content set (subst (AreTold old.content) (tells_set.decides ending) told).0 in (
+        prints_line (text c),
+        tells_set.said old.content (prints_line (text c)) (tells file.0 c file.1 (taken.is_set file.0 file.1)),
+      )) before

@@ -56,8 +56,10 @@ hold_still set o history other (item ∷ items) [] before (e ∷ earned) hold wa
 hold_still set o history other (item ∷ items) (k ∷ opened) before [] hold was still = absurd hold
 hold_still set o history other (item ∷ items) (k ∷ opened) [] (e ∷ earned) hold was still = absurd was
 hold_still set o history other (Unlocks id t ∷ items) (k ∷ opened) (b ∷ before) (e ∷ earned) hold was still =
-    let each = heads (e || b) e (both_earned earned before) earned still in
-    ((λ four. or_is e b each.0 (was.0 four)), hold_still set o history other items opened before earned hold.1 was.1 each.1)
+    let each = heads (e || b) e (both_earned earned before) earned still in (
+      (λ four. or_is e b each.0 (was.0 four)),
+      hold_still set o history other items opened before earned hold.1 was.1 each.1,
+    )
 hold_still set o history other (Ranks id format b' ∷ items) (k ∷ opened) (b ∷ before) (e ∷ earned) hold was still =
     let each = heads (e || b) e (both_earned earned before) earned still in
     (hold.0, hold_still set o history other items opened before earned hold.1 was.1 each.1)

@@ -106,8 +106,10 @@ module _ (file set : List ℕ) (old new : Outside) where
       (Rose (old.read_faults file) (new.read_faults file)) failed → ImportSays old.content file e
       → new.text ≡ old.text → PrintsSoFar job old new (ending_of_document failed) e
   no_document_prints e no_document.Memory lacks says same = part_none old.text new.text (concat e.pieces) same
-  no_document_prints e no_document.Read lacks says same =
-      (subst (λ names. ReadsRose names old new) (sym (import_decides e.ending)) (any_first _ file [] lacks), inl (import_read old.content file e says, same))
+  no_document_prints e no_document.Read lacks says same = (
+    subst (λ names. ReadsRose names old new) (sym (import_decides e.ending)) (any_first _ file [] lacks),
+    inl (import_read old.content file e says, same),
+  )
   no_document_prints e (no_document.Refused why) lacks says same = refused_prints e why lacks says same
 
   refused_said : (why : PatchRefused) (bytes : List ℕ) → old.content file ≡ Some bytes

@@ -141,7 +141,10 @@ module _ (set trace : List ℕ) (restore save : Option (List ℕ)) (old new : Ou
         ap (λ (e : Expected). deciding e.ending job) from.is ∙ stop_decides _ job in
         with_causes e (ReadsRose (deciding e.ending job) old new) (ReadsRose (trace_of job) old new)
         (PutsRose (puts_of job) old new) (SinkRose old new) old.text new.text r
-        (λ is. (subst (λ names. ReadsRose names old new) (sym decides) (trace_rose (p.read is)), any_first _ trace [] (p.read is))) p.wrote
+        (λ is. (
+          subst (λ names. ReadsRose names old new) (sym decides) (trace_rose (p.read is)),
+          any_first _ trace [] (p.read is),
+        )) p.wrote
         (subst (λ (e : Expected). EndsBefore e ⊤ ⊤ ⊤ (ending_at r) old.text new.text) (sym from.is)
         (p.printed from.file from.opening from.behind from.earned from.told from.at))
 
@@ -222,7 +225,11 @@ module _ (set trace : List ℕ) (restore save : Option (List ℕ)) (old new : Ou
   leaves_not_put put.Failed ending is others rose same =
       record { others = others; only = inr (inl (rose refl)); saved = λ done. absurd (let bad = sym is ∙ done in cc) }
   leaves_not_put put.Memory ending is others rose same =
-      record { others = others; only = inr (inr (inl (same refl))); saved = λ done. absurd (let bad = sym is ∙ done in cc) }
+      record {
+        others = others;
+        only = inr (inr (inl (same refl)));
+        saved = λ done. absurd (let bad = sym is ∙ done in cc);
+      }
 
 -- the contents before a put are those at the call
 pub others_since : (old mid new : List ℕ → Option (List ℕ)) (names : List (List ℕ))

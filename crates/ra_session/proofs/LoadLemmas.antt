@@ -186,8 +186,10 @@ module _ (set trace : List ℕ) (save : Option (List ℕ)) (old new : Outside) w
   not_begun restore e (load.Set (no_set.Refused why)) lacks says same = no_set_prints restore e why lacks says same
   not_begun restore e (load.Progress no_file.Memory) lacks says same =
       part_none old.text new.text (concat e.pieces) same
-  not_begun restore e (load.Progress no_file.Read) lacks says same =
-      (file_decides lacks.0 restore e (says_of old.content set trace restore lacks.0 e lacks.1 says) lacks.2, inl (run_read old.content set trace restore e says, same))
+  not_begun restore e (load.Progress no_file.Read) lacks says same = (
+    file_decides lacks.0 restore e (says_of old.content set trace restore lacks.0 e lacks.1 says) lacks.2,
+    inl (run_read old.content set trace restore e says, same),
+  )
   not_begun restore e (load.Progress (no_file.Refused why)) lacks says same =
       refused_so lacks.0 restore e why lacks.1
       (says_of old.content set trace restore lacks.0 e lacks.1 says) lacks.2 same
@@ -254,7 +256,12 @@ pub not_progress_since : (a b : List ℕ → Option (List ℕ)) (c : SetContents
 not_progress_since a b c restore some all no_file.Memory same f lacks = lacks
 not_progress_since a b c restore some all no_file.Read same f lacks = f lacks
 not_progress_since a b c restore some all (no_file.Refused why) same f lacks =
-    record { name = lacks.name; named = lacks.named; refused = λ file told. lacks.refused file (same.each lacks.name ∙ told); shape = lacks.shape }
+    record {
+      name = lacks.name;
+      named = lacks.named;
+      refused = λ file told. lacks.refused file (same.each lacks.name ∙ told);
+      shape = lacks.shape;
+    }
 
 pub of_file_since : (a b : List ℕ → Option (List ℕ)) (restore progress : Option (List ℕ))
     → SameContent a b → AreOfFile b restore progress → AreOfFile a restore progress
@@ -344,12 +351,17 @@ module _ (content : List ℕ → Option (List ℕ)) (set trace : List ℕ) where
       → AreTold content (set ∷ trace ∷ file_in restore) → content trace ≡ Some trace_file
       → (e : Expected) × RunSays content set trace restore e
   loaded_said None c progress trace_file loaded told told_trace =
-      let set_file = file_of content set told.0 in
-      (played c (plain_opening c) [] (none_earned c) trace_file, begins set_file.0 trace_file c set_file.1 told_trace (loaded.taken.is_set set_file.0 set_file.1))
+      let set_file = file_of content set told.0 in (
+        played c (plain_opening c) [] (none_earned c) trace_file,
+        begins set_file.0 trace_file c set_file.1 told_trace (loaded.taken.is_set set_file.0 set_file.1),
+      )
   loaded_said (Some name) c progress trace_file loaded told told_trace =
       let set_file = file_of content set told.0 in
       let (bytes, is, whole) = loaded.of_file in
       let file = file_of content name told.1.1.0 in
       let own : AreAccepted c (Some bytes) = subst (AreAccepted c) is loaded.accepted in
-      let none : refusal (shape_of c) file.0 ≡ None = ap (refusal (shape_of c)) (sym (whole file.0 file.1)) ∙ own.2 in
-      (played c (says (shape_of c) file.0) [] (earned_in (says (shape_of c) file.0)) trace_file, takes_up name set_file.0 file.0 trace_file c set_file.1 told_trace file.1 (loaded.taken.is_set set_file.0 set_file.1) none)
+      let none : refusal (shape_of c) file.0 ≡ None = ap (refusal (shape_of c)) (sym (whole file.0 file.1)) ∙ own.2 in (
+        played c (says (shape_of c) file.0) [] (earned_in (says (shape_of c) file.0)) trace_file,
+        takes_up name set_file.0 file.0 trace_file c set_file.1 told_trace file.1
+            (loaded.taken.is_set set_file.0 set_file.1) none,
+      )

@@ -73,7 +73,15 @@ pub made_trigger_text : (a b c target : ℕ) → a < 65536 → b < 65536 → c <
     ++ (codes "." ++ (decimal target ++ (codes "._R:0xH" ++ (hex4 c ++ codes "=255")))))))))
 made_trigger_text a b c target small_a small_b small_c some =
     let behind = codes "_R:0xH" ++ (hex4 c ++ codes "=255") in
-    rw (four_address a small_a, four_address b small_b, four_address c small_c, some_target target some, three_digits, append_assoc (decimal target ++ codes ".") behind [], append_assoc (decimal target) (codes ".") behind)
+    rw (
+      four_address a small_a,
+      four_address b small_b,
+      four_address c small_c,
+      some_target target some,
+      three_digits,
+      append_assoc (decimal target ++ codes ".") behind [],
+      append_assoc (decimal target) (codes ".") behind,
+    )
 
 -- the text of the board
 pub made_board_text : board_text made_board
@@ -87,17 +95,39 @@ small : (n : ℕ) → n < 65536 → n < 2 ^ 32
 small n h = omega arith
 
 is_grows : (b target : ℕ) → b < 2 ^ 32 → target < 2 ^ 32 → IsCondition InTrigger (grows b target)
-is_grows b target small_b small_target = record
-    { op = refl; left = small_b; right = small_b; target = small_target; bare_right = λ bare. cc bare; bare_target = λ bare. cc bare; handed_target = λ handed. cc handed }
+is_grows b target small_b small_target = record {
+  op = refl;
+  left = small_b;
+  right = small_b;
+  target = small_target;
+  bare_right = λ bare. cc bare;
+  bare_target = λ bare. cc bare;
+  handed_target = λ handed. cc handed;
+}
 
 is_equal : (flag : Flag) (b n : ℕ) → hands_on flag ≡ false → b < 2 ^ 32 → n < 2 ^ 32 → IsCondition
     InTrigger (record { flag = flag; left = Cell Mem Byte b; op = Eq; right = Const n; target = 0 })
-is_equal flag b n counts small_b small_n = record
-    { op = rw counts; left = small_b; right = small_n; target = lit< tt; bare_right = λ bare. cc bare; bare_target = λ bare. refl; handed_target = λ handed. refl }
+is_equal flag b n counts small_b small_n = record {
+  op = rw counts;
+  left = small_b;
+  right = small_n;
+  target = lit< tt;
+  bare_right = λ bare. cc bare;
+  bare_target = λ bare. refl;
+  handed_target = λ handed. refl;
+}
 
 is_address : (a : ℕ) → a < 2 ^ 32 → IsCondition InTrigger (points_at a)
 is_address a small_a =
-    record { op = refl; left = small_a; right = lit< tt; target = lit< tt; bare_right = λ bare. refl; bare_target = λ bare. refl; handed_target = λ handed. refl }
+    record {
+      op = refl;
+      left = small_a;
+      right = lit< tt;
+      target = lit< tt;
+      bare_right = λ bare. refl;
+      bare_target = λ bare. refl;
+      handed_target = λ handed. refl;
+    }
 
 no_alts : All IsTriggerGroup []
 no_alts = All-from_recursion IsTriggerGroup [] tt
@@ -106,8 +136,13 @@ no_alts = All-from_recursion IsTriggerGroup [] tt
 pub is_made_trigger : (a b c target : ℕ) → a < 65536 → b < 65536 → c < 65536 → target < 65536
     → IsTrigger (made_trigger a b c target)
 is_made_trigger a b c target small_a small_b small_c small_target = record {
-  core = All-from_recursion (IsCondition InTrigger) (points_at a ∷ grows b target ∷ resets c ∷ [])
-      (is_address a (small a small_a), (is_grows b target (small b small_b) (small target small_target), (is_equal ResetIf c 255 refl (small c small_c) (lit< tt), tt)));
+  core = All-from_recursion (IsCondition InTrigger) (points_at a ∷ grows b target ∷ resets c ∷ []) (
+    is_address a (small a small_a),
+    (
+      is_grows b target (small b small_b) (small target small_target),
+      (is_equal ResetIf c 255 refl (small c small_c) (lit< tt), tt),
+    ),
+  );
   alts = no_alts;
 }
 

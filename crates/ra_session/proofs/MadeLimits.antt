@@ -11,7 +11,7 @@ use Rattle.ra_set.specs.Contents.{SetContents}
 use Rattle.ra_set.specs.Limits.{item_conditions, ScriptFits, IsWithinLimits}
 use Rattle.ra_set.specs.Texts.{item_texts, script_text}
 use Rattle.ra_trace.specs.Workload.{drawn, given, drawn_times, hex4, achievement_line, drawn_line, achievement_lines}
-use Rattle.ra_trace.specs.Workload.{made_set}
+use Rattle.ra_trace.specs.Workload.{made_set, lines_after}
 use Rattle.ra_session.proofs.MadeLines.{drawn_item, drawn_items, board_item, made_items}
 use Rattle.ra_session.proofs.MadeScript.{made_script}
 
@@ -101,6 +101,5 @@ pub made_set_length : (number : ℕ) → length (made_set number) ≤ 4194304
 unfolding made_set
 made_set_length number =
     let lines = lines_length 256 1 number (lit< tt) in
-    let all = length-append (achievement_lines 256 1 number)
-    (codes "L 1 VALUE STA:0xH0000>d0xH0000::CAN:0xH0001=0::SUB:0xH0002>d0xH0002::VAL:0x 0000\nP\nDisplay:\n@Number(0xX0000)\n") in
+    let all = length-append (achievement_lines 256 1 number) lines_after in
     omega (arith, lines, all)

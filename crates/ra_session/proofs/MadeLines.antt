@@ -17,17 +17,13 @@ use Rattle.ra_set.proofs.SetSpelling.{head_text, head-spelled, run-spelled, with
 use Rattle.ra_text.proofs.Items.{changed, one-byte}
 use Rattle.ra_trace.specs.Workload.{drawn, given, drawn_times, hex4, achievement_line, drawn_line, achievement_lines}
 use Rattle.ra_session.proofs.MadeItems.{made_trigger, made_board, made_trigger_text, is_made_trigger, is_made_board}
+use Rattle.ra_text.proofs.Spelled.{then-spelled, none-spelled, one-spelled}
 
 unlocks_spelled : (id : ℕ) (t : TriggerContents) → id < 2 ^ 32 → IsTrigger t
     → line (head_text 65 id ++ trigger_text t) (Some (Unlocks id t))
-unlocks_spelled id t small is = inr (inl (record {
-  front = head_text 65 id;
-  behind = trigger_text t;
-  v = id;
-  parts = refl;
-  of_first = head-spelled 65 id refl small;
-  of_next = changed trigger (λ t. Some (Unlocks id t)) (trigger_text t) t (trigger-spelled t is);
-}))
+unlocks_spelled id t small is = inr (inl (then-spelled (head_text 65 id) (trigger_text t) id refl
+    (head-spelled 65 id refl small)
+    (changed trigger (λ t. Some (Unlocks id t)) (trigger_text t) t (trigger-spelled t is))))
 
 -- the item of an achievement from the next four draws
 abbrev pub drawn_item : ℕ → ℕ → ItemContents
@@ -44,7 +40,12 @@ line_text : (id a b c target : ℕ) → a < 65536 → b < 65536 → c < 65536 �
 line_text id a b c target small_a small_b small_c some =
     let text = codes "I:0x " ++ (hex4 a ++ (codes "_0xH" ++ (hex4 b ++ (codes ">d0xH" ++ (hex4 b ++ codes "."))))) in
     let behind = codes "._R:0xH" ++ (hex4 c ++ codes "=255") in
-    rw (made_trigger_text a b c target small_a small_b small_c some, append_assoc (decimal id) (codes " ") (text ++ (decimal target ++ behind)), append_assoc (decimal id) (codes " " ++ (text ++ (decimal target ++ behind))) (codes "\n"), append_assoc (decimal target) behind (codes "\n"))
+    rw (
+      made_trigger_text a b c target small_a small_b small_c some,
+      append_assoc (decimal id) (codes " ") (text ++ (decimal target ++ behind)),
+      append_assoc (decimal id) (codes " " ++ (text ++ (decimal target ++ behind))) (codes "\n"),
+      append_assoc (decimal target) behind (codes "\n"),
+    )
 
 -- the line of an achievement spells its item
 pub drawn_line_spelled : (id x : ℕ) → 0 < id → id < 2 ^ 32 → ended_line (drawn_line id x) (Some (drawn_item id x))
@@ -77,33 +78,16 @@ abbrev pub made_items : ℕ → List ItemContents
 made_items number = drawn_items 256 1 number ++ board_item ∷ []
 
 value_named : format_name (codes "VALUE") Value
-value_named = record {
-  front = codes "V";
-  behind = codes "ALUE";
-  v = 86;
-  parts = refl;
-  of_first = record { symbol = 86; alone = refl; listed = refl };
-  of_next =
-      record { front = codes "ALUE"; behind = []; v = codes "ALUE"; parts = refl; of_first = run-spelled (codes "ALUE") refl; of_next = record { empty = refl; is = refl } };
-}
+value_named = then-spelled (codes "V") (codes "ALUE") 86 refl (one-spelled 86 refl) (then-spelled
+    (codes "ALUE") [] (codes "ALUE") refl (run-spelled (codes "ALUE") refl) none-spelled)
 
 ranks_spelled : line (head_text 76 1 ++ (codes "VALUE " ++ board_text made_board)) (Some board_item)
-ranks_spelled = inr (inr (inl (record {
-  front = head_text 76 1;
-  behind = codes "VALUE " ++ board_text made_board;
-  v = 1;
-  parts = refl;
-  of_first = head-spelled 76 1 refl (lit< tt);
-  of_next = record {
-    front = codes "VALUE";
-    behind = 32 ∷ board_text made_board;
-    v = Value;
-    parts = refl;
-    of_first = value_named;
-    of_next =
-        record { front = codes " "; behind = board_text made_board; v = tt; parts = refl; of_first = one-byte 32 refl; of_next = changed board (λ b. Some (Ranks 1 Value b)) (board_text made_board) made_board (board-spelled made_board is_made_board) };
-  };
-})))
+ranks_spelled = inr (inr (inl (then-spelled (head_text 76 1)
+    (codes "VALUE " ++ board_text made_board) 1 refl (head-spelled 76 1 refl (lit< tt))
+    (then-spelled (codes "VALUE") (32 ∷ board_text made_board) Value refl value_named
+    (then-spelled (codes " ") (board_text made_board) tt refl (one-byte 32 refl)
+    (changed board (λ b. Some (Ranks 1 Value b)) (board_text made_board) made_board
+    (board-spelled made_board is_made_board)))))))
 
 board_line_text : (head_text 76 1 ++ (codes "VALUE " ++ board_text made_board)) ++ codes "\n" ≡ board_line
 unfolding digits

@@ -13,6 +13,7 @@ use Rattle.ra_operand.specs.declared.size.Size.TheVariants.{Four}
 use Rattle.ra_richpresence.specs.Contents.{Shows, LineContents, ScriptContents}
 use Rattle.ra_richpresence.specs.Grammar.{many, name, macro, pieces, display, other_than}
 use Rattle.ra_text.specs.Form.{One}
+use Rattle.ra_text.proofs.Spelled.{then-spelled, none-spelled, one-spelled}
 
 -- the 32 bits at the front of the memory
 abbrev pub front_number : List PartContents
@@ -37,8 +38,14 @@ value_written = refl
 is_value : IsValue front_number
 is_value = record {
   some = lit< tt;
-  each = All-from_recursion IsPart front_number
-      ((lit< tt, All-from_recursion IsTerm (record { operand = Cell Mem Four 0; factor = None } ∷ []) (record { operand = lit< tt; factor = tt }, tt)), tt);
+  each = All-from_recursion IsPart front_number (
+    (
+      lit< tt,
+      All-from_recursion IsTerm (record { operand = Cell Mem Four 0; factor = None } ∷ [])
+          (record { operand = lit< tt; factor = tt }, tt),
+    ),
+    tt,
+  );
 }
 
 number_spelled : value (codes "0xX0000") front_number
@@ -52,106 +59,47 @@ named_more byte behind others is h =
     record { front = byte ∷ []; behind = behind; parts = refl; of_item = is; of_others = h }
 
 in_name : (byte : ℕ) → other_than (codes "()@\\") byte ≡ Some byte → One (other_than (codes "()@\\")) (byte ∷ []) byte
-in_name byte is = record { symbol = byte; alone = refl; listed = is }
+in_name byte is = one-spelled byte is
 
 name_spelled : name (codes "Number") (codes "Number")
-name_spelled = record {
-  front = codes "N";
-  behind = codes "umber";
-  v = 78;
-  parts = refl;
-  of_first = in_name 78 refl;
-  of_next = record {
-    front = codes "umber";
-    behind = [];
-    v = codes "umber";
-    parts = refl;
-    of_first = named_more 117 (codes "mber") (codes "mber") (in_name 117 refl)
-        (named_more 109 (codes "ber") (codes "ber") (in_name 109 refl)
-        (named_more 98 (codes "er") (codes "er") (in_name 98 refl) (named_more 101 (codes "r")
-        (codes "r") (in_name 101 refl) (named_more 114 [] [] (in_name 114 refl) refl))));
-    of_next = record { empty = refl; is = refl };
-  };
-}
+name_spelled = then-spelled (codes "N") (codes "umber") 78 refl (in_name 78 refl)
+    (then-spelled (codes "umber") [] (codes "umber") refl
+    (named_more 117 (codes "mber") (codes "mber") (in_name 117 refl)
+    (named_more 109 (codes "ber") (codes "ber") (in_name 109 refl)
+    (named_more 98 (codes "er") (codes "er") (in_name 98 refl) (named_more 101 (codes "r")
+    (codes "r") (in_name 101 refl) (named_more 114 [] [] (in_name 114 refl) refl))))) none-spelled)
 
 macro_spelled : macro (codes "@Number(0xX0000)") (Shows (codes "Number") front_number)
-macro_spelled = record {
-  front = codes "@";
-  behind = codes "Number(0xX0000)";
-  v = tt;
-  parts = refl;
-  of_first = record { symbol = 64; alone = refl; listed = refl };
-  of_next = record {
-    front = codes "Number";
-    behind = codes "(0xX0000)";
-    v = codes "Number";
-    parts = refl;
-    of_first = name_spelled;
-    of_next = record {
-      front = codes "(";
-      behind = codes "0xX0000)";
-      v = tt;
-      parts = refl;
-      of_first = record { symbol = 40; alone = refl; listed = refl };
-      of_next = record {
-        front = codes "0xX0000";
-        behind = codes ")";
-        v = front_number;
-        parts = refl;
-        of_first = number_spelled;
-        of_next =
-            record { front = codes ")"; behind = []; v = tt; parts = refl; of_first = record { symbol = 41; alone = refl; listed = refl }; of_next = record { empty = refl; is = refl } };
-      };
-    };
-  };
-}
+macro_spelled = then-spelled (codes "@") (codes "Number(0xX0000)") tt refl (one-spelled 64 refl)
+    (then-spelled (codes "Number") (codes "(0xX0000)") (codes "Number") refl name_spelled
+    (then-spelled (codes "(") (codes "0xX0000)") tt refl (one-spelled 40 refl)
+    (then-spelled (codes "0xX0000") (codes ")") front_number refl number_spelled
+    (then-spelled (codes ")") [] tt refl (one-spelled 41 refl) none-spelled))))
 
 pieces_spelled : pieces (codes "@Number(0xX0000)") (Shows (codes "Number") front_number ∷ [])
-pieces_spelled = record {
-  front = codes "@Number(0xX0000)";
-  behind = [];
-  v = Shows (codes "Number") front_number ∷ [];
-  parts = refl;
-  of_first = record {
-    front = codes "@Number(0xX0000)";
-    behind = [];
-    v = Shows (codes "Number") front_number ∷ [];
-    parts = refl;
-    of_first =
-        record { front = codes "@Number(0xX0000)"; behind = []; parts = refl; of_item = inr macro_spelled; of_others = refl };
-    of_next =
-        record { front = []; behind = []; v = []; parts = refl; of_first = inr (record { empty = refl; is = refl }); of_next = record { empty = refl; is = refl } };
-  };
-  of_next = record { empty = refl; is = refl };
-}
+pieces_spelled = then-spelled (codes "@Number(0xX0000)") []
+    (Shows (codes "Number") front_number ∷ []) refl
+    (then-spelled (codes "@Number(0xX0000)") [] (Shows (codes "Number") front_number ∷ []) refl
+    (record {
+      front = codes "@Number(0xX0000)";
+      behind = [];
+      parts = refl;
+      of_item = inr macro_spelled;
+      of_others = refl;
+    }) (then-spelled [] [] [] refl (inr none-spelled) none-spelled)) none-spelled
 
 -- the lines of the script are those of a display
 pub display_spelled : display (codes "Display:" ∷ codes "@Number(0xX0000)" ∷ []) (number_line ∷ [])
-display_spelled = record {
-  front = codes "Display:" ∷ [];
-  behind = codes "@Number(0xX0000)" ∷ [];
-  v = tt;
-  parts = refl;
-  of_first = record { line = codes "Display:"; alone = refl; left = refl; of_form = record { is = refl } };
-  of_next = record {
-    front = [];
-    behind = codes "@Number(0xX0000)" ∷ [];
-    v = [];
-    parts = refl;
-    of_first = refl;
-    of_next = record {
-      front = codes "@Number(0xX0000)" ∷ [];
-      behind = [];
-      v = number_line;
-      parts = refl;
-      of_first = record {
-        line = codes "@Number(0xX0000)";
-        alone = refl;
-        left = refl;
-        of_form =
-            (refl, record { front = codes "@Number(0xX0000)"; behind = []; v = Shows (codes "Number") front_number ∷ []; parts = refl; of_first = pieces_spelled; of_next = record { empty = refl; is = refl } });
-      };
-      of_next = record { empty = refl; is = refl };
-    };
-  };
-}
+display_spelled = then-spelled (codes "Display:" ∷ []) (codes "@Number(0xX0000)" ∷ []) tt refl
+    (record { line = codes "Display:"; alone = refl; left = refl; of_form = record { is = refl } })
+    (then-spelled [] (codes "@Number(0xX0000)" ∷ []) [] refl refl
+    (then-spelled (codes "@Number(0xX0000)" ∷ []) [] number_line refl (record {
+      line = codes "@Number(0xX0000)";
+      alone = refl;
+      left = refl;
+      of_form = (
+        refl,
+        then-spelled (codes "@Number(0xX0000)") []
+            (Shows (codes "Number") front_number ∷ []) refl pieces_spelled none-spelled,
+      );
+    }) none-spelled))

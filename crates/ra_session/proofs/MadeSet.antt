@@ -9,6 +9,7 @@ use Rattle.ra_trace.specs.Workload.{achievement_lines, made_set}
 use Rattle.ra_session.proofs.MadeLines.{drawn_items, board_item, board_line, made_lines_spelled}
 use Rattle.ra_session.proofs.MadeLimits.{made_contents, made_items_distinct, within_limits, made_set_length}
 use Rattle.ra_session.proofs.MadeScript.{number_line, script_text, display_spelled}
+use Rattle.ra_text.proofs.Spelled.{then-spelled, none-spelled, one-spelled}
 
 -- the lines that have an item
 abbrev item_lines : ℕ → List Line
@@ -19,50 +20,19 @@ abbrev parts : ScriptParts
 parts = record { sections = []; lines = number_line ∷ [] }
 
 parts_spelled : script_parts script_text parts
-parts_spelled = record {
-  front = [];
-  behind = codes "Display:" ∷ codes "@Number(0xX0000)" ∷ [];
-  v = [];
-  parts = refl;
-  of_first = refl;
-  of_next = record {
-    front = codes "Display:" ∷ codes "@Number(0xX0000)" ∷ [];
-    behind = [];
-    v = number_line ∷ [];
-    parts = refl;
-    of_first = display_spelled;
-    of_next =
-        record { front = []; behind = []; v = []; parts = refl; of_first = refl; of_next = record { empty = refl; is = refl } };
-  };
-}
+parts_spelled = then-spelled [] (codes "Display:" ∷ codes "@Number(0xX0000)" ∷ []) [] refl refl
+    (then-spelled (codes "Display:" ∷ codes "@Number(0xX0000)" ∷ []) []
+    (number_line ∷ []) refl display_spelled (then-spelled [] [] [] refl refl none-spelled))
 
 -- lines with their ends, and behind them the line P
 head_spelled : (front : List ℕ) (lines : List Line) → many ended_line front lines
     → script_head (front ++ codes "P\n") lines
-head_spelled front lines h = record {
-  front = front ++ codes "P";
-  behind = codes "\n";
-  v = lines;
-  parts = sym (append_assoc front (codes "P") (codes "\n"));
-  of_first = record {
-    front = front;
-    behind = codes "P";
-    v = lines;
-    parts = refl;
-    of_first = h;
-    of_next =
-        record { front = codes "P"; behind = []; v = tt; parts = refl; of_first = record { symbol = 80; alone = refl; listed = refl }; of_next = record { empty = refl; is = refl } };
-  };
-  of_next = record {
-    front = codes "\n";
-    behind = [];
-    v = tt;
-    parts = refl;
-    of_first =
-        record { front = []; behind = codes "\n"; v = tt; parts = refl; of_first = inr (record { empty = refl; is = refl }); of_next = record { symbol = 10; alone = refl; listed = refl } };
-    of_next = record { empty = refl; is = refl };
-  };
-}
+head_spelled front lines h = then-spelled (front ++ codes "P") (codes "\n") lines
+    (sym (append_assoc front (codes "P") (codes "\n")))
+    (then-spelled front (codes "P") lines refl h
+    (then-spelled (codes "P") [] tt refl (one-spelled 80 refl) none-spelled))
+    (then-spelled (codes "\n") [] tt refl
+    (then-spelled [] (codes "\n") tt refl (inr none-spelled) (one-spelled 10 refl)) none-spelled)
 
 all_items : (items : List ItemContents) → items_of (map Some items ++ Some board_item ∷ []) ≡ items ++ board_item ∷ []
 all_items [] = refl
@@ -79,16 +49,11 @@ set_parts number = sym (append_assoc (achievement_lines 256 1 number ++ board_li
 file_spelled : (number : ℕ) → SetFile (made_set number) (made_contents number)
 file_spelled number = record {
   contents = record { lines = item_lines number; script = Some parts };
-  spelled = inl (record {
-    front = (achievement_lines 256 1 number ++ board_line) ++ codes "P\n";
-    behind = script_text;
-    v = item_lines number;
-    parts = set_parts number;
-    of_first = head_spelled (achievement_lines 256 1 number ++ board_line) (item_lines number)
-        (made_lines_spelled number);
-    of_next =
-        record { front = script_text; behind = []; v = parts; parts = refl; of_first = parts_spelled; of_next = record { empty = refl; is = refl } };
-  });
+  spelled = inl (then-spelled ((achievement_lines 256 1 number ++ board_line) ++ codes "P\n")
+      script_text (item_lines number) (set_parts number)
+      (head_spelled (achievement_lines 256 1 number ++ board_line) (item_lines number)
+      (made_lines_spelled number))
+      (then-spelled script_text [] parts refl parts_spelled none-spelled));
   items = sym (all_items (drawn_items 256 1 number));
   script = refl;
 }

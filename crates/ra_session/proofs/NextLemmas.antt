@@ -129,7 +129,14 @@ module _ (bytes : List ℕ) (set : SetContents) (o : Opening) (m : Moment) (earn
       next_goes_on new old now other behind holds grew =
           let (rest, first, is_rest) = left_behind bytes m reader left is entry stands_there
           plays.filled new other behind holds in
-          record { entry = entry; rest = rest; first = first; behind = is_rest; stands = plays.stands; text = grew ∙ ap (grown old) plays.prints }
+          record {
+            entry = entry;
+            rest = rest;
+            first = first;
+            behind = is_rest;
+            stands = plays.stands;
+            text = grew ∙ ap (grown old) plays.prints;
+          }
 
       -- what it prints is a front of what is left
       pub next_part : (new : ReaderSeen) (old now : Option (List ℕ)) → (entry ≡ Ended → ⊥)

@@ -46,9 +46,17 @@ module _ (job : Job) (name : List ℕ) (puts : puts_of job ≡ name ∷ []) (beh
       → (IsErrOf {T = Unit {0}} (Err f) put.Memory → SameContent old.content new.content) → ((other
       : List ℕ) → other ≢ name → new.content other ≡ old.content other) → Leaves job old new ending
   leaves_unput put.Failed ending is rose same others =
-      record { others = λ other each. others other (not_the_file other each); only = inr (inl (rose_there (rose refl))); saved = λ done. absurd (let bad = sym is ∙ done in cc) }
+      record {
+        others = λ other each. others other (not_the_file other each);
+        only = inr (inl (rose_there (rose refl)));
+        saved = λ done. absurd (let bad = sym is ∙ done in cc);
+      }
   leaves_unput put.Memory ending is rose same others =
-      record { others = λ other each. others other (not_the_file other each); only = inr (inr (inl (same refl))); saved = λ done. absurd (let bad = sym is ∙ done in cc) }
+      record {
+        others = λ other each. others other (not_the_file other each);
+        only = inr (inr (inl (same refl)));
+        saved = λ done. absurd (let bad = sym is ∙ done in cc);
+      }
 
   -- the job says this file and this line
   module _ (text line : List ℕ) (says : (e : Expected) → JobSays old.content job e → e

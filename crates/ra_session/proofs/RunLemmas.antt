@@ -77,7 +77,12 @@ ends_same a b reads puts sink ending old new pieces end first before =
     sink ending old new) first (same_saved ending before)))
   where
     same_saved : (ending : Ending) → EndsBefore a reads puts sink ending old new → EndsBefore
-        (record { pieces = a.pieces; ending = a.ending; saved = b.saved; puts_first = a.puts_first }) reads puts sink ending old new
+        (record {
+          pieces = a.pieces;
+          ending = a.ending;
+          saved = b.saved;
+          puts_first = a.puts_first;
+        }) reads puts sink ending old new
     same_saved Done h = h
     same_saved NoMemory h = h
     same_saved NoJob h = h

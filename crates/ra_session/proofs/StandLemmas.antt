@@ -81,8 +81,17 @@ hold_more set o earned others (None ∷ kepts) (None ∷ slots) held =
 hold_more set o earned others (None ∷ kepts) (Some bytes ∷ slots) held = absurd held.0
 hold_more set o earned others (Some kept ∷ kepts) (None ∷ slots) held = absurd held.0
 hold_more set o earned others (Some kept ∷ kepts) (Some state ∷ slots) held =
-    let save : IsSaveOf set o kept earned state = held.0 in
-    (record { before = save.before; images = save.images; holds = save.holds; still = earned_later save.before earned others save.still; of_set = save.of_set; is = save.is }, hold_more set o earned others kepts slots held.1)
+    let save : IsSaveOf set o kept earned state = held.0 in (
+      record {
+        before = save.before;
+        images = save.images;
+        holds = save.holds;
+        still = earned_later save.before earned others save.still;
+        of_set = save.of_set;
+        is = save.is;
+      },
+      hold_more set o earned others kepts slots held.1,
+    )
 
 -- a save keeps what stands behind in its slot
 pub stands_saved : (set : SetContents) (o : Opening) (m : Moment) (earned : Earned)

@@ -108,8 +108,10 @@ module _ (bytes : List ℕ) (set : SetContents) (o : Opening) (m : Moment) (earn
       let says : says_from bytes set o to.moment to.now_earned to.rest ≡ says_from bytes set o
       to.moment to.now_earned (record { entries = Ended ∷ []; stop = Reached end.at }) =
       ap (says_from bytes set o to.moment to.now_earned) end.last in
-      ends_after Done new
-      (ap (λ (e : Expected). e.ending) says, end.text ∙ sym (grown-nil now) ∙ ap (λ (e : Expected). grown now (concat e.pieces)) (sym says))
+      ends_after Done new (
+        ap (λ (e : Expected). e.ending) says,
+        end.text ∙ sym (grown-nil now) ∙ ap (λ (e : Expected). grown now (concat e.pieces)) (sym says),
+      )
 
   -- and the player stands at the last moment
   stands_at_end : (runtime' : RuntimeSeen) (slots' : List (Option KeptSeen)) (new : Option (List ℕ))

@@ -30,8 +30,8 @@ status_of (ManyRows found) = 12
 
 -- the line that says how the program is called, without its end
 abbrev pub usage : List ℕ
-usage = codes
-    "usage: ra_player run SET TRACE [--restore FILE] [--save FILE] | check SET | make N | import FILE SET | lint SET | normal SET OUT | explain SET TRACE ID"
+usage = codes "usage: ra_player run SET TRACE [--restore FILE] [--save FILE] | check SET | make N | "
+    ++ codes "import FILE SET | lint SET | normal SET OUT | explain SET TRACE ID"
 
 -- the last line, where there is one
 abbrev pub last_line : Ending → List ℕ

@@ -46,8 +46,14 @@ loop-alt-preserved g c =
           (group_next c.loop-alt.group c.in-Some.alt.now c.loop-alt.alts.now c.in-Some.later.now
           rest own behind c.in-Some.ensures.cases.0 front back) c.loop-alt.invariant.written
           c.in_ok-print_conditions-2.ensures.ok;
-      many = omega
-          (arith, ap length back, length-drop (length (group_contents c.in-Some.alt.now)) rest, c.loop-alt.invariant.many, alts, sum_by-cons length (group_contents c.in-Some.alt.now) (map group_contents c.in-Some.later.now));
+      many = omega (
+        arith,
+        ap length back,
+        length-drop (length (group_contents c.in-Some.alt.now)) rest,
+        c.loop-alt.invariant.many,
+        alts,
+        sum_by-cons length (group_contents c.in-Some.alt.now) (map group_contents c.in-Some.later.now),
+      );
       count = omega (arith, c.loop-alt.invariant.count, c.in-Some.ensures.cases.1);
       later = omega (arith, c.loop-alt.invariant.later, c.print_conditions-in-Some.ensures.later);
     }

@@ -15,8 +15,12 @@ returns-in_err-progress-clause-failed g c =
     let restore = option_map (λ name. name.now) c.args.run.now.restore in
     let taken = c.in_ok-set.ensures in
     err_by c.from_residual-in_err-progress.result
-    (load.Progress c.in_err-progress.field-0.0) _ c.from_residual-in_err-progress.ensures.1
-    (set_contents c.in_ok-set.set, taken.set, not_progress_since _ _ _ restore _ _ c.in_err-progress.field-0.0 taken.stays.same (rose_before _ _ _ (file_in restore) taken.stays.reads) c.in_err-progress.ensures.failed)
+    (load.Progress c.in_err-progress.field-0.0) _ c.from_residual-in_err-progress.ensures.1 (
+      set_contents c.in_ok-set.set,
+      taken.set,
+      not_progress_since _ _ _ restore _ _ c.in_err-progress.field-0.0 taken.stays.same
+          (rose_before _ _ _ (file_in restore) taken.stays.reads) c.in_err-progress.ensures.failed,
+    )
 
 pub returns-clause-loaded : goal.returns-clause-loaded
 returns-clause-loaded g c =

@@ -19,8 +19,12 @@ pub returns-in-Ok-clause-of_file : goal.returns-in-Ok-clause-of_file
 returns-in-Ok-clause-of_file g c =
     let set = set_contents c.args.set.now in
     let none : refusal (shape_of set) c.in_ok-bytes.bytes.items ≡ None =
-    ap (refusal (shape_of set)) (sym c.as_slice.ensures.value) ∙ c.in-Ok.ensures.accepted in
-    (c.in_ok-bytes.bytes.items, refl, λ file is_told. read_accepted set c.in_ok-bytes.bytes.items file (told _ _ file is_told c.in_ok-bytes.ensures.ok ∙ ap (λ n. take n file) c.progress_read.ensures) none)
+    ap (refusal (shape_of set)) (sym c.as_slice.ensures.value) ∙ c.in-Ok.ensures.accepted in (
+      c.in_ok-bytes.bytes.items,
+      refl,
+      λ file is_told. read_accepted set c.in_ok-bytes.bytes.items file (told _ _ file is_told
+          c.in_ok-bytes.ensures.ok ∙ ap (λ n. take n file) c.progress_read.ensures) none,
+    )
 
 pub returns-clause-failed : goal.returns-clause-failed
 returns-clause-failed g c =
