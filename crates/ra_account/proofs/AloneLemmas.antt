@@ -36,8 +36,12 @@ stands_apart f j alone within =
     let t = slice_index_or f.truths j false in
     let h = slice_index f.hits j in
     let before = sym (none_before f j alone (omega arith)) in
-    (λ k. record
-    { met = met (before k) t; reset = (settled c t h (before k)).reset; total = (settled c t h (before k)).total; valid = (settled c t h (before k)).valid })
+    (λ k. record {
+      met = met (before k) t;
+      reset = (settled c t h (before k)).reset;
+      total = (settled c t h (before k)).total;
+      valid = (settled c t h (before k)).valid;
+    })
 
 -- the first of some places from the first on is that place
 from_none : (n : ℕ) → n ≡ 0 + n

@@ -25,7 +25,14 @@ none_not_all true counts none = grind (arith, common_steps)
 pub mark_two : (a b : Bool) (before later : List Bool) → mark_of ((a ∷ before) ++ (b ∷ later))
     ≡ joined (mark_of (a ∷ before)) (mark_of (b ∷ later))
 mark_two a b before later =
-    grind (arith, common_steps, list_all-append (λ c. c) (a ∷ before) (b ∷ later), list_all-append not (a ∷ before) (b ∷ later), none_not_all a before, none_not_all b later)
+    grind (
+      arith,
+      common_steps,
+      list_all-append (λ c. c) (a ∷ before) (b ∷ later),
+      list_all-append not (a ∷ before) (b ∷ later),
+      none_not_all a before,
+      none_not_all b later,
+    )
 
 -- the same of any two that are not empty
 mark_joined : (before later : List Bool) → 0 < length before → 0 < length later

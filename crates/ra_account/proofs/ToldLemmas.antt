@@ -45,7 +45,11 @@ width_is (suc n) = width_by n (width_is n) (nat_lt (60 * width_of n) (suc n)) re
 pub one_width : (n v w : ℕ) → IsWidth n v → IsWidth n w → v ≡ w
 one_width n v w a b =
     let same : a.exponent ≡ b.exponent =
-    omega (arith, a.least b.exponent (subst (λ x. n ≤ 60 * x) b.power b.enough), b.least a.exponent (subst (λ x. n ≤ 60 * x) a.power a.enough)) in
+    omega (
+      arith,
+      a.least b.exponent (subst (λ x. n ≤ 60 * x) b.power b.enough),
+      b.least a.exponent (subst (λ x. n ≤ 60 * x) a.power a.enough),
+    ) in
     a.power ∙ ap (λ e. 2 ^ e) same ∙ sym b.power
 
 -- how many of some numbers that follow are below another

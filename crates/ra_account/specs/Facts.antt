@@ -68,7 +68,12 @@ pointer_at f (suc i) = pointer_by (flag_at f.conditions i) (slice_index f.lefts 
 -- what the group is for its condition at j, over a memory of this many bytes
 abbrev pub around_at : Frame → (size : ℕ) → ℕ → Around
 around_at f size j =
-    record { paused = is_paused f; in_pause_chain = in_pause_chain f.conditions j; pointer = pointer_at f j; size = size }
+    record {
+      paused = is_paused f;
+      in_pause_chain = in_pause_chain f.conditions j;
+      pointer = pointer_at f j;
+      size = size;
+    }
 
 -- what the frame shows of the condition at j
 abbrev pub facts_at : Frame → List ℕ → (size : ℕ) → ℕ → Facts

@@ -27,7 +27,14 @@ pub record Told : Type 0 where
 -- what an account tells
 abbrev pub told_by : ConditionAccount → Told
 told_by a =
-    record { counts = a.counts; past = a.past; best = a.best; left = a.left; right = a.right; marks = marks_in a.columns }
+    record {
+      counts = a.counts;
+      past = a.past;
+      best = a.best;
+      left = a.left;
+      right = a.right;
+      marks = marks_in a.columns;
+    }
 
 -- what some frames tell of a condition, the newest first
 abbrev pub told_of : List Facts → Told

@@ -137,11 +137,20 @@ module _ (words : List (List ℕ)) (old new : Outside) (status : ℕ) where
       (λ one. own_not own 1 of (λ n. omega (arith, n)) refl (sym is ∙ one))
       (λ five. own_not own 5 of (λ n. omega (arith, n)) refl (sym is ∙ five)) in
       let same : e.status ≡ own = sym whole.0 ∙ is in
-      record { job = job; is_job = is_job; said = λ tell. (e, told.said (subst (λ n. AreTold old.content (deciding job n)) (sym same) tell), same, whole.1) }
+      record {
+        job = job;
+        is_job = is_job;
+        said = λ tell.
+            (e, told.said (subst (λ n. AreTold old.content (deciding job n)) (sym same) tell), same, whole.1);
+      }
 
   no_words : Ends old new words status → status ≡ 2 → IsNoJob words old new
   no_words (no_job none same prints) two =
-      record { no_job = none; text = (printed_whole old new 2 status usage_line prints (λ one. omega (arith, one, two)) (λ five. omega (arith, five, two))).1 }
+      record {
+        no_job = none;
+        text = (printed_whole old new 2 status usage_line prints (λ one. omega (arith, one, two))
+            (λ five. omega (arith, five, two))).1;
+      }
   no_words (of_job job is (read_failed rose same prints)) two =
       absurd (not_status 4 read_line 2 prints two (λ same. omega (arith, same))
       (λ one. omega (arith, one)) (λ five. omega (arith, five)))

@@ -72,7 +72,13 @@ take_along (x ∷ xs) (suc n) (suc m) le = let w = take_along xs n m (omega arit
 
 front_before : (lines : List (List ℕ)) (n m : ℕ) → n ≤ m → IsFront (take m lines) → IsFront (take n lines)
 front_before lines n m le h = let w = take_along lines n m le in
-    record { text = h.text; v = h.v; whole = h.whole; more = w.0 ++ h.more; begins = h.begins ∙ ap (λ t. t ++ h.more) w.1 ∙ append_assoc (take n lines) w.0 h.more }
+    record {
+      text = h.text;
+      v = h.v;
+      whole = h.whole;
+      more = w.0 ++ h.more;
+      begins = h.begins ∙ ap (λ t. t ++ h.more) w.1 ∙ append_assoc (take n lines) w.0 h.more;
+    }
 
 not_before : (text : List ℕ) (n m : ℕ) → (a : IsFirstBad text n) (b : IsFirstBad text m) → a.index < b.index → ⊥
 not_before text n m a b less = a.bad (let w = b.within in

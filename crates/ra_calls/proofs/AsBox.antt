@@ -16,8 +16,11 @@ use Rattle.ra_calls.specs.contracts.cell.Cell as Cell
 
 -- a box of what is held
 abbrev pub E : Bx
-E = record
-    { row = Game.the_row; laws = game.the_row_laws; al = record { row = Heap.the_row; laws = heap.the_row_laws; g = ghosts; d = dict; drops = impl [] tnil dnil } }
+E = record {
+  row = Game.the_row;
+  laws = game.the_row_laws;
+  al = record { row = Heap.the_row; laws = heap.the_row_laws; g = ghosts; d = dict; drops = impl [] tnil dnil };
+}
 
 -- what a contract sees of what is held
 abbrev pub X : Type 0

@@ -107,7 +107,12 @@ is_fresh text set size course first is spelled named begun saved short =
     let shape = is_shape course.set is.limits spelled named (digests_of text course.set is) short in
     let back : ComesBack (shape_of course.set) (plain_opening course.set) = comes_back
     (shape_of course.set) (plain_opening course.set) shape (plain_is_opening course.set spelled) in
-    record { shape = shape; first_too = begins; accepted = first_accepted text course.set first begins is spelled named short; long = ap length begins.is ∙ back.long }
+    record {
+      shape = shape;
+      first_too = begins;
+      accepted = first_accepted text course.set first begins is spelled named short;
+      long = ap length begins.is ∙ back.long;
+    }
 
 -- the goals of a new course are those of its set, and each format that they have has digits
 pub has_digits : (set : SetContents) (goals : List Goal) → goals ≡ map goal_of set.items → IsSpelled

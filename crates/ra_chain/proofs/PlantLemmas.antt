@@ -58,8 +58,11 @@ valued_by s (Arith op left right) tree is = tt
 -- a node that spells a tree may be named
 pub spells_named : (nodes : List Node) (n : ℕ) (tree : Tree) → IsPool nodes → Spells nodes n tree → Names nodes n
 spells_named nodes n tree pool spells =
-    let within = spells_within nodes n tree spells in
-    (within, valued_by (spelled_by nodes) (node_at nodes n) tree (sym (spelled_of nodes pool n within) ∙ spells_at nodes n tree spells))
+    let within = spells_within nodes n tree spells in (
+      within,
+      valued_by (spelled_by nodes) (node_at nodes n) tree (sym (spelled_of nodes pool n within)
+          ∙ spells_at nodes n tree spells),
+    )
 
 pub front_none : (nodes : List Node) → IsFront nodes nodes
 front_none nodes = record { more = []; whole = sym (append-nil nodes) }
@@ -152,9 +155,21 @@ kept_node old new node place pool gains (inr fresh) = record {
   adds = record {
     nodes_too = omega (arith, ap length fresh.grown, length-append old (node ∷ []));
     cells_too =
-        omega (arith, ap (λ ns. length (cells_of ns)) fresh.grown, ap length (cells_of-push old node), length-append (cells_of old) (cell_in (spelled_with (spelled_by old) node)), cells_length (spelled_by old) node);
+        omega (
+          arith,
+          ap (λ ns. length (cells_of ns)) fresh.grown,
+          ap length (cells_of-push old node),
+          length-append (cells_of old) (cell_in (spelled_with (spelled_by old) node)),
+          cells_length (spelled_by old) node,
+        );
     views_too =
-        omega (arith, ap (λ ns. length (filter is_view ns)) fresh.grown, ap length (filter-append is_view old (node ∷ [])), length-append (filter is_view old) (filter is_view (node ∷ [])), views_length node);
+        omega (
+          arith,
+          ap (λ ns. length (filter is_view ns)) fresh.grown,
+          ap length (filter-append is_view old (node ∷ [])),
+          length-append (filter is_view old) (filter is_view (node ∷ [])),
+          views_length node,
+        );
   };
 }
 
@@ -263,5 +278,7 @@ gains_named old new node place pool gains valued =
 
 pub names_more : (old new : List Node) (n : ℕ) → IsFront old new → Names old n → Names new n
 names_more old new n front names =
-    subst (λ ns. Names ns n) (sym front.whole)
-    (omega (arith, names.0, length-append old front.more), subst IsValued (sym (node_at-append old front.more n names.0)) names.1)
+    subst (λ ns. Names ns n) (sym front.whole) (
+      omega (arith, names.0, length-append old front.more),
+      subst IsValued (sym (node_at-append old front.more n names.0)) names.1,
+    )

@@ -10,4 +10,12 @@ pub plays_frame : (old told new : RuntimeSeen) (at : ℕ) (bytes : List ℕ) →
     → PlaysFrame old new at bytes
 plays_frame old told new at bytes fits is takes =
     let on = subst (λ (r : RuntimeSeen). TakesFrame r new) is.rest takes in
-    record { set = on.set; image = on.image; size = ap length on.image ∙ length-written old.image bytes at fits; kept = on.kept; earned = on.earned; happened = on.events; printed = on.lines }
+    record {
+      set = on.set;
+      image = on.image;
+      size = ap length on.image ∙ length-written old.image bytes at fits;
+      kept = on.kept;
+      earned = on.earned;
+      happened = on.events;
+      printed = on.lines;
+    }

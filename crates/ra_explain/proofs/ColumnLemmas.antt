@@ -24,8 +24,12 @@ rises_more : (own : List Event) (from bound row hits a : ℕ) → RisesBelow fro
     → from ≤ row → bound ≤ row → a ≢ ends_from hits own
     → RisesBelow from (row + 1) hits (own ++ record { row = row; hits = a } ∷ [])
 rises_more [] from bound row hits a rises first past new = (first, omega arith, new, tt)
-rises_more (e ∷ own) from bound row hits a rises first past new =
-    (rises.0, omega (arith, rises.1, past), rises.2, rises_more own (e.row + 1) bound row e.hits a rises.3 (omega (arith, rises.1, past)) past new)
+rises_more (e ∷ own) from bound row hits a rises first past new = (
+  rises.0,
+  omega (arith, rises.1, past),
+  rises.2,
+  rises_more own (e.row + 1) bound row e.hits a rises.3 (omega (arith, rises.1, past)) past new,
+)
 
 rises_on : (own : List Event) (from bound next hits : ℕ) → RisesBelow from bound hits own
     → bound ≤ next → RisesBelow from next hits own
@@ -70,7 +74,10 @@ one_noted since row own b a from has = by_case (a == b) refl
     by_case : (same : Bool) → (a == b) ≡ same
         → HasNoted since (row + 1) (cond same own (own ++ record { row = row; hits = a } ∷ [])) a
     by_case true is =
-        record { rises = rises_on own since row (row + 1) 0 has.rises (omega arith); ends = has.ends ∙ sym (eqb-true a b is) }
+        record {
+          rises = rises_on own since row (row + 1) 0 has.rises (omega arith);
+          ends = has.ends ∙ sym (eqb-true a b is);
+        }
     by_case false is = record {
       rises = rises_more own since row row 0 a has.rises from (omega arith)
           (λ e. false≢true (sym is ∙ eq-eqb a b (e ∙ has.ends)));

@@ -1,12 +1,7 @@
 -- One frame goes on from every history for which what is kept stands.
-use Rattle.std.proofs.Common.{◌≡◌, ℕ, suc, not, ◌&&◌, Bool, List, [], ◌∷◌, length, map, slice_index, refl, sym, ◌∙◌, ap}
-use Rattle.std.proofs.Common.{ap₂, arith}
-use Rattle.std.specs.Vec.{with_items}
-use Rattle.std.proofs.lemmas.List.{length-map, with_items_is}
+use Rattle.std.proofs.Common.{◌≡◌, ℕ, not, ◌&&◌, Bool, List, ◌∷◌, length, map, sym, ◌∙◌, ap, ap₂}
+use Rattle.std.proofs.lemmas.List.{length-map}
 use Rattle.ra_condition.specs.Contents.{TriggerContents, groups_of, trigger_hits}
-use Rattle.ra_condition.specs.declared.condition.Condition.{Condition}
-use Rattle.ra_operand.specs.declared.op.Op.{Op}
-use Rattle.ra_indirect.specs.declared.node.Node.{Node}
 use Rattle.ra_indirect.specs.Pools.{cells_of, tracked_of, spelled_by}
 use Rattle.ra_memory.specs.Image.{History}
 use Rattle.ra_memref.specs.Values.{cell_number, cell_place, tracked_number}
@@ -14,59 +9,15 @@ use Rattle.ra_memref.specs.Table.{TableSeen, AreKept, Samples, spelled_value}
 use Rattle.ra_trigger.specs.declared.change.Change.{Change}
 use Rattle.ra_trigger.specs.States.{is_triggered}
 use Rattle.ra_trigger.specs.Steps.{TriggerKept}
-use Rattle.ra_member.specs.declared.laid.Laid.{Laid}
 use Rattle.ra_member.specs.declared.trigger_run.TriggerRun.{TriggerRun}
 use Rattle.ra_member.specs.Frames.{achievement_next}
-use Rattle.ra_member.specs.Runs.{HasValues, IsLaid, MayFill, IsTriggerRun, IsFilled, StepsAchievement}
-use Rattle.ra_member.specs.Readings.{numbers_at, truths_by}
-use Rattle.ra_member.proofs.LaidLemmas.{truths_read, laid_fills}
+use Rattle.ra_member.specs.Runs.{HasValues, IsTriggerRun, StepsAchievement}
+use Rattle.ra_member.proofs.LaidLemmas.{laid_truths}
 use Rattle.ra_explain.specs.Making.{IsOver}
 use Rattle.ra_explain.specs.Recorders.{plain_start, trigger_cells, trigger_tracked, kept_after, row_of, StandsFor}
 use Rattle.ra_explain.specs.Recorders.{unlocks_at}
 use Rattle.ra_explain.specs.RowLists.{truths_laid}
 use Rattle.ra_explain.specs.Slots.{HaveCounts, counts_of, kept_by, StandsSomewhere}
-
--- as many truths as operators
-length_truths : (ops : List Op) (xs ys : List ℕ) → length xs ≡ length ops → length ys ≡ length ops
-    → length (truths_by ops xs ys) ≡ length ops
-length_truths [] xs ys long long_too = refl
-length_truths (op ∷ ops) [] ys long long_too = absurd (omega arith)
-length_truths (op ∷ ops) (x ∷ xs) [] long long_too = absurd (omega arith)
-length_truths (op ∷ ops) (x ∷ xs) (y ∷ ys) long long_too = ap suc (length_truths ops xs ys (omega arith) (omega arith))
-
--- a plan with the truths and left values of these values in its room
-abbrev filled_by : List ℕ → Laid → Laid
-filled_by values laid = record {
-  plan = laid.plan;
-  ops = laid.ops;
-  truths = with_items laid.truths (truths_laid values laid);
-  lefts = with_items laid.lefts (numbers_at values laid.plan.lefts.items);
-}
-
-module _ (nodes : List Node) (groups : List (List Condition)) (values : List ℕ) (laid : Laid)
-    (is : IsLaid nodes groups laid) where
-  may : MayFill nodes laid
-  may = laid_fills nodes groups laid is
-
-  lefts_many : length (numbers_at values laid.plan.lefts.items) ≡ length laid.ops.items
-  lefts_many = length-map laid.plan.lefts.items (λ n. slice_index values n) ∙ may.left_nodes
-
-  rights_many : length (numbers_at values laid.plan.rights.items) ≡ length laid.ops.items
-  rights_many = length-map laid.plan.rights.items (λ n. slice_index values n) ∙ may.right_nodes
-
-  pub filled_truths : (filled_by values laid).truths.items ≡ truths_laid values laid
-  filled_truths = with_items_is laid.truths (truths_laid values laid)
-      (length_truths laid.ops.items (numbers_at values laid.plan.lefts.items) (numbers_at values
-      laid.plan.rights.items) lefts_many rights_many ∙ sym may.truths ∙ sym laid.truths.ok.0)
-
-  pub filled_is : IsFilled values laid (filled_by values laid)
-  filled_is = record {
-    plan = refl;
-    ops = refl;
-    lefts = with_items_is laid.lefts (numbers_at values laid.plan.lefts.items) (lefts_many
-        ∙ sym may.left_values ∙ sym laid.lefts.ok.0);
-    truths = filled_truths;
-  }
 
 module _ (t : TriggerContents) (old new : TableSeen) (image : List ℕ) (before after : TriggerRun)
     (change : Change) (rows : List (List Bool)) (over : IsOver t old)
@@ -96,11 +47,7 @@ module _ (t : TriggerContents) (old new : TableSeen) (image : List ℕ) (before 
 
   -- the row that is read is that of the frame
   row_read : truths_laid new.values after.laid ≡ row_of t (image ∷ history)
-  row_read =
-      sym (filled_truths new.nodes (groups_of t) new.values after.laid run.laid)
-      ∙ truths_read new.nodes new.values plain_start (image ∷ history) has_values
-      (groups_of t) after.laid (filled_by new.values after.laid) run.laid
-      (filled_is new.nodes (groups_of t) new.values after.laid run.laid)
+  row_read = laid_truths new.nodes new.values plain_start (image ∷ history) has_values (groups_of t) after.laid run.laid
 
   -- what is kept after the frame stands for the history with its image
   pub frame_stands : StandsFor t

@@ -65,15 +65,19 @@ module _ {A : Type 0} (same : A → A → Bool) where
   keeps_by : (old new : List A) (y : A) (b : Bool) → new ≡ cond b old (old ++ y ∷ []) → (length old
       ≤ length new) × ((i : ℕ) (d : A) → i < length old → get_or new i d ≡ get_or old i d)
   keeps_by old new y true is = (omega (arith, ap length is), λ i d below. ap (λ xs. get_or xs i d) is)
-  keeps_by old new y false is =
-      (omega (arith, ap length is, length-append old (y ∷ [])), λ i d below. ap (λ xs. get_or xs i d) is ∙ get_or_append_left old (y ∷ []) d i below)
+  keeps_by old new y false is = (
+    omega (arith, ap length is, length-append old (y ∷ [])),
+    λ i d below. ap (λ xs. get_or xs i d) is ∙ get_or_append_left old (y ∷ []) d i below,
+  )
 
   -- the firsts of a list stay at their places when the list goes on
   pub firsts-append : (xs ys : List A) → (length (firsts same xs) ≤ length (firsts same (xs ++ ys)))
       × ((i : ℕ) (d : A) → i < length (firsts same xs) → get_or (firsts same (xs ++ ys)) i d
       ≡ get_or (firsts same xs) i d)
-  firsts-append xs [] =
-      (omega (arith, ap (λ zs. length (firsts same zs)) (append-nil xs)), λ i d below. ap (λ zs. get_or (firsts same zs) i d) (append-nil xs))
+  firsts-append xs [] = (
+    omega (arith, ap (λ zs. length (firsts same zs)) (append-nil xs)),
+    λ i d below. ap (λ zs. get_or (firsts same zs) i d) (append-nil xs),
+  )
   firsts-append xs (y ∷ ys) =
       let one = keeps_by (firsts same xs) (firsts same (xs ++ y ∷ [])) y (has_same xs y) (firsts-push xs y) in
       let rest = firsts-append (xs ++ y ∷ []) ys in

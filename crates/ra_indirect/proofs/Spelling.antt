@@ -24,7 +24,11 @@ pub length-spelled_from : (earlier : List Spelled) (nodes : List Node)
     → length (spelled_from earlier nodes) ≡ length earlier + length nodes
 length-spelled_from earlier [] = omega arith
 length-spelled_from earlier (node ∷ nodes) =
-    omega (arith, length-spelled_from (earlier ++ spelled_with earlier node ∷ []) nodes, length-append earlier (spelled_with earlier node ∷ []))
+    omega (
+      arith,
+      length-spelled_from (earlier ++ spelled_with earlier node ∷ []) nodes,
+      length-append earlier (spelled_with earlier node ∷ []),
+    )
 
 pub length-spelled_by : (nodes : List Node) → length (spelled_by nodes) ≡ length nodes
 length-spelled_by nodes = omega (arith, length-spelled_from [] nodes)

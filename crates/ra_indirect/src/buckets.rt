@@ -63,7 +63,7 @@ impl Buckets {
         Ok(buckets)
     }
 
-    /// Makes room for a node behind these. Memory is the only refusal.
+    /// Makes room for one more node. Out of memory is the only refusal.
     pub fn make_room(&mut self, nodes: &[Node]) -> Result<(), OutOfMemory>
         requires filed { AreFiled nodes.now self.old }
         requires few { length nodes.now < 2 ^ 31 }

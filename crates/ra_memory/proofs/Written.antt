@@ -11,7 +11,13 @@ module _ (image bytes : List ℕ) (at : ℕ) (fits : at + length bytes ≤ lengt
   -- the size stays
   pub length-written : length (written image at bytes) ≡ length image
   length-written =
-      omega (arith, length-append (take at image) (bytes ++ drop (at + length bytes) image), length-append bytes (drop (at + length bytes) image), length-drop (at + length bytes) image, front)
+      omega (
+        arith,
+        length-append (take at image) (bytes ++ drop (at + length bytes) image),
+        length-append bytes (drop (at + length bytes) image),
+        length-drop (at + length bytes) image,
+        front,
+      )
 
   before : (k : ℕ) → k < at → get_or (written image at bytes) k 0 ≡ get_or image k 0
   before k below =

@@ -26,6 +26,7 @@ use Rattle.ra_normal.specs.Text.{item_text, script_from, normal_text, normal_con
 use Rattle.ra_normal.proofs.NormalLines.{items_spelled, texts_again}
 use Rattle.ra_normal.proofs.NormalStructure.{items_again}
 use Rattle.ra_normal.proofs.ScriptLemmas.{lines_skipped, last_unscripted, script_stays}
+use Rattle.ra_text.proofs.Spelled.{then-spelled, none-spelled}
 
 -- ---- the items of a set
 
@@ -39,17 +40,18 @@ ids_are file set h =
     let l = lines-of_file file h.contents h.spelled in
     let lines = l.ended ++ l.last ∷ [] in
     let bare : SetContents = record set { script = None } in
-    let spelled = file-of_lines (l.front ++ l.behind) lines (record {
-      front = l.front;
-      behind = l.behind;
-      v = l.ended;
-      parts = refl;
-      of_first = l.of_ended;
-      of_next =
-          record { front = l.behind; behind = []; v = l.last; parts = sym (append-nil l.behind); of_first = l.of_last; of_next = record { empty = refl; is = refl } };
-    }) in
-    (spelled-set bare refl
-    (l.front ++ l.behind, record { contents = record { lines = lines; script = None }; spelled = spelled; items = h.items ∙ l.items; script = refl })).1
+    let spelled = file-of_lines (l.front ++ l.behind) lines
+    (then-spelled l.front l.behind l.ended refl l.of_ended
+    (then-spelled l.behind [] l.last (sym (append-nil l.behind)) l.of_last none-spelled)) in
+    (spelled-set bare refl (
+      l.front ++ l.behind,
+      record {
+        contents = record { lines = lines; script = None };
+        spelled = spelled;
+        items = h.items ∙ l.items;
+        script = refl;
+      },
+    )).1
 
 -- ---- what the file has from its line "P" on
 

@@ -30,6 +30,7 @@ use Rattle.ra_text.proofs.Tables.{all_pass}
 use Rattle.ra_normal.specs.Contents.{normal_value, normal_board, normal_item}
 use Rattle.ra_normal.specs.Text.{name_of, progress_text, tests_text, board_text, item_text}
 use Rattle.ra_normal.proofs.NormalStructure.{board_is, value_again}
+use Rattle.ra_text.proofs.Spelled.{then-spelled, one-spelled}
 
 -- ---- names of formats
 
@@ -37,15 +38,9 @@ use Rattle.ra_normal.proofs.NormalStructure.{board_is, value_again}
 named_so : (c : ℕ) (others : List ℕ) (format : Format) → in_name c ≡ Some c
     → all_pass (λ c. not (is_in (only (codes " \n")) c)) others ≡ true → format
     ≡ format_of_name (c ∷ others) → format_name (c ∷ others) format
-named_so c others format first all is = record {
-  front = c ∷ [];
-  behind = others;
-  v = c;
-  parts = refl;
-  of_first = record { symbol = c; alone = refl; listed = first };
-  of_next =
-      record { front = others; behind = []; v = others; parts = sym (append-nil others); of_first = run-spelled others all; of_next = record { empty = refl; is = is } };
-}
+named_so c others format first all is = then-spelled (c ∷ []) others c refl (one-spelled c first)
+    (then-spelled others [] others (sym (append-nil others)) (run-spelled others all)
+    (record { empty = refl; is = is }))
 
 -- the first name of a format spells it
 name_is : (format : Format) → HasDigits format → format_name (name_of format) format
@@ -121,35 +116,20 @@ front_is id text = append_assoc (id ++ codes " ") text (codes "\n") ∙ append_a
 -- a line of an achievement
 unlocks_spelled : (id : ℕ) (t : TriggerContents) → id < 2 ^ 32 → IsTrigger t
     → line (head_text 65 id ++ trigger_text t) (Some (Unlocks id t))
-unlocks_spelled id t small is = inr (inl (record {
-  front = head_text 65 id;
-  behind = trigger_text t;
-  v = id;
-  parts = refl;
-  of_first = head-spelled 65 id refl small;
-  of_next = changed trigger (λ t. Some (Unlocks id t)) (trigger_text t) t (trigger-spelled t is);
-}))
+unlocks_spelled id t small is = inr (inl (then-spelled (head_text 65 id) (trigger_text t) id refl
+    (head-spelled 65 id refl small)
+    (changed trigger (λ t. Some (Unlocks id t)) (trigger_text t) t (trigger-spelled t is))))
 
 -- a line of a leaderboard
 ranks_spelled : (id : ℕ) (format : Format) (b : BoardContents) → id < 2 ^ 32 → IsBoard b
     → HasDigits format → line (head_text 76 id ++ (name_of format ++ 32 ∷ boards.board_text b))
     (Some (Ranks id format b))
-ranks_spelled id format b small is digits = inr (inr (inl (record {
-  front = head_text 76 id;
-  behind = name_of format ++ 32 ∷ boards.board_text b;
-  v = id;
-  parts = refl;
-  of_first = head-spelled 76 id refl small;
-  of_next = record {
-    front = name_of format;
-    behind = 32 ∷ boards.board_text b;
-    v = format;
-    parts = refl;
-    of_first = name_is format digits;
-    of_next =
-        record { front = codes " "; behind = boards.board_text b; v = tt; parts = refl; of_first = one-byte 32 refl; of_next = changed board (λ b. Some (Ranks id format b)) (boards.board_text b) b (board-spelled b is) };
-  };
-})))
+ranks_spelled id format b small is digits = inr
+    (inr (inl (then-spelled (head_text 76 id) (name_of format ++ 32 ∷ boards.board_text b) id refl
+    (head-spelled 76 id refl small) (then-spelled (name_of format)
+    (32 ∷ boards.board_text b) format refl (name_is format digits)
+    (then-spelled (codes " ") (boards.board_text b) tt refl (one-byte 32 refl) (changed board
+    (λ b. Some (Ranks id format b)) (boards.board_text b) b (board-spelled b is)))))))
 
 -- the line of an item spells its normal item
 item_spelled : (x : ItemContents) → IsItem x → HasSmallId x → ended_line (item_text x) (Some (normal_item x))

@@ -24,13 +24,37 @@ use Rattle.ra_normal.proofs.LegacyLemmas.{adding_flag}
 adding_is : (operand : Operand) (factor : Option Operand) → IsTerm
     (record { operand = operand; factor = factor }) → IsCondition InValue (adding operand factor)
 adding_is operand None is =
-    record { op = refl; left = is.operand; right = lit< tt; target = lit< tt; bare_right = λ bare. refl; bare_target = λ bare. refl; handed_target = λ handed. refl }
+    record {
+      op = refl;
+      left = is.operand;
+      right = lit< tt;
+      target = lit< tt;
+      bare_right = λ bare. refl;
+      bare_target = λ bare. refl;
+      handed_target = λ handed. refl;
+    }
 adding_is operand (Some factor) is =
-    record { op = refl; left = is.operand; right = is.factor; target = lit< tt; bare_right = λ bare. absurd (cc bare); bare_target = λ bare. refl; handed_target = λ handed. refl }
+    record {
+      op = refl;
+      left = is.operand;
+      right = is.factor;
+      target = lit< tt;
+      bare_right = λ bare. absurd (cc bare);
+      bare_target = λ bare. refl;
+      handed_target = λ handed. refl;
+    }
 
 zero_is : IsCondition InValue measured_zero
 zero_is =
-    record { op = refl; left = lit< tt; right = lit< tt; target = lit< tt; bare_right = λ bare. refl; bare_target = λ bare. refl; handed_target = λ handed. refl }
+    record {
+      op = refl;
+      left = lit< tt;
+      right = lit< tt;
+      target = lit< tt;
+      bare_right = λ bare. refl;
+      bare_target = λ bare. refl;
+      handed_target = λ handed. refl;
+    }
 
 conditions_are : (terms : List Term) → AllByRecursion IsTerm terms
     → AllByRecursion (IsCondition InValue) (legacy_conditions terms)
@@ -71,7 +95,13 @@ progress_is (Some parts) is = value_is parts is
 
 pub board_is : (b : BoardContents) → IsBoard b → IsBoard (normal_board b)
 board_is b is =
-    record { start = is.start; cancel = is.cancel; submit = is.submit; value = value_is b.value is.value; progress = progress_is b.progress is.progress }
+    record {
+      start = is.start;
+      cancel = is.cancel;
+      submit = is.submit;
+      value = value_is b.value is.value;
+      progress = progress_is b.progress is.progress;
+    }
 
 -- ---- twice is once
 

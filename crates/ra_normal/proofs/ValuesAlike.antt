@@ -47,10 +47,22 @@ zeros_of_both all front behind parts =
 zeros_match : (parts : List PartContents) (hits other : List ℕ) → HitsMatch parts hits other
     → HitsMatch parts (zeros (length hits)) (zeros (length other))
 zeros_match [] hits other h = (ap (λ xs. zeros (length xs)) h.0, ap (λ xs. zeros (length xs)) h.1)
-zeros_match (Legacy terms ∷ parts) hits other h =
-    (zeros (length h.0), zeros (length h.1), length-replicate (length h.0) 0 ∙ h.2, zeros_of_both other h.0 h.1 h.3, zeros_match parts hits h.1 h.4)
-zeros_match (Grouped cs ∷ parts) hits other h =
-    (zeros (length h.0), zeros (length h.1), zeros (length h.2), length-replicate (length h.0) 0 ∙ h.3, zeros_of_both hits h.0 h.1 h.4, zeros_of_both other h.0 h.2 h.5, zeros_match parts h.1 h.2 h.6)
+zeros_match (Legacy terms ∷ parts) hits other h = (
+  zeros (length h.0),
+  zeros (length h.1),
+  length-replicate (length h.0) 0 ∙ h.2,
+  zeros_of_both other h.0 h.1 h.3,
+  zeros_match parts hits h.1 h.4,
+)
+zeros_match (Grouped cs ∷ parts) hits other h = (
+  zeros (length h.0),
+  zeros (length h.1),
+  zeros (length h.2),
+  length-replicate (length h.0) 0 ∙ h.3,
+  zeros_of_both hits h.0 h.1 h.4,
+  zeros_of_both other h.0 h.2 h.5,
+  zeros_match parts h.1 h.2 h.6,
+)
 
 -- zeros for a part and for others
 zeros_with : (part : PartContents) (parts : List PartContents) → zeros (value_hits (part ∷ parts))
@@ -64,10 +76,22 @@ none_match : (parts : List PartContents)
 none_match [] = (refl, refl)
 none_match (Legacy terms ∷ parts) =
     let n = length (legacy_conditions terms) in
-    let others = zeros (value_hits (normal_value parts)) in
-    (zeros n, others, length-replicate n 0, zeros_with (Grouped (legacy_conditions terms)) (normal_value parts), subst (λ hits. HitsMatch parts hits others) (sym (zeros_with (Legacy terms) parts)) (none_match parts))
-none_match (Grouped cs ∷ parts) =
-    (zeros (length cs), zeros (value_hits parts), zeros (value_hits (normal_value parts)), length-replicate (length cs) 0, zeros_with (Grouped cs) parts, zeros_with (Grouped cs) (normal_value parts), none_match parts)
+    let others = zeros (value_hits (normal_value parts)) in (
+      zeros n,
+      others,
+      length-replicate n 0,
+      zeros_with (Grouped (legacy_conditions terms)) (normal_value parts),
+      subst (λ hits. HitsMatch parts hits others) (sym (zeros_with (Legacy terms) parts)) (none_match parts),
+    )
+none_match (Grouped cs ∷ parts) = (
+  zeros (length cs),
+  zeros (value_hits parts),
+  zeros (value_hits (normal_value parts)),
+  length-replicate (length cs) 0,
+  zeros_with (Grouped cs) parts,
+  zeros_with (Grouped cs) (normal_value parts),
+  none_match parts,
+)
 
 -- ---- the parts at a frame
 
@@ -157,7 +181,13 @@ module _ (start : Start) (history : History) where
       subst (AreAlike (Legacy terms ∷ parts) (legacy ∷ steps_at parts hits (drop 1 numbers))) (sym here) (record {
         resets = both.0;
         numbers = both.1;
-        hits = (step.hits, flat_map (λ part. part.hits) (steps_at (normal_value parts) h.1 (drop 1 numbers)), length-next_hits (group_at start history cs h.0), refl, behind.hits);
+        hits = (
+          step.hits,
+          flat_map (λ part. part.hits) (steps_at (normal_value parts) h.1 (drop 1 numbers)),
+          length-next_hits (group_at start history cs h.0),
+          refl,
+          behind.hits,
+        );
       })
   parts_alike (Grouped cs ∷ parts) each hits other numbers h =
       let old = slice_index numbers 0 in
@@ -175,7 +205,15 @@ module _ (start : Start) (history : History) where
       (step ∷ steps_at (normal_value parts) h.2 (drop 1 numbers)) = record {
         resets = both.0;
         numbers = both.1;
-        hits = (step.hits, flat_map (λ part. part.hits) (steps_at parts h.1 (drop 1 numbers)), flat_map (λ part. part.hits) (steps_at (normal_value parts) h.2 (drop 1 numbers)), length-next_hits (group_at start history cs h.0), refl, refl, behind.hits);
+        hits = (
+          step.hits,
+          flat_map (λ part. part.hits) (steps_at parts h.1 (drop 1 numbers)),
+          flat_map (λ part. part.hits) (steps_at (normal_value parts) h.2 (drop 1 numbers)),
+          length-next_hits (group_at start history cs h.0),
+          refl,
+          refl,
+          behind.hits,
+        );
       } in
       subst (λ steps. AreAlike (Grouped cs ∷ parts) steps
       (steps_at (normal_value (Grouped cs ∷ parts)) other numbers)) (sym here)

@@ -100,8 +100,10 @@ module _ (bytes : List ℕ) (m : Moment) (reader : ReaderSeen) (left : Pieces) (
       → (left.entries ≡ []) × IsStop why (Some (stop_of bytes left))
   refused_by why None here stop other = absurd (never_none why stop other)
   refused_by why (Some w) here stop other =
-      let bad = bad_left w ((by_slots is.size m seen).refused w here) in
-      (ap (λ (p : Pieces). p.entries) bad, subst (λ (p : Pieces). IsStop why (Some (stop_within full p.stop))) (sym bad) stop)
+      let bad = bad_left w ((by_slots is.size m seen).refused w here) in (
+        ap (λ (p : Pieces). p.entries) bad,
+        subst (λ (p : Pieces). IsStop why (Some (stop_within full p.stop))) (sym bad) stop,
+      )
 
   -- a reader that is stopped is stopped as the trace says
   pub left_refused : (why : TraceError) → IsStop why (next_stop trace_limit is.size reader.next

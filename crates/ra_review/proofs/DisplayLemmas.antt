@@ -25,6 +25,7 @@ use Rattle.ra_text.specs.Table.{is_in, only}
 use Rattle.ra_text.proofs.Steps.{same-ok, viable-front, viable-whole}
 use Rattle.ra_review.specs.Passing.{Stops, StopsLine, StopsPieces, TakesPiece}
 use Rattle.ra_review.specs.Scripts.{display_line}
+use Rattle.ra_text.proofs.Spelled.{then-spelled, none-spelled, one-spelled, viable-by}
 
 -- ---- where a form stops
 
@@ -58,7 +59,15 @@ stops_place {V} form text rest s = subst (IsBadPlace form text) here (record {
         shorter : (w : List ℕ) → s.front ++ symbol ∷ [] ≡ take m text ++ w → ⊥
         shorter [] e = s.halts symbol others is (subst (Viable form) (sym (e ∙ append-nil (take m text))) viable)
         shorter (x ∷ w) e =
-            omega (arith, ap length e, length-append s.front (symbol ∷ []), length-append (take m text) (x ∷ w), length-take m text, more, within)
+            omega (
+              arith,
+              ap length e,
+              length-append s.front (symbol ∷ []),
+              length-append (take m text) (x ∷ w),
+              length-take m text,
+              more,
+              within,
+            )
 
 -- a text of a closed form does not go on with what a reading of it stopped at
 module _ {V : Type 0} (form : Form ℕ V) (at : List ℕ → Outcome ℕ V) (closed : Closed form at)
@@ -66,7 +75,7 @@ module _ {V : Type 0} (form : Form ℕ V) (at : List ℕ → Outcome ℕ V) (clo
   closed_halts : (symbol : ℕ) (others more g y : List ℕ) (v : V) → rest ≡ symbol ∷ others
       → (r.front ++ symbol ∷ []) ++ more ≡ g ++ y → form g v → ⊥
   closed_halts symbol others more g y v is same of_form = elim (fronts-along (r.front ++ symbol ∷ []) more g y same) [
-    | inl a ↦ r.halts symbol others is (record { more = a.0; v = v; whole = subst (λ t. form t v) a.1 of_form })
+    | inl a ↦ r.halts symbol others is (viable-by a.0 v (subst (λ t. form t v) a.1 of_form))
     | inr b ↦ inside b.0 b.1
   ]
     where
@@ -79,7 +88,8 @@ module _ {V : Type 0} (form : Form ℕ V) (at : List ℕ → Outcome ℕ V) (clo
 
       inside : (w : List ℕ) → r.front ++ symbol ∷ [] ≡ g ++ w → ⊥
       inside [] f = r.halts symbol others is
-          (record { more = []; v = v; whole = subst (λ t. form t v) (sym (append-nil (r.front ++ symbol ∷ []) ∙ f ∙ append-nil g)) of_form })
+          (viable-by [] v (subst (λ t. form t v)
+          (sym (append-nil (r.front ++ symbol ∷ []) ∙ f ∙ append-nil g)) of_form))
       inside (x ∷ w) f = elim (fronts-along r.front (symbol ∷ []) g (x ∷ w) f) [
         | inl a ↦ longer a.0 a.1
         | inr b ↦ read b.0 b.1
@@ -88,7 +98,14 @@ module _ {V : Type 0} (form : Form ℕ V) (at : List ℕ → Outcome ℕ V) (clo
           longer : (u : List ℕ) → g ≡ r.front ++ u → ⊥
           longer [] h = read [] (sym (h ∙ append-nil r.front) ∙ sym (append-nil g))
           longer (z ∷ u) h =
-              omega (arith, ap length f, length-append r.front (symbol ∷ []), length-append g (x ∷ w), ap length h, length-append r.front (z ∷ u))
+              omega (
+                arith,
+                ap length f,
+                length-append r.front (symbol ∷ []),
+                length-append g (x ∷ w),
+                ap length h,
+                length-append r.front (z ∷ u),
+              )
 
 -- ---- pieces
 
@@ -126,34 +143,14 @@ many_push front more (u ∷ found) v h last = record {
 
 -- pieces alone are pieces to the end
 many_ends : (front : List ℕ) (found : List PieceContents) → many piece front found → ending front found
-many_ends front found h = record {
-  front = front;
-  behind = [];
-  v = found;
-  parts = sym (append-nil front);
-  of_first = h;
-  of_next =
-      record { front = []; behind = []; v = []; parts = refl; of_first = inr (record { empty = refl; is = refl }); of_next = record { empty = refl; is = sym (append-nil found) } };
-}
+many_ends front found h = then-spelled front [] found (sym (append-nil front)) h (then-spelled [] []
+    [] refl (inr none-spelled) (record { empty = refl; is = sym (append-nil found) }))
 
 -- a lone `\` behind pieces
 lone_ends : (front : List ℕ) (found : List PieceContents) → many piece front found
     → ending (front ++ 92 ∷ []) (found ++ Bytes (92 ∷ []) ∷ [])
-lone_ends front found h = record {
-  front = front;
-  behind = 92 ∷ [];
-  v = found;
-  parts = refl;
-  of_first = h;
-  of_next = record {
-    front = 92 ∷ [];
-    behind = [];
-    v = Bytes (92 ∷ []) ∷ [];
-    parts = refl;
-    of_first = inl (record { symbol = 92; alone = refl; listed = refl });
-    of_next = record { empty = refl; is = refl };
-  };
-}
+lone_ends front found h = then-spelled front (92 ∷ []) found refl h
+    (then-spelled (92 ∷ []) [] (Bytes (92 ∷ []) ∷ []) refl (inl (one-spelled 92 refl)) none-spelled)
 
 pub passes_more : (old middle rest : List ℕ) (v : PieceContents) → (middle ≡ [] → ⊥)
     → piece_at middle ≡ Ok (v, rest) → PassesPieces old middle → PassesPieces old rest
@@ -205,8 +202,7 @@ passes_all old p =
     ]
 
 ending_pieces : (text : List ℕ) (vs : List PieceContents) → ending text vs → pieces text (joined_texts vs)
-ending_pieces text vs h =
-    record { front = text; behind = []; v = vs; parts = sym (append-nil text); of_first = h; of_next = record { empty = refl; is = refl } }
+ending_pieces text vs h = then-spelled text [] vs (sym (append-nil text)) h none-spelled
 
 pub pieces_stop_whole : (old rest : List ℕ) → rest ≡ [] → PassesPieces old rest → Stops pieces old rest
 pieces_stop_whole old rest none p =
@@ -288,15 +284,12 @@ module _ (old t rest : List ℕ) (p : PassesPieces old (64 ∷ t)) (e : macro_at
   pieces_stop = record {
     front = p.front ++ r.front;
     parts = p.parts ∙ ap (λ s. p.front ++ s) r.parts ∙ sym (append_assoc p.front r.front rest);
-    viable = record {
-      more = r.viable.more;
-      v = joined_texts (p.found ++ r.viable.v ∷ []);
-      whole = subst (λ s. pieces s (joined_texts (p.found ++ r.viable.v ∷ [])))
-          (sym (append_assoc p.front r.front r.viable.more))
-          (ending_pieces (p.front ++ (r.front ++ r.viable.more)) (p.found ++ r.viable.v ∷ [])
-          (many_ends (p.front ++ (r.front ++ r.viable.more)) (p.found ++ r.viable.v ∷ [])
-          (many_push p.front (r.front ++ r.viable.more) p.found r.viable.v of_many (inr r.viable.whole))));
-    };
+    viable = viable-by r.viable.more (joined_texts (p.found ++ r.viable.v ∷ []))
+        (subst (λ s. pieces s (joined_texts (p.found ++ r.viable.v ∷ [])))
+        (sym (append_assoc p.front r.front r.viable.more))
+        (ending_pieces (p.front ++ (r.front ++ r.viable.more)) (p.found ++ r.viable.v ∷ [])
+        (many_ends (p.front ++ (r.front ++ r.viable.more)) (p.found ++ r.viable.v ∷ []) (many_push
+        p.front (r.front ++ r.viable.more) p.found r.viable.v of_many (inr r.viable.whole)))));
     halts = λ symbol others is viable. stopped symbol others is viable.more viable.v viable.whole;
   }
     where
@@ -316,7 +309,12 @@ module _ (old t rest : List ℕ) (p : PassesPieces old (64 ∷ t)) (e : macro_at
               → all_at piece_at (length ((r.front ++ symbol ∷ []) ++ more))
               ((r.front ++ symbol ∷ []) ++ more) ≡ Some ws → ⊥
           by_text [] same ws all =
-              omega (arith, ap length same, length-append (r.front ++ symbol ∷ []) more, length-append r.front (symbol ∷ []))
+              omega (
+                arith,
+                ap length same,
+                length-append (r.front ++ symbol ∷ []) more,
+                length-append r.front (symbol ∷ []),
+              )
           by_text (d ∷ s) same ws all = not_read symbol others more is d s same
               (first_is symbol others more is d s same) ws
               (subst (λ y. all_at piece_at (length y) y ≡ Some ws) same all)
@@ -393,19 +391,10 @@ module _ (old : List ℕ) (tested : is_tested old ≡ true) where
   no_test rest e = record {
     front = r.front;
     parts = r.parts;
-    viable = record {
-      more = r.viable.more;
-      v = record { test = Some r.viable.v; pieces = joined_texts [] };
-      whole = inl (record {
-        front = r.front ++ r.viable.more;
-        behind = [];
-        v = r.viable.v;
-        parts = sym (append-nil (r.front ++ r.viable.more));
-        of_first = r.viable.whole;
-        of_next =
-            record { front = []; behind = []; v = joined_texts []; parts = refl; of_first = ending_pieces [] [] (many_ends [] [] refl); of_next = record { empty = refl; is = refl } };
-      });
-    };
+    viable = viable-by r.viable.more (record { test = Some r.viable.v; pieces = joined_texts [] })
+        (inl (then-spelled (r.front ++ r.viable.more) [] r.viable.v
+        (sym (append-nil (r.front ++ r.viable.more))) r.viable.whole (then-spelled [] []
+        (joined_texts []) refl (ending_pieces [] [] (many_ends [] [] refl)) none-spelled)));
     halts = λ symbol others is viable. stopped symbol others is viable.more viable.v viable.whole;
   }
     where
@@ -426,19 +415,10 @@ module _ (old : List ℕ) (tested : is_tested old ≡ true) where
   behind_test found middle rest e s = record {
     front = q.0 ++ s.front;
     parts = q.1 ∙ ap (λ t. q.0 ++ t) s.parts ∙ sym (append_assoc q.0 s.front rest);
-    viable = record {
-      more = s.viable.more;
-      v = record { test = Some found; pieces = s.viable.v };
-      whole = inl (record {
-        front = q.0;
-        behind = s.front ++ s.viable.more;
-        v = found;
-        parts = append_assoc q.0 s.front s.viable.more;
-        of_first = q.2;
-        of_next =
-            record { front = s.front ++ s.viable.more; behind = []; v = s.viable.v; parts = sym (append-nil (s.front ++ s.viable.more)); of_first = s.viable.whole; of_next = record { empty = refl; is = refl } };
-      });
-    };
+    viable = viable-by s.viable.more (record { test = Some found; pieces = s.viable.v })
+        (inl (then-spelled q.0 (s.front ++ s.viable.more) found
+        (append_assoc q.0 s.front s.viable.more) q.2 (then-spelled (s.front ++ s.viable.more) []
+        s.viable.v (sym (append-nil (s.front ++ s.viable.more))) s.viable.whole none-spelled)));
     halts = λ symbol others is viable. stopped symbol others is viable.more viable.v viable.whole;
   }
     where
@@ -461,7 +441,8 @@ module _ (old : List ℕ) (tested : is_tested old ≡ true) where
           let line = h.of_next.parts ∙ ap (λ t. h.of_next.front ++ t) h.of_next.of_next.empty
           ∙ append-nil h.of_next.front in
           s.halts symbol others is
-          (record { more = more; v = h.of_next.v; whole = subst (λ t. pieces t h.of_next.v) (sym (left ∙ line)) h.of_next.of_first })
+          (viable-by more h.of_next.v
+          (subst (λ t. pieces t h.of_next.v) (sym (left ∙ line)) h.of_next.of_first))
       stopped symbol others is more v (inr h) =
           let whole : ((q.0 ++ s.front) ++ symbol ∷ []) ++ more ≡ q.0 ++ ((s.front ++ symbol ∷ []) ++ more) =
           ap (λ t. t ++ more) (append_assoc q.0 s.front (symbol ∷ []))
@@ -472,11 +453,8 @@ module _ (old : List ℕ) (tested : is_tested old ≡ true) where
 -- the line "x" is one
 some_line : Viable display_line []
 unfolding last_line_of pieces_of
-some_line = record {
-  more = codes "x";
-  v = untested_with (Bytes (codes "x") ∷ []);
-  whole = inr ((λ e. cc e), exact-last_line.spells (codes "x") (untested_with (Bytes (codes "x") ∷ [])) refl);
-}
+some_line = viable-by (codes "x") (untested_with (Bytes (codes "x") ∷ [])) (inr
+    ((λ e. cc e), exact-last_line.spells (codes "x") (untested_with (Bytes (codes "x") ∷ [])) refl))
 
 -- a line without a test
 pub without_test : (old rest : List ℕ) → is_tested old ≡ false → Stops pieces old rest → Stops display_line old rest
@@ -489,17 +467,15 @@ without_test old rest other s = record {
   where
     by_front : (front : List ℕ) → old ≡ front ++ rest → Viable pieces front → Viable display_line front
     by_front [] parts viable = some_line
-    by_front (c ∷ front) parts viable = record {
-      more = viable.more;
-      v = untested_with viable.v;
-      whole = inr (
-        (λ e. cc e),
-        (
-          subst (λ t. is_tested t ≡ false) parts other,
-          record { front = (c ∷ front) ++ viable.more; behind = []; v = viable.v; parts = sym (append-nil ((c ∷ front) ++ viable.more)); of_first = viable.whole; of_next = record { empty = refl; is = refl } },
-        ),
-      );
-    }
+    by_front (c ∷ front) parts viable = viable-by viable.more (untested_with viable.v)
+        (inr (
+          (λ e. cc e),
+          (
+            subst (λ t. is_tested t ≡ false) parts other,
+            then-spelled ((c ∷ front) ++ viable.more) [] viable.v
+                (sym (append-nil ((c ∷ front) ++ viable.more))) viable.whole none-spelled,
+          ),
+        ))
 
     stopped : (symbol : ℕ) (others : List ℕ) → rest ≡ symbol ∷ others
         → (more : List ℕ) (v : LineContents) → display_line ((s.front ++ symbol ∷ []) ++ more) v → ⊥
@@ -509,8 +485,8 @@ without_test old rest other s = record {
     stopped symbol others is more v (inr h) =
         let u = h.1.1 in
         let line = u.parts ∙ ap (λ t. u.front ++ t) u.of_next.empty ∙ append-nil u.front in
-        s.halts symbol others is (record
-        { more = more; v = u.v; whole = subst (λ t. pieces t u.v) (sym line) u.of_first })
+        s.halts symbol others is
+        (viable-by more u.v (subst (λ t. pieces t u.v) (sym line) u.of_first))
 
 -- ---- what calls say
 

@@ -94,8 +94,13 @@ module _ (file rest content behind line : List ℕ) (old new : Report)
       ++ row_of adds.verdict ∷ []))) (so_far.rows ++ row_of adds.verdict ∷ []) lines others
       → FindsIn (suc (length so_far.rows)) so_far.rows (line ∷ lines)
       (then_more (line_findings (suc (length so_far.rows)) so_far.rows line adds.verdict) others)
-  finds_line lines others finds =
-      (adds.verdict, adds.is, others, subst (λ n. FindsIn (suc n) (so_far.rows ++ row_of adds.verdict ∷ []) lines others) many_more finds, refl)
+  finds_line lines others finds = (
+    adds.verdict,
+    adds.is,
+    others,
+    subst (λ n. FindsIn (suc n) (so_far.rows ++ row_of adds.verdict ∷ []) lines others) many_more finds,
+    refl,
+  )
 
   module _ (other : opens_script content ≡ false) where
     front_is : front_lines (lines_of rest) ≡ line ∷ front_lines (lines_of behind)

@@ -15,6 +15,7 @@ use Rattle.ra_set.proofs.LineReaders.{firsts-item_row}
 use Rattle.ra_set.proofs.RowLines.{cut, line-row}
 use Rattle.ra_text.proofs.Tables.{OfEach, each-in}
 use Rattle.ra_review.specs.Lines.{Verdict, Accepts, Refuses, IsVerdict, opens_script, is_space}
+use Rattle.ra_text.proofs.Spelled.{none-spelled}
 
 -- ---- bytes of a line
 
@@ -87,7 +88,7 @@ not_script_line text other = by_letter (bytes_eq (codes "P") (content_of text)) 
 
 -- the empty text is an empty line
 pub empty_line : line [] None
-empty_line = inr (inr (inr (record { empty = refl; is = refl })))
+empty_line = inr (inr (inr none-spelled))
 
 pub empty_has_none : (l : Line) → line [] l → l ≡ None
 empty_has_none l (inl h) = absurd (begins-comment.not_empty l h)

@@ -106,7 +106,11 @@ script_within (line ∷ lines) others e = by_opens (opens_script (content_of lin
         → length (flat_map (λ line. line) others) ≤ length (flat_map (λ line. line) lines))
         → length (flat_map (λ line. line) others) ≤ length (line ++ flat_map (λ line. line) lines)
     by_opens true e next = let same : lines ≡ others = cc e in
-        omega (arith, ap (λ ls. length (flat_map (λ line. line) ls)) same, length-append line (flat_map (λ line. line) lines))
+        omega (
+          arith,
+          ap (λ ls. length (flat_map (λ line. line) ls)) same,
+          length-append line (flat_map (λ line. line) lines),
+        )
     by_opens false e next = let n = next e in omega (arith, n, length-append line (flat_map (λ line. line) lines))
 
 pub text_within : (file text : List ℕ) (report : Report) → ReportsFront file report (Some text)

@@ -115,8 +115,11 @@ script_judged number contents ended (Ends last) (Whole parts) tells judged = abs
 script_judged number contents ended (Ends last) (BadAt index place) tells judged = absurd judged
 script_judged number contents ended Letter v tells judged = absurd tells
 script_judged number contents ended (Opens behind) Missing tells judged = absurd judged
-script_judged number contents ended (Opens behind) (Whole parts) tells judged =
-    (refl, tells.3 ∙ ap (λ p. Some p) (parts-once behind tells.1 parts tells.2 (subst (λ t. script_parts t parts) (lines-whole behind) judged)))
+script_judged number contents ended (Opens behind) (Whole parts) tells judged = (
+  refl,
+  tells.3 ∙ ap (λ p. Some p) (parts-once behind tells.1 parts tells.2
+      (subst (λ t. script_parts t parts) (lines-whole behind) judged)),
+)
 script_judged number contents ended (Opens behind) (BadAt index place) tells judged =
     absurd (judged.outside.outside (script_of tells.1) (subst (λ t. script t (script_of tells.1))
     (sym (lines-whole behind)) (script-of_parts behind tells.1 tells.2)))

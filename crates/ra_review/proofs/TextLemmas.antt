@@ -22,5 +22,11 @@ pub blanks_before : (place start : ℕ) (line left : List ℕ) → start ≡ pla
 blanks_before place start line left is_start is_left =
     let here : left ≡ drop (place - 60) line = is_left ∙ ap (λ n. drop n line) is_start in
     let count : min (min (place - start) (length left)) 120 ≡ length (take (place - (place - 60)) (shown left)) =
-    omega (arith, is_start, length-take (place - (place - 60)) (shown left), length-map (take 120 left) shown_byte, length-take 120 left) in
+    omega (
+      arith,
+      is_start,
+      length-take (place - (place - 60)) (shown left),
+      length-map (take 120 left) shown_byte,
+      length-take 120 left,
+    ) in
     ap (λ n. replicate n 32) (count ∙ ap (λ t. length (take (place - (place - 60)) (shown t))) here)

@@ -49,8 +49,10 @@ item_has bytes at shape item far three fits s =
     ap length s.here ∙ length-append (item_bytes item) s.behind in
     let within : at + item_length shape ≤ length bytes =
     within_it bytes at (item_length shape) (some shape) (omega (arith, whole, long)) in
-    let block = (fitting ([] ∷ []) (shape ∷ []) (item ∷ []) [] [] refl (fits, tt) tt).0 in
-    ((omega (arith, far, within), within), passes (is_state (version_in bytes) shape (slice_index bytes at)) _ (block.good bytes at three s))
+    let block = (fitting ([] ∷ []) (shape ∷ []) (item ∷ []) [] [] refl (fits, tt) tt).0 in (
+      (omega (arith, far, within), within),
+      passes (is_state (version_in bytes) shape (slice_index bytes at)) _ (block.good bytes at three s),
+    )
   where
     within_it : (xs : List ℕ) (n m : ℕ) → 0 < m → m ≤ length (drop n xs) → n + m ≤ length xs
     within_it xs n m any less = omega (arith, any, less, length-drop n xs)

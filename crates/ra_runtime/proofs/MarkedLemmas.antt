@@ -14,8 +14,19 @@ use Rattle.ra_runtime.specs.Seen.{course_seen, IsCourse}
 
 -- the course with another table
 abbrev pub with_table : Inside → TableSeen → Inside
-with_table t table = record
-    { set = t.set; shape = t.shape; said = t.said; table = table; runs = t.runs; rests = t.rests; presence = t.presence; line_rests = t.line_rests; size = t.size; count = t.count; last = t.last }
+with_table t table = record {
+  set = t.set;
+  shape = t.shape;
+  said = t.said;
+  table = table;
+  runs = t.runs;
+  rests = t.rests;
+  presence = t.presence;
+  line_rests = t.line_rests;
+  size = t.size;
+  count = t.count;
+  last = t.last;
+}
 
 module _ (t : Inside) (is : IsCourse t) (table : TableSeen) (rest : table
     ≡ record t.table { marked = table.marked }) where

@@ -7,7 +7,14 @@ use Rattle.std.proofs.lemmas.List.{length-take-le, length-drop}
 pub row_long : (k : ℕ) (numbers olds : List ℕ) → length numbers ≡ length olds → k ≤ length numbers
     → length (take k numbers ++ drop k olds) ≡ length olds
 row_long k numbers olds same within =
-    omega (arith, length-append (take k numbers) (drop k olds), length-take-le k numbers within, length-drop k olds, same, within)
+    omega (
+      arith,
+      length-append (take k numbers) (drop k olds),
+      length-take-le k numbers within,
+      length-drop k olds,
+      same,
+      within,
+    )
 
 set_next : (k : ℕ) (numbers olds : List ℕ) → length numbers ≡ length olds → k < length numbers
     → slice_set (take k numbers ++ drop k olds) k (slice_index numbers k)

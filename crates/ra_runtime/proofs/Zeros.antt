@@ -79,7 +79,11 @@ presence_long : (shape : Option PresenceShape) → IfSome shape HasLines
     → length (concat (presence_block (option_map zero_presence shape))) ≡ script_length shape
 presence_long None lines = refl
 presence_long (Some shape) lines =
-    omega (arith, length_presence shape (zero_presence shape) (presence_fits (Some shape) lines), length-append (presence_bytes (zero_presence shape)) [])
+    omega (
+      arith,
+      length_presence shape (zero_presence shape) (presence_fits (Some shape) lines),
+      length-append (presence_bytes (zero_presence shape)) [],
+    )
 
 -- zeros stand where zeros are
 zeros_stand : (piece : List ℕ) (n : ℕ) → AreZeros piece → length piece ≤ n → replicate n 0
@@ -98,7 +102,13 @@ zero_blocks bytes shapes presence n lines far three rest is =
     let items = concat (map item_bytes (map plain_item shapes)) in
     let shown = concat (presence_block (option_map zero_presence presence)) in
     let long : length (items ++ shown) ≡ n =
-    omega (arith, is, length-append items shown, blocks_long shapes (map plain_item shapes) (plain_fits shapes), presence_long presence lines) in
+    omega (
+      arith,
+      is,
+      length-append items shown,
+      blocks_long shapes (map plain_item shapes) (plain_fits shapes),
+      presence_long presence lines,
+    ) in
     record {
       long = far;
       version = three;

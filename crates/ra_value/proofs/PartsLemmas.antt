@@ -148,8 +148,13 @@ module _ (truths : List Bool) (lefts hits sums numbers : List ℕ) where
       let kept = map (λ q. q.number) steps in
       let next : k + 1 ≡ length (parts ++ part ∷ []) = sym (length_push parts part) in
       record {
-        starts = omega
-            (arith, is_start, so.starts, sum_by-append (λ q. length (counted_in q)) parts (part ∷ []), sum_by-cons (λ q. length (counted_in q)) part []);
+        starts = omega (
+          arith,
+          is_start,
+          so.starts,
+          sum_by-append (λ q. length (counted_in q)) parts (part ∷ []),
+          sum_by-cons (λ q. length (counted_in q)) part [],
+        );
         reset =
             is_reset ∙ ap (λ b. b || s.reset) so.reset
             ∙ sym (ap (list_any (λ q. q.reset)) more ∙ any_push (λ q. q.reset) steps s);

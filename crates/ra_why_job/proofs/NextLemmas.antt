@@ -62,7 +62,11 @@ watched_more old new t size most text long is watches = record
 pub watched_on : (t : TriggerContents) (size most n : ℕ) (w : Watcher) → most < n
     → Watches t size (most + 1) w → Watches t size n w
 watched_on t size most n w less is =
-    record { trigger = is.trigger; long = is.long; watches = watching_to (most + 1) n w (omega (arith, less)) is.watches }
+    record {
+      trigger = is.trigger;
+      long = is.long;
+      watches = watching_to (most + 1) n w (omega (arith, less)) is.watches;
+    }
 
 -- and may step within a trace
 pub may_step : (most : ℕ) (w : Watcher) → most ≤ trace_limit → IsWatching most w → MayStep w
@@ -136,8 +140,10 @@ module _ (bytes : List ℕ) (m : Moment) (left : Pieces) (reader : ReaderSeen)
     pub next_empty : (at : ℕ) → at ≡ reader.next → IsEmptySlot entry m
         → IsReason found (stop_of bytes left) (watch.Trace (errors.Refused at EmptySlot))
     next_empty at place empty =
-        let end = left_empty bytes m reader left is entry stands_there empty in
-        (ap (λ (p : Pieces). frames_to (trigger_in old) m p.entries) end, ap (λ s. Some s) (ap (stop_of bytes) end ∙ ap (λ n. RefusedAt n EmptySlot) (sym place)))
+        let end = left_empty bytes m reader left is entry stands_there empty in (
+          ap (λ (p : Pieces). frames_to (trigger_in old) m p.entries) end,
+          ap (λ s. Some s) (ap (stop_of bytes) end ∙ ap (λ n. RefusedAt n EmptySlot) (sym place)),
+        )
 
     module _ (new : ReaderSeen) (behind : IsBehindRecord entry reader new) (holds : Holds new bytes) where
       -- the record was taken, and it was neither an unlock nor the end

@@ -101,8 +101,11 @@ module _ (content : List ℕ → Option (List ℕ)) (set trace : List ℕ) (id :
   -- where it is refused
   pub one_refused : (why : SetRefused) (status : ℕ) (text : List ℕ) → Refuses
       (take (most_bytes + 1) file) why → Says status text → Same 3 status (set_line why) text
-  one_refused why status text refuses (refuses_set other why' is refuses') =
-      (refl, ap set_line (one-refusal (take (most_bytes + 1) file) why why' refuses (subst (λ f. Refuses (take (most_bytes + 1) f) why') (same_file other is) refuses')))
+  one_refused why status text refuses (refuses_set other why' is refuses') = (
+    refl,
+    ap set_line (one-refusal (take (most_bytes + 1) file) why why' refuses
+        (subst (λ f. Refuses (take (most_bytes + 1) f) why') (same_file other is) refuses')),
+  )
   one_refused why status text refuses (lacks other s is a none) =
       absurd (never_refused file s why (subst (λ f. IsSet f s) (same_file other is) a) refuses)
   one_refused why status text refuses (tells other bytes s t status' text' is told a some says) =

@@ -153,8 +153,10 @@ module _ (id : ℕ) (t : TriggerContents) (bytes : List ℕ) (r : Reply) where
       → ((history : History) → Stands w history → r.text.items ≡ why_text id (trigger_in w)
       (length w.memory) history) → TraceSays id t bytes r.status r.text.items
   watched_says w same to done says =
-      reply_says 0 (why_text id t (trace_in bytes).size to.reached.history)
-      (done, says to.reached.history to.reached.stands ∙ (λ i. why_text id (same i) (to.size i) to.reached.history)) (accounts to.reached.history to.reached.is)
+      reply_says 0 (why_text id t (trace_in bytes).size to.reached.history) (
+        done,
+        says to.reached.history to.reached.stands ∙ (λ i. why_text id (same i) (to.size i) to.reached.history),
+      ) (accounts to.reached.history to.reached.is)
 
 -- a reply about a trace whose bytes may be told
 module _ (id : ℕ) (t : TriggerContents) (content : Option (List ℕ)) where

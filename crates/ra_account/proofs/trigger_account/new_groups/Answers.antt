@@ -9,7 +9,14 @@ use Rattle.ra_account.proofs.trigger_account.new_groups.Goals as goal
 
 pub new-requires : goal.new-requires
 new-requires c =
-    record { few = omega (arith, end_within c.args.groups.now c.loop-group.group-index c.group-item.result (omega (arith, c.loop-group-test.true)) c.group-item.is, c.requires.few) }
+    record {
+      few = omega (
+        arith,
+        end_within c.args.groups.now c.loop-group.group-index c.group-item.result
+            (omega (arith, c.loop-group-test.true)) c.group-item.is,
+        c.requires.few,
+      );
+    }
 
 pub loop-group-preserved : goal.loop-group-preserved
 loop-group-preserved c =

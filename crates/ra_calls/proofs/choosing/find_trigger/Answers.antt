@@ -9,4 +9,8 @@ pub returns-in-Ok : goal.returns-in-Ok
 returns-in-Ok c set is =
     let read = c.in-Ok.ensures.accepted set is in
     let same = c.trigger_of.ensures ∙ ap (λ (s : SetContents). trigger_of c.args.id s.items) read in
-    record { same = same; usable = found_usable c.args.id set c.trigger_of.result same (subst IsSpelled read c.in-Ok.ensures.structure) is.limits }
+    record {
+      same = same;
+      usable = found_usable c.args.id set c.trigger_of.result same
+          (subst IsSpelled read c.in-Ok.ensures.structure) is.limits;
+    }

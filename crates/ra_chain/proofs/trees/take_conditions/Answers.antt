@@ -13,8 +13,14 @@ use Rattle.ra_chain.proofs.trees.take_conditions.Goals as goal
 pub take_condition-requires-clause-room : goal.take_condition-requires-clause-room
 take_condition-requires-clause-room c = record {
   pool = c.loop-place.invariant.kept.pool;
-  room = omega
-      (arith, c.loop-place.invariant.kept.adds.nodes_too, c.requires.room.room, c.loop-place-test.true, ap length c.requires.order, order_length c.args.conditions.now);
+  room = omega (
+    arith,
+    c.loop-place.invariant.kept.adds.nodes_too,
+    c.requires.room.room,
+    c.loop-place-test.true,
+    ap length c.requires.order,
+    order_length c.args.conditions.now,
+  );
 }
 
 pub take_condition-requires-clause-within : goal.take_condition-requires-clause-within
@@ -85,7 +91,13 @@ returns-clause-grows c =
 pub returns-clause-kept : goal.returns-clause-kept
 returns-clause-kept c =
     let end : c.loop-place.place-index ≡ length c.args.conditions.now =
-    omega (arith, c.loop-place-test.false, c.loop-place.auto.place-index-end, ap length c.requires.order, order_length c.args.conditions.now) in
+    omega (
+      arith,
+      c.loop-place-test.false,
+      c.loop-place.auto.place-index-end,
+      ap length c.requires.order,
+      order_length c.args.conditions.now,
+    ) in
     subst (λ k. IsKept c.args.pool.now c.loop-place.pool (12 * k) (2 * k) (2 * k)) end c.loop-place.invariant.kept
 
 pub returns-in_err-take_condition-clause-kept : goal.returns-in_err-take_condition-clause-kept

@@ -90,5 +90,7 @@ returns-clause-exact c =
     (subst (λ (o : Option (Vec ChangesSeen)). IsTrace t (joined c.in_ok-rows.rows) e.since e.last
     (option_map (λ v. events_of v.items) o)) c.in-None.is c.in_ok-changes.ensures) in
     let many : length (contents_of e.events.items) ≡ trigger_hits t =
-    length-map e.events.items (λ (o : Events). o.list.items) ∙ c.requires.events in
-    (λ bad. absurd (false≢true bad), λ x. absurd (never_strays t rows (explanation_contents e) c.requires.since many x stray))
+    length-map e.events.items (λ (o : Events). o.list.items) ∙ c.requires.events in (
+      λ bad. absurd (false≢true bad),
+      λ x. absurd (never_strays t rows (explanation_contents e) c.requires.since many x stray),
+    )

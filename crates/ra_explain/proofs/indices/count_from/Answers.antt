@@ -20,4 +20,9 @@ loop-at-preserved c =
 pub returns : goal.returns
 returns c = λ width truths.
     let none : c.loop-at.at ≡ 0 = omega (arith, c.loop-at-test.false) in
-    omega (arith, c.loop-at.invariant.rows width truths, ap (λ n. length (rows_from (behind_each width truths c.args.links.now) n)) none, ap length (none_first width truths c.args.links.now))
+    omega (
+      arith,
+      c.loop-at.invariant.rows width truths,
+      ap (λ n. length (rows_from (behind_each width truths c.args.links.now) n)) none,
+      ap length (none_first width truths c.args.links.now),
+    )

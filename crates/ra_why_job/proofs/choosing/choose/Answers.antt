@@ -11,5 +11,8 @@ returns-in-Some c =
     (sym c.trigger_of.ensures ∙ ap (option_map trigger_contents) c.in-Some.is)
 
 pub returns-in-None : goal.returns-in-None
-returns-in-None c =
-    (set_contents c.in-Ok.set, c.in-Ok.ensures.ok, sym c.trigger_of.ensures ∙ ap (option_map trigger_contents) c.in-None.is)
+returns-in-None c = (
+  set_contents c.in-Ok.set,
+  c.in-Ok.ensures.ok,
+  sym c.trigger_of.ensures ∙ ap (option_map trigger_contents) c.in-None.is,
+)

@@ -12,8 +12,11 @@ loop-init g c = record {
   limit = c.requires.ready.limit;
   within = c.requires.ready.within;
   watches = record { trigger = refl; long = refl; watches = c.requires.ready.watches };
-  stays = record
-      { same = record { each = λ name. refl }; reads = record { each = λ name. omega arith }; puts = record { each = λ name. omega arith } };
+  stays = record {
+    same = record { each = λ name. refl };
+    reads = record { each = λ name. omega arith };
+    puts = record { each = λ name. omega arith };
+  };
 }
 
 pub watch_next-requires-clause-size : goal.watch_next-requires-clause-size

@@ -30,7 +30,11 @@ returns-in_err-size-clause-ends g c = λ bytes is_told.
 pub watch-requires : goal.watch-requires
 watch-requires g c =
     let limit : c.in_ok-reader.reader.limit ≡ trace_limit = ap (λ r. r.limit) c.in_ok-reader.ensures in
-    record { ready = ready_so _ c.in_ok-size.size c.in_ok-reader.reader c.header.new.self c.in_ok-watcher.watcher limit c.in_ok-size.ensures.seen c.in_ok-watcher.ensures.made c.in_ok-watcher.ensures.watches }
+    record {
+      ready = ready_so _ c.in_ok-size.size c.in_ok-reader.reader c.header.new.self
+          c.in_ok-watcher.watcher limit c.in_ok-size.ensures.seen c.in_ok-watcher.ensures.made
+          c.in_ok-watcher.ensures.watches;
+    }
 
 pub returns-in_err-watch-clause-ends : goal.returns-in_err-watch-clause-ends
 returns-in_err-watch-clause-ends g c = λ bytes is_told.

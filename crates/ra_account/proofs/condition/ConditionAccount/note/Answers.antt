@@ -27,7 +27,14 @@ returns-clause-noted c = λ earlier known.
     let here = known.columns.columns_too.frames in
     let there = stands.account.columns.columns_too.frames in
     let long : length earlier ≡ c.args.at =
-    omega (arith, here, there, length-map earlier (λ (f : Facts). f.counts), length-map stands.frames (λ (f : Facts). f.counts), stands.long) in
+    omega (
+      arith,
+      here,
+      there,
+      length-map earlier (λ (f : Facts). f.counts),
+      length-map stands.frames (λ (f : Facts). f.counts),
+      stands.long,
+    ) in
     let counts : List Bool = map (λ (f : Facts). f.counts) earlier in
     let past : List Bool = map (λ (f : Facts). f.past) earlier in
     let one : c.args.at + 1 - c.args.at ≡ 1 = omega arith in

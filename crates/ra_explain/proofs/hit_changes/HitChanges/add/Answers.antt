@@ -14,8 +14,12 @@ invariant_of-self-2 c =
     ∙ changed_more (unchanged t.since) t.list.items c.between.result ∙ ap (with_row seen) left in
     record {
       hits = sym (ap (λ (o : ChangesSeen). o.hits) more);
-      room = omega
-          (arith, ap (λ (o : ChangesSeen). o.row) more, ap (λ (o : ChangesSeen). o.row) c.self.view_is, c.requires.room);
+      room = omega (
+        arith,
+        ap (λ (o : ChangesSeen). o.row) more,
+        ap (λ (o : ChangesSeen). o.row) c.self.view_is,
+        c.requires.room,
+      );
     }
 
 pub returns : goal.returns

@@ -34,7 +34,11 @@ invariant_of-result c =
       rows_few = subst (λ n. n * (trigger_hits t + 1) ≤ most_rows) (sym frames) few;
       latest = omega (arith, one);
       somewhere =
-          record { history = []; stands = subst (λ rs. StandsFor t (kept_by table run.trigger rs) []) (sym none) (stands_first t c.args.size table run laid) };
+          record {
+            history = [];
+            stands = subst (λ rs. StandsFor t (kept_by table run.trigger rs) []) (sym none)
+                (stands_first t c.args.size table run laid);
+          };
       unlock = λ is. absurd (false≢true is);
       sixteen = ap length c.in_ok-slots.ensures ∙ length-replicate {A = Option Slot} 16 None;
       slots_fit = subst (AllByRecursion (FitsOptional t rows.behind)) (sym c.in_ok-slots.ensures)

@@ -35,8 +35,10 @@ invariant_of-self c =
     c.deref-2.ensures.value c.put_back-2.ensures in
     record {
       few = inv.few;
-      over = record
-          { cells = ap cells_of c.put_back.ensures.pool.0 ∙ inv.over.cells; tracked = ap tracked_of c.put_back.ensures.pool.0 ∙ inv.over.tracked };
+      over = record {
+        cells = ap cells_of c.put_back.ensures.pool.0 ∙ inv.over.cells;
+        tracked = ap tracked_of c.put_back.ensures.pool.0 ∙ inv.over.tracked;
+      };
       run_too = record {
         laid = subst (λ (ns : List Node). IsLaid ns (groups_of t) r.run.laid)
             (sym c.put_back.ensures.pool.0) inv.run_too.laid;
@@ -68,13 +70,23 @@ returns-clause-restored c =
     c.deref-2.ensures.value c.put_back-2.ensures in
     let marked = c.put_back.ensures.marked ∙ ap (λ n. replicate n true)
     (length-words_at c.deref.result.now 0 (length r.table.cells) ∙ counts.cells) in
-    let new : RecordingSeen = record (recording_seen r)
-    { size = table.size; kept = kept_by table c.put_back-2.new.self (rows_from r.rows.behind slot.latest); unlocked = false; marked = table.marked; places = table.places } in
+    let new : RecordingSeen = record (recording_seen r) {
+      size = table.size;
+      kept = kept_by table c.put_back-2.new.self (rows_from r.rows.behind slot.latest);
+      unlocked = false;
+      marked = table.marked;
+      places = table.places;
+    } in
     subst (λ (old : RecordingSeen). TakesUp old new c.args.slot) c.self.view_is
     (λ kept holds.
     let is = taken ∙ slot_is t r.rows.behind r.slots.items c.args.slot slot kept here holds in
-    (λ i. record (recording_seen r)
-    { size = c.put_back.ensures.pool.1 i; kept = is i; unlocked = false; marked = marked i; places = c.put_back.ensures.places i }))
+    (λ i. record (recording_seen r) {
+      size = c.put_back.ensures.pool.1 i;
+      kept = is i;
+      unlocked = false;
+      marked = marked i;
+      places = c.put_back.ensures.places i;
+    }))
 
 pub returns-clause-current : goal.returns-clause-current
 returns-clause-current c image =
@@ -82,4 +94,5 @@ returns-clause-current c image =
     let over = c.self.invariant.over in
     let pool = c.put_back.ensures.pool.0 in
     current_agrees (trigger_contents r.text) c.put_back.new.self image
-    (record { cells = ap cells_of pool ∙ over.cells; tracked = ap tracked_of pool ∙ over.tracked }) (Agrees-marked c.put_back.new.self image _ c.put_back.ensures.marked)
+    (record { cells = ap cells_of pool ∙ over.cells; tracked = ap tracked_of pool ∙ over.tracked })
+    (Agrees-marked c.put_back.new.self image _ c.put_back.ensures.marked)

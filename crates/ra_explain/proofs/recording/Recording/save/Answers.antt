@@ -41,8 +41,9 @@ returns-clause-saved c =
     r.run.trigger (rows_from r.rows.behind r.latest) inv.run_too.hits inv.somewhere in
     let slots = slot_set t r.table r.run.trigger r.rows.behind r.latest r.slots.items c.from.result
     c.args.slot c.in_ok-kept.kept counts c.in_ok-kept.ensures c.from.ensures in
-    subst (λ (old : RecordingSeen). SavesIn old (record (recording_seen r)
-    { slots = slots_kept t r.rows.behind (slice_set r.slots.items c.from.result (Some c.in_ok-kept.kept)) }) c.args.slot) c.self.view_is
+    subst (λ (old : RecordingSeen). SavesIn old (record (recording_seen r) {
+      slots = slots_kept t r.rows.behind (slice_set r.slots.items c.from.result (Some c.in_ok-kept.kept));
+    }) c.args.slot) c.self.view_is
     (ap (λ (ks : List (Option KeptRows)). record (recording_seen r) { slots = ks }) slots)
 
 pub returns-clause-slots : goal.returns-clause-slots

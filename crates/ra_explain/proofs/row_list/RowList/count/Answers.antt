@@ -6,7 +6,13 @@ use Rattle.ra_explain.proofs.row_list.RowList.count.Goals as goal
 pub count_from-requires-clause-there : goal.count_from-requires-clause-there
 count_from-requires-clause-there c =
     let t = c.self.inside in
-    omega (arith, length_behind t.width ([] ∷ []) t.truths.items t.links.items, ap (λ (r : RowsSeen). length r.behind) c.self.view_is, c.requires, ap length c.deref.ensures.value)
+    omega (
+      arith,
+      length_behind t.width ([] ∷ []) t.truths.items t.links.items,
+      ap (λ (r : RowsSeen). length r.behind) c.self.view_is,
+      c.requires,
+      ap length c.deref.ensures.value,
+    )
 
 pub returns : goal.returns
 returns c =

@@ -51,7 +51,15 @@ returns c =
     ∙ put_last xs t.truths.items row from c.deref_mut.ensures.value in
     let fits : length (take from t.truths.items ++ row) ≡ t.truths.len =
     length-append (take from t.truths.items) row
-    ∙ omega (arith, length-take-le from t.truths.items (omega (arith, many)), long, many, room, c.self.invariant.whole, t.truths.ok.0) in
+    ∙ omega (
+      arith,
+      length-take-le from t.truths.items (omega (arith, many)),
+      long,
+      many,
+      room,
+      c.self.invariant.whole,
+      t.truths.ok.0,
+    ) in
     let now : (with_items t.truths (take from xs
     ++ (c.read_row.new.row ++ drop (length xs - from) (drop from xs)))).items
     ≡ take from t.truths.items ++ row = with_items_is t.truths (take from xs ++ (c.read_row.new.row

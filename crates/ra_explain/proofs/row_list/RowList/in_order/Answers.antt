@@ -9,7 +9,13 @@ use Rattle.ra_explain.proofs.row_list.RowList.in_order.Goals as goal
 pub indices_from-requires-clause-there : goal.indices_from-requires-clause-there
 indices_from-requires-clause-there c =
     let t = c.self.inside in
-    omega (arith, length_behind t.width ([] ∷ []) t.truths.items t.links.items, ap (λ (r : RowsSeen). length r.behind) c.self.view_is, c.requires, ap length c.deref.ensures.value)
+    omega (
+      arith,
+      length_behind t.width ([] ∷ []) t.truths.items t.links.items,
+      ap (λ (r : RowsSeen). length r.behind) c.self.view_is,
+      c.requires,
+      ap length c.deref.ensures.value,
+    )
 
 order_within : (width : ℕ) (truths : List Bool) (links ls indices order : List ℕ) (place : ℕ)
     → length truths ≡ length links * width → ls ≡ links → order ≡ reverse indices

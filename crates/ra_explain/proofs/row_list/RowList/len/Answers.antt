@@ -6,4 +6,10 @@ use Rattle.ra_explain.proofs.row_list.RowList.len.Goals as goal
 pub returns : goal.returns
 returns c =
     let t = c.self.inside in
-    omega (arith, length_behind t.width ([] ∷ []) t.truths.items t.links.items, ap (λ (r : RowsSeen). length r.behind) c.self.view_is, c.len.ensures, t.links.ok.0)
+    omega (
+      arith,
+      length_behind t.width ([] ∷ []) t.truths.items t.links.items,
+      ap (λ (r : RowsSeen). length r.behind) c.self.view_is,
+      c.len.ensures,
+      t.links.ok.0,
+    )

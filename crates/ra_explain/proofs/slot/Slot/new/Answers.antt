@@ -16,6 +16,12 @@ returns c =
     let numbers : c.put_words-3.new.bytes.items ≡ words table.cells ++ words table.priors =
     c.in_ok-put_words-3.ensures.words ∙ ap₂ (λ xs ys. xs ++ words ys) cells c.priors.ensures in
     slot_of table trigger
-    (record { state = c.state-state.result; measured = c.measured-measured.result; hits = c.put_words.new.bytes; numbers = c.put_words-3.new.bytes; latest = c.args.latest }) c.state-state.ensures c.measured-measured.ensures hits numbers
+    (record {
+      state = c.state-state.result;
+      measured = c.measured-measured.result;
+      hits = c.put_words.new.bytes;
+      numbers = c.put_words-3.new.bytes;
+      latest = c.args.latest;
+    }) c.state-state.ensures c.measured-measured.ensures hits numbers
     (subst FitWords c.hits.ensures c.put_words.ensures.fit) (subst FitWords c.cells.ensures
     c.put_words-2.ensures.fit) (subst FitWords c.priors.ensures c.put_words-3.ensures.fit)

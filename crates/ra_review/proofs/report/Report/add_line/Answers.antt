@@ -21,7 +21,11 @@ returns-in-Ok-None c = λ rows found h.
     let other = ap (bytes_eq (codes "P")) (sym c.requires.content) ∙ sym c.if-is_text.ensures in
     record {
       verdict = Accepts None;
-      is = inr (other, subst (λ o. ContainsAlone c.args.line.now (option_map item_contents o)) c.in-Ok-None.field-0-is c.in-Ok-None.ensures.ok);
+      is = inr (
+        other,
+        subst (λ o. ContainsAlone c.args.line.now (option_map item_contents o))
+            c.in-Ok-None.field-0-is c.in-Ok-None.ensures.ok,
+      );
       reports = adds_none _ rows found
           (counted c.args.self.now _ rows found refl refl refl refl c.in_ok-self.ensures h);
     }
@@ -32,7 +36,11 @@ returns-in-Ok-Some c =
     on_ok c.add_item.result _ _
     (λ adds rows found h. record {
       verdict = Accepts (Some (item_contents c.in-Ok-Some.item));
-      is = inr (other, subst (λ o. ContainsAlone c.args.line.now (option_map item_contents o)) c.in-Ok-Some.field-0-is c.in-Ok-Some.ensures.ok);
+      is = inr (
+        other,
+        subst (λ o. ContainsAlone c.args.line.now (option_map item_contents o))
+            c.in-Ok-Some.field-0-is c.in-Ok-Some.ensures.ok,
+      );
       reports = adds rows found (counted c.args.self.now _ rows found refl refl refl refl c.in_ok-self.ensures h);
     })
     c.add_item.ensures

@@ -21,7 +21,13 @@ pub earn_runs-requires : goal.earn_runs-requires
 earn_runs-requires c =
     let t = c.self.inside in
     let items = (set_contents t.set).items in
-    omega (arith, c.requires, ap length c.deref_mut.ensures.value, length_runs t.table.nodes items t.runs.items c.self.invariant.runs, ap (λ (r : CourseSeen). length r.set.items) c.self.view_is)
+    omega (
+      arith,
+      c.requires,
+      ap length c.deref_mut.ensures.value,
+      length_runs t.table.nodes items t.runs.items c.self.invariant.runs,
+      ap (λ (r : CourseSeen). length r.set.items) c.self.view_is,
+    )
 
 pub invariant_of-self : goal.invariant_of-self
 invariant_of-self c =
@@ -61,8 +67,12 @@ returns c =
     let olds = t.runs.items in
     let news = c.earn_runs.new.runs in
     let runs = (with_items t.runs news).items in
-    let many : length olds ≤ length earned = omega
-    (arith, c.requires, length_runs t.table.nodes set.items olds c.self.invariant.runs, ap (λ (r : CourseSeen). length r.set.items) c.self.view_is) in
+    let many : length olds ≤ length earned = omega (
+      arith,
+      c.requires,
+      length_runs t.table.nodes set.items olds c.self.invariant.runs,
+      ap (λ (r : CourseSeen). length r.set.items) c.self.view_is,
+    ) in
     let same : runs ≡ earned_runs earned olds =
     with_items_is t.runs news (c.earn_runs.auto.runs ∙ c.deref_mut.ensures.len)
     ∙ c.earn_runs.ensures ∙ ap (earned_runs earned) c.deref_mut.ensures.value in

@@ -36,7 +36,12 @@ pub note_blocks-requires-clause-many : goal.note_blocks-requires-clause-many
 note_blocks-requires-clause-many c =
     let t = c.self.inside in
     let inv = c.self.invariant in
-    omega (arith, ap length c.deref.ensures.value, length_runs t.table.nodes (set_contents t.set).items t.runs.items inv.runs, inv.rests.many)
+    omega (
+      arith,
+      ap length c.deref.ensures.value,
+      length_runs t.table.nodes (set_contents t.set).items t.runs.items inv.runs,
+      inv.rests.many,
+    )
 
 pub note_blocks-requires-clause-fit : goal.note_blocks-requires-clause-fit
 note_blocks-requires-clause-fit c =
