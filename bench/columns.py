@@ -3,9 +3,10 @@
 
 usage: bench/columns.py FOLDER-OR-FILE..
 
-A line is broken where `rt fmt` keeps the break: outside records and parentheses with a comma of their own, which it would put on a
-line for each field. So run `rt fmt` in the crate afterwards, and break what is left by hand: a `let` for a long fact of an `omega (..)`, a
-record by fields. Pieces have at most 100 columns, since a proof line counts once for each 100 columns begun.
+A line is broken where `rt fmt` keeps the break: outside records and parentheses with a comma of their own. Pieces have at most 100
+columns, since a proof line counts once for each 100 columns begun. A line that stays too long is opened after the bracket of its longest
+record or of such parentheses, and `rt fmt` then puts each field on a line of its own. So run both by turns until nothing is printed, and
+break a long string by hand.
 """
 
 import os
@@ -36,8 +37,20 @@ def characters(line):
             yield at, character
 
 
+def groups(line):
+    """Returns the first and the last place of what stays on one line: records, and parentheses with a comma of their own."""
+    opened, found, whole = [], [], kept_whole(line)
+    for at, character in characters(line):
+        if character in OPENS:
+            opened.append(at)
+        elif character in CLOSES and opened:
+            found.append((opened.pop(), at))
+    found += [(at, len(line)) for at in opened]
+    return [it for it in found if it[0] in whole]
+
+
 def kept_whole(line):
-    """Returns where what is opened stays on one line: records, and parentheses with a comma of their own."""
+    """Returns where such records and parentheses are opened."""
     opened, whole = [], set()
     for at, character in characters(line):
         if character in OPENS:
@@ -102,6 +115,16 @@ def pieces(line):
     return [*done, line]
 
 
+def opened(line):
+    """Returns a line in two, after the bracket that opens its longest record or parentheses, or as it is where it has none."""
+    found = groups(line)
+    if len(line) <= MOST or not found:
+        return [line]
+    at, _ = max(found, key=lambda it: it[1] - it[0])
+    indent = len(line) - len(line.lstrip(" "))
+    return [line[: at + 1], " " * (indent + 10) + line[at + 1 :].lstrip(" ")]
+
+
 def comment(line):
     """Returns a long comment in lines."""
     front = " " * (len(line) - len(line.lstrip(" "))) + "--"
@@ -133,7 +156,10 @@ def broken(line):
         return comment(line)
     if re.match(r"(pub |unfoldable )*use [^{]*\{[^{}]*\}$", line):
         return imports(line)
-    return [line] if any(line.startswith(" -- ", at) for at, _ in characters(line)) else pieces(line)
+    if any(line.startswith(" -- ", at) for at, _ in characters(line)):
+        return [line]
+    done = pieces(line)
+    return done if len(done) > 1 else opened(line)
 
 
 def main(places):
