@@ -45,12 +45,12 @@ impl Model for Judge {
 
 impl Judge {
     // A memory of 64 zeros.
-    fn new(alloc: Global, pool: Pool, comparisons: &Comparisons) -> Result<Judge, OutOfMemory>
+    fn new(alloc: Global, pool: Pool, comparisons: Comparisons) -> Result<Judge, OutOfMemory>
         requires few { length pool < 2 ^ 30 }
-        requires over { AreOver pool comparisons.now }
+        requires over { AreOver pool comparisons }
     {
         let memory = Memory::new(alloc, 64)?;
-        let truths = Truths::new(alloc, comparisons, pool.len())?;
+        let truths = Truths::of(alloc, comparisons, pool.len())?;
         let table = Table::new(alloc, pool, 64)?;
         Ok(Judge {
             table,
@@ -136,7 +136,7 @@ fn comparisons_over(alloc: Global, pool: &Pool, comparisons: &[Sides]) -> Result
 fn judge_of(alloc: Global, nodes: &[Node], comparisons: &[Sides]) -> Result<Judge, Fail> {
     let pool = pool_of(alloc, nodes)?;
     let comparisons = comparisons_over(alloc, &pool, comparisons)?;
-    let judge = Judge::new(alloc, pool, &comparisons)?;
+    let judge = Judge::new(alloc, pool, comparisons)?;
     Ok(judge)
 }
 

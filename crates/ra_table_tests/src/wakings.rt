@@ -13,7 +13,7 @@ fn noted(alloc: Global) -> Result<Readers, OutOfMemory>
 {
     let mut noted = NotedReaders::new(alloc, 3, 3)?;
     note_all(&mut noted)?;
-    Readers::new(alloc, &noted)
+    Readers::new(alloc, noted)
 }
 
 fn note_all(noted: &mut NotedReaders) -> Result<(), OutOfMemory>

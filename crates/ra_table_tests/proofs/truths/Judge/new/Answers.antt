@@ -4,9 +4,9 @@ use Rattle.ra_truths.specs.Comparisons.{AreOver, IsWithin, comparison_at}
 use Rattle.ra_truths.specs.Truths.{TruthsSeen}
 use Rattle.ra_table_tests.proofs.truths.Judge.new.Goals as goal
 
-pub new-requires-2-clause-within : goal.new-requires-2-clause-within
-new-requires-2-clause-within c = λ k below.
-    subst (λ n. IsWithin n (comparison_at c.args.comparisons.now k)) (sym c.len.ensures.len)
+pub of-requires-clause-within : goal.of-requires-clause-within
+of-requires-clause-within c = λ k below.
+    subst (λ n. IsWithin n (comparison_at c.args.comparisons k)) (sym c.len.ensures.len)
     (c.requires.over k below).within
 
 pub invariant_of-result : goal.invariant_of-result
