@@ -12,7 +12,7 @@ use Rattle.ra_schedule.specs.declared.member_counts.MemberCounts.{MemberCounts}
 use Rattle.ra_schedule.specs.Inputs.{Instant, MemberSeesSame}
 use Rattle.ra_schedule.specs.Readers.{ReadersSeen}
 use Rattle.ra_truths.specs.Truths.{TruthsSeen}
-use Rattle.ra_schedule.specs.Schedules.{ScheduleSeen, forgotten, no_truths, nothing_owed, owed_at, seen_all}
+use Rattle.ra_schedule.specs.Schedules.{ScheduleSeen, no_truths, nothing_owed, owed_at, seen_all}
 use Rattle.ra_schedule.specs.Signals.{AreSignals, SignalsSeen}
 use Rattle.ra_schedule.proofs.MembersRest.SeenAll.{heard_forgotten, heard_new, nothing_at_rest, nothing_owed_at}
 use Rattle.ra_schedule.proofs.MembersRest.SeenAll.{seen_awake}
@@ -62,15 +62,15 @@ all_made nodes values lines runs signals rests made is rooms holds = record {
 }
 
 -- rests of which none rests are those of any runs of their lines
-pub forgotten_rests : (nodes : List Node) (values later : List ℕ) (lines : List LineContents)
+pub forgotten_rests : (nodes : List Node) (values : List ℕ) (lines : List LineContents)
     (before runs : List Member) (old new : LineRests) → AreLineRests nodes values lines before old
     → new.each.items ≡ old.each.items → new.schedule
-    ≡ nothing_owed old.schedule.readers (forgotten old.schedule.truths) old.schedule.clock
-    → new.holds ≡ old.holds → AreLineRests nodes later lines runs new
-forgotten_rests nodes values later lines before runs old new are each is holds = record {
+    ≡ nothing_owed old.schedule.readers old.schedule.truths old.schedule.clock
+    → new.holds ≡ old.holds → AreLineRests nodes values lines runs new
+forgotten_rests nodes values lines before runs old new are each is holds = record {
   many = ap length each ∙ are.many;
   holds = ap length holds ∙ are.holds;
-  heard = heard_forgotten nodes values later old.schedule new.schedule are.heard is;
+  heard = heard_forgotten nodes values old.schedule new.schedule are.heard is;
   told_of = λ k within line.
       told_by_rows (λ (now later : Instant). MemberSeesSame now later
       (line_member (get_or lines k line))) nodes old.schedule new.schedule k
@@ -79,5 +79,5 @@ forgotten_rests nodes values later lines before runs old new are each is holds =
   room = λ k within line c. subst (λ (cs : List MemberCounts). HasLineRoom (get_or lines k line)
       (get_or cs k c)) (sym each) (are.room k within line c);
   at_rest = nothing_at_rest _ (length lines) old.schedule.readers
-      (forgotten old.schedule.truths) old.schedule.clock new.schedule is are.at_rest.due_many;
+      old.schedule.truths old.schedule.clock new.schedule is are.at_rest.due_many;
 }

@@ -156,23 +156,23 @@ were_rests table values (Some script) (Some run) rests changed are =
 
 -- rests that are given up are those of any lines, and nothing is owed
 pub record IsForgotten (old new : LineRests) : Type 0 where
-  pub each : (nodes : List Node) (values later : List ℕ) (lines : List LineContents)
+  pub each : (nodes : List Node) (values : List ℕ) (lines : List LineContents)
       (before runs : List Member) → AreLineRests nodes values lines before old
-      → AreLineRests nodes later lines runs new
+      → AreLineRests nodes values lines runs new
   pub kept : (runs : List Member) → length runs ≡ length old.each.items → seen_lines runs new ≡ map kept_by runs
 
-pub rests_forgotten : (nodes : List Node) (values later : List ℕ) (script : Option ScriptContents)
+pub rests_forgotten : (nodes : List Node) (values : List ℕ) (script : Option ScriptContents)
     (before run : Option PresenceRun) (old new : LineRests) → IsOptionalPresence nodes script before
     → IsOptionalPresence nodes script run
     → AreOptionalRests nodes values script before old → IsForgotten old new → AreOptionalRests nodes
-    later script run new × (optional_presence_seen run new ≡ optional_presence_kept run)
-rests_forgotten nodes values later None None None old new was is are gone = (tt, refl)
-rests_forgotten nodes values later None None (Some run) old new was is are gone = absurd is
-rests_forgotten nodes values later None (Some before) run old new was is are gone = absurd was
-rests_forgotten nodes values later (Some script) None run old new was is are gone = absurd was
-rests_forgotten nodes values later (Some script) (Some before) None old new was is are gone = absurd is
-rests_forgotten nodes values later (Some script) (Some before) (Some run) old new was is are gone =
+    values script run new × (optional_presence_seen run new ≡ optional_presence_kept run)
+rests_forgotten nodes values None None None old new was is are gone = (tt, refl)
+rests_forgotten nodes values None None (Some run) old new was is are gone = absurd is
+rests_forgotten nodes values None (Some before) run old new was is are gone = absurd was
+rests_forgotten nodes values (Some script) None run old new was is are gone = absurd was
+rests_forgotten nodes values (Some script) (Some before) None old new was is are gone = absurd is
+rests_forgotten nodes values (Some script) (Some before) (Some run) old new was is are gone =
     let same = gone.kept run.lines.items (length_runs nodes script.lines run.lines.items is.lines ∙ sym are.many) in (
-      gone.each nodes values later script.lines before.lines.items run.lines.items are,
+      gone.each nodes values script.lines before.lines.items run.lines.items are,
       (λ i. Some (kept_display (record { shown = run.shown; lines = same i }))),
     )

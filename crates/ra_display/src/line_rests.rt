@@ -136,8 +136,8 @@ impl LineRests {
 
     /// No line rests any longer, and each is due. What they owe is given up.
     pub fn forget(&mut self)
-        ensures each { (nodes : List Node) (values later : List ℕ) (lines : List LineContents) (before runs : List Member)
-            → AreLineRests nodes values lines before self.old → AreLineRests nodes later lines runs self.new }
+        ensures each { (nodes : List Node) (values : List ℕ) (lines : List LineContents) (before runs : List Member)
+            → AreLineRests nodes values lines before self.old → AreLineRests nodes values lines runs self.new }
         ensures kept { (runs : List Member) → length runs ≡ length self.old.each.items → seen_lines runs self.new ≡ map kept_by runs }
     {
         self.schedule.forget();

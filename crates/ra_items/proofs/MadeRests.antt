@@ -9,7 +9,7 @@ use Rattle.ra_schedule.specs.Readers.{ReadersSeen}
 use Rattle.ra_schedule.specs.Signals.{AreSignals, SignalsSeen}
 use Rattle.ra_set.specs.Contents.{ItemContents}
 use Rattle.ra_progress.specs.Contents.{KeptItem}
-use Rattle.ra_schedule.specs.Schedules.{ScheduleSeen, forgotten, no_truths, nothing_owed, owed_at, seen_all}
+use Rattle.ra_schedule.specs.Schedules.{ScheduleSeen, no_truths, nothing_owed, owed_at, seen_all}
 use Rattle.ra_schedule.proofs.MembersRest.Woken.{told_by_rows}
 use Rattle.ra_schedule.proofs.MembersRest.SeenAll.{heard_forgotten, heard_new, nothing_at_rest, nothing_owed_at}
 use Rattle.ra_schedule.proofs.MembersRest.SeenAll.{seen_awake}
@@ -86,14 +86,14 @@ all_made nodes values items runs signals rests are made is fit room none = recor
 }
 
 -- rests of which none rests are those of any runs of their items
-pub forgotten_rests : (nodes : List Node) (values later : List ℕ) (items : List ItemContents)
+pub forgotten_rests : (nodes : List Node) (values : List ℕ) (items : List ItemContents)
     (before runs : List ItemRun) (old new : Rests) → AreRests nodes values items before old
     → new.each.items ≡ old.each.items → new.schedule
-    ≡ nothing_owed old.schedule.readers (forgotten old.schedule.truths) old.schedule.clock
-    → new.stepped ≡ old.stepped → new.count ≡ old.count → AreRests nodes later items runs new
-forgotten_rests nodes values later items before runs old new are each is stepped count = record {
+    ≡ nothing_owed old.schedule.readers old.schedule.truths old.schedule.clock
+    → new.stepped ≡ old.stepped → new.count ≡ old.count → AreRests nodes values items runs new
+forgotten_rests nodes values items before runs old new are each is stepped count = record {
   many = ap length each ∙ are.many;
-  heard = heard_forgotten nodes values later old.schedule new.schedule are.heard is;
+  heard = heard_forgotten nodes values old.schedule new.schedule are.heard is;
   room = ap (λ xs. length xs.items) stepped ∙ are.room;
   few = omega (arith, are.few, count);
   told_of = λ k within item.
@@ -104,5 +104,5 @@ forgotten_rests nodes values later items before runs old new are each is stepped
   rooms = λ k within item b. subst (λ (bs : List ItemCounts). HasRoom (get_or items k item)
       (get_or bs k b)) (sym each) (are.rooms k within item b);
   at_rest = nothing_at_rest _ (length items) old.schedule.readers
-      (forgotten old.schedule.truths) old.schedule.clock new.schedule is are.at_rest.due_many;
+      old.schedule.truths old.schedule.clock new.schedule is are.at_rest.due_many;
 }

@@ -111,8 +111,8 @@ impl Rests {
 
     /// No item rests any longer, and each is due. What they owe is given up.
     pub fn forget(&mut self)
-        ensures each { (nodes : List Node) (values later : List ℕ) (items : List ItemContents) (before runs : List ItemRun)
-            → AreRests nodes values items before self.old → AreRests nodes later items runs self.new }
+        ensures each { (nodes : List Node) (values : List ℕ) (items : List ItemContents) (before runs : List ItemRun)
+            → AreRests nodes values items before self.old → AreRests nodes values items runs self.new }
         ensures kept { (runs : List ItemRun) → length runs ≡ length self.old.each.items → seen_by runs self.new ≡ map kept_run runs }
     {
         self.schedule.forget();

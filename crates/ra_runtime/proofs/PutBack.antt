@@ -42,8 +42,8 @@ pub record IsPutBack (t : Inside) (table : TableSeen) (cells priors bytes : List
   pub runs : (nodes : List Node) (items : List ItemContents) → AreItemRuns nodes items t.runs.items
       → AreItemRuns nodes items news
   pub many : length news ≡ t.runs.len
-  pub each : (nodes : List Node) (values later : List ℕ) (items : List ItemContents) (before runs : List ItemRun)
-      → AreRests nodes values items before t.rests → AreRests nodes later items runs rests
+  pub each : (nodes : List Node) (values : List ℕ) (items : List ItemContents) (before runs : List ItemRun)
+      → AreRests nodes values items before t.rests → AreRests nodes values items runs rests
   pub seen : (runs : List ItemRun) → length runs ≡ length t.rests.each.items → seen_by runs rests ≡ map kept_run runs
   pub presence : PutsBackPresence bytes place t.presence run
   pub lines_too : IsForgotten t.line_rests lines
@@ -57,9 +57,9 @@ module _ {t : Inside} (is : IsCourse t) {table : TableSeen} {cells priors bytes 
   run_now : IsOptionalPresence t.table.nodes (set_contents t.set).script run
   run_now = back.presence.run t.table.nodes (set_contents t.set).script is.presence
 
-  lines_now : AreOptionalRests t.table.nodes table.values (set_contents t.set).script run lines
+  lines_now : AreOptionalRests t.table.nodes t.table.values (set_contents t.set).script run lines
       × (optional_presence_seen run lines ≡ optional_presence_kept run)
-  lines_now = rests_forgotten t.table.nodes t.table.values table.values (set_contents t.set).script t.presence run
+  lines_now = rests_forgotten t.table.nodes t.table.values (set_contents t.set).script t.presence run
       t.line_rests lines is.presence run_now is.lines back.lines_too
 
   pub back_shown : optional_presence_seen run lines ≡ optional_presence_kept run
@@ -113,14 +113,13 @@ module _ {t : Inside} (is : IsCourse t) {table : TableSeen} {cells priors bytes 
     runs = subst (λ (rs : List ItemRun). AreItemRuns table.nodes (set_contents t.set).items rs) (sym same)
         (subst (λ (ns : List Node). AreItemRuns ns (set_contents t.set).items news) (sym back.takes.pool.0)
         (back.runs t.table.nodes (set_contents t.set).items is.runs));
-    rests = subst (λ (ns : List Node). AreRests ns table.values (set_contents t.set).items
-        (with_items t.runs news).items rests) (sym back.takes.pool.0) (back.each t.table.nodes t.table.values
-        table.values (set_contents t.set).items t.runs.items (with_items t.runs news).items is.rests);
+    rests = rw (back.takes.pool.0, back.takes.values)
+        (back.each t.table.nodes t.table.values (set_contents t.set).items t.runs.items
+        (with_items t.runs news).items is.rests);
     told = λ came. absurd (none_came (subst (λ (o : Option ℕ). IsSome o) none came));
     presence = subst (λ (ns : List Node). IsOptionalPresence ns (set_contents t.set).script run)
         (sym back.takes.pool.0) run_now;
-    lines = subst (λ (ns : List Node). AreOptionalRests ns table.values (set_contents t.set).script run lines)
-        (sym back.takes.pool.0) lines_now.0;
+    lines = rw (back.takes.pool.0, back.takes.values) lines_now.0;
     digits = is.digits;
     size = back.takes.pool.1 ∙ is.size;
     small = is.small;

@@ -14,10 +14,12 @@ pub record TakesPriors (old new : TableSeen) (numbers : List ℕ) : Type 0 where
   pub marked : 0 < length numbers → new.marked ≡ replicate (length old.cells) true
   pub kept : length numbers ≡ 0 → new.marked ≡ old.marked
 
--- a table has these numbers of its cells and masks, all its cells are marked, and nodes, size and places stay
+-- a table has these numbers of its cells and masks, all its cells are marked, and nodes, their values, size and places
+-- stay
 pub record TakesNumbers (old new : TableSeen) (cells priors : List ℕ) : Type 0 where
   pub pool : SamePool old new
   pub cells_too : new.cells ≡ cells
   pub priors_too : new.priors ≡ priors
+  pub values : new.values ≡ old.values
   pub marked : new.marked ≡ replicate (length cells) true
   pub places : new.places ≡ old.places

@@ -55,10 +55,6 @@ no_truths nodes comparisons = record {
   known = false;
 }
 
--- truths that count for nothing
-abbrev pub forgotten : TruthsSeen → TruthsSeen
-forgotten truths = record truths { known = false }
-
 -- no place rests, and each is due
 abbrev pub nothing_owed : ReadersSeen → TruthsSeen → (clock : ℕ) → ScheduleSeen
 nothing_owed readers truths clock =

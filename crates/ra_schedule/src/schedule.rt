@@ -1,6 +1,6 @@
 ghost use Rattle.std.specs.Prelude.{◌≡◌, ◌≤◌, ◌<◌, ℕ, true, None, length, slice_index, slice_index_or, IfOk, IfSome};
 ghost use Rattle.ra_memref.specs.Flags.{NoneSet, IsFirstSet};
-ghost use Rattle.ra_schedule.specs.Schedules.{Begins, MayBegin, ScheduleSeen, as_hits_tell, forgotten, next_count, no_truths, noted_at, nothing_owed, owed_at};
+ghost use Rattle.ra_schedule.specs.Schedules.{Begins, MayBegin, ScheduleSeen, as_hits_tell, next_count, no_truths, noted_at, nothing_owed, owed_at};
 
 use crate::paying::owed;
 use crate::readers::Readers;
@@ -116,11 +116,10 @@ impl Schedule {
         self.clock = self.clock.saturating_add(1);
     }
 
-    /// No place rests any longer, and each is due. What they owe is given up.
+    /// No place rests any longer, and each is due. What they owe is given up; the truths stay.
     pub fn forget(&mut self)
-        ensures { self.new ≡ nothing_owed self.old.readers (forgotten self.old.truths) self.old.clock }
+        ensures { self.new ≡ nothing_owed self.old.readers self.old.truths self.old.clock }
     {
-        self.truths.forget();
         self.since.fill(None);
         self.readers.wake_all();
     }

@@ -123,13 +123,6 @@ impl Truths {
         self.known = true;
     }
 
-    /// Gives up what was taken: each truth counts for nothing until the next frame is taken.
-    pub fn forget(&mut self)
-        ensures { self.new ≡ record self.old { known = false } }
-    {
-        self.known = false;
-    }
-
     /// Whether the comparison of a number holds, by the values of the frame that was taken last.
     pub fn truth(&self, number: u32) -> bool
         requires number { number < length self.now.comparisons }

@@ -6,7 +6,7 @@ use Rattle.std.proofs.lemmas.List.{get_or-replicate, length-replicate}
 use Rattle.ra_indirect.specs.declared.node.Node.{Node}
 use Rattle.ra_truths.specs.Truths.{TruthsSeen}
 use Rattle.ra_schedule.specs.Readers.{ReadersSeen}
-use Rattle.ra_schedule.specs.Schedules.{AllSteps, AreAtRest, IsHeard, ScheduleSeen, forgotten, frames_since, is_due}
+use Rattle.ra_schedule.specs.Schedules.{AllSteps, AreAtRest, IsHeard, ScheduleSeen, frames_since, is_due}
 use Rattle.ra_schedule.specs.Schedules.{no_truths, nothing_owed, owed_at, seen_all, since_at}
 use Rattle.ra_schedule.specs.Signals.{AreSignals, KeepsAll, SignalsSeen}
 
@@ -136,12 +136,11 @@ heard_new nodes values Told places place signals s are is = subst (IsHeard nodes
   truths = λ known. (let bad : false ≡ true = known in absurd (cc));
 })
 
--- and so has one of which all is given up
-pub heard_forgotten : (nodes : List Node) (values later : List ℕ) (old new : ScheduleSeen)
-    → IsHeard nodes values old → new ≡ nothing_owed old.readers (forgotten old.truths) old.clock
-    → IsHeard nodes later new
-heard_forgotten nodes values later old new heard is = subst (IsHeard nodes later) (sym is) (record {
+-- and one of which what is owed is given up has its truths
+pub heard_forgotten : (nodes : List Node) (values : List ℕ) (old new : ScheduleSeen)
+    → IsHeard nodes values old → new ≡ nothing_owed old.readers old.truths old.clock → IsHeard nodes values new
+heard_forgotten nodes values old new heard is = subst (IsHeard nodes values) (sym is) (record {
   nodes_too = heard.nodes_too;
   over = heard.over;
-  truths = λ known. (let bad : false ≡ true = known in absurd (cc));
+  truths = heard.truths;
 })

@@ -1,14 +1,13 @@
 use Rattle.std.proofs.Common.{refl, sym}
-use Rattle.ra_schedule.specs.Schedules.{forgotten}
 use Rattle.ra_items.proofs.MadeRests.{awake_kept, forgotten_rests}
 use Rattle.ra_items.proofs.rests.Rests.forget.Goals as goal
 
 pub returns-clause-each : goal.returns-clause-each
-returns-clause-each c = λ nodes values later items before runs are.
-    forgotten_rests nodes values later items before runs c.args.self.now _ are refl c.forget.ensures refl refl
+returns-clause-each c = λ nodes values items before runs are.
+    forgotten_rests nodes values items before runs c.args.self.now _ are refl c.forget.ensures refl refl
 
 pub returns-clause-kept : goal.returns-clause-kept
 returns-clause-kept c = λ runs long.
     awake_kept runs c.args.self.now.each.items c.forget.new.self c.args.self.now.schedule.readers
-    (forgotten c.args.self.now.schedule.truths) c.args.self.now.schedule.clock c.forget.ensures
+    c.args.self.now.schedule.truths c.args.self.now.schedule.clock c.forget.ensures
     (sym long)
