@@ -13,7 +13,6 @@ pub mod Latest
 pub mod LayoutLemmas
 pub mod Listings
 pub mod LookedLemmas
-pub mod Looking
 pub mod MarkLemmas
 pub mod NameLemmas
 pub mod Orders
@@ -28,6 +27,7 @@ pub mod QuietLemmas
 pub mod TableLemmas
 pub mod TakenLemmas
 pub mod Telling
+pub mod Together
 pub mod UnderWay
 pub mod Vectors
 pub mod Visited

@@ -4,7 +4,6 @@ use Rattle.std.proofs.Common.{length, get_or, refl, sym, ◌∙◌, ap, arith, s
 use Rattle.ra_memory.specs.Image.{IsReadWidth}
 use Rattle.ra_links.specs.Rows.{holder_of}
 use Rattle.ra_memref.specs.declared.watches.Watches.TheInside.{Inside}
-use Rattle.ra_memref.specs.Marks.{is_watched}
 use Rattle.ra_memref.specs.Marking.{is_at, is_between}
 use Rattle.ra_memref.specs.Watches.{WatchesSeen, IsIndexed, MarksWatchers, StandsAt, marked_by, first_page, second_page}
 use Rattle.ra_memref.specs.Watches.{watches_between}
@@ -105,27 +104,37 @@ at_most_four width (inl e) = (omega (arith, e), omega (arith, e))
 at_most_four width (inr (inl e)) = (omega (arith, e), omega (arith, e))
 at_most_four width (inr (inr e)) = (omega (arith, e), omega (arith, e))
 
+-- watches of which some cells more are marked, by one of the two ways
+abbrev pub with_marked : Inside → (from : ℕ) → List Bool → WatchesSeen
+with_marked t from marks = record (the_view t) { marked = marked_by from marks }
+
+-- the cells that watch one of all pages of a write are marked too
+pub told_together : (old : Inside) (seen : WatchesSeen) (from : ℕ) (marks : List Bool) (at count : ℕ)
+    → the_view old ≡ seen → IsIndexed old.listed old.widths.items old.places.items old.marks old.pages → 0 < count
+    → length marks ≡ length old.marks
+    → ((k : ℕ) → k < length old.places.items → get_or (marked_by from marks) k true
+    ≡ (get_or (marked_by old.marked_from old.marks) k true || is_told old (at / 16) ((at + count - 1) / 16 + 1) k))
+    → MarksWatchers seen (with_marked old from marks) at count
+told_together old seen from marks at count view_is is some long marked =
+    subst (λ w. MarksWatchers w (with_marked old from marks) at count) view_is (record {
+      rest = refl;
+      long = length-marked_by from marks ∙ long ∙ sym (length-marked_by old.marked_from old.marks);
+      marked = λ k below.
+          let wide = at_most_four (slice_index old.widths.items k) (is.wide k below) in
+          marked k below ∙ ap (λ b. get_or (marked_by old.marked_from old.marks) k true || b)
+          (sym (watched_is old.size (slice_index old.places.items k) (slice_index old.widths.items k) at count some
+          wide.1 wide.0));
+    })
+
 -- all pages are told
 pub told_all : (old now : Inside) (seen : WatchesSeen) (at count : ℕ) → the_view old ≡ seen
     → IsIndexed old.listed old.widths.items old.places.items old.marks old.pages → 0 < count
     → IsTelling old now (at / 16) ((at + count - 1) / 16 + 1) → MarksWatchers seen (the_view now) at count
 told_all old now seen at count view_is is some telling =
-    subst (λ w. MarksWatchers w (the_view now) at count) view_is (record {
-      rest = ap the_view telling.same ∙ ap (λ n. record (the_view old) { marked = marked_by n now.marks }) (sym from);
-      long = length-marked_by now.marked_from now.marks ∙ telling.long
-          ∙ sym (length-marked_by old.marked_from old.marks);
-      marked = λ k below.
-          let wide = at_most_four (slice_index old.widths.items k) (is.wide k below) in
-          let watched = telling.marked k below ∙ ap (λ b. get_or old.marks k true || b)
-          (sym (watched_is old.size (slice_index old.places.items k)
-          (slice_index old.widths.items k) at count some wide.1 wide.0)) in
-          ap (λ n. get_or (marked_by n now.marks) k true) from
-          ∙ marked_too old.marked_from old.marks now.marks k (is_watched old.size
-          (slice_index old.places.items k) (slice_index old.widths.items k) at count) watched;
-    })
-  where
-    from : now.marked_from ≡ old.marked_from
-    from = ap (λ t. t.marked_from) telling.same
+    subst (λ t. MarksWatchers seen (the_view t) at count) (sym telling.same)
+    (told_together old seen old.marked_from now.marks at count view_is is some telling.long
+    (λ k below. marked_too old.marked_from old.marks now.marks k
+    (is_told old (at / 16) ((at + count - 1) / 16 + 1) k) (telling.marked k below)))
 
 or_false : (b : Bool) → b ≡ (b || false)
 or_false true = refl

@@ -47,6 +47,21 @@ impl FlagRow {
         self.flags.len()
     }
 
+    // How many flags are set at most, but for the bits of the last word that have no flag. No clause speaks of what it
+    // tells.
+    pub(crate) fn most(&self) -> usize {
+        let mut most: usize = 0;
+        for word in &self.words {
+            most = most.wrapping_add(word.count_ones() as usize);
+        }
+        let spare = self
+            .words
+            .len()
+            .wrapping_mul(WORD)
+            .wrapping_sub(self.flags.len());
+        most.saturating_sub(spare)
+    }
+
     /// Whether the flag of a place is set.
     pub fn is_set(&self, place: usize) -> bool
         requires { place < length self.now }

@@ -62,6 +62,11 @@ impl Flags {
         }
     }
 
+    // More flags than this many may be set. No clause speaks of what it tells.
+    pub(crate) fn may_be_more(&self, many: usize) -> bool {
+        self.blocks.most() > many / BLOCK && self.flags.most() > many
+    }
+
     /// Sets all flags.
     pub fn fill(&mut self)
         ensures { self.new ≡ replicate (length self.old) true }

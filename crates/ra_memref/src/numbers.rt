@@ -172,12 +172,12 @@ impl Numbers {
         self.watches.mark_all();
     }
 
-    /// More than half of the cells were marked by looks since this was asked last. No clause says what it
-    /// answers.
+    /// More than half of the cells were marked by looks since this was asked last, or marked cells are more
+    /// than a quarter of all nodes. No clause says what it answers.
     pub fn saw_many(&mut self) -> bool
         ensures { self.new ≡ self.old }
     {
-        self.watches.saw_many()
+        self.watches.saw_many(self.values.len() / 4)
     }
 
     /// The first marked cell from one on. None exactly where none is.

@@ -145,16 +145,40 @@ impl Watches {
         let first = at / PAGE;
         let end = (at + count - 1) / PAGE + 1;
         if self.listed != self.size {
-            let cells = CellPlaces {
-                places: &self.places,
-                widths: &self.widths,
-            };
-            mark_watchers(&mut self.marks, &cells, self.size, first, end);
+            self.tell_cells(at, count);
+            return;
+        }
+        if end - first > self.size / PAGE / 4 * 3 {
+            self.tell_cells(at, count);
             return;
         }
         for page in first..end {
             mark_listed(&self.pages, &mut self.marks, page);
         }
+    }
+
+    // Does so cell by cell, for some bytes.
+    #[inline(never)]
+    fn tell_cells(&mut self, at: u32, count: u32)
+        requires within { at + count ≤ self.old.size }
+        requires small { self.old.size ≤ 2 ^ 27 }
+        requires some { 0 < count }
+        ensures { MarksWatchers self.old self.new at count }
+    {
+        let first = at / PAGE;
+        let end = (at + count - 1) / PAGE + 1;
+        let cells = CellPlaces {
+            places: &self.places,
+            widths: &self.widths,
+        };
+        self.marked_from = mark_watchers(
+            &mut self.marks,
+            self.marked_from,
+            &cells,
+            self.size,
+            first,
+            end,
+        );
     }
 
     /// Marks each cell that is not marked and has another number in the image, at its place, than this one.
@@ -179,16 +203,22 @@ impl Watches {
         self.seen = self.seen.saturating_add(anew);
     }
 
-    /// More than half of the cells were marked by looks since this was asked last: these have another
-    /// number, and a write marks cells that may have the kept one.
+    /// More than half of the cells were marked by looks since this was asked last, which have another number
+    /// then, or more cells than this many are marked: a write marks cells that may have the kept one.
     ///
     /// It chooses between two ways to the same numbers, so no clause says what it answers.
-    pub fn saw_many(&mut self) -> bool
+    pub fn saw_many(&mut self, many: usize) -> bool
         ensures { self.new ≡ self.old }
     {
         let seen = self.seen;
         self.seen = 0;
-        seen > self.places.len() / 2
+        let count = self.places.len();
+        seen > count / 2 || count > many && self.are_more(many)
+    }
+
+    // More cells than this many may be marked. No clause speaks of what it tells.
+    fn are_more(&self, many: usize) -> bool {
+        self.places.len().saturating_sub(self.marked_from) > many || self.marks.may_be_more(many)
     }
 }
 
@@ -205,10 +235,23 @@ fn unmark(marks: &mut Flags, marked_from: &mut usize, cell: usize) -> bool
     if cell < *marked_from {
         return take_back(marks, cell);
     }
-    set_between(marks, *marked_from, cell);
+    unmark_together(marks, *marked_from, cell);
     *marked_from = cell + 1;
-    take_back(marks, cell);
     true
+}
+
+// Unmarks one of the cells that are marked together from one on: those before it get their own marks, and those after it
+// stay together.
+#[inline(always)]
+fn unmark_together(marks: &mut Flags, marked_from: usize, cell: usize)
+    requires together { marked_from ≤ cell }
+    requires cell { cell < length marks.old }
+    ensures long { length marks.new ≡ length marks.old }
+    ensures unmarked { marked_by (cell + 1) marks.new ≡ slice_set (marked_by marked_from marks.old) cell false }
+    ensures later { (k : ℕ) → cell < k → slice_index_or marks.new k true ≡ slice_index_or marks.old k true }
+{
+    set_between(marks, marked_from, cell);
+    take_back(marks, cell);
 }
 
 // Takes the own mark of a cell back, and tells whether it was set.
@@ -266,30 +309,50 @@ fn mark_listed(lists: &Links, marks: &mut Flags, list: u32)
     }
 }
 
-// Marks the cells that watch one of the pages from the first one on and before the end.
-fn mark_watchers(marks: &mut Flags, cells: &CellPlaces<'_>, size: u32, first: u32, end: u32)
+// Marks the cells that watch one of the pages from the first one on and before the end, and tells from where on cells are
+// marked together: all are at first, and each that is to stay unmarked is taken out of them.
+fn mark_watchers(
+    marks: &mut Flags,
+    marked_from: usize,
+    cells: &CellPlaces<'_>,
+    size: u32,
+    first: u32,
+    end: u32,
+) -> usize
+    requires few { length marks.old < 2 ^ 30 }
     requires places { length cells.now.places.now ≡ length marks.old }
     requires widths { length cells.now.widths.now ≡ length marks.old }
     requires wide { (k : ℕ) → k < length marks.old → IsReadWidth (slice_index cells.now.widths.now k) }
     ensures long { length marks.new ≡ length marks.old }
-    ensures marked { (k : ℕ) → k < length marks.old → slice_index_or marks.new k true
-        ≡ (slice_index_or marks.old k true
+    ensures marked { (k : ℕ) → k < length marks.old → slice_index_or (marked_by result marks.new) k true
+        ≡ (slice_index_or (marked_by marked_from marks.old) k true
         || watches_between size first end (slice_index cells.now.places.now k) (slice_index cells.now.widths.now k)) }
 {
     let (places, widths) = (cells.places, cells.widths);
+    let mut together: usize = 0;
     for cell in 0..places.len() {
         let watched = is_watcher(size, first, end, places[cell], widths[cell]);
-        mark(marks, cell, watched);
+        if !is_marked(marks, marked_from, cell, watched) {
+            unmark_together(marks, together, cell);
+            together = cell + 1;
+        }
     }
+    together
 }
 
-// Marks a cell where it is to be marked.
-fn mark(marks: &mut Flags, cell: usize, watched: bool)
-    requires { cell < length marks.old }
-    ensures { marks.new ≡ slice_set marks.old cell (slice_index_or marks.old cell true || watched) }
+// Whether a cell watches a page, or is marked.
+#[inline(always)]
+fn is_marked(marks: &Flags, marked_from: usize, cell: usize, watched: bool) -> bool
+    requires { cell < length marks.now }
+    ensures { result ≡ (slice_index_or (marked_by marked_from marks.now) cell true || watched) }
 {
-    let marked = marks.is_set(cell) || watched;
-    marks.put(cell, marked);
+    if watched {
+        return true;
+    }
+    if marked_from <= cell {
+        return true;
+    }
+    marks.is_set(cell)
 }
 
 // A cell of this width at this place watches one of the pages from the first one on and before the end.

@@ -1,6 +1,6 @@
-use Rattle.std.proofs.Common.{◌+◌, sym, ap, ◌∙◌, arith}
+use Rattle.std.proofs.Common.{sym, ap, ◌∙◌, arith}
 use Rattle.ra_memref.specs.Watches.{marked_by}
-use Rattle.ra_memref.proofs.MarkLemmas.{marked_before, marked_after, unmarked_own, unmarked_other}
+use Rattle.ra_memref.proofs.MarkLemmas.{marked_before, marked_after, unmarked_own}
 use Rattle.ra_memref.proofs.watches.unmark.Goals as goal
 
 pub returns-then-cell-marked_from-clause-was : goal.returns-then-cell-marked_from-clause-was
@@ -19,6 +19,4 @@ returns-clause-was c = sym (marked_after c.args.marked_from.now c.args.marks.now
     c.if-cell-marked_from.false)
 
 pub returns-clause-unmarked : goal.returns-clause-unmarked
-returns-clause-unmarked c = ap (marked_by (c.args.cell + 1)) c.take_back-2.ensures.unset
-    ∙ unmarked_other c.args.marked_from.now c.args.cell c.args.marks.now c.set_between.new.marks
-    c.if-cell-marked_from.false c.requires.cell c.set_between.ensures
+returns-clause-unmarked c = c.unmark_together.ensures.unmarked

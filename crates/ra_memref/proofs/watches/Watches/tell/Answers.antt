@@ -1,20 +1,9 @@
-use Rattle.std.proofs.Common.{◌≡◌, ◌/◌, ◌+◌, ◌-◌, ◌<◌, arith, subst, refl}
-use Rattle.ra_memref.proofs.Telling.{IsTelling, with_marks, telling_more, told_all, told_nothing}
+use Rattle.std.proofs.Common.{◌≡◌, ◌/◌, ◌+◌, ◌-◌, ◌<◌, arith, subst}
+use Rattle.ra_memref.proofs.Telling.{IsTelling, telling_more, told_all, told_nothing}
 use Rattle.ra_memref.proofs.watches.Watches.tell.Goals as goal
 
 pub returns-then-count-eq0 : goal.returns-then-count-eq0
 returns-then-count-eq0 c = told_nothing c.args.self.now c.args.at c.args.count c.if-count-eq0.true
-
-pub returns-then-self : goal.returns-then-self
-returns-then-self c =
-    let some : 0 < c.args.count = omega (arith, c.if-count-eq0.false) in
-    let marked = rw (c.deref.ensures.value, c.deref-then-self.ensures.value) at c.mark_watchers.ensures in
-    told_all c.self.inside (with_marks c.self.inside c.mark_watchers.new.marks) c.args.self.now
-    c.args.at c.args.count c.self.view_is c.self.invariant.indexed some (record {
-      same = refl;
-      long = marked.long;
-      marked = λ k below. marked.marked k (omega (arith, below, c.self.invariant.indexed.marks_too));
-    })
 
 pub loop-page-preserved : goal.loop-page-preserved
 loop-page-preserved c =
