@@ -16,7 +16,7 @@ pub data ItemContents : Type 0 where
 -- the contents of an item
 abbrev pub item_contents : Item → ItemContents
 item_contents (Achievement id text) = Unlocks id (trigger_contents text)
-item_contents (Leaderboard id format text) = Ranks id format (board_contents text)
+item_contents (Leaderboard id format text) = Ranks id format (board_contents text.value)
 
 -- what a set contains: items in text order, a presence script where there is one, the digest of its file, and names
 pub record SetContents : Type 0 where

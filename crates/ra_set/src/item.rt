@@ -14,7 +14,7 @@ pub enum Item {
     Leaderboard {
         id: u32,
         format: Format,
-        text: BoardText,
+        text: Box<BoardText>,
     },
 }
 

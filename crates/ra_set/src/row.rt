@@ -93,6 +93,7 @@ fn take_leaderboard(alloc: Global, cursor: &mut Cursor<'_>) -> Result<Item, Faul
     let format = take_format(cursor)?;
     cursor.byte(b' ')?;
     let text = take_board(alloc, cursor)?;
+    let text = Box::new(alloc, text)?;
     Ok(Item::Leaderboard { id, format, text })
 }
 

@@ -8,7 +8,7 @@ use Rattle.ra_items.proofs.rest.step_rest.Goals.{in-Leaderboard-Leaderboard-Lead
 pub step_board-requires-clause-run : goal.step_board-requires-clause-run
 step_board-requires-clause-run c =
     let h = c.in-Leaderboard-Leaderboard-Leaderboard in
-    rw (h.is-0, h.is-2) at c.requires.run
+    rw c.deref.ensures (rw (h.is-0, h.is-2) at c.requires.run)
 
 pub returns-clause-steps : goal.returns-clause-steps
 returns-clause-steps c =
@@ -21,6 +21,6 @@ returns-clause-steps c =
           let h = w.in-Leaderboard-Leaderboard-Leaderboard in
           let old = rw (h.is-0, h.is-2) at c.requires.run in
           rw (w.run-is, h.is-0, h.is-2) (board_item c.args.table.now.nodes c.args.table.now h.id-2
-          h.format-2
-          (board_contents h.text) h.run' w.step_board.new.run old w.step_board.ensures.steps)
+          h.format-2 (board_contents h.text.value) h.run' w.step_board.new.run old
+          (rw w.deref.ensures at w.step_board.ensures.steps))
     ]

@@ -9,10 +9,10 @@ returns-in_ok-run-in-Leaderboard c =
     let item = c.in-Leaderboard in
     let run = c.in_ok-run-in-Leaderboard in
     rw item.is (leaderboard_made c.args.pool.now c.new-in-Leaderboard.new.pool item.id item.format
-    (board_contents item.text) run.run' run.ensures)
+    (board_contents item.text.value) run.run' (rw c.deref.ensures at run.ensures))
 
 pub new-requires-in-Leaderboard-clause-room : goal.new-requires-in-Leaderboard-clause-room
 new-requires-in-Leaderboard-clause-room c =
     let item = c.in-Leaderboard in
     let room = rw item.is at c.requires.room in
-    omega (arith, room, board_conditions (board_contents item.text) item.id item.format)
+    rw c.deref.ensures (omega (arith, room, board_conditions (board_contents item.text.value) item.id item.format))

@@ -16,10 +16,10 @@ returns-clause-steps c =
           let s = w.step-in-Leaderboard-Leaderboard in
           let old = rw (h.is-0, h.is-1) at c.requires.run in
           rw (w.self-is, h.is-0, h.is-1) (board_item c.args.table.now.nodes c.args.table.now h.id-1
-          h.format-1 (board_contents h.text) h.run' s.new.self old s.ensures.steps)
+          h.format-1 (board_contents h.text.value) h.run' s.new.self old (rw w.deref.ensures at s.ensures.steps))
     ]
 
 pub step-requires-in-Leaderboard-Leaderboard-clause-run : goal.step-requires-in-Leaderboard-Leaderboard-clause-run
 step-requires-in-Leaderboard-Leaderboard-clause-run c =
     let h = c.in-Leaderboard-Leaderboard in
-    rw (h.is-0, h.is-1) at c.requires.run
+    rw c.deref.ensures (rw (h.is-0, h.is-1) at c.requires.run)
