@@ -199,14 +199,16 @@ class SetDrawing:
 class TraceDrawing:
     """Draws the records of a trace. Most frames have no write behind them or one; numbers come back to what they were.
 
-    In some traces a byte counts the frames, or two, as a game's frame counter and its timer do, and in some each frame has
-    many writes.
+    In some traces a byte counts the frames, or two, as a game's frame counter and its timer do, in some each frame has
+    many writes, and in some every byte, or four in five of them, is written before each frame, each second or each third one.
     """
 
     def __init__(self, r, places, pointers):
         self.r = r
         self.counters = r.sample(places, r.choice([0, 0, 1, 2]))
         self.dense = r.random() < 0.2
+        self.flood = r.choice([None] * 12 + [(1, 1), (2, 1), (3, 1), (1, 0.8)])
+        self.turn = 0
         self.places = places + pointers * 3
         self.image = bytearray(WRITTEN)
         self.earlier = []
@@ -238,10 +240,33 @@ class TraceDrawing:
         for _ in range(self.r.choice([3, 8, 20])):
             self.write_one()
 
+    def write_all(self):
+        cut = self.r.choice([0, 0, 0, 5, WRITTEN // 2])
+        for start, end in ((0, cut), (cut, WRITTEN)):
+            if start < end:
+                self.write(start, [self.r.choice(BYTES) for _ in range(start, end)])
+
+    def write_most(self, share):
+        for at in range(WRITTEN):
+            if self.r.random() < share:
+                self.write(at, [self.r.choice(BYTES)])
+
+    def write_flood(self):
+        self.turn += 1
+        period, share = self.flood
+        if self.turn % period:
+            return
+        if share == 1:
+            self.write_all()
+        else:
+            self.write_most(share)
+
     def count_frame(self):
         for number, at in enumerate(self.counters):
             if number == 0 or self.r.random() < 0.1:
                 self.write(at, [(self.image[at] + 1) % self.r.choice([256, 256, 8])])
+        if self.flood:
+            self.write_flood()
         if self.dense:
             for _ in range(self.r.choice([1, 2, 6])):
                 self.write_one()
