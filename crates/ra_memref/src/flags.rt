@@ -13,24 +13,29 @@ use std::marker::Model;
 const BLOCK: usize = 64;
 
 /// A row of flags, seen as their list: a block without one that is set is passed over at once, and so
-/// are 64 such blocks.
+/// are 64 such blocks. Where it is known that none is set nothing is looked for.
 ///
 /// Flags are counted from 0, and 64 stand in a block. Only `new` takes memory.
 #[derive(Drop)]
 pub struct Flags {
     flags: FlagRow,
     blocks: FlagRow,
+    any: bool,
 }
 
 impl Model for Flags {
     ghost use Rattle.std.specs.Prelude.{List, Bool};
-    ghost use Rattle.ra_memref.specs.Flags.{AreInBlocks};
+    ghost use Rattle.std.specs.Prelude.{◌≡◌, false, length};
+    ghost use Rattle.ra_memref.specs.Flags.{AreInBlocks, NoneSet};
 
     ghost Value = { List Bool };
 
     ghost view = { λ f. f.flags };
 
-    ghost invariant = { λ f. AreInBlocks f.flags f.blocks };
+    ghost invariant = { λ f. record {
+      in_blocks : AreInBlocks f.flags f.blocks;
+      none : f.any ≡ false → NoneSet f.flags 0 (length f.flags);
+    } };
 }
 
 impl Flags {
@@ -40,7 +45,11 @@ impl Flags {
     {
         let flags = FlagRow::new(alloc, count)?;
         let blocks = FlagRow::new(alloc, count / BLOCK + 1)?;
-        Ok(Flags { flags, blocks })
+        Ok(Flags {
+            flags,
+            blocks,
+            any: true,
+        })
     }
 
     /// Whether the flag of a place is set.
@@ -56,6 +65,7 @@ impl Flags {
         requires { place < length self.old }
         ensures { self.new ≡ slice_set self.old place flag }
     {
+        self.any |= flag;
         let left = self.flags.put(place, flag);
         if self.blocks.is_set(place / BLOCK) != left {
             self.blocks.put(place / BLOCK, left);
@@ -71,6 +81,7 @@ impl Flags {
     pub fn fill(&mut self)
         ensures { self.new ≡ replicate (length self.old) true }
     {
+        self.any = true;
         self.flags.fill();
         self.blocks.fill();
     }
@@ -113,7 +124,15 @@ impl Flags {
         if place < len && self.flags.is_set(place) {
             return Some(place);
         }
-        next_by_blocks(&mut self.flags, &mut self.blocks, place)
+        if from > 0 {
+            return next_by_blocks(&mut self.flags, &mut self.blocks, place);
+        }
+        if !self.any {
+            return None;
+        }
+        let first = next_by_blocks(&mut self.flags, &mut self.blocks, place);
+        self.any = first.is_some();
+        first
     }
 }
 
