@@ -22,6 +22,7 @@ use Rattle.ra_schedule.proofs.MembersRest.Woken.{told_by_rows}
 use Rattle.ra_truths.specs.Truths.{TruthsSeen}
 use Rattle.ra_schedule.proofs.MembersRest.SeenAll.{all_steps, seen_at, seen_many}
 use Rattle.ra_schedule.proofs.MembersRest.Turns.{element, taken_begins}
+use Rattle.ra_schedule.specs.declared.room.Room.{Room}
 use Rattle.ra_display.specs.declared.line_rests.LineRests.{LineRests}
 use Rattle.ra_meaning.specs.LineMembers.{line_member, tests_in}
 use Rattle.ra_meaning.specs.Presence.{line_holds}
@@ -126,9 +127,9 @@ module _ (table : TableSeen) (frame : IsSomeFrame table) (lines : List LineConte
   abbrev Far : List Member → LineRests → ℕ → Type 0
   Far runs rests at = AreLinesFar table lines olds before start runs rests at
 
-  pub lines_begin : Far olds
-      (record { each = before.each; schedule = start; holds = before.holds; room = before.room }) 0
-  lines_begin = record {
+  pub lines_begin : (room : Room) → Far olds
+      (record { each = before.each; schedule = start; holds = before.holds; room = room }) 0
+  lines_begin room = record {
     runs_too = were_runs;
     each_many = were.many;
     holds_many = were.holds;

@@ -95,7 +95,8 @@ impl LineRests {
         ensures rests { AreLineRests table.now.nodes table.now.values (map line_contents lines.now) runs.new self.new }
         ensures stepped { AreLinesSeen table.now (map line_contents lines.now) (seen_lines runs.old self.old) (seen_lines runs.new self.new) self.new.holds }
     {
-        self.schedule.begin(table);
+        let crowded = self.schedule.begin(table);
+        self.room.closed = crowded;
         let mut at = 0;
         while let Some(place) = self.schedule.next_due(at) {
             self.step_at(runs, lines, table, place);

@@ -24,6 +24,7 @@ use Rattle.ra_progress.specs.Contents.{KeptItem}
 use Rattle.ra_items.specs.declared.item_run.ItemRun.{ItemRun}
 use Rattle.ra_items.specs.declared.rest.ItemCounts.{ItemCounts}
 use Rattle.ra_items.specs.declared.rests.Rests.{Rests}
+use Rattle.ra_items.specs.declared.rooms.Rooms.{Rooms}
 use Rattle.ra_items.specs.AllRuns.{AreItemRuns, all_events}
 use Rattle.ra_items.specs.ItemRuns.{IsItemRun}
 use Rattle.ra_items.specs.Resting.{GoesOn, HasRoom, ItemSeesSame, StepsRest, seen_run}
@@ -198,9 +199,9 @@ module _ (table : TableSeen) (frame : IsSomeFrame table) (items : List ItemConte
   abbrev Far : List ItemRun → Rests → ℕ → Type 0
   Far runs rests at = IsFar table items olds before start runs rests at
 
-  pub far_begins : Far olds
-      (record { each = before.each; schedule = start; stepped = before.stepped; count = 0; rooms = before.rooms }) 0
-  far_begins = record {
+  pub far_begins : (rooms : Rooms) → Far olds
+      (record { each = before.each; schedule = start; stepped = before.stepped; count = 0; rooms = rooms }) 0
+  far_begins rooms = record {
     runs_too = were_runs;
     each_many = were.many;
     room = were.room;

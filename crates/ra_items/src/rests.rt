@@ -71,7 +71,8 @@ impl Rests {
         requires few { length items.now < 2 ^ 32 }
         ensures { StepsItems table.now (map item_contents items.now) runs.old runs.new self.old self.new }
     {
-        self.schedule.begin(table);
+        let crowded = self.schedule.begin(table);
+        self.rooms.close(crowded);
         self.count = 0;
         let mut at = 0;
         while let Some(place) = self.schedule.next_due(at) {

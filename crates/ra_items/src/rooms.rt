@@ -13,9 +13,10 @@ use ra_text::OutOfMemory;
 use ra_trigger::State;
 use std::alloc::Global;
 
-/// Room for what any item of a set keeps, for the one that is stepped.
+/// Room for what any item of a set keeps, for the one that is stepped. Where it is closed it takes up nothing.
 #[derive(Drop)]
 pub struct Rooms {
+    pub closed: bool,
     pub state: State,
     pub measured: u32,
     pub hits: Vec<u32>,
@@ -27,6 +28,7 @@ impl Rooms {
     /// Room for each of these items, so that a frame takes no memory. Memory is the only refusal.
     pub fn new(alloc: Global, runs: &[ItemRun]) -> Result<Rooms, OutOfMemory> {
         let mut rooms = Rooms {
+            closed: false,
             state: State::Waiting,
             measured: 0,
             hits: Vec::new(alloc),
@@ -53,10 +55,19 @@ impl Rooms {
         }
     }
 
+    // Closes the room or opens it.
+    pub(crate) fn close(&mut self, closed: bool) {
+        self.closed = closed;
+        self.member.closed = closed;
+    }
+
     // Takes up what an achievement keeps now, and says whether there is room for it.
     pub(crate) fn note_trigger(&mut self, run: &AchievementRun) -> bool
         ensures { result ≡ true → HoldsTrigger self.new run.now }
     {
+        if self.closed {
+            return false;
+        }
         self.state = run.run.trigger.state();
         self.measured = run.run.trigger.measured();
         note_row(&mut self.hits, run.run.trigger.hits())

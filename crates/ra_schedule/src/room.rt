@@ -16,9 +16,11 @@ pub struct ValueRoom {
     pub numbers: Vec<u32>,
 }
 
-/// Room for what any member of a set keeps. Which rows are more than a member has is left as it was.
+/// Room for what any member of a set keeps. Which rows are more than a member has is left as it was. Where it is closed it
+/// takes up nothing.
 #[derive(Drop)]
 pub struct Room {
+    pub closed: bool,
     /// The hits of each test.
     pub tests: Vec<Vec<u32>>,
     pub values: Vec<ValueRoom>,
@@ -31,6 +33,7 @@ impl Room {
         ensures values { result.values.items ≡ [] }
     {
         Room {
+            closed: false,
             tests: Vec::new(alloc),
             values: Vec::new(alloc),
         }
@@ -61,6 +64,9 @@ impl Room {
     pub fn note(&mut self, member: &Member) -> bool
         ensures { result ≡ true → Holds self.new (kept_by member.now) }
     {
+        if self.closed {
+            return false;
+        }
         note_tests(&mut self.tests, &member.tests) && note_values(&mut self.values, &member.values)
     }
 }

@@ -24,6 +24,8 @@ pub struct Schedule {
     since: Vec<Option<u64>>,
     // a count of frames that only goes on
     clock: u64,
+    // at how many frames in a row many signals changed
+    crowded: u32,
 }
 
 impl Model for Schedule {
@@ -60,13 +62,16 @@ impl Schedule {
             truths,
             since,
             clock: 0,
+            crowded: 0,
         })
     }
 
     /// Begins a frame by the table's last sample: who reads a comparison that came out otherwise, or a node that
     /// changed, is due. Where more than a quarter of all signals did, or the count of frames is at its end, all are.
     /// No memory is taken.
-    pub fn begin(&mut self, table: &Table)
+    ///
+    /// It tells whether it looks as if few places would come to rest. No clause says when it does.
+    pub fn begin(&mut self, table: &Table) -> bool
         requires { MayBegin table.now self.old }
         ensures { Begins table.now self.old self.new }
     {
@@ -74,6 +79,12 @@ impl Schedule {
         let many = many_changed(&self.readers, table, &self.truths);
         let all = many || self.clock == u64::MAX;
         wake(&mut self.readers, table, &self.truths, all);
+        self.crowded = if many {
+            self.crowded.wrapping_add(1)
+        } else {
+            0
+        };
+        self.crowded % 32 > 1
     }
 
     /// The first place from one on that is due. None exactly where none is.

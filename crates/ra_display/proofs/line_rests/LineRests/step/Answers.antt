@@ -12,16 +12,17 @@ use Rattle.ra_display.proofs.line_rests.LineRests.step.Goals as goal
 abbrev with_schedule : LineRests → ScheduleSeen → LineRests
 with_schedule rests schedule = record { each = rests.each; schedule = schedule; holds = rests.holds; room = rests.room }
 
-pub begin-requires : goal.begin-requires
-begin-requires c =
+pub begin-crowded-requires : goal.begin-crowded-requires
+begin-crowded-requires c =
     may_begin c.args.table.now c.requires.rests.values c.args.self.now.schedule
     c.requires.rests.changed c.requires.rests.are.heard c.requires.sampled
 
 pub loop-place-init : goal.loop-place-init
 loop-place-init c =
     lines_begin c.args.table.now c.requires.frame
-    (map line_contents c.args.lines.now) c.args.runs.now c.args.self.now c.begin.new.self
-    c.requires.rests.values c.requires.rests.are c.requires.runs c.begin.ensures
+    (map line_contents c.args.lines.now) c.args.runs.now c.args.self.now c.begin-crowded.new.self
+    c.requires.rests.values c.requires.rests.are c.requires.runs c.begin-crowded.ensures
+    (record c.args.self.now.room { closed = c.begin-crowded.result })
 
 pub step_at-requires-clause-place : goal.step_at-requires-clause-place
 step_at-requires-clause-place c =
@@ -30,7 +31,7 @@ step_at-requires-clause-place c =
     subst (λ (q : ScheduleSeen). HasLinePlace contents (with_schedule p.self q) c.in-Some.place)
     (sym c.next_due.ensures.same)
     (has_place c.args.table.now c.requires.frame contents c.args.runs.now c.args.self.now
-    c.begin.new.self c.requires.rests.values c.requires.rests.are c.requires.runs c.begin.ensures
+    c.begin-crowded.new.self c.requires.rests.values c.requires.rests.are c.requires.runs c.begin-crowded.ensures
     p.runs p.self p.at p.invariant c.in-Some.place c.in-Some.ensures.first)
 
 pub loop-place-preserved : goal.loop-place-preserved
@@ -40,11 +41,11 @@ loop-place-preserved c =
     let p = c.loop-place in
     let same = c.next_due.ensures.same in
     let far = subst (λ (q : ScheduleSeen). AreLinesFar table contents c.args.runs.now
-    c.args.self.now c.begin.new.self p.runs (with_schedule p.self q) p.at) (sym same) p.invariant in
+    c.args.self.now c.begin-crowded.new.self p.runs (with_schedule p.self q) p.at) (sym same) p.invariant in
     let first = subst (λ (q : ScheduleSeen). IsFirstSet q.readers.due p.at c.in-Some.place)
     (sym same) c.in-Some.ensures.first in
-    lines_on table c.requires.frame contents c.args.runs.now c.args.self.now c.begin.new.self
-    c.requires.rests.values c.requires.rests.are c.requires.runs c.begin.ensures p.runs
+    lines_on table c.requires.frame contents c.args.runs.now c.args.self.now c.begin-crowded.new.self
+    c.requires.rests.values c.requires.rests.are c.requires.runs c.begin-crowded.ensures p.runs
     (with_schedule p.self c.next_due.new.self) p.at far c.in-Some.place first c.step_at.new.runs
     c.step_at.new.self c.step_at.ensures
 
@@ -55,13 +56,13 @@ returns-clause-rests c =
     let p = c.loop-place in
     let same = c.next_due.ensures.same in
     let far = subst (λ (q : ScheduleSeen). AreLinesFar table contents c.args.runs.now
-    c.args.self.now c.begin.new.self p.runs (with_schedule p.self q) p.at) (sym same) p.invariant in
+    c.args.self.now c.begin-crowded.new.self p.runs (with_schedule p.self q) p.at) (sym same) p.invariant in
     let none = subst (λ (q : ScheduleSeen). NoneSet q.readers.due p.at (length q.readers.due))
     (sym same) (c.in_default.ensures.none refl) in
     subst (λ (q : ScheduleSeen). AreLineRests table.nodes table.values contents p.runs
     (with_schedule p.self q)) (sym c.end.ensures)
-    (rests_after table c.requires.frame contents c.args.runs.now c.args.self.now c.begin.new.self
-    c.requires.rests.values c.requires.rests.are c.requires.runs c.begin.ensures p.runs
+    (rests_after table c.requires.frame contents c.args.runs.now c.args.self.now c.begin-crowded.new.self
+    c.requires.rests.values c.requires.rests.are c.requires.runs c.begin-crowded.ensures p.runs
     (with_schedule p.self c.next_due.new.self) p.at far c.requires.rests.changed none)
 
 pub returns-clause-stepped : goal.returns-clause-stepped
@@ -72,11 +73,11 @@ returns-clause-stepped c =
     let old = seen_lines c.args.runs.now c.args.self.now in
     let same = c.next_due.ensures.same in
     let far = subst (λ (q : ScheduleSeen). AreLinesFar table contents c.args.runs.now
-    c.args.self.now c.begin.new.self p.runs (with_schedule p.self q) p.at) (sym same) p.invariant in
+    c.args.self.now c.begin-crowded.new.self p.runs (with_schedule p.self q) p.at) (sym same) p.invariant in
     let none = subst (λ (q : ScheduleSeen). NoneSet q.readers.due p.at (length q.readers.due))
     (sym same) (c.in_default.ensures.none refl) in
     subst (λ (q : ScheduleSeen). AreLinesSeen table contents old
     (seen_lines p.runs (with_schedule p.self q)) p.self.holds) (sym c.end.ensures)
-    (seen_after table c.requires.frame contents c.args.runs.now c.args.self.now c.begin.new.self
-    c.requires.rests.values c.requires.rests.are c.requires.runs c.begin.ensures p.runs
+    (seen_after table c.requires.frame contents c.args.runs.now c.args.self.now c.begin-crowded.new.self
+    c.requires.rests.values c.requires.rests.are c.requires.runs c.begin-crowded.ensures p.runs
     (with_schedule p.self c.next_due.new.self) p.at far c.requires.rests.changed none)

@@ -13,16 +13,16 @@ abbrev with_schedule : Rests → ScheduleSeen → Rests
 with_schedule rests schedule =
     record { each = rests.each; schedule = schedule; stepped = rests.stepped; count = rests.count; rooms = rests.rooms }
 
-pub begin-requires : goal.begin-requires
-begin-requires c =
+pub begin-crowded-requires : goal.begin-crowded-requires
+begin-crowded-requires c =
     may_begin c.args.table.now c.requires.rests.values c.args.self.now.schedule
     c.requires.rests.changed c.requires.rests.are.heard c.requires.sampled
 
 pub loop-place-init : goal.loop-place-init
 loop-place-init c =
     far_begins c.args.table.now c.requires.frame
-    (map item_contents c.args.items.now) c.args.runs.now c.args.self.now c.begin.new.self
-    c.requires.rests.values c.requires.rests.are c.requires.runs c.begin.ensures
+    (map item_contents c.args.items.now) c.args.runs.now c.args.self.now c.begin-crowded.new.self
+    c.requires.rests.values c.requires.rests.are c.requires.runs c.begin-crowded.ensures c.close.new.self
 
 pub step_at-requires-clause-place : goal.step_at-requires-clause-place
 step_at-requires-clause-place c =
@@ -31,7 +31,7 @@ step_at-requires-clause-place c =
     subst (λ (q : ScheduleSeen). HasPlace contents (with_schedule p.self q) c.in-Some.place)
     (sym c.next_due.ensures.same)
     (place_here c.args.table.now c.requires.frame contents c.args.runs.now c.args.self.now
-    c.begin.new.self c.requires.rests.values c.requires.rests.are c.requires.runs c.begin.ensures
+    c.begin-crowded.new.self c.requires.rests.values c.requires.rests.are c.requires.runs c.begin-crowded.ensures
     p.runs p.self p.at p.invariant c.in-Some.place c.in-Some.ensures.first)
 
 pub loop-place-preserved : goal.loop-place-preserved
@@ -40,11 +40,11 @@ loop-place-preserved c =
     let p = c.loop-place in
     let same = c.next_due.ensures.same in
     let far = subst (λ (q : ScheduleSeen). IsFar c.args.table.now contents c.args.runs.now
-    c.args.self.now c.begin.new.self p.runs (with_schedule p.self q) p.at) (sym same) p.invariant in
+    c.args.self.now c.begin-crowded.new.self p.runs (with_schedule p.self q) p.at) (sym same) p.invariant in
     let first = subst (λ (q : ScheduleSeen). IsFirstSet q.readers.due p.at c.in-Some.place)
     (sym same) c.in-Some.ensures.first in
     far_on c.args.table.now c.requires.frame contents c.args.runs.now c.args.self.now
-    c.begin.new.self c.requires.rests.values c.requires.rests.are c.requires.runs c.begin.ensures
+    c.begin-crowded.new.self c.requires.rests.values c.requires.rests.are c.requires.runs c.begin-crowded.ensures
     p.runs (with_schedule p.self c.next_due.new.self) p.at far c.in-Some.place first
     c.step_at.new.runs c.step_at.new.self c.step_at.ensures
 
@@ -55,11 +55,11 @@ returns c =
     let p = c.loop-place in
     let same = c.next_due.ensures.same in
     let far = subst (λ (q : ScheduleSeen). IsFar table contents c.args.runs.now c.args.self.now
-    c.begin.new.self p.runs (with_schedule p.self q) p.at) (sym same) p.invariant in
+    c.begin-crowded.new.self p.runs (with_schedule p.self q) p.at) (sym same) p.invariant in
     let none = subst (λ (q : ScheduleSeen). NoneSet q.readers.due p.at (length q.readers.due))
     (sym same) (c.in_default.ensures.none refl) in
     subst (λ (q : ScheduleSeen). StepsItems table contents c.args.runs.now p.runs c.args.self.now
     (with_schedule p.self q)) (sym c.end.ensures)
-    (items_stepped table c.requires.frame contents c.args.runs.now c.args.self.now c.begin.new.self
-    c.requires.rests.values c.requires.rests.are c.requires.runs c.begin.ensures p.runs
+    (items_stepped table c.requires.frame contents c.args.runs.now c.args.self.now c.begin-crowded.new.self
+    c.requires.rests.values c.requires.rests.are c.requires.runs c.begin-crowded.ensures p.runs
     (with_schedule p.self c.next_due.new.self) p.at far c.requires.rests.changed none)
