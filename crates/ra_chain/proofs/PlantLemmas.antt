@@ -51,7 +51,7 @@ spells_more old new n tree front spells =
 
 valued_by : (s : List Spelled) (node : Node) (tree : Tree) → spelled_with s node ≡ IsTree tree → IsValued node
 valued_by s (Const n) tree is = tt
-valued_by s (CellNode pointer offset width) tree is = absurd (cc)
+valued_by s (CellNode width pointer offset) tree is = absurd (cc)
 valued_by s (View kind size c) tree is = tt
 valued_by s (Arith op left right) tree is = tt
 
@@ -133,13 +133,13 @@ kept_through a b d n c v n' c' v' n'' c'' v'' nodes cells views first second = r
 
 cells_length : (s : List Spelled) (node : Node) → length (cell_in (spelled_with s node)) ≡ cells_at node
 cells_length s (Const n) = refl
-cells_length s (CellNode pointer offset width) = refl
+cells_length s (CellNode width pointer offset) = refl
 cells_length s (View kind size c) = refl
 cells_length s (Arith op left right) = refl
 
 views_length : (node : Node) → length (filter is_view (node ∷ [])) ≡ views_at node
 views_length (Const n) = refl
-views_length (CellNode pointer offset width) = refl
+views_length (CellNode width pointer offset) = refl
 views_length (View kind size c) = refl
 views_length (Arith op left right) = refl
 
@@ -195,14 +195,14 @@ module _ (old new : List Node) (pool : IsPool old) (after : IsPool new) where
 -- a cell and its view
 pub plants_view : (a b d : List Node) → IsPool a → IsPool b → IsPool d
     → (kind : Kind) (size : Size) (pointer address c place : ℕ) (p : Tree) → Spells a pointer p
-    → GainsNode a b (CellNode pointer address (width_of size)) c → GainsNode b d (View kind size c)
+    → GainsNode a b (CellNode (width_of size) pointer address) c → GainsNode b d (View kind size c)
     place → Plants a d (view kind size p address ∷ []) (view kind size p address) place
 plants_view a b d pool_a pool_b pool_d kind size pointer address c place p spells first second =
     let cell : spelled_at (spelled_by b) c ≡ IsCell (cell_of size p address) = first.spells
     ∙ ap (λ x. IsCell (record { pointer = tree_in x; address = address; width = width_of size }))
     (spells_at a pointer p spells) in
     let all = closed a pool_a p pointer (spells_within a pointer p spells) (spells_at a pointer p spells) in
-    let first_is : spelled_with (spelled_by a) (CellNode pointer address (width_of size))
+    let first_is : spelled_with (spelled_by a) (CellNode (width_of size) pointer address)
     ≡ IsCell (cell_of size p address) = sym first.spells ∙ cell in
     let second_is : spelled_with (spelled_by b) (View kind size c)
     ≡ IsTree (view kind size p address) = ap (λ x. IsTree (view_in kind size x)) cell in
@@ -227,13 +227,13 @@ plants_view a b d pool_a pool_b pool_d kind size pointer address c place p spell
 
 cell_by : (s : List Spelled) (node : Node) (c : Cell) → spelled_with s node ≡ IsCell c → IsCellOf c.width node
 cell_by s (Const n) c is = absurd (cc)
-cell_by s (CellNode pointer offset width) c is = ap (λ d. d.width) (cell_inside _ _ is)
+cell_by s (CellNode width pointer offset) c is = ap (λ d. d.width) (cell_inside _ _ is)
 cell_by s (View kind size d) c is = absurd (cc)
 cell_by s (Arith op left right) c is = absurd (cc)
 
 -- the node of a cell is one of its width
 pub gains_cell : (old new : List Node) (pointer address width place : ℕ) → IsPool new
-    → GainsNode old new (CellNode pointer address width) place → IsCellOf width (node_at new place)
+    → GainsNode old new (CellNode width pointer address) place → IsCellOf width (node_at new place)
 gains_cell old new pointer address width place pool gains =
     cell_by (spelled_by new) (node_at new place) _ (sym (spelled_of new pool place gains.within) ∙ gains.spells)
 

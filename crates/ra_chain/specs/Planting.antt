@@ -53,7 +53,7 @@ pub record IsKept (old new : List Node) (nodes cells views : ℕ) : Type 0 where
 
 -- how many cells a node is: one or none
 abbrev pub cells_at : Node → ℕ
-cells_at (CellNode pointer offset width) = 1
+cells_at (CellNode width pointer offset) = 1
 cells_at _ = 0
 
 -- how many views a node is: one or none

@@ -8,10 +8,10 @@ use ra_operand::{Op, Operand};
 pub struct Condition {
     /// What the condition is for.
     pub flag: Flag,
-    /// The left operand.
-    pub left: Operand,
     /// The comparison, or the arithmetic of a condition that hands a value on.
     pub op: Op,
+    /// The left operand.
+    pub left: Operand,
     /// The right operand.
     pub right: Operand,
     /// The hit target; 0 is no target.

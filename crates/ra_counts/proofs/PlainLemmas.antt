@@ -119,8 +119,8 @@ module _ (cs : List Condition) (plain : HandNothingOn cs) where
 -- a cell whose pointer is the constant 0, without a view
 module _ (old new : List Node) (pool : IsPool old) (after : IsPool new) (kind : Kind) (size : Size)
     (address nought place : ℕ) (spells : Spells old nought (constant 0))
-    (gain : GainsNode old new (CellNode nought address (width_of size)) place) where
-  cell_is : spelled_with (spelled_by old) (CellNode nought address (width_of size)) ≡ IsCell
+    (gain : GainsNode old new (CellNode (width_of size) nought address) place) where
+  cell_is : spelled_with (spelled_by old) (CellNode (width_of size) nought address) ≡ IsCell
       (cell_of size (constant 0) address)
   cell_is =
       ap (λ x. IsCell (record { pointer = tree_in x; address = address; width = width_of size }))

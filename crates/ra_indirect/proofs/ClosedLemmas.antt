@@ -56,7 +56,7 @@ module _ (nodes : List Node) (pool : IsPool nodes) where
   joins : (op : Op) (left right : Tree) (node : Node) → MayFollow nodes node
       → spelled_with (spelled_by nodes) node ≡ IsTree (join op left right) → JoinsNodes left right
   joins op left right (Const n) may same = absurd (cc)
-  joins op left right (CellNode pointer offset width) may same = absurd (cc)
+  joins op left right (CellNode width pointer offset) may same = absurd (cc)
   joins op left right (View k s c) may same =
       absurd (no_join k s (at c) op left right (cell_at_cell nodes pool (width_of s) c may.0 may.1)
       (sym (tree_inside _ _ same)))
@@ -68,7 +68,7 @@ module _ (nodes : List Node) (pool : IsPool nodes) where
   pointer_by : (c : Cell) (width : ℕ) (node : Node) → IsCellOf width node → MayFollow nodes node
       → spelled_with (spelled_by nodes) node ≡ IsCell c → IsSpelledBy c.pointer
   pointer_by c width (Const n) is may same = absurd is
-  pointer_by c width (CellNode pointer offset w) is may same =
+  pointer_by c width (CellNode w pointer offset) is may same =
       valued_is pointer c.pointer may.0 may.1 (ap (λ d. d.pointer) (cell_inside _ _ same))
   pointer_by c width (View k s d) is may same = absurd is
   pointer_by c width (Arith o a b) is may same = absurd is
@@ -83,7 +83,7 @@ module _ (nodes : List Node) (pool : IsPool nodes) where
       → MayFollow nodes node → spelled_with (spelled_by nodes) node
       ≡ IsTree (view kind size pointer address) → ViewsNodes size pointer address
   views kind size pointer address (Const n) may same = absurd (cc)
-  views kind size pointer address (CellNode p offset width) may same = absurd (cc)
+  views kind size pointer address (CellNode width p offset) may same = absurd (cc)
   views kind size pointer address (View k s c) may same =
       let is : at c ≡ IsCell (cell_of size pointer address) = view_parts kind k size s pointer
       address (at c) (cell_at_cell nodes pool (width_of s) c may.0 may.1) (tree_inside _ _ same) in

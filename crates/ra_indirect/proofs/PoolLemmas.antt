@@ -25,7 +25,7 @@ SameBelow n nodes nodes' = (k : ℕ) → k < n → node_at nodes' k ≡ node_at 
 pub MayFollow-more : (nodes nodes' : List Node) (node : Node) → length nodes ≤ length nodes'
     → SameBelow (length nodes) nodes nodes' → MayFollow nodes node → MayFollow nodes' node
 MayFollow-more nodes nodes' (Const n) longer same may = tt
-MayFollow-more nodes nodes' (CellNode pointer offset width) longer same may =
+MayFollow-more nodes nodes' (CellNode width pointer offset) longer same may =
     (omega (arith, may.0), subst IsValued (sym (same pointer may.0)) may.1, may.2)
 MayFollow-more nodes nodes' (View kind size c) longer same may =
     (omega (arith, may.0), subst (IsCellOf _) (sym (same c may.0)) may.1)

@@ -28,14 +28,14 @@ GivesCell width (IsCell c) = c.width ≡ width
 -- what is no cell spells a tree, and a cell spells a cell of its width
 pub with_valued : (s : List Spelled) (node : Node) → IsValued node → GivesTree (spelled_with s node)
 with_valued s (Const n) valued = tt
-with_valued s (CellNode pointer offset width) valued = absurd valued
+with_valued s (CellNode width pointer offset) valued = absurd valued
 with_valued s (View kind size c) valued = tt
 with_valued s (Arith op left right) valued = tt
 
 pub with_cell : (s : List Spelled) (width : ℕ) (node : Node) → IsCellOf width node
     → GivesCell width (spelled_with s node)
 with_cell s width (Const n) is = absurd is
-with_cell s width (CellNode pointer offset w) is = is
+with_cell s width (CellNode w pointer offset) is = is
 with_cell s width (View kind size c) is = absurd is
 with_cell s width (Arith op left right) is = absurd is
 
@@ -73,14 +73,14 @@ no_join k s (IsCell c) op x y is same = cc
 -- the numbers that a node names
 abbrev pub NamesBelow : ℕ → Node → Type 0
 NamesBelow n (Const m) = Unit {0}
-NamesBelow n (CellNode pointer offset width) = pointer < n
+NamesBelow n (CellNode width pointer offset) = pointer < n
 NamesBelow n (View kind size c) = c < n
 NamesBelow n (Arith op left right) = (left < n) × (right < n)
 
 pub names_below : (n : ℕ) (nodes : List Node) (node : Node) → length nodes ≤ n
     → MayFollow nodes node → NamesBelow n node
 names_below n nodes (Const m) few may = tt
-names_below n nodes (CellNode pointer offset width) few may = omega (arith, may.0)
+names_below n nodes (CellNode width pointer offset) few may = omega (arith, may.0)
 names_below n nodes (View kind size c) few may = omega (arith, may.0)
 names_below n nodes (Arith op left right) few may = (omega (arith, may.0), omega (arith, may.2))
 
@@ -125,20 +125,20 @@ module _ (nodes : List Node) (pool : IsPool nodes) where
     node_same : (x y : Node) → n ≤ length nodes → NamesBelow n x → MayFollow nodes x → MayFollow
         nodes y → spelled_with (spelled_by nodes) x ≡ spelled_with (spelled_by nodes) y → x ≡ y
     node_same (Const a) (Const b) few names may may' same = let one : a ≡ b = cc in ap Const one
-    node_same (Const a) (CellNode p o w) few names may may' same = absurd (cc)
+    node_same (Const a) (CellNode w p o) few names may may' same = absurd (cc)
     node_same (Const a) (View k s c) few names may may' same =
         absurd (no_constant k s (at c) a (cell_at_cell (width_of s) c may'.0 may'.1) (tree_inside _ _ same))
     node_same (Const a) (Arith op l r) few names may may' same = absurd (cc)
-    node_same (CellNode p o w) (Const b) few names may may' same = absurd (cc)
-    node_same (CellNode p o w) (CellNode p' o' w') few names may may' same =
+    node_same (CellNode w p o) (Const b) few names may may' same = absurd (cc)
+    node_same (CellNode w p o) (CellNode w' p' o') few names may may' same =
         let one = cell_inside _ _ same in
         let pointers = one_tree p p' names few may'.0 may.1 may'.1 (ap (λ c. c.pointer) one) in
-        (λ i. CellNode (pointers i) (one i).address (one i).width)
-    node_same (CellNode p o w) (View k s c) few names may may' same = absurd (cc)
-    node_same (CellNode p o w) (Arith op l r) few names may may' same = absurd (cc)
+        (λ i. CellNode (one i).width (pointers i) (one i).address)
+    node_same (CellNode w p o) (View k s c) few names may may' same = absurd (cc)
+    node_same (CellNode w p o) (Arith op l r) few names may may' same = absurd (cc)
     node_same (View k s c) (Const b) few names may may' same =
         absurd (no_constant k s (at c) b (cell_at_cell (width_of s) c may.0 may.1) (sym (tree_inside _ _ same)))
-    node_same (View k s c) (CellNode p o w) few names may may' same = absurd (cc)
+    node_same (View k s c) (CellNode w p o) few names may may' same = absurd (cc)
     node_same (View k s c) (View k' s' c') few names may may' same =
         let one = view_same k k' s s' (at c) (at c') (cell_at_cell (width_of s) c may.0 may.1)
         (cell_at_cell (width_of s') c' may'.0 may'.1) (tree_inside _ _ same) in
@@ -148,7 +148,7 @@ module _ (nodes : List Node) (pool : IsPool nodes) where
         absurd (no_join k s (at c) op (tree_in (at l)) (tree_in (at r))
         (cell_at_cell (width_of s) c may.0 may.1) (sym (tree_inside _ _ same)))
     node_same (Arith op l r) (Const b) few names may may' same = absurd (cc)
-    node_same (Arith op l r) (CellNode p o w) few names may may' same = absurd (cc)
+    node_same (Arith op l r) (CellNode w p o) few names may may' same = absurd (cc)
     node_same (Arith op l r) (View k s c) few names may may' same =
         absurd (no_join k s (at c) op (tree_in (at l)) (tree_in (at r))
         (cell_at_cell (width_of s) c may'.0 may'.1) (tree_inside _ _ same))

@@ -76,7 +76,7 @@ pub spelled_with-agree : (s s' : List Spelled) (nodes : List Node) (node : Node)
     → MayFollow nodes node → ((i : ℕ) → i < length nodes → spelled_at s i ≡ spelled_at s' i)
     → spelled_with s node ≡ spelled_with s' node
 spelled_with-agree s s' nodes (Const n) may agree = refl
-spelled_with-agree s s' nodes (CellNode pointer offset width) may agree =
+spelled_with-agree s s' nodes (CellNode width pointer offset) may agree =
     ap (λ x. IsCell (record { pointer = tree_in x; address = offset; width = width })) (agree pointer may.0)
 spelled_with-agree s s' nodes (View kind size c) may agree =
     ap (λ x. IsTree (view_in kind size x)) (agree c may.0)

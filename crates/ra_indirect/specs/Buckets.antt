@@ -16,7 +16,7 @@ mixed_of low high kinds =
 -- the bucket of a node, where this many are for views, behind as many for all else
 unfoldable pub bucket_of : ℕ → Node → ℕ
 bucket_of half (Const n) = bit_and (mixed_of n 0 0) (half - 1)
-bucket_of half (CellNode pointer offset width) = bit_and (mixed_of pointer offset width) (half - 1)
+bucket_of half (CellNode width pointer offset) = bit_and (mixed_of pointer offset width) (half - 1)
 bucket_of half (View kind size c) = half + bit_and c (half - 1)
 bucket_of half (Arith op left right) = bit_and (mixed_of left right (8 + number_of_op op)) (half - 1)
 

@@ -33,7 +33,7 @@ spelled_at spelled n = slice_index_or spelled n (IsTree (constant 0))
 -- what a node spells, from what the earlier nodes spell
 abbrev pub spelled_with : List Spelled → Node → Spelled
 spelled_with earlier (Const n) = IsTree (constant n)
-spelled_with earlier (CellNode pointer offset width) =
+spelled_with earlier (CellNode width pointer offset) =
     IsCell (record { pointer = tree_in (spelled_at earlier pointer); address = offset; width = width })
 spelled_with earlier (View kind size c) = IsTree (view_in kind size (spelled_at earlier c))
 spelled_with earlier (Arith op left right) =
@@ -54,12 +54,12 @@ Spells nodes n tree = slice_get (spelled_by nodes) n ≡ Some (IsTree tree)
 
 -- the node is a cell of this width
 abbrev pub IsCellOf : ℕ → Node → Type 0
-IsCellOf width (CellNode pointer offset w) = w ≡ width
+IsCellOf width (CellNode w pointer offset) = w ≡ width
 IsCellOf width node = ⊥
 
 -- the node has a value: it is no cell
 abbrev pub IsValued : Node → Type 0
-IsValued (CellNode pointer offset w) = ⊥
+IsValued (CellNode w pointer offset) = ⊥
 IsValued node = Unit {0}
 
 -- the node of a number, a constant past the end
@@ -73,7 +73,7 @@ IsWidth width = (width ≡ 1) ⊎ ((width ≡ 2) ⊎ (width ≡ 4))
 -- the node may come after these: it names earlier nodes alone, and such as it needs
 abbrev pub MayFollow : List Node → Node → Type 0
 MayFollow nodes (Const n) = Unit {0}
-MayFollow nodes (CellNode pointer offset width) =
+MayFollow nodes (CellNode width pointer offset) =
     (pointer < length nodes) × IsValued (node_at nodes pointer) × IsWidth width
 MayFollow nodes (View kind size c) = (c < length nodes) × IsCellOf (width_of size) (node_at nodes c)
 MayFollow nodes (Arith op left right) = (left < length nodes) × IsValued (node_at nodes left)

@@ -8,9 +8,9 @@ pub enum Node {
     Const(u32),
     /// A cell at an offset from what the pointer's node gives, of a width of 1, 2 or 4 bytes.
     Cell {
+        width: u8,
         pointer: u32,
         offset: u32,
-        width: u8,
     },
     /// A view of the cell that the node `cell` spells.
     View {

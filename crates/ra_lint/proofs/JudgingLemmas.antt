@@ -51,7 +51,7 @@ module _ (nodes : List Node) (pool : IsPool nodes) where
       → ((k : ℕ) → k < n → range_at ranges k ≡ range_of (tree_of nodes k))
       → node_range ranges node ≡ range_of (tree_in (spelled_with (spelled_by nodes) node))
   by_node ranges n (Const m) may names each = refl
-  by_node ranges n (CellNode pointer offset width) may names each = refl
+  by_node ranges n (CellNode width pointer offset) may names each = refl
   by_node ranges n (View kind size c) may names each =
       sym (viewed kind size (width_of size) (spelled_at (spelled_by nodes) c)
       (cell_at_cell nodes pool (width_of size) c may.0 may.1))
@@ -69,7 +69,7 @@ module _ (nodes : List Node) (pool : IsPool nodes) where
     where
       by_kind : (node : Node) → MayFollow nodes node → NamesBelow k node → JoinsBelow (length ranges) node
       by_kind (Const m) may below = tt
-      by_kind (CellNode pointer offset width) may below = tt
+      by_kind (CellNode width pointer offset) may below = tt
       by_kind (View kind size c) may below = tt
       by_kind (Arith op left right) may below =
           (omega (arith, below.0, is.whole), omega (arith, below.1, is.whole), may.4)

@@ -22,7 +22,7 @@ ranges_in nodes = map (λ s. range_of (tree_in s)) (spelled_by nodes)
 -- the range of a node's tree, from those of the nodes before it
 abbrev pub node_range : List Range → Node → Range
 node_range ranges (Const n) = range n n
-node_range ranges (Cell pointer offset width) = range 0 0
+node_range ranges (Cell width pointer offset) = range 0 0
 node_range ranges (View kind size c) = view_range kind size
 node_range ranges (Arith op left right) = operator_range op (range_at ranges left) (range_at ranges right)
 

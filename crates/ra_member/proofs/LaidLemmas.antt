@@ -33,7 +33,7 @@ use Rattle.ra_member.specs.Runs.{IsLaid, MayFill, IsFilled, lefts_in, truths_in}
 -- a node that spells a tree has a value
 gives_value : (s : List Spelled) (node : Node) (tree : Tree) → spelled_with s node ≡ IsTree tree → IsValued node
 gives_value s (Const n) tree is = tt
-gives_value s (CellNode pointer offset width) tree is = absurd (cc)
+gives_value s (CellNode width pointer offset) tree is = absurd (cc)
 gives_value s (View kind size c) tree is = tt
 gives_value s (Arith op left right) tree is = tt
 

@@ -36,7 +36,7 @@ named_below nodes pool k within node same i named =
   where
     by_node : (node : Node) → NamesBelow (length nodes) node → Names node i → i < length nodes
     by_node (Const n) below named = absurd named
-    by_node (CellNode pointer offset width) below named = omega (arith, below, named)
+    by_node (CellNode width pointer offset) below named = omega (arith, below, named)
     by_node (View kind size c) below named = omega (arith, below, named)
     by_node (Arith op left right) below (inl named) = omega (arith, below.0, named)
     by_node (Arith op left right) below (inr named) = omega (arith, below.1, named)
@@ -58,7 +58,7 @@ naming_none nodes = record {
 each_of : (P : Entry → Type 0) (n : ℕ) (node : Node) → ((i : ℕ) → Names node i → P (record { row = i; number = n }))
     → (k : ℕ) → k < length (entries_of n node) → P (entry_at (entries_of n node) k)
 each_of P n (Const c) one = λ k below. absurd (omega (arith, below))
-each_of P n (CellNode pointer offset width) one = each_one P (record { row = pointer; number = n }) (one pointer refl)
+each_of P n (CellNode width pointer offset) one = each_one P (record { row = pointer; number = n }) (one pointer refl)
 each_of P n (View kind size c) one = each_one P (record { row = c; number = n }) (one c refl)
 each_of P n (Arith op left right) one =
     each_both P (record { row = left; number = n } ∷ []) (record { row = right; number = n } ∷ [])
@@ -68,7 +68,7 @@ each_of P n (Arith op left right) one =
 -- a node stands on the row of each that it names
 named_here : (n : ℕ) (node : Node) (i : ℕ) → Names node i → IsListed n (numbers_on i (entries_of n node))
 named_here n (Const c) i named = absurd named
-named_here n (CellNode pointer offset width) i named = listed_here (record { row = pointer; number = n }) i named
+named_here n (CellNode width pointer offset) i named = listed_here (record { row = pointer; number = n }) i named
 named_here n (View kind size c) i named = listed_here (record { row = c; number = n }) i named
 named_here n (Arith op left right) i (inl named) =
     listed_old (record { row = left; number = n } ∷ []) (record { row = right; number = n } ∷ []) n i
@@ -117,7 +117,7 @@ noted_none nodes = record {
 module _ (nodes : List Node) (pool : IsPool nodes) (cell_nodes : List ℕ) (k : ℕ) (within : k < length nodes)
     (are : AreCellNodes nodes k cell_nodes) where
   -- how many cells one node more spells
-  count_cell : (pointer offset width : ℕ) → node_at nodes k ≡ CellNode pointer offset width
+  count_cell : (pointer offset width : ℕ) → node_at nodes k ≡ CellNode width pointer offset
       → length (cells_before (spelled_by nodes) (k + 1)) ≡ length (cells_before (spelled_by nodes) k) + 1
   count_cell pointer offset width same =
       let same_cells = along_cell nodes pool ℕ (λ c. c.width) (map (λ c. c.width)
@@ -132,7 +132,7 @@ module _ (nodes : List Node) (pool : IsPool nodes) (cell_nodes : List ℕ) (k : 
         length-map (cells_before (spelled_by nodes) (k + 1)) (λ c. c.width),
       )
 
-  count_same : ((pointer offset width : ℕ) → node_at nodes k ≡ CellNode pointer offset width → ⊥)
+  count_same : ((pointer offset width : ℕ) → node_at nodes k ≡ CellNode width pointer offset → ⊥)
       → length (cells_before (spelled_by nodes) (k + 1)) ≡ length (cells_before (spelled_by nodes) k)
   count_same other =
       let same_cells = along_same nodes pool ℕ (λ c. c.width) (map (λ c. c.width)
@@ -145,7 +145,7 @@ module _ (nodes : List Node) (pool : IsPool nodes) (cell_nodes : List ℕ) (k : 
             (cells_before (spelled_by nodes) (k + 1)) (λ c. c.width),
       )
 
-  slot_below : (n : ℕ) → n < k → (pointer offset width : ℕ) → node_at nodes n ≡ CellNode pointer offset width
+  slot_below : (n : ℕ) → n < k → (pointer offset width : ℕ) → node_at nodes n ≡ CellNode width pointer offset
       → length (cells_before (spelled_by nodes) n) < length cell_nodes
   slot_below n less pointer offset width same =
       let inside : n < length (spelled_by nodes) = omega (arith, less, within, length-spelled_by nodes) in
@@ -164,7 +164,7 @@ module _ (nodes : List Node) (pool : IsPool nodes) (cell_nodes : List ℕ) (k : 
       → HasCellNode node cell_nodes (length (cells_before (spelled_by nodes) n)) n
       → HasCellNode node (cell_nodes ++ more) (length (cells_before (spelled_by nodes) n)) n
   still_there more n less (Const m) same has = tt
-  still_there more n less (CellNode pointer offset width) same has =
+  still_there more n less (CellNode width pointer offset) same has =
       get_or_append_left cell_nodes more 0 (length (cells_before (spelled_by nodes) n))
       (slot_below n less pointer offset width same) ∙ has
   still_there more n less (View kind size c) same has = tt
@@ -172,20 +172,20 @@ module _ (nodes : List Node) (pool : IsPool nodes) (cell_nodes : List ℕ) (k : 
 
   last_there : (node : Node) → HasCellNode node (cell_nodes ++ k ∷ []) (length (cells_before (spelled_by nodes) k)) k
   last_there (Const m) = tt
-  last_there (CellNode pointer offset width) =
+  last_there (CellNode width pointer offset) =
       ap (λ i. get_or (cell_nodes ++ k ∷ []) i 0) (sym are.long) ∙ get_or-append_seam cell_nodes k [] 0
   last_there (View kind size c) = tt
   last_there (Arith op left right) = tt
 
-  none_there : (node : Node) → ((pointer offset width : ℕ) → node ≡ CellNode pointer offset width → ⊥)
+  none_there : (node : Node) → ((pointer offset width : ℕ) → node ≡ CellNode width pointer offset → ⊥)
       → HasCellNode node cell_nodes (length (cells_before (spelled_by nodes) k)) k
   none_there (Const m) other = tt
-  none_there (CellNode pointer offset width) other = absurd (other pointer offset width refl)
+  none_there (CellNode width pointer offset) other = absurd (other pointer offset width refl)
   none_there (View kind size c) other = tt
   none_there (Arith op left right) other = tt
 
   -- a cell's node comes last
-  pub noted_cell : (pointer offset width : ℕ) → node_at nodes k ≡ CellNode pointer offset width
+  pub noted_cell : (pointer offset width : ℕ) → node_at nodes k ≡ CellNode width pointer offset
       → AreCellNodes nodes (k + 1) (cell_nodes ++ k ∷ [])
   noted_cell pointer offset width same = record {
     long = omega (arith, length-append cell_nodes (k ∷ []), are.long, count_cell pointer offset width same);
@@ -206,9 +206,9 @@ module _ (nodes : List Node) (pool : IsPool nodes) (cell_nodes : List ℕ) (k : 
 
   -- another node adds none
   pub noted_same : (node : Node) → node_at nodes k ≡ node
-      → ((pointer offset width : ℕ) → node ≡ CellNode pointer offset width → ⊥) → AreCellNodes nodes (k + 1) cell_nodes
+      → ((pointer offset width : ℕ) → node ≡ CellNode width pointer offset → ⊥) → AreCellNodes nodes (k + 1) cell_nodes
   noted_same node same other =
-      let none : (pointer offset width : ℕ) → node_at nodes k ≡ CellNode pointer offset width
+      let none : (pointer offset width : ℕ) → node_at nodes k ≡ CellNode width pointer offset
       → ⊥ = λ pointer offset width is. other pointer offset width (sym same ∙ is) in
       record {
         long = are.long ∙ sym (count_same none);
@@ -288,11 +288,11 @@ module _ (nodes : List Node) (pool : IsPool nodes) (slots : List ℕ) (laid : Is
     (numbers : NumbersSeen) (sized : IsSizedFor nodes numbers) (cell_nodes : List ℕ) (cells : AreCellNodes nodes
     (length nodes) cell_nodes) (due due' : List Bool) where
   slot_inside : (j : ℕ) → j < length nodes → (pointer offset width : ℕ)
-      → node_at nodes j ≡ CellNode pointer offset width → get_or slots j 0 < length cell_nodes
+      → node_at nodes j ≡ CellNode width pointer offset → get_or slots j 0 < length cell_nodes
   slot_inside j within pointer offset width same =
       omega (
         arith,
-        (node_within nodes pool slots laid j within numbers sized (CellNode pointer offset width)
+        (node_within nodes pool slots laid j within numbers sized (CellNode width pointer offset)
             (sym same)).1,
         sized.cells,
         count_all cells,
@@ -314,7 +314,7 @@ module _ (nodes : List Node) (pool : IsPool nodes) (slots : List ℕ) (laid : Is
   unmarked_by gathered j within still (Const n) same has slot = tt
   unmarked_by gathered j within still (View kind size c) same has slot = tt
   unmarked_by gathered j within still (Arith op left right) same has slot = tt
-  unmarked_by gathered j within still (CellNode pointer offset width) same has slot =
+  unmarked_by gathered j within still (CellNode width pointer offset) same has slot =
       unmarked_at j gathered still (slot_inside j within pointer offset width same) (ap
       (λ i. get_or cell_nodes i 0) slot ∙ has) (get_or numbers.watches.marked (get_or slots j 0) true) refl
 
@@ -336,7 +336,7 @@ module _ (nodes : List Node) (pool : IsPool nodes) (slots : List ℕ) (laid : Is
   settled_by noted j within still (Const n) same has slot = refl
   settled_by noted j within still (View kind size c) same has slot = refl
   settled_by noted j within still (Arith op left right) same has slot = refl
-  settled_by noted j within still (CellNode pointer offset width) same has slot =
+  settled_by noted j within still (CellNode width pointer offset) same has slot =
       let node = ap (λ i. get_or cell_nodes i 0) slot ∙ has in
       noted (get_or slots j 0) (slot_inside j within pointer offset width same)
       (ap (λ i. get_or due' i true) node ∙ still)

@@ -17,9 +17,9 @@ cell_with nodes pointer offset width =
 
 -- a node that is none spells none
 pub no_cell_with : (spelled : List Spelled) (node : Node)
-    → ((pointer offset width : ℕ) → node ≡ CellNode pointer offset width → ⊥) → cell_in (spelled_with spelled node) ≡ []
+    → ((pointer offset width : ℕ) → node ≡ CellNode width pointer offset → ⊥) → cell_in (spelled_with spelled node) ≡ []
 no_cell_with spelled (Const n) other = refl
-no_cell_with spelled (CellNode pointer offset width) other = absurd (other pointer offset width refl)
+no_cell_with spelled (CellNode width pointer offset) other = absurd (other pointer offset width refl)
 no_cell_with spelled (View kind size c) other = refl
 no_cell_with spelled (Arith op left right) other = refl
 
@@ -32,7 +32,7 @@ module _ (nodes : List Node) (pool : IsPool nodes) (X : Type 0) (f : Cell → X)
   next = omega arith
 
   -- a cell comes last
-  pub along_cell : (pointer offset width : ℕ) → node_at nodes k ≡ CellNode pointer offset width
+  pub along_cell : (pointer offset width : ℕ) → node_at nodes k ≡ CellNode width pointer offset
       → xs ++ f (cell_with nodes pointer offset width) ∷ [] ≡ map f (cells_before (spelled_by nodes) (k + 1))
   along_cell pointer offset width same =
       let is = spelled_of nodes pool k within ∙ ap (spelled_with (spelled_by nodes)) same in
@@ -43,7 +43,7 @@ module _ (nodes : List Node) (pool : IsPool nodes) (X : Type 0) (f : Cell → X)
 
   -- another node adds none
   pub along_same : (node : Node) → node_at nodes k ≡ node
-      → ((pointer offset width : ℕ) → node ≡ CellNode pointer offset width → ⊥)
+      → ((pointer offset width : ℕ) → node ≡ CellNode width pointer offset → ⊥)
       → xs ≡ map f (cells_before (spelled_by nodes) (k + 1))
   along_same node same other =
       let is = spelled_of nodes pool k within ∙ ap (spelled_with (spelled_by nodes)) same in

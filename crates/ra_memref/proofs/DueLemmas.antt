@@ -57,7 +57,7 @@ named_before nodes pool j within i named = by_node (node_at nodes j)
   where
     by_node : (node : Node) → NamesBelow j node → Names node i → i < j
     by_node (Const n) below named = absurd named
-    by_node (CellNode pointer offset width) below named = omega (arith, below, named)
+    by_node (CellNode width pointer offset) below named = omega (arith, below, named)
     by_node (View kind size c) below named = omega (arith, below, named)
     by_node (Arith op left right) below (inl named) = omega (arith, below.0, named)
     by_node (Arith op left right) below (inr named) = omega (arith, below.1, named)

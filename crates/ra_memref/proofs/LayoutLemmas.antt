@@ -174,8 +174,8 @@ module _ (nodes : List Node) (pool : IsPool nodes) where
         → TakesSlot node places places' masks masks' slot → Lays places' masks' node slot k
     lays (Const n) may is takes = lays_nothing (Const n)
         (spelled_with spelled (Const n)) tt is refl refl takes.0 takes.1
-    lays (CellNode pointer offset width) may is takes =
-        lays_cell _ (CellNode pointer offset width) (takes.0 ∙ ap length laying.placed
+    lays (CellNode width pointer offset) may is takes =
+        lays_cell _ (CellNode width pointer offset) (takes.0 ∙ ap length laying.placed
         ∙ length-map (cells_before spelled k) (λ d. d.address)) is takes.1 takes.2
     lays (View Prior size c) may is takes =
         lays_prior size c may.0 (cell_at_cell nodes pool (width_of size) c may.0 may.1) is takes.0 takes.1
@@ -224,7 +224,7 @@ module _ (nodes : List Node) (pool : IsPool nodes) where
       where
         few_places : (node : Node) → TakesSlot node places places' masks masks' slot → length places' ≤ suc k
         few_places (Const n) takes = omega (arith, laying.few_cells, ap length takes.0)
-        few_places (CellNode pointer offset width) takes = omega
+        few_places (CellNode width pointer offset) takes = omega
             (arith, laying.few_cells, ap length takes.1, length-append places (offset ∷ []))
         few_places (View Mem size c) takes = omega (arith, laying.few_cells, ap length takes.0)
         few_places (View Delta size c) takes = omega (arith, laying.few_cells, ap length takes.0)

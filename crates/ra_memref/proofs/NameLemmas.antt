@@ -40,7 +40,7 @@ pub record AreNamed (nodes : List Node) (wanted : List Bool) (names : List (List
 cell_wanted : (spelled : List Spelled) (wanted : List Bool) (n : ℕ) (c : Cell) (node : Node) → HasWanted wanted n node
     → spelled_with spelled node ≡ IsCell c → is_wanted wanted n ≡ true
 cell_wanted spelled wanted n c (Const m) has is = absurd (cc)
-cell_wanted spelled wanted n c (CellNode pointer offset width) has is = has.0
+cell_wanted spelled wanted n c (CellNode width pointer offset) has is = has.0
 cell_wanted spelled wanted n c (View kind size v) has is = absurd (cc)
 cell_wanted spelled wanted n c (Arith op left right) has is = absurd (cc)
 
@@ -54,7 +54,7 @@ module _ (nodes : List Node) (pool : IsPool nodes) where
       by_node : (node : Node) → NamesBelow k node → MayFollow nodes node → HasWanted wanted k node
           → is_wanted wanted k ≡ true → spelled_name (spelled_with spelled node) ≡ name_with names node
       by_node (Const n) under may has is = refl
-      by_node (CellNode pointer offset width) under may has is =
+      by_node (CellNode width pointer offset) under may has is =
           ap (λ name. cell_name_by name offset width)
           (named_tree (spelled_at spelled pointer) (tree_at_valued nodes pool pointer may.0 may.1)
           ∙ sym (named.each pointer under has.1))

@@ -36,34 +36,34 @@ sized_more nodes node slots image k old new sized takes = record {
   where
     cells_length : (node : Node) → length (cells_after node old image (get_or slots k 0)) ≡ length old.cells
     cells_length (Const n) = refl
-    cells_length (CellNode pointer offset width) =
+    cells_length (CellNode width pointer offset) =
         length-set old.cells (get_or slots k 0) (number_in old image pointer offset width)
     cells_length (View kind size c) = refl
     cells_length (Arith op left right) = refl
 
     earlier_length : (node : Node) → length (earlier_after node old (get_or slots k 0)) ≡ length old.earlier
     earlier_length (Const n) = refl
-    earlier_length (CellNode pointer offset width) =
+    earlier_length (CellNode width pointer offset) =
         length-set old.earlier (get_or slots k 0) (get_or old.cells (get_or slots k 0) 0)
     earlier_length (View kind size c) = refl
     earlier_length (Arith op left right) = refl
 
     places_length : (node : Node) → length (places_after node old (get_or slots k 0)) ≡ length old.watches.places
     places_length (Const n) = refl
-    places_length (CellNode pointer offset width) =
+    places_length (CellNode width pointer offset) =
         length-set old.watches.places (get_or slots k 0) (place_in old pointer offset)
     places_length (View kind size c) = refl
     places_length (Arith op left right) = refl
 
     marked_length : (node : Node) → length (marked_after node old (get_or slots k 0)) ≡ length old.watches.marked
     marked_length (Const n) = refl
-    marked_length (CellNode pointer offset width) = length-set old.watches.marked (get_or slots k 0) false
+    marked_length (CellNode width pointer offset) = length-set old.watches.marked (get_or slots k 0) false
     marked_length (View kind size c) = refl
     marked_length (Arith op left right) = refl
 
     priors_length : (node : Node) → length (priors_after node old slots k) ≡ length old.priors
     priors_length (Const n) = refl
-    priors_length (CellNode pointer offset width) = refl
+    priors_length (CellNode width pointer offset) = refl
     priors_length (View Prior size c) = length-set old.priors (get_or slots k 0)
         (prior_in old (mask_of size) (get_or slots k 0) (get_or slots c 0) c)
     priors_length (View Mem size c) = refl

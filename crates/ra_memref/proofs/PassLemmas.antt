@@ -50,7 +50,7 @@ module _ (nodes : List Node) (pool : IsPool nodes) (slots : List ℕ) (laid : Is
   slot_by : (width c : ℕ) (node : Node) → node_at nodes c ≡ node → IsCellOf width node → HasSlot
       spelled c node (get_or slots c 0) → get_or slots c 0 ≡ length (cells_before spelled c)
   slot_by width c (Const n) same is has = absurd is
-  slot_by width c (CellNode pointer offset w) same is has = has
+  slot_by width c (CellNode w pointer offset) same is has = has
   slot_by width c (View kind size d) same is has = absurd is
   slot_by width c (Arith op left right) same is has = absurd is
 
@@ -109,12 +109,12 @@ module _ (nodes : List Node) (pool : IsPool nodes) (slots : List ℕ) (laid : Is
 
   module _ (k : ℕ) (within : k < length nodes) where
     -- one cell or one tracked mask more, or none
-    pub cell_node_slot : (pointer offset width : ℕ) → node_at nodes k ≡ CellNode pointer offset
-        width → (get_or slots k 0 ≡ cell_count nodes k) × (cell_count nodes (suc k) ≡ suc
+    pub cell_node_slot : (pointer offset width : ℕ) → node_at nodes k ≡ CellNode width pointer
+        offset → (get_or slots k 0 ≡ cell_count nodes k) × (cell_count nodes (suc k) ≡ suc
         (cell_count nodes k)) × (get_or (cells_of nodes) (get_or slots k 0) no_cell ≡ record
         { pointer = tree_in (spelled_at spelled pointer); address = offset; width = width })
     cell_node_slot pointer offset width same =
-        let is : spelled_at spelled k ≡ spelled_with spelled (CellNode pointer offset width) =
+        let is : spelled_at spelled k ≡ spelled_with spelled (CellNode width pointer offset) =
         spelled_of nodes pool k within ∙ ap (spelled_with spelled) same in
         let slot = cell_slot width k within (subst (IsCellOf width) (sym same) refl) in
         let one = cells_one spelled k _ (inside k within) is in (
@@ -143,7 +143,7 @@ module _ (nodes : List Node) (pool : IsPool nodes) (slots : List ℕ) (laid : Is
       within_by : (node : Node) → node_at nodes k ≡ node → NamesBelow k node → MayFollow nodes node
           → HasSlot spelled k node (get_or slots k 0) → IsWithin node old slots k
       within_by (Const n) same below may has = tt
-      within_by (CellNode pointer offset width) same below may has =
+      within_by (CellNode width pointer offset) same below may has =
           let slot = cell_slot width k within (subst (IsCellOf width) (sym same) refl) in
           (omega (arith, sized.values, below), omega (arith, sized.cells, slot.within), may.2)
       within_by (View Prior size c) same below may has =
@@ -304,7 +304,7 @@ module _ (nodes : List Node) (pool : IsPool nodes) (slots : List ℕ) (laid : Is
             → HasSlot spelled k node (get_or slots k 0) → value_after node old image slots k
             ≡ spelled_value start here (spelled_with spelled node)
         value_is (Const n) below may has = refl
-        value_is (CellNode pointer offset width) below may has =
+        value_is (CellNode width pointer offset) below may has =
             ap (λ v. raw width image (moved_by offset v)) (value_there pointer below may.1)
         value_is (View kind size c) below may has =
             ap (λ n. transformed kind size (view_of size n)) (looked_is kind size c below may.1 has)
@@ -375,8 +375,8 @@ module _ (nodes : List Node) (pool : IsPool nodes) (slots : List ℕ) (laid : Is
           }
 
           -- the numbers of a cell
-          module _ (pointer offset width : ℕ) (same : node_at nodes k ≡ CellNode pointer offset
-              width) (below : pointer < k) (valued : IsValued (node_at nodes pointer)) where
+          module _ (pointer offset width : ℕ) (same : node_at nodes k ≡ CellNode width pointer
+              offset) (below : pointer < k) (valued : IsValued (node_at nodes pointer)) where
             abbrev cell : Cell
             cell = record { pointer = tree_in (spelled_at spelled pointer); address = offset; width = width }
 
@@ -465,7 +465,7 @@ module _ (nodes : List Node) (pool : IsPool nodes) (slots : List ℕ) (laid : Is
           passed_by (Const n) same is below may has takes values =
               plain (counts_same _ is refl) (tracked_counts_same _ is refl) takes.cells
               takes.earlier takes.places takes.priors values
-          passed_by (CellNode pointer offset width) same is below may has takes values =
+          passed_by (CellNode width pointer offset) same is below may has takes values =
               with_cell_node pointer offset width same below may.1 (tracked_counts_same _ is refl)
               takes.cells takes.earlier takes.places takes.priors values
           passed_by (View Prior size c) same is below may has takes values =

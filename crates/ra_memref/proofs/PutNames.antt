@@ -67,7 +67,7 @@ module _ (nodes : List Node) (pool : IsPool nodes) (slots : List ℕ) (laid : Is
   spells : (node : Node) → node_at nodes k ≡ node → spelled_at spelled k ≡ spelled_with spelled node
   spells node same = spelled_of nodes pool k within ∙ ap (spelled_with spelled) same
 
-  module _ (pointer offset width : ℕ) (same : node_at nodes k ≡ CellNode pointer offset width) where
+  module _ (pointer offset width : ℕ) (same : node_at nodes k ≡ CellNode width pointer offset) where
     pub cell_within : slot < length (cells_of nodes)
     cell_within = (cell_slot nodes pool slots laid width k within (subst (IsCellOf width) (sym same) refl)).within
 
@@ -85,7 +85,7 @@ module _ (nodes : List Node) (pool : IsPool nodes) (slots : List ℕ) (laid : Is
 
   -- another node has none
   pub no_cell_put : (node : Node) → node_at nodes k ≡ node
-      → ((pointer offset width : ℕ) → node ≡ CellNode pointer offset width → ⊥)
+      → ((pointer offset width : ℕ) → node ≡ CellNode width pointer offset → ⊥)
       → cell_count nodes (k + 1) ≡ cell_count nodes k
   no_cell_put node same other =
       ap (cell_count nodes) next
@@ -105,7 +105,7 @@ module _ (nodes : List Node) (pool : IsPool nodes) (slots : List ℕ) (laid : Is
       let cell = is_cell_there (width_of size) _ (cell_at_cell nodes pool (width_of size) c may.0 may.1) in
       subst Tracks same ((may.0, cell), has)
   tracks (Const n) m is may has = absurd cc
-  tracks (CellNode pointer offset width) m is may has = absurd cc
+  tracks (CellNode width pointer offset) m is may has = absurd cc
   tracks (View Mem size c) m is may has = absurd cc
   tracks (View Delta size c) m is may has = absurd cc
   tracks (View Bcd size c) m is may has = absurd cc
@@ -137,7 +137,7 @@ module _ (nodes : List Node) (pool : IsPool nodes) (slots : List ℕ) (laid : Is
 
   none_tracked_by : (node : Node) → mask_in node ≡ None → tracked_at (spelled_with spelled node) ≡ []
   none_tracked_by (Const n) none = refl
-  none_tracked_by (CellNode pointer offset width) none = refl
+  none_tracked_by (CellNode width pointer offset) none = refl
   none_tracked_by (View Prior size c) none = absurd cc
   none_tracked_by (View Mem size c) none = none_tracked Mem size (spelled_at spelled c) refl
   none_tracked_by (View Delta size c) none = none_tracked Delta size (spelled_at spelled c) refl

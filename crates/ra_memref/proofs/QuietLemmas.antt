@@ -36,7 +36,7 @@ module _ (slots image : List ℕ) (k : ℕ) (numbers : NumbersSeen) where
       → IsAgreedAt node numbers image (get_or slots k 0)
       → get_or numbers.values k 0 ≡ value_after node numbers image slots k
   value_stays (Const n) quiet unmarked agreed = quiet
-  value_stays (CellNode pointer offset width) quiet unmarked agreed = sym quiet.1 ∙ agreed unmarked
+  value_stays (CellNode width pointer offset) quiet unmarked agreed = sym quiet.1 ∙ agreed unmarked
       ∙ ap (raw width image) quiet.0
   value_stays (View Mem size c) quiet unmarked agreed = quiet
   value_stays (View Delta size c) quiet unmarked agreed = quiet
@@ -64,7 +64,7 @@ module _ (slots image : List ℕ) (k : ℕ) (numbers : NumbersSeen) where
           → IsAgreedAt node numbers image (get_or slots k 0)
           → numbers.cells ≡ cells_after node numbers image (get_or slots k 0)
       cells_stay (Const n) quiet unmarked agreed = refl
-      cells_stay (CellNode pointer offset width) quiet unmarked agreed = stays numbers.cells (get_or slots k 0) 0
+      cells_stay (CellNode width pointer offset) quiet unmarked agreed = stays numbers.cells (get_or slots k 0) 0
           (number_in numbers image pointer offset width) (agreed unmarked ∙ ap (raw width image) quiet.0)
       cells_stay (View kind size c) quiet unmarked agreed = refl
       cells_stay (Arith op left right) quiet unmarked agreed = refl
@@ -72,7 +72,7 @@ module _ (slots image : List ℕ) (k : ℕ) (numbers : NumbersSeen) where
       earlier_stay : (node : Node) → IsQuiet node numbers slots k
           → numbers.earlier ≡ earlier_after node numbers (get_or slots k 0)
       earlier_stay (Const n) quiet = refl
-      earlier_stay (CellNode pointer offset width) quiet = stays numbers.earlier (get_or slots k 0) 0
+      earlier_stay (CellNode width pointer offset) quiet = stays numbers.earlier (get_or slots k 0) 0
           (get_or numbers.cells (get_or slots k 0) 0) (quiet.2 ∙ sym quiet.1)
       earlier_stay (View kind size c) quiet = refl
       earlier_stay (Arith op left right) quiet = refl
@@ -80,7 +80,7 @@ module _ (slots image : List ℕ) (k : ℕ) (numbers : NumbersSeen) where
       places_stay : (node : Node) → IsQuiet node numbers slots k
           → numbers.watches.places ≡ places_after node numbers (get_or slots k 0)
       places_stay (Const n) quiet = refl
-      places_stay (CellNode pointer offset width) quiet = stays numbers.watches.places (get_or slots k 0) 0
+      places_stay (CellNode width pointer offset) quiet = stays numbers.watches.places (get_or slots k 0) 0
           (place_in numbers pointer offset) quiet.0
       places_stay (View kind size c) quiet = refl
       places_stay (Arith op left right) quiet = refl
@@ -88,14 +88,14 @@ module _ (slots image : List ℕ) (k : ℕ) (numbers : NumbersSeen) where
       marked_stay : (node : Node) → IsUnmarked node numbers (get_or slots k 0)
           → numbers.watches.marked ≡ marked_after node numbers (get_or slots k 0)
       marked_stay (Const n) unmarked = refl
-      marked_stay (CellNode pointer offset width) unmarked = stays numbers.watches.marked
+      marked_stay (CellNode width pointer offset) unmarked = stays numbers.watches.marked
           (get_or slots k 0) true false unmarked
       marked_stay (View kind size c) unmarked = refl
       marked_stay (Arith op left right) unmarked = refl
 
       priors_stay : (node : Node) → IsQuiet node numbers slots k → numbers.priors ≡ priors_after node numbers slots k
       priors_stay (Const n) quiet = refl
-      priors_stay (CellNode pointer offset width) quiet = refl
+      priors_stay (CellNode width pointer offset) quiet = refl
       priors_stay (View Mem size c) quiet = refl
       priors_stay (View Delta size c) quiet = refl
       priors_stay (View Prior size c) quiet = stays numbers.priors (get_or slots k 0) 0 (prior_in numbers
@@ -108,7 +108,7 @@ module _ (slots image : List ℕ) (k : ℕ) (numbers : NumbersSeen) where
   pub idle_reads : (node : Node) → IsQuiet node numbers slots k → IsUnmarked node numbers (get_or slots k 0)
       → reads_at node numbers (get_or slots k 0) ≡ 0
   idle_reads (Const n) quiet unmarked = refl
-  idle_reads (CellNode pointer offset width) quiet unmarked =
+  idle_reads (CellNode width pointer offset) quiet unmarked =
       rw (
         unmarked,
         eq-eqb (get_or numbers.watches.places (get_or slots k 0) 0)
@@ -122,7 +122,7 @@ module _ (nodes : List Node) (pool : IsPool nodes) (slots : List ℕ) (laid : Is
   slot_of_cell : (j : ℕ) → j < length nodes → (width : ℕ) (node : Node) → node_at nodes j ≡ node → IsCellOf width node
       → (get_or slots j 0 ≡ cell_count nodes j) × (cell_count nodes (suc j) ≡ suc (cell_count nodes j))
   slot_of_cell j within width (Const n) same is = absurd is
-  slot_of_cell j within width (CellNode pointer offset w) same is =
+  slot_of_cell j within width (CellNode w pointer offset) same is =
       let facts = cell_node_slot nodes pool slots laid j within pointer offset w same in (facts.0, facts.1)
   slot_of_cell j within width (View kind size c) same is = absurd is
   slot_of_cell j within width (Arith op left right) same is = absurd is
@@ -199,7 +199,7 @@ module _ (nodes : List Node) (pool : IsPool nodes) (slots : List ℕ) (laid : Is
       places = ap (λ xs. get_or xs slot 0) takes.places;
       marked = ap (λ xs. get_or xs slot true) takes.marked;
     }
-    same_rows_by (CellNode pointer offset width) takes slot apart = record {
+    same_rows_by (CellNode width pointer offset) takes slot apart = record {
       cells = ap (λ xs. get_or xs slot 0) takes.cells
           ∙ get_or-set_other old.cells (get_or slots k 0) slot (number_in old image pointer offset width) 0
           (apart width refl);
@@ -237,7 +237,7 @@ module _ (nodes : List Node) (pool : IsPool nodes) (slots : List ℕ) (laid : Is
         ≡ prior_in old (mask_of size) (get_or slots k 0) (get_or slots c 0) c)
         → get_or new.priors slot 0 ≡ get_or old.priors slot 0
     same_prior_by (Const n) takes slot leaves = ap (λ xs. get_or xs slot 0) takes.priors
-    same_prior_by (CellNode pointer offset width) takes slot leaves = ap (λ xs. get_or xs slot 0) takes.priors
+    same_prior_by (CellNode width pointer offset) takes slot leaves = ap (λ xs. get_or xs slot 0) takes.priors
     same_prior_by (View Mem size c) takes slot leaves = ap (λ xs. get_or xs slot 0) takes.priors
     same_prior_by (View Delta size c) takes slot leaves = ap (λ xs. get_or xs slot 0) takes.priors
     same_prior_by (View Bcd size c) takes slot leaves = ap (λ xs. get_or xs slot 0) takes.priors
@@ -268,7 +268,7 @@ module _ (nodes : List Node) (pool : IsPool nodes) (slots : List ℕ) (laid : Is
     earlier_of : (width : ℕ) (node : Node) → IsCellOf width node → (numbers : NumbersSeen)
         → earlier_by node numbers slots k ≡ get_or numbers.earlier (get_or slots k 0) 0
     earlier_of width (Const n) is numbers = absurd is
-    earlier_of width (CellNode pointer offset w) is numbers = refl
+    earlier_of width (CellNode w pointer offset) is numbers = refl
     earlier_of width (View kind size c) is numbers = absurd is
     earlier_of width (Arith op left right) is numbers = absurd is
 
@@ -287,14 +287,14 @@ module _ (nodes : List Node) (pool : IsPool nodes) (slots : List ℕ) (laid : Is
       earlier_other_by : (node : Node) → node_at nodes j ≡ node
           → earlier_by node new slots j ≡ earlier_by node old slots j
       earlier_other_by (Const n) is = value_other j apart
-      earlier_other_by (CellNode pointer offset width) is =
+      earlier_other_by (CellNode width pointer offset) is =
           (same_rows j in_j width (subst (IsCellOf width) (sym is) refl) apart).earlier
       earlier_other_by (View kind size c) is = value_other j apart
       earlier_other_by (Arith op left right) is = value_other j apart
 
       kept_other_by : (node : Node) → node_at nodes j ≡ node → kept_by node new slots j ≡ kept_by node old slots j
       kept_other_by (Const n) is = value_other j apart
-      kept_other_by (CellNode pointer offset width) is =
+      kept_other_by (CellNode width pointer offset) is =
           (same_rows j in_j width (subst (IsCellOf width) (sym is) refl) apart).cells
       kept_other_by (View kind size c) is = value_other j apart
       kept_other_by (Arith op left right) is = value_other j apart
@@ -323,7 +323,7 @@ module _ (nodes : List Node) (pool : IsPool nodes) (slots : List ℕ) (laid : Is
       quiet_by : (node : Node) → node_at nodes j ≡ node → ((i : ℕ) → Names node i → i ≡ k → Unseen)
           → IsQuiet node old slots j → IsQuiet node new slots j
       quiet_by (Const n) is unseen quiet = value_other j apart ∙ quiet
-      quiet_by (CellNode pointer offset width) is unseen quiet =
+      quiet_by (CellNode width pointer offset) is unseen quiet =
           let rows = same_rows j in_j width (subst (IsCellOf width) (sym is) refl) apart in
           let value = value_other j apart in (
             rows.places ∙ quiet.0 ∙ ap (moved_by offset) (sym (value_seen pointer (unseen pointer refl))),
@@ -367,7 +367,7 @@ module _ (nodes : List Node) (pool : IsPool nodes) (slots : List ℕ) (laid : Is
       unmarked_by : (node : Node) → node_at nodes j ≡ node → IsUnmarked node old (get_or slots j 0)
           → IsUnmarked node new (get_or slots j 0)
       unmarked_by (Const n) is before = tt
-      unmarked_by (CellNode pointer offset width) is before = (same_rows j in_j width
+      unmarked_by (CellNode width pointer offset) is before = (same_rows j in_j width
           (subst (IsCellOf width) (sym is) refl) apart).marked ∙ before
       unmarked_by (View kind size c) is before = tt
       unmarked_by (Arith op left right) is before = tt
@@ -386,10 +386,10 @@ module _ (nodes : List Node) (pool : IsPool nodes) (slots : List ℕ) (laid : Is
         → get_or new.values k 0 ≡ value_after node old image slots k → NamesBelow k node
         → earlier_by node new slots k ≡ value_at new k → IsQuiet node new slots k
     here_by (Const n) is takes value below again = value
-    here_by (CellNode pointer offset width) is takes value below again =
+    here_by (CellNode width pointer offset) is takes value below again =
         let slot : ℕ = get_or slots k 0 in
         let there : slot < length old.cells = (node_within nodes pool slots laid k within old sized
-        (CellNode pointer offset width) (sym is)).1 in (
+        (CellNode width pointer offset) (sym is)).1 in (
           ap (λ xs. get_or xs (get_or slots k 0) 0) takes.places
               ∙ get_or-set_same old.watches.places (get_or slots k 0) (place_in old pointer offset) 0 (omega
               (arith, there, sized.cells, sized.places))
@@ -432,9 +432,9 @@ module _ (nodes : List Node) (pool : IsPool nodes) (slots : List ℕ) (laid : Is
     kept_here_by : (node : Node) → node_at nodes k ≡ node → TakesNode node slots image k old new
         → get_or new.values k 0 ≡ value_after node old image slots k → kept_by node new slots k ≡ value_at new k
     kept_here_by (Const n) is takes value = refl
-    kept_here_by (CellNode pointer offset width) is takes value =
+    kept_here_by (CellNode width pointer offset) is takes value =
         let there : get_or slots k 0 < length old.cells = (node_within nodes pool slots laid k within old sized
-        (CellNode pointer offset width) (sym is)).1 in
+        (CellNode width pointer offset) (sym is)).1 in
         ap (λ xs. get_or xs (get_or slots k 0) 0) takes.cells
         ∙ get_or-set_same old.cells (get_or slots k 0) (number_in old image pointer offset width) 0 there ∙ sym value
     kept_here_by (View kind size c) is takes value = refl
@@ -452,9 +452,9 @@ module _ (nodes : List Node) (pool : IsPool nodes) (slots : List ℕ) (laid : Is
     marked_by_node : (node : Node) → node_at nodes k ≡ node → TakesNode node slots image k old new
         → IsUnmarked node new (get_or slots k 0)
     marked_by_node (Const n) is takes = tt
-    marked_by_node (CellNode pointer offset width) is takes =
+    marked_by_node (CellNode width pointer offset) is takes =
         let there : get_or slots k 0 < length old.cells = (node_within nodes pool slots laid k within old sized
-        (CellNode pointer offset width) (sym is)).1 in
+        (CellNode width pointer offset) (sym is)).1 in
         ap (λ xs. get_or xs (get_or slots k 0) true) takes.marked
         ∙ get_or-set_same old.watches.marked (get_or slots k 0) false true (omega
         (arith, there, sized.cells, sized.marked))

@@ -10,8 +10,8 @@ use Rattle.ra_memref.specs.Marks.{marks_after, reads_of}
 
 -- a pool with a cell, its view and its delta view, and two priors of one mask and one of another
 abbrev nodes : List Node
-nodes = Const 0 ∷ CellNode 0 16 1 ∷ View Mem Byte 1 ∷ Const 5 ∷ View Delta Byte 1 ∷ View Prior Byte
-    1 ∷ View Prior Count 1 ∷ View Prior Bit0 1 ∷ CellNode 2 4 4 ∷ View Mem Four 8 ∷ []
+nodes = Const 0 ∷ CellNode 1 0 16 ∷ View Mem Byte 1 ∷ Const 5 ∷ View Delta Byte 1 ∷ View Prior Byte
+    1 ∷ View Prior Count 1 ∷ View Prior Bit0 1 ∷ CellNode 4 2 4 ∷ View Mem Four 8 ∷ []
 
 spelled : spelled_by nodes ≡ IsTree (constant 0)
     ∷ IsCell (record { pointer = constant 0; address = 16; width = 1 })

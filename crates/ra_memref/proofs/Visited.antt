@@ -152,7 +152,7 @@ module _ (nodes : List Node) (pool : IsPool nodes) (slots : List ℕ) (laid : Is
     (old_sized : IsSizedFor nodes old) (sized : IsSizedFor nodes now) (reads : ℕ)
     (visited : IsVisited image old now (cell_count nodes k) reads) where
   -- the width of the cell in its slot
-  width_there : (pointer offset width : ℕ) → node_at nodes k ≡ CellNode pointer offset width
+  width_there : (pointer offset width : ℕ) → node_at nodes k ≡ CellNode width pointer offset
       → (get_or now.watches.widths (cell_count nodes k) 0 ≡ width)
       × (cell_count nodes k < length (cells_of nodes))
   width_there pointer offset width same =
@@ -177,7 +177,7 @@ module _ (nodes : List Node) (pool : IsPool nodes) (slots : List ℕ) (laid : Is
   agreed_by (Const n) same agrees = tt
   agreed_by (View kind size c) same agrees = tt
   agreed_by (Arith op left right) same agrees = tt
-  agreed_by (CellNode pointer offset width) same agrees = λ unmarked.
+  agreed_by (CellNode width pointer offset) same agrees = λ unmarked.
       let facts = cell_node_slot nodes pool slots laid k within pointer offset width same in
       let there = width_there pointer offset width same in
       let n : ℕ = cell_count nodes k in
@@ -217,7 +217,7 @@ module _ (nodes : List Node) (pool : IsPool nodes) (slots : List ℕ) (laid : Is
         stays (View kind size c) same refl takes.cells takes.places takes.marked takes.widths
     visited_by (Arith op left right) same takes =
         stays (Arith op left right) same refl takes.cells takes.places takes.marked takes.widths
-    visited_by (CellNode pointer offset width) same takes =
+    visited_by (CellNode width pointer offset) same takes =
         let facts = cell_node_slot nodes pool slots laid k within pointer offset width same in
         let there = width_there pointer offset width same in
         let n : ℕ = cell_count nodes k in

@@ -39,7 +39,7 @@ set_more wanted i k is = elim (cases_lt i k) [
 pub length-wanted_after : (node : Node) (number : ℕ) (wanted : List Bool)
     → length (wanted_after node number wanted) ≡ length wanted
 length-wanted_after (Const n) number wanted = refl
-length-wanted_after (CellNode pointer offset width) number wanted =
+length-wanted_after (CellNode width pointer offset) number wanted =
     length-set (slice_set wanted number true) pointer true ∙ length-set wanted number true
 length-wanted_after (View kind size c) number wanted =
     either (is_wanted wanted number) (λ ws. length ws ≡ length wanted) (slice_set wanted c true) wanted
@@ -53,7 +53,7 @@ module _ (number : ℕ) (wanted : List Bool) (within : number < length wanted) w
   -- the marks stay
   more : (node : Node) (k : ℕ) → is_wanted wanted k ≡ true → is_wanted (wanted_after node number wanted) k ≡ true
   more (Const n) k is = is
-  more (CellNode pointer offset width) k is =
+  more (CellNode width pointer offset) k is =
       set_more (slice_set wanted number true) pointer k (set_more wanted number k is)
   more (View kind size c) k is =
       either (is_wanted wanted number) (λ ws. is_wanted ws k ≡ true) (slice_set wanted c true) wanted
@@ -67,7 +67,7 @@ module _ (number : ℕ) (wanted : List Bool) (within : number < length wanted) w
   far : (node : Node) (k : ℕ) → NamesBelow number node → number < k
       → is_wanted (wanted_after node number wanted) k ≡ is_wanted wanted k
   far (Const n) k names later = refl
-  far (CellNode pointer offset width) k names later =
+  far (CellNode width pointer offset) k names later =
       set_far (slice_set wanted number true) pointer k (omega (arith, names, later)) ∙ set_far wanted number k later
   far (View kind size c) k names later =
       either (is_wanted wanted number) (λ ws. is_wanted ws k ≡ is_wanted wanted k) (slice_set wanted c true) wanted
@@ -98,7 +98,7 @@ module _ (number : ℕ) (wanted : List Bool) (within : number < length wanted) w
   -- the node has what it wants
   here : (node : Node) → NamesBelow number node → HasWanted (wanted_after node number wanted) number node
   here (Const n) names = tt
-  here (CellNode pointer offset width) names = (
+  here (CellNode width pointer offset) names = (
     set_more (slice_set wanted number true) pointer number (set_here wanted number within),
     set_here (slice_set wanted number true) pointer (omega (arith, names, within, length-set wanted number true)),
   )
@@ -109,7 +109,7 @@ module _ (number : ℕ) (wanted : List Bool) (within : number < length wanted) w
   still : (node other : Node) (k : ℕ) → NamesBelow number node → number < k → HasWanted wanted k other
       → HasWanted (wanted_after node number wanted) k other
   still node (Const n) k names later has = tt
-  still node (CellNode pointer offset width) k names later has = (more node k has.0, more node pointer has.1)
+  still node (CellNode width pointer offset) k names later has = (more node k has.0, more node pointer has.1)
   still node (View kind size c) k names later has = λ is. more node c (has (sym (far node k names later) ∙ is))
   still node (Arith op left right) k names later has =
       λ is. let two = has (sym (far node k names later) ∙ is) in (more node left two.0, more node right two.1)

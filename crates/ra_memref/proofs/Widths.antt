@@ -27,7 +27,7 @@ module _ (nodes : List Node) (pool : IsPool nodes) (widths : List ℕ) (k : ℕ)
       let e : i ≡ length widths = omega (arith, below, last, length-append widths (width ∷ [])) in
       rw (e, get_or-append_seam widths width [] 0) is
 
-  pub widths_cell : (pointer offset width : ℕ) → node_at nodes k ≡ CellNode pointer offset width
+  pub widths_cell : (pointer offset width : ℕ) → node_at nodes k ≡ CellNode width pointer offset
       → AreWidths nodes (widths ++ width ∷ []) (k + 1)
   widths_cell pointer offset width same =
       let may = subst (MayFollow nodes) same (may_follow nodes pool k within) in
@@ -37,7 +37,7 @@ module _ (nodes : List Node) (pool : IsPool nodes) (widths : List ℕ) (k : ℕ)
       }
 
   pub widths_same : (node : Node) → node_at nodes k ≡ node
-      → ((pointer offset width : ℕ) → node ≡ CellNode pointer offset width → ⊥) → AreWidths nodes widths (k + 1)
+      → ((pointer offset width : ℕ) → node ≡ CellNode width pointer offset → ⊥) → AreWidths nodes widths (k + 1)
   widths_same node same other = record {
     are = along_same nodes pool ℕ (λ c. c.width) widths k within are.are node same other;
     wide = are.wide;

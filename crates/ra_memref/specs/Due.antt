@@ -15,18 +15,18 @@ use Rattle.ra_memref.specs.Pass.{value_at, earlier_at, place_in, prior_in, looke
 
 -- the number that a cell had at the frame before; of another node its own
 abbrev pub earlier_by : Node → NumbersSeen → List ℕ → ℕ → ℕ
-earlier_by (CellNode pointer offset width) numbers slots number = earlier_at numbers (slice_index slots number)
+earlier_by (CellNode width pointer offset) numbers slots number = earlier_at numbers (slice_index slots number)
 earlier_by _ numbers slots number = value_at numbers number
 
 -- the kept number of a cell; of another node its own
 abbrev pub kept_by : Node → NumbersSeen → List ℕ → ℕ → ℕ
-kept_by (CellNode pointer offset width) numbers slots number = slice_index numbers.cells (slice_index slots number)
+kept_by (CellNode width pointer offset) numbers slots number = slice_index numbers.cells (slice_index slots number)
 kept_by _ numbers slots number = value_at numbers number
 
 -- by its kept numbers alone, a node would take the number that it has, and leave its prior
 abbrev pub IsQuiet : Node → NumbersSeen → List ℕ → ℕ → Type 0
 IsQuiet (Const n) numbers slots number = value_at numbers number ≡ n
-IsQuiet (CellNode pointer offset width) numbers slots number =
+IsQuiet (CellNode width pointer offset) numbers slots number =
     (slice_index numbers.watches.places (slice_index slots number) ≡ place_in numbers pointer offset)
     × (slice_index numbers.cells (slice_index slots number) ≡ value_at numbers number)
     × (earlier_at numbers (slice_index slots number) ≡ value_at numbers number)
@@ -43,7 +43,7 @@ IsQuiet (Arith op left right) numbers slots number =
 
 -- a node is no marked cell
 abbrev pub IsUnmarked : Node → NumbersSeen → ℕ → Type 0
-IsUnmarked (CellNode pointer offset width) numbers slot = slice_index_or numbers.watches.marked slot true ≡ false
+IsUnmarked (CellNode width pointer offset) numbers slot = slice_index_or numbers.watches.marked slot true ≡ false
 IsUnmarked _ numbers slot = Unit {0}
 
 -- each node that is not due would take the number that it has
@@ -60,14 +60,14 @@ pub record AreIdle (nodes : List Node) (due : List Bool) (numbers : NumbersSeen)
 -- a node names another
 abbrev pub Names : Node → ℕ → Type 0
 Names (Const n) i = ⊥
-Names (CellNode pointer offset width) i = i ≡ pointer
+Names (CellNode width pointer offset) i = i ≡ pointer
 Names (View kind size c) i = i ≡ c
 Names (Arith op left right) i = (i ≡ left) ⊎ (i ≡ right)
 
 -- the entries of a node, on the row of each that it names
 abbrev pub entries_of : (number : ℕ) → Node → List Entry
 entries_of number (Const n) = []
-entries_of number (CellNode pointer offset width) = record { row = pointer; number = number } ∷ []
+entries_of number (CellNode width pointer offset) = record { row = pointer; number = number } ∷ []
 entries_of number (View kind size c) = record { row = c; number = number } ∷ []
 entries_of number (Arith op left right) =
     record { row = left; number = number } ∷ record { row = right; number = number } ∷ []
@@ -80,7 +80,7 @@ pub record AreDependents (nodes : List Node) (rows : List (List ℕ)) : Type 0 w
 
 -- the node of a cell stands in the cell's slot
 abbrev pub HasCellNode : Node → List ℕ → ℕ → ℕ → Type 0
-HasCellNode (CellNode pointer offset width) cell_nodes slot n = slice_index cell_nodes slot ≡ n
+HasCellNode (CellNode width pointer offset) cell_nodes slot n = slice_index cell_nodes slot ≡ n
 HasCellNode _ cell_nodes slot n = Unit {0}
 
 -- these are the nodes of the cells that the first this many nodes spell, in order of first occurrence

@@ -34,7 +34,7 @@ tracked_there spelled size c = record { cell = cell_there (spelled_at spelled c)
 
 -- the slot of a node: a cell has the next one, and a prior view that of the mask that it tracks
 abbrev pub HasSlot : List Spelled → ℕ → Node → ℕ → Type 0
-HasSlot spelled n (CellNode pointer offset width) slot = slot ≡ length (cells_before spelled n)
+HasSlot spelled n (CellNode width pointer offset) slot = slot ≡ length (cells_before spelled n)
 HasSlot spelled n (View Prior size c) slot =
     Interns (tracked_before spelled n) (tracked_before spelled (suc n)) (tracked_there spelled size c) slot
 HasSlot spelled n _ slot = Unit {0}
@@ -46,7 +46,7 @@ pub record IsLaid (nodes : List Node) (slots : List ℕ) : Type 0 where
 
 -- a node takes a slot: a cell puts its address last, and a prior view interns its mask
 abbrev pub TakesSlot : Node → (places places' : List ℕ) → (masks masks' : List TrackedMask) → ℕ → Type 0
-TakesSlot (CellNode pointer offset width) places places' masks masks' slot =
+TakesSlot (CellNode width pointer offset) places places' masks masks' slot =
     (slot ≡ length places) × (places' ≡ places ++ offset ∷ []) × (masks' ≡ masks)
 TakesSlot (View Prior size c) places places' masks masks' slot =
     (places' ≡ places) × Interns masks masks' (record { cell = c; mask = mask_of size }) slot

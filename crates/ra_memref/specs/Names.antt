@@ -55,7 +55,7 @@ spelled_name (IsCell c) = cell_name c
 -- the name of a node, by the names of the earlier ones
 abbrev pub name_with : List (List ℕ) → Node → List ℕ
 name_with names (Const n) = constant_name n
-name_with names (CellNode pointer offset width) = cell_name_by (slice_index_or names pointer []) offset width
+name_with names (CellNode width pointer offset) = cell_name_by (slice_index_or names pointer []) offset width
 name_with names (View kind size c) = view_name_by kind size (slice_index_or names c [])
 name_with names (Arith op left right) =
     join_name_by op (slice_index_or names left []) (slice_index_or names right [])
@@ -63,6 +63,6 @@ name_with names (Arith op left right) =
 -- the numbers that a node names are below this one
 abbrev pub NamesBelow : ℕ → Node → Type 0
 NamesBelow n (Const m) = Unit {0}
-NamesBelow n (CellNode pointer offset width) = pointer < n
+NamesBelow n (CellNode width pointer offset) = pointer < n
 NamesBelow n (View kind size c) = c < n
 NamesBelow n (Arith op left right) = (left < n) × (right < n)

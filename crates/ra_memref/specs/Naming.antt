@@ -14,7 +14,7 @@ is_wanted wanted n = slice_index_or wanted n false
 -- which nodes are to have names, by one node more: a cell and its pointer, and what a wanted node names
 abbrev pub wanted_after : Node → ℕ → List Bool → List Bool
 wanted_after (Const n) number wanted = wanted
-wanted_after (CellNode pointer offset width) number wanted = slice_set (slice_set wanted number true) pointer true
+wanted_after (CellNode width pointer offset) number wanted = slice_set (slice_set wanted number true) pointer true
 wanted_after (View kind size c) number wanted =
     if is_wanted wanted number then slice_set wanted c true else wanted
 wanted_after (Arith op left right) number wanted =
@@ -23,7 +23,7 @@ wanted_after (Arith op left right) number wanted =
 -- a node has what it wants: a cell is to have a name and so is its pointer, and with a wanted node those that it names
 abbrev pub HasWanted : List Bool → ℕ → Node → Type 0
 HasWanted wanted number (Const n) = Unit {0}
-HasWanted wanted number (CellNode pointer offset width) =
+HasWanted wanted number (CellNode width pointer offset) =
     (is_wanted wanted number ≡ true) × (is_wanted wanted pointer ≡ true)
 HasWanted wanted number (View kind size c) = is_wanted wanted number ≡ true → is_wanted wanted c ≡ true
 HasWanted wanted number (Arith op left right) =

@@ -49,7 +49,7 @@ looked_in _ numbers mask prior_slot cell_slot c = value_at numbers c
 -- the number of a node, by those of the nodes that it names
 abbrev pub value_after : Node → NumbersSeen → List ℕ → List ℕ → ℕ → ℕ
 value_after (Const n) numbers image slots number = n
-value_after (CellNode pointer offset width) numbers image slots number = number_in numbers image pointer offset width
+value_after (CellNode width pointer offset) numbers image slots number = number_in numbers image pointer offset width
 value_after (View kind size c) numbers image slots number =
     transformed kind size
     (view_of size (looked_in kind numbers (mask_of size) (slice_index slots number) (slice_index slots c) c))
@@ -58,25 +58,25 @@ value_after (Arith op left right) numbers image slots number =
 
 -- the kept numbers of the cells, once a node is taken
 abbrev pub cells_after : Node → NumbersSeen → List ℕ → ℕ → List ℕ
-cells_after (CellNode pointer offset width) numbers image slot =
+cells_after (CellNode width pointer offset) numbers image slot =
     slice_set numbers.cells slot (number_in numbers image pointer offset width)
 cells_after _ numbers image slot = numbers.cells
 
 -- the numbers of the frame before, once a node is taken
 abbrev pub earlier_after : Node → NumbersSeen → ℕ → List ℕ
-earlier_after (CellNode pointer offset width) numbers slot =
+earlier_after (CellNode width pointer offset) numbers slot =
     slice_set numbers.earlier slot (slice_index numbers.cells slot)
 earlier_after _ numbers slot = numbers.earlier
 
 -- the places of the cells, once a node is taken
 abbrev pub places_after : Node → NumbersSeen → ℕ → List ℕ
-places_after (CellNode pointer offset width) numbers slot =
+places_after (CellNode width pointer offset) numbers slot =
     slice_set numbers.watches.places slot (place_in numbers pointer offset)
 places_after _ numbers slot = numbers.watches.places
 
 -- the marks, once a node is taken
 abbrev pub marked_after : Node → NumbersSeen → ℕ → List Bool
-marked_after (CellNode pointer offset width) numbers slot = slice_set numbers.watches.marked slot false
+marked_after (CellNode width pointer offset) numbers slot = slice_set numbers.watches.marked slot false
 marked_after _ numbers slot = numbers.watches.marked
 
 -- the kept priors, once a node is taken
@@ -101,7 +101,7 @@ after_node node numbers image slots number = record {
 
 -- how often a node reads the image: a cell where it is marked or moved, and no other node
 abbrev pub reads_at : Node → NumbersSeen → ℕ → ℕ
-reads_at (CellNode pointer offset width) numbers slot =
+reads_at (CellNode width pointer offset) numbers slot =
     read_of (slice_index_or numbers.watches.marked slot true)
     (slice_index numbers.watches.places slot) (place_in numbers pointer offset)
 reads_at _ numbers slot = 0
@@ -114,7 +114,7 @@ IsAgreedIn numbers image slot width =
 
 -- the same of a node's cell, where it is one
 abbrev pub IsAgreedAt : Node → NumbersSeen → List ℕ → ℕ → Type 0
-IsAgreedAt (CellNode pointer offset width) numbers image slot = IsAgreedIn numbers image slot width
+IsAgreedAt (CellNode width pointer offset) numbers image slot = IsAgreedIn numbers image slot width
 IsAgreedAt _ numbers image slot = Unit {0}
 
 -- the same of each cell
@@ -125,7 +125,7 @@ IsAgreed numbers image =
 -- what a node names is there
 abbrev pub IsWithin : Node → NumbersSeen → List ℕ → ℕ → Type 0
 IsWithin (Const n) numbers slots number = Unit {0}
-IsWithin (CellNode pointer offset width) numbers slots number =
+IsWithin (CellNode width pointer offset) numbers slots number =
     (pointer < length numbers.values) × (slice_index slots number < length numbers.cells) × IsReadWidth width
 IsWithin (View Prior size c) numbers slots number =
     (c < length numbers.values) × (slice_index slots c < length numbers.cells)

@@ -33,7 +33,7 @@ module _ (nodes : List Node) (pool : IsPool nodes) where
       → direct_by offset width (tree_in (spelled_with (spelled_by nodes) pointer))
       ≡ direct_with offset width pointer
   by_node offset width (Const n) valued may = refl
-  by_node offset width (CellNode p o w) valued may = absurd valued
+  by_node offset width (CellNode w p o) valued may = absurd valued
   by_node offset width (View kind size c) valued may = no_direct offset width kind size (at c)
       (cell_at_cell nodes pool (width_of size) c may.0 may.1)
   by_node offset width (Arith op left right) valued may = refl
@@ -41,7 +41,7 @@ module _ (nodes : List Node) (pool : IsPool nodes) where
   node_direct : (node : Node) → MayFollow nodes node
       → direct_of (cell_in (spelled_with (spelled_by nodes) node)) ≡ direct_in nodes node
   node_direct (Const n) may = refl
-  node_direct (CellNode pointer offset width) may =
+  node_direct (CellNode width pointer offset) may =
       append-nil (direct_by offset width (tree_in (at pointer)))
       ∙ ap (λ s. direct_by offset width (tree_in s)) (spelled_of nodes pool pointer may.0)
       ∙ by_node offset width (node_at nodes pointer) may.1 (may_follow nodes pool pointer may.0)

@@ -28,5 +28,5 @@ direct_with offset width pointer = []
 
 -- the direct cell that a node after these is, if it is one
 abbrev pub direct_in : List Node → Node → List DirectCell
-direct_in nodes (CellNode pointer offset width) = direct_with offset width (node_at nodes pointer)
+direct_in nodes (CellNode width pointer offset) = direct_with offset width (node_at nodes pointer)
 direct_in nodes node = []

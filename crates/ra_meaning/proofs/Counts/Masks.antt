@@ -36,14 +36,14 @@ view_mask kind size (IsTree tree) = omega arith
 
 node_mask : (earlier : List Spelled) (node : Node) → length (tracked_at (spelled_with earlier node)) ≤ views_at node
 node_mask earlier (Const n) = omega arith
-node_mask earlier (CellNode pointer offset width) = omega arith
+node_mask earlier (CellNode width pointer offset) = omega arith
 node_mask earlier (View kind size c) = view_mask kind size (spelled_at earlier c)
 node_mask earlier (Arith op left right) = omega arith
 
 views_more : (node : Node) (nodes : List Node) → length (filter is_view (node ∷ nodes))
     ≡ views_at node + length (filter is_view nodes)
 views_more (Const n) nodes = omega arith
-views_more (CellNode pointer offset width) nodes = omega arith
+views_more (CellNode width pointer offset) nodes = omega arith
 views_more (View kind size c) nodes = omega arith
 views_more (Arith op left right) nodes = omega arith
 

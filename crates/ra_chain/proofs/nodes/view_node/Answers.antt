@@ -16,8 +16,8 @@ node_of-requires-2-clause-follows c =
 
 pub returns-clause-ok : goal.returns-clause-ok
 returns-clause-ok c =
-    let gains = subst (λ w. GainsNode c.args.pool.now c.node_of.new.pool (CellNode c.args.pointer
-    c.args.address w) c.in_ok-cell.cell) c.width.ensures c.in_ok-cell.ensures.ok in
+    let gains = subst (λ w. GainsNode c.args.pool.now c.node_of.new.pool (CellNode w
+    c.args.pointer c.args.address) c.in_ok-cell.cell) c.width.ensures c.in_ok-cell.ensures.ok in
     (λ p spells. plants_view c.args.pool.now c.node_of.new.pool c.node_of-2.new.pool
     c.requires.room.pool c.in_ok-cell.ensures.kept.pool c.in_ok-view.ensures.kept.pool c.args.kind
     c.args.size c.args.pointer c.args.address c.in_ok-cell.cell c.in_ok-view.view p spells gains

@@ -18,7 +18,7 @@ loop-number-preserved c = elim c.match-node.branch [
   | in_default w ↦ rw w.cell_nodes-is
       (noted_same c.args.nodes.now c.requires.pool c.loop-number.cell_nodes.items c.loop-number.number
       c.loop-number-test.true c.loop-number.invariant (node_at c.args.nodes.now c.loop-number.number) refl
-      (λ pointer offset width same. w.in_default.not-Cell pointer offset width same))
+      (λ pointer offset width same. w.in_default.not-Cell width pointer offset same))
 ]
 
 -- src/agenda.rt:128:1

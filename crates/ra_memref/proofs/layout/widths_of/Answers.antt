@@ -15,7 +15,7 @@ loop-node-preserved c = elim c.match-node.branch [
   | in_default w ↦ rw w.widths-is (widths_same c.args.nodes.now c.requires.pool
       c.loop-node.widths.items c.loop-node.node-index c.loop-node-test.true c.loop-node.invariant
       (node_at c.args.nodes.now c.loop-node.node-index) refl
-      (λ pointer offset width same. w.in_default.not-Cell pointer offset width same))
+      (λ pointer offset width same. w.in_default.not-Cell width pointer offset same))
 ]
 
 pub returns-clause-widths : goal.returns-clause-widths

@@ -28,7 +28,7 @@ loop-number-preserved c =
           (subst (λ j. ArePut (cell_names nodes) j c.loop-number.cells)
           (sym (no_cell_put nodes c.requires.pool c.args.slots.now c.requires.slots c.args.names.now c.requires.names
           number c.loop-number-test.true (node_at nodes number) refl
-          (λ pointer offset width same. w.in_default.not-Cell pointer offset width same))) c.loop-number.invariant)
+          (λ pointer offset width same. w.in_default.not-Cell width pointer offset same))) c.loop-number.invariant)
     ]
 
 pub returns : goal.returns
