@@ -9,18 +9,15 @@ use std::marker::Model;
 #[derive(Drop)]
 pub struct Changes {
     nodes: Vec<u32>,
-    count: usize,
 }
 
 impl Model for Changes {
-    ghost use Rattle.std.specs.Prelude.{◌≤◌, length, take};
+    ghost use Rattle.std.specs.Vec.{vec_capacity};
     ghost use Rattle.ra_memref.specs.Changes.{ChangesSeen};
 
     ghost Value = { ChangesSeen };
 
-    ghost view = { λ c. record { listed = take c.count c.nodes.items; room = length c.nodes.items } };
-
-    ghost invariant = { λ c. c.count ≤ length c.nodes.items };
+    ghost view = { λ c. record { listed = c.nodes.items; room = vec_capacity c.nodes } };
 }
 
 impl Changes {
@@ -28,15 +25,15 @@ impl Changes {
     pub fn new(alloc: Global, room: usize) -> Result<Changes, OutOfMemory>
         ensures { IfOk result (λ c. c ≡ record { listed = []; room = room }) }
     {
-        let nodes = vec![in alloc; 0; room]?;
-        Ok(Changes { nodes, count: 0 })
+        let nodes = Vec::with_capacity(alloc, room)?;
+        Ok(Changes { nodes })
     }
 
     /// Takes all nodes off the list.
     pub fn clear(&mut self)
         ensures { self.new ≡ record self.old { listed = [] } }
     {
-        self.count = 0;
+        self.nodes.clear();
     }
 
     /// Lists a node after the others where it changed.
@@ -45,8 +42,7 @@ impl Changes {
         ensures { self.new ≡ record self.old { listed = noted self.old.listed node changed } }
     {
         if changed {
-            self.nodes[self.count] = node;
-            self.count += 1;
+            self.nodes.push_reserved(node);
         }
     }
 
@@ -54,6 +50,6 @@ impl Changes {
     pub fn listed(&self) -> &[u32]
         ensures { result.now ≡ self.now.listed }
     {
-        &self.nodes[..self.count]
+        &self.nodes
     }
 }
