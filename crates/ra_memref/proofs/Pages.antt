@@ -4,15 +4,15 @@ use Rattle.std.proofs.Common.{if◌then◌else◌, not, ◌&&◌, ◌||◌, Opti
 use Rattle.std.proofs.Common.{ap, arith, subst, leb, ltb}
 use Rattle.std.specs.List.{list_any, range_with_len}
 use Rattle.std.specs.Prelude.{nat_lt, nat_le}
-use Rattle.std.proofs.lemmas.Bool.{eq-eqb, ne_eqb, false≢true, cases_eq, lt-ltb, le-leb, ltb-true, leb-true, and_from}
-use Rattle.std.proofs.lemmas.Bool.{and_parts, or_cases, or_left, or_right}
+use Rattle.std.proofs.lemmas.Bool.{eq-eqb, ne_eqb, false≢true, cases_eq, cases_lt, lt-ltb, le-leb, ltb-true, leb-true}
+use Rattle.std.proofs.lemmas.Bool.{and_from, and_parts, or_cases, or_left, or_right}
 use Rattle.std.proofs.lemmas.Bool.Decides.{eqb_tells, leb_tells}
 use Rattle.ra_links.specs.Rows.{Rows, IsOnce, holds, row_at, holder_of, holder_from}
 use Rattle.ra_links.proofs.Members.{In_holds, holds_In}
 use Rattle.ra_links.proofs.Lookups.{holder_some}
 use Rattle.ra_memref.specs.Marks.{page_of, touches, is_watched}
-use Rattle.ra_memref.specs.Marking.{cell_on, is_at, is_between}
-use Rattle.ra_memref.specs.Watches.{pages_of, first_page, second_page}
+use Rattle.ra_memref.specs.Marking.{is_at, is_before, is_between}
+use Rattle.ra_memref.specs.Watches.{pages_of, first_page, second_page, reaches, watches_between}
 
 -- two tests that imply each other are one
 pub same_tests : (a b : Bool) → (a ≡ true → b ≡ true) → (b ≡ true → a ≡ true) → a ≡ b
@@ -20,34 +20,6 @@ same_tests true true f g = refl
 same_tests true false f g = absurd (false≢true (f refl))
 same_tests false true f g = absurd (false≢true (g refl))
 same_tests false false f g = refl
-
--- a cell's nodes are 2k and 2k + 1
-node_of_cell : (node k : ℕ) → (node / 2 == k) ≡ ((node == 2 * k) || (node == 2 * k + 1))
-node_of_cell node k = elim (eqb_tells (node / 2) k) [
-  | inl e ↦ elim (eqb_tells node (2 * k)) [
-    | inl z ↦ rw (e.0, z.0) refl
-    | inr z ↦ rw (e.0, z.0, eq-eqb node (2 * k + 1) (omega (arith, e.1, z.1))) refl
-  ]
-  | inr n ↦
-      rw (
-        n.0,
-        ne_eqb node (2 * k) (λ z. n.1 (omega (arith, z))),
-        ne_eqb node (2 * k + 1)
-            (λ z. n.1 (omega (arith, z))),
-      ) refl
-]
-
-mixed : (a b c d : Bool) → ((a || b) || (c || d)) ≡ ((a || c) || (b || d))
-mixed true b c d = refl
-mixed false true true d = refl
-mixed false true false d = refl
-mixed false false c d = refl
-
-cell_on_holds : (k : ℕ) (row : List ℕ) → cell_on k row ≡ (holds (2 * k) row || holds (2 * k + 1) row)
-cell_on_holds k [] = refl
-cell_on_holds k (x ∷ row) =
-    rw (node_of_cell x k, cell_on_holds k row) (mixed (x == 2 * k) (x == 2 * k + 1)
-    (holds (2 * k) row) (holds (2 * k + 1) row))
 
 -- what is found to hold a node holds it
 found_by : (number node q : ℕ) (row : List ℕ) (lists : List (List ℕ))
@@ -82,7 +54,8 @@ module _ (pages : Rows) (once : IsOnce pages) (page : ℕ) (below : page < lengt
     | inr n ↦ absurd (false≢true (sym n.0 ∙ is))
   ]
 
-  holds_at : (node : ℕ) → holds node (row_at pages.lists page) ≡ is_at (holder_of pages.lists node) page
+  -- a list holds a node where the node is on that list
+  pub holds_at : (node : ℕ) → holds node (row_at pages.lists page) ≡ is_at (holder_of pages.lists node) page
   holds_at node =
       let there : holds node (row_at pages.lists page) ≡ true → is_at (holder_of pages.lists node) page ≡ true = λ held.
       let found : holder_of pages.lists node ≡ Some (0 + page) =
@@ -92,11 +65,6 @@ module _ (pages : Rows) (once : IsOnce pages) (page : ℕ) (below : page < lengt
       rw (found, here) (eq-eqb page page refl) in
       same_tests (holds node (row_at pages.lists page))
       (is_at (holder_of pages.lists node) page) there (λ is. at_by node (holder_of pages.lists node) refl is)
-
-  -- a cell is on the list of the page where one of its nodes is
-  pub on_list : (k : ℕ) → cell_on k (row_at pages.lists page) ≡ (is_at
-      (holder_of pages.lists (2 * k)) page || is_at (holder_of pages.lists (2 * k + 1)) page)
-  on_list k = rw (cell_on_holds k (row_at pages.lists page), holds_at (2 * k), holds_at (2 * k + 1)) refl
 
 -- one page more
 pub between_more : (first page : ℕ) (o : Option ℕ) → first ≤ page
@@ -277,6 +245,52 @@ module _ (size place width at count : ℕ) (some : 0 < count) (few : width ≤ 4
       (is_between from to (second_page size place width)) is)
       [ inl a ↦ backward_first a | inr b ↦ backward_second b ] in
       same_tests (is_watched size place width at count) both_pages forward back
+
+-- the page before one
+pub at_before : (o : Option ℕ) (page next : ℕ) → next ≡ suc page → is_at o page ≡ is_before o next
+at_before None page next same = refl
+at_before (Some other) page next same = elim (eqb_tells other page) [
+  | inl e ↦ rw (e.0, eq-eqb (suc other) next (omega (arith, e.1, same))) refl
+  | inr n ↦ rw (n.0, ne_eqb (suc other) next (λ s. n.1 (omega (arith, s, same)))) refl
+]
+
+-- a cell watches some pages exactly where it stands on the list of one of them, or on that of the page before them and
+-- reaches one of them
+module _ (size first end place width : ℕ) (few : width ≤ 4) (one : 0 < width) where
+  abbrev stands_there : Bool
+  stands_there = is_between first end (first_page size place)
+
+  abbrev stands_before : Bool
+  stands_before = is_before (first_page size place) first
+
+  reaching_by : reaches size first end place width ≡ true → (stands_there || stands_before) ≡ true
+  reaching_by is =
+      let page = between_is first end (second_page size place width) is in
+      let here = second_by ((place + width - 1) / 16) (place / 16) (pages_of size) page.0 page.1 in
+      let next : (place + width - 1) / 16 ≡ suc (place / 16) = omega (arith, here.0, few, one) in
+      let below : place < size = omega (arith, here.1, next) in
+      let at = first_some size place below in
+      elim (cases_lt (place / 16) first) [
+        | inl less ↦
+            let same : suc (place / 16) ≡ first = omega (arith, less, next, here.2, page.2) in
+            let before : stands_before ≡ true =
+            ap (λ o. is_before o first) at ∙ eq-eqb (suc (place / 16)) first same in
+            or_right stands_there stands_before before
+        | inr more ↦
+            let there : stands_there ≡ true = ap (is_between first end) at
+            ∙ between_true first end (place / 16) more (omega (arith, next, here.2, page.3)) in
+            or_left stands_there stands_before there
+      ]
+
+  pub watches_by : (stands_there || (stands_before && reaches size first end place width))
+      ≡ watches_between size first end place width
+  watches_by = joined stands_there stands_before (reaches size first end place width) reaching_by
+    where
+      joined : (a b c : Bool) → (c ≡ true → (a || b) ≡ true) → (a || (b && c)) ≡ (a || c)
+      joined true b c by = refl
+      joined false true c by = refl
+      joined false false true by = by refl
+      joined false false false by = refl
 
 -- an empty write is watched by no cell
 pub watched_none : (size place width at : ℕ) → is_watched size place width at 0 ≡ false

@@ -1,15 +1,15 @@
 -- A write is told page by page.
-use Rattle.std.proofs.Common.{◌≡◌, ℕ, ◌+◌, ◌-◌, ◌*◌, ◌/◌, ◌<◌, ◌≤◌, inl, inr, Bool, true, false, ◌||◌, List}
-use Rattle.std.proofs.Common.{length, get_or, refl, sym, ◌∙◌, ap, arith, subst, slice_index}
+use Rattle.std.proofs.Common.{◌≡◌, ℕ, ◌+◌, ◌-◌, ◌/◌, ◌<◌, ◌≤◌, inl, inr, Bool, true, false, ◌&&◌, ◌||◌, Option, List}
+use Rattle.std.proofs.Common.{length, get_or, refl, sym, ◌∙◌, ap, ap₂, arith, subst, slice_index}
 use Rattle.ra_memory.specs.Image.{IsReadWidth}
 use Rattle.ra_links.specs.Rows.{holder_of}
 use Rattle.ra_memref.specs.declared.watches.Watches.TheInside.{Inside}
-use Rattle.ra_memref.specs.Marking.{is_at, is_between}
-use Rattle.ra_memref.specs.Watches.{WatchesSeen, IsIndexed, MarksWatchers, StandsAt, marked_by, first_page, second_page}
+use Rattle.ra_memref.specs.Marking.{is_at, is_before, is_between}
+use Rattle.ra_memref.specs.Watches.{WatchesSeen, IsIndexed, MarksWatchers, marked_by, first_page, reaches}
 use Rattle.ra_memref.specs.Watches.{watches_between}
 use Rattle.ra_memref.specs.contracts.watches.Watches.{the_view}
 use Rattle.ra_memref.proofs.MarkLemmas.{length-marked_by, marked_too}
-use Rattle.ra_memref.proofs.Pages.{between_more, watched_is, watched_none}
+use Rattle.ra_memref.proofs.Pages.{between_more, watched_is, watched_none, watches_by}
 
 -- the watches with other marks
 abbrev pub with_marks : Inside → List Bool → Inside
@@ -19,85 +19,44 @@ with_marks t marks = record t { marks = marks }
 abbrev pub is_told : Inside → ℕ → ℕ → ℕ → Bool
 is_told t first page k = watches_between t.size first page (slice_index t.places.items k) (slice_index t.widths.items k)
 
--- the pages from the first on, before this one, are told
+-- the page of a cell's first byte
+abbrev pub page_in : Inside → ℕ → Option ℕ
+page_in t k = first_page t.size (slice_index t.places.items k)
+
+-- the cells on the lists of the pages from the first on, before this one, are marked
 pub record IsTelling (old now : Inside) (first page : ℕ) : Type 0 where
   pub same : now ≡ record old { marks = now.marks }
   pub long : length now.marks ≡ length old.marks
   pub marked : (k : ℕ) → k < length old.places.items
-      → get_or now.marks k true ≡ (get_or old.marks k true || is_told old first page k)
+      → get_or now.marks k true ≡ (get_or old.marks k true || is_between first page (page_in old k))
 
-or_none : (a b c : Bool) → b ≡ false → c ≡ false → a ≡ (a || (b || c))
-or_none true b c b_is c_is = refl
-or_none false b c b_is c_is = sym (ap (λ x. x || c) b_is ∙ c_is)
+or_joined : (a b c : Bool) → ((a || b) || c) ≡ (a || (b || c))
+or_joined true b c = refl
+or_joined false b c = refl
 
-joined : (a x y x' y' : Bool) → ((a || (x || y)) || (x' || y')) ≡ (a || ((x || x') || (y || y')))
-joined true x y x' y' = refl
-joined false true y x' y' = refl
-joined false false true true y' = refl
-joined false false true false y' = refl
-joined false false false x' y' = refl
+-- where a cell stands while pages are told
+listed_at : (old now : Inside) (first page : ℕ) → IsTelling old now first page → old.listed ≡ old.size
+    → IsIndexed old.listed old.widths.items old.places.items old.marks old.pages
+    → (k : ℕ) → k < length old.places.items → holder_of now.pages.lists k ≡ page_in old k
+listed_at old now first page telling whole is k below =
+    ap (λ (t : Inside). holder_of t.pages.lists k) telling.same ∙ is.stands k below
+    ∙ ap (λ n. first_page n (slice_index old.places.items k)) whole
 
 -- one page more is told
-module _ (old now : Inside) (first page : ℕ) (marks : List Bool)
-    (telling : IsTelling old now first page) (whole : old.listed ≡ old.size)
-    (is : IsIndexed old.listed old.widths.items old.places.items old.marks old.pages)
-    (above : first ≤ page) (long : length marks ≡ length now.marks) where
-  abbrev after : Inside
-  after = with_marks now marks
-
-  marks_after_page : marks ≡ marks
-  marks_after_page = refl
-
-  one_more : ((k : ℕ) → k < length now.marks → get_or marks k
-      true ≡ (get_or now.marks k true || (is_at (holder_of now.pages.lists (2 * k)) page || is_at
-      (holder_of now.pages.lists (2 * k + 1)) page))) → (k : ℕ) → k < length old.places.items
-      → get_or marks k true ≡ (get_or old.marks k true || is_told old first (page + 1) k)
-  one_more marked k below =
-      let stands = subst (λ n. StandsAt old.pages.lists n k (slice_index old.places.items k)
-      (slice_index old.widths.items k)) whole (is.stands k below) in
-      let lists : now.pages.lists ≡ old.pages.lists = ap (λ t. t.pages.lists) telling.same in
-      let first_at : is_at (holder_of now.pages.lists (2 * k)) page ≡ is_at
-      (first_page old.size (slice_index old.places.items k)) page = ap (λ o. is_at o page)
-      (ap (λ ls. holder_of ls (2 * k)) lists ∙ stands.first) in
-      let second_at : is_at (holder_of now.pages.lists (2 * k + 1)) page ≡ is_at
-      (second_page old.size (slice_index old.places.items k) (slice_index old.widths.items k))
-      page = ap (λ o. is_at o page) (ap (λ ls. holder_of ls (2 * k + 1)) lists ∙ stands.second) in
-      ap (λ ms. get_or ms k true) marks_after_page
-      ∙ marked k (omega (arith, below, telling.long, is.marks_too))
-      ∙ ap (λ b. b || (is_at (holder_of now.pages.lists (2 * k)) page || is_at
-      (holder_of now.pages.lists (2 * k + 1)) page)) (telling.marked k below)
-      ∙ ap (λ b. (get_or old.marks k true || is_told old first page k) || (b || is_at
-      (holder_of now.pages.lists (2 * k + 1)) page)) first_at
-      ∙ ap (λ b. (get_or old.marks k true || is_told old first page k) || (is_at
-      (first_page old.size (slice_index old.places.items k)) page || b)) second_at
-      ∙ joined (get_or old.marks k true) (is_between first page
-      (first_page old.size (slice_index old.places.items k)))
-      (is_between first page (second_page old.size (slice_index old.places.items k)
-      (slice_index old.widths.items k))) (is_at (first_page old.size
-      (slice_index old.places.items k)) page) (is_at
-      (second_page old.size (slice_index old.places.items k) (slice_index old.widths.items k)) page)
-      ∙ ap (λ b. get_or old.marks k true || (b || (is_between first page
-      (second_page old.size (slice_index old.places.items k)
-      (slice_index old.widths.items k)) || is_at (second_page old.size
-      (slice_index old.places.items k) (slice_index old.widths.items k)) page)))
-      (sym (between_more first page (first_page old.size (slice_index old.places.items k)) above))
-      ∙ ap (λ b. get_or old.marks k true || (is_between first (page + 1)
-      (first_page old.size (slice_index old.places.items k)) || b))
-      (sym (between_more first page (second_page old.size (slice_index old.places.items k)
-      (slice_index old.widths.items k)) above))
-
-  same_after : after ≡ record old { marks = after.marks }
-  same_after = ap {A = Inside} (λ t. with_marks t marks) telling.same
-
-  pub telling_more : ((k : ℕ) → k < length now.marks
-      → get_or marks k true ≡ (get_or now.marks k true || (is_at
-      (holder_of now.pages.lists (2 * k)) page || is_at
-      (holder_of now.pages.lists (2 * k + 1)) page))) → IsTelling old after first (page + 1)
-  telling_more marked = record {
-    same = same_after;
-    long = ap length marks_after_page ∙ long ∙ telling.long;
-    marked = one_more marked;
-  }
+pub telling_more : (old now : Inside) (first page : ℕ) (marks : List Bool) → IsTelling old now first page
+    → old.listed ≡ old.size → IsIndexed old.listed old.widths.items old.places.items old.marks old.pages
+    → first ≤ page → length marks ≡ length now.marks → ((k : ℕ) → k < length now.marks
+    → get_or marks k true ≡ (get_or now.marks k true || is_at (holder_of now.pages.lists k) page))
+    → IsTelling old (with_marks now marks) first (page + 1)
+telling_more old now first page marks telling whole is above long marked = record {
+  same = ap {A = Inside} (λ t. with_marks t marks) telling.same;
+  long = long ∙ telling.long;
+  marked = λ k below. marked k (omega (arith, below, telling.long, is.marks_too))
+      ∙ ap₂ (λ b o. b || is_at o page) (telling.marked k below)
+      (listed_at old now first page telling whole is k below)
+      ∙ or_joined (get_or old.marks k true) (is_between first page (page_in old k)) (is_at (page_in old k) page)
+      ∙ ap (λ b. get_or old.marks k true || b) (sym (between_more first page (page_in old k) above));
+}
 
 at_most_four : (width : ℕ) → IsReadWidth width → (0 < width) × (width ≤ 4)
 at_most_four width (inl e) = (omega (arith, e), omega (arith, e))
@@ -126,15 +85,36 @@ told_together old seen from marks at count view_is is some long marked =
           wide.1 wide.0));
     })
 
--- all pages are told
-pub told_all : (old now : Inside) (seen : WatchesSeen) (at count : ℕ) → the_view old ≡ seen
-    → IsIndexed old.listed old.widths.items old.places.items old.marks old.pages → 0 < count
-    → IsTelling old now (at / 16) ((at + count - 1) / 16 + 1) → MarksWatchers seen (the_view now) at count
-told_all old now seen at count view_is is some telling =
-    subst (λ t. MarksWatchers seen (the_view t) at count) (sym telling.same)
-    (told_together old seen old.marked_from now.marks at count view_is is some telling.long
-    (λ k below. marked_too old.marked_from old.marks now.marks k
-    (is_told old (at / 16) ((at + count - 1) / 16 + 1) k) (telling.marked k below)))
+-- all pages are told, and the cells on the page before them that reach them are marked too
+pub told_all : (old now : Inside) (seen : WatchesSeen) (marks : List Bool) (at count : ℕ) → the_view old ≡ seen
+    → old.listed ≡ old.size → IsIndexed old.listed old.widths.items old.places.items old.marks old.pages → 0 < count
+    → IsTelling old now (at / 16) ((at + count - 1) / 16 + 1) → length marks ≡ length now.marks
+    → ((k : ℕ) → k < length now.marks → get_or marks k true
+    ≡ (get_or now.marks k true || (is_before (holder_of now.pages.lists k) (at / 16)
+    && reaches now.size (at / 16) ((at + count - 1) / 16 + 1) (slice_index now.places.items k)
+    (slice_index now.widths.items k))))
+    → MarksWatchers seen (the_view (with_marks now marks)) at count
+told_all old now seen marks at count view_is whole is some telling long marked =
+    let first = at / 16 in
+    let end = (at + count - 1) / 16 + 1 in
+    subst (λ (t : Inside). MarksWatchers seen (the_view (with_marks t marks)) at count) (sym telling.same)
+    (told_together old seen old.marked_from marks at count view_is is some (long ∙ telling.long)
+    (λ k below.
+    let place = slice_index old.places.items k in
+    let width = slice_index old.widths.items k in
+    let wide = at_most_four width (is.wide k below) in
+    let reached : reaches now.size first end (slice_index now.places.items k) (slice_index now.widths.items k)
+    ≡ reaches old.size first end place width = ap (λ (t : Inside). reaches t.size first end
+    (slice_index t.places.items k) (slice_index t.widths.items k)) telling.same in
+    marked_too old.marked_from old.marks marks k (is_told old first end k)
+    (marked k (omega (arith, below, telling.long, is.marks_too))
+    ∙ ap₂ (λ b o. b || (is_before o first && reaches now.size first end (slice_index now.places.items k)
+    (slice_index now.widths.items k))) (telling.marked k below) (listed_at old now first end telling whole is k below)
+    ∙ ap (λ r. (get_or old.marks k true || is_between first end (page_in old k))
+    || (is_before (page_in old k) first && r)) reached
+    ∙ or_joined (get_or old.marks k true) (is_between first end (page_in old k))
+    (is_before (page_in old k) first && reaches old.size first end place width)
+    ∙ ap (λ b. get_or old.marks k true || b) (watches_by old.size first end place width wide.1 wide.0))))
 
 or_false : (b : Bool) → b ≡ (b || false)
 or_false true = refl

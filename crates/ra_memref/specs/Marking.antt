@@ -1,16 +1,16 @@
 -- Which cells a write marks, page by page: docs/INTERNALS.md, "Marked and moved cells".
-use Rattle.std.specs.Prelude.{ℕ, ◌/◌, ◌==◌, Bool, false, not, ◌&&◌, nat_le, nat_lt, Option, None, Some, List}
-use Rattle.std.specs.List.{list_any}
+use Rattle.std.specs.Prelude.{ℕ, suc, ◌==◌, Bool, false, not, ◌&&◌, nat_le, nat_lt, Option, None, Some, List}
 use Rattle.ra_memory.specs.Image.{raw}
-
--- one of the two nodes of the cell stands in the row
-abbrev pub cell_on : ℕ → List ℕ → Bool
-cell_on cell row = list_any (λ node. node / 2 == cell) row
 
 -- what may be a page is one, and is this page
 abbrev pub is_at : Option ℕ → ℕ → Bool
 is_at None page = false
 is_at (Some other) page = other == page
+
+-- what may be a page is one, and is the page before this one
+abbrev pub is_before : Option ℕ → ℕ → Bool
+is_before None page = false
+is_before (Some other) page = suc other == page
 
 -- what may be a page is one, from the first on and before the last
 abbrev pub is_between : ℕ → ℕ → Option ℕ → Bool

@@ -1,5 +1,5 @@
--- Which cells watch which pages, by lists of nodes: docs/INTERNALS.md, "Marked and moved cells".
-use Rattle.std.specs.Prelude.{◌≡◌, ℕ, zero, suc, ◌+◌, ◌-◌, ◌*◌, ◌/◌, ◌<◌, ◌≤◌, ◌^◌, ◌==◌, Bool, not, ◌&&◌, ◌||◌}
+-- Which cells watch which pages, by lists of cells: docs/INTERNALS.md, "Marked and moved cells".
+use Rattle.std.specs.Prelude.{◌≡◌, ℕ, zero, suc, ◌+◌, ◌-◌, ◌/◌, ◌<◌, ◌≤◌, ◌^◌, ◌==◌, Bool, not, ◌&&◌, ◌||◌}
 use Rattle.std.specs.Prelude.{if◌then◌else◌, nat_lt, Option, None, Some, List, length, replicate, true, slice_index}
 use Rattle.std.specs.Prelude.{slice_index_or, [], ◌∷◌}
 use Rattle.std.specs.List.{range_with_len}
@@ -36,17 +36,17 @@ second_page size place width =
     if not (page_of (place + width - 1) == page_of place) && nat_lt (page_of (place + width - 1))
     (pages_of size) then Some (page_of (place + width - 1)) else None
 
+-- the last byte of a cell of this width at this place stands on another page than its first one, which is one from the
+-- first page on and before the end
+abbrev pub reaches : ℕ → (first end place width : ℕ) → Bool
+reaches size first end place width = is_between first end (second_page size place width)
+
 -- a cell of this width at this place watches one of the pages from the first one on and before the end
 abbrev pub watches_between : ℕ → (first end place width : ℕ) → Bool
 watches_between size first end place width =
-    is_between first end (first_page size place) || is_between first end (second_page size place width)
+    is_between first end (first_page size place) || reaches size first end place width
 
--- the two nodes of a cell stand on the lists of these pages, and on no other
-pub record StandsAt (lists : List (List ℕ)) (size cell place width : ℕ) : Type 0 where
-  pub first : holder_of lists (2 * cell) ≡ first_page size place
-  pub second : holder_of lists (2 * cell + 1) ≡ second_page size place width
-
--- each cell stands on the lists of the pages that it watches
+-- each cell stands on the list of the page of its first byte
 pub record IsIndexed (size : ℕ) (widths places : List ℕ) (marks : List Bool) (pages : Rows) : Type 0 where
   pub small : size ≤ 2 ^ 27
   pub few : length places < 2 ^ 30
@@ -54,8 +54,8 @@ pub record IsIndexed (size : ℕ) (widths places : List ℕ) (marks : List Bool)
   pub marks_too : length marks ≡ length places
   pub wide : (k : ℕ) → k < length places → IsReadWidth (slice_index widths k)
   pub lists : length pages.lists ≡ pages_of size
-  pub nodes : pages.nodes ≡ 2 * length places
-  pub stands : (k : ℕ) → k < length places → StandsAt pages.lists size k (slice_index places k) (slice_index widths k)
+  pub nodes : pages.nodes ≡ length places
+  pub stands : (k : ℕ) → k < length places → holder_of pages.lists k ≡ first_page size (slice_index places k)
 
 -- each of this many cells stands in a row once
 abbrev pub IsOrder : ℕ → List ℕ → Type 0
@@ -70,7 +70,7 @@ order_by count (cell ∷ cells) = cell ∷ cells
 abbrev pub one_unmarked : List Bool → ℕ → ℕ
 one_unmarked marks cell = if slice_index_or marks cell true then 0 else 1
 
--- each cell stands on the lists of the pages that it watches, and once in the order of looks
+-- each cell stands on the list of the page of its first byte, and once in the order of looks
 pub record AreWatched (size : ℕ) (widths places : List ℕ) (marks : List Bool) (pages : Rows)
     (order : List ℕ) : Type 0 where
   pub indexed : IsIndexed size widths places marks pages

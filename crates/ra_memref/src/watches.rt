@@ -1,11 +1,11 @@
-ghost use Rattle.std.specs.Prelude.{◌≡◌, ◌≢◌, ◌+◌, ◌-◌, ◌*◌, ◌<◌, ◌≤◌, ◌^◌, ◌==◌, ◌||◌, not, ℕ, [], true, false, length, replicate, slice_index, slice_index_or, slice_set, IfOk, IfSome, None, count_by};
+ghost use Rattle.std.specs.Prelude.{◌≡◌, ◌≢◌, ◌+◌, ◌-◌, ◌*◌, ◌<◌, ◌≤◌, ◌^◌, ◌==◌, ◌&&◌, ◌||◌, not, ℕ, [], true, false, length, replicate, slice_index, slice_index_or, slice_set, IfOk, IfSome, None, count_by};
 ghost use Rattle.ra_memref.specs.Flags.{NoneSet, IsFirstSet, SetsBetween};
 ghost use Rattle.ra_memory.specs.Image.{IsReadWidth};
-ghost use Rattle.ra_links.specs.Rows.{holder_of, row_at};
-ghost use Rattle.ra_memref.specs.Watches.{IsOrder, order_by, one_unmarked, StandsAt, MarksWatchers, MarksOthers, marked_by, pages_of, first_page, second_page, watches_between};
+ghost use Rattle.ra_links.specs.Rows.{holder_of};
+ghost use Rattle.ra_memref.specs.Watches.{IsOrder, order_by, one_unmarked, MarksWatchers, MarksOthers, marked_by, pages_of, first_page, second_page, reaches, watches_between};
 ghost use Rattle.ra_memref.specs.Marks.{page_of};
 ghost use Rattle.ra_memref.specs.Marking as spec;
-ghost use Rattle.ra_memref.specs.Marking.{is_at, is_other};
+ghost use Rattle.ra_memref.specs.Marking.{is_at, is_before, is_other};
 
 use crate::cell_places::CellPlaces;
 use crate::flags::Flags;
@@ -22,12 +22,12 @@ const PAGE: u32 = 16;
 /// Where the cells lie, which are marked, and by lists which of them watch each page:
 /// docs/INTERNALS.md, "Marked and moved cells".
 ///
-/// A cell has two nodes: one for the page of its first byte, one for that of its last. The lists are those
-/// of an image of `listed` bytes: of the whole one, or of none. Each cell from `marked_from` on is marked,
-/// and each before it by its own mark. A look goes through the cells in an order in which each stands
-/// once: where there are lists in theirs, which takes no row, else by their first places, so that neighbours
-/// are read one after another. How many cells a look marked is counted, and seen by none. Only `new` takes
-/// memory.
+/// A cell stands on the list of the page of its first byte, so a cell that watches a page stands on the list
+/// of that page or of the one before it. The lists are those of an image of `listed` bytes: of the whole one,
+/// or of none. Each cell from `marked_from` on is marked, and each before it by its own mark. A look goes
+/// through the cells in an order in which each stands once: where there are lists in theirs, which takes no
+/// row, else by their first places, so that neighbours are read one after another. How many cells a look
+/// marked is counted, and seen by none. Only `new` takes memory.
 #[derive(Drop)]
 pub struct Watches {
     size: u32,
@@ -71,9 +71,9 @@ impl Watches {
     {
         let marks = Flags::new(alloc, places.len())?;
         let order = order_of(alloc, &places, listed != size)?;
-        let mut pages = Links::new(alloc, listed.div_ceil(PAGE), 2 * places.len() as u32)?;
+        let mut pages = Links::new(alloc, listed.div_ceil(PAGE), places.len() as u32)?;
         for cell in 0..places.len() {
-            stand(&mut pages, listed, cell as u32, places[cell], widths[cell]);
+            stand(&mut pages, listed, cell as u32, places[cell]);
         }
         Ok(Watches {
             size,
@@ -118,8 +118,7 @@ impl Watches {
         if self.places[cell] == place {
             return unmark(&mut self.marks, &mut self.marked_from, cell);
         }
-        let width = self.widths[cell];
-        stand(&mut self.pages, self.listed, cell as u32, place, width);
+        stand(&mut self.pages, self.listed, cell as u32, place);
         self.places[cell] = place;
         unmark(&mut self.marks, &mut self.marked_from, cell);
         true
@@ -133,7 +132,7 @@ impl Watches {
     }
 
     /// Marks the cells that watch a page of one of `count` bytes from the address `at` on: by the lists of
-    /// these pages, and where there are none, cell by cell.
+    /// these pages and of the page before them, and where there are none, cell by cell.
     pub fn tell(&mut self, at: u32, count: u32)
         requires within { at + count ≤ self.old.size }
         requires small { self.old.size ≤ 2 ^ 27 }
@@ -155,6 +154,11 @@ impl Watches {
         for page in first..end {
             mark_listed(&self.pages, &mut self.marks, page);
         }
+        let cells = CellPlaces {
+            places: &self.places,
+            widths: &self.widths,
+        };
+        mark_reaching(&self.pages, &mut self.marks, &cells, self.size, first, end);
     }
 
     // Does so cell by cell, for some bytes.
@@ -293,18 +297,52 @@ fn set_between(marks: &mut Flags, from: usize, to: usize)
     }
 }
 
-// Marks what stands on a list by one of its two nodes.
+// Marks the cells on a list.
 fn mark_listed(lists: &Links, marks: &mut Flags, list: u32)
     requires list { list < length lists.now.lists }
-    requires nodes { lists.now.nodes ≤ 2 * length marks.old }
+    requires nodes { lists.now.nodes ≤ length marks.old }
     ensures long { length marks.new ≡ length marks.old }
     ensures marked { (k : ℕ) → k < length marks.old → slice_index_or marks.new k true
-        ≡ (slice_index_or marks.old k true
-        || (is_at (holder_of lists.now.lists (2 * k)) list || is_at (holder_of lists.now.lists (2 * k + 1)) list)) }
+        ≡ (slice_index_or marks.old k true || is_at (holder_of lists.now.lists k) list) }
 {
     let mut next = lists.first(list);
+    while let Some(cell) = next {
+        marks.put(cell as usize, true);
+        next = lists.next(cell);
+    }
+}
+
+// Marks the cells on the list of the page before the first one whose last byte stands on a page from the
+// first one on and before the end. No page is before page 0.
+fn mark_reaching(
+    lists: &Links,
+    marks: &mut Flags,
+    cells: &CellPlaces<'_>,
+    size: u32,
+    first: u32,
+    end: u32,
+)
+    requires list { first ≤ length lists.now.lists }
+    requires nodes { lists.now.nodes ≤ length marks.old }
+    requires places { length cells.now.places.now ≡ length marks.old }
+    requires widths { length cells.now.widths.now ≡ length marks.old }
+    requires wide { (k : ℕ) → k < length marks.old → IsReadWidth (slice_index cells.now.widths.now k) }
+    ensures long { length marks.new ≡ length marks.old }
+    ensures marked { (k : ℕ) → k < length marks.old → slice_index_or marks.new k true
+        ≡ (slice_index_or marks.old k true || (is_before (holder_of lists.now.lists k) first
+        && reaches size first end (slice_index cells.now.places.now k) (slice_index cells.now.widths.now k))) }
+{
+    if first == 0 {
+        return;
+    }
+    let (places, widths) = (cells.places, cells.widths);
+    let mut next = lists.first(first - 1);
     while let Some(node) = next {
-        marks.put((node / 2) as usize, true);
+        let cell = node as usize;
+        let last = page_of_last(size, places[cell], widths[cell]);
+        if is_between(first, end, last) {
+            marks.put(cell, true);
+        }
         next = lists.next(node);
     }
 }
@@ -523,21 +561,16 @@ fn mark_other<I: Image, const MAY_BE: bool>(
     true
 }
 
-// Puts the two nodes of a cell on the lists of the pages that it watches.
-fn stand(pages: &mut Links, size: u32, cell: u32, place: u32, width: u8)
-    requires small { size ≤ 2 ^ 27 }
+// Puts a cell on the list of the page of its first byte, where the image has that byte, or on none.
+fn stand(pages: &mut Links, size: u32, cell: u32, place: u32)
     requires lists { length pages.old.lists ≡ pages_of size }
-    requires nodes { 2 * cell + 1 < pages.old.nodes }
-    requires few { pages.old.nodes ≤ 2 ^ 31 }
-    requires wide { IsReadWidth width }
-    ensures stands { StandsAt pages.new.lists size cell place width }
-    ensures others { (node : ℕ) → node ≢ 2 * cell → node ≢ 2 * cell + 1
-        → holder_of pages.new.lists node ≡ holder_of pages.old.lists node }
+    requires nodes { cell < pages.old.nodes }
+    ensures stands { holder_of pages.new.lists cell ≡ first_page size place }
+    ensures others { (other : ℕ) → other ≢ cell → holder_of pages.new.lists other ≡ holder_of pages.old.lists other }
     ensures lists { length pages.new.lists ≡ length pages.old.lists }
     ensures nodes { pages.new.nodes ≡ pages.old.nodes }
 {
-    put(pages, 2 * cell, page_of_first(size, place));
-    put(pages, 2 * cell + 1, page_of_last(size, place, width));
+    put(pages, cell, page_of_first(size, place));
 }
 
 // The page of a cell's first byte, where the image has that byte.
@@ -564,8 +597,8 @@ fn page_of_last(size: u32, place: u32, width: u8) -> Option<u32>
     }
 }
 
-/// Puts a node on the list of a page, or on none.
-pub fn put(pages: &mut Links, node: u32, page: Option<u32>)
+// Puts a node on the list of a page, or on none.
+fn put(pages: &mut Links, node: u32, page: Option<u32>)
     requires node { node < pages.old.nodes }
     requires page { IfSome page (λ page. page < length pages.old.lists) }
     ensures here { holder_of pages.new.lists node ≡ page }
@@ -573,6 +606,9 @@ pub fn put(pages: &mut Links, node: u32, page: Option<u32>)
     ensures lists { length pages.new.lists ≡ length pages.old.lists }
     ensures nodes { pages.new.nodes ≡ pages.old.nodes }
 {
+    if pages.place_of(node) == page {
+        return;
+    }
     pages.unlink(node);
     if let Some(page) = page {
         pages.link(page, node);

@@ -1,25 +1,27 @@
-use Rattle.std.proofs.Common.{subst, ◌≡◌, ◌∙◌, ◌*◌, [], ap, length, replicate, true, arith}
+use Rattle.std.proofs.Common.{subst, ◌≡◌, ◌∙◌, [], ap, length, replicate, true, arith}
 use Rattle.std.proofs.lemmas.List.{length-replicate}
-use Rattle.ra_memref.specs.Watches.{IsOrder, order_by, pages_of}
-use Rattle.ra_memref.proofs.Indexed.{standing_more, standing_none, puts_of, read_at}
+use Rattle.ra_memref.specs.Watches.{IsOrder, first_page, order_by, pages_of}
+use Rattle.ra_memref.proofs.Indexed.{standing_more, standing_none, read_at}
 use Rattle.ra_memref.proofs.watches.Watches.new.Goals as goal
 
 pub loop-cell-init : goal.loop-cell-init
 loop-cell-init c =
-    standing_none c.args.listed c.args.widths.items c.args.places.items c.in_ok-pages.pages (c.in_ok-pages.ensures
-    ∙ ap (λ n. record { lists = replicate n []; nodes = 2 * c.len-2.result }) (c.div_ceil.ensures ∙ omega arith)
-    ∙ ap (λ n. record { lists = replicate (pages_of c.args.listed) []; nodes = 2 * n })
+    standing_none c.args.listed c.args.places.items c.in_ok-pages.pages (c.in_ok-pages.ensures
+    ∙ ap (λ n. record { lists = replicate n []; nodes = c.len-2.result }) (c.div_ceil.ensures ∙ omega arith)
+    ∙ ap (λ n. record { lists = replicate (pages_of c.args.listed) []; nodes = n })
     (c.len-2.ensures ∙ c.args.places.ok.0))
 
 pub loop-cell-preserved : goal.loop-cell-preserved
 loop-cell-preserved c =
-    standing_more c.args.listed c.args.widths.items c.args.places.items c.loop-cell.pages
-    c.stand.new.pages c.loop-cell.cell c.loop-cell.invariant
-    (puts_of c.loop-cell.pages c.stand.new.pages c.args.listed c.loop-cell.cell _ _ _ _
-    (read_at c.args.places.items c.loop-cell.cell _ (omega arith) c.index.ensures)
-    (read_at c.args.widths.items c.loop-cell.cell _
-    (omega (arith, c.requires.widths)) c.index-in-loop-cell.ensures) c.stand.ensures.stands
-    c.stand.ensures.others c.stand.ensures.lists c.stand.ensures.nodes)
+    let cell = c.loop-cell.cell in
+    let place = read_at c.args.places.items cell _ (omega arith) c.index.ensures in
+    standing_more c.args.listed c.args.places.items c.loop-cell.pages c.stand.new.pages cell c.loop-cell.invariant
+    (record {
+      stands = c.stand.ensures.stands ∙ ap (first_page c.args.listed) place;
+      others = c.stand.ensures.others;
+      lists = c.stand.ensures.lists;
+      nodes = c.stand.ensures.nodes;
+    })
 
 pub invariant_of-result : goal.invariant_of-result
 invariant_of-result c =

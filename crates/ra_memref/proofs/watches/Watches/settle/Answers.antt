@@ -1,7 +1,7 @@
-use Rattle.std.proofs.Common.{subst, sym, ◌<◌, length, arith, refl, ap}
+use Rattle.std.proofs.Common.{subst, sym, ◌<◌, length, arith, ap}
 use Rattle.std.proofs.lemmas.List.{length-set}
 use Rattle.ra_memref.specs.Watches.{WatchesSeen, IsOrder, order_by}
-use Rattle.ra_memref.proofs.Indexed.{indexed_moved, puts_of, read_at, rewatched}
+use Rattle.ra_memref.proofs.Indexed.{indexed_moved, rewatched}
 use Rattle.ra_memref.proofs.watches.Watches.settle.Goals as goal
 
 pub unmark-requires-clause-few : goal.unmark-requires-clause-few
@@ -17,12 +17,12 @@ invariant_of-self-2 g c =
     record {
       indexed = indexed_moved c.self.inside.listed c.self.inside.widths.items
           c.self.inside.places.items c.self.inside.marks _ c.self.inside.pages c.stand.new.pages
-          c.args.cell c.args.place c.self.invariant.indexed below c.unmark-2.ensures.long
-          (puts_of c.self.inside.pages c.stand.new.pages c.self.inside.listed c.args.cell _ _ _ _
-          refl (read_at c.self.inside.widths.items c.args.cell _
-          (omega (arith, below, c.self.invariant.indexed.widths_too)) c.index-width.ensures)
-          c.stand.ensures.stands c.stand.ensures.others c.stand.ensures.lists
-          c.stand.ensures.nodes);
+          c.args.cell c.args.place c.self.invariant.indexed below c.unmark-2.ensures.long (record {
+            stands = c.stand.ensures.stands;
+            others = c.stand.ensures.others;
+            lists = c.stand.ensures.lists;
+            nodes = c.stand.ensures.nodes;
+          });
       ordered = subst (λ n. IsOrder n (order_by n c.self.inside.order.items)) (sym (length-set
           c.self.inside.places.items c.args.cell c.args.place)) c.self.invariant.ordered;
     }

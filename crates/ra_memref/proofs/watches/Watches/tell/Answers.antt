@@ -17,6 +17,7 @@ returns c =
     let some : 0 < c.args.count = omega (arith, c.if-count-eq0.false) in
     let end : c.loop-page.page ≡ (c.args.at + c.args.count - 1) / 16 + 1 =
     omega (arith, c.loop-page-test.false, c.loop-page.auto.page-end, some) in
-    told_all c.self.inside c.loop-page.self-inside c.args.self.now c.args.at c.args.count
-    c.self.view_is c.self.invariant.indexed some (subst
-    (IsTelling c.self.inside c.loop-page.self-inside (c.args.at / 16)) end c.loop-page.invariant)
+    let e = rw (c.deref.ensures.value, c.deref-2.ensures.value) at c.mark_reaching.ensures in
+    told_all c.self.inside c.loop-page.self-inside c.args.self.now c.mark_reaching.new.marks c.args.at c.args.count
+    c.self.view_is (omega (arith, c.if-self.false)) c.self.invariant.indexed some (subst
+    (IsTelling c.self.inside c.loop-page.self-inside (c.args.at / 16)) end c.loop-page.invariant) e.long e.marked
