@@ -143,7 +143,7 @@ fn put_tests(
     let mut next = at;
     for place in 0..tests.len() {
         let hits = tests[place].trigger.hits();
-        next = put_hits(row, next, hits, &counts[place].counted, owed);
+        next = put_hits(row, next, hits, counts[place].counted(), owed);
     }
     next
 }
@@ -164,7 +164,7 @@ fn put_values(
     let mut next = at;
     for place in 0..values.len() {
         let hits = values[place].value.hits();
-        next = put_hits(row, next, hits, &counts[place].counted, owed);
+        next = put_hits(row, next, hits, counts[place].counted(), owed);
     }
     next
 }

@@ -81,7 +81,7 @@ seen_too : (e : Bool) (run : ItemRun) (b : ItemCounts) (owed : Option ℕ) → s
     run) b owed ≡ item_with (is_earned (seen_run run b owed) || e) (seen_run run b owed)
 seen_too e (Achievement run) b None = kept_too run.earned e run.run.trigger
 seen_too e (Achievement run) (counts.Achievement b) (Some n) = kept_too run.earned e
-    (record run.run.trigger { hits = owed_by n b.counted.items run.run.trigger.hits })
+    (record run.run.trigger { hits = owed_by n b.counted run.run.trigger.hits })
 seen_too e (Achievement run) (counts.Leaderboard b) (Some n) = kept_too run.earned e run.run.trigger
 seen_too e (Leaderboard run) b None = refl
 seen_too e (Leaderboard run) (counts.Achievement b) (Some n) = refl
@@ -155,8 +155,8 @@ module _ (nodes : List Node) (values : List ℕ) where
     now = on.now;
     at = on.at;
     kept = λ start image same n. on_too run.earned e
-        (record run.run.trigger { hits = owed_by n b.counted.items run.run.trigger.hits })
-        (record run.run.trigger { hits = owed_by (n + 1) b.counted.items run.run.trigger.hits }) _
+        (record run.run.trigger { hits = owed_by n b.counted run.run.trigger.hits })
+        (record run.run.trigger { hits = owed_by (n + 1) b.counted run.run.trigger.hits }) _
         (on.kept start image same n);
     silent = λ start image same n. on.silent start image same n;
     told = on.told;

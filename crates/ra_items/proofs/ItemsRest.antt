@@ -37,9 +37,8 @@ use Rattle.ra_items.specs.declared.item_run.ItemRun.{ItemRun}
 use Rattle.ra_items.specs.declared.item_run.ItemRun.TheVariants.{Achievement, Leaderboard}
 use Rattle.ra_items.specs.declared.rest.ItemCounts.{ItemCounts}
 use Rattle.ra_items.specs.declared.rest.ItemCounts.TheVariants as counts
-use Rattle.ra_schedule.specs.declared.counts.Counts.{Counts}
 use Rattle.ra_schedule.specs.declared.member_counts.MemberCounts.{MemberCounts}
-use Rattle.ra_schedule.specs.Counted.{owed_by, owed_member_by}
+use Rattle.ra_schedule.specs.Counted.{CountsSeen, owed_by, owed_member_by}
 use Rattle.ra_schedule.proofs.MembersRest.Counted.{counted_owes, counted_owes_member}
 use Rattle.ra_meaning.specs.Boards.{BoardKept, board_after, board_next, kept_board, number_at, opened_board}
 use Rattle.ra_meaning.specs.Boards.{running_values, state_by, tracked_number}
@@ -142,7 +141,7 @@ board_silent id format old new state tracked =
     (submitted i) (events.Submit id (number_at new.member.values 0) format))
 
 -- achievements
-module _ (table : TableSeen) (id : ℕ) (t : TriggerContents) (mid new : AchievementRun) (c : Counts)
+module _ (table : TableSeen) (id : ℕ) (t : TriggerContents) (mid new : AchievementRun) (c : CountsSeen)
     (long : length mid.run.trigger.hits ≡ trigger_hits t)
     (steps : StepsItem table (Unlocks id t) (Achievement mid) (Achievement new)) (rested : TriggerRested t c mid new)
     (start : Start) (image : List ℕ) (has : AreValuesAt table.nodes table.values (first_frame start image)) where

@@ -16,7 +16,7 @@ use Rattle.ra_progress.proofs.Blocks.{length_item}
 use Rattle.ra_member.specs.Members.{saved_hits, saved_numbers}
 use Rattle.ra_member.specs.MemberRuns.{kept_by}
 use Rattle.ra_member.proofs.GrowthLemmas.{weight_at}
-use Rattle.ra_schedule.specs.Counted.{CountsFit}
+use Rattle.ra_schedule.specs.Counted.{CountsFit, CountsSeen}
 use Rattle.ra_schedule.specs.Counts.{counts_of}
 use Rattle.ra_schedule.proofs.MembersRest.Counted.{length-owed_by, saved_stay_by}
 use Rattle.ra_display.specs.Keeping.{PutsOver, PutsWords, seen_hits}
@@ -30,14 +30,13 @@ use Rattle.ra_items.specs.declared.item_run.ItemRun.{ItemRun}
 use Rattle.ra_items.specs.declared.item_run.ItemRun.TheVariants.{Achievement, Leaderboard}
 use Rattle.ra_schedule.specs.declared.member_counts.MemberCounts.{MemberCounts}
 use Rattle.ra_items.specs.declared.rest.ItemCounts.TheVariants as counts
-use Rattle.ra_schedule.specs.declared.counts.Counts.{Counts}
 use Rattle.ra_items.specs.Resting.{seen_run}
 use Rattle.ra_items.specs.Shapes.{board_run_shape, run_shape}
 use Rattle.ra_items.proofs.SaveLemmas.{achievement_kept_fits, board_kept_fits}
 
 -- what an achievement keeps, with its hits as they are seen
-abbrev pub seen_trigger : AchievementRun → Counts → Option ℕ → TriggerKept
-seen_trigger run b owed = record run.run.trigger { hits = seen_hits owed b.counted.items run.run.trigger.hits }
+abbrev pub seen_trigger : AchievementRun → CountsSeen → Option ℕ → TriggerKept
+seen_trigger run b owed = record run.run.trigger { hits = seen_hits owed b.counted run.run.trigger.hits }
 
 pub seen_board : (run : BoardRun) (b : MemberCounts) (owed : Option ℕ) → CountsFit (counts_of b) (kept_by run.member)
     → OfBoard (board_byte run.board) (saved_hits (seen_line run.member b owed))
@@ -52,13 +51,13 @@ seen_long None counted hits = refl
 seen_long (Some n) counted hits = length-owed_by n counted hits
 
 -- what is kept of an achievement with its hits as they are seen fits its shape
-pub achievement_fits : (run : AchievementRun) (b : Counts) (owed : Option ℕ) (three four : List ℕ)
+pub achievement_fits : (run : AchievementRun) (b : CountsSeen) (owed : Option ℕ) (three four : List ℕ)
     (second next : ℕ) → run.run.trigger.measured < 2 ^ 32
-    → PutsWords three four second next (seen_hits owed b.counted.items run.run.trigger.hits)
+    → PutsWords three four second next (seen_hits owed b.counted run.run.trigger.hits)
     → ItemFits (run_shape (Achievement run)) (kept_achievement run.earned (seen_trigger run b owed))
 achievement_fits run b owed three four second next small hits =
     subst (λ n. ItemFits (shapes.Achievement n) (kept_achievement run.earned
-    (seen_trigger run b owed))) (seen_long owed b.counted.items run.run.trigger.hits)
+    (seen_trigger run b owed))) (seen_long owed b.counted run.run.trigger.hits)
     (achievement_kept_fits run.earned (seen_trigger run b owed) small (record { as_many = refl; fit = hits.fit }))
 
 -- and so does what is kept of a board

@@ -40,7 +40,7 @@ run_at_most n (counts.Achievement b) (Achievement run) =
     (record {
       state = run.run.trigger.state;
       measured = run.run.trigger.measured;
-      hits = owed_by_at_most n b.counted.items run.run.trigger.hits i;
+      hits = owed_by_at_most n b.counted run.run.trigger.hits i;
     }))
 run_at_most n (counts.Leaderboard b) (Leaderboard run) =
     (λ i. kept_board (record { state = run.board; member = member_by_at_most n (counts_of b) (kept_by run.member) i }))

@@ -70,7 +70,7 @@ module _ (nodes : List Node) where
   seen_one (Unlocks id t) (Achievement run) (counts.Achievement b) (Some n) is room =
       record {
         earned = run.earned;
-        trigger = record run.run.trigger { hits = owed_by n b.counted.items run.run.trigger.hits };
+        trigger = record run.run.trigger { hits = owed_by n b.counted run.run.trigger.hits };
         is = refl;
       }
   seen_one (Unlocks id t) (Achievement run) (counts.Leaderboard b) (Some n) is room = absurd room
@@ -100,7 +100,7 @@ module _ (nodes : List Node) where
   stands_one (Unlocks id t) (Achievement run) (counts.Achievement b) (Some n) is room =
       ap (λ (k : TriggerKept). states.Achievement k.state k.measured)
       (sym (achievement_again run.earned
-      (record run.run.trigger { hits = owed_by n b.counted.items run.run.trigger.hits })))
+      (record run.run.trigger { hits = owed_by n b.counted run.run.trigger.hits })))
   stands_one (Unlocks id t) (Achievement run) (counts.Leaderboard b) (Some n) is room = absurd room
   stands_one (Unlocks id t) (Leaderboard run) b owed is room = absurd is
   stands_one (Ranks id format b) (Achievement run) room_of owed is room = absurd is

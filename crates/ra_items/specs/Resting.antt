@@ -14,9 +14,9 @@ use Rattle.ra_schedule.specs.Groups.{groups_keep}
 use Rattle.ra_progress.specs.Contents.{KeptItem}
 use Rattle.ra_member.specs.Runs.{HasValues}
 use Rattle.ra_member.specs.MemberRuns.{kept_by}
-use Rattle.ra_schedule.specs.declared.counts.Counts.{Counts}
 use Rattle.ra_schedule.specs.declared.member_counts.MemberCounts.{MemberCounts}
-use Rattle.ra_schedule.specs.Counted.{CountsFit, all_keep_by, counted, counted_member, free_in, owed_by, owed_member_by}
+use Rattle.ra_schedule.specs.Counted.{CountsFit, CountsSeen, all_keep_by, counted, counted_member, free_in, owed_by}
+use Rattle.ra_schedule.specs.Counted.{owed_member_by}
 use Rattle.ra_schedule.specs.Counts.{AreFor, Holds, IsFor, Judges, counts_of, held}
 use Rattle.ra_schedule.specs.Inputs.{Instant, SeeSame, MemberSeesSame}
 use Rattle.ra_truths.specs.declared.comparison.Comparison.{Comparison}
@@ -42,9 +42,9 @@ use Rattle.ra_items.specs.RunEvents.{run_events}
 pub use Rattle.ra_schedule.specs.Waking.{AreValuesAt, first_frame}
 
 -- what an achievement keeps after n frames more at rest, where these of its conditions count
-abbrev pub trigger_owed : ℕ → Counts → AchievementRun → KeptItem
+abbrev pub trigger_owed : ℕ → CountsSeen → AchievementRun → KeptItem
 trigger_owed n c run = kept_achievement run.earned
-    (record run.run.trigger { hits = owed_by n c.counted.items run.run.trigger.hits })
+    (record run.run.trigger { hits = owed_by n c.counted run.run.trigger.hits })
 
 -- the same of a board
 abbrev pub board_owed : ℕ → MemberCounts → BoardRun → KeptItem
@@ -94,10 +94,10 @@ pub record BoardRests (b : BoardContents) (old new : BoardKept) : Type 0 where
   pub values : is_running new.state ≡ true → ValuesKeep (board_member b).values old.member.values new.member.values
 
 -- it is noted which conditions of an achievement counted at a step, and said whether it rested, by what a room holds
-pub record JudgesTrigger (old new : Counts) (rooms : Rooms) (run : AchievementRun) (rests : Bool) : Type 0 where
+pub record JudgesTrigger (old new : CountsSeen) (rooms : Rooms) (run : AchievementRun) (rests : Bool) : Type 0 where
   pub free : new.free ≡ old.free
-  pub bits : new.counted.items ≡ counted rooms.hits.items run.run.trigger.hits
-  pub keeps : rests ≡ true → all_keep_by old.free.items rooms.hits.items run.run.trigger.hits ≡ true
+  pub bits : new.counted ≡ counted rooms.hits.items run.run.trigger.hits
+  pub keeps : rests ≡ true → all_keep_by old.free rooms.hits.items run.run.trigger.hits ≡ true
   pub state : rests ≡ true → run.run.trigger.state ≡ rooms.state
   pub measured : rests ≡ true → run.run.trigger.measured ≡ rooms.measured
 
@@ -112,8 +112,8 @@ pub record JudgesBoard (old new : MemberCounts) (rooms : Rooms) (run : BoardRun)
   pub state : rests ≡ true → run.board ≡ rooms.board
 
 -- an achievement rested at a step: it kept all but free hits, and the bits say which of these counted
-pub record TriggerRested (t : TriggerContents) (c : Counts) (old new : AchievementRun) : Type 0 where
-  pub bits : c.counted.items ≡ counted old.run.trigger.hits new.run.trigger.hits
+pub record TriggerRested (t : TriggerContents) (c : CountsSeen) (old new : AchievementRun) : Type 0 where
+  pub bits : c.counted ≡ counted old.run.trigger.hits new.run.trigger.hits
   pub small : AreSmall old.run.trigger.hits
   pub rests : TriggerRests t old.run.trigger new.run.trigger
 
@@ -152,7 +152,7 @@ pub record GoesOn (nodes : List Node) (values : List ℕ) (item : ItemContents) 
 
 -- there is a bit for each hit that a run keeps
 abbrev pub FitsRun : ItemCounts → ItemRun → Type 0
-FitsRun (counts.Achievement c) (Achievement run) = length c.counted.items ≡ length run.run.trigger.hits
+FitsRun (counts.Achievement c) (Achievement run) = length c.counted ≡ length run.run.trigger.hits
 FitsRun (counts.Leaderboard c) (Leaderboard run) = CountsFit (counts_of c) (kept_by run.member)
 FitsRun _ _ = ⊥
 

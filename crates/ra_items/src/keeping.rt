@@ -76,18 +76,18 @@ fn keep_achievement(
     counts: &Counts,
     owed: Option<u32>,
 ) -> usize
-    requires fits { length counts.now.counted.items ≡ length run.now.run.trigger.hits }
+    requires fits { length counts.now.counted ≡ length run.now.run.trigger.hits }
     requires room { at + item_length (run_shape (Achievement run.now)) ≤ length row.old }
     ensures puts { PutsOver row.old row.new at result (item_bytes (kept_achievement run.now.earned
-        (record run.now.run.trigger { hits = seen_hits owed counts.now.counted.items run.now.run.trigger.hits }))) }
+        (record run.now.run.trigger { hits = seen_hits owed counts.now.counted run.now.run.trigger.hits }))) }
     ensures fits { ItemFits (run_shape (Achievement run.now)) (kept_achievement run.now.earned
-        (record run.now.run.trigger { hits = seen_hits owed counts.now.counted.items run.now.run.trigger.hits })) }
+        (record run.now.run.trigger { hits = seen_hits owed counts.now.counted run.now.run.trigger.hits })) }
 {
     let trigger = &run.run.trigger;
     let state = state_byte(trigger.state().byte(), run.is_earned());
     let next = put_byte(row, at, state);
     let next = put_word(row, next, trigger.measured());
-    put_hits(row, next, trigger.hits(), &counts.counted, owed)
+    put_hits(row, next, trigger.hits(), counts.counted(), owed)
 }
 
 // Writes what a board is seen to keep.

@@ -119,11 +119,11 @@ fn pay_run(run: &mut ItemRun, counts: &ItemCounts, frames: u32)
 
 // Adds what an achievement owes for this many frames.
 fn pay_achievement(run: &mut AchievementRun, counts: &Counts, frames: u32)
-    requires { length counts.now.counted.items ≡ length run.old.run.trigger.hits }
+    requires { length counts.now.counted ≡ length run.old.run.trigger.hits }
     ensures kept { kept_run (Achievement run.new) ≡ trigger_owed frames counts.now run.old }
     ensures run { StaysItem (Achievement run.old) (Achievement run.new) }
 {
-    pay(run.run.trigger.hits_mut(), &counts.counted, frames);
+    pay(run.run.trigger.hits_mut(), counts.counted(), frames);
 }
 
 // Adds what a board owes for this many frames.
@@ -190,8 +190,8 @@ fn step_achievement(
 // Notes which conditions of an achievement counted at its step, and says whether it rested.
 fn judge_trigger(counts: &mut Counts, rooms: &Rooms, run: &AchievementRun) -> bool
     requires before { length rooms.now.hits.items ≡ length run.now.run.trigger.hits }
-    requires free { length counts.old.free.items ≡ length run.now.run.trigger.hits }
-    requires counted { length counts.old.counted.items ≡ length run.now.run.trigger.hits }
+    requires free { length counts.old.free ≡ length run.now.run.trigger.hits }
+    requires counted { length counts.old.counted ≡ length run.now.run.trigger.hits }
     ensures { JudgesTrigger counts.old counts.new rooms.now run.now result }
 {
     let trigger = &run.run.trigger;

@@ -101,9 +101,9 @@ fn put_owed(
     let alloc = *bytes.allocator();
     match (run, counts) {
         (ItemRun::Achievement(run), ItemCounts::Achievement(counts)) => {
-            let mut hits = Vec::with_capacity(alloc, counts.counted.len())?;
+            let mut hits = Vec::with_capacity(alloc, counts.counted().len())?;
             hits.extend_from_slice(run.run.trigger.hits())?;
-            pay(&mut hits, &counts.counted, frames);
+            pay(&mut hits, counts.counted(), frames);
             put_achievement_run(bytes, name, run, &hits)
         }
         (ItemRun::Leaderboard(run), ItemCounts::Leaderboard(counts)) => {

@@ -1,12 +1,25 @@
 -- Which conditions counted a hit at a frame, and what they owe at rest: docs/INTERNALS.md, "Rest".
-use Rattle.std.specs.Prelude.{◌≡◌, ℕ, ◌+◌, Bool, false, if◌then◌else◌, not, ◌&&◌, ◌||◌, ◌==◌, List, ◌++◌, length, map}
-use Rattle.std.specs.Prelude.{slice_index, slice_index_or, zip}
+use Rattle.std.specs.Prelude.{◌≡◌, ℕ, ◌+◌, ◌/◌, Bool, false, if◌then◌else◌, not, ◌&&◌, ◌||◌, ◌==◌, List, ◌++◌, length}
+use Rattle.std.specs.Prelude.{map, take, drop, slice_index, slice_index_or, zip}
 use Rattle.std.specs.List.{flat_map, list_all, range_with_len}
 use Rattle.ra_condition.specs.declared.condition.Condition.{Condition}
 use Rattle.ra_group.specs.declared.form.Form.{Form}
 use Rattle.ra_value.specs.Steps.{ValueKept}
 use Rattle.ra_member.specs.Members.{MemberKept}
 use Rattle.ra_schedule.specs.Groups.{is_free, plus}
+
+-- whether nothing but a save looks at the hits of each condition, and whether each counted at the last step
+pub record CountsSeen : Type 0 where
+  pub free : List Bool
+  pub counted : List Bool
+
+-- how many bits half of them are
+abbrev pub half : List Bool → ℕ
+half bits = length bits / 2
+
+-- the halves of bits, which stand one after the other
+abbrev pub halves : List Bool → CountsSeen
+halves bits = record { free = take (half bits) bits; counted = drop (half bits) bits }
 
 -- whether the hits of each condition changed at a frame
 abbrev pub counted : (before after : List ℕ) → List Bool

@@ -4,26 +4,25 @@ use Rattle.ra_condition.specs.Contents.{counted_in, groups_of}
 use Rattle.ra_group.specs.declared.form.Form.TheVariants.{InTrigger, InValue}
 use Rattle.ra_value.specs.Steps.{ValueKept}
 use Rattle.ra_member.specs.Members.{MemberContents, MemberKept}
-use Rattle.ra_schedule.specs.declared.counts.Counts.{Counts}
 use Rattle.ra_schedule.specs.declared.member_counts.MemberCounts.{MemberCounts}
 use Rattle.ra_schedule.specs.declared.room.Room.{Room}
 use Rattle.ra_schedule.specs.declared.room.ValueRoom.{ValueRoom}
 use Rattle.ra_schedule.specs.declared.member_counts.Judged.{Judged}
-use Rattle.ra_schedule.specs.Counted.{MemberCounted, all_keep_by, counted_rows, free_in}
+use Rattle.ra_schedule.specs.Counted.{CountsSeen, MemberCounted, all_keep_by, counted_rows, free_in}
 use Rattle.ra_schedule.specs.Owing.{AreHitsSmall, HaveOneShape}
 
 -- counts with these conditions at whose hits nothing looks, and a bit for each condition
-pub record IsFor (free : List Bool) (counts : Counts) : Type 0 where
-  pub is : counts.free.items ≡ free
-  pub many : length counts.counted.items ≡ length free
+pub record IsFor (free : List Bool) (counts : CountsSeen) : Type 0 where
+  pub is : counts.free ≡ free
+  pub many : length counts.counted ≡ length free
 
 -- at which hits of each row nothing looks
-abbrev pub free_rows : List Counts → List (List Bool)
-free_rows counts = map (λ c. c.free.items) counts
+abbrev pub free_rows : List CountsSeen → List (List Bool)
+free_rows counts = map (λ c. c.free) counts
 
 -- which conditions of each row counted
-abbrev pub bit_rows : List Counts → List (List Bool)
-bit_rows counts = map (λ c. c.counted.items) counts
+abbrev pub bit_rows : List CountsSeen → List (List Bool)
+bit_rows counts = map (λ c. c.counted) counts
 
 -- which conditions of a member counted
 abbrev pub counts_of : MemberCounts → MemberCounted
@@ -53,13 +52,13 @@ pub record Holds (room : Room) (kept : MemberKept) : Type 0 where
   pub small : AreHitsSmall kept
 
 -- beside each row of hits there is a bit for each, and whether nothing looks at it
-pub record FitRows (counts : List Counts) (hits : List (List ℕ)) : Type 0 where
+pub record FitRows (counts : List CountsSeen) (hits : List (List ℕ)) : Type 0 where
   pub bits : map length (bit_rows counts) ≡ map length hits
   pub free : map length (free_rows counts) ≡ map length hits
 
 -- a step is noted row by row: the bits say which hits changed, and it is said whether each stayed, or is free and one
 -- more
-pub record JudgesRows (old new : List Counts) (befores afters : List (List ℕ)) (keeps : Bool) : Type 0 where
+pub record JudgesRows (old new : List CountsSeen) (befores afters : List (List ℕ)) (keeps : Bool) : Type 0 where
   pub free : free_rows new ≡ free_rows old
   pub bits : bit_rows new ≡ counted_rows befores afters
   pub keep : keeps ≡ true → (k : ℕ) → k < length afters

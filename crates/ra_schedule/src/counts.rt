@@ -13,14 +13,25 @@ use ra_condition::{Group, Part, TriggerText, ValueText};
 use ra_group::Form;
 use ra_text::OutOfMemory;
 use std::alloc::Global;
+use std::marker::Model;
 
-/// A bit for each condition of a test or a value: whether it counted a hit at the last step.
+/// Two bits for each condition of a test or a value: whether nothing looks at its hits but a save, and whether these
+/// changed at the last step.
 #[derive(Drop)]
 pub struct Counts {
-    /// Whether nothing looks at the hits of the condition but a save.
-    pub free: Vec<bool>,
-    /// Whether the hits of the condition changed at the last step.
-    pub counted: Vec<bool>,
+    // the first bits of all conditions, and after them their second ones, in one block of memory
+    bits: Vec<bool>,
+}
+
+impl Model for Counts {
+    ghost use Rattle.std.specs.Prelude.{◌≡◌, ◌+◌, length};
+    ghost use Rattle.ra_schedule.specs.Counted.{CountsSeen, half, halves};
+
+    ghost Value = { CountsSeen };
+
+    ghost view = { λ c. halves c.bits.items };
+
+    ghost invariant = { λ c. length c.bits.items ≡ half c.bits.items + half c.bits.items };
 }
 
 impl Counts {
@@ -29,8 +40,7 @@ impl Counts {
         ensures { IfOk result (IsFor (free_in InTrigger (groups_of (trigger_contents text.now)))) }
     {
         let free = trigger_free(alloc, text)?;
-        let counted = vec![in alloc; false; free.len()]?;
-        Ok(Counts { free, counted })
+        Counts::of_free(free)
     }
 
     /// The conditions of a value's parts, of which none counted. Memory is the only refusal.
@@ -38,21 +48,40 @@ impl Counts {
         ensures { IfOk result (IsFor (free_in InValue (map counted_in (value_contents text.now)))) }
     {
         let free = value_free(alloc, text)?;
-        let counted = vec![in alloc; false; free.len()]?;
-        Ok(Counts { free, counted })
+        Counts::of_free(free)
+    }
+
+    // Conditions with these at whose hits nothing looks, of which none counted. Memory is the only refusal.
+    fn of_free(free: Vec<bool>) -> Result<Counts, OutOfMemory>
+        ensures { IfOk result (IsFor free.items) }
+    {
+        let count = free.len();
+        let mut bits = free;
+        bits.reserve_exact(count)?;
+        bits.resize(2 * count, false)?;
+        Ok(Counts { bits })
+    }
+
+    /// Which hits changed at the last step.
+    pub fn counted(&self) -> &[bool]
+        ensures { result.now ≡ self.now.counted }
+    {
+        &self.bits[self.bits.len() / 2..]
     }
 
     /// Notes which hits changed at a step, by the hits before it and after it, and says whether each of them stayed, or
     /// is free and one more.
     pub fn judge(&mut self, before: &[u32], after: &[u32]) -> bool
         requires before { length before.now ≡ length after.now }
-        requires free { length self.old.free.items ≡ length after.now }
-        requires counted { length self.old.counted.items ≡ length after.now }
+        requires free { length self.old.free ≡ length after.now }
+        requires counted { length self.old.counted ≡ length after.now }
         ensures free { self.new.free ≡ self.old.free }
-        ensures counted { self.new.counted.items ≡ spec.counted before.now after.now }
-        ensures keeps { result ≡ all_keep_by self.old.free.items before.now after.now }
+        ensures counted { self.new.counted ≡ spec.counted before.now after.now }
+        ensures keeps { result ≡ all_keep_by self.old.free before.now after.now }
     {
-        judge_row(&self.free, &mut self.counted, before, after)
+        let half = self.bits.len() / 2;
+        let (free, counted) = self.bits.split_at_mut(half);
+        judge_row(free, counted, before, after)
     }
 }
 

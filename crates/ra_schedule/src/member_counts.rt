@@ -135,7 +135,7 @@ fn pay_tests(tests: &mut [TriggerRun], rows: &[Counts], frames: u32)
     for place in 0..tests.len() {
         pay(
             tests[place].trigger.hits_mut(),
-            &rows[place].counted,
+            rows[place].counted(),
             frames,
         );
     }
@@ -149,7 +149,11 @@ fn pay_values(values: &mut [ValueRun], rows: &[Counts], frames: u32)
         ≡ owed_values_by frames (bit_rows rows.now) (map (λ value. value.value) values.old) }
 {
     for place in 0..values.len() {
-        pay(values[place].value.hits_mut(), &rows[place].counted, frames);
+        pay(
+            values[place].value.hits_mut(),
+            rows[place].counted(),
+            frames,
+        );
     }
 }
 
@@ -165,10 +169,10 @@ pub fn counted_row(alloc: Global, counts: &MemberCounts) -> Result<Vec<bool>, Ou
 
 // Puts which conditions counted after others.
 fn put_counted(row: &mut Vec<bool>, counts: &[Counts]) -> Result<(), OutOfMemory>
-    ensures { OnOk result (row.new.items ≡ row.old.items ++ flat_map (λ c. c.counted.items) counts.now) }
+    ensures { OnOk result (row.new.items ≡ row.old.items ++ flat_map (λ c. c.counted) counts.now) }
 {
     for own in counts {
-        row.extend_from_slice(&own.counted)?;
+        row.extend_from_slice(own.counted())?;
     }
     Ok(())
 }

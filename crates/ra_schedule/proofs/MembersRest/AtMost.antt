@@ -3,8 +3,7 @@ use Rattle.std.proofs.Common.{◌≡◌, ℕ, ◌==◌, min, if◌then◌else◌
 use Rattle.std.specs.List.{range_with_len}
 use Rattle.ra_schedule.specs.Groups.{paid, plus}
 use Rattle.ra_value.specs.Steps.{ValueKept}
-use Rattle.ra_member.specs.Members.{MemberKept}
-use Rattle.ra_schedule.specs.Owing.{owed_member, owed_tests, owed_values}
+use Rattle.ra_schedule.specs.Owing.{owed_values}
 
 -- more frames than a hit can count owe what so many do
 plus_most : (n h : ℕ) → plus (min n 4294967295) h ≡ plus n h

@@ -9,7 +9,7 @@ use Rattle.std.proofs.lemmas.List.FromFn.{fill_by_all, get_or-map-range_with_len
 use Rattle.ra_schedule.specs.Counted.{MemberCounted, CountsFit, bits_in, counted, counted_member, counted_rows}
 use Rattle.ra_schedule.specs.Counted.{keeps_by, owed_by, owed_member_by, owed_rows_by, owed_values_by}
 use Rattle.ra_schedule.specs.Groups.{paid, plus}
-use Rattle.ra_schedule.specs.Owing.{HaveOneShape, owed_member, owed_tests, owed_values}
+use Rattle.ra_schedule.specs.Owing.{owed_member, owed_tests, owed_values}
 use Rattle.ra_schedule.proofs.Resting.Owed.{owed, paid_nothing}
 use Rattle.ra_member.specs.Members.{HasShape, MemberContents, MemberKept, saved_hits, saved_numbers}
 use Rattle.ra_value.specs.Steps.{ValueKept}

@@ -9,8 +9,7 @@ use Rattle.std.proofs.lemmas.List.{take_all, take-map}
 use Rattle.std.proofs.lemmas.List.Folds.{list_all_more}
 use Rattle.std.proofs.lemmas.List.FromFn.{get_or-range_with_len, length-range_with_len}
 use Rattle.ra_member.proofs.PutBackLemmas.{rest_next}
-use Rattle.ra_schedule.specs.declared.counts.Counts.{Counts}
-use Rattle.ra_schedule.specs.Counted.{all_keep_by, counted, counted_rows}
+use Rattle.ra_schedule.specs.Counted.{CountsSeen, all_keep_by, counted, counted_rows}
 use Rattle.ra_schedule.specs.Counts.{FitRows, JudgesRows, bit_rows, free_rows}
 use Rattle.ra_schedule.proofs.MembersRest.SideBySideRows.{as_long, as_many, counted_next, same_at}
 use Rattle.ra_schedule.proofs.Resting.Keeping.{and_left, and_right}
@@ -54,14 +53,14 @@ module _ {X Y : Type 0} (row : X → List ℕ) (kept : Y → List ℕ) (rows : L
       ap (λ x. length (row x)) (sym (get_or-take (length runs) rows k d within))
       ∙ as_long row kept (take (length runs) rows) runs k d e (omega (arith, within, many)) taken
 
-  module _ (olds counts : List Counts) (fit : FitRows olds (map kept runs)) (k : ℕ) (r : Counts)
+  module _ (olds counts : List CountsSeen) (fit : FitRows olds (map kept runs)) (k : ℕ) (r : CountsSeen)
       (d : X) (e : Y) (within : k < length runs)
       (rest : drop k counts ≡ drop k olds) where
-    abbrev bits : Counts → List Bool
-    bits c = c.counted.items
+    abbrev bits : CountsSeen → List Bool
+    bits c = c.counted
 
-    abbrev free : Counts → List Bool
-    free c = c.free.items
+    abbrev free : CountsSeen → List Bool
+    free c = c.free
 
     olds_many : length olds ≡ length runs
     olds_many = as_many bits kept olds runs fit.bits
@@ -80,10 +79,10 @@ module _ {X Y : Type 0} (row : X → List ℕ) (kept : Y → List ℕ) (rows : L
     bits_long = ap (λ c. length (bits c)) here
         ∙ as_long bits kept olds runs k r e (omega (arith, within, olds_many)) fit.bits
 
-    module _ (new : Counts) (same_free : new.free ≡ (get_or counts k r).free) (told : bits new
+    module _ (new : CountsSeen) (same_free : new.free ≡ (get_or counts k r).free) (told : bits new
         ≡ counted (row (get_or rows k d)) (kept (get_or runs k e))) where
       pub next_free : free_rows counts ≡ free_rows olds → free_rows (set counts k new) ≡ free_rows olds
-      next_free so_far = map-set_same free counts k new r (ap (λ v. v.items) same_free) ∙ so_far
+      next_free so_far = map-set_same free counts k new r same_free ∙ so_far
 
       pub next_bits : bit_rows (take k counts) ≡ counted_rows (map row (take k rows)) (map kept (take k runs))
           → bit_rows (take (k + 1) (set counts k new))
@@ -117,7 +116,7 @@ module _ {X Y : Type 0} (row : X → List ℕ) (kept : Y → List ℕ) (rows : L
         ]
 
   -- all rows are judged
-  module _ (olds counts : List Counts) (fit : FitRows olds (map kept runs)) (k : ℕ) (keeps : Bool)
+  module _ (olds counts : List CountsSeen) (fit : FitRows olds (map kept runs)) (k : ℕ) (keeps : Bool)
       (over : length runs ≤ k) (within : k ≤ length runs) where
     pub judged_rows : free_rows counts ≡ free_rows olds → bit_rows (take k counts)
         ≡ counted_rows (map row (take k rows)) (map kept (take k runs))
@@ -127,9 +126,9 @@ module _ {X Y : Type 0} (row : X → List ℕ) (kept : Y → List ℕ) (rows : L
     judged_rows free_same bits_so_far keep_so_far rest =
         let end : k ≡ length runs = omega (arith, over, within) in
         let many_counts : length counts ≡ length runs =
-        sym (length-map counts (λ (c : Counts). c.free.items)) ∙ ap length free_same
-        ∙ length-map olds (λ (c : Counts). c.free.items)
-        ∙ as_many (λ (c : Counts). c.counted.items) kept olds runs fit.bits in
+        sym (length-map counts (λ (c : CountsSeen). c.free)) ∙ ap length free_same
+        ∙ length-map olds (λ (c : CountsSeen). c.free)
+        ∙ as_many (λ (c : CountsSeen). c.counted) kept olds runs fit.bits in
         record {
           free = free_same;
           bits =

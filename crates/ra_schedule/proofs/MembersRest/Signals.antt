@@ -1,19 +1,14 @@
 -- Signals that are noted: nothing that was noted before is lost.
-use Rattle.std.proofs.Common.{◌≡◌, inl, inr, ℕ, ◌+◌, ◌<◌, ◌≤◌, true, false, Bool, Option, None, Some, List, [], ◌∷◌}
+use Rattle.std.proofs.Common.{◌≡◌, inl, inr, ℕ, ◌+◌, ◌≤◌, true, false, Bool, Option, None, Some, List, [], ◌∷◌}
 use Rattle.std.proofs.Common.{length, slice_index, slice_index_or, refl, sym, ◌∙◌, ap, subst, arith, length-append}
-use Rattle.std.proofs.lemmas.Bool.{false≢true}
-use Rattle.ra_operand.specs.declared.op.Op.{Op}
-use Rattle.ra_operand.specs.declared.op.Op.TheVariants as ops
 use Rattle.ra_operand.specs.declared.op.Op.TheVariants.{Bare}
-use Rattle.ra_operand.specs.Operators.{is_arithmetic}
 use Rattle.ra_indirect.specs.declared.node.Node.{Node}
 use Rattle.ra_indirect.specs.Interned.{Interns}
 use Rattle.ra_indirect.proofs.PoolLemmas.{below_or_last}
 use Rattle.ra_truths.specs.declared.comparison.Comparison.{Comparison}
-use Rattle.ra_truths.specs.Comparisons.{AreOver, IsOver, comparison_at}
+use Rattle.ra_truths.specs.Comparisons.{AreOver, comparison_at}
 use Rattle.ra_truths.proofs.ComparisonLemmas.{kept_interned, over_interned, placed}
 use Rattle.ra_member.specs.declared.laid.Laid.{Laid}
-use Rattle.ra_member.specs.Runs.{MayFill}
 use Rattle.ra_schedule.specs.Readers.{Notes, ReadersSeen, Reads}
 use Rattle.ra_schedule.specs.Signals.{AreHeard, AreSumsRead, Hears, IsGivenRead, IsSumRead, KeepsAll, NotesComparison}
 use Rattle.ra_schedule.specs.Signals.{NotesNode, SignalsSeen, comparison_in, is_comparing}

@@ -1,14 +1,14 @@
 use Rattle.std.proofs.Common.{◌≡◌, ◌<◌, ℕ, Bool, List, length, map, get_or, sym, ◌∙◌, ap, ap₂, subst, arith}
 use Rattle.ra_member.specs.declared.trigger_run.TriggerRun.{TriggerRun}
-use Rattle.ra_schedule.specs.declared.counts.Counts.{Counts}
+use Rattle.ra_schedule.specs.Counted.{CountsSeen}
 use Rattle.ra_schedule.specs.Counts.{bit_rows}
 use Rattle.ra_schedule.proofs.MembersRest.SideBySideRows.{as_long, as_many}
 use Rattle.ra_display.specs.Keeping.{HasWords, seen_hits, seen_rows}
 use Rattle.ra_display.proofs.Putting.{no_words, row_all, row_at, row_more, row_room, rows_long}
 use Rattle.ra_display.proofs.keeping.put_tests.Goals as goal
 
-abbrev bits : Counts → List Bool
-bits = λ c. c.counted.items
+abbrev bits : CountsSeen → List Bool
+bits = λ c. c.counted
 
 abbrev hits : TriggerRun → List ℕ
 hits = λ test. test.trigger.hits
@@ -25,7 +25,7 @@ put_hits-next-requires-clause-as_many c =
     let d = c.index-counts-place.result in
     let e = c.index-tests-place.result in
     let many = as_many bits hits counts runs c.requires.as_long in
-    ap length c.deref.ensures.value
+    ap length (c.counted.ensures ∙ ap bits c.index-counts-place.is)
     ∙ as_long bits hits counts runs p.place d e (omega (arith, c.loop-place-test.true, many)) c.requires.as_long
     ∙ sym (ap length c.hits-hits.ensures)
 
@@ -55,9 +55,9 @@ loop-place-preserved c =
     let seen = seen_rows c.args.owed (bit_rows counts) (map hits runs) in
     let long = rows_long c.args.owed (bit_rows counts) (map hits runs) c.requires.as_long in
     let within : p.place < length runs = omega (arith, c.loop-place-test.true) in
-    let one = seen_hits c.args.owed c.deref.result.now c.hits-hits.result.now in
+    let one = seen_hits c.args.owed c.counted.result.now c.hits-hits.result.now in
     let same : one ≡ seen_hits c.args.owed (bits (get_or counts p.place d)) (hits (get_or runs p.place e)) =
-    ap₂ (seen_hits c.args.owed) c.deref.ensures.value c.hits-hits.ensures in
+    ap₂ (seen_hits c.args.owed) (c.counted.ensures ∙ ap bits c.index-counts-place.is) c.hits-hits.ensures in
     let here : get_or seen p.place one ≡ one =
     subst (λ x. get_or seen p.place x ≡ x) (sym same)
     (row_at bits hits c.args.owed counts runs p.place d e many within) in

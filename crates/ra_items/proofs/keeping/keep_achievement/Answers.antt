@@ -7,6 +7,6 @@ pub returns-clause-fits : goal.returns-clause-fits
 returns-clause-fits c =
     let run = c.args.run.now in
     let small : run.run.trigger.measured < 2 ^ 32 = omega arith in
-    let hits : PutsWords _ _ _ _ (seen_hits c.args.owed c.args.counts.now.counted.items
-    run.run.trigger.hits) = rw (c.hits.ensures, c.deref.ensures.value) at c.put_hits.ensures in
+    let hits : PutsWords _ _ _ _ (seen_hits c.args.owed c.args.counts.now.counted
+    run.run.trigger.hits) = rw (c.hits.ensures, c.counted.ensures) at c.put_hits.ensures in
     achievement_fits run c.args.counts.now c.args.owed _ _ _ _ small hits

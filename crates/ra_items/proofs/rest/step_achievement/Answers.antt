@@ -32,7 +32,7 @@ returns-then-noted-clause-room c =
     let t = trigger_contents c.args.text.now in
     let judged = c.judge_trigger.ensures in
     record {
-      is = ap (λ v. v.items) judged.free ∙ c.requires.room.is;
+      is = judged.free ∙ c.requires.room.is;
       many = ap length judged.bits ∙ length-counted _ _ ∙ c.step.ensures.run.hits
           ∙ sym (length-free InTrigger (groups_of t));
     }

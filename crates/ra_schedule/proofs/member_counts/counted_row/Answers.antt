@@ -2,15 +2,15 @@ use Rattle.std.proofs.Common.{◌++◌, Bool, List, sym, ◌∙◌, ap, ap₂}
 use Rattle.std.specs.List.{flat_map}
 use Rattle.std.proofs.lemmas.List.Concat.{flat_map-append}
 use Rattle.std.proofs.lemmas.List.Folds.{flat_map-map}
-use Rattle.ra_schedule.specs.declared.counts.Counts.{Counts}
+use Rattle.ra_schedule.specs.Counted.{CountsSeen}
 use Rattle.ra_schedule.specs.Counts.{bit_rows}
 use Rattle.ra_schedule.proofs.member_counts.counted_row.Goals as goal
 
 abbrev own : List Bool → List Bool
 own bits = bits
 
-abbrev bits : Counts → List Bool
-bits c = c.counted.items
+abbrev bits : CountsSeen → List Bool
+bits c = c.counted
 
 pub returns : goal.returns
 returns c =

@@ -1,6 +1,5 @@
 use Rattle.std.proofs.Common.{◌≡◌, ℕ, ◌<◌, Bool, List, length, get_or, sym, ◌∙◌, ap, ap₂, arith}
-use Rattle.ra_schedule.specs.declared.counts.Counts.{Counts}
-use Rattle.ra_schedule.specs.Counted.{owed_by}
+use Rattle.ra_schedule.specs.Counted.{CountsSeen, owed_by}
 use Rattle.ra_schedule.proofs.MembersRest.Counted.{length-owed_by}
 use Rattle.ra_trigger.specs.Lends.{with_hits}
 use Rattle.ra_trigger.specs.Steps.{TriggerKept}
@@ -12,8 +11,8 @@ use Rattle.ra_member.proofs.SideBySide.{beside_set}
 use Rattle.ra_schedule.proofs.MembersRest.SideBySideRows.{same_at, as_long, as_many, paid_next}
 use Rattle.ra_schedule.proofs.member_counts.pay_tests.Goals as goal
 
-abbrev items : Counts → List Bool
-items row = row.counted.items
+abbrev items : CountsSeen → List Bool
+items row = row.counted
 
 abbrev hits : TriggerRun → List ℕ
 hits test = test.trigger.hits
@@ -25,7 +24,7 @@ pay-requires c =
     let d = c.index-rows-place.result in
     let e = c.index-tests-place.result in
     let within : p.place < length c.args.rows.now = omega (arith, as_many items hits c.args.rows.now olds c.requires) in
-    ap length c.deref.ensures.value
+    ap length (c.counted.ensures ∙ ap items c.index-rows-place.is)
     ∙ as_long items hits c.args.rows.now olds p.place d e within c.requires
     ∙ ap (λ (test : TriggerRun). length test.trigger.hits) (sym (same_at p.tests olds p.place e p.invariant.rest))
     ∙ sym (ap length c.hits_mut.ensures.hits)
@@ -39,11 +38,11 @@ loop-place-preserved c =
     let d = c.index-rows-place.result in
     let e = c.index-tests-place.result in
     let old : TriggerRun = get_or p.tests p.place e in
-    let row = c.deref.ensures.value in
-    let is : c.pay.new.hits ≡ owed_by frames (get_or rows p.place d).counted.items old.trigger.hits =
+    let row = c.counted.ensures ∙ ap items c.index-rows-place.is in
+    let is : c.pay.new.hits ≡ owed_by frames (get_or rows p.place d).counted old.trigger.hits =
     c.pay.ensures ∙ ap₂ (owed_by frames) row c.hits_mut.ensures.hits in
     let many : length c.pay.new.hits ≡ length old.trigger.hits =
-    ap length is ∙ length-owed_by frames (get_or rows p.place d).counted.items old.trigger.hits in
+    ap length is ∙ length-owed_by frames (get_or rows p.place d).counted old.trigger.hits in
     let new : TriggerRun = record old { trigger = with_hits old.trigger c.pay.new.hits } in
     let whole : new.trigger.hits ≡ c.pay.new.hits =
     ap (λ (k : TriggerKept). k.hits) (with_hits_is old.trigger c.pay.new.hits many) in

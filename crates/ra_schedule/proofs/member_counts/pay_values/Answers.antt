@@ -9,13 +9,12 @@ use Rattle.ra_member.specs.Runs.{IsValueRun}
 use Rattle.ra_member.proofs.PutBackLemmas.{rest_next}
 use Rattle.ra_member.proofs.PutBackRuns.{value_stays}
 use Rattle.ra_member.proofs.SideBySide.{beside_set}
-use Rattle.ra_schedule.specs.declared.counts.Counts.{Counts}
-use Rattle.ra_schedule.specs.Counted.{owed_by, owed_value_by, owed_values_by}
+use Rattle.ra_schedule.specs.Counted.{CountsSeen, owed_by, owed_value_by, owed_values_by}
 use Rattle.ra_schedule.proofs.MembersRest.SideBySideRows.{same_at, as_long, as_many, paid_next}
 use Rattle.ra_schedule.proofs.member_counts.pay_values.Goals as goal
 
-abbrev row_hits : Counts → List Bool
-row_hits row = row.counted.items
+abbrev row_hits : CountsSeen → List Bool
+row_hits row = row.counted
 
 abbrev hits : ValueRun → List ℕ
 hits value = value.value.hits
@@ -31,7 +30,7 @@ pay-requires c =
     let d = c.index-rows-place.result in
     let e = c.index-values-place.result in
     let within : p.place < length rows = omega (arith, as_many row_hits hits rows olds c.requires) in
-    ap length c.deref.ensures.value
+    ap length (c.counted.ensures ∙ ap row_hits c.index-rows-place.is)
     ∙ as_long row_hits hits rows olds p.place d e within c.requires
     ∙ ap (λ (value : ValueRun). length value.value.hits) (sym (same_at p.values olds p.place e p.invariant.rest))
     ∙ sym (ap length c.hits_mut.ensures.hits)
@@ -45,10 +44,11 @@ loop-place-preserved c =
     let d = c.index-rows-place.result in
     let e = c.index-values-place.result in
     let old : ValueRun = get_or p.values p.place e in
-    let is : c.pay.new.hits ≡ owed_by frames (get_or rows p.place d).counted.items old.value.hits =
-    c.pay.ensures ∙ ap₂ (owed_by frames) c.deref.ensures.value c.hits_mut.ensures.hits in
+    let row = c.counted.ensures ∙ ap row_hits c.index-rows-place.is in
+    let is : c.pay.new.hits ≡ owed_by frames (get_or rows p.place d).counted old.value.hits =
+    c.pay.ensures ∙ ap₂ (owed_by frames) row c.hits_mut.ensures.hits in
     let many : length c.pay.new.hits ≡ length old.value.hits =
-    ap length is ∙ length-owed_by frames (get_or rows p.place d).counted.items old.value.hits in
+    ap length is ∙ length-owed_by frames (get_or rows p.place d).counted old.value.hits in
     let new : ValueRun = record old { value = with_hits old.value c.pay.new.hits } in
     let whole : new.value ≡ record old.value { hits = c.pay.new.hits } = with_hits_is old.value c.pay.new.hits many in
     let within : p.place < length olds = omega arith in

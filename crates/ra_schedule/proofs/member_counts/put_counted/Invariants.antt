@@ -4,4 +4,4 @@ use Rattle.ra_schedule.proofs.member_counts.put_counted.Given as goal
 
 -- the rows so far stand after the others
 abbrev pub invariant-loop-own : goal.invariant-loop-own
-invariant-loop-own l = l.row.items ≡ l.initial.row.items ++ flat_map (λ c. c.counted.items) (take l.own-index l.counts)
+invariant-loop-own l = l.row.items ≡ l.initial.row.items ++ flat_map (λ c. c.counted) (take l.own-index l.counts)

@@ -5,7 +5,7 @@ use Rattle.std.proofs.lemmas.Simd.{map-map}
 use Rattle.ra_value.specs.Steps.{ValueKept}
 use Rattle.ra_member.specs.declared.trigger_run.TriggerRun.{TriggerRun}
 use Rattle.ra_member.specs.declared.value_run.ValueRun.{ValueRun}
-use Rattle.ra_schedule.specs.declared.counts.Counts.{Counts}
+use Rattle.ra_schedule.specs.Counted.{CountsSeen}
 use Rattle.ra_schedule.specs.declared.room.ValueRoom.{ValueRoom}
 use Rattle.ra_schedule.specs.Counts.{FitRows, JudgesRows}
 use Rattle.ra_schedule.proofs.MembersRest.For.{taken_held}
@@ -51,7 +51,7 @@ judge_values-requires-clause-fit c =
     c.requires.values
 
 -- counts that are written back whole
-written : (n : ℕ) (new olds : List Counts) → length new ≡ n → take n (new ++ drop (length new) olds) ≡ new
+written : (n : ℕ) (new olds : List CountsSeen) → length new ≡ n → take n (new ++ drop (length new) olds) ≡ new
 written n new olds long = take-append-le n new (drop (length new) olds) (omega (arith, long))
     ∙ take_all n new (omega (arith, long))
 
