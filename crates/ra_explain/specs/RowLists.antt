@@ -50,4 +50,4 @@ pub record AreIndices (links : List ℕ) (place : ℕ) (indices : List ℕ) : Ty
 -- whether each comparison of a plan holds, by the values of its nodes
 abbrev pub truths_laid : List ℕ → Laid → List Bool
 truths_laid values laid =
-    truths_by laid.ops.items (numbers_at values laid.plan.lefts.items) (numbers_at values laid.plan.rights.items)
+    truths_by laid.ops (numbers_at values laid.plan.lefts) (numbers_at values laid.plan.rights)

@@ -13,13 +13,14 @@ use ra_operand::{Op, compare};
 pub(crate) fn read_row(laid: &Laid, table: &Table, row: &mut [bool])
     requires may { MayFill table.now.nodes laid.now }
     requires sampled { table.now.sampled ≡ true }
-    requires long { length row.old ≡ length laid.now.ops.items }
+    requires long { length row.old ≡ length laid.now.ops }
     ensures { row.new ≡ truths_laid table.now.values laid.now }
 {
-    for (place, op) in laid.ops.iter().enumerate() {
-        let left = table.value(laid.plan.lefts[place]);
-        let right = table.value(laid.plan.rights[place]);
-        row[place] = holds(*op, left, right);
+    for place in 0..laid.len() {
+        let sides = laid.side(place);
+        let left = table.value(sides.left);
+        let right = table.value(sides.right);
+        row[place] = holds(sides.op, left, right);
     }
 }
 

@@ -83,7 +83,7 @@ impl RowList {
         requires some { 1 < length self.old.behind }
         requires may { MayFill table.now.nodes laid.now }
         requires sampled { table.now.sampled ≡ true }
-        requires width { length laid.now.ops.items ≡ self.old.width }
+        requires width { length laid.now.ops ≡ self.old.width }
         ensures { self.new ≡ record self.old {
           behind = refilled self.old.behind (truths_laid table.now.values laid.now);
         } }

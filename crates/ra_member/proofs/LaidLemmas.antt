@@ -1,5 +1,6 @@
 -- What a laid plan reads at a frame is what the definitions say over the whole history.
-use Rattle.std.proofs.Common.{◌≡◌, ℕ, zero, suc, ◌+◌, ◌<◌, Option, None, Some, List, [], ◌∷◌, ◌++◌, length, map, get_or}
+use Rattle.std.proofs.Common.{◌≡◌, ℕ, zero, suc, ◌+◌, ◌<◌, Option, None, Some, List, [], ◌∷◌, ◌++◌, length, map}
+use Rattle.std.proofs.Common.{take, get_or, Box, Global}
 use Rattle.std.proofs.Common.{sum_by, slice_index, refl, sym, ◌∙◌, ap, ap₂, subst, arith, length-append, append_assoc}
 use Rattle.std.specs.List.{flat_map, range_with_len}
 use Rattle.std.proofs.lemmas.Option.{slice_get_within, get_or_from_slice_get}
@@ -13,7 +14,7 @@ use Rattle.ra_operand.specs.Operators.{compared}
 use Rattle.ra_condition.specs.declared.condition.Condition.{Condition}
 use Rattle.ra_condition.specs.Contents.{condition_at, no_condition, PartContents, Legacy, Grouped, counted_in}
 use Rattle.ra_condition.specs.Contents.{value_hits}
-use Rattle.ra_condition.specs.Chains.{places}
+use Rattle.ra_condition.specs.Chains.{pass_order, places}
 use Rattle.ra_memory.specs.Image.{History}
 use Rattle.ra_indirect.specs.declared.node.Node.{Node}
 use Rattle.ra_indirect.specs.declared.node.Node.TheVariants.{Const, Cell as CellNode, View, Arith}
@@ -21,14 +22,18 @@ use Rattle.ra_indirect.specs.Trees.{Tree, constant}
 use Rattle.ra_indirect.specs.Pools.{Spelled, IsTree, spelled_at, spelled_with, spelled_by, Spells, IsValued, node_at}
 use Rattle.ra_indirect.proofs.Spelling.{spelled_by-here, length-spelled_by}
 use Rattle.ra_chain.specs.Elaboration.{left_of, right_of, lefts_of, rights_of, terms_tree}
+use Rattle.ra_group.proofs.AlongLemmas.{length-pass_order}
 use Rattle.ra_memref.specs.Values.{Start, value_of}
 use Rattle.ra_memref.specs.Table.{spelled_value}
 use Rattle.ra_member.specs.declared.laid.Few.{Few}
 use Rattle.ra_member.specs.declared.laid.Laid.{Laid}
+use Rattle.ra_member.specs.declared.laid.Many.{Many}
+use Rattle.ra_member.specs.declared.sides.Sides.{Sides}
 use Rattle.ra_member.specs.Frames.{truth_at, lefts_at, truths_at, sum_at}
+use Rattle.ra_member.specs.Laid.{PlanSeen, laid_seen, left_nodes, right_nodes, operators}
 use Rattle.ra_member.specs.Plans.{AreSpelled, AreSums, IsPlan}
 use Rattle.ra_member.specs.Readings.{ops_in, ops_of, numbers_at, truths_by, AreValued, sum_by_node, AreValuedSums}
-use Rattle.ra_member.specs.Runs.{IsLaid, MayFill, IsFilled, lefts_in, truths_in}
+use Rattle.ra_member.specs.Runs.{HasRoom, IsLaid, MayFill, IsFilled, lefts_in, truths_in}
 
 -- a node that spells a tree has a value
 gives_value : (s : List Spelled) (node : Node) (tree : Tree) → spelled_with s node ≡ IsTree tree → IsValued node
@@ -114,13 +119,13 @@ module _ (nodes : List Node) (groups : List (List Condition)) where
   -- a laid plan may be filled, and is laid after that
   pub laid_fills : (laid : Laid) → IsLaid nodes groups laid → MayFill nodes laid
   laid_fills laid is =
-      let ops : length laid.ops.items ≡ sum_by length groups = ap length is.ops ∙ length_ops groups in
+      let ops : length laid.ops ≡ sum_by length groups = ap length is.ops ∙ length_ops groups in
       record {
-        lefts = all_valued nodes laid.plan.lefts.items (flat_map lefts_of groups) is.plan.lefts;
-        rights = all_valued nodes laid.plan.rights.items (flat_map rights_of groups) is.plan.rights;
-        left_nodes = length_spelled nodes laid.plan.lefts.items
+        lefts = all_valued nodes laid.plan.lefts (flat_map lefts_of groups) is.plan.lefts;
+        rights = all_valued nodes laid.plan.rights (flat_map rights_of groups) is.plan.rights;
+        left_nodes = length_spelled nodes laid.plan.lefts
             (flat_map lefts_of groups) is.plan.lefts ∙ length_lefts groups ∙ sym ops;
-        right_nodes = length_spelled nodes laid.plan.rights.items
+        right_nodes = length_spelled nodes laid.plan.rights
             (flat_map rights_of groups) is.plan.rights ∙ length_rights groups ∙ sym ops;
       }
 
@@ -221,15 +226,15 @@ module _ (nodes : List Node) (values : List ℕ) (start : Start) (h : History) (
 
   module _ (groups : List (List Condition)) (old : Laid) (is : IsLaid nodes groups old) where
     -- what the nodes of a laid plan give is what its conditions see
-    pub laid_lefts : numbers_at values old.plan.lefts.items ≡ lefts_at start h groups
-    laid_lefts = read_all old.plan.lefts.items (flat_map lefts_of groups) is.plan.lefts ∙ lefts_row groups
+    pub laid_lefts : numbers_at values old.plan.lefts ≡ lefts_at start h groups
+    laid_lefts = read_all old.plan.lefts (flat_map lefts_of groups) is.plan.lefts ∙ lefts_row groups
 
-    pub laid_truths : truths_by old.ops.items (numbers_at values old.plan.lefts.items)
-        (numbers_at values old.plan.rights.items)
+    pub laid_truths : truths_by old.ops (numbers_at values old.plan.lefts)
+        (numbers_at values old.plan.rights)
         ≡ truths_at start h groups
     laid_truths =
-        (λ i. truths_by (is.ops i) (read_all old.plan.lefts.items (flat_map lefts_of groups) is.plan.lefts i)
-        (read_all old.plan.rights.items (flat_map rights_of groups) is.plan.rights i))
+        (λ i. truths_by (is.ops i) (read_all old.plan.lefts (flat_map lefts_of groups) is.plan.lefts i)
+        (read_all old.plan.rights (flat_map rights_of groups) is.plan.rights i))
         ∙ truths_all groups
 
   module _ (groups : List (List Condition)) (old new : Laid) (few : Few) (is : IsLaid nodes groups old)
@@ -254,16 +259,73 @@ module _ (nodes : List Node) (values : List ℕ) (groups : List (List Condition)
       × (length (lefts_in new few) ≡ sum_by length groups)
   length_read =
       let may : MayFill nodes old = laid_fills nodes groups old is in
-      let ops : length old.ops.items ≡ sum_by length groups = ap length is.ops ∙ length_ops groups in
-      let xs : length (numbers_at values old.plan.lefts.items) ≡ length old.ops.items =
-      length-map old.plan.lefts.items (slice_index values) ∙ may.left_nodes in
-      let ys : length (numbers_at values old.plan.rights.items) ≡ length old.ops.items =
-      length-map old.plan.rights.items (slice_index values) ∙ may.right_nodes in
-      (ap length filled.truths ∙ length_truths old.ops.items _ _ xs ys ∙ ops, ap length filled.lefts ∙ xs ∙ ops)
+      let ops : length old.ops ≡ sum_by length groups = ap length is.ops ∙ length_ops groups in
+      let xs : length (numbers_at values old.plan.lefts) ≡ length old.ops =
+      length-map old.plan.lefts (slice_index values) ∙ may.left_nodes in
+      let ys : length (numbers_at values old.plan.rights) ≡ length old.ops =
+      length-map old.plan.rights (slice_index values) ∙ may.right_nodes in
+      (ap length filled.truths ∙ length_truths old.ops _ _ xs ys ∙ ops, ap length filled.lefts ∙ xs ∙ ops)
 
   pub laid_again : IsLaid nodes groups new
   laid_again = record {
     plan = subst (IsPlan nodes groups) (sym filled.plan) is.plan;
-    ops = ap (λ o. o.items) filled.ops ∙ is.ops;
+    ops = filled.ops ∙ is.ops;
     room = filled.room;
   }
+
+-- sides are taken up: into the room for many conditions, or into that for few
+module _ (values turns : List ℕ) (sides : List Sides) (old : Option (Box Many Global)) (few : Few) where
+  abbrev xs : List ℕ
+  xs = numbers_at values (left_nodes sides)
+
+  abbrev ys : List ℕ
+  ys = numbers_at values (right_nodes sides)
+
+  long : length (operators sides) ≡ length sides
+  long = length-map sides (λ s. s.op)
+
+  xs_long : length xs ≡ length (operators sides)
+  xs_long = length-map (left_nodes sides) (slice_index values) ∙ length-map sides (λ s. s.left) ∙ sym long
+
+  ys_long : length ys ≡ length (operators sides)
+  ys_long = length-map (right_nodes sides) (slice_index values) ∙ length-map sides (λ s. s.right) ∙ sym long
+
+  pub filled_many : (room : Box Many Global) → room.value.lefts.items ≡ xs
+      → room.value.truths.items ≡ truths_by (operators sides) xs ys
+      → IsFilled values (laid_seen turns sides old) (laid_seen turns sides (Some room)) few
+  filled_many room lefts truths = record {
+    plan = refl;
+    ops = refl;
+    room = (ap length truths ∙ length_truths (operators sides) xs ys xs_long ys_long, ap length lefts ∙ xs_long);
+    lefts = lefts;
+    truths = truths;
+  }
+
+  pub filled_few : old ≡ None → HasRoom (length (operators sides)) old → take (length sides) few.lefts ≡ xs
+      → take (length sides) few.truths ≡ truths_by (operators sides) xs ys
+      → IsFilled values (laid_seen turns sides old) (laid_seen turns sides old) few
+  filled_few none room lefts truths =
+      subst (λ r. IsFilled values (laid_seen turns sides r) (laid_seen turns sides r) few) (sym none) (record {
+        plan = refl;
+        ops = refl;
+        room = subst (HasRoom (length (operators sides))) none room;
+        lefts = ap (λ n. take n few.lefts) long ∙ lefts;
+        truths = ap (λ n. take n few.truths) long ∙ truths;
+      })
+
+-- a plan of some groups has as many turns and nodes as there are operators
+module _ (nodes : List Node) (groups : List (List Condition)) (plan : PlanSeen) (is : IsPlan nodes groups plan)
+    (ops : List Op) (all : ops ≡ ops_of groups) where
+  pub order_long : length plan.order ≡ length ops
+  order_long =
+      ap length is.order ∙ along pass_order length-pass_order groups ∙ sym (length_ops groups) ∙ sym (ap length all)
+
+  pub lefts_long : length plan.lefts ≡ length ops
+  lefts_long =
+      length_spelled nodes plan.lefts (flat_map lefts_of groups) is.lefts ∙ length_lefts groups
+      ∙ sym (length_ops groups) ∙ sym (ap length all)
+
+  pub rights_long : length plan.rights ≡ length ops
+  rights_long =
+      length_spelled nodes plan.rights (flat_map rights_of groups) is.rights ∙ length_rights groups
+      ∙ sym (length_ops groups) ∙ sym (ap length all)

@@ -15,4 +15,5 @@ pub mod Rows
 pub mod SavedRows
 pub mod Shaped
 pub mod SideBySide
+pub mod SideLemmas
 pub mod Stepping

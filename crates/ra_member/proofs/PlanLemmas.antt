@@ -18,6 +18,7 @@ use Rattle.ra_chain.specs.Elaborates.{SpellsEach}
 use Rattle.ra_chain.proofs.PlantLemmas.{spells_more, grows_none, grows_through}
 use Rattle.ra_group.specs.Along.{pause_count}
 use Rattle.ra_member.specs.declared.planning.ValuePlan.{ValuePlan}
+use Rattle.ra_member.specs.Laid.{PlanSeen, plan_rows}
 use Rattle.ra_member.specs.Plans.{AreSpelled, IsPlan, AreSums, IsValuePlan}
 use Rattle.ra_member.specs.Plans.{GrowsWithin}
 
@@ -87,19 +88,19 @@ spelled_each nodes ns count tree each =
 pub one_more : {A B : Type 0} (f : A → List B) (xs : List A) (x : A) → flat_map f (xs ++ x ∷ []) ≡ flat_map f xs ++ f x
 one_more f xs x = flat_map-append f xs (x ∷ []) ∙ ap (λ l. flat_map f xs ++ l) (append-nil (f x))
 
-pub plan_more : (old new : List Node) (groups : List (List Condition)) (plan : GroupPlan)
+pub plan_more : (old new : List Node) (groups : List (List Condition)) (plan : PlanSeen)
     → IsFront old new → IsPlan old groups plan → IsPlan new groups plan
 plan_more old new groups plan front is = record {
   order = is.order;
   pauses = is.pauses;
-  lefts = spelled_more old new plan.lefts.items (flat_map lefts_of groups) front is.lefts;
-  rights = spelled_more old new plan.rights.items (flat_map rights_of groups) front is.rights;
+  lefts = spelled_more old new plan.lefts (flat_map lefts_of groups) front is.lefts;
+  rights = spelled_more old new plan.rights (flat_map rights_of groups) front is.rights;
 }
 
 -- a plan of one group
 pub plan_one : (nodes : List Node) (cs : List Condition) (plan : GroupPlan) → plan.order.items ≡ pass_order cs
     → plan.pauses.items ≡ pause_count cs ∷ [] → SpellsEach nodes plan.lefts.items (length cs) (left_of cs)
-    → SpellsEach nodes plan.rights.items (length cs) (right_of cs) → IsPlan nodes (cs ∷ []) plan
+    → SpellsEach nodes plan.rights.items (length cs) (right_of cs) → IsPlan nodes (cs ∷ []) (plan_rows plan)
 plan_one nodes cs plan order pauses lefts rights = record {
   order = order ∙ sym (append-nil (pass_order cs));
   pauses = pauses;
@@ -118,7 +119,8 @@ module _ (old new : List Node) (front : IsFront old new) (cs : List Condition) (
       → after.order.items ≡ before.order.items ++ added.order.items → after.pauses.items
       ≡ before.pauses.items ++ added.pauses.items → after.lefts.items ≡ before.lefts.items
       ++ added.lefts.items → after.rights.items ≡ before.rights.items ++ added.rights.items
-      → (groups : List (List Condition)) → IsPlan old groups before → IsPlan new (groups ++ cs ∷ []) after
+      → (groups : List (List Condition)) → IsPlan old groups (plan_rows before)
+      → IsPlan new (groups ++ cs ∷ []) (plan_rows after)
   plan_added order pause lefts rights orders pauses all_lefts all_rights groups is = record {
     order = orders ∙ (λ i. is.order i ++ order i) ∙ sym (one_more pass_order groups cs);
     pauses = pauses ∙ (λ i. is.pauses i ++ pause i) ∙ sym (map-append pause_count groups (cs ∷ []));
@@ -138,8 +140,8 @@ module _ (old new : List Node) (front : IsFront old new) (cs : List Condition) (
 
 -- a legacy part has no conditions
 pub plan_empty : (nodes : List Node) (groups : List (List Condition)) (plan : GroupPlan)
-    (pauses : Vec ℕ Global) → pauses.items ≡ plan.pauses.items ++ 0 ∷ [] → IsPlan nodes groups plan
-    → IsPlan nodes (groups ++ [] ∷ []) (record plan { pauses = pauses })
+    (pauses : Vec ℕ Global) → pauses.items ≡ plan.pauses.items ++ 0 ∷ [] → IsPlan nodes groups (plan_rows plan)
+    → IsPlan nodes (groups ++ [] ∷ []) (plan_rows (record plan { pauses = pauses }))
 plan_empty nodes groups plan pauses more is = record {
   pauses = more ∙ ap (λ ns. ns ++ 0 ∷ []) is.pauses ∙ sym (map-append pause_count groups ([] ∷ []));
   order = is.order ∙ sym (append-nil (flat_map pass_order groups)) ∙ sym (one_more pass_order groups []);
@@ -175,12 +177,12 @@ sums_row nodes (Grouped cs ∷ parts) (None ∷ ns) part n are one = sums_row no
 
 -- a part behind others, from its groups and its sum
 pub part_added : (old new : List Node) (part : PartContents) (n : Option ℕ) (before after : ValuePlan) → IsFront old new
-    → ((groups : List (List Condition)) → IsPlan old groups before.groups
-    → IsPlan new (groups ++ counted_in part ∷ []) after.groups)
+    → ((groups : List (List Condition)) → IsPlan old groups (plan_rows before.groups)
+    → IsPlan new (groups ++ counted_in part ∷ []) (plan_rows after.groups))
     → AreSums new (part ∷ []) (n ∷ []) → after.sums.items ≡ before.sums.items ++ n ∷ []
     → (parts : List PartContents) → IsValuePlan old parts before → IsValuePlan new (parts ++ part ∷ []) after
 part_added old new part n before after front groups one sums parts is = record {
-  groups = subst (λ gs. IsPlan new gs after.groups) (sym (map-append counted_in parts (part ∷ [])))
+  groups = subst (λ gs. IsPlan new gs (plan_rows after.groups)) (sym (map-append counted_in parts (part ∷ [])))
       (groups (map counted_in parts) is.groups);
   sums = subst (AreSums new (parts ++ part ∷ [])) (sym sums) (sums_row new parts before.sums.items
       part n (sums_more old new parts before.sums.items front is.sums) one);

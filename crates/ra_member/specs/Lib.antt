@@ -1,6 +1,7 @@
 pub mod Beside
 pub mod Folds
 pub mod Frames
+pub mod Laid
 pub mod MemberRuns
 pub mod Members
 pub mod Plans

@@ -9,10 +9,10 @@ use Rattle.ra_indirect.specs.declared.node.Node.{Node}
 use Rattle.ra_indirect.specs.Trees.{Tree}
 use Rattle.ra_indirect.specs.Pools.{Spells, cells_of}
 use Rattle.ra_indirect.specs.Growing.{GrowsBy, is_view}
-use Rattle.ra_chain.specs.declared.plan.GroupPlan.{GroupPlan}
 use Rattle.ra_chain.specs.Elaboration.{lefts_of, rights_of, terms_tree}
 use Rattle.ra_group.specs.Along.{pause_count}
 use Rattle.ra_member.specs.declared.planning.ValuePlan.{ValuePlan}
+use Rattle.ra_member.specs.Laid.{PlanSeen, plan_rows}
 
 -- each node spells the tree at its place
 abbrev pub AreSpelled : List Node → List ℕ → List Tree → Type 0
@@ -21,11 +21,11 @@ AreSpelled nodes (n ∷ ns) (tree ∷ trees) = Spells nodes n tree × AreSpelled
 AreSpelled nodes _ _ = ⊥
 
 -- the plan of some groups, one after the other
-pub record IsPlan (nodes : List Node) (groups : List (List Condition)) (plan : GroupPlan) : Type 0 where
-  pub order : plan.order.items ≡ flat_map pass_order groups
-  pub pauses : plan.pauses.items ≡ map pause_count groups
-  pub lefts : AreSpelled nodes plan.lefts.items (flat_map lefts_of groups)
-  pub rights : AreSpelled nodes plan.rights.items (flat_map rights_of groups)
+pub record IsPlan (nodes : List Node) (groups : List (List Condition)) (plan : PlanSeen) : Type 0 where
+  pub order : plan.order ≡ flat_map pass_order groups
+  pub pauses : plan.pauses ≡ map pause_count groups
+  pub lefts : AreSpelled nodes plan.lefts (flat_map lefts_of groups)
+  pub rights : AreSpelled nodes plan.rights (flat_map rights_of groups)
 
 -- the nodes of the legacy sums; a condition part has none
 abbrev pub AreSums : List Node → List PartContents → List (Option ℕ) → Type 0
@@ -36,7 +36,7 @@ AreSums nodes _ _ = ⊥
 
 -- the plan of a value
 pub record IsValuePlan (nodes : List Node) (parts : List PartContents) (plan : ValuePlan) : Type 0 where
-  pub groups : IsPlan nodes (map counted_in parts) plan.groups
+  pub groups : IsPlan nodes (map counted_in parts) (plan_rows plan.groups)
   pub sums : AreSums nodes parts plan.sums.items
 
 -- the pool grows by the trees of this many conditions: by thirteen nodes, two cells and two views for each of them at

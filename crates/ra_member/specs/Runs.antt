@@ -44,33 +44,33 @@ lefts_of count (Some room) few = room.value.lefts.items
 
 -- the truths of the conditions of a plan
 abbrev pub truths_in : Laid → Few → List Bool
-truths_in laid few = truths_of (length laid.ops.items) laid.room few
+truths_in laid few = truths_of (length laid.ops) laid.room few
 
 -- the left values of the conditions of a plan
 abbrev pub lefts_in : Laid → Few → List ℕ
-lefts_in laid few = lefts_of (length laid.ops.items) laid.room few
+lefts_in laid few = lefts_of (length laid.ops) laid.room few
 
 -- the plan of some groups with room for what their conditions read
 pub record IsLaid (nodes : List Node) (groups : List (List Condition)) (laid : Laid) : Type 0 where
   pub plan : IsPlan nodes groups laid.plan
-  pub ops : laid.ops.items ≡ ops_of groups
-  pub room : HasRoom (length laid.ops.items) laid.room
+  pub ops : laid.ops ≡ ops_of groups
+  pub room : HasRoom (length laid.ops) laid.room
 
 -- the nodes have values, and there is one on each side of each operator
 pub record MayFill (nodes : List Node) (laid : Laid) : Type 0 where
-  pub lefts : AreValued nodes laid.plan.lefts.items
-  pub rights : AreValued nodes laid.plan.rights.items
-  pub left_nodes : length laid.plan.lefts.items ≡ length laid.ops.items
-  pub right_nodes : length laid.plan.rights.items ≡ length laid.ops.items
+  pub lefts : AreValued nodes laid.plan.lefts
+  pub rights : AreValued nodes laid.plan.rights
+  pub left_nodes : length laid.plan.lefts ≡ length laid.ops
+  pub right_nodes : length laid.plan.rights ≡ length laid.ops
 
 -- truths and left values are those of the nodes; the plan stays
 pub record IsFilled (values : List ℕ) (old new : Laid) (few : Few) : Type 0 where
   pub plan : new.plan ≡ old.plan
   pub ops : new.ops ≡ old.ops
-  pub room : HasRoom (length new.ops.items) new.room
-  pub lefts : lefts_in new few ≡ numbers_at values old.plan.lefts.items
-  pub truths : truths_in new few ≡ truths_by old.ops.items (numbers_at values old.plan.lefts.items)
-      (numbers_at values old.plan.rights.items)
+  pub room : HasRoom (length new.ops) new.room
+  pub lefts : lefts_in new few ≡ numbers_at values old.plan.lefts
+  pub truths : truths_in new few ≡ truths_by old.ops (numbers_at values old.plan.lefts)
+      (numbers_at values old.plan.rights)
 
 -- a trigger with its plan
 pub record IsTriggerRun (nodes : List Node) (t : TriggerContents) (run : TriggerRun) : Type 0 where

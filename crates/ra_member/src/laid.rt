@@ -1,11 +1,12 @@
-ghost use Rattle.std.specs.Prelude.{◌≡◌, ◌≤◌, true, ◌++◌, length, take, IfOk};
-ghost use Rattle.ra_condition.specs.Contents.{group_contents, trigger_contents, groups_of, value_contents, counted_in};
-ghost use Rattle.ra_member.specs.Readings.{AreValued, numbers_at, ops_in, ops_of, truths_by};
-ghost use Rattle.ra_member.specs.Runs.{HasRoom, IsFilled, MayFill, lefts_in, truths_in};
-ghost use Rattle.std.specs.Prelude.{map};
+ghost use Rattle.std.specs.Prelude.{◌≡◌, ◌≤◌, true, ◌++◌, length, take, map, IfOk};
 ghost use Rattle.std.specs.Result.{OnOk};
+ghost use Rattle.ra_condition.specs.Contents.{group_contents, trigger_contents, groups_of, value_contents, counted_in};
+ghost use Rattle.ra_member.specs.Laid.{left_nodes, right_nodes, operators};
+ghost use Rattle.ra_member.specs.Readings.{AreValued, numbers_at, ops_in, ops_of, truths_by};
+ghost use Rattle.ra_member.specs.Runs.{HasRoom};
 
-use crate::reading::{Sides, read_conditions};
+use crate::reading::read_conditions;
+use crate::sides::Sides;
 use ra_chain::GroupPlan;
 use ra_condition::{Group, Part, TriggerText, ValueText};
 use ra_group::Reads;
@@ -13,6 +14,7 @@ use ra_memref::Table;
 use ra_operand::Op;
 use ra_text::OutOfMemory;
 use std::alloc::Global;
+use std::marker::Model;
 
 // How many conditions are few: a step has room for them on its stack.
 const FEW: usize = 32;
@@ -35,60 +37,118 @@ pub(crate) struct Few {
 /// what these read.
 #[derive(Drop)]
 pub struct Laid {
-    pub plan: GroupPlan,
-    pub ops: Vec<Op>,
-    pub room: Option<Box<Many>>,
+    // the pass order, and behind it for each group how many of its conditions stand in pause chains
+    turns: Vec<u32>,
+    // what each condition compares
+    sides: Vec<Sides>,
+    room: Option<Box<Many>>,
+}
+
+impl Model for Laid {
+    ghost use Rattle.std.specs.Prelude.{◌≤◌, length};
+    ghost use Rattle.ra_member.specs.Laid.{LaidSeen, laid_seen};
+
+    ghost Value = { LaidSeen };
+
+    ghost view = { λ l. laid_seen l.turns.items l.sides.items l.room };
+
+    ghost invariant = { λ l. length l.sides.items ≤ length l.turns.items };
 }
 
 impl Laid {
-    // A plan, and room for as many conditions as have operators where these are many.
+    ghost use Rattle.std.specs.Prelude.{◌≡◌, ◌<◌, true, length, slice_index, slice_index_or, IfOk};
+    ghost use Rattle.ra_operand.specs.declared.op.Op.TheVariants.{Bare};
+    ghost use Rattle.ra_member.specs.Laid.{plan_rows, left_nodes, right_nodes, operators};
+    ghost use Rattle.ra_member.specs.Runs.{HasRoom, IsFilled, MayFill, lefts_in, truths_in};
+
+    // A plan, and room for as many conditions as have operators where these are many. Memory is the only refusal.
     pub(crate) fn new(alloc: Global, plan: GroupPlan, ops: Vec<Op>) -> Result<Self, OutOfMemory>
-        ensures plan { IfOk result (λ laid. laid.plan ≡ plan) }
-        ensures ops { IfOk result (λ laid. laid.ops.items ≡ ops.items) }
+        requires order { length plan.order.items ≡ length ops.items }
+        requires lefts { length plan.lefts.items ≡ length ops.items }
+        requires rights { length plan.rights.items ≡ length ops.items }
+        ensures plan { IfOk result (λ laid. laid.plan ≡ plan_rows plan) }
+        ensures ops { IfOk result (λ laid. laid.ops ≡ ops.items) }
         ensures room { IfOk result (λ laid. HasRoom (length ops.items) laid.room) }
     {
         let room = room_for(alloc, ops.len())?;
-        Ok(Laid { plan, ops, room })
+        let turns = turns_of(alloc, &plan.order, &plan.pauses)?;
+        let sides = sides_of(alloc, &ops, &plan.lefts, &plan.rights)?;
+        Ok(Laid { turns, sides, room })
+    }
+
+    /// How many conditions there are.
+    pub fn len(&self) -> usize
+        ensures { result ≡ length self.now.ops }
+    {
+        self.sides.len()
+    }
+
+    /// What the condition at this place compares, counted from 0.
+    pub fn side(&self, place: usize) -> Sides
+        requires { place < length self.now.ops }
+        ensures op { result.op ≡ slice_index_or self.now.ops place Bare }
+        ensures left { result.left ≡ slice_index self.now.plan.lefts place }
+        ensures right { result.right ≡ slice_index self.now.plan.rights place }
+    {
+        self.sides[place]
+    }
+
+    /// What each condition compares.
+    pub fn sides(&self) -> &[Sides]
+        ensures ops { operators result.now ≡ self.now.ops }
+        ensures lefts { left_nodes result.now ≡ self.now.plan.lefts }
+        ensures rights { right_nodes result.now ≡ self.now.plan.rights }
+    {
+        &self.sides
+    }
+
+    /// The pass order of each group, one after the other.
+    #[inline]
+    pub fn order(&self) -> &[u32]
+        ensures { result.now ≡ self.now.plan.order }
+    {
+        &self.turns[..self.sides.len()]
+    }
+
+    /// For each group, how many of its conditions stand in pause chains.
+    #[inline]
+    pub fn pauses(&self) -> &[u32]
+        ensures { result.now ≡ self.now.plan.pauses }
+    {
+        &self.turns[self.sides.len()..]
     }
 
     // Takes up the values of a table.
     #[inline]
     pub(crate) fn fill(&mut self, table: &Table, few: &mut Few)
         requires valued { MayFill table.now.nodes self.old }
-        requires room { HasRoom (length self.old.ops.items) self.old.room }
+        requires room { HasRoom (length self.old.ops) self.old.room }
         requires sampled { table.now.sampled ≡ true }
         ensures { IsFilled table.now.values self.old self.new few.new }
     {
-        let sides = Sides {
-            ops: &self.ops,
-            left_nodes: &self.plan.lefts,
-            right_nodes: &self.plan.rights,
-        };
         match &mut self.room {
-            Some(room) => fill_many(table, &sides, room),
-            None => fill_few(table, &sides, &mut few.truths, &mut few.lefts),
+            Some(room) => fill_many(table, &self.sides, room),
+            None => fill_few(table, &self.sides, &mut few.truths, &mut few.lefts),
         }
     }
 
     // How the groups are stepped by what was taken up last.
     #[inline]
     pub(crate) fn reads<'a>(&'a self, few: &'a Few) -> Reads<'a>
-        requires { HasRoom (length self.now.ops.items) self.now.room }
-        ensures orders { result.orders.now ≡ self.now.plan.order.items }
-        ensures pauses { result.pauses.now ≡ self.now.plan.pauses.items }
+        requires { HasRoom (length self.now.ops) self.now.room }
+        ensures orders { result.orders.now ≡ self.now.plan.order }
+        ensures pauses { result.pauses.now ≡ self.now.plan.pauses }
         ensures truths { result.truths.now ≡ truths_in self.now few.now }
         ensures lefts { result.lefts.now ≡ lefts_in self.now few.now }
     {
+        let count = self.sides.len();
         let (truths, lefts): (&[bool], &[u32]) = match &self.room {
             Some(room) => (&room.truths, &room.lefts),
-            None => {
-                let count = self.ops.len();
-                (&few.truths[..count], &few.lefts[..count])
-            }
+            None => (&few.truths[..count], &few.lefts[..count]),
         };
         Reads {
-            orders: &self.plan.order,
-            pauses: &self.plan.pauses,
+            orders: &self.turns[..count],
+            pauses: &self.turns[count..],
             truths,
             lefts,
         }
@@ -108,36 +168,67 @@ impl Few {
 
 // Takes up the values of a table for few conditions.
 #[inline]
-fn fill_few(table: &Table, sides: &Sides<'_>, truths: &mut [bool; FEW], lefts: &mut [u32; FEW])
-    requires left_nodes { AreValued table.now.nodes sides.now.left_nodes.now }
-    requires right_nodes { AreValued table.now.nodes sides.now.right_nodes.now }
+fn fill_few(table: &Table, sides: &[Sides], truths: &mut [bool; FEW], lefts: &mut [u32; FEW])
+    requires left_nodes { AreValued table.now.nodes (left_nodes sides.now) }
+    requires right_nodes { AreValued table.now.nodes (right_nodes sides.now) }
     requires sampled { table.now.sampled ≡ true }
-    requires left_count { length sides.now.left_nodes.now ≡ length sides.now.ops.now }
-    requires right_count { length sides.now.right_nodes.now ≡ length sides.now.ops.now }
-    requires few { length sides.now.ops.now ≤ 32 }
-    ensures lefts { take (length sides.now.ops.now) lefts.new ≡ numbers_at table.now.values sides.now.left_nodes.now }
-    ensures truths { take (length sides.now.ops.now) truths.new ≡ truths_by sides.now.ops.now
-        (numbers_at table.now.values sides.now.left_nodes.now) (numbers_at table.now.values sides.now.right_nodes.now) }
+    requires few { length sides.now ≤ 32 }
+    ensures lefts { take (length sides.now) lefts.new ≡ numbers_at table.now.values (left_nodes sides.now) }
+    ensures truths { take (length sides.now) truths.new ≡ truths_by (operators sides.now)
+        (numbers_at table.now.values (left_nodes sides.now)) (numbers_at table.now.values (right_nodes sides.now)) }
 {
-    let count = sides.ops.len();
+    let count = sides.len();
     read_conditions(table, sides, &mut lefts[..count], &mut truths[..count]);
 }
 
 // Takes up the values of a table for many conditions.
 #[inline(never)]
-fn fill_many(table: &Table, sides: &Sides<'_>, room: &mut Many)
-    requires left_nodes { AreValued table.now.nodes sides.now.left_nodes.now }
-    requires right_nodes { AreValued table.now.nodes sides.now.right_nodes.now }
+fn fill_many(table: &Table, sides: &[Sides], room: &mut Many)
+    requires left_nodes { AreValued table.now.nodes (left_nodes sides.now) }
+    requires right_nodes { AreValued table.now.nodes (right_nodes sides.now) }
     requires sampled { table.now.sampled ≡ true }
-    requires left_count { length sides.now.left_nodes.now ≡ length sides.now.ops.now }
-    requires right_count { length sides.now.right_nodes.now ≡ length sides.now.ops.now }
-    requires lefts { length room.old.lefts.items ≡ length sides.now.ops.now }
-    requires truths { length room.old.truths.items ≡ length sides.now.ops.now }
-    ensures lefts { room.new.lefts.items ≡ numbers_at table.now.values sides.now.left_nodes.now }
-    ensures truths { room.new.truths.items ≡ truths_by sides.now.ops.now (numbers_at table.now.values sides.now.left_nodes.now)
-        (numbers_at table.now.values sides.now.right_nodes.now) }
+    requires lefts { length room.old.lefts.items ≡ length sides.now }
+    requires truths { length room.old.truths.items ≡ length sides.now }
+    ensures lefts { room.new.lefts.items ≡ numbers_at table.now.values (left_nodes sides.now) }
+    ensures truths { room.new.truths.items ≡ truths_by (operators sides.now)
+        (numbers_at table.now.values (left_nodes sides.now)) (numbers_at table.now.values (right_nodes sides.now)) }
 {
     read_conditions(table, sides, &mut room.lefts, &mut room.truths);
+}
+
+// The pass orders, and the counts of the conditions in pause chains behind them.
+fn turns_of(alloc: Global, order: &[u32], pauses: &[u32]) -> Result<Vec<u32>, OutOfMemory>
+    ensures { IfOk result (λ turns. turns.items ≡ order.now ++ pauses.now) }
+{
+    let count = order.len().checked_add(pauses.len()).ok_or(OutOfMemory)?;
+    let mut turns = Vec::with_capacity(alloc, count)?;
+    turns.extend_from_slice(order)?;
+    turns.extend_from_slice(pauses)?;
+    Ok(turns)
+}
+
+// What conditions with these operators, left nodes and right nodes compare.
+fn sides_of(
+    alloc: Global,
+    ops: &[Op],
+    lefts: &[u32],
+    rights: &[u32],
+) -> Result<Vec<Sides>, OutOfMemory>
+    requires lefts { length lefts.now ≡ length ops.now }
+    requires rights { length rights.now ≡ length ops.now }
+    ensures ops { IfOk result (λ sides. operators sides.items ≡ ops.now) }
+    ensures lefts { IfOk result (λ sides. left_nodes sides.items ≡ lefts.now) }
+    ensures rights { IfOk result (λ sides. right_nodes sides.items ≡ rights.now) }
+{
+    let mut sides = Vec::with_capacity(alloc, ops.len())?;
+    for place in 0..ops.len() {
+        sides.push(Sides {
+            op: ops[place],
+            left: lefts[place],
+            right: rights[place],
+        })?;
+    }
+    Ok(sides)
 }
 
 // Room for this many conditions, where they are many.

@@ -13,6 +13,7 @@ mod put_back;
 mod reading;
 mod saved;
 mod shape;
+mod sides;
 mod trigger_run;
 mod value_run;
 
@@ -20,5 +21,6 @@ pub use laid::{Laid, Many};
 pub use member::Member;
 pub use places::Places;
 pub use saved::put_numbers;
+pub use sides::Sides;
 pub use trigger_run::TriggerRun;
 pub use value_run::ValueRun;

@@ -8,6 +8,7 @@ ghost use Rattle.ra_condition.specs.Spelled.{IsTrigger, IsPart, IsValue};
 ghost use Rattle.ra_chain.specs.Elaborates.{AllJoin};
 ghost use Rattle.ra_chain.specs.Occurrence.{trees_in_group, trees_in_trigger, trees_in_part, trees_in_value};
 ghost use Rattle.ra_set.specs.Limits.{part_conditions, value_conditions};
+ghost use Rattle.ra_member.specs.Laid.{plan_rows};
 ghost use Rattle.ra_member.specs.Plans.{IsPlan, IsValuePlan, GrowsWithin};
 
 use ra_chain::{GroupPlan, elaborate, elaborate_terms};
@@ -32,7 +33,7 @@ pub(crate) fn trigger_plan(
 ) -> Result<GroupPlan, OutOfMemory>
     requires spelled { IsTrigger (trigger_contents text.now) }
     requires room { length pool.old + 13 * trigger_hits (trigger_contents text.now) + 2 ≤ 2 ^ 31 }
-    ensures plan { IfOk result (IsPlan pool.new (groups_of (trigger_contents text.now))) }
+    ensures plan { IfOk result (λ plan. IsPlan pool.new (groups_of (trigger_contents text.now)) (plan_rows plan)) }
     ensures grows { OnOk result (GrowsWithin pool.old pool.new (trees_in_trigger (trigger_contents text.now))
         (trigger_hits (trigger_contents text.now))) }
 {
@@ -62,7 +63,7 @@ fn no_groups(alloc: Global) -> GroupPlan
 fn group_plan(alloc: Global, group: &Group, pool: &mut Pool) -> Result<GroupPlan, OutOfMemory>
     requires joins { AllJoin (group_contents group.now) }
     requires room { length pool.old + 13 * length (group_contents group.now) + 2 ≤ 2 ^ 31 }
-    ensures plan { IfOk result (IsPlan pool.new (group_contents group.now ∷ [])) }
+    ensures plan { IfOk result (λ plan. IsPlan pool.new (group_contents group.now ∷ []) (plan_rows plan)) }
     ensures grows { OnOk result (GrowsWithin pool.old pool.new (trees_in_group (group_contents group.now))
         (length (group_contents group.now))) }
 {
@@ -79,8 +80,8 @@ fn put_group(
 ) -> Result<(), OutOfMemory>
     requires joins { AllJoin (group_contents group.now) }
     requires room { length pool.old + 13 * length (group_contents group.now) + 2 ≤ 2 ^ 31 }
-    ensures plan { OnOk result ((groups : List (List Condition)) → IsPlan pool.old groups plan.old
-        → IsPlan pool.new (groups ++ group_contents group.now ∷ []) plan.new) }
+    ensures plan { OnOk result ((groups : List (List Condition)) → IsPlan pool.old groups (plan_rows plan.old)
+        → IsPlan pool.new (groups ++ group_contents group.now ∷ []) (plan_rows plan.new)) }
     ensures grows { OnOk result (GrowsWithin pool.old pool.new (trees_in_group (group_contents group.now))
         (length (group_contents group.now))) }
 {

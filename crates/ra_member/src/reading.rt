@@ -2,70 +2,48 @@
 
 ghost use Rattle.std.specs.Prelude.{◌≡◌, true, length, map};
 ghost use Rattle.ra_operand.specs.Operators.{compared};
+ghost use Rattle.ra_member.specs.Laid.{left_nodes, right_nodes, operators};
 ghost use Rattle.ra_member.specs.Readings.{numbers_at, truths_by, AreValued, sum_by_node, IsValuedSum, AreValuedSums};
 
+use crate::sides::Sides;
 use ra_memref::Table;
 use ra_operand::{Op, compare};
-
-// What some conditions compare: the operator of each, and the nodes of its left and of its right side.
-#[derive(Clone, Copy)]
-pub(crate) struct Sides<'a> {
-    pub ops: &'a [Op],
-    pub left_nodes: &'a [u32],
-    pub right_nodes: &'a [u32],
-}
 
 // Reads the number of each left node, and compares it with that of the right node beside it.
 #[inline]
 pub(crate) fn read_conditions(
     table: &Table,
-    sides: &Sides<'_>,
+    sides: &[Sides],
     lefts: &mut [u32],
     truths: &mut [bool],
 )
-    requires left_nodes { AreValued table.now.nodes sides.now.left_nodes.now }
-    requires right_nodes { AreValued table.now.nodes sides.now.right_nodes.now }
+    requires left_nodes { AreValued table.now.nodes (left_nodes sides.now) }
+    requires right_nodes { AreValued table.now.nodes (right_nodes sides.now) }
     requires sampled { table.now.sampled ≡ true }
-    requires left_count { length sides.now.left_nodes.now ≡ length sides.now.ops.now }
-    requires right_count { length sides.now.right_nodes.now ≡ length sides.now.ops.now }
-    requires lefts { length lefts.old ≡ length sides.now.ops.now }
-    requires truths { length truths.old ≡ length sides.now.ops.now }
+    requires lefts { length lefts.old ≡ length sides.now }
+    requires truths { length truths.old ≡ length sides.now }
 
-    ensures lefts { lefts.new ≡ numbers_at table.now.values sides.now.left_nodes.now }
-    ensures truths { truths.new ≡ truths_by sides.now.ops.now (numbers_at table.now.values sides.now.left_nodes.now)
-        (numbers_at table.now.values sides.now.right_nodes.now) }
+    ensures lefts { lefts.new ≡ numbers_at table.now.values (left_nodes sides.now) }
+    ensures truths { truths.new ≡ truths_by (operators sides.now) (numbers_at table.now.values (left_nodes sides.now))
+        (numbers_at table.now.values (right_nodes sides.now)) }
 {
-    let Sides {
-        ops,
-        left_nodes,
-        right_nodes,
-    } = *sides;
-    for place in 0..least(ops, left_nodes, right_nodes, lefts, truths) {
-        let left = table.value(left_nodes[place]);
-        let right = table.value(right_nodes[place]);
+    for place in 0..least(sides, lefts, truths) {
+        let here = sides[place];
+        let left = table.value(here.left);
+        let right = table.value(here.right);
         lefts[place] = left;
-        truths[place] = holds(ops[place], left, right);
+        truths[place] = holds(here.op, left, right);
     }
 }
 
 // The least of the lengths of these rows, which are as long as each other: it tells the compiler so, and then no place
 // of a row is asked whether it is one.
-fn least(
-    ops: &[Op],
-    left_nodes: &[u32],
-    right_nodes: &[u32],
-    lefts: &[u32],
-    truths: &[bool],
-) -> usize
-    requires left_nodes { length left_nodes.now ≡ length ops.now }
-    requires right_nodes { length right_nodes.now ≡ length ops.now }
-    requires lefts { length lefts.now ≡ length ops.now }
-    requires truths { length truths.now ≡ length ops.now }
-    ensures { result ≡ length ops.now }
+fn least(sides: &[Sides], lefts: &[u32], truths: &[bool]) -> usize
+    requires lefts { length lefts.now ≡ length sides.now }
+    requires truths { length truths.now ≡ length sides.now }
+    ensures { result ≡ length sides.now }
 {
-    let nodes = left_nodes.len().min(right_nodes.len());
-    let read = lefts.len().min(truths.len());
-    ops.len().min(nodes).min(read)
+    sides.len().min(lefts.len()).min(truths.len())
 }
 
 // Whether a comparison holds; arithmetic compares nothing.

@@ -48,7 +48,7 @@ impl ValueRun {
     // Takes up the values of a table.
     fn read(&mut self, table: &Table, few: &mut Few)
         requires valued { MayFill table.now.nodes self.old.laid }
-        requires room { HasRoom (length self.old.laid.ops.items) self.old.laid.room }
+        requires room { HasRoom (length self.old.laid.ops) self.old.laid.room }
         requires valued_sums { AreValuedSums table.now.nodes self.old.nodes.items }
         requires sums { length self.old.sums.items ≡ length self.old.nodes.items }
         requires sampled { table.now.sampled ≡ true }

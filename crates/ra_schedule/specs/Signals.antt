@@ -59,22 +59,22 @@ pub record NotesComparison (c : Comparison) (reader : ℕ) (old new : SignalsSee
 -- the comparison of the condition at a place of a laid plan
 abbrev pub comparison_in : Laid → ℕ → Comparison
 comparison_in laid j = record {
-  op = slice_index_or laid.ops.items j Bare;
-  left = slice_index laid.plan.lefts.items j;
-  right = slice_index laid.plan.rights.items j;
+  op = slice_index_or laid.ops j Bare;
+  left = slice_index laid.plan.lefts j;
+  right = slice_index laid.plan.rights j;
 }
 
 -- a reader reads the comparisons of the conditions in front of a place, where these may come out otherwise
 abbrev pub AreHeard : SignalsSeen → Laid → (count reader : ℕ) → Type 0
 AreHeard s laid count reader =
-    (j : ℕ) → j < count → is_comparing (slice_index_or laid.ops.items j Bare) ≡ true
+    (j : ℕ) → j < count → is_comparing (slice_index_or laid.ops j Bare) ≡ true
     → Hears s (comparison_in laid j) reader
 
 -- a reader reads the left nodes of the conditions in front of a place, where these give their left values as numbers
 abbrev pub IsGivenRead : (given : List Bool) → Laid → (count : ℕ) → ReadersSeen → (reader : ℕ) → Type 0
 IsGivenRead given laid count readers reader =
     (j : ℕ) → j < count → slice_index_or given j false ≡ true
-    → Reads readers (slice_index laid.plan.lefts.items j) reader
+    → Reads readers (slice_index laid.plan.lefts j) reader
 
 -- a reader reads a node that may be missing
 abbrev pub IsSumRead : Option ℕ → ReadersSeen → (reader : ℕ) → Type 0

@@ -79,13 +79,13 @@ fn note_laid(
     requires nodes { length table.now.nodes ≡ signals.old.nodes }
     requires reader { reader < length signals.old.readers.due }
     ensures keeps { OnOk result (KeepsAll table.now.nodes signals.old signals.new) }
-    ensures heard { OnOk result (AreHeard signals.new laid.now (length laid.now.ops.items) reader) }
-    ensures read { OnOk result (IsGivenRead given.now laid.now (length laid.now.ops.items) signals.new.readers reader) }
+    ensures heard { OnOk result (AreHeard signals.new laid.now (length laid.now.ops) reader) }
+    ensures read { OnOk result (IsGivenRead given.now laid.now (length laid.now.ops) signals.new.readers reader) }
 {
-    for place in 0..laid.ops.len() {
+    for place in 0..laid.len() {
         note_compared(signals, laid, place, table, reader)?;
         if place < given.len() && given[place] {
-            signals.note_node(laid.plan.lefts[place], reader)?;
+            signals.note_node(laid.side(place).left, reader)?;
         }
     }
     Ok(())
@@ -100,19 +100,19 @@ fn note_compared(
     reader: u32,
 ) -> Result<(), OutOfMemory>
     requires fills { MayFill table.now.nodes laid.now }
-    requires here { place < length laid.now.ops.items }
+    requires here { place < length laid.now.ops }
     requires nodes { length table.now.nodes ≡ signals.old.nodes }
     requires reader { reader < length signals.old.readers.due }
     ensures keeps { OnOk result (KeepsAll table.now.nodes signals.old signals.new) }
-    ensures heard { OnOk result (heard.is_comparing (slice_index_or laid.now.ops.items place Bare) ≡ true
+    ensures heard { OnOk result (heard.is_comparing (slice_index_or laid.now.ops place Bare) ≡ true
         → Hears signals.new (comparison_in laid.now place) reader) }
 {
-    let op = laid.ops[place];
-    if is_comparing(op) {
+    let sides = laid.side(place);
+    if is_comparing(sides.op) {
         let comparison = Comparison {
-            op,
-            left: laid.plan.lefts[place],
-            right: laid.plan.rights[place],
+            op: sides.op,
+            left: sides.left,
+            right: sides.right,
         };
         return signals.note_comparison(comparison, reader);
     }

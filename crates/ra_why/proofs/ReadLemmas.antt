@@ -59,9 +59,9 @@ module _ (nodes : List Node) (values : List ℕ) (start : Start) (h : History)
 
   -- what the right nodes of a laid plan give is what its conditions see
   laid_rights : (groups : List (List Condition)) (laid : Laid) → IsLaid nodes groups laid
-      → numbers_at values laid.plan.rights.items ≡ rights_at start h groups
+      → numbers_at values laid.plan.rights ≡ rights_at start h groups
   laid_rights groups laid is =
-      read_all laid.plan.rights.items (flat_map rights_of groups) is.plan.rights ∙ rights_row groups
+      read_all laid.plan.rights (flat_map rights_of groups) is.plan.rights ∙ rights_row groups
 
 module _ (t : TriggerContents) (old new : TableSeen) (image : List ℕ) (trigger : TriggerKept) (over : IsOver t old)
     (samples : Samples old new image) (history : History)
@@ -80,8 +80,8 @@ module _ (t : TriggerContents) (old new : TableSeen) (image : List ℕ) (trigger
   -- what was read is the row of the frame
   pub row_is : (laid : Laid) (row : GroupRow) → IsLaid new.nodes (groups_of t) laid
       → row.truths ≡ truths_laid new.values laid
-      → row.lefts ≡ numbers_at new.values laid.plan.lefts.items
-      → row.rights ≡ numbers_at new.values laid.plan.rights.items → row.hits ≡ trigger.hits
+      → row.lefts ≡ numbers_at new.values laid.plan.lefts
+      → row.rights ≡ numbers_at new.values laid.plan.rights → row.hits ≡ trigger.hits
       → row ≡ row_at t (image ∷ history) (kept_after t history).hits
   row_is laid row is truths lefts rights hits = (λ i. record {
     truths = (truths ∙ laid_truths new.nodes new.values plain_start (image ∷ history) has_values (groups_of t) laid is)
@@ -103,7 +103,7 @@ module _ (t : TriggerContents) (old new : TableSeen) (image : List ℕ) (trigger
 -- a step by what was read is a frame of the achievement
 pub steps_read : (t : TriggerContents) (table : TableSeen) (old new : TriggerRun) (change : Change)
     (truths : List Bool) (lefts : List ℕ) → IsLaid table.nodes (groups_of t) old.laid
-    → truths ≡ truths_laid table.values old.laid → lefts ≡ numbers_at table.values old.laid.plan.lefts.items
+    → truths ≡ truths_laid table.values old.laid → lefts ≡ numbers_at table.values old.laid.plan.lefts
     → new.trigger ≡ step t truths lefts old.trigger → change ≡ change_between old.trigger new.trigger
     → StepsAchievement table t old new change
 steps_read t table old new change truths lefts laid truths_are lefts_are next told = record {

@@ -95,8 +95,8 @@ row_of r = record { truths = r.truths.items; lefts = r.lefts.items; rights = r.r
 abbrev pub row_read : (values : List ℕ) → TriggerRun → GroupRow
 row_read values run = record {
   truths = truths_laid values run.laid;
-  lefts = numbers_at values run.laid.plan.lefts.items;
-  rights = numbers_at values run.laid.plan.rights.items;
+  lefts = numbers_at values run.laid.plan.lefts;
+  rights = numbers_at values run.laid.plan.rights;
   hits = run.trigger.hits;
 }
 

@@ -37,9 +37,8 @@ pub(crate) fn take_frame(
         ≡ (shown_by (trigger_contents text.now) run.old.trigger (row_read table.now.values run.old)).moment.waited }
 {
     read_frame(table, run, room);
-    let plan = &run.laid.plan;
-    run.trigger
-        .step(text, &plan.order, &plan.pauses, &room.truths, &room.lefts)
+    let laid = &run.laid;
+    run.trigger.step(text, laid.order(), laid.pauses(), &room.truths, &room.lefts)
 }
 
 // Notes in an account what a frame over a memory of `size` bytes showed, by what it changed.
@@ -74,13 +73,13 @@ pub(crate) fn note_frame(
 fn read_frame(table: &Table, run: &TriggerRun, room: &mut Room)
     requires laid { MayFill table.now.nodes run.now.laid }
     requires sampled { table.now.sampled ≡ true }
-    requires room { IsRoom (length run.now.laid.ops.items) room.old }
-    requires kept { length run.now.trigger.hits ≡ length run.now.laid.ops.items }
+    requires room { IsRoom (length run.now.laid.ops) room.old }
+    requires kept { length run.now.trigger.hits ≡ length run.now.laid.ops }
 
-    ensures room { IsRoom (length run.now.laid.ops.items) room.new }
+    ensures room { IsRoom (length run.now.laid.ops) room.new }
     ensures truths { room.new.truths.items ≡ truths_laid table.now.values run.now.laid }
-    ensures lefts { room.new.lefts.items ≡ numbers_at table.now.values run.now.laid.plan.lefts.items }
-    ensures rights { room.new.rights.items ≡ numbers_at table.now.values run.now.laid.plan.rights.items }
+    ensures lefts { room.new.lefts.items ≡ numbers_at table.now.values run.now.laid.plan.lefts }
+    ensures rights { room.new.rights.items ≡ numbers_at table.now.values run.now.laid.plan.rights }
     ensures hits { room.new.hits.items ≡ run.now.trigger.hits }
 {
     read_sides(

@@ -2,22 +2,14 @@
 
 ghost use Rattle.std.specs.Prelude.{◌≡◌, true, length};
 ghost use Rattle.ra_operand.specs.Operators.{compared};
-ghost use Rattle.ra_member.specs.Readings.{numbers_at, truths_by};
+ghost use Rattle.ra_member.specs.Laid.{left_nodes, right_nodes, operators};
+ghost use Rattle.ra_member.specs.Readings.{AreValued, numbers_at, truths_by};
 ghost use Rattle.ra_member.specs.Runs.{MayFill};
 ghost use Rattle.ra_explain.specs.RowLists.{truths_laid};
-ghost use Rattle.ra_why.specs.Sides.{AreSides};
 
-use ra_member::Laid;
+use ra_member::{Laid, Sides};
 use ra_memref::Table;
 use ra_operand::{Op, compare};
-
-// The operators of some conditions, and the nodes of their sides.
-#[derive(Clone, Copy)]
-struct Sides<'a> {
-    ops: &'a [Op],
-    lefts: &'a [u32],
-    rights: &'a [u32],
-}
 
 // Reads at the table's last sample whether each comparison holds, and the values of its sides.
 pub(crate) fn read_sides(
@@ -29,63 +21,57 @@ pub(crate) fn read_sides(
 )
     requires may { MayFill table.now.nodes laid.now }
     requires sampled { table.now.sampled ≡ true }
-    requires truths { length truths.old ≡ length laid.now.ops.items }
-    requires lefts { length lefts.old ≡ length laid.now.ops.items }
-    requires rights { length rights.old ≡ length laid.now.ops.items }
+    requires truths { length truths.old ≡ length laid.now.ops }
+    requires lefts { length lefts.old ≡ length laid.now.ops }
+    requires rights { length rights.old ≡ length laid.now.ops }
 
     ensures truths { truths.new ≡ truths_laid table.now.values laid.now }
-    ensures lefts { lefts.new ≡ numbers_at table.now.values laid.now.plan.lefts.items }
-    ensures rights { rights.new ≡ numbers_at table.now.values laid.now.plan.rights.items }
+    ensures lefts { lefts.new ≡ numbers_at table.now.values laid.now.plan.lefts }
+    ensures rights { rights.new ≡ numbers_at table.now.values laid.now.plan.rights }
 {
-    let sides = Sides {
-        ops: &laid.ops,
-        lefts: &laid.plan.lefts,
-        rights: &laid.plan.rights,
-    };
-    read_rows(table, &sides, truths, lefts, rights);
+    read_rows(table, laid.sides(), truths, lefts, rights);
 }
 
-// The same by the operators and the nodes of both sides.
+// The same by what each condition compares.
 fn read_rows(
     table: &Table,
-    sides: &Sides<'_>,
+    sides: &[Sides],
     truths: &mut [bool],
     lefts: &mut [u32],
     rights: &mut [u32],
 )
-    requires sides { AreSides table.now.nodes sides.now }
+    requires left_nodes { AreValued table.now.nodes (left_nodes sides.now) }
+    requires right_nodes { AreValued table.now.nodes (right_nodes sides.now) }
     requires sampled { table.now.sampled ≡ true }
-    requires truths { length truths.old ≡ length sides.now.ops.now }
-    requires lefts { length lefts.old ≡ length sides.now.ops.now }
-    requires rights { length rights.old ≡ length sides.now.ops.now }
+    requires truths { length truths.old ≡ length sides.now }
+    requires lefts { length lefts.old ≡ length sides.now }
+    requires rights { length rights.old ≡ length sides.now }
 
-    ensures truths { truths.new ≡ truths_by sides.now.ops.now (numbers_at table.now.values sides.now.lefts.now)
-        (numbers_at table.now.values sides.now.rights.now) }
-    ensures lefts { lefts.new ≡ numbers_at table.now.values sides.now.lefts.now }
-    ensures rights { rights.new ≡ numbers_at table.now.values sides.now.rights.now }
+    ensures truths { truths.new ≡ truths_by (operators sides.now) (numbers_at table.now.values (left_nodes sides.now))
+        (numbers_at table.now.values (right_nodes sides.now)) }
+    ensures lefts { lefts.new ≡ numbers_at table.now.values (left_nodes sides.now) }
+    ensures rights { rights.new ≡ numbers_at table.now.values (right_nodes sides.now) }
 {
     for place in 0..least(sides, truths, lefts, rights) {
-        let left = table.value(sides.lefts[place]);
-        let right = table.value(sides.rights[place]);
+        let here = sides[place];
+        let left = table.value(here.left);
+        let right = table.value(here.right);
         lefts[place] = left;
         rights[place] = right;
-        truths[place] = holds(sides.ops[place], left, right);
+        truths[place] = holds(here.op, left, right);
     }
 }
 
 // The least of the lengths of these rows, which are all the same: the compiler learns it here and leaves out the test of
 // each place.
-fn least(sides: &Sides<'_>, truths: &[bool], lefts: &[u32], rights: &[u32]) -> usize
-    requires left_count { length sides.now.lefts.now ≡ length sides.now.ops.now }
-    requires right_count { length sides.now.rights.now ≡ length sides.now.ops.now }
-    requires truths { length truths.now ≡ length sides.now.ops.now }
-    requires lefts { length lefts.now ≡ length sides.now.ops.now }
-    requires rights { length rights.now ≡ length sides.now.ops.now }
-    ensures { result ≡ length sides.now.ops.now }
+fn least(sides: &[Sides], truths: &[bool], lefts: &[u32], rights: &[u32]) -> usize
+    requires truths { length truths.now ≡ length sides.now }
+    requires lefts { length lefts.now ≡ length sides.now }
+    requires rights { length rights.now ≡ length sides.now }
+    ensures { result ≡ length sides.now }
 {
-    let nodes = sides.lefts.len().min(sides.rights.len());
     let read = lefts.len().min(rights.len()).min(truths.len());
-    sides.ops.len().min(nodes).min(read)
+    sides.len().min(read)
 }
 
 // Whether a comparison holds; arithmetic compares nothing.

@@ -131,30 +131,30 @@ module _ (nodes : List Node) (s : SignalsSeen) (reader : ℕ) (values values' : 
       (subst (λ n. Reads s.readers (n + hears.number) reader) (sym many) hears.reads))
 
   module _ (form : Form) (groups : List (List Condition)) (laid : Laid) (is : IsLaid nodes groups laid)
-      (heard : AreHeard s laid (length laid.ops.items) reader) (read : IsGivenRead
-      (given_by form groups) laid (length laid.ops.items) s.readers reader) where
+      (heard : AreHeard s laid (length laid.ops) reader) (read : IsGivenRead
+      (given_by form groups) laid (length laid.ops) s.readers reader) where
     abbrev left : ℕ → ℕ
-    left j = slice_index laid.plan.lefts.items j
+    left j = slice_index laid.plan.lefts j
 
-    same_truth : (j : ℕ) → j < length laid.ops.items → (b : Bool)
-        → is_comparing (slice_index_or laid.ops.items j ops.Bare) ≡ b
-        → compared (slice_index_or laid.ops.items j ops.Bare) (slice_index values' (left j))
-        (slice_index values' (slice_index laid.plan.rights.items j))
-        ≡ compared (slice_index_or laid.ops.items j ops.Bare) (slice_index values (left j))
-        (slice_index values (slice_index laid.plan.rights.items j))
+    same_truth : (j : ℕ) → j < length laid.ops → (b : Bool)
+        → is_comparing (slice_index_or laid.ops j ops.Bare) ≡ b
+        → compared (slice_index_or laid.ops j ops.Bare) (slice_index values' (left j))
+        (slice_index values' (slice_index laid.plan.rights j))
+        ≡ compared (slice_index_or laid.ops j ops.Bare) (slice_index values (left j))
+        (slice_index values (slice_index laid.plan.rights j))
     same_truth j below true comparing = heard_same (comparison_in laid j) (heard j below comparing)
-    same_truth j below false comparing = constant_truth (slice_index_or laid.ops.items j ops.Bare) _ _ _ _ comparing
+    same_truth j below false comparing = constant_truth (slice_index_or laid.ops j ops.Bare) _ _ _ _ comparing
 
     same_left : (j : ℕ) → slice_index_or (given_by form groups) j false ≡ true
-        → slice_index (numbers_at values laid.plan.lefts.items) j
-        ≡ slice_index (numbers_at values' laid.plan.lefts.items) j
-    same_left j given = elim (cases_lt j (length laid.ops.items)) [
+        → slice_index (numbers_at values laid.plan.lefts) j
+        ≡ slice_index (numbers_at values' laid.plan.lefts) j
+    same_left j given = elim (cases_lt j (length laid.ops)) [
       | inl below ↦
           let may = laid_fills nodes groups laid is in
-          let inside : j < length laid.plan.lefts.items = omega (arith, below, may.left_nodes) in
+          let inside : j < length laid.plan.lefts = omega (arith, below, may.left_nodes) in
           let number = agree.numbers (left j) (may.lefts j inside).0 (read j below given) in
-          get_or-map (slice_index values) laid.plan.lefts.items j 0 0 inside ∙ sym number
-          ∙ sym (get_or-map (slice_index values') laid.plan.lefts.items j 0 0 inside)
+          get_or-map (slice_index values) laid.plan.lefts j 0 0 inside ∙ sym number
+          ∙ sym (get_or-map (slice_index values') laid.plan.lefts j 0 0 inside)
       | inr past ↦
           let many_flags : length (given_by form groups) ≤ j =
           omega (arith, past, length_given form groups, ap length is.ops) in
@@ -165,16 +165,16 @@ module _ (nodes : List Node) (s : SignalsSeen) (reader : ℕ) (values values' : 
     laid_sees = record {
       truths =
           sym (laid_truths nodes values' later.start later.history at' groups laid is)
-          ∙ truths_same values values' laid.ops.items laid.plan.lefts.items laid.plan.rights.items
+          ∙ truths_same values values' laid.ops laid.plan.lefts laid.plan.rights
           (λ j below. same_truth j below
-          (is_comparing (slice_index_or laid.ops.items j ops.Bare)) refl)
+          (is_comparing (slice_index_or laid.ops j ops.Bare)) refl)
           ∙ laid_truths nodes values now.start now.history at groups laid is;
       lefts =
           transport (λ i. GiveTheSame form groups (laid_lefts nodes values now.start now.history at
           groups laid is i)
           (laid_lefts nodes values' later.start later.history at' groups laid is i))
-          (give_same form groups (numbers_at values laid.plan.lefts.items)
-          (numbers_at values' laid.plan.lefts.items) same_left);
+          (give_same form groups (numbers_at values laid.plan.lefts)
+          (numbers_at values' laid.plan.lefts) same_left);
     }
 
   -- the number of a node that may be missing is the same
@@ -184,9 +184,9 @@ module _ (nodes : List Node) (s : SignalsSeen) (reader : ℕ) (values values' : 
   same_sum (Some n) valued read = agree.numbers n valued.0 read
 
   pub value_sees : (parts : List PartContents) (run : ValueRun) → IsValueRun nodes parts run
-      → AreHeard s run.laid (length run.laid.ops.items) reader
+      → AreHeard s run.laid (length run.laid.ops) reader
       → IsGivenRead (given_by InValue (map counted_in parts)) run.laid
-      (length run.laid.ops.items) s.readers reader → AreSumsRead run.nodes.items
+      (length run.laid.ops) s.readers reader → AreSumsRead run.nodes.items
       (length run.nodes.items) s.readers reader → ValueSeesSame now later parts
   value_sees parts run is heard given read =
       let valued = all_summed nodes parts run.nodes.items is.nodes_too in

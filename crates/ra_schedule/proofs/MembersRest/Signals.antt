@@ -55,23 +55,23 @@ module _ (nodes : List Node) where
 
 -- one place more is heard
 pub heard_more : (s : SignalsSeen) (laid : Laid) (count reader : ℕ) → AreHeard s laid count reader
-    → (is_comparing (slice_index_or laid.ops.items count Bare) ≡ true
+    → (is_comparing (slice_index_or laid.ops count Bare) ≡ true
     → Hears s (comparison_in laid count) reader) → AreHeard s laid (count + 1) reader
 heard_more s laid count reader heard last j below = elim (below_or_last j count below) [
   | inl less ↦ heard j less
-  | inr here ↦ subst (λ k. is_comparing (slice_index_or laid.ops.items k Bare) ≡ true
+  | inr here ↦ subst (λ k. is_comparing (slice_index_or laid.ops k Bare) ≡ true
       → Hears s (comparison_in laid k) reader) (sym here) last
 ]
 
 module _ (readers : ReadersSeen) (reader : ℕ) where
   -- one place more is read
   pub given_more : (given : List Bool) (laid : Laid) (count : ℕ) → IsGivenRead given laid count readers reader
-      → (slice_index_or given count false ≡ true → Reads readers (slice_index laid.plan.lefts.items
+      → (slice_index_or given count false ≡ true → Reads readers (slice_index laid.plan.lefts
       count) reader) → IsGivenRead given laid (count + 1) readers reader
   given_more given laid count read last j below = elim (below_or_last j count below) [
     | inl less ↦ read j less
     | inr here ↦ subst (λ k. slice_index_or given k false ≡ true
-        → Reads readers (slice_index laid.plan.lefts.items k) reader) (sym here) last
+        → Reads readers (slice_index laid.plan.lefts k) reader) (sym here) last
   ]
 
   pub sums_more : (sums : List (Option ℕ)) (count : ℕ) → AreSumsRead sums count readers reader

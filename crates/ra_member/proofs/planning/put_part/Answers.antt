@@ -1,6 +1,7 @@
 use Rattle.std.proofs.Common.{◌≡◌, Some, None, List, [], ◌∷◌, ◌++◌, sym, ◌∙◌, ap, subst}
 use Rattle.ra_condition.specs.Contents.{PartContents, Legacy, Grouped, part_contents, group_contents}
 use Rattle.ra_member.specs.declared.planning.ValuePlan.{ValuePlan}
+use Rattle.ra_member.specs.Laid.{plan_rows}
 use Rattle.ra_member.specs.Plans.{IsValuePlan}
 use Rattle.ra_member.proofs.PlanLemmas.{part_added, plan_empty, plan_more}
 use Rattle.ra_member.proofs.planning.put_part.Goals as goal
@@ -20,7 +21,7 @@ returns-in_ok-push-in-Terms-2-clause-plan c =
     → IsValuePlan new (parts ++ p ∷ []) after) (sym part)
     (part_added old new (Legacy c.deref.result.now) (Some c.in_ok-sum-in-Terms.sum) plan after
     e.kept.front (λ groups is. plan_empty new groups plan.groups pauses
-    c.in_ok-push-in-Terms.ensures.items (plan_more old new groups plan.groups e.kept.front is))
+    c.in_ok-push-in-Terms.ensures.items (plan_more old new groups (plan_rows plan.groups) e.kept.front is))
     (e.ok.spells, tt) c.in_ok-push-in-Terms-2.ensures.items)
 
 pub returns-in_ok-push-in-Conditions-clause-plan : goal.returns-in_ok-push-in-Conditions-clause-plan

@@ -8,6 +8,7 @@ use Rattle.ra_condition.specs.Contents.{group_contents}
 use Rattle.ra_condition.specs.Spelled.{IsTriggerGroup}
 use Rattle.ra_chain.specs.Occurrence.{trees_in_group}
 use Rattle.ra_chain.proofs.JoinLemmas.{all_join}
+use Rattle.ra_member.specs.Laid.{plan_rows}
 use Rattle.ra_member.specs.Plans.{IsPlan}
 use Rattle.ra_member.specs.Plans.{GrowsWithin}
 use Rattle.ra_member.proofs.PlanLemmas.{within_as}
@@ -65,7 +66,7 @@ loop-alt-preserved c =
     let next : core ∷ map group_contents (take (k + 1) alts) ≡ groups ++ group_contents alt ∷ [] =
     ap (λ gs. core ∷ gs) (taken_next group_contents alts k alt within is) in
     record {
-      plan = subst (λ gs. IsPlan c.put_group.new.pool gs c.put_group.new.plan) (sym next)
+      plan = subst (λ gs. IsPlan c.put_group.new.pool gs (plan_rows c.put_group.new.plan)) (sym next)
           (e.plan groups c.loop-alt.invariant.plan);
       grows =
           subst (λ gs. GrowsWithin c.args.pool.now c.put_group.new.pool (flat_map trees_in_group gs)

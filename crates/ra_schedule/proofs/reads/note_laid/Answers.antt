@@ -1,5 +1,5 @@
-use Rattle.std.proofs.Common.{◌≡◌, ◌<◌, true, false, length, slice_index, slice_index_or, sym, ◌∙◌, subst, arith}
-use Rattle.std.proofs.lemmas.List.{get_or_default, get_or_past}
+use Rattle.std.proofs.Common.{◌≡◌, true, false, slice_index, slice_index_or, sym, ◌∙◌, subst, arith}
+use Rattle.std.proofs.lemmas.List.{get_or_past}
 use Rattle.std.proofs.lemmas.Bool.{false≢true}
 use Rattle.ra_schedule.specs.Readers.{Reads}
 use Rattle.ra_schedule.specs.Signals.{KeepsAll}
@@ -21,15 +21,13 @@ loop-place-preserved c =
     let mid = c.note_compared.new.signals in
     let last = c.if-place-given.signals in
     let one = c.in_ok-note_compared.ensures in
-    let inside : place < length laid.plan.lefts.items =
-    omega (arith, c.loop-place-test.true, c.requires.fills.left_nodes) in
     let left : KeepsAll nodes mid last × (slice_index_or c.args.given.now place false ≡ true
-    → Reads last.readers (slice_index laid.plan.lefts.items place) reader) =
+    → Reads last.readers (slice_index laid.plan.lefts place) reader) =
     elim c.if-place-given.branch [
       | then-place-given+then-given-place+in_ok-note_node w ↦ rw w.signals-is (
         w.in_ok-note_node.ensures.keeps nodes,
         λ given. subst (λ n. Reads w.note_node.new.self.readers n reader)
-            (w.index.ensures ∙ get_or_default laid.plan.lefts.items place w.index.result.now 0 inside)
+            w.side.ensures.left
             w.in_ok-note_node.ensures.reads,
       )
       | else-place-given w ↦ rw w.signals-is (
@@ -48,6 +46,6 @@ loop-place-preserved c =
           (heard_still nodes first last laid place reader both c.loop-place.invariant.heard)
           (λ comparing. hears_still nodes mid last _ reader left.0 (one.heard comparing));
       read = given_more last.readers reader c.args.given.now laid place
-          (λ j below given. both.kept (slice_index laid.plan.lefts.items j) reader
+          (λ j below given. both.kept (slice_index laid.plan.lefts j) reader
           (c.loop-place.invariant.read j below given)) left.1;
     }

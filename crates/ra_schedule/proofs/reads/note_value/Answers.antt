@@ -36,10 +36,10 @@ returns-clause-told c = λ values values' now later at at' agree.
     let noted = c.in_ok-note_laid.ensures in
     let keeps = c.in_ok-note_sums.ensures.keeps in
     let given = c.deref.ensures.value ∙ c.in_ok-given.ensures in
-    let read : IsGivenRead (given_by InValue (map counted_in parts)) laid (length laid.ops.items) mid.readers reader =
-    subst (λ flags. IsGivenRead flags laid (length laid.ops.items) mid.readers reader) given noted.read in
+    let read : IsGivenRead (given_by InValue (map counted_in parts)) laid (length laid.ops) mid.readers reader =
+    subst (λ flags. IsGivenRead flags laid (length laid.ops) mid.readers reader) given noted.read in
     value_sees nodes s reader values values' now later
     (c.requires.nodes ∙ sym noted.keeps.nodes_too ∙ sym keeps.nodes_too) at at' agree parts run c.requires.run
-    (heard_still nodes mid s laid (length laid.ops.items) reader keeps noted.heard)
-    (λ j below gives. keeps.kept (slice_index laid.plan.lefts.items j) reader (read j below gives))
+    (heard_still nodes mid s laid (length laid.ops) reader keeps noted.heard)
+    (λ j below gives. keeps.kept (slice_index laid.plan.lefts j) reader (read j below gives))
     (rw c.deref-2.ensures.value at c.in_ok-note_sums.ensures.read)

@@ -36,9 +36,9 @@ pub returns-clause-steps : goal.returns-clause-steps
 returns-clause-steps c =
     steps_read (trigger_contents c.args.text.now) c.args.table.now c.args.run.now
     (record { laid = c.args.run.now.laid; trigger = c.step.new.self }) c.step.result
-    c.deref-3.result.now c.deref-4.result.now c.requires.run.laid
-    (c.deref-3.ensures.value ∙ c.read_frame.ensures.truths)
-    (c.deref-4.ensures.value ∙ c.read_frame.ensures.lefts)
+    c.deref.result.now c.deref-2.result.now c.requires.run.laid
+    (c.deref.ensures.value ∙ c.read_frame.ensures.truths)
+    (c.deref-2.ensures.value ∙ c.read_frame.ensures.lefts)
     c.step.ensures.kept c.step.ensures.change
 
 pub returns-clause-read : goal.returns-clause-read
@@ -51,8 +51,8 @@ returns-clause-waited c =
     let t = trigger_contents c.args.text.now in
     let old = c.args.run.now.trigger in
     let row = row_read c.args.table.now.values c.args.run.now in
-    let truths = c.deref-3.ensures.value ∙ c.read_frame.ensures.truths in
-    let lefts = c.deref-4.ensures.value ∙ c.read_frame.ensures.lefts in
+    let truths = c.deref.ensures.value ∙ c.read_frame.ensures.truths in
+    let lefts = c.deref-2.ensures.value ∙ c.read_frame.ensures.lefts in
     ap (λ (ch : Change). is_waiting ch.before && is_waiting ch.after) c.step.ensures.change
     ∙ ap (λ (k : TriggerKept). is_waiting old.state && is_waiting k.state)
     (c.step.ensures.kept ∙ (λ i. step t (truths i) (lefts i) old))

@@ -1,25 +1,29 @@
-use Rattle.std.proofs.Common.{ap, length, refl, slice_index, ◌∙◌}
-use Rattle.std.proofs.lemmas.List.{length-map}
+use Rattle.std.proofs.Common.{length, take, sym, ap, subst, ◌∙◌}
+use Rattle.ra_member.specs.Laid.{LaidSeen, left_nodes, right_nodes, operators}
 use Rattle.ra_member.specs.Readings.{numbers_at, truths_by}
-use Rattle.ra_member.proofs.LaidLemmas.{length_truths}
+use Rattle.ra_member.specs.Runs.{HasRoom}
+use Rattle.ra_member.proofs.LaidLemmas.{filled_few, filled_many}
+use Rattle.ra_member.proofs.laid.Laid.fill.Goals.{in-Some, in-None}
 use Rattle.ra_member.proofs.laid.Laid.fill.Goals as goal
 
-pub returns-in-Some : goal.returns-in-Some
-returns-in-Some c =
+pub returns : goal.returns
+returns c =
     let values = c.args.table.now.values in
-    let old = c.args.self.now in
-    let ops = c.deref.ensures.value in
-    let left_nodes = c.deref-2.ensures.value in
-    let right_nodes = c.deref-3.ensures.value in
-    let xs = length-map old.plan.lefts.items (slice_index values) ∙ c.requires.valued.left_nodes in
-    let ys = length-map old.plan.rights.items (slice_index values) ∙ c.requires.valued.right_nodes in
-    let lefts = c.fill_many.ensures.lefts ∙ ap (numbers_at values) left_nodes in
-    let truths = c.fill_many.ensures.truths ∙ (λ i. truths_by (ops i) (numbers_at values (left_nodes i))
-    (numbers_at values (right_nodes i))) in
-    record {
-      plan = refl;
-      ops = refl;
-      room = (ap length truths ∙ length_truths old.ops.items _ _ xs ys, ap length lefts ∙ xs);
-      lefts = lefts;
-      truths = truths;
-    }
+    let old = c.self.inside in
+    let room = subst (λ (l : LaidSeen). HasRoom (length l.ops) l.room) (sym c.self.view_is) c.requires.room in
+    rw (← c.self.view_is) (elim c.match-self.branch [
+      | in-Some w ↦ rw (w.self-inside-is, w.few-is) (
+          let same = w.deref.ensures.value in
+          filled_many values old.turns.items old.sides.items old.room _ _
+          (w.fill_many.ensures.lefts ∙ ap (λ s. numbers_at values (left_nodes s)) same)
+          (w.fill_many.ensures.truths ∙ ap (λ s. truths_by (operators s) (numbers_at values (left_nodes s))
+          (numbers_at values (right_nodes s))) same))
+      | in-None w ↦ rw (w.self-inside-is, w.few-is) (
+          let same = w.deref-in-None.ensures.value in
+          filled_few values old.turns.items old.sides.items old.room _ w.in-None.is room
+          (ap (λ s. take (length s) w.fill_few.new.lefts) (sym same) ∙ w.fill_few.ensures.lefts
+          ∙ ap (λ s. numbers_at values (left_nodes s)) same)
+          (ap (λ s. take (length s) w.fill_few.new.truths) (sym same) ∙ w.fill_few.ensures.truths
+          ∙ ap (λ s. truths_by (operators s) (numbers_at values (left_nodes s))
+          (numbers_at values (right_nodes s))) same))
+    ])
