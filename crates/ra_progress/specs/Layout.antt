@@ -144,11 +144,14 @@ entries_from bytes (suc more) at = entry_at bytes at ∷ entries_from bytes more
 abbrev pub entries_in : List ℕ → List Entry
 entries_in bytes = entries_from bytes (entry_count bytes) (first_entry bytes)
 
--- the length of the set's own bytes in versions 2 and 3
+-- the length of the set's own bytes in versions 2 and 3, with this many names of cells and tracked masks
+abbrev pub length_with : ℕ → ShapeContents → ℕ
+length_with names shape =
+    57 + 20 * (names + length (own_entries shape)) + sum_by own_length (own_entries shape)
+
+-- the same with those that the shape has
 abbrev pub length_of : ShapeContents → ℕ
-length_of shape =
-    57 + 20 * (length shape.cells + length shape.priors + length (own_entries shape))
-    + sum_by own_length (own_entries shape)
+length_of shape = length_with (length shape.cells + length shape.priors) shape
 
 -- where the block of an own entry stands in the set's own bytes of a version
 abbrev pub block_at : ShapeContents → (version number : ℕ) → ℕ

@@ -8,6 +8,7 @@ mod checking;
 mod entries;
 mod entry_blocks;
 mod entry_places;
+mod filling;
 mod hex;
 mod laws;
 mod layout;
@@ -32,6 +33,7 @@ pub use checking::check;
 pub use entry_blocks::{
     AchievementBlock, BoardBlock, PresenceBlock, achievement_block, board_block, presence_block,
 };
+pub use filling::fill_up;
 pub use hex::Hex;
 pub use laws::both_ways;
 pub use layout::{cell_count, entry_after, entry_count, first_entry, prior_count};

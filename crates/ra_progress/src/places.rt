@@ -13,18 +13,17 @@ pub fn length(shape: &Shape) -> u64
     requires { IsSearchable shape.now }
     ensures { result ≡ layout.length_of (shape_contents shape.now) }
 {
-    file_length(shape)
+    file_length(shape, named(shape))
 }
 
-/// The same of a shape whose orders, and the bytes of whose names of cells and tracked masks, are not made yet.
-pub fn file_length(shape: &Shape) -> u64
+/// The same of a shape whose names of cells and tracked masks, of which there are this many, are not made yet.
+pub fn file_length(shape: &Shape, names: u64) -> u64
     requires paired { IsPaired (shape_contents shape.now) }
-    requires few_cells { length_of_list shape.now.cells.items ≤ 2 ^ 32 }
-    requires few_priors { length_of_list shape.now.priors.items ≤ 2 ^ 32 }
-    ensures { result ≡ layout.length_of (shape_contents shape.now) }
+    requires few { names ≤ 2 ^ 33 }
+    ensures { result ≡ layout.length_with names (shape_contents shape.now) }
 {
     let blocks = items_length(&shape.items) + script_length(&shape.presence);
-    57 + 20 * (named(shape) + u64::from(own_count(shape))) + blocks
+    57 + 20 * (names + u64::from(own_count(shape))) + blocks
 }
 
 /// How many bytes the set's own file has in version 1: docs/DEFINITIONS.md, "Progress file".

@@ -24,7 +24,7 @@ pub fn decode(alloc: Global, shape: &Shape, bytes: &[u8]) -> Result<Snapshot, Ou
     requires accepted { IsAccepted (shape_contents shape.now) bytes.now }
     ensures { IfOk result (λ snapshot. snapshot_contents snapshot ≡ spec.says (shape_contents shape.now) bytes.now) }
 {
-    let mut said = Said::new(alloc, shape)?;
+    let mut said = Said::new(alloc, shape.cells.len(), shape.priors.len(), shape)?;
     said.read(shape, bytes);
     let items = said_items(alloc, shape, bytes, &said.places)?;
     let presence = said_presence(alloc, shape, bytes, &said.places)?;

@@ -1,9 +1,10 @@
-ghost use Rattle.std.specs.Prelude.{◌≡◌, None, slice_index_or, IfOk};
-ghost use Rattle.ra_progress.specs.Contents.{shape_contents};
+ghost use Rattle.std.specs.Prelude.{◌≡◌, None, length, slice_index_or, IfOk};
+ghost use Rattle.ra_progress.specs.Contents.{own_entries, shape_contents};
 ghost use Rattle.ra_progress.specs.Names.{IsPaired, IsUsable};
 ghost use Rattle.ra_progress.specs.Reading.{IsAccepted};
 
 use crate::entry_places::read_places;
+use crate::filling::fill_up;
 use crate::numbers::{read_cells, read_priors};
 use crate::own::own_count;
 use crate::relation::is_own;
@@ -27,17 +28,23 @@ pub struct Said {
 }
 
 impl Said {
-    ghost use Rattle.ra_progress.specs.Room.{IsRoom, Says};
+    ghost use Rattle.ra_progress.specs.Room.{HasRoom, IsFilled, IsRoom, Says};
 
-    /// Room for the files that the shape accepts.
-    pub fn new(alloc: Global, shape: &Shape) -> Result<Said, OutOfMemory>
+    /// Room for the files that a shape accepts which has this many names of cells and of tracked masks, and the entries of
+    /// this one. It is not written before the first file is read.
+    pub fn new(
+        alloc: Global,
+        cells: usize,
+        priors: usize,
+        shape: &Shape,
+    ) -> Result<Said, OutOfMemory>
         requires { IsPaired (shape_contents shape.now) }
-        ensures { IfOk result (IsRoom (shape_contents shape.now)) }
+        ensures { IfOk result (HasRoom cells priors (length (own_entries (shape_contents shape.now)))) }
     {
         Ok(Said {
-            cells: vec![in alloc; 0; shape.cells.len()]?,
-            priors: vec![in alloc; 0; shape.priors.len()]?,
-            places: vec![in alloc; None; own_count(shape) as usize]?,
+            cells: Vec::with_capacity(alloc, cells)?,
+            priors: Vec::with_capacity(alloc, priors)?,
+            places: Vec::with_capacity(alloc, own_count(shape) as usize)?,
         })
     }
 
@@ -51,12 +58,25 @@ impl Said {
         requires accepted { IsAccepted (shape_contents shape.now) bytes.now }
         requires room { IsRoom (shape_contents shape.now) self.old }
         ensures says { Says (shape_contents shape.now) bytes.now self.new }
+        ensures filled { IsFilled (shape_contents shape.now) self.new }
         ensures room { IsRoom (shape_contents shape.now) self.new }
     {
+        self.fill(shape);
         let own = is_own(shape, bytes);
         read_cells(&mut self.cells, shape, bytes, own);
         read_priors(&mut self.priors, shape, bytes, own);
         read_places(&mut self.places, shape, bytes, own);
+    }
+
+    // Puts a number for each cell and each tracked mask, and a place for each own entry, where they are not there yet.
+    fn fill(&mut self, shape: &Shape)
+        requires paired { IsPaired (shape_contents shape.now) }
+        requires room { IsRoom (shape_contents shape.now) self.old }
+        ensures { IsFilled (shape_contents shape.now) self.new }
+    {
+        fill_up(&mut self.cells, 0, shape.cells.len());
+        fill_up(&mut self.priors, 0, shape.priors.len());
+        fill_up(&mut self.places, None, own_count(shape) as usize);
     }
 
     /// Where the block of an own entry begins, in bytes from the start, where the file has one. Entries are

@@ -11,4 +11,4 @@ returns c =
     let total : c.items_length.result + c.script_length.result
     ≡ sum_by own_length (own_entries (shape_contents c.args.shape.now)) =
     rw (items, c.script_length.ensures.length) (sym (own_total (shape_contents c.args.shape.now) c.requires.paired)) in
-    rw (c.named.ensures.count, c.from.ensures, c.own_count.ensures) (omega (arith, total))
+    rw (c.from.ensures, c.own_count.ensures) (omega (arith, total))
