@@ -6,25 +6,38 @@ use Rattle.ra_memref.specs.Names.{cell_name, tracked_name}
 use Rattle.ra_memref.specs.Table.{TableSeen}
 use Rattle.ra_set.specs.Contents.{SetContents, set_contents}
 use Rattle.ra_progress.specs.declared.shape.Shape.{Shape}
-use Rattle.ra_progress.specs.Contents.{Name, ShapeContents, own_entries, shape_contents}
-use Rattle.ra_progress.specs.Layout.{length_of, own_length}
+use Rattle.ra_progress.specs.Contents.{Name, ShapeContents, shape_contents}
+use Rattle.ra_progress.specs.Layout.{length_of, length_with}
 use Rattle.ra_progress.specs.Names.{IsOrder, IsPaired, entry_names}
-use Rattle.ra_progress.specs.Room.{IsRoom}
+use Rattle.ra_progress.specs.Room.{IsFilled}
 use Rattle.ra_progress.specs.declared.said.Said.{Said}
 use Rattle.ra_meaning.specs.Order.{set_cells, set_tracked, shape_of}
 use Rattle.ra_runtime.specs.declared.course.Course.TheInside.{Inside}
 use Rattle.ra_runtime.specs.declared.lazy_shape.LazyShape.{LazyShape}
 use Rattle.ra_runtime.specs.Laid.{IsOver}
 use Rattle.ra_runtime.specs.Seen.{IsCourse}
-use Rattle.ra_runtime.specs.Lazy.{IsCopy, IsLazy, IsWhole, MakesNames, MayName, NamesTable, with_names}
+use Rattle.ra_runtime.specs.Lazy.{HasNameRoom, HasRows, IsCopy, IsLazy, IsWhole, MakesNames, MayName, NamesTable}
+use Rattle.ra_runtime.specs.Lazy.{with_names}
 
 -- the names of a set are those of a table over it
 pub names_table : (set : SetContents) (table : TableSeen) → IsOver set table → NamesTable table (shape_of set)
 names_table set table over = record {
   cells = ap (map cell_name) over.cells;
-  priors = ap
-      (map tracked_name) over.tracked;
+  priors = ap (map tracked_name) over.tracked;
+  many_cells = over.cells_many ∙ sym (length-map (set_cells set) cell_name);
+  many_priors = over.priors_many ∙ sym (length-map (set_tracked set) tracked_name);
 }
+
+-- a course has room for the names of its table
+pub may_name : (t : Inside) → IsCourse t → MayName t.table t.shape
+may_name t is =
+    let names = names_table (set_contents t.set) t.table is.over in
+    record {
+      nodes = is.names;
+      room = subst (λ n. HasNameRoom n (length t.table.priors) t.shape) (sym names.many_cells)
+          (subst (λ n. HasNameRoom (length (shape_of (set_contents t.set)).cells) n t.shape)
+          (sym names.many_priors) is.lazy.room);
+    }
 
 -- a course with other names is the same course
 abbrev pub with_shape : Inside → LazyShape → Inside
@@ -79,7 +92,7 @@ pub record FitNumbers (table : TableSeen) (cells priors : List ℕ) : Type 0 whe
 
 pub numbers_fit : (t : Inside) (is : IsCourse t) (shape : LazyShape)
     → MakesNames (shape_of (set_contents t.set)) t.shape shape → (said : Said)
-    → IsRoom (shape_contents shape.shape) said
+    → IsFilled (shape_contents shape.shape) said
     → FitNumbers t.table said.cells.items said.priors.items
 numbers_fit t is shape made said room =
     let set = set_contents t.set in
@@ -102,19 +115,15 @@ paired_lazy whole shape cells priors same paired = subst IsPaired (sym same)
 
 -- how long a progress file is depends on how many names there are
 pub length_lazy : (whole : ShapeContents) (t : LazyShape) → IsLazy whole t
-    → length_of (shape_contents t.shape) ≡ length_of whole
-length_lazy whole t lazy =
-    ap length_of lazy.shape
-    ∙ (λ i. 57 + 20 * (lazy.room.cells i + lazy.room.priors i + length (own_entries whole)) + sum_by
-    own_length (own_entries whole))
+    → length_with (length whole.cells + length whole.priors) (shape_contents t.shape) ≡ length_of whole
+length_lazy whole t lazy = ap (length_with (length whole.cells + length whole.priors)) lazy.shape
 
 -- a shape whose names were put, and whose orders are those of its names, is the whole one
 pub made_names : (whole : ShapeContents) (t u : LazyShape) → IsLazy whole t
     → shape_contents u.shape ≡ with_names (shape_contents t.shape) u.shape.cells.items u.shape.priors.items
     → u.shape.cells.items ≡ whole.cells → u.shape.priors.items ≡ whole.priors
     → IsOrder u.shape.cells.items u.shape.cell_order.items → IsOrder u.shape.priors.items u.shape.prior_order.items
-    → length u.shape.cell_order.items ≡ length t.shape.cell_order.items
-    → length u.shape.prior_order.items ≡ length t.shape.prior_order.items
+    → length u.shape.cell_order.items ≡ length whole.cells → length u.shape.prior_order.items ≡ length whole.priors
     → u.shape.entry_order.items ≡ t.shape.entry_order.items → u.orders ≡ t.orders → u.room ≡ t.room
     → MakesNames whole t u
 made_names whole t u lazy other cells priors cell_order prior_order many_cells many_priors entries orders room =
@@ -140,10 +149,12 @@ made_names whole t u lazy other cells priors cell_order prior_order many_cells m
         entries = ordered;
         short = lazy.short;
         room = record {
-          cells = ap length cells;
-          priors = ap length priors;
-          cell_order = many_cells ∙ lazy.room.cell_order;
-          prior_order = many_priors ∙ lazy.room.prior_order;
+          rows = record {
+            cells = omega (arith, ap length cells, u.shape.cells.ok.0, u.shape.cells.ok.1);
+            priors = omega (arith, ap length priors, u.shape.priors.ok.0, u.shape.priors.ok.1);
+            cell_order = omega (arith, many_cells, u.shape.cell_order.ok.0, u.shape.cell_order.ok.1);
+            prior_order = omega (arith, many_priors, u.shape.prior_order.ok.0, u.shape.prior_order.ok.1);
+          };
           few_cells = subst (λ n. length whole.cells ≤ n) (sym orders) lazy.room.few_cells;
           few_priors = subst (λ n. length whole.priors ≤ n) (sym orders) lazy.room.few_priors;
           few = subst (λ n. n ≤ 2 ^ 32) (sym orders) lazy.room.few;
@@ -154,17 +165,15 @@ made_names whole t u lazy other cells priors cell_order prior_order many_cells m
       room = room;
     }
 
--- a shape without names, with as many as its table has cells and tracked masks, stands for that of the set
+-- a shape without names, with room for as many as its table has cells and tracked masks, stands for that of the set
 pub new_lazy : (set : SetContents) (table : TableSeen) (u : LazyShape) (s : Shape)
     → IsOver set table → u.shape ≡ s → shape_contents s ≡ with_names (shape_of set) s.cells.items s.priors.items
-    → length s.cells.items ≡ length table.cells → length s.priors.items ≡ length table.priors
-    → length s.cell_order.items ≡ length table.cells → length s.prior_order.items ≡ length table.priors
+    → HasRows (length table.cells) (length table.priors) s
     → IsOrder (entry_names (shape_of set)) s.entry_order.items → IsPaired (shape_of set)
     → length_of (shape_of set) ≤ 8388608
-    → u.named ≡ false → length s.cells.items ≤ u.orders → length s.priors.items ≤ u.orders
+    → u.named ≡ false → length table.cells ≤ u.orders → length table.priors ≤ u.orders
     → u.orders ≤ 2 ^ 32 → IsLazy (shape_of set) u
-new_lazy set table u s over same shape cells priors cell_order prior_order entries paired short
-    unnamed few_cells few_priors few =
+new_lazy set table u s over same shape rows entries paired short unnamed few_cells few_priors few =
     let many_cells : length table.cells ≡ length (shape_of set).cells = over.cells_many
     ∙ sym (length-map (set_cells set) cell_name) in
     let many_priors : length table.priors ≡ length (shape_of set).priors = over.priors_many
@@ -176,12 +185,11 @@ new_lazy set table u s over same shape cells priors cell_order prior_order entri
       entries = subst (λ (x : Shape). IsOrder (entry_names (shape_of set)) x.entry_order.items) (sym same) entries;
       short = short;
       room = record {
-        cells = ap (λ (x : Shape). length x.cells.items) same ∙ cells ∙ many_cells;
-        priors = ap (λ (x : Shape). length x.priors.items) same ∙ priors ∙ many_priors;
-        cell_order = ap (λ (x : Shape). length x.cell_order.items) same ∙ cell_order ∙ many_cells;
-        prior_order = ap (λ (x : Shape). length x.prior_order.items) same ∙ prior_order ∙ many_priors;
-        few_cells = subst (λ n. n ≤ u.orders) (cells ∙ many_cells) few_cells;
-        few_priors = subst (λ n. n ≤ u.orders) (priors ∙ many_priors) few_priors;
+        rows = subst (HasRows (length (shape_of set).cells) (length (shape_of set).priors)) (sym same)
+            (subst (λ n. HasRows n (length (shape_of set).priors) s) many_cells
+            (subst (λ n. HasRows (length table.cells) n s) many_priors rows));
+        few_cells = subst (λ n. n ≤ u.orders) many_cells few_cells;
+        few_priors = subst (λ n. n ≤ u.orders) many_priors few_priors;
         few = few;
       };
       made = λ named. absurd (not_both (sym unnamed ∙ named));
@@ -190,75 +198,36 @@ new_lazy set table u s over same shape cells priors cell_order prior_order entri
     not_both : false ≡ true → ⊥
     not_both same = cc
 
--- a copy of a shape has room of its own for its orders
-pub record HasOwnRoom (t u : LazyShape) : Type 0 where
-  pub copy : IsCopy t.shape u.shape
-  pub cells : length u.shape.cells.items ≤ u.orders
-  pub priors : length u.shape.priors.items ≤ u.orders
-  pub few : u.orders ≤ 2 ^ 32
+-- a copy of a shape, with room for the names of a table, stands for the same shape, and names the same table
+pub record HasOwnRoom (table : TableSeen) (t u : LazyShape) : Type 0 where
+  pub copy : IsCopy (length table.cells) (length table.priors) t.shape u.shape
+  pub room : HasNameRoom (length table.cells) (length table.priors) u
 
 pub own_room : (table : TableSeen) (t u : LazyShape) (s : Shape) → MayName table t
-    → IsCopy t.shape s → u.shape ≡ s → length s.cells.items ≤ u.orders → length s.priors.items ≤ u.orders
-    → (length s.cells.items ≤ 2 ^ 32 → length s.priors.items ≤ 2 ^ 32 → u.orders ≤ 2 ^ 32) → HasOwnRoom t u
+    → IsCopy (length table.cells) (length table.priors) t.shape s → u.shape ≡ s
+    → length table.cells ≤ u.orders → length table.priors ≤ u.orders
+    → (length table.cells ≤ 2 ^ 32 → length table.priors ≤ 2 ^ 32 → u.orders ≤ 2 ^ 32) → HasOwnRoom table t u
 own_room table t u s may copy same cells priors few = record {
-  copy = subst (IsCopy t.shape) (sym same) copy;
-  cells = subst (λ (x : Shape). length x.cells.items ≤ u.orders) (sym same) cells;
-  priors = subst (λ (x : Shape). length x.priors.items ≤ u.orders) (sym same) priors;
-  few = few (omega (
-    arith,
-    ap (λ (x : ShapeContents). length x.cells) copy.same,
-    may.cells,
-    may.few_cells,
-    may.few,
-  )) (omega (
-    arith,
-    ap (λ (x : ShapeContents). length x.priors) copy.same,
-    may.priors,
-    may.few_priors,
-    may.few,
-  ));
+  copy = subst (IsCopy (length table.cells) (length table.priors) t.shape) (sym same) copy;
+  room = record {
+    rows = subst (HasRows (length table.cells) (length table.priors)) (sym same) copy.rows;
+    few_cells = cells;
+    few_priors = priors;
+    few = few (omega (arith, may.room.few_cells, may.room.few)) (omega (arith, may.room.few_priors, may.room.few));
+  };
 }
 
--- a copy of which no name is made stands for the same shape, and names the same table
-module _ (t u : LazyShape) (own : HasOwnRoom t u) where
-  as_many : (length u.shape.cells.items ≡ length t.shape.cells.items) ×
-      (length u.shape.priors.items ≡ length t.shape.priors.items)
-  as_many = (
-    ap (λ (s : ShapeContents). length s.cells) own.copy.same,
-    ap
-        (λ (s : ShapeContents). length s.priors) own.copy.same,
-  )
-
-  pub lazy_copy : (whole : ShapeContents) → IsLazy whole t → u.named ≡ false → IsLazy whole u
-  lazy_copy whole lazy unnamed = record {
-    shape = own.copy.same ∙ lazy.shape ∙ (λ i. with_names whole (sym own.copy.same i).cells
-        (sym own.copy.same i).priors);
-    paired = lazy.paired;
-    entries = subst (IsOrder (entry_names whole)) (sym own.copy.entry_order) lazy.entries;
-    short = lazy.short;
-    room = record {
-      cells = as_many.0 ∙ lazy.room.cells;
-      priors = as_many.1 ∙ lazy.room.priors;
-      cell_order = ap length own.copy.cell_order ∙ lazy.room.cell_order;
-      prior_order = ap length own.copy.prior_order ∙ lazy.room.prior_order;
-      few_cells = subst (λ n. n ≤ u.orders) (as_many.0 ∙ lazy.room.cells) own.cells;
-      few_priors = subst (λ n. n ≤ u.orders) (as_many.1 ∙ lazy.room.priors) own.priors;
-      few = own.few;
-    };
-    made = λ named. absurd (not_both (sym unnamed ∙ named));
-  }
-    where
-      not_both : false ≡ true → ⊥
-      not_both same = cc
-
-  pub may_copy : (table : TableSeen) → MayName table t → length table.nodes ≤ u.room → MayName table u
-  may_copy table may nodes = record {
-    nodes = nodes;
-    cells = as_many.0 ∙ may.cells;
-    priors = as_many.1 ∙ may.priors;
-    cell_order = ap length own.copy.cell_order ∙ may.cell_order;
-    prior_order = ap length own.copy.prior_order ∙ may.prior_order;
-    few_cells = subst (λ n. n ≤ u.orders) (as_many.0 ∙ may.cells) own.cells;
-    few_priors = subst (λ n. n ≤ u.orders) (as_many.1 ∙ may.priors) own.priors;
-    few = own.few;
-  }
+pub lazy_copy : (table : TableSeen) (t u : LazyShape) → HasOwnRoom table t u → (whole : ShapeContents)
+    → IsLazy whole t → NamesTable table whole → u.named ≡ false → IsLazy whole u
+lazy_copy table t u own whole lazy names unnamed = record {
+  shape = own.copy.same ∙ (λ i. with_names (lazy.shape i) u.shape.cells.items u.shape.priors.items);
+  paired = lazy.paired;
+  entries = subst (IsOrder (entry_names whole)) (sym own.copy.entry_order) lazy.entries;
+  short = lazy.short;
+  room = subst (λ n. HasNameRoom n (length whole.priors) u) names.many_cells
+      (subst (λ n. HasNameRoom (length table.cells) n u) names.many_priors own.room);
+  made = λ named. absurd (not_both (sym unnamed ∙ named));
+}
+  where
+    not_both : false ≡ true → ⊥
+    not_both same = cc

@@ -7,7 +7,7 @@ use Rattle.ra_progress.specs.Contents.{ShapeContents, shape_contents}
 use Rattle.ra_progress.specs.declared.said.Said.{Said}
 use Rattle.ra_progress.specs.declared.shape.ItemShape.{ItemShape}
 use Rattle.ra_progress.specs.Reading.{IsAccepted}
-use Rattle.ra_progress.specs.Room.{IsRoom}
+use Rattle.ra_progress.specs.Room.{IsFilled}
 use Rattle.ra_progress.specs.Saying.{own_places}
 use Rattle.ra_progress.proofs.Owns.{own_count}
 use Rattle.ra_progress.proofs.Placed.{if_some}
@@ -46,7 +46,7 @@ module _ {t : Inside} (is : IsCourse t) {shape : LazyShape}
   many_made = sym (length-map t.runs.items run_shape) ∙ ap length runs_made
 
   -- there is a place for each item, and its block is there
-  pub many_places : (said : Said) → IsRoom (shape_contents shape.shape) said
+  pub many_places : (said : Said) → IsFilled (shape_contents shape.shape) said
       → length t.runs.items ≤ length said.places.items
   many_places said room = omega (
     arith,

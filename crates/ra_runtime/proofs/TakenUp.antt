@@ -8,7 +8,7 @@ use Rattle.ra_set.specs.Contents.{SetContents}
 use Rattle.ra_progress.specs.declared.said.Said.{Said}
 use Rattle.ra_progress.specs.Contents.{KeptItem, plain_presence, KeptPresence}
 use Rattle.ra_progress.specs.Layout.{frames_at}
-use Rattle.ra_progress.specs.Room.{IsRoom, Says}
+use Rattle.ra_progress.specs.Room.{IsFilled, Says}
 use Rattle.ra_progress.specs.Saying.{own_places, said_items, said_or, said_presence, script_place, says}
 use Rattle.ra_memref.specs.Names.{cell_name, tracked_name}
 use Rattle.ra_items.specs.declared.item_run.ItemRun.{ItemRun}
@@ -37,7 +37,7 @@ restored_are bytes (run ∷ runs) (place ∷ places) =
     ap (λ items. restored_item bytes run place ∷ items) (restored_are bytes runs places)
 
 module _ (set : SetContents) (table after : TableSeen) (over : IsOver set table) (bytes : List ℕ)
-    (said : Said) (room : IsRoom (shape_of set) said)
+    (said : Said) (room : IsFilled (shape_of set) said)
     (takes : TakesNumbers table after said.cells.items said.priors.items) where
   cells_many : length said.cells.items ≡ length (set_cells set)
   cells_many = room.cells ∙ length-map (set_cells set) cell_name

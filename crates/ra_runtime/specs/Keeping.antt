@@ -71,13 +71,18 @@ pub record HasLines (shape : PresenceShape) : Type 0 where
   pub some : 0 < shape.lines
   pub few : shape.lines < 2 ^ 32
 
--- a kept state is for a set of this shape: it has its digest, and as many numbers of each kind
-pub record IsKeptFor (shape : ShapeContents) (kept : KeptSeen) : Type 0 where
+-- a kept state is for a set of this shape, with this many cells and tracked masks: it has its digest, and as many
+-- numbers of each kind
+pub record IsKeptOf (many_cells many_priors : ℕ) (shape : ShapeContents) (kept : KeptSeen) : Type 0 where
   pub digest : kept.digest ≡ shape.digest
-  pub cells : length kept.opening.cells ≡ length shape.cells
-  pub priors : length kept.opening.priors ≡ length shape.priors
+  pub cells : length kept.opening.cells ≡ many_cells
+  pub priors : length kept.opening.priors ≡ many_priors
   pub items : kept.items ≡ shape.items
   pub presence : kept.presence ≡ shape.presence
+
+-- the same with those that the shape has
+abbrev pub IsKeptFor : ShapeContents → KeptSeen → Type 0
+IsKeptFor shape = IsKeptOf (length shape.cells) (length shape.priors) shape
 
 -- the blocks of a kept state, as the calls that put a file back take them: they stand where the places are, and say
 -- what is seen

@@ -34,10 +34,10 @@ pub record NameSet (set : SetContents) (names : Names) : Type 0 where
 
 -- a shape has these names of cells and tracked masks, in these orders
 pub record HasNaming (naming : Naming) (shape : Shape) : Type 0 where
-  pub cells : shape.cells.items ≡ naming.cells.items
-  pub priors_too : shape.priors.items ≡ naming.priors.items
-  pub cell_order : shape.cell_order.items ≡ naming.cell_order.items
-  pub prior_order : shape.prior_order.items ≡ naming.prior_order.items
+  pub cells : shape.cells ≡ naming.cells
+  pub priors_too : shape.priors ≡ naming.priors
+  pub cell_order : shape.cell_order ≡ naming.cell_order
+  pub prior_order : shape.prior_order ≡ naming.prior_order
 
 -- a table without a frame over the trees of a set, of at most 131,072 cells and as many tracked masks; runs that wait,
 -- and a display that shows its last line

@@ -1,6 +1,7 @@
 -- The shape of a set, whose names of cells and tracked masks are made late: docs/INTERNALS.md, "Names are made where
 -- they are first needed".
 use Rattle.std.specs.Prelude.{◌≡◌, ℕ, ◌≤◌, ◌^◌, Bool, true, List, length, map}
+use Rattle.std.specs.Vec.{vec_capacity}
 use Rattle.ra_indirect.specs.Pools.{cells_of, tracked_of}
 use Rattle.ra_memref.specs.Names.{cell_name, tracked_name}
 use Rattle.ra_memref.specs.Table.{TableSeen}
@@ -19,14 +20,27 @@ pub record IsWhole (whole : ShapeContents) (shape : Shape) : Type 0 where
   pub same : shape_contents shape ≡ whole
   pub usable : IsUsable shape
 
--- there is room for the names of a shape and for their orders
-pub record HasNameRoom (whole : ShapeContents) (t : LazyShape) : Type 0 where
-  pub cells : length t.shape.cells.items ≡ length whole.cells
-  pub priors : length t.shape.priors.items ≡ length whole.priors
-  pub cell_order : length t.shape.cell_order.items ≡ length whole.cells
-  pub prior_order : length t.shape.prior_order.items ≡ length whole.priors
-  pub few_cells : length whole.cells ≤ t.orders
-  pub few_priors : length whole.priors ≤ t.orders
+-- the rows of a shape have memory for this many names of cells and of tracked masks, and for their orders
+pub record HasRows (many_cells many_priors : ℕ) (shape : Shape) : Type 0 where
+  pub cells : many_cells ≤ vec_capacity shape.cells
+  pub priors : many_priors ≤ vec_capacity shape.priors
+  pub cell_order : many_cells ≤ vec_capacity shape.cell_order
+  pub prior_order : many_priors ≤ vec_capacity shape.prior_order
+
+-- this many names of cells and of tracked masks, and their orders, are there, whatever they are; nothing else changes
+pub record HasZeros (many_cells many_priors : ℕ) (old new : Shape) : Type 0 where
+  pub cells : length new.cells.items ≡ many_cells
+  pub priors : length new.priors.items ≡ many_priors
+  pub cell_order : length new.cell_order.items ≡ many_cells
+  pub prior_order : length new.prior_order.items ≡ many_priors
+  pub rest : shape_contents new ≡ with_names (shape_contents old) new.cells.items new.priors.items
+  pub entry_order : new.entry_order.items ≡ old.entry_order.items
+
+-- there is room for this many names of cells and of tracked masks, and for their orders
+pub record HasNameRoom (many_cells many_priors : ℕ) (t : LazyShape) : Type 0 where
+  pub rows : HasRows many_cells many_priors t.shape
+  pub few_cells : many_cells ≤ t.orders
+  pub few_priors : many_priors ≤ t.orders
   pub few : t.orders ≤ 2 ^ 32
 
 -- a shape is this one but for its names of cells and tracked masks, and is it once these are made
@@ -35,13 +49,15 @@ pub record IsLazy (whole : ShapeContents) (t : LazyShape) : Type 0 where
   pub paired : IsPaired whole
   pub entries : IsOrder (entry_names whole) t.shape.entry_order.items
   pub short : length_of whole ≤ 8388608
-  pub room : HasNameRoom whole t
+  pub room : HasNameRoom (length whole.cells) (length whole.priors) t
   pub made : t.named ≡ true → IsWhole whole t.shape
 
 -- the names of cells and tracked masks of a shape are those of a table, which has a number for each
 pub record NamesTable (table : TableSeen) (whole : ShapeContents) : Type 0 where
   pub cells : map cell_name (cells_of table.nodes) ≡ whole.cells
   pub priors : map tracked_name (tracked_of table.nodes) ≡ whole.priors
+  pub many_cells : length table.cells ≡ length whole.cells
+  pub many_priors : length table.priors ≡ length whole.priors
 
 -- the names are made, in the room that there is
 pub record MakesNames (whole : ShapeContents) (old new : LazyShape) : Type 0 where
@@ -49,20 +65,13 @@ pub record MakesNames (whole : ShapeContents) (old new : LazyShape) : Type 0 whe
   pub whole_now : IsWhole whole new.shape
   pub room : new.room ≡ old.room
 
--- a shape and its orders are those of another one
-pub record IsCopy (shape copy : Shape) : Type 0 where
-  pub same : shape_contents copy ≡ shape_contents shape
-  pub cell_order : copy.cell_order.items ≡ shape.cell_order.items
-  pub prior_order : copy.prior_order.items ≡ shape.prior_order.items
+-- a shape is another one but for its names of cells and tracked masks, of which it has room for this many
+pub record IsCopy (many_cells many_priors : ℕ) (shape copy : Shape) : Type 0 where
+  pub same : shape_contents copy ≡ with_names (shape_contents shape) copy.cells.items copy.priors.items
+  pub rows : HasRows many_cells many_priors copy
   pub entry_order : copy.entry_order.items ≡ shape.entry_order.items
 
 -- there is room for the names of a table
 pub record MayName (table : TableSeen) (t : LazyShape) : Type 0 where
   pub nodes : length table.nodes ≤ t.room
-  pub cells : length t.shape.cells.items ≡ length table.cells
-  pub priors : length t.shape.priors.items ≡ length table.priors
-  pub cell_order : length t.shape.cell_order.items ≡ length table.cells
-  pub prior_order : length t.shape.prior_order.items ≡ length table.priors
-  pub few_cells : length table.cells ≤ t.orders
-  pub few_priors : length table.priors ≤ t.orders
-  pub few : t.orders ≤ 2 ^ 32
+  pub room : HasNameRoom (length table.cells) (length table.priors) t

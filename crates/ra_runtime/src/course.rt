@@ -1,4 +1,4 @@
-ghost use Rattle.std.specs.Prelude.{◌≡◌, ◌++◌, ◌+◌, ◌-◌, ◌≤◌, ◌^◌, ℕ, List, [], None, Some, false, option_map, not, count_by, length, slice_index_or, IfOk, IfErr, OnOk, OnErr};
+ghost use Rattle.std.specs.Prelude.{◌≡◌, ◌++◌, ◌+◌, ◌-◌, ◌≤◌, ◌^◌, ℕ, List, [], None, Some, true, false, option_map, not, count_by, length, slice_index_or, IfOk, IfErr, OnOk, OnErr};
 ghost use Rattle.ra_set.specs.Contents.{set_contents};
 ghost use Rattle.ra_set.specs.Limits.{IsWithinLimits};
 ghost use Rattle.ra_set.specs.Names.{IsNamed};
@@ -149,7 +149,8 @@ impl Course {
         ensures size { result ≡ length_of (shape_of self.now.set) }
         ensures short { result ≤ 8388608 }
     {
-        file_length(&self.shape.shape)
+        let names = self.table.cells().len() as u64 + self.table.priors().len() as u64;
+        file_length(&self.shape.shape, names)
     }
 
     /// Tells that `count` bytes from the address `at` on may have changed.
@@ -278,11 +279,21 @@ impl Course {
         self.last = None;
     }
 
+    // Whether a kept state is of this set.
+    fn has_kept(&self, kept: &Kept) -> bool
+        ensures so { result ≡ true → IsKeptFor (shape_of self.now.set) kept.now }
+        ensures only { IsKeptFor (shape_of self.now.set) kept.now → result ≡ true }
+    {
+        let (cells, priors) = (self.table.cells().len(), self.table.priors().len());
+        kept.is_for(&self.shape.shape, cells, priors)
+    }
+
     // Room for a kept state of this set.
     pub(crate) fn room(&self, alloc: Global) -> Result<Kept, OutOfMemory>
         ensures { IfOk result (IsKeptFor (shape_of self.now.set)) }
     {
-        Kept::room(alloc, &self.shape.shape)
+        let (cells, priors) = (self.table.cells().len(), self.table.priors().len());
+        Kept::room(alloc, &self.shape.shape, cells, priors)
     }
 
     /// Keeps the present state in memory, numbers alone, in the place of the one that was kept there: docs/DEFINITIONS.md,
@@ -296,7 +307,7 @@ impl Course {
         ensures other { OnErr result (IsKeptFor (shape_of self.now.set) kept.old → ⊥) }
         ensures err { OnErr result (kept.new ≡ kept.old) }
     {
-        if !kept.is_for(&self.shape.shape) {
+        if !self.has_kept(kept) {
             return Err(OtherSet);
         }
         kept.note_numbers(self.count, self.table.cells(), self.table.priors());
@@ -314,7 +325,7 @@ impl Course {
         ensures other { OnErr result (IsKeptFor (shape_of self.old.set) kept.now → ⊥) }
         ensures err { OnErr result (self.new ≡ self.old) }
     {
-        if !kept.is_for(&self.shape.shape) {
+        if !self.has_kept(kept) {
             return Err(OtherSet);
         }
         self.take_kept(kept);

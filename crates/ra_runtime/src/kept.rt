@@ -55,7 +55,7 @@ impl Model for Kept {
 }
 
 impl Kept {
-    ghost use Rattle.ra_runtime.specs.Keeping.{AreLent, HasLines, IsKeptFor};
+    ghost use Rattle.ra_runtime.specs.Keeping.{AreLent, HasLines, IsKeptFor, IsKeptOf};
 
     /// The state that a course keeps now, with room for each later one of its set: docs/DEFINITIONS.md, "States kept in
     /// memory".
@@ -70,14 +70,19 @@ impl Kept {
         Ok(kept)
     }
 
-    // Room for what a set of this shape keeps. What it holds is of no use yet.
-    pub(crate) fn room(alloc: Global, shape: &Shape) -> Result<Kept, OutOfMemory>
+    // Room for what a set of this shape keeps, with this many cells and tracked masks. What it holds is of no use yet.
+    pub(crate) fn room(
+        alloc: Global,
+        shape: &Shape,
+        cells: usize,
+        priors: usize,
+    ) -> Result<Kept, OutOfMemory>
         requires few { length shape.now.items.items ≤ 16384 }
         requires lines { IfSome shape.now.presence HasLines }
-        ensures { IfOk result (IsKeptFor (shape_contents shape.now)) }
+        ensures { IfOk result (IsKeptOf cells priors (shape_contents shape.now)) }
     {
-        let cells = vec![in alloc; 0; shape.cells.len()]?;
-        let priors = vec![in alloc; 0; shape.priors.len()]?;
+        let cells = vec![in alloc; 0; cells]?;
+        let priors = vec![in alloc; 0; priors]?;
         let mut items = Vec::new(alloc);
         items.extend_from_slice(&shape.items)?;
         let (places, display) = places_of(alloc, &shape.items)?;
@@ -131,14 +136,14 @@ impl Kept {
         (&self.bytes, &self.places, Some(self.display))
     }
 
-    // Whether it is for a set of this shape.
-    pub(crate) fn is_for(&self, shape: &Shape) -> bool
-        ensures so { result ≡ true → IsKeptFor (shape_contents shape.now) self.now }
-        ensures only { IsKeptFor (shape_contents shape.now) self.now → result ≡ true }
+    // Whether it is for a set of this shape, with this many cells and tracked masks.
+    pub(crate) fn is_for(&self, shape: &Shape, cells: usize, priors: usize) -> bool
+        ensures so { result ≡ true → IsKeptOf cells priors (shape_contents shape.now) self.now }
+        ensures only { IsKeptOf cells priors (shape_contents shape.now) self.now → result ≡ true }
     {
         self.digest == shape.digest
-            && self.cells.len() == shape.cells.len()
-            && self.priors.len() == shape.priors.len()
+            && self.cells.len() == cells
+            && self.priors.len() == priors
             && self.presence == shape.presence
             && same_shapes(&self.items, &shape.items)
     }

@@ -1,6 +1,7 @@
 //! The shape of a set, and a table that is laid out for it.
 
 ghost use Rattle.std.specs.Prelude.{◌≡◌, [], ◌+◌, ◌≤◌, ◌<◌, ◌^◌, length, map, option_map, All, IfOk};
+ghost use Rattle.std.specs.Vec.{vec_capacity};
 ghost use Rattle.ra_set.specs.Contents.{set_contents};
 ghost use Rattle.ra_set.specs.Limits.{IsWithinLimits};
 ghost use Rattle.ra_set.specs.Names.{IsNamed};
@@ -209,18 +210,18 @@ fn shape_with(
     })
 }
 
-// Zeros in the place of this many names of cells and of tracked masks, and of their orders.
+// No names of cells and of tracked masks and none of their orders, with memory for this many.
 fn no_naming(alloc: Global, cells: usize, priors: usize) -> Result<Naming, OutOfMemory>
-    ensures cells { IfOk result (λ naming. length naming.cells.items ≡ cells) }
-    ensures priors { IfOk result (λ naming. length naming.priors.items ≡ priors) }
-    ensures cell_order { IfOk result (λ naming. length naming.cell_order.items ≡ cells) }
-    ensures prior_order { IfOk result (λ naming. length naming.prior_order.items ≡ priors) }
+    ensures cells { IfOk result (λ naming. vec_capacity naming.cells ≡ cells) }
+    ensures priors { IfOk result (λ naming. vec_capacity naming.priors ≡ priors) }
+    ensures cell_order { IfOk result (λ naming. vec_capacity naming.cell_order ≡ cells) }
+    ensures prior_order { IfOk result (λ naming. vec_capacity naming.prior_order ≡ priors) }
 {
     Ok(Naming {
-        cells: vec![in alloc; [0; 16]; cells]?,
-        priors: vec![in alloc; [0; 16]; priors]?,
-        cell_order: vec![in alloc; 0; cells]?,
-        prior_order: vec![in alloc; 0; priors]?,
+        cells: Vec::with_capacity(alloc, cells)?,
+        priors: Vec::with_capacity(alloc, priors)?,
+        cell_order: Vec::with_capacity(alloc, cells)?,
+        prior_order: Vec::with_capacity(alloc, priors)?,
     })
 }
 
@@ -246,9 +247,10 @@ pub(crate) fn shape_and_room(
     ensures names { IfOk result (λ both. length table.now.nodes ≤ both.0.room) }
     ensures room { IfOk result (λ both. IsRoom (spec.shape_of (set_contents set.now)) both.1) }
 {
-    let naming = no_naming(alloc, table.cells().len(), table.priors().len())?;
+    let (cells, priors) = (table.cells().len(), table.priors().len());
+    let naming = no_naming(alloc, cells, priors)?;
     let shape = shape_with(alloc, set, runs, presence_shape(presence), naming)?;
-    let said = Said::new(alloc, &shape)?;
-    let lazy = LazyShape::new(alloc, shape, table.node_count())?;
+    let said = Said::new(alloc, cells, priors, &shape)?;
+    let lazy = LazyShape::new(alloc, shape, table.node_count(), cells, priors)?;
     Ok((lazy, said))
 }

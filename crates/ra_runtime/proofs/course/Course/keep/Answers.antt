@@ -25,10 +25,9 @@ pub note_blocks-requires-clause-items : goal.note_blocks-requires-clause-items
 note_blocks-requires-clause-items c =
     let t = c.self.inside in
     let inv = c.self.invariant in
-    let yes : c.is_for.result ≡ true = c.if-not-is_for.false in
-    let for_it : IsKeptFor (shape_contents t.shape.shape) c.args.kept.now = c.is_for.ensures.so yes in
-    let shaped = runs_shaped t.table.nodes (set_contents t.set).items t.runs.items inv.runs
-    ∙ ap (λ (s : ShapeContents). s.items) (sym inv.lazy.shape) in
+    let for_it : IsKeptFor (shape_of (set_contents t.set)) c.args.kept.now =
+    rw (← c.self.view_is) at (c.has_kept.ensures.so c.if-not-has_kept.false) in
+    let shaped = runs_shaped t.table.nodes (set_contents t.set).items t.runs.items inv.runs in
     ap (λ (k : KeptSeen). k.items) c.note_numbers.ensures.noted ∙ for_it.items ∙ sym shaped
     ∙ ap (map run_shape) (sym c.deref.ensures.value)
 
@@ -54,10 +53,9 @@ pub note_blocks-requires-clause-presence : goal.note_blocks-requires-clause-pres
 note_blocks-requires-clause-presence c =
     let t = c.self.inside in
     let inv = c.self.invariant in
-    let yes : c.is_for.result ≡ true = c.if-not-is_for.false in
-    let for_it : IsKeptFor (shape_contents t.shape.shape) c.args.kept.now = c.is_for.ensures.so yes in
+    let for_it : IsKeptFor (shape_of (set_contents t.set)) c.args.kept.now =
+    rw (← c.self.view_is) at (c.has_kept.ensures.so c.if-not-has_kept.false) in
     ap (λ (k : KeptSeen). k.presence) c.note_numbers.ensures.noted ∙ for_it.presence
-    ∙ ap (λ (s : ShapeContents). s.presence) inv.lazy.shape
     ∙ sym (presence_shaped t.table.nodes (set_contents t.set).script t.presence inv.presence)
 
 pub note_blocks-requires-clause-lines : goal.note_blocks-requires-clause-lines

@@ -1,7 +1,7 @@
-use Rattle.std.proofs.Common.{◌≡◌, None, length, slice_index_or, refl, ◌∙◌, ap, subst, arith}
+use Rattle.std.proofs.Common.{◌≡◌, None, length, slice_index_or, refl, sym, ◌∙◌, ap, subst, arith}
 use Rattle.ra_set.specs.Contents.{set_contents}
 use Rattle.ra_progress.specs.Contents.{ShapeContents}
-use Rattle.ra_progress.specs.Room.{IsRoom, Says}
+use Rattle.ra_progress.specs.Room.{IsFilled, IsRoom, Says}
 use Rattle.ra_runtime.proofs.PutBack.{IsPutBack, back_earned, back_seen, back_shown, course_back, current_back}
 use Rattle.ra_runtime.proofs.LazyNames.{FitNumbers, course_made, numbers_fit}
 use Rattle.ra_runtime.proofs.TakenUp.{over_restored, marked_restored, kept_restored}
@@ -14,14 +14,15 @@ read-requires c =
     record {
       accepted = accepted_made c.self.invariant made c.self.view_is c.requires;
       usable = made.whole_now.usable;
-      room = rw made.whole_now.same c.self.invariant.room;
+      room = subst (λ (s : ShapeContents). IsRoom s c.self.inside.said) (sym made.whole_now.same)
+          c.self.invariant.room;
     }
 
 pub take_numbers-requires : goal.take_numbers-requires
 take_numbers-requires c =
     let made = course_made c.self.inside c.self.invariant c.make.new.self c.make.ensures in
     let f : FitNumbers c.self.inside.table c.read.new.self.cells.items c.read.new.self.priors.items =
-    numbers_fit c.self.inside c.self.invariant c.make.new.self made c.read.new.self c.read.ensures.room in
+    numbers_fit c.self.inside c.self.invariant c.make.new.self made c.read.new.self c.read.ensures.filled in
     rw (c.deref.ensures.value, c.deref-2.ensures.value)
     (record { cells = f.cells_many; priors = f.priors_many; few_cells = f.few_cells; few_priors = f.few_priors })
 
@@ -29,7 +30,7 @@ pub put_back_runs-requires : goal.put_back_runs-requires
 put_back_runs-requires c =
     let made = course_made c.self.inside c.self.invariant c.make.new.self c.make.ensures in
     rw (c.deref_mut.ensures.value, c.deref-3.ensures.value) (record {
-      many = many_places c.self.invariant made c.self.view_is c.requires c.read.new.self c.read.ensures.room;
+      many = many_places c.self.invariant made c.self.view_is c.requires c.read.new.self c.read.ensures.filled;
       blocks = items_made c.self.invariant made c.self.view_is c.requires _ c.read.ensures.says.places;
     })
 
@@ -65,8 +66,10 @@ pub invariant_of-self : goal.invariant_of-self
 invariant_of-self c =
     let made = course_made c.self.inside c.self.invariant c.make.new.self c.make.ensures in
     let room = subst (λ (s : ShapeContents). IsRoom s c.read.new.self) made.whole_now.same c.read.ensures.room in
+    let filled = subst (λ (s : ShapeContents). IsFilled s c.read.new.self) made.whole_now.same c.read.ensures.filled in
     course_back c.self.invariant (back c) c.make.new.self made.lazy (rw made.room c.self.invariant.names)
-    c.read.new.self room (over_restored _ _ _ c.self.invariant.over c.args.bytes.now _ room (back c).takes) _ None refl
+    c.read.new.self room (over_restored _ _ _ c.self.invariant.over c.args.bytes.now _ filled (back c).takes) _ None
+    refl
 
 pub returns-clause-taken : goal.returns-clause-taken
 returns-clause-taken c =
@@ -75,7 +78,7 @@ returns-clause-taken c =
     let inv = c.self.invariant in
     let made = course_made t inv c.make.new.self c.make.ensures in
     let said = c.read.new.self in
-    let room = subst (λ (s : ShapeContents). IsRoom s said) made.whole_now.same c.read.ensures.room in
+    let room = subst (λ (s : ShapeContents). IsFilled s said) made.whole_now.same c.read.ensures.filled in
     let says = subst (λ (s : ShapeContents). Says s c.args.bytes.now said) made.whole_now.same c.read.ensures.says in
     rw (← c.self.view_is) (λ image. record {
       set = refl;
@@ -95,6 +98,6 @@ returns-clause-taken c =
 pub returns-clause-current : goal.returns-clause-current
 returns-clause-current c =
     let made = course_made c.self.inside c.self.invariant c.make.new.self c.make.ensures in
-    let room = subst (λ (s : ShapeContents). IsRoom s c.read.new.self) made.whole_now.same c.read.ensures.room in
+    let room = subst (λ (s : ShapeContents). IsFilled s c.read.new.self) made.whole_now.same c.read.ensures.filled in
     current_back c.self.invariant (back c)
     (over_restored _ _ _ c.self.invariant.over c.args.bytes.now c.read.new.self room (back c).takes)
