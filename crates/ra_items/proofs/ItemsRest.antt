@@ -1,4 +1,6 @@
 -- An item that rested at a frame goes on to rest while it sees the same.
+use Rattle.std.specs.Prelude.{Box}
+use Rattle.std.specs.declared.alloc.Global.{Global}
 use Rattle.std.proofs.Common.{◌≡◌, ℕ, zero, suc, ◌+◌, ◌-◌, ◌==◌, ◌&&◌, ◌||◌, not, Bool, true, false, if◌then◌else◌}
 use Rattle.std.proofs.Common.{List, [], ◌∷◌, ◌++◌, length, map, get_or, refl, sym, ◌∙◌, ap, ap₂}
 use Rattle.std.proofs.lemmas.Bool.{eq-eqb}
@@ -281,9 +283,11 @@ rows_many m kept fits =
     ∙ as_many (map (λ (v : ValueKept). v.hits) kept.values) m.values value_hits fits.hits
 
 -- boards
-module _ (table : TableSeen) (id : ℕ) (format : Format) (b : BoardContents) (mid new : BoardRun) (c : MemberCounts)
+module _ (table : TableSeen) (id : ℕ) (format : Format) (b : BoardContents) (mid new : BoardRun)
+    (c : Box MemberCounts Global)
     (is : IsBoardRun table.nodes b mid) (is_new : IsBoardRun table.nodes b new)
-    (steps : StepsItem table (Ranks id format b) (Leaderboard mid) (Leaderboard new)) (rested : BoardRested b c mid new)
+    (steps : StepsItem table (Ranks id format b) (Leaderboard mid) (Leaderboard new))
+    (rested : BoardRested b c.value mid new)
     (start : Start) (image : List ℕ) (has : AreValuesAt table.nodes table.values (first_frame start image)) where
   abbrev m : MemberContents
   m = board_member b
@@ -298,7 +302,7 @@ module _ (table : TableSeen) (id : ℕ) (format : Format) (b : BoardContents) (m
   owed_board n = record { state = now.state; member = owed_member n old.member now.member }
 
   -- what is owed by bits is owed by the hits before the step and after it
-  board_owes : (n : ℕ) → board_owed n c new ≡ kept_board (owed_board n)
+  board_owes : (n : ℕ) → board_owed n c.value new ≡ kept_board (owed_board n)
   board_owes n =
       ap (λ k. kept_board (record { state = now.state; member = k }))
       (ap (λ bits. owed_member_by n bits now.member) rested.bits ∙ counted_owes_member n old.member now.member)

@@ -1,4 +1,6 @@
 -- The blocks of items as they are seen, written one after another.
+use Rattle.std.specs.Prelude.{Box}
+use Rattle.std.specs.declared.alloc.Global.{Global}
 use Rattle.std.proofs.Common.{◌≡◌, ℕ, ◌+◌, ◌<◌, ◌≤◌, ◌^◌, Bool, Option, None, Some, List, [], ◌∷◌, ◌++◌, length, map}
 use Rattle.std.proofs.Common.{take, get_or, sum_by, refl, sym, ◌∙◌, ap, subst, arith, append_assoc, append-nil}
 use Rattle.std.proofs.Common.{length-append}
@@ -38,12 +40,13 @@ use Rattle.ra_items.proofs.SaveLemmas.{achievement_kept_fits, board_kept_fits}
 abbrev pub seen_trigger : AchievementRun → CountsSeen → Option ℕ → TriggerKept
 seen_trigger run b owed = record run.run.trigger { hits = seen_hits owed b.counted run.run.trigger.hits }
 
-pub seen_board : (run : BoardRun) (b : MemberCounts) (owed : Option ℕ) → CountsFit (counts_of b) (kept_by run.member)
-    → OfBoard (board_byte run.board) (saved_hits (seen_line run.member b owed))
+pub seen_board : (run : BoardRun) (b : Box MemberCounts Global) (owed : Option ℕ)
+    → CountsFit (counts_of b.value) (kept_by run.member)
+    → OfBoard (board_byte run.board) (saved_hits (seen_line run.member b.value owed))
     (saved_numbers (kept_by run.member)) ≡ seen_run (Leaderboard run) (counts.Leaderboard b) owed
 seen_board run b None shape = refl
 seen_board run b (Some n) shape = ap (OfBoard (board_byte run.board) (saved_hits (seen_line
-    run.member b (Some n)))) (sym (saved_stay_by n (counts_of b) (kept_by run.member) shape))
+    run.member b.value (Some n)))) (sym (saved_stay_by n (counts_of b.value) (kept_by run.member) shape))
 
 -- there are as many hits with what is owed
 seen_long : (owed : Option ℕ) (counted : List Bool) (hits : List ℕ) → length (seen_hits owed counted hits) ≡ length hits

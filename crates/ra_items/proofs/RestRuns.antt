@@ -43,7 +43,10 @@ run_at_most n (counts.Achievement b) (Achievement run) =
       hits = owed_by_at_most n b.counted run.run.trigger.hits i;
     }))
 run_at_most n (counts.Leaderboard b) (Leaderboard run) =
-    (λ i. kept_board (record { state = run.board; member = member_by_at_most n (counts_of b) (kept_by run.member) i }))
+    (λ i. kept_board (record {
+      state = run.board;
+      member = member_by_at_most n (counts_of b.value) (kept_by run.member) i;
+    }))
 run_at_most n (counts.Achievement b) (Leaderboard run) = refl
 run_at_most n (counts.Leaderboard b) (Achievement run) = refl
 

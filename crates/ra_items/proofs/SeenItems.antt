@@ -50,7 +50,8 @@ one_shape nodes (Unlocks id t) (counts.Achievement b) (Leaderboard run) is room 
 one_shape nodes (Ranks id format b) (counts.Achievement room_of) run is room = absurd room
 one_shape nodes (Ranks id format b) (counts.Leaderboard room_of) (Achievement run) is room = absurd is
 one_shape nodes (Ranks id format b) (counts.Leaderboard room_of) (Leaderboard run) is room =
-    counts_fit (board_member b) room_of room (kept_by run.member) (member_shape nodes (board_member b) run.member is)
+    counts_fit (board_member b) room_of.value room (kept_by run.member)
+    (member_shape nodes (board_member b) run.member is)
 
 -- there is a bit for each hit of the run at a place
 pub fitting_at : (k : ℕ) (runs : List ItemRun) (befores : List ItemCounts) (run : ItemRun)
@@ -111,12 +112,13 @@ module _ (nodes : List Node) where
       let now = board_kept run in
       let m = board_member b in
       let shape = member_shape nodes m run.member is in
-      let fit = counts_fit m room_of room now.member shape in
-      let owes : BoardKept = record { state = now.state; member = owed_member_by n (counts_of room_of) now.member } in
+      let fit = counts_fit m room_of.value room now.member shape in
+      let owes : BoardKept =
+      record { state = now.state; member = owed_member_by n (counts_of room_of.value) now.member } in
       ap (states.Leaderboard run.board) (sym (tracked_by owes.member.values now.member.values
-      (owed_by_numbers n (counts_of room_of) now.member fit)))
+      (owed_by_numbers n (counts_of room_of.value) now.member fit)))
       ∙ ap (λ k. states.Leaderboard k.state (tracked_number k))
-      (sym (board_again b owes (owed_by_fits n m (counts_of room_of) now.member fit shape)))
+      (sym (board_again b owes (owed_by_fits n m (counts_of room_of.value) now.member fit shape)))
   stands_one (Ranks id format b) (Leaderboard run) (counts.Achievement room_of) (Some n) is room = absurd room
 
   -- item by item

@@ -54,7 +54,7 @@ board_owed n c run = kept_board
 -- what an item keeps after n frames more at rest, where these of its conditions count
 abbrev pub owed_run : ℕ → ItemCounts → ItemRun → KeptItem
 owed_run n (counts.Achievement c) (Achievement run) = trigger_owed n c run
-owed_run n (counts.Leaderboard c) (Leaderboard run) = board_owed n c run
+owed_run n (counts.Leaderboard c) (Leaderboard run) = board_owed n c.value run
 owed_run n _ run = kept_run run
 
 -- what an item is seen to keep, where it owes this many frames, or does not rest
@@ -65,7 +65,7 @@ seen_run run b (Some frames) = owed_run frames b run
 -- there is a bit for each condition of an item
 abbrev pub HasRoom : ItemContents → ItemCounts → Type 0
 HasRoom (Unlocks id t) (counts.Achievement c) = IsFor (free_in InTrigger (groups_of t)) c
-HasRoom (Ranks id format b) (counts.Leaderboard c) = AreFor (board_member b) c
+HasRoom (Ranks id format b) (counts.Leaderboard c) = AreFor (board_member b) c.value
 HasRoom _ _ = ⊥
 
 -- a room holds what an achievement keeps, whose hits are of 32 bits
@@ -126,7 +126,7 @@ pub record BoardRested (b : BoardContents) (c : MemberCounts) (old new : BoardRu
 -- an item rested at a step
 abbrev pub Rested : ItemContents → ItemCounts → (old new : ItemRun) → Type 0
 Rested (Unlocks id t) (counts.Achievement c) (Achievement old) (Achievement new) = TriggerRested t c old new
-Rested (Ranks id format b) (counts.Leaderboard c) (Leaderboard old) (Leaderboard new) = BoardRested b c old new
+Rested (Ranks id format b) (counts.Leaderboard c) (Leaderboard old) (Leaderboard new) = BoardRested b c.value old new
 Rested _ _ _ _ = ⊥
 
 -- an item sees the same at two instants
@@ -153,7 +153,7 @@ pub record GoesOn (nodes : List Node) (values : List ℕ) (item : ItemContents) 
 -- there is a bit for each hit that a run keeps
 abbrev pub FitsRun : ItemCounts → ItemRun → Type 0
 FitsRun (counts.Achievement c) (Achievement run) = length c.counted ≡ length run.run.trigger.hits
-FitsRun (counts.Leaderboard c) (Leaderboard run) = CountsFit (counts_of c) (kept_by run.member)
+FitsRun (counts.Leaderboard c) (Leaderboard run) = CountsFit (counts_of c.value) (kept_by run.member)
 FitsRun _ _ = ⊥
 
 -- an item is stepped with what it owes paid, and it is noted which of its conditions counted where it rests

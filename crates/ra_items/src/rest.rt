@@ -37,7 +37,7 @@ use std::alloc::Global;
 #[derive(Drop)]
 pub enum ItemCounts {
     Achievement(Counts),
-    Leaderboard(MemberCounts),
+    Leaderboard(Box<MemberCounts>),
 }
 
 impl ItemCounts {
@@ -51,7 +51,7 @@ impl ItemCounts {
                 Ok(ItemCounts::Achievement(counts))
             }
             Item::Leaderboard { text, .. } => {
-                let counts = board_counts(alloc, text)?;
+                let counts = Box::new(alloc, board_counts(alloc, text)?)?;
                 Ok(ItemCounts::Leaderboard(counts))
             }
         }

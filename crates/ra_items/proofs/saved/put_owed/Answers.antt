@@ -13,38 +13,40 @@ use Rattle.ra_items.specs.declared.item_run.ItemRun.TheVariants.{Leaderboard}
 use Rattle.ra_items.specs.Resting.{owed_run}
 use Rattle.ra_items.specs.Shapes.{run_shape}
 use Rattle.ra_schedule.proofs.MembersRest.Counted.{bits_many, saved_owed_by, saved_stay_by}
+use Rattle.ra_schedule.specs.declared.member_counts.MemberCounts.{MemberCounts}
 use Rattle.ra_items.proofs.saved.put_owed.Goals as goal
 
 pub pay-requires-in-Leaderboard-Leaderboard : goal.pay-requires-in-Leaderboard-Leaderboard
 pay-requires-in-Leaderboard-Leaderboard c =
     let run = c.in-Leaderboard-Leaderboard.run' in
     let old = c.in-Leaderboard-Leaderboard.counts in
-    let shape : CountsFit (counts_of old) (kept_by run.member) =
+    let shape : CountsFit (counts_of old.value) (kept_by run.member) =
     rw (c.in-Leaderboard-Leaderboard.is-0, c.in-Leaderboard-Leaderboard.is-1) at c.requires.fits in
     let hits : c.save.new.hits.items ≡ saved_hits (kept_by run.member) =
     c.in_ok-save-in-Leaderboard-Leaderboard.ensures.hits.all
     ∙ ap (λ xs. xs ++ saved_hits (kept_by run.member)) c.new-hits.ensures.items in
-    ap length (c.deref-in-Leaderboard-Leaderboard.ensures.value ∙ c.in_ok-row-in-Leaderboard-Leaderboard.ensures)
-    ∙ bits_many (counts_of old) (kept_by run.member) shape
+    ap length (c.deref-in-Leaderboard-Leaderboard-2.ensures.value ∙ c.in_ok-row-in-Leaderboard-Leaderboard.ensures
+    ∙ ap (λ (n : MemberCounts). bits_in (counts_of n)) c.deref-in-Leaderboard-Leaderboard.ensures)
+    ∙ bits_many (counts_of old.value) (kept_by run.member) shape
     ∙ sym (ap length (c.deref_mut-in-Leaderboard-Leaderboard.ensures.value ∙ hits))
 
 -- the hits and the numbers that are written are those that are owed
 kept_is : (c : goal.After-drop-hits-in-Leaderboard-Leaderboard)
     → OfBoard (board_byte c.in-Leaderboard-Leaderboard.run'.board)
-    c.deref-in-Leaderboard-Leaderboard-2.result.now c.deref-in-Leaderboard-Leaderboard-3.result.now
+    c.deref-in-Leaderboard-Leaderboard-3.result.now c.deref-in-Leaderboard-Leaderboard-4.result.now
     ≡ owed_run c.args.frames c.args.counts.now c.args.run.now
 kept_is c =
     let run = c.in-Leaderboard-Leaderboard.run' in
     let old = c.in-Leaderboard-Leaderboard.counts in
     let frames = c.args.frames in
-    let one = counts_of old in
+    let one = counts_of old.value in
     let other = kept_by run.member in
     let shape : CountsFit one other =
     rw (c.in-Leaderboard-Leaderboard.is-0, c.in-Leaderboard-Leaderboard.is-1) at c.requires.fits in
     let put = c.in_ok-save-in-Leaderboard-Leaderboard.ensures in
-    let row : c.deref-in-Leaderboard-Leaderboard.result.now ≡ bits_in one =
-    c.deref-in-Leaderboard-Leaderboard.ensures.value
-    ∙ c.in_ok-row-in-Leaderboard-Leaderboard.ensures in
+    let row : c.deref-in-Leaderboard-Leaderboard-2.result.now ≡ bits_in one =
+    c.deref-in-Leaderboard-Leaderboard-2.ensures.value ∙ c.in_ok-row-in-Leaderboard-Leaderboard.ensures
+    ∙ ap (λ (n : MemberCounts). bits_in (counts_of n)) c.deref-in-Leaderboard-Leaderboard.ensures in
     let were : c.deref_mut-in-Leaderboard-Leaderboard.result.now ≡ saved_hits other =
     c.deref_mut-in-Leaderboard-Leaderboard.ensures.value ∙ put.hits.all
     ∙ ap (λ xs. xs ++ saved_hits other) c.new-hits.ensures.items in
@@ -56,15 +58,15 @@ kept_is c =
       c.deref_mut-in-Leaderboard-Leaderboard.ensures.len,
       c.save.new.hits.ok,
     ) in
-    let now : c.deref-in-Leaderboard-Leaderboard-2.result.now ≡ paid_hits =
-    c.deref-in-Leaderboard-Leaderboard-2.ensures.value
+    let now : c.deref-in-Leaderboard-Leaderboard-3.result.now ≡ paid_hits =
+    c.deref-in-Leaderboard-Leaderboard-3.ensures.value
     ∙ take-append-le c.save.new.hits.len paid_hits (drop (length paid_hits) c.save.new.hits.items)
     (omega (arith, long)) ∙ take_all c.save.new.hits.len paid_hits (omega (arith, long)) in
-    let hits : c.deref-in-Leaderboard-Leaderboard-2.result.now ≡ saved_hits (owed_member_by frames one other) =
+    let hits : c.deref-in-Leaderboard-Leaderboard-3.result.now ≡ saved_hits (owed_member_by frames one other) =
     now ∙ c.pay-in-Leaderboard-Leaderboard.ensures ∙ ap₂ (owed_by frames) row were
     ∙ saved_owed_by frames one other shape in
-    let numbers : c.deref-in-Leaderboard-Leaderboard-3.result.now ≡ saved_numbers (owed_member_by frames one other) =
-    c.deref-in-Leaderboard-Leaderboard-3.ensures.value ∙ put.numbers.all ∙ ap (λ xs. xs ++
+    let numbers : c.deref-in-Leaderboard-Leaderboard-4.result.now ≡ saved_numbers (owed_member_by frames one other) =
+    c.deref-in-Leaderboard-Leaderboard-4.ensures.value ∙ put.numbers.all ∙ ap (λ xs. xs ++
     saved_numbers other) c.new-numbers.ensures.items ∙ sym (saved_stay_by frames one other shape) in
     ap₂ (OfBoard (board_byte run.board)) hits numbers ∙ sym
     (ap₂ (owed_run frames) c.in-Leaderboard-Leaderboard.is-1 c.in-Leaderboard-Leaderboard.is-0)
