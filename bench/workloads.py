@@ -22,6 +22,9 @@ many.set     over saves.trace and restores.trace: 100 of these records; over sav
              over many-ten.trace: ten frames with such writes, and over still-ten.trace: ten frames and no write
              over due.trace: 12 frames, each behind another value of every byte; due-one.trace has two of these frames,
              and in due-still.trace each has a frame with no write behind it
+flips.set    4,000 achievements of 8 conditions over 8 bytes of their own, half of which hold where a byte is 0 and half where it is 255
+             over flips-D.trace: 25 frames, at which by D change: each byte at each frame (1), each second (2), each third (3); 80 % of
+             the items' bytes at each frame (80); each byte takes a random value (random); flips-D-one.trace has one of these frames
 looks.set    4,000 achievements of 8 conditions that look at one byte, of which 7 count hits, and one of 40 other bytes
              over looked.trace: 41 frames, each behind another value of this byte; looked-one.trace has one of these frames
              over woken.trace: such a frame behind 40 frames with no write, three times, and one more; rested.trace ends before that
@@ -84,6 +87,29 @@ def due_trace(frames, behind=b"F"):
         for start in (0, 32768):
             trace += b"W" + start.to_bytes(4, "little") + len(half).to_bytes(2, "little") + half
         trace += behind
+    return bytes(trace + b"E")
+
+
+def flipping(number):
+    """An achievement whose 8 comparisons come out otherwise where its bytes change between 0 and 255, and never unlocks."""
+    pairs = [f"0xH{number * 16 + 2 * k:04x}{'<' if k % 2 else '>='}128" for k in range(8)]
+    return f"A {number + 1} " + "_".join(pairs) + "\n"
+
+
+def flip_trace(frames, kind):
+    """Bytes that change between 0 and 255, or take random values, before frames, in two writes."""
+    trace = bytearray(header(65536))
+    dice = random.Random(7)
+    share = 52_428 if kind == "80" else 65_536
+    period = int(kind) if kind in ("2", "3") else 1
+    for frame in range(frames):
+        if frame % period == 0:
+            half = share // 2
+            for start in (0, half):
+                byte = b"\xff" if frame // period % 2 else b"\0"
+                content = dice.randbytes(half) if kind == "random" else byte * half
+                trace += b"W" + start.to_bytes(4, "little") + half.to_bytes(2, "little") + content
+        trace += b"F"
     return bytes(trace + b"E")
 
 
@@ -273,6 +299,7 @@ def main(folder, frames):
         "pointers.set": "".join(behind_pointer(i + 1) for i in range(4000)).encode(),
         "pointers.trace": pointer_trace(21),
         "pointers-one.trace": pointer_trace(1),
+        "flips.set": "".join(flipping(i) for i in range(4000)).encode(),
         "looks.set": looks_set().encode(),
         "look-lines.set": look_lines_set().encode(),
         "looked.trace": looked_trace(41),
@@ -280,6 +307,9 @@ def main(folder, frames):
         "woken.trace": looked_trace(3, b"F" * 40, write(0x10, 151) + b"F"),
         "rested.trace": looked_trace(3, b"F" * 40),
     }
+    for kind in ("1", "2", "3", "80", "random"):
+        files[f"flips-{kind}.trace"] = flip_trace(25, kind)
+        files[f"flips-{kind}-one.trace"] = flip_trace(1, kind)
     for count in (1, 4, 10, 40, 400):
         files |= due_sets(count)
     places = named_bytes(files["real.set"].decode())
