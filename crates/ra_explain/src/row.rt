@@ -1,13 +1,12 @@
 //! The comparisons of a plan's conditions, read from a table.
 
 ghost use Rattle.std.specs.Prelude.{◌≡◌, true, length};
-ghost use Rattle.ra_operand.specs.Operators.{compared};
 ghost use Rattle.ra_member.specs.Runs.{MayFill};
 ghost use Rattle.ra_explain.specs.RowLists.{truths_laid};
 
 use ra_member::Laid;
 use ra_memref::Table;
-use ra_operand::{Op, compare};
+use ra_operand::holds;
 
 // Reads whether each comparison holds at the table's last sample.
 pub(crate) fn read_row(laid: &Laid, table: &Table, row: &mut [bool])
@@ -21,15 +20,5 @@ pub(crate) fn read_row(laid: &Laid, table: &Table, row: &mut [bool])
         let left = table.value(sides.left);
         let right = table.value(sides.right);
         row[place] = holds(sides.op, left, right);
-    }
-}
-
-// Whether a comparison holds; arithmetic compares nothing.
-fn holds(op: Op, left: u32, right: u32) -> bool
-    ensures { result ≡ compared op left right }
-{
-    match op {
-        Op::Mul | Op::Div | Op::And | Op::Xor | Op::Rem | Op::Add | Op::Sub => false,
-        _ => compare(op, left, right),
     }
 }

@@ -1,13 +1,12 @@
 //! The numbers of a table's nodes, read for the conditions of some groups.
 
 ghost use Rattle.std.specs.Prelude.{◌≡◌, true, length, map};
-ghost use Rattle.ra_operand.specs.Operators.{compared};
 ghost use Rattle.ra_member.specs.Laid.{left_nodes, right_nodes, operators};
 ghost use Rattle.ra_member.specs.Readings.{numbers_at, truths_by, AreValued, sum_by_node, IsValuedSum, AreValuedSums};
 
 use crate::sides::Sides;
 use ra_memref::Table;
-use ra_operand::{Op, compare};
+use ra_operand::holds;
 
 // Reads the number of each left node, and compares it with that of the right node beside it.
 #[inline]
@@ -44,20 +43,6 @@ fn least(sides: &[Sides], lefts: &[u32], truths: &[bool]) -> usize
     ensures { result ≡ length sides.now }
 {
     sides.len().min(lefts.len()).min(truths.len())
-}
-
-// Whether a comparison holds; arithmetic compares nothing.
-fn holds(op: Op, x: u32, y: u32) -> bool
-    ensures { result ≡ compared op x y }
-{
-    // Most conditions compare by `=`.
-    if matches!(op, Op::Eq) {
-        return x == y;
-    }
-    match op {
-        Op::Mul | Op::Div | Op::And | Op::Xor | Op::Rem | Op::Add | Op::Sub => false,
-        _ => compare(op, x, y),
-    }
 }
 
 // Reads the number of each node that is there, and 0 for the others.

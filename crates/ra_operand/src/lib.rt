@@ -15,7 +15,7 @@ mod views;
 pub use kind::Kind;
 pub use op::Op;
 pub use operand::Operand;
-pub use operators::{compare, compute};
+pub use operators::{compare, compute, holds};
 pub use parse::{one_operand, parse_operand};
 pub use print::{print_operand, write_operand};
 pub use reading::take_operand;

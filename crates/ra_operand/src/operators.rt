@@ -40,3 +40,19 @@ pub fn compare(op: Op, x: u32, y: u32) -> bool
         _ => false,
     }
 }
+
+/// Whether a comparison of two numbers holds: docs/DEFINITIONS.md, "Operators".
+///
+/// The seven arithmetic operators compare nothing, so it does not hold by them.
+pub fn holds(op: Op, x: u32, y: u32) -> bool
+    ensures { result ≡ compared op x y }
+{
+    // Most conditions compare by `=`.
+    if matches!(op, Op::Eq) {
+        return x == y;
+    }
+    match op {
+        Op::Mul | Op::Div | Op::And | Op::Xor | Op::Rem | Op::Add | Op::Sub => false,
+        _ => compare(op, x, y),
+    }
+}

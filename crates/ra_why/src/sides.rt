@@ -1,7 +1,6 @@
 //! The comparisons of a plan's conditions and the values of both sides, read from a table.
 
 ghost use Rattle.std.specs.Prelude.{◌≡◌, true, length};
-ghost use Rattle.ra_operand.specs.Operators.{compared};
 ghost use Rattle.ra_member.specs.Laid.{left_nodes, right_nodes, operators};
 ghost use Rattle.ra_member.specs.Readings.{AreValued, numbers_at, truths_by};
 ghost use Rattle.ra_member.specs.Runs.{MayFill};
@@ -9,7 +8,7 @@ ghost use Rattle.ra_explain.specs.RowLists.{truths_laid};
 
 use ra_member::{Laid, Sides};
 use ra_memref::Table;
-use ra_operand::{Op, compare};
+use ra_operand::holds;
 
 // Reads at the table's last sample whether each comparison holds, and the values of its sides.
 pub(crate) fn read_sides(
@@ -72,14 +71,4 @@ fn least(sides: &[Sides], truths: &[bool], lefts: &[u32], rights: &[u32]) -> usi
 {
     let read = lefts.len().min(rights.len()).min(truths.len());
     sides.len().min(read)
-}
-
-// Whether a comparison holds; arithmetic compares nothing.
-fn holds(op: Op, left: u32, right: u32) -> bool
-    ensures { result ≡ compared op left right }
-{
-    match op {
-        Op::Mul | Op::Div | Op::And | Op::Xor | Op::Rem | Op::Add | Op::Sub => false,
-        _ => compare(op, left, right),
-    }
 }
