@@ -9,6 +9,7 @@ pub mod Halfway
 pub mod Holders
 pub mod Indexed
 pub mod LaidLemmas
+pub mod LateLemmas
 pub mod Latest
 pub mod LayoutLemmas
 pub mod Listings

@@ -1,6 +1,7 @@
 pub mod Changes
 pub mod Due
 pub mod Flags
+pub mod LateWatches
 pub mod Laws
 pub mod Layout
 pub mod Marking

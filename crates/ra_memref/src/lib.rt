@@ -10,6 +10,7 @@ mod changes;
 mod flag_row;
 mod flags;
 mod kept_cell;
+mod late_watches;
 mod laws;
 mod layout;
 mod name_room;
@@ -17,6 +18,7 @@ mod names;
 mod node_plan;
 mod numbers;
 mod table;
+mod told_bytes;
 mod watches;
 
 pub use flags::{Flags, set_all};

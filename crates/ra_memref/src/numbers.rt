@@ -15,8 +15,8 @@ ghost use Rattle.ra_text.specs.Words.{words_at};
 use crate::cell_view::CellView;
 use crate::changes::Changes;
 use crate::flags::{Flags, set_all};
+use crate::late_watches::LateWatches;
 use crate::node_plan::NodePlan;
-use crate::watches::Watches;
 use ra_indirect::Node;
 use ra_memory::Image;
 use ra_operand::{Kind, Size, compute, mask, transform, view};
@@ -41,7 +41,7 @@ struct Outcome {
 pub struct Numbers {
     cells: Vec<u32>,
     earlier: Vec<u32>,
-    watches: Watches,
+    watches: LateWatches,
     priors: Vec<u32>,
     values: Vec<u32>,
 }
@@ -62,7 +62,7 @@ impl Numbers {
     /// Zeros for this many tracked masks and nodes, and for the cells of these watches.
     pub fn new(
         alloc: Global,
-        watches: Watches,
+        watches: LateWatches,
         priors: usize,
         values: usize,
     ) -> Result<Numbers, OutOfMemory>

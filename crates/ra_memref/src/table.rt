@@ -3,11 +3,11 @@ ghost use Rattle.ra_indirect.specs.Interned.{IsPool};
 
 use crate::agenda::{Agenda, gather};
 use crate::changes::Changes;
+use crate::late_watches::LateWatches;
 use crate::layout::{lay_out, widths_of};
 use crate::name_room::NameRoom;
 use crate::node_plan::NodePlan;
 use crate::numbers::Numbers;
-use crate::watches::Watches;
 use ra_indirect::{Node, Pool};
 use ra_memory::Image;
 use ra_text::OutOfMemory;
@@ -85,7 +85,7 @@ impl Table {
         let nodes = pool.into_nodes();
         let layout = lay_out(alloc, &nodes)?;
         let widths = widths_of(alloc, &nodes)?;
-        let watches = Watches::new(alloc, size, listed, layout.places, widths)?;
+        let watches = LateWatches::new(alloc, size, listed, layout.places, widths)?;
         let numbers = Numbers::new(alloc, watches, layout.masks.len(), nodes.len())?;
         let agenda = Agenda::new(alloc, &nodes)?;
         let changes = Changes::new(alloc, nodes.len())?;

@@ -88,6 +88,13 @@ impl Watches {
         })
     }
 
+    /// The size of the image.
+    pub fn size(&self) -> u32
+        ensures { result ≡ self.now.size }
+    {
+        self.size
+    }
+
     /// How many cells there are.
     pub fn len(&self) -> usize
         ensures { result ≡ length self.now.places }
@@ -132,7 +139,8 @@ impl Watches {
     }
 
     /// Marks the cells that watch a page of one of `count` bytes from the address `at` on: by the lists of
-    /// these pages and of the page before them, and where there are none, cell by cell.
+    /// these pages and of the page before them, and where there are none or all bytes are told, cell by cell.
+    #[inline(never)]
     pub fn tell(&mut self, at: u32, count: u32)
         requires within { at + count ≤ self.old.size }
         requires small { self.old.size ≤ 2 ^ 27 }
@@ -147,7 +155,7 @@ impl Watches {
             self.tell_cells(at, count);
             return;
         }
-        if end - first > self.size / PAGE / 4 * 3 {
+        if end - first >= self.size / PAGE {
             self.tell_cells(at, count);
             return;
         }
@@ -589,6 +597,9 @@ fn page_of_last(size: u32, place: u32, width: u8) -> Option<u32>
     requires wide { IsReadWidth width }
     ensures { result ≡ second_page size place width }
 {
+    if place % PAGE + u32::from(width) <= PAGE {
+        return None;
+    }
     let page = (u64::from(place) + u64::from(width) - 1) / u64::from(PAGE);
     if page != u64::from(place / PAGE) && page < u64::from(size.div_ceil(PAGE)) {
         Some(page as u32)
